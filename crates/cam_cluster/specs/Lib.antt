@@ -1,0 +1,6 @@
+pub mod Running
+pub mod Requests
+pub mod Playing
+pub mod Run
+pub mod Contract
+pub mod Parts

@@ -1,0 +1,4 @@
+//! Letters as bytes.
+#![tactic(auto)]
+
+pub use cam_bytes::WireFault;
