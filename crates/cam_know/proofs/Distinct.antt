@@ -1,0 +1,82 @@
+-- No outcome comes twice where only what is not known is learnt.
+use Rattle.std.proofs.Common.{inl, inr, ◌≡◌, ℕ, ◌≤◌, max, Bool, true, false, not, ◌&&◌, ◌||◌, List, [], ◌∷◌, ◌++◌, get_or, arith, sym, ap, subst, ◌∙◌, refl}
+use Rattle.std.specs.List.{list_any}
+use Rattle.std.proofs.lemmas.List.Folds.{list_any-append}
+use Rattle.std.proofs.lemmas.Bool.{cases_Bool, and_left, or_left, or_right}
+use Rattle.cam_names.specs.Part.{PartFields}
+use Rattle.cam_names.specs.Dependencies.{greater_counts}
+use Rattle.cam_names.proofs.Dependencies.{greater_counts_at, greater_counts_length}
+use Rattle.cam_know.specs.declared.Outcome.{Outcome}
+use Rattle.cam_know.specs.declared.index.Index.{Index}
+use Rattle.cam_know.specs.Knowledge.{Knowledge}
+use Rattle.cam_know.specs.Known.{outcome_eq, knows, unknown}
+use Rattle.cam_know.specs.Index.{blank, entry_at, noted_all}
+use Rattle.cam_know.specs.Invariant.{NoTwice, IsEightCounts, IsKnown}
+use Rattle.cam_know.proofs.Union.{knows_unknown}
+use Rattle.cam_know.proofs.Outcomes.{outcome_eq_refl}
+use Rattle.cam_know.proofs.Entries.{noted_all_append}
+
+pub distinct_unknown : (k : Knowledge) (ys : List Outcome) → NoTwice ys → NoTwice (unknown k ys)
+distinct_unknown k [] h = tt
+distinct_unknown k (y ∷ ys) h =
+    elim (cases_Bool (knows k y)) [
+      | inl known ↦ rw known (distinct_unknown k ys h.1)
+      | inr unheard ↦ rw unheard (knows_unknown k y ys ∙ and_left (list_any (outcome_eq y) ys) (not (knows k y)) h.0, distinct_unknown k ys h.1)
+    ]
+
+distinct_append : (xs ys : List Outcome) → NoTwice xs → NoTwice ys → ((o : Outcome) → list_any (outcome_eq o) xs ≡ true → list_any (outcome_eq o) ys ≡ false) → NoTwice (xs ++ ys)
+distinct_append [] ys one other apart = other
+distinct_append (x ∷ xs) ys one other apart = (
+  list_any-append (outcome_eq x) xs ys ∙ neither (list_any (outcome_eq x) xs) (list_any (outcome_eq x) ys) one.0 (apart x (or_left (outcome_eq x x) (list_any (outcome_eq x) xs) (outcome_eq_refl x))),
+  distinct_append xs ys one.1 other (λ o known. apart o (or_right (outcome_eq o x) (list_any (outcome_eq o) xs) known)),
+)
+  where
+    neither : (a b : Bool) → a ≡ false → b ≡ false → (a || b) ≡ false
+    neither a b h k = ap (λ t. t || b) h ∙ k
+
+pub distinct_both : (k : Knowledge) (ys : List Outcome) → NoTwice k.outcomes → NoTwice ys → NoTwice (k.outcomes ++ unknown k ys)
+distinct_both k ys one other =
+    distinct_append k.outcomes (unknown k ys) one (distinct_unknown k ys other)
+    (λ o known. knows_unknown k o ys ∙ none (list_any (outcome_eq o) ys) (knows k o) known)
+  where
+    none : (a b : Bool) → b ≡ true → (a && not b) ≡ false
+    none true b h = ap not h
+    none false b h = refl
+
+pub distinct_behind : (xs ys : List Outcome) → NoTwice (xs ++ ys) → NoTwice ys
+distinct_behind [] ys h = h
+distinct_behind (x ∷ xs) ys h = distinct_behind xs ys h.1
+
+-- where nothing was noted
+pub known_same : (os ps : List Outcome) (m n : Index) (cs : List ℕ) → ps ≡ os → ((a : List PartFields) → entry_at n a ≡ entry_at m a) → IsKnown os m cs → IsKnown ps n cs
+known_same os ps m n cs is same h =
+    subst (λ (xs : List Outcome). IsKnown xs n cs) (sym is)
+    (record { distinct = h.distinct; indexed = λ a. same a ∙ h.indexed a; counted = h.counted })
+
+-- where all that is fresh was noted
+pub known_more : (os fresh ps : List Outcome) (m r n : Index) (cs : List ℕ) → ps ≡ os ++ fresh → ((a : List PartFields) → entry_at r a ≡ entry_at m a) → ((a : List PartFields) → entry_at n a ≡ noted_all a fresh (entry_at r a)) → NoTwice (os ++ fresh) → IsKnown os m cs → IsKnown ps n cs
+known_more os fresh ps m r n cs is same noted distinct h =
+    subst (λ (xs : List Outcome). IsKnown xs n cs) (sym is)
+    (record {
+      distinct = distinct;
+      indexed = λ a. noted a ∙ ap (noted_all a fresh) (same a ∙ h.indexed a) ∙ sym (noted_all_append a os fresh blank);
+      counted = h.counted;
+    })
+
+pub greater_counted : (a b : List ℕ) → IsEightCounts a → IsEightCounts b → IsEightCounts (greater_counts a b)
+greater_counted a b one other = record {
+  eight = greater_counts_length a b (omega (arith, one.eight, other.eight)) ∙ one.eight;
+  from = λ k below. subst (λ (n : ℕ). 1 ≤ n) (sym (greater_counts_at a b k)) (low (get_or a k 0) (get_or b k 0) (one.from k below));
+  to = λ k below. subst (λ (n : ℕ). n ≤ 1000000000) (sym (greater_counts_at a b k)) (high (get_or a k 0) (get_or b k 0) (one.to k below) (other.to k below));
+}
+  where
+    low : (x y : ℕ) → 1 ≤ x → 1 ≤ max x y
+    low x y h = omega arith
+
+    high : (x y : ℕ) → x ≤ 1000000000 → y ≤ 1000000000 → max x y ≤ 1000000000
+    high x y h k = omega arith
+
+pub known_greater : (os : List Outcome) (m : Index) (cs ds es : List ℕ) → es ≡ greater_counts cs ds → IsEightCounts ds → IsKnown os m cs → IsKnown os m es
+known_greater os m cs ds es is other h =
+    subst (λ (ns : List ℕ). IsKnown os m ns) (sym is)
+    (record { distinct = h.distinct; indexed = h.indexed; counted = greater_counted cs ds h.counted other })

@@ -1,0 +1,23 @@
+-- What is true of every value that holds knowledge.
+use Rattle.std.specs.Prelude.{◌≡◌, ℕ, ◌≤◌, ◌<◌, false, List, [], ◌∷◌, length, slice_index}
+use Rattle.std.specs.List.{list_any}
+use Rattle.cam_know.specs.declared.Outcome.{Outcome}
+use Rattle.cam_know.specs.declared.index.Index.{Index}
+use Rattle.cam_know.specs.Known.{outcome_eq}
+use Rattle.cam_know.specs.Index.{IsIndexOf}
+
+-- no outcome stands twice in the list
+abbrev pub NoTwice : List Outcome → Type 0
+NoTwice [] = Unit {0}
+NoTwice (o ∷ os) = (list_any (outcome_eq o) os ≡ false) × NoTwice os
+
+-- eight counts, each in its range
+pub record IsEightCounts (counts : List ℕ) : Type 0 where
+  pub eight : length counts ≡ 8
+  pub from : (k : ℕ) → k < 8 → 1 ≤ slice_index counts k
+  pub to : (k : ℕ) → k < 8 → slice_index counts k ≤ 1000000000
+
+pub record IsKnown (outcomes : List Outcome) (index : Index) (counts : List ℕ) : Type 0 where
+  pub distinct : NoTwice outcomes
+  pub indexed : IsIndexOf outcomes index
+  pub counted : IsEightCounts counts

@@ -1,0 +1,282 @@
+ghost use Rattle.std.specs.Prelude.{◌≡◌, ◌≤◌, ◌++◌, List, length, IsTrue, IfOk, OnOk, OnErr, if◌then◌else◌};
+ghost use Rattle.std.specs.List.{list_any};
+ghost use Rattle.cam_know.specs.declared.Outcome.TheVariants.{Committed};
+ghost use Rattle.cam_know.specs.Known.{outcome_eq, nothing, knows, unknown, both, news, with_outcome, with_count, aborted_by, knows_abort, knows_commit, known_count, known_lift};
+ghost use Rattle.cam_know.specs.Orphans.{children_pairs};
+ghost use Rattle.cam_know.specs.LeastCounts.{least_counts};
+ghost use Rattle.cam_know.specs.Invariant.{NoTwice, IsEightCounts};
+ghost use Rattle.cam_names.specs.Dependencies.{greater_counts};
+
+use crate::Outcome;
+use crate::index::Index;
+use crate::oldest::Oldest;
+use cam_base::{NoMemory, Sequence};
+use cam_names::{Deps, Name};
+use std::alloc::Global;
+use std::marker::Model;
+use std::slice;
+
+/// Known outcomes, and for each node the greatest known count. Seen as the list of the outcomes in
+/// the order in which they were learnt, none of them twice, and eight counts.
+///
+/// An index by name stands beside the list, so that a question costs a few look-ups, and what is
+/// learnt costs what is new.
+#[derive(Drop)]
+pub struct Know {
+    outcomes: Vec<Outcome>,
+    index: Index,
+    counts: [u32; 8],
+}
+
+impl Model for Know {
+    ghost use Rattle.cam_know.specs.Knowledge.{Knowledge};
+
+    ghost Value = { Knowledge };
+
+    ghost use Rattle.cam_know.specs.Invariant.{IsKnown};
+
+    ghost view = { λ k. record { outcomes = k.outcomes.items; counts = k.counts } };
+
+    ghost invariant = { λ k. IsKnown k.outcomes.items k.index k.counts };
+}
+
+impl Know {
+    /// Nothing is known, and the count of each node is 1.
+    pub fn new(alloc: Global) -> Know
+        ensures { result ≡ nothing }
+    {
+        Know {
+            outcomes: Vec::new(alloc),
+            index: Index::new(alloc),
+            counts: [1; 8],
+        }
+    }
+
+    /// This outcome is known.
+    fn knows(&self, outcome: &Outcome) -> bool
+        ensures { result ≡ knows self.now outcome.now }
+    {
+        match outcome {
+            Outcome::Aborted(name) => self.index.entry(name).aborted,
+            Outcome::Committed(name, deps) => {
+                let entry = self.index.entry(name);
+                entry.committed
+                    && (entry.first == *deps || has_commit(self.outcomes.as_slice(), name, deps))
+            }
+        }
+    }
+
+    /// This action is known aborted.
+    pub fn is_aborted(&self, name: &Name) -> bool
+        ensures { result ≡ knows_abort self.now name.now }
+    {
+        self.index.entry(name).aborted
+    }
+
+    /// This action is known committed.
+    pub fn is_committed(&self, name: &Name) -> bool
+        ensures { result ≡ knows_commit self.now name.now }
+    {
+        self.index.entry(name).committed
+    }
+
+    /// The greatest known count of a node.
+    pub fn count(&self, node: u8) -> u32
+        requires { (1 ≤ node) × (node ≤ 8) }
+        ensures value { result ≡ known_count self.now node }
+        ensures range { (1 ≤ result) × (result ≤ 1000000000) }
+        ensures eight { length self.now.counts ≡ 8 }
+    {
+        self.counts[node as usize - 1]
+    }
+
+    /// A node has reached at least this count.
+    pub fn raise(&mut self, node: u8, count: u32)
+        requires node { (1 ≤ node) × (node ≤ 8) }
+        requires count { count ≤ 1000000000 }
+        ensures { self.new ≡ with_count node count self.old }
+    {
+        let place = node as usize - 1;
+        self.counts[place] = self.counts[place].max(count);
+    }
+
+    /// How many outcomes are known. None is counted twice.
+    pub fn len(&self) -> u64
+        ensures value { result ≡ length self.now.outcomes }
+        ensures distinct { NoTwice self.now.outcomes }
+    {
+        self.outcomes.len() as u64
+    }
+
+    /// The outcomes in the order in which they were learnt.
+    pub fn outcomes(&self) -> &[Outcome]
+        ensures value { result.now ≡ self.now.outcomes }
+        ensures distinct { NoTwice result.now }
+    {
+        self.outcomes.as_slice()
+    }
+
+    /// The least counts of the known commits of this action's children.
+    pub fn oldest(&self, name: &Name) -> Oldest
+        ensures { result ≡ least_counts (children_pairs self.now name.now) }
+    {
+        // A name has a part.
+        let _parts = name.parts();
+        self.index.entry(name).oldest
+    }
+}
+
+impl Know {
+    /// An equal value.
+    pub fn copy(&self) -> Result<Know, NoMemory>
+        ensures { IfOk result (λ copy. copy ≡ self.now) }
+    {
+        Know::of(
+            *self.outcomes.allocator(),
+            self.outcomes.as_slice(),
+            &self.counts,
+        )
+    }
+
+    /// What both know: the outcomes that the other knows besides come behind, and of each node the
+    /// greater count stands.
+    pub fn join(&mut self, other: &Know) -> Result<(), NoMemory>
+        ensures ok { OnOk result (self.new ≡ both self.old other.now) }
+        ensures err { OnErr result (self.new ≡ self.old) }
+    {
+        let fresh = self.unknown(other.outcomes.as_slice())?;
+        self.learn(fresh.as_slice())?;
+        self.counts = greater(&self.counts, &other.counts);
+        Ok(())
+    }
+
+    /// One more outcome.
+    pub fn add(&mut self, outcome: &Outcome) -> Result<(), NoMemory>
+        ensures ok { OnOk result (self.new ≡ with_outcome outcome.now self.old) }
+        ensures err { OnErr result (self.new ≡ self.old) }
+    {
+        let fresh = self.unknown(slice::from_ref(outcome))?;
+        self.learn(fresh.as_slice())
+    }
+
+    /// What is known here and was not known before, with all counts.
+    pub fn news_since(&self, before: &Know) -> Result<Know, NoMemory>
+        ensures { IfOk result (λ fresh. fresh ≡ news self.now before.now) }
+    {
+        let fresh = before.unknown(self.outcomes.as_slice())?;
+        Know::of(*self.outcomes.allocator(), fresh.as_slice(), &self.counts)
+    }
+
+    /// These outcomes and these counts.
+    fn of(alloc: Global, outcomes: &[Outcome], counts: &[u32; 8]) -> Result<Know, NoMemory>
+        requires distinct { NoTwice outcomes.now }
+        requires counts { IsEightCounts counts.now }
+        ensures { IfOk result (λ know. know ≡ record { outcomes = outcomes.now; counts = counts.now }) }
+    {
+        let mut know = Know::new(alloc);
+        know.learn(outcomes)?;
+        know.counts = *counts;
+        Ok(know)
+    }
+
+    /// Those of the outcomes that are not known.
+    fn unknown(&self, outcomes: &[Outcome]) -> Result<Sequence<Outcome>, NoMemory>
+        ensures value { IfOk result (λ fresh. fresh ≡ unknown self.now outcomes.now) }
+        ensures distinct { NoTwice outcomes.now → IfOk result (λ fresh. NoTwice (self.now.outcomes ++ fresh)) }
+    {
+        let mut fresh = Sequence::new(*self.outcomes.allocator());
+        for outcome in outcomes {
+            if !self.knows(outcome) {
+                fresh.push_copy(outcome)?;
+            }
+        }
+        Ok(fresh)
+    }
+
+    /// Outcomes that are not known yet. All that wants memory is done before anything is noted.
+    fn learn(&mut self, fresh: &[Outcome]) -> Result<(), NoMemory>
+        requires { NoTwice (self.old.outcomes ++ fresh.now) }
+        ensures ok { OnOk result (self.new ≡ record { outcomes = self.old.outcomes ++ fresh.now; counts = self.old.counts }) }
+        ensures err { OnErr result (self.new ≡ self.old) }
+    {
+        self.index.make_rooms(fresh)?;
+        self.outcomes.extend_from_slice(fresh)?;
+        self.index.note_all(fresh);
+        Ok(())
+    }
+}
+
+impl Know {
+    /// The shortest ancestor of the action that is known aborted.
+    pub fn aborted_by(&self, name: &Name) -> Option<Name>
+        ensures { result ≡ aborted_by self.now name.now }
+    {
+        match name.parent() {
+            None => self.if_aborted(name),
+            Some(parent) => match self.aborted_by(&parent) {
+                None => self.if_aborted(name),
+                Some(ancestor) => Some(ancestor),
+            },
+        }
+    }
+
+    /// The action itself, where it is known aborted.
+    fn if_aborted(&self, name: &Name) -> Option<Name>
+        ensures { result ≡ (if knows_abort self.now name.now then Some name.now else None) }
+    {
+        if self.is_aborted(name) {
+            Some(*name)
+        } else {
+            None
+        }
+    }
+
+    /// Climbs to the parent while the present action is known committed. None where that goes past
+    /// the top.
+    pub fn lift(&self, name: &Name) -> Option<Name>
+        ensures { result ≡ known_lift self.now name.now }
+    {
+        // A name has a part.
+        let _parts = name.parts();
+        if !self.is_committed(name) {
+            return Some(*name);
+        }
+        match name.parent() {
+            Some(parent) => self.lift(&parent),
+            None => None,
+        }
+    }
+}
+
+/// Of each node the greater count.
+fn greater(one: &[u32; 8], other: &[u32; 8]) -> [u32; 8]
+    ensures { result ≡ greater_counts one.now other.now }
+{
+    let mut counts = *one;
+    for node in 0..8 {
+        counts[node] = counts[node].max(other[node]);
+    }
+    counts
+}
+
+/// Whether this very commit is among the outcomes.
+fn has_commit(outcomes: &[Outcome], name: &Name, deps: &Deps) -> bool
+    ensures { result ≡ list_any (outcome_eq (Committed name.now deps.now)) outcomes.now }
+{
+    for outcome in outcomes {
+        if is_commit(outcome, name, deps) {
+            return true;
+        }
+    }
+    false
+}
+
+/// Whether the outcome is this very commit.
+fn is_commit(outcome: &Outcome, name: &Name, deps: &Deps) -> bool
+    ensures { result ≡ outcome_eq (Committed name.now deps.now) outcome.now }
+{
+    match outcome {
+        Outcome::Aborted(_) => false,
+        Outcome::Committed(known, on) => name == known && deps == on,
+    }
+}

@@ -1,0 +1,86 @@
+ghost use Rattle.std.specs.Prelude.{◌≡◌, ◌≤◌, replicate};
+ghost use Rattle.cam_names.specs.Dependencies.{count_of, pairs_of};
+ghost use Rattle.cam_know.specs.LeastCounts.{least_counts, lesser_count, lesser_counts};
+
+use cam_names::Deps;
+use std::marker::Model;
+
+/// For each node the least count that some pairs of a node and a count have of it. Seen as eight
+/// counts, 0 for a node of which there is no pair.
+#[derive(Clone, Copy, Debug)]
+pub struct Oldest {
+    counts: [u32; 8],
+}
+
+impl Model for Oldest {
+    ghost use Rattle.std.specs.Prelude.{List, ℕ};
+    ghost use Rattle.cam_names.specs.Dependencies.{IsCounts};
+
+    ghost Value = { List ℕ };
+
+    ghost view = { λ o. o.counts };
+
+    ghost invariant = { λ o. IsCounts o.counts };
+
+    ghost inverse = { λ counts. record { counts = counts } };
+}
+
+/// The lesser of two counts, where 0 stands for none.
+fn lesser(one: u32, other: u32) -> u32
+    ensures { result ≡ lesser_count one other }
+{
+    if one == 0 {
+        other
+    } else if other == 0 {
+        one
+    } else {
+        one.min(other)
+    }
+}
+
+impl Oldest {
+    /// Of no pairs.
+    pub fn none() -> Oldest
+        ensures { result ≡ replicate 8 0 }
+    {
+        Oldest { counts: [0; 8] }
+    }
+
+    /// Of the pairs of these dependencies, which have one count of a node.
+    pub fn of(deps: &Deps) -> Oldest
+        ensures { result ≡ least_counts (pairs_of deps.now) }
+    {
+        Oldest {
+            counts: [
+                deps.count_of(1),
+                deps.count_of(2),
+                deps.count_of(3),
+                deps.count_of(4),
+                deps.count_of(5),
+                deps.count_of(6),
+                deps.count_of(7),
+                deps.count_of(8),
+            ],
+        }
+    }
+
+    /// The least count of the node, or 0.
+    pub fn count_of(&self, node: u8) -> u32
+        requires node { (1 ≤ node) × (node ≤ 8) }
+        ensures value { result ≡ count_of self.now node }
+        ensures bound { result ≤ 1000000000 }
+    {
+        self.counts[node as usize - 1]
+    }
+
+    /// Of the pairs of both.
+    pub fn join(&self, other: &Oldest) -> Oldest
+        ensures { result ≡ lesser_counts self.now other.now }
+    {
+        let mut counts = self.counts;
+        for node in 0..8 {
+            counts[node] = lesser(counts[node], other.counts[node]);
+        }
+        Oldest { counts }
+    }
+}

@@ -1,0 +1,41 @@
+use crate::{Know, Outcome};
+use cam_names::{Deps, Name};
+use std::test::Fail;
+
+#[test]
+fn what_is_learnt_is_known(rt: HostRuntime) -> Result<(), Fail> {
+    let top = Name::parse("1.1.1")?;
+    let middle = Name::parse("1.1.1/2.1.1")?;
+    let low = Name::parse("1.1.1/2.1.1/3.1.1")?;
+    let older = Outcome::Committed(low, Deps::none().with(3, 1).with(2, 4));
+    let newer = Outcome::Committed(low, Deps::none().with(3, 2));
+
+    let mut know = Know::new(rt.alloc());
+    know.add(&older)?;
+    know.add(&newer)?;
+    know.add(&older)?;
+    know.raise(3, 2);
+    know.raise(3, 1);
+    assert_eq!(rt; know.len(), 2);
+    assert_eq!(rt; (know.count(2), know.count(3)), (1, 2));
+    assert!(rt; know.is_committed(&low) && !know.is_committed(&middle));
+    assert_eq!(rt; know.lift(&low), Some(middle));
+    let oldest = know.oldest(&middle);
+    assert_eq!(rt; (oldest.count_of(2), oldest.count_of(3)), (4, 1));
+
+    assert_eq!(rt; know.outcomes().len(), 2);
+    let mut other = know.copy()?;
+    other.add(&Outcome::Aborted(middle))?;
+    other.add(&Outcome::Aborted(top))?;
+    assert_eq!(rt; other.aborted_by(&low), Some(top));
+    assert!(rt; other.is_aborted(&top) && !know.is_aborted(&top));
+    assert_eq!(rt; know.aborted_by(&low), None);
+    let news = other.news_since(&know)?;
+    assert_eq!(rt; (news.len(), news.count(3)), (2, 2));
+    know.join(&other)?;
+    assert_eq!(rt; know.len(), 4);
+    know.add(&Outcome::Committed(middle, Deps::none()))?;
+    know.add(&Outcome::Committed(top, Deps::none()))?;
+    assert_eq!(rt; know.lift(&low), None);
+    Ok(())
+}
