@@ -1,0 +1,2 @@
+pub mod FirstStale
+pub mod Family

@@ -1,0 +1,37 @@
+use crate::orphan;
+use cam_know::{Know, Outcome, Reason};
+use cam_names::{Deps, Name};
+use std::test::Fail;
+
+/// A commit of a sibling stands on the first count of node 2, which has restarted since.
+#[test]
+fn what_a_sibling_stood_on_is_lost(rt: HostRuntime) -> Result<(), Fail> {
+    let top = Name::parse("1.1.1")?;
+    let child = Name::parse("1.1.1/4.1.1")?;
+    let sibling = Name::parse("1.1.1/1.1.2")?;
+    let own = Deps::none().with(1, 1).with(4, 1);
+    let lost = Some(Reason::Crash {
+        node: 2,
+        old: 1,
+        new: 2,
+    });
+
+    let mut know = Know::new(rt.alloc());
+    assert_eq!(rt; orphan(&know, &child, &own), None);
+    know.add(&Outcome::Committed(sibling, Deps::none().with(1, 1).with(2, 1)))?;
+    assert_eq!(rt; orphan(&know, &child, &own), None);
+    know.raise(2, 2);
+    assert_eq!(rt; orphan(&know, &child, &own), lost);
+    assert_eq!(rt; orphan(&know, &top, &Deps::none()), lost);
+    know.raise(1, 3);
+    let at_home = Some(Reason::Crash {
+        node: 1,
+        old: 1,
+        new: 3,
+    });
+    assert_eq!(rt; orphan(&know, &child, &own), at_home);
+    know.add(&Outcome::Aborted(child))?;
+    know.add(&Outcome::Aborted(top))?;
+    assert_eq!(rt; orphan(&know, &child, &own), Some(Reason::Abort(top)));
+    Ok(())
+}
