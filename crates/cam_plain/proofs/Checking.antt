@@ -1,0 +1,47 @@
+-- Going through a list of deeds: each that meets its line goes on legally, and the first that does not is the fault.
+use Rattle.std.proofs.Common.{◌≡◌, ℕ, ◌+◌, ◌<◌, ◌≤◌, true, false, List, [], ◌∷◌, ◌++◌, length, take, drop, get_or, zero, suc, refl, sym, ap, ◌∙◌, subst, arith}
+use Rattle.std.proofs.lemmas.Bool.{true≢false}
+use Rattle.cam_type.specs.declared.ObjectDecl.{ObjectDecl}
+use Rattle.cam_event.specs.declared.Deed.{Deed}
+use Rattle.cam_plain.specs.Legal.{Legal, history, cause_of, IsFirstIllegal}
+use Rattle.cam_plain.specs.Tests.{meets}
+use Rattle.cam_plain.specs.Depending.{DependsOn}
+use Rattle.std.specs.BTreeMap.{BTreeMap}
+use Rattle.cam_names.specs.declared.name.Name.{Name}
+use Rattle.cam_plain.proofs.Histories.{further}
+use Rattle.cam_plain.proofs.Deciders.{meets_decides}
+
+pub legal_further : (objects : List ObjectDecl) (ds : List Deed) (i : ℕ) (d : Deed) → i < length ds → d ≡ get_or ds i d
+    → Legal objects (history (take i ds)) → meets objects (history (take i ds)) d ≡ true → Legal objects (history (take (i + 1) ds))
+legal_further objects ds i d h is legal passes =
+    subst (λ (L : List Deed). Legal objects L) (sym (further ds i d h is)) ((meets_decides objects (history (take i ds)) d).0 passes, legal)
+
+pub depends_further : (objects : List ObjectDecl) (ds : List Deed) (i : ℕ) (d : Deed) (old new : BTreeMap Name (List (ℕ × ℕ))) → i < length ds → d ≡ get_or ds i d
+    → (DependsOn objects (history (take i ds)) old → DependsOn objects (d ∷ history (take i ds)) new)
+    → DependsOn objects (history (take i ds)) old → DependsOn objects (history (take (i + 1) ds)) new
+depends_further objects ds i d old new h is step so_far =
+    subst (λ (L : List Deed). DependsOn objects L new) (sym (further ds i d h is)) (step so_far)
+
+split_at : (ds : List Deed) (i : ℕ) (d : Deed) → i < length ds → d ≡ get_or ds i d → ds ≡ take i ds ++ d ∷ drop (suc i) ds
+split_at [] i d h is = absurd (omega (arith, h))
+split_at (e ∷ ds) zero d h is = ap (λ (x : Deed). x ∷ ds) (sym is)
+split_at (e ∷ ds) (suc i) d h is = ap (λ (xs : List Deed). e ∷ xs) (split_at ds i d (omega (arith, h)) is)
+
+front_length : (ds : List Deed) (i : ℕ) → i ≤ length ds → i ≡ length (take i ds)
+front_length ds zero h = refl
+front_length [] (suc i) h = absurd (omega (arith, h))
+front_length (e ∷ ds) (suc i) h = let rest : i ≡ length (take i ds) = front_length ds i (omega (arith, h)) in omega (arith, rest)
+
+pub first_illegal : (objects : List ObjectDecl) (ds : List Deed) (i cause : ℕ) (d : Deed) → i < length ds → d ≡ get_or ds i d
+    → Legal objects (history (take i ds)) → meets objects (history (take i ds)) d ≡ false → cause ≡ cause_of d → IsFirstIllegal objects ds i cause
+first_illegal objects ds i cause d h is legal fails why =
+    record {
+      front = take i ds;
+      deed = d;
+      rest = drop (suc i) ds;
+      split = split_at ds i d h is;
+      place = front_length ds i (omega (arith, h));
+      legal = legal;
+      fault = λ line. true≢false (sym ((meets_decides objects (history (take i ds)) d).1 line) ∙ fails);
+      why = why;
+    }

@@ -1,0 +1,124 @@
+-- Whether the live operations of a family at a site have been handed up, and whether all pairs are secured.
+use Rattle.std.proofs.Common.{◌≡◌, inl, inr, ℕ, ◌+◌, ◌<◌, eqb, Bool, true, false, not, ◌&&◌, ◌||◌, if◌then◌else◌, List, [], ◌∷◌, length, drop, get_or, zero, suc, refl, sym, ap, ◌∙◌, arith}
+use Rattle.std.specs.Prelude.{filter}
+use Rattle.std.specs.List.{list_all}
+use Rattle.std.proofs.lemmas.Bool.{cases_Bool, and_parts, and_from, true≢false, or_cases}
+use borrow.Author.Tests.{eqb-true}
+use Rattle.std.proofs.lemmas.Bool.Decides.{Decides-eqb}
+use Rattle.cam_names.specs.declared.name.Name.{Name}
+use Rattle.cam_names.specs.Names.{name_eq, family}
+use Rattle.cam_names.specs.Dependencies.{has_pair}
+use Rattle.cam_type.specs.declared.ObjectDecl.{ObjectDecl}
+use Rattle.cam_event.specs.declared.Deed.{Deed}
+use Rattle.cam_event.specs.declared.Operation.{Operation}
+use Rattle.cam_event.specs.Live.{is_dropped, lift, site_of}
+use Rattle.cam_plain.specs.Lines.{is_lift}
+
+-- of these operations, those of the family that are live at the site have been handed up to it
+abbrev pub left_over : List ObjectDecl → List Deed → Name → ℕ → List Operation → Bool
+left_over objects L f s os =
+    list_all (λ o. is_lift f (lift L s o.action)) (filter (λ o. name_eq f (family o.action)) (filter (λ o. eqb (site_of objects o.object) s) (filter (λ o. not (is_dropped objects L o)) os)))
+
+all_kept : (P F G H : Operation → Bool) → List Operation → Bool
+all_kept P F G H os = list_all P (filter F (filter G (filter H os)))
+
+held_step : (P F G H : Operation → Bool) (o : Operation) (os : List Operation)
+    → all_kept P F G H (o ∷ os) ≡ (if H o && (G o && (F o && not (P o))) then false else all_kept P F G H os)
+unfolding all_kept
+held_step P F G H o os =
+    elim (cases_Bool (H o)) [
+      | inr h ↦ simp h refl
+      | inl h ↦ elim (cases_Bool (G o)) [
+        | inr g ↦ simp (h, g) refl
+        | inl g ↦ elim (cases_Bool (F o)) [
+          | inr f ↦ simp (h, g, f) refl
+          | inl f ↦ elim (cases_Bool (P o)) [
+            | inr p ↦ simp (h, g, f, p) refl
+            | inl p ↦ simp (h, g, f, p) refl
+          ]
+        ]
+      ]
+    ]
+
+drop_at : (os : List Operation) (i : ℕ) (o : Operation) → i < length os → o ≡ get_or os i o → drop i os ≡ o ∷ drop (suc i) os
+drop_at [] i o h is = absurd (omega (arith, h))
+drop_at (p ∷ os) zero o h is = ap (λ (q : Operation). q ∷ os) (sym is)
+drop_at (p ∷ os) (suc i) o h is = drop_at os i o (omega (arith, h)) is
+
+left_step : (objects : List ObjectDecl) (L : List Deed) (f : Name) (s : ℕ) (o : Operation) (os : List Operation)
+    → left_over objects L f s (o ∷ os) ≡ (if not (is_dropped objects L o) && (eqb (site_of objects o.object) s && (name_eq f (family o.action) && not (is_lift f (lift L s o.action)))) then false else left_over objects L f s os)
+unfolding all_kept
+left_step objects L f s o os =
+    held_step (λ o. is_lift f (lift L s o.action)) (λ o. name_eq f (family o.action)) (λ o. eqb (site_of objects o.object) s) (λ o. not (is_dropped objects L o)) o os
+
+-- an operation that is held below makes the answer, and another makes none
+pub held_found : (objects : List ObjectDecl) (L : List Deed) (f : Name) (s : ℕ) (os : List Operation) (i : ℕ) (o : Operation) → i < length os → o ≡ get_or os i o
+    → left_over objects L f s (drop i os) ≡ left_over objects L f s os
+    → (not (is_dropped objects L o) && (eqb (site_of objects o.object) s && (name_eq f (family o.action) && not (is_lift f (lift L s o.action))))) ≡ true
+    → false ≡ left_over objects L f s os
+held_found objects L f s os i o h is so_far held =
+    sym (sym so_far ∙ ap (left_over objects L f s) (drop_at os i o h is) ∙ left_step objects L f s o (drop (suc i) os)
+    ∙ ap (λ (b : Bool). if b then false else left_over objects L f s (drop (suc i) os)) held)
+
+pub held_not : (objects : List ObjectDecl) (L : List Deed) (f : Name) (s : ℕ) (os : List Operation) (i : ℕ) (o : Operation) → i < length os → o ≡ get_or os i o
+    → left_over objects L f s (drop i os) ≡ left_over objects L f s os
+    → (not (is_dropped objects L o) && (eqb (site_of objects o.object) s && (name_eq f (family o.action) && not (is_lift f (lift L s o.action))))) ≡ false
+    → left_over objects L f s (drop (i + 1) os) ≡ left_over objects L f s os
+held_not objects L f s os i o h is so_far free =
+    let next : i + 1 ≡ suc i = omega arith in
+    ap (λ (k : ℕ). left_over objects L f s (drop k os)) next
+    ∙ sym (ap (left_over objects L f s) (drop_at os i o h is) ∙ left_step objects L f s o (drop (suc i) os)
+    ∙ ap (λ (b : Bool). if b then false else left_over objects L f s (drop (suc i) os)) free) ∙ so_far
+
+-- What holds of all pairs holds of each, and the other way round, so it goes by membership alone.
+pub all_each : (q : ℕ → ℕ → Bool) (ps : List (ℕ × ℕ)) → list_all (λ p. q p.0 p.1) ps ≡ true → (s c : ℕ) → has_pair ps s c ≡ true → q s c ≡ true
+all_each q [] h s c is = cc
+all_each q (p ∷ ps) h s c is =
+    let parts = and_parts (q p.0 p.1) (list_all (λ p. q p.0 p.1) ps) h in
+    elim (or_cases (eqb p.0 s && eqb p.1 c) (has_pair ps s c) is) [
+      | inl same ↦
+          let both = and_parts (eqb p.0 s) (eqb p.1 c) same in
+          (λ i. q (sym (eqb-true p.0 s both.0) i) (sym (eqb-true p.1 c both.1) i)) ∙ parts.0
+      | inr rest ↦ all_each q ps parts.1 s c rest
+    ]
+
+pub each_all : (q : ℕ → ℕ → Bool) (ps : List (ℕ × ℕ)) → ((s c : ℕ) → has_pair ps s c ≡ true → q s c ≡ true) → list_all (λ p. q p.0 p.1) ps ≡ true
+each_all q [] h = refl
+each_all q (p ∷ ps) h =
+    and_from (q p.0 p.1) (list_all (λ p. q p.0 p.1) ps)
+    (h p.0 p.1 (ap (λ (b : Bool). b || has_pair ps p.0 p.1) (and_from (eqb p.0 p.0) (eqb p.1 p.1) ((Decides-eqb p.0 p.0).1 refl) ((Decides-eqb p.1 p.1).1 refl))))
+    (each_all q ps (λ s c is. h s c (any_more (eqb p.0 s && eqb p.1 c) (has_pair ps s c) is)))
+  where
+    any_more : (x y : Bool) → y ≡ true → (x || y) ≡ true
+    any_more true y h = refl
+    any_more false y h = h
+
+pub same_pairs : (q : ℕ → ℕ → Bool) (ps rs : List (ℕ × ℕ)) → ((s c : ℕ) → has_pair ps s c ≡ has_pair rs s c) → list_all (λ p. q p.0 p.1) ps ≡ list_all (λ p. q p.0 p.1) rs
+same_pairs q ps rs same =
+    elim (cases_Bool (list_all (λ p. q p.0 p.1) ps)) [
+      | inl all ↦ all ∙ sym (each_all q rs (λ s c is. all_each q ps all s c (same s c ∙ is)))
+      | inr not_all ↦ elim (cases_Bool (list_all (λ p. q p.0 p.1) rs)) [
+        | inl others ↦ absurd (true≢false (sym (each_all q ps (λ s c is. all_each q rs others s c (sym (same s c) ∙ is))) ∙ not_all))
+        | inr none ↦ not_all ∙ sym none
+      ]
+    ]
+
+pair_at : (ps : List (ℕ × ℕ)) (i : ℕ) (d : ℕ × ℕ) → i < length ps → drop i ps ≡ get_or ps i d ∷ drop (suc i) ps
+pair_at [] i d h = absurd (omega (arith, h))
+pair_at (p ∷ ps) zero d h = refl
+pair_at (p ∷ ps) (suc i) d h = pair_at ps i d (omega (arith, h))
+
+-- a pair that fails makes the answer, and one that passes makes none
+pub pair_failed : (q : ℕ → ℕ → Bool) (ps : List (ℕ × ℕ)) (i : ℕ) (d : ℕ × ℕ) → i < length ps
+    → list_all (λ p. q p.0 p.1) (drop i ps) ≡ list_all (λ p. q p.0 p.1) ps → q (get_or ps i d).0 (get_or ps i d).1 ≡ false
+    → false ≡ list_all (λ p. q p.0 p.1) ps
+pair_failed q ps i d h so_far fails =
+    sym (sym so_far ∙ ap (list_all (λ p. q p.0 p.1)) (pair_at ps i d h) ∙ ap (λ (b : Bool). b && list_all (λ p. q p.0 p.1) (drop (suc i) ps)) fails)
+
+pub pair_passed : (q : ℕ → ℕ → Bool) (ps : List (ℕ × ℕ)) (i : ℕ) (d : ℕ × ℕ) → i < length ps
+    → list_all (λ p. q p.0 p.1) (drop i ps) ≡ list_all (λ p. q p.0 p.1) ps → q (get_or ps i d).0 (get_or ps i d).1 ≡ true
+    → list_all (λ p. q p.0 p.1) (drop (i + 1) ps) ≡ list_all (λ p. q p.0 p.1) ps
+pair_passed q ps i d h so_far passes =
+    let next : i + 1 ≡ suc i = omega arith in
+    ap (λ (k : ℕ). list_all (λ p. q p.0 p.1) (drop k ps)) next
+    ∙ sym (ap (list_all (λ p. q p.0 p.1)) (pair_at ps i d h) ∙ ap (λ (b : Bool). b && list_all (λ p. q p.0 p.1) (drop (suc i) ps)) passes) ∙ so_far

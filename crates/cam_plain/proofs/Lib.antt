@@ -1,0 +1,11 @@
+pub mod Histories
+pub mod Climbs
+pub mod Climbing
+pub mod Replaying
+pub mod LastPart
+pub mod Children
+pub mod Dependent
+pub mod Arriving
+pub mod Deciders
+pub mod Checking
+pub mod Handing

@@ -1,0 +1,12 @@
+use Rattle.std.proofs.Common.{◌≡◌, List, take, sym, subst}
+use Rattle.cam_event.specs.declared.Deed.{Deed}
+use Rattle.cam_event.specs.History.{open_children}
+use Rattle.cam_plain.specs.Legal.{history}
+use Rattle.cam_plain.proofs.Histories.{further}
+use Rattle.cam_plain.proofs.standing.has_open_child.Goals as goal
+
+pub loop-deed-preserved : goal.loop-deed-preserved
+loop-deed-preserved c =
+    let before = history (take c.loop-deed.deed-index c.args.before.now) in
+    let more = further c.args.before.now c.loop-deed.deed-index c.deed-item.result c.loop-deed-test.true c.deed-item.is in
+    subst (λ (L : List Deed). c.in_ok-children.children ≡ open_children L c.args.action.now) (sym more) (c.in_ok-children.ensures before c.loop-deed.invariant)

@@ -1,0 +1,70 @@
+ghost use Rattle.std.specs.Prelude.{◌≡◌, ◌∷◌, List};
+ghost use Rattle.cam_event.specs.declared.Deed.{Deed};
+ghost use Rattle.cam_plain.specs.Facts.{shows, has};
+ghost use Rattle.cam_plain.specs.Legal.{history};
+
+use crate::deed_tests::{is_bounce, is_inform, is_perform, is_reply_to, is_secure, is_secure_at};
+use cam_event::Deed;
+use cam_names::Name;
+use cam_type::Answer;
+
+/// Something that one deed can show.
+#[derive(Clone, Copy, Debug)]
+pub(crate) enum Fact {
+    Created(Name),
+    AskedFor(Name),
+    Asked(Name, Name),
+    AskedCommit(Name),
+    AskedAbort(Name),
+    Committed(Name),
+    Aborted(Name),
+    Replied(Name, u32),
+    Performed(Name, u32, Answer),
+    Bounced(Name, u32, Name),
+    Secured(Name, u8, u32),
+    SecuredAt(Name, u8),
+    Informed(u8, Name, bool),
+}
+
+impl Fact {
+    /// Whether this deed shows it.
+    fn is_shown_by(&self, deed: &Deed) -> bool
+        ensures { result ≡ shows self.now deed.now }
+    {
+        match self {
+            Fact::Created(a) => matches!(deed, Deed::Create { action } if a == action),
+            Fact::AskedFor(a) => matches!(deed, Deed::Ask { child, .. } if a == child),
+            Fact::Asked(a, b) => {
+                matches!(deed, Deed::Ask { action, child } if a == action && b == child)
+            }
+            Fact::AskedCommit(a) => matches!(deed, Deed::AskCommit { action, .. } if a == action),
+            Fact::AskedAbort(a) => matches!(deed, Deed::AskAbort { action } if a == action),
+            Fact::Committed(a) => matches!(deed, Deed::Commit { action } if a == action),
+            Fact::Aborted(a) => matches!(deed, Deed::Abort { action } if a == action),
+            Fact::Replied(a, n) => is_reply_to(a, *n, deed),
+            Fact::Performed(a, n, seen) => is_perform(a, *n, seen, deed),
+            Fact::Bounced(a, n, u) => is_bounce(a, *n, u, deed),
+            Fact::Secured(f, s, c) => is_secure(f, *s, *c, deed),
+            Fact::SecuredAt(f, s) => is_secure_at(f, *s, deed),
+            Fact::Informed(s, a, outcome) => is_inform(*s, a, *outcome, deed),
+        }
+    }
+
+    /// Whether a deed shows it, or it was found before.
+    fn or_shown_by(&self, deed: &Deed, found: bool) -> bool
+        ensures { (L : List Deed) → found ≡ has L self.now → result ≡ has (deed.now ∷ L) self.now }
+    {
+        self.is_shown_by(deed) || found
+    }
+
+    /// Whether one of the deeds shows it.
+    pub(crate) fn is_in(&self, before: &[Deed]) -> bool
+        ensures { result ≡ has (history before.now) self.now }
+    {
+        let mut found = false;
+        for deed in before {
+            found = self.or_shown_by(deed, found);
+        }
+        found
+    }
+}

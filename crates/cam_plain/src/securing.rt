@@ -1,0 +1,141 @@
+//! Whether families may be secured and committed.
+
+ghost use Rattle.std.specs.Prelude.{◌≡◌, ◌&&◌, eqb, not, List};
+ghost use Rattle.std.specs.List.{list_all};
+ghost use Rattle.cam_names.specs.Names.{name_eq, family as top_of, parent};
+ghost use Rattle.cam_names.specs.Dependencies.{has_pair};
+ghost use Rattle.cam_type.specs.declared.ObjectDecl.{ObjectDecl};
+ghost use Rattle.cam_event.specs.History.{secured};
+ghost use Rattle.cam_event.specs.Live.{is_dropped, lift, site_of, surviving};
+ghost use Rattle.cam_plain.specs.Depending.{pairs_in, DependsOn};
+ghost use Rattle.cam_plain.specs.Legal.{history};
+ghost use Rattle.cam_plain.specs.Lines.{is_lift};
+ghost use Rattle.cam_plain.specs.Tests.{may_commit_test, commit_test, handed_up, secure_test};
+
+use crate::dependencies::{Dependencies, Pairs, has_pair};
+use crate::fact::Fact;
+use crate::lifts::lift;
+use crate::lines::is_decided;
+use crate::operations::{Operations, is_dropped, site_of};
+use crate::standing::{count, is_at_home, runs};
+use cam_event::{Deed, Operation};
+use cam_names::Name;
+use cam_type::Objects;
+
+/// Whether the family is secured at each pair.
+fn all_secured(before: &[Deed], family: &Name, pairs: &Pairs) -> bool
+    ensures { result ≡ list_all (λ p. secured (history before.now) family.now p.0 p.1) pairs.now }
+{
+    for pair in pairs.as_slice() {
+        if !Fact::Secured(*family, pair.0, pair.1).is_in(before) {
+            return false;
+        }
+    }
+    true
+}
+
+/// Whether the family is secured at each pair on which it depends.
+fn is_secured(before: &[Deed], dependencies: &Dependencies, family: &Name) -> bool
+    ensures { result ≡ list_all (λ p. secured (history before.now) family.now p.0 p.1) (pairs_in dependencies.now family.now) }
+{
+    match dependencies.get(family) {
+        Some(pairs) => all_secured(before, family, pairs),
+        None => true,
+    }
+}
+
+/// Whether the action depends on the pair.
+fn depends(dependencies: &Dependencies, action: &Name, node: u8, count: u32) -> bool
+    ensures { result ≡ has_pair (pairs_in dependencies.now action.now) node count }
+{
+    match dependencies.get(action) {
+        Some(pairs) => has_pair(pairs, node, count),
+        None => false,
+    }
+}
+
+/// Whether the action's parent, or for a top action what it depends on, lets it commit.
+fn is_let_commit(before: &[Deed], dependencies: &Dependencies, action: &Name) -> bool
+    ensures { (objects : List ObjectDecl) → DependsOn objects (history before.now) dependencies.now → result ≡ may_commit_test objects (history before.now) action.now (parent action.now) }
+{
+    // A name has a part.
+    let _depth = action.depth();
+    match action.parent() {
+        Some(parent) => runs(before, &parent),
+        None => {
+            let at_home = is_at_home(before, action);
+            let secured = is_secured(before, dependencies, action);
+            at_home && secured
+        }
+    }
+}
+
+pub(crate) fn may_commit(before: &[Deed], dependencies: &Dependencies, action: &Name) -> bool
+    ensures { (objects : List ObjectDecl) → DependsOn objects (history before.now) dependencies.now → result ≡ commit_test objects (history before.now) action.now }
+{
+    let asked = Fact::AskedCommit(*action).is_in(before);
+    let decided = is_decided(before, action);
+    let may = is_let_commit(before, dependencies, action);
+    asked && !decided && may
+}
+
+/// Whether the operation is a live one of the family at the site that has not been handed up to it.
+fn is_held_below(
+    objects: &Objects,
+    before: &[Deed],
+    family: &Name,
+    site: u8,
+    operation: &Operation,
+) -> bool
+    ensures { result ≡ (not (is_dropped objects.now (history before.now) operation.now) && (eqb (site_of objects.now operation.now.object) site && (name_eq family.now (top_of operation.now.action) && not (is_lift family.now (lift (history before.now) site operation.now.action))))) }
+{
+    let dropped = is_dropped(objects, before, operation);
+    let here = site_of(objects, operation.object) == site;
+    let of_family = *family == operation.action.family();
+    let lifted = match lift(before, site, &operation.action) {
+        Some(holder) => *family == holder,
+        None => false,
+    };
+    !dropped && here && of_family && !lifted
+}
+
+/// Whether all live operations of the family at the site have been handed up to it.
+fn is_handed_up(
+    objects: &Objects,
+    before: &[Deed],
+    operations: &Operations,
+    family: &Name,
+    site: u8,
+) -> bool
+    requires { operations.now ≡ surviving objects.now (history before.now) }
+    ensures { result ≡ handed_up objects.now (history before.now) family.now site }
+{
+    for operation in operations.as_slice() {
+        if is_held_below(objects, before, family, site, operation) {
+            return false;
+        }
+    }
+    true
+}
+
+pub(crate) fn may_secure(
+    objects: &Objects,
+    before: &[Deed],
+    operations: &Operations,
+    dependencies: &Dependencies,
+    family: &Name,
+    site: u8,
+    secured_count: u32,
+) -> bool
+    requires performed { operations.now ≡ surviving objects.now (history before.now) }
+    requires depending { DependsOn objects.now (history before.now) dependencies.now }
+    ensures { result ≡ secure_test objects.now (history before.now) family.now site secured_count }
+{
+    let is_top = family.depth() == 1;
+    let asked = Fact::AskedCommit(*family).is_in(before);
+    let depends = depends(dependencies, family, site, secured_count);
+    let present = secured_count as usize == count(before, site);
+    let secured = Fact::SecuredAt(*family, site).is_in(before);
+    let handed_up = is_handed_up(objects, before, operations, family, site);
+    is_top && asked && depends && present && !secured && handed_up
+}
