@@ -1,0 +1,108 @@
+ghost use Rattle.std.specs.Prelude.{◌≡◌, ◌+◌, ◌≤◌, ◌^◌, true, [], ◌∷◌, ◌++◌, length, take, reverse, IsTrue, OnOk, OnErr};
+ghost use Rattle.cam_disk.specs.declared.call.Call.TheVariants.{Write, Resize, Sync};
+ghost use Rattle.cam_disk.specs.declared.error.DiskError.TheVariants.{NoMemory};
+ghost use Rattle.cam_disk.specs.Disk.{Only};
+ghost use Rattle.cam_disk.specs.Images.{held_after, is_record, written, IsImage, LeftSince, IsImage-held, LeftSince-now, LeftSince-only};
+ghost use Rattle.std.proofs.Common.{subst, sym};
+
+use crate::call::Call;
+use crate::disk::Disk;
+use crate::error::DiskError;
+use crate::limit::fits;
+use std::alloc::{AllocError, Global};
+
+/// A disk in memory. It keeps a record of its calls, and what a crash may leave follows from that.
+/// It fails only at a write past 2^62 bytes.
+#[derive(Drop)]
+pub struct MemoryDisk {
+    alloc: Global,
+    bytes: Vec<u8>,
+    calls: Vec<Call>,
+    faults: u64,
+    ghost held: { bytes.items ≡ held_after (reverse calls.items) },
+    ghost placed: { IsTrue (is_record (reverse calls.items)) },
+}
+
+impl MemoryDisk {
+    /// An empty disk.
+    pub fn new(alloc: Global) -> MemoryDisk
+        ensures seen { ⟦<MemoryDisk as Disk>⟧.seen result ≡ [] }
+        ensures durable { Only [] (⟦<MemoryDisk as Disk>⟧.may_leave result) }
+        ensures faults { ⟦<MemoryDisk as Disk>⟧.faults result ≡ 0 }
+    {
+        MemoryDisk {
+            alloc,
+            bytes: Vec::new(alloc),
+            calls: Vec::new(alloc),
+            faults: 0,
+        }
+    }
+}
+
+/// Writes over the bytes from a place on, and past the end, in the time of what is written. Where memory
+/// runs out nothing changes.
+fn put(held: &mut Vec<u8>, at: usize, bytes: &[u8]) -> Result<(), AllocError>
+    requires { at ≤ length held.old.items }
+    ensures ok { OnOk result (held.new.items ≡ written held.old.items at bytes.now) }
+    ensures err { OnErr result (held.new.items ≡ held.old.items) }
+{
+    let over = bytes.len().min(held.len() - at);
+    held.extend_from_slice(&bytes[over..])?;
+    held[at..at + over].copy_from_slice(&bytes[..over]);
+    Ok(())
+}
+
+impl Disk for MemoryDisk {
+    ghost tells = { λ d. true };
+
+    ghost seen = { λ d. d.bytes.items };
+
+    ghost may_leave = { λ d c. IsImage (reverse d.calls.items) c };
+
+    ghost moment = { λ d. length d.calls.items };
+
+    ghost left_since = { λ d t c. LeftSince d.calls.items t c };
+
+    ghost faults = { λ d. d.faults };
+
+    ghost kept = { λ d h. subst (IsImage (reverse d.calls.items)) (sym d.held) (IsImage-held (reverse d.calls.items) d.placed) };
+
+    ghost counts_now = { λ d t c h le now. LeftSince-now d.calls.items t c le now };
+
+    ghost only_now = { λ d c h left. LeftSince-only d.calls.items c left };
+
+    fn read(&mut self, at: u64, into: &mut [u8]) -> Result<usize, DiskError> {
+        let held = &self.bytes[(at.min(self.bytes.len() as u64)) as usize..];
+        let count = into.len().min(held.len());
+        into[..count].copy_from_slice(&held[..count]);
+        Ok(count)
+    }
+
+    fn write_at(&mut self, at: u64, bytes: &[u8]) -> Result<(), DiskError> {
+        if !fits(at, bytes) {
+            self.faults = self.faults.saturating_add(1);
+            return Err(DiskError::Failed);
+        }
+        let copy = bytes.to_vec(self.alloc)?;
+        let count = self.calls.len();
+        self.calls.push(Call::Write { at, bytes: copy })?;
+        if put(&mut self.bytes, at as usize, bytes).is_err() {
+            self.calls.truncate(count);
+            return Err(DiskError::NoMemory);
+        }
+        Ok(())
+    }
+
+    fn cut(&mut self, size: u64) -> Result<(), DiskError> {
+        self.calls.push(Call::Resize { size })?;
+        self.bytes.truncate(size as usize);
+        Ok(())
+    }
+
+    fn sync(&mut self) -> Result<(), DiskError> {
+        self.calls.push(Call::Sync)?;
+        Ok(())
+    }
+
+    fn spoil(&mut self) {}
+}
