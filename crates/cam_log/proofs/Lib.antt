@@ -1,0 +1,5 @@
+mod Rows
+pub mod Exactly
+pub mod Grown
+pub mod Stages
+pub mod Loop

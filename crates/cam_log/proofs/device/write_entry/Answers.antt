@@ -1,0 +1,36 @@
+use Rattle.std.proofs.Common.{◌+◌, ◌∷◌, ◌++◌, [], ℕ, List, length, IsTrue, sym, ◌∙◌, ap, subst, arith}
+use Rattle.std.proofs.lemmas.Result.{on_ok_weaker}
+use Rattle.cam_log.specs.Image.{appended}
+use Rattle.cam_log.specs.Moments.{IsAtRest}
+use Rattle.cam_log.proofs.Grown.{grows_weaker, grows_then}
+use Rattle.cam_log.proofs.Stages.{Staged, written_behind, written_gate, first_write, second_write}
+use Rattle.cam_log.proofs.device.write_entry.Goals as goal
+
+-- the first write leaves the entries as they were
+pub returns-in_err-force-clause-any_moment : goal.returns-in_err-force-clause-any_moment
+returns-in_err-force-clause-any_moment g c = λ h entries entry is rests.
+    let old = g.D.Disk.seen c.args.disk.now in
+    grows_weaker (λ image written. first_write entries c.args.gate (length c.args.behind.now) entry old image (g.D.Disk.may_leave c.args.disk.now) (omega (arith, c.requires.within)) rests (c.requires.only h) written)
+    (c.in_err-force.ensures.any_moment h)
+
+pub returns-clause-at_rest : goal.returns-clause-at_rest
+returns-clause-at_rest g c = λ h.
+    let old = g.D.Disk.seen c.args.disk.now in
+    let mid = g.D.Disk.seen c.force.new.disk in
+    let new = g.D.Disk.seen c.force-2.new.disk in
+    let still : IsTrue (g.D.Disk.tells c.force.new.disk) = c.in_ok-force.ensures.tells ∙ h in
+    on_ok_weaker c.force-2.result (λ holds entries entry is rests.
+    let staged : Staged entries c.args.gate (appended entry) mid = subst (λ (text : List ℕ). Staged entries c.args.gate text mid) is (written_behind entries c.args.gate c.args.behind.now old mid rests (c.in_ok-force.ensures.written h)) in
+    subst (λ (n : ℕ). IsAtRest (entries ++ entry ∷ []) (c.args.gate + n) new) (sym (ap (λ (text : List ℕ). length text) is)) (written_gate entries c.args.gate entry mid new staged holds))
+    (c.force-2.ensures.written still)
+
+-- the second leaves them with the new entry or without
+pub returns-clause-any_moment : goal.returns-clause-any_moment
+returns-clause-any_moment g c = λ h entries entry is rests.
+    let old = g.D.Disk.seen c.args.disk.now in
+    let mid = g.D.Disk.seen c.force.new.disk in
+    let still : IsTrue (g.D.Disk.tells c.force.new.disk) = c.in_ok-force.ensures.tells ∙ h in
+    let staged : Staged entries c.args.gate (appended entry) mid = subst (λ (text : List ℕ). Staged entries c.args.gate text mid) is (written_behind entries c.args.gate c.args.behind.now old mid rests (c.in_ok-force.ensures.written h)) in
+    grows_then
+    (grows_weaker (λ image written. first_write entries c.args.gate (length c.args.behind.now) entry old image (g.D.Disk.may_leave c.args.disk.now) (omega (arith, c.requires.within)) rests (c.requires.only h) written) (c.in_ok-force.ensures.any_moment h))
+    (grows_weaker (λ image written. second_write entries c.args.gate entry mid image (g.D.Disk.may_leave c.force.new.disk) (omega (arith, c.in_ok-force.ensures.limit, ap (λ (text : List ℕ). length text) is)) staged (c.in_ok-force.ensures.durable h) written) (c.force-2.ensures.any_moment still))

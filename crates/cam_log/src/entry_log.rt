@@ -1,0 +1,69 @@
+ghost use Rattle.std.specs.Prelude.{◌≡◌, ◌≤◌, ◌+◌, ◌++◌, ◌∷◌, [], Bool, List, ℕ, IsTrue, IsFalse, OnOk, OnErr, IsErrOf, Ok};
+ghost use Rattle.cam_base.specs.Causes.{Rose};
+ghost use Rattle.cam_log.specs.declared.fault.LogFault.TheVariants.{DiskFault, NotALog};
+ghost use Rattle.cam_log.specs.Moments.{Grows, Stays, Opened, IsBeforeOrAfter};
+
+use crate::fault::LogFault;
+use cam_base::Sequence;
+
+/// The bytes of an entry.
+pub type Entry = Sequence<u8>;
+
+/// The entries of a log, the oldest first.
+pub type Entries = Sequence<Entry>;
+
+/// A log of entries, to which entries are appended, and which a crash at any moment leaves with the
+/// entries before or with the new one besides.
+pub trait EntryLog: Drop {
+    /// Whether its disk tells what it holds. No call changes it.
+    ghost tells: { Self → Bool };
+
+    /// The entries, the oldest first.
+    ghost listed: { Self → List (List ℕ) };
+
+    /// Whether an append failed at the disk. Then the log has to be opened again.
+    ghost broken: { Self → Bool };
+
+    /// The moment, as a number that does not fall.
+    ghost moment: { Self → ℕ };
+
+    /// What opening the disk gives after a crash at some moment since that one: entries, or why it is no log.
+    ghost opens_since: { Self → ℕ → Opened → Type 0 };
+
+    /// How often its disk has failed.
+    ghost faults: { Self → ℕ };
+
+    /// Appends an entry. At `Ok` a crash leaves a log that has it. It fails with `DiskFault` or `NoMemory`,
+    /// and is broken after a `DiskFault`, and after a `NoMemory` of the disk itself.
+    fn append(&mut self, entry: &[u8]) -> Result<(), LogFault>
+        requires { IsFalse (broken self.old) }
+        ensures appended { OnOk result (listed self.new ≡ listed self.old ++ entry.now ∷ []) }
+        ensures whole { OnOk result (IsFalse (broken self.new)) }
+        // A crash at any moment of the call leaves the entries before it, with the new one or without.
+        ensures any_moment { IsTrue (tells self.old) → Grows (moment self.old) (moment self.new)
+            (opens_since self.old) (opens_since self.new) (IsBeforeOrAfter (listed self.old) entry.now) }
+        ensures not_listed { OnErr result (listed self.new ≡ listed self.old) }
+        ensures unchanged { OnErr result (IsFalse (broken self.new) → Stays (moment self.old) (moment self.new)
+            (opens_since self.old) (opens_since self.new) (faults self.old) (faults self.new)) }
+        ensures tells { tells self.new ≡ tells self.old }
+        ensures later { faults self.old ≤ faults self.new }
+        ensures disk_fault { IsErrOf result DiskFault → Rose (faults self.old) (faults self.new) × IsTrue (broken self.new) }
+        ensures is_a_log { (at : ℕ) → IsErrOf result (NotALog at) → ⊥ };
+
+    /// The entries, the oldest first. It takes no memory.
+    fn entries(&self) -> &Entries
+        ensures { result.now ≡ listed self.now };
+
+    /// Whether the log has to be opened again before the next append.
+    fn is_broken(&self) -> bool
+        ensures { result ≡ broken self.now };
+
+    /// A crash now leaves a log of its entries, where it is not broken.
+    ghost at_rest: { (log : Self) (opened : Opened) → IsTrue (tells log) → IsFalse (broken log) → opens_since log (moment log) opened → opened ≡ Ok (listed log) };
+
+    /// That is one of the things that may come since an earlier moment.
+    ghost counts: { (log : Self) (t : ℕ) → IsTrue (tells log) → IsFalse (broken log) → t ≤ moment log → opens_since log t (Ok (listed log)) };
+
+    /// This moment is one of those since an earlier one.
+    ghost counts_now: { (log : Self) (t : ℕ) (opened : Opened) → IsTrue (tells log) → t ≤ moment log → opens_since log (moment log) opened → opens_since log t opened };
+}

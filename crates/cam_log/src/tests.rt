@@ -1,0 +1,111 @@
+use crate::{EntryLog, Log, LogFault};
+use cam_disk::{Disk, MemoryDisk, StopDisk};
+use std::test::Fail;
+
+/// A log of the one entry 01 00000002.
+const IMAGE: [u8; 23] = [
+    0x43, 0x41, 0x4d, 0x45, 0x4c, 0x4f, 0x54, 0x0a, 1, 0, 0, 0, 0, 0, 0, 0, 5, 1, 0, 0, 0, 2, 0,
+];
+
+/// A log of the entries `ab` and `c`.
+const TWO: [u8; 30] = *b"CAMELOT\n\x01\0\0\0\0\0\0\0\x02ab\x01\0\0\0\0\0\0\0\x01c\0";
+
+/// From which place on a beginning of it is no log, by its length: the header is not whole, a gate is
+/// missing, or a length or what it counts is not whole.
+const PLACES: [u64; 30] = [
+    0, 1, 2, 3, 4, 5, 6, 7, 8, 9, 9, 9, 9, 9, 9, 9, 9, 9, 9, 19, 20, 20, 20, 20, 20, 20, 20, 20,
+    20, 29,
+];
+
+#[test]
+fn an_append_leaves_these_bytes(rt: HostRuntime) -> Result<(), Fail> {
+    let alloc = rt.alloc();
+    let mut log = match Log::format(alloc, MemoryDisk::new(alloc)) {
+        Ok(log) => log,
+        Err(refused) => return Err(refused.fault.into()),
+    };
+    log.append(&[1, 0, 0, 0, 2])?;
+    let mut disk = log.into_disk();
+    let mut into = [0u8; 30];
+    assert_eq!(rt; disk.read(0, &mut into)?, 23);
+    assert_eq!(rt; &into[..23], IMAGE.as_slice());
+    let again = match Log::open(alloc, disk) {
+        Ok(log) => log,
+        Err(refused) => return Err(refused.fault.into()),
+    };
+    assert_eq!(rt; again.entries().len(), 1);
+    assert_eq!(rt; again.is_broken(), false);
+    let mut cut = MemoryDisk::new(alloc);
+    cut.write_at(0, &IMAGE[..22])?;
+    match Log::open(alloc, cut) {
+        Ok(_) => Err(Fail::new("a log without its last gate was opened")),
+        Err(refused) => {
+            assert_eq!(rt; refused.fault, LogFault::NotALog(22));
+            Ok(())
+        }
+    }
+}
+
+#[test]
+fn each_beginning_of_a_log_is_refused_at_its_place(rt: HostRuntime) -> Result<(), Fail> {
+    let alloc = rt.alloc();
+    for (length, at) in PLACES.iter().enumerate() {
+        let mut disk = MemoryDisk::new(alloc);
+        disk.write_at(0, TWO.get(..length).unwrap_or(&TWO))?;
+        match Log::open(alloc, disk) {
+            Ok(_) => return Err(Fail::new("a beginning was opened")),
+            Err(refused) => assert_eq!(rt; refused.fault, LogFault::NotALog(*at), "at {length}"),
+        }
+    }
+    let mut disk = MemoryDisk::new(alloc);
+    disk.write_at(0, &TWO)?;
+    let log = match Log::open(alloc, disk) {
+        Ok(log) => log,
+        Err(refused) => return Err(refused.fault.into()),
+    };
+    assert_eq!(rt; log.entries().len(), 2);
+    Ok(())
+}
+
+#[test]
+fn an_append_is_stopped_at_each_device_call(rt: HostRuntime) -> Result<(), Fail> {
+    let alloc = rt.alloc();
+    let stopped = Err(LogFault::DiskFault);
+    // The calls that are passed on, the answer, and the entries that are listed and that are found again.
+    let rows = [
+        (0, stopped, 0, 0),
+        (1, stopped, 0, 0),
+        (2, stopped, 0, 0),
+        (3, stopped, 0, 1),
+        (4, Ok(()), 1, 1),
+    ];
+    for (calls, answer, listed, found) in rows {
+        let mut log = match Log::format(alloc, StopDisk::new(MemoryDisk::new(alloc))) {
+            Ok(log) => log,
+            Err(refused) => return Err(refused.fault.into()),
+        };
+        log.stop_after(calls);
+        assert_eq!(rt; log.append(&[1, 0, 0, 0, 2]), answer, "at {calls}");
+        assert_eq!(rt; log.is_broken(), answer.is_err(), "at {calls}");
+        assert_eq!(rt; log.entries().len(), listed, "at {calls}");
+        match Log::open(alloc, log.into_disk().into_inner()) {
+            Ok(log) => assert_eq!(rt; log.entries().len(), found, "at {calls}"),
+            Err(refused) => return Err(refused.fault.into()),
+        }
+    }
+    Ok(())
+}
+
+#[test]
+fn a_log_whose_disk_was_cleared_appends(rt: HostRuntime) -> Result<(), Fail> {
+    let alloc = rt.alloc();
+    let mut log = match Log::format(alloc, StopDisk::new(MemoryDisk::new(alloc))) {
+        Ok(log) => log,
+        Err(refused) => return Err(refused.fault.into()),
+    };
+    log.stop_after(0);
+    log.clear();
+    log.append(b"ab")?;
+    assert_eq!(rt; log.entries().len(), 1);
+    Ok(())
+}
