@@ -1,0 +1,26 @@
+ghost use Rattle.std.specs.Prelude.{◌≡◌, ◌≤◌, length, Ok, Err, IfOk, IsTrue};
+ghost use Rattle.cam_script.specs.Words.{text_of};
+ghost use Rattle.cam_script.specs.Numbers.{is_name};
+ghost use Rattle.cam_script.specs.SoFar.{step_cost};
+ghost use Rattle.cam_script.specs.Steps.{begin_line};
+
+use crate::line::{Line, Word};
+use crate::so_far::SoFar;
+use crate::{Act, ScriptFault};
+
+impl SoFar {
+    /// `begin A NODE`: the word of the variable, and the step.
+    #[tactic(auto, unfolding(crate::specs::Steps::begin_line))]
+    pub fn begin_line(&self, line: &Line, at: usize) -> Result<(Word, Act), ScriptFault>
+        requires { at ≤ length line.now.bytes.now }
+        ensures value { result ≡ begin_line self.now line.now.number at line.now.bytes.now }
+        ensures word { IfOk result (λ said. (said.0.0 ≤ said.0.1) × (said.0.1 ≤ length line.now.bytes.now)) }
+        ensures name { IfOk result (λ said. IsTrue (is_name (text_of said.0 line.now.bytes.now))) }
+        ensures cost { IfOk result (λ said. step_cost self.now.sizes said.1 ≡ 1) }
+    {
+        let name = line.new_variable_at(at, &self.variables)?;
+        let (node, at) = line.node_at(name.1, self.script.nodes)?;
+        line.end_at(at)?;
+        Ok((name, Act::Begin { node }))
+    }
+}

@@ -1,0 +1,74 @@
+ghost use Rattle.std.specs.Prelude.{◌≡◌, ◌≤◌, length, IfOk};
+ghost use Rattle.cam_script.specs.declared.stage.Stage.TheVariants.{FirstPath};
+ghost use Rattle.cam_script.specs.Built.{built_of};
+ghost use Rattle.cam_script.specs.SoFar.{nothing};
+ghost use Rattle.cam_script.specs.Lines.{lines_of};
+ghost use Rattle.cam_script.specs.Grammar.{read_lines, read_script};
+ghost use Rattle.cam_script.specs.Law.{IsScript};
+ghost use Rattle.cam_script.specs.FirstPath.{IsFirstPath};
+ghost use Rattle.cam_script.specs.Parse.{Gives};
+
+use crate::line::Line;
+use crate::lines::first_line;
+use crate::so_far::SoFar;
+use crate::{Script, ScriptFault, Stage, causes};
+use std::alloc::Global;
+
+/// The most bytes of a script.
+const MOST_BYTES: usize = 262_144;
+
+/// The script that the bytes spell, or its first fault, by the lines that the stage has.
+///
+/// It answers `NoMemory` where memory runs out, and else `Bad`, with the cause of the first fault:
+///
+/// 1. more than 262,144 bytes, at line 1, column 1, before all other causes;
+/// 2. a byte that is not allowed: each is 9, 10, 13 or 32 to 126;
+/// 3. an unknown line, kind or operation, or one that the stage does not have;
+/// 4. a word is missing, at the place behind the last one;
+/// 5. a word too many;
+/// 6. a wrong number or value;
+/// 7. a new name that is not a letter and up to 15 letters or digits;
+/// 8. a name that is declared above;
+/// 9. a name that is not declared above;
+/// 10. a line where it may not stand, a variable in a use that it does not have, or no `nodes` at all, at the line
+///     after the last;
+/// 11. a node, 1 to 8, that the script does not have;
+/// 12. object 65, or the step that passes 512, at the first word.
+#[tactic(auto, using(crate::proofs::Gives::gives_script, crate::proofs::Gives::gives_first_path))]
+pub fn parse(alloc: Global, stage: Stage, bytes: &[u8]) -> Result<Script, ScriptFault>
+    ensures value { Gives result (read_script (built_of stage) bytes.now) }
+    ensures script { IfOk result IsScript }
+    ensures first_path { stage ≡ FirstPath → IfOk result IsFirstPath }
+{
+    if bytes.len() > MOST_BYTES {
+        return Err(ScriptFault::Bad {
+            line: 1,
+            column: 1,
+            cause: causes::TOO_LONG,
+        });
+    }
+    read_lines(alloc, stage, bytes)
+}
+
+/// The script of these lines.
+fn read_lines(alloc: Global, stage: Stage, bytes: &[u8]) -> Result<Script, ScriptFault>
+    requires { length bytes.now ≤ 262144 }
+    ensures { Gives result (read_lines (built_of stage) nothing 1 (lines_of bytes.now)) }
+{
+    let mut so_far = SoFar::new(alloc);
+    let mut number = 1;
+    let mut rest = bytes;
+    while !rest.is_empty() {
+        let (line, behind) = first_line(rest);
+        so_far.read_line(
+            stage,
+            &Line {
+                number,
+                bytes: line,
+            },
+        )?;
+        number += 1;
+        rest = behind;
+    }
+    so_far.into_script(number)
+}
