@@ -4,3 +4,11 @@ pub mod Playing
 pub mod Run
 pub mod Contract
 pub mod Parts
+pub mod FirstPath
+pub mod Served
+pub mod Nodes
+pub mod Keeps
+pub mod Room
+pub mod Changes
+pub mod Lines
+pub mod Deliveries

@@ -1,0 +1,67 @@
+ghost use Rattle.std.specs.Prelude.{◌≡◌, IfOk, map};
+ghost use Rattle.cam_event.specs.Readings.{by_knowledge};
+ghost use Rattle.cam_script.specs.Law.{IsScript};
+ghost use Rattle.cam_script.specs.FirstPath.{IsFirstPath};
+ghost use Rattle.cam_cluster.specs.Contract.{IsNew, IsNextStep, IsLine};
+ghost use Rattle.cam_cluster.specs.Nodes.{node_state, new_nodes};
+
+use crate::cluster::Cluster;
+use crate::node::Node;
+use crate::parts::Parts;
+use crate::{LineDone, LineFault};
+use cam_base::{NoMemory, Sequence};
+use cam_event::RunRecord;
+use cam_script::{Act, Script, Step};
+use std::alloc::Global;
+
+/// The nodes of a script, in order. None has run an action.
+fn new_nodes(alloc: Global, count: u8) -> Result<Vec<Node>, NoMemory>
+    ensures { IfOk result (λ nodes. map node_state nodes.items ≡ new_nodes 1 count) }
+{
+    let mut nodes = Vec::new(alloc);
+    for place in 0..count {
+        nodes.push(Node::new(alloc, place + 1))?;
+    }
+    Ok(nodes)
+}
+
+impl<'a> Cluster<'a> {
+    /// The run of a script before its first line. The script is one of the first path: it has no other steps than `begin`, `call` and
+    /// `deliver`.
+    pub fn new(alloc: Global, script: &'a Script) -> Result<Cluster<'a>, NoMemory>
+        requires script { IsScript script.now }
+        requires first { IsFirstPath script.now }
+        ensures { IfOk result (λ cluster. IsNew script.now cluster) }
+    {
+        Ok(Cluster {
+            script,
+            parts: Parts {
+                nodes: new_nodes(alloc, script.nodes)?,
+                sent: Vec::new(alloc),
+                delivered: Vec::new(alloc),
+                bound: Vec::new(alloc),
+            },
+            so_far: RunRecord {
+                trace: Sequence::new(alloc),
+                marks: Sequence::new(alloc),
+            },
+        })
+    }
+
+    /// Takes the next step of the script. What stands after it is the definition's step of what stood before it, and the answer goes by
+    /// cases of that step: how many events were made, or the first test that refuses the line. Where memory was wanting, nothing changed.
+    pub fn line(&mut self, step: &Step) -> Result<LineDone, LineFault>
+        requires { IsNextStep self.old step.now }
+        ensures { IsLine by_knowledge step.now self.old self.new result }
+    {
+        // the invariant says that the script is one of the first path
+        let _ = &self.script;
+        match step.act {
+            Act::Begin { node } => self.begin(step.line, node),
+            Act::Call { action, object, op } => self.call(step.line, action, object, &op),
+            Act::Deliver { letter } => self.deliver(step.line, letter),
+            // a script of the first path has no other step
+            _ => unreachable!(),
+        }
+    }
+}
