@@ -1,3 +1,5 @@
 pub mod Words
 pub mod Report
 pub mod Records
+pub mod Gathered
+pub mod Sited

@@ -14,9 +14,9 @@ use Rattle.cam_event.specs.declared.Mark.TheVariants as marks
 use Rattle.cam_event.specs.declared.ViewStep.{ViewStep}
 use Rattle.cam_event.specs.declared.ViewStep.TheVariants as steps
 use Rattle.cam_event.specs.declared.Deed.{Deed}
-use Rattle.cam_event.specs.declared.Deed.TheVariants.{Create, Ask, Call, Perform, Bounce, Got, AskCommit, AskAbort, Commit, Abort, Secure, Inform, Crash}
+use Rattle.cam_event.specs.declared.Deed.TheVariants.{Create}
 use Rattle.cam_event.specs.History.{committed, aborted}
-use Rattle.cam_event.specs.Live.{live_on, lift, replay, start_of, site_of}
+use Rattle.cam_event.specs.Settled.{settled}
 use Rattle.cam_event.specs.Views.{view}
 use Rattle.cam_event.specs.Pasts.{plain_all}
 use Rattle.cam_event.specs.Rules.{sorted_names}
@@ -83,14 +83,6 @@ abbrev pub mark_text : Mark → List ℕ
 mark_text (marks.Refused n refusal) = line (codes "refused" ∷ decimal n ∷ (76 ∷ decimal (refusal_number refusal)) ∷ [])
 mark_text (marks.Cut n letter fault at) = line (codes "cut" ∷ decimal n ∷ decimal letter ∷ fault_word fault ∷ decimal at ∷ [])
 mark_text (marks.Halted n node taken) = line (codes "halted" ∷ decimal n ∷ decimal node ∷ taken_word taken ∷ [])
-
--- the value of an object that is handed up past the top
-abbrev pub is_past_top : Option Name → Bool
-is_past_top None = true
-is_past_top (Some u) = false
-
-abbrev pub settled : List ObjectDecl → List Deed → ℕ → State
-settled objects L x = replay (start_of objects x) (filter (λ o. is_past_top (lift L (site_of objects o.object) o.action)) (live_on objects L x))
 
 abbrev pub values_from : List ObjectDecl → List Deed → ℕ → List (List ℕ) → List ℕ
 values_from objects L x [] = []

@@ -1,0 +1,8 @@
+pub mod Spaced
+pub mod Gathering
+pub mod Children
+pub mod Viewing
+pub mod Stopping
+pub mod States
+pub mod Siting
+pub mod Settling

@@ -1,0 +1,7 @@
+use Rattle.std.proofs.Common.{◌≡◌, ◌++◌, take, string_bytes}
+use Rattle.std.specs.List.{flat_map}
+use Rattle.cam_report.specs.Report.{mark_text}
+use Rattle.cam_report.proofs.marks.write_marks.Given as goal
+
+abbrev pub invariant-loop-mark : goal.invariant-loop-mark
+invariant-loop-mark l = string_bytes l.out ≡ string_bytes l.fn.out ++ flat_map mark_text (take l.mark-index l.mark-items)

@@ -1,0 +1,17 @@
+use Rattle.std.proofs.Common.{◌∷◌, [], ◌++◌, List, ℕ, codes, reverse, string_bytes, sym, ap, ◌∙◌}
+use Rattle.std.proofs.lemmas.List.{append_assoc}
+use Rattle.cam_report.specs.Words.{line, state_text}
+use Rattle.cam_event.specs.Settled.{settled}
+use Rattle.cam_report.proofs.Settling.{values_more}
+use Rattle.cam_report.proofs.values.write_values.Goals as goal
+
+pub loop-object-preserved : goal.loop-object-preserved
+loop-object-preserved c =
+    let L = reverse c.args.deeds.now in
+    let objects = c.args.script.now.objects in
+    let labels = c.as_slice-label-items.result.now in
+    let value = line (codes "value" ∷ c.label-item.result ∷ state_text (settled objects L c.loop-object.object) ∷ []) in
+    c.in_ok-write_value.ensures L c.in_ok-operations.ensures
+    ∙ ap (λ (t : List ℕ). t ++ value) c.loop-object.invariant
+    ∙ append_assoc (string_bytes c.args.out.now) _ value
+    ∙ ap (λ (t : List ℕ). string_bytes c.args.out.now ++ t) (sym (values_more objects L labels c.loop-object.object c.label-item.result c.loop-object-test.true c.label-item.is))
