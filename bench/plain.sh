@@ -1,8 +1,10 @@
 #!/bin/sh
-# How long the check of the plain machine takes on legal lists of 96, 192 and 384 deeds, and how often that is the time of the first.
-# A figure is such a ratio: the nanoseconds are those of one machine on one day.
+# How long the check of the plain machine takes on legal lists of 96, 192, 384 and 768 deeds, and how often that is the time of the first.
+# A figure is such a ratio: the nanoseconds are those of one machine on one day. Each time is the least of four rounds.
+# Twice the deeds in eight times the time is the third power; on short lists lower powers count too.
 # bench/plain.sh           proves the crates and the program, and runs it
 # bench/plain.sh --quick   runs a build of the same sources that nothing has proved
+# The figures in README.md come from the second.
 # It makes a program in a copy of the crates, in a folder that it removes at the end.
 set -e
 top=$(cd "$(dirname "$0")/.." && pwd)
@@ -78,7 +80,7 @@ fn writes(rt: &HostRuntime, actions: u32) -> Result<Deeds, Error> {
 }
 
 /// The time of one check.
-fn measure(rt: &HostRuntime, deeds: &Deeds) -> Result<u128, Error> {
+fn check_once(rt: &HostRuntime, deeds: &Deeds) -> Result<u128, Error> {
     let mut objects = Objects::new(rt.alloc());
     objects.push(ObjectDecl {
         node: 1,
@@ -89,11 +91,20 @@ fn measure(rt: &HostRuntime, deeds: &Deeds) -> Result<u128, Error> {
     Ok(start.elapsed(rt)?.as_nanos())
 }
 
+/// The least time of some checks.
+fn measure(rt: &HostRuntime, deeds: &Deeds) -> Result<u128, Error> {
+    let mut time = check_once(rt, deeds)?;
+    for _ in 0..3 {
+        time = time.min(check_once(rt, deeds)?);
+    }
+    Ok(time)
+}
+
 fn main(rt: HostRuntime) -> Result<(), Error> {
     let first = measure(&rt, &writes(&rt, 12)?)?;
-    for actions in [12, 24, 48] {
+    for actions in [12, 24, 48, 96] {
         let deeds = writes(&rt, actions)?;
-        let time = measure(&rt, &deeds)?;
+        let time = if actions == 12 { first } else { measure(&rt, &deeds)? };
         let tenths = time.saturating_mul(10) / first.max(1);
         println!(rt; "{} deeds: {time} ns, {tenths} tenths of the first", deeds.len())?;
     }
@@ -103,7 +114,8 @@ PROGRAM
 rm -f crates/plain_times/stdin crates/plain_times/stdout
 cd crates/plain_times
 if [ "${1-}" = --quick ]; then
-    # That build checks each step as it runs, and is some hundred times slower.
+    # That build checks each step as it runs, and is some hundred times slower: it does not take the longest list.
+    sed -i 's/12, 24, 48, 96/12, 24, 48/' src/main.rt
     rt try --steps 1
 else
     rt run
