@@ -4,7 +4,7 @@
 # Twice the deeds in eight times the time is the third power; on short lists lower powers count too.
 # bench/plain.sh           proves the crates and the program, and runs it
 # bench/plain.sh --quick   runs a build of the same sources that nothing has proved
-# The figures in README.md come from the second.
+# The figures in README.md come from the first, which has run to its end.
 # It makes a program in a copy of the crates, in a folder that it removes at the end.
 set -e
 top=$(cd "$(dirname "$0")/.." && pwd)
