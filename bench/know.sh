@@ -4,21 +4,9 @@
 # bench/know.sh           proves the crates and the program, and runs it
 # bench/know.sh --quick   runs a build of the same sources that nothing has proved
 # The figures in README.md come from the first, which has run to its end.
-# It makes a program in a copy of the crates, in a folder that it removes at the end.
-set -e
-top=$(cd "$(dirname "$0")/.." && pwd)
-copy=$(mktemp -d)
-trap 'rm -rf "$copy"' EXIT
-mkdir "$copy/crates"
-for crate in cam_base cam_names cam_know cam_orphan; do
-    cp -r "$top/crates/$crate" "$copy/crates/$crate"
-done
-grep -E '^cam_(base|names|know|orphan):' "$top/crates.txt" > "$copy/crates.txt"
-cd "$copy"
-rt new crates/know_times start_io > new.log 2>&1
-rm -rf crates/know_times/BUILD.bazel crates/know_times/proofs crates/know_times/specs crates/know_times/src/*
-echo 'know_times: anyhow cam_base cam_names cam_know cam_orphan' >> crates.txt
-cat > crates/know_times/src/main.rt <<'PROGRAM'
+. "$(dirname "$0")/common.sh"
+make_program know_times anyhow cam_base cam_names cam_know cam_orphan
+cat > src/main.rt <<'PROGRAM'
 //! How long an orphan test and joins take.
 #![tactic(auto)]
 
@@ -188,8 +176,6 @@ fn main(rt: HostRuntime) -> Result<(), Error> {
     Ok(())
 }
 PROGRAM
-rm -f crates/know_times/stdin crates/know_times/stdout
-cd crates/know_times
 if [ "${1-}" = --quick ]; then
     # That build checks each step as it runs, and is a thousand times slower.
     sed -i 's/= 20;/= 1;/; s/= 2_000;/= 20;/; s/= 200;/= 4;/' src/main.rt

@@ -1,24 +1,12 @@
 #!/bin/sh
 # How long an append takes, and the opening of a log of 10, 1,000 and 100,000 entries, on a disk in memory
 # and on a file, which takes ten minutes: an append has two syncs.
-# It makes a program in a copy of the crates, in a folder that it removes at the end.
-# Usage: bench/log.sh [FOLDER]. That folder is made in FOLDER, or where `mktemp` makes one. Name one on a
+# Usage: bench/log.sh [FOLDER]. Its folder is made in FOLDER, or where `mktemp` makes one. Name one on a
 # disk: where the file lies in memory, as /tmp does on many machines, a sync costs nothing.
-set -e
-top=$(cd "$(dirname "$0")/.." && pwd)
-copy=$(mktemp -d -p "${1:-${TMPDIR:-/tmp}}")
-copy=$(cd "$copy" && pwd)
-trap 'rm -rf "$copy"' EXIT
-mkdir "$copy/crates"
-for crate in cam_base cam_disk cam_log; do
-    cp -r "$top/crates/$crate" "$copy/crates/$crate"
-done
-grep -E '^cam_(base|disk|log):' "$top/crates.txt" > "$copy/crates.txt"
-cd "$copy"
-rt new crates/log_times start_io > new.log 2>&1
-rm -rf crates/log_times/BUILD.bazel crates/log_times/proofs crates/log_times/specs crates/log_times/src/*
-echo 'log_times: cam_base cam_disk cam_log' >> crates.txt
-cat > crates/log_times/src/main.rt <<'PROGRAM'
+. "$(dirname "$0")/common.sh"
+bench_folder=${1-}
+make_program log_times cam_base cam_disk cam_log
+cat > src/main.rt <<'PROGRAM'
 //! How long an append to a log and its opening take.
 #![tactic(auto)]
 
@@ -63,6 +51,4 @@ fn main(rt: HostRuntime) -> io::Result<()> {
     fs::remove_file(&rt, "log_times.log")
 }
 PROGRAM
-rm -f crates/log_times/stdin crates/log_times/stdout
-cd crates/log_times
 TMPDIR="$copy" rt run

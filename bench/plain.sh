@@ -5,21 +5,9 @@
 # bench/plain.sh           proves the crates and the program, and runs it
 # bench/plain.sh --quick   runs a build of the same sources that nothing has proved
 # The figures in README.md come from the first, which has run to its end.
-# It makes a program in a copy of the crates, in a folder that it removes at the end.
-set -e
-top=$(cd "$(dirname "$0")/.." && pwd)
-copy=$(mktemp -d)
-trap 'rm -rf "$copy"' EXIT
-mkdir "$copy/crates"
-for crate in cam_base cam_names cam_type cam_know cam_event cam_plain; do
-    cp -r "$top/crates/$crate" "$copy/crates/$crate"
-done
-grep -E '^cam_(base|names|type|know|event|plain):' "$top/crates.txt" > "$copy/crates.txt"
-cd "$copy"
-rt new crates/plain_times start_io > new.log 2>&1
-rm -rf crates/plain_times/BUILD.bazel crates/plain_times/proofs crates/plain_times/specs crates/plain_times/src/*
-echo 'plain_times: anyhow cam_base cam_names cam_type cam_event cam_plain' >> crates.txt
-cat > crates/plain_times/src/main.rt <<'PROGRAM'
+. "$(dirname "$0")/common.sh"
+make_program plain_times anyhow cam_base cam_names cam_type cam_event cam_plain
+cat > src/main.rt <<'PROGRAM'
 //! How long the check of the plain machine takes.
 #![tactic(auto)]
 
@@ -111,8 +99,6 @@ fn main(rt: HostRuntime) -> Result<(), Error> {
     Ok(())
 }
 PROGRAM
-rm -f crates/plain_times/stdin crates/plain_times/stdout
-cd crates/plain_times
 if [ "${1-}" = --quick ]; then
     # That build checks each step as it runs, and is some hundred times slower: it does not take the longest list.
     sed -i 's/12, 24, 48, 96/12, 24, 48/' src/main.rt
