@@ -14,6 +14,7 @@ mod worked;
 
 use cam_base::NoMemory;
 use cam_io::{StdSink, StdSource};
+use status::Status;
 use std::env;
 use std::io::ErrorKind;
 use std::process::ExitCode;
@@ -35,7 +36,7 @@ fn words(rt: &HostRuntime) -> Result<Vec<String>, NoMemory> {
 
 fn main(rt: HostRuntime) -> ExitCode {
     let Ok(words) = words(&rt) else {
-        return ExitCode::from(status::NO_MEMORY);
+        return ExitCode::from(Status::NoMemory.number());
     };
     let mut source = StdSource::new(rt.stdin());
     let mut sink = StdSink::new(rt.stdout());

@@ -1,14 +1,35 @@
-//! The statuses of the program.
+ghost use Rattle.std.specs.Prelude.{◌≡◌};
+ghost use Rattle.cam_cli.specs.Status.{number};
 
-/// The report was written.
-pub const DONE: u8 = 0;
-/// The words are no form.
-pub const USAGE: u8 = 2;
-/// The script was refused.
-pub const REFUSED: u8 = 3;
-/// The source failed.
-pub const READ_FAULT: u8 = 4;
-/// The sink failed.
-pub const WRITE_FAULT: u8 = 5;
-/// Memory was wanting.
-pub const NO_MEMORY: u8 = 7;
+/// How the program ended.
+#[derive(Clone, Copy, Debug, PartialEq, Eq)]
+pub enum Status {
+    /// The report was written.
+    Done,
+    /// The words are no form.
+    Usage,
+    /// The script was refused.
+    Refused,
+    /// The source failed.
+    ReadFault,
+    /// The sink failed.
+    WriteFault,
+    /// Memory was wanting.
+    NoMemory,
+}
+
+impl Status {
+    /// The number with which the program ends.
+    pub fn number(self) -> u8
+        ensures { result ≡ number self }
+    {
+        match self {
+            Status::Done => 0,
+            Status::Usage => 2,
+            Status::Refused => 3,
+            Status::ReadFault => 4,
+            Status::WriteFault => 5,
+            Status::NoMemory => 7,
+        }
+    }
+}

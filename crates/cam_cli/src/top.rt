@@ -2,10 +2,12 @@ ghost use Rattle.std.specs.Prelude.{◌≡◌, ◌⊎◌, ◌↔◌, [], IfOk, I
 ghost use Rattle.cam_base.specs.Causes.{Rose};
 ghost use Rattle.cam_base.specs.Told.{IfTold};
 ghost use Rattle.cam_script.specs.Grammar.{as_unknown_line};
+ghost use Rattle.cam_cli.specs.declared.status.Status.TheVariants as statuses;
+ghost use Rattle.cam_cli.specs.Status.{number};
 ghost use Rattle.cam_cli.specs.Answer.{IsAnswer, IsForm, IsOfFault, IsOfScript, IsOfWords, IsWritten, script_of, status_of};
 
 use crate::running::report;
-use crate::status;
+use crate::status::Status;
 use cam_base::NoMemory;
 use cam_io::{ReadFault, Sink, Source, read_all, write_all};
 use cam_script::{ScriptFault, Stage, parse};
@@ -41,28 +43,28 @@ pub fn camelot<S: Source, K: Sink>(
     ensures unread { ¬ (IsForm (map string_bytes words.now)) → source.new ≡ source.old }
 {
     let Ok(answer) = answer_to(alloc, words, source) else {
-        return status::NO_MEMORY;
+        return Status::NoMemory.number();
     };
     match write_all(sink, answer.text.as_bytes()) {
-        Ok(()) => answer.status,
-        Err(_) => status::WRITE_FAULT,
+        Ok(()) => answer.status.number(),
+        Err(_) => Status::WriteFault.number(),
     }
 }
 
 /// A status and its text.
 #[derive(Drop)]
 struct Answer {
-    status: u8,
+    status: Status,
     text: String,
 }
 
 /// The answer to the words and the input.
 fn answer_to<S: Source>(alloc: Global, words: &[String], source: &mut S) -> Result<Answer, NoMemory>
-    ensures answer { IfTold (S.left source.old) (S.left source.new) (λ input _. IfOk result (λ a. IsAnswer (map string_bytes words.now) (Rose (S.faults source.old) (S.faults source.new)) input a.status (string_bytes a.text))) }
-    ensures statuses { IfOk result (λ a. (a.status ≡ 0) ⊎ ((a.status ≡ 2) ⊎ ((a.status ≡ 3) ⊎ (a.status ≡ 4)))) }
-    ensures usage { IfOk result (λ a. (a.status ≡ 2) ↔ (¬ (IsForm (map string_bytes words.now)))) }
-    ensures read_fault { IfOk result (λ a. a.status ≡ 4 → Rose (S.faults source.old) (S.faults source.new)) }
-    ensures read { IfTold (S.left source.old) (S.left source.new) (λ _ rest. IfOk result (λ a. a.status ≡ 0 → rest ≡ [])) }
+    ensures answer { IfTold (S.left source.old) (S.left source.new) (λ input _. IfOk result (λ a. IsAnswer (map string_bytes words.now) (Rose (S.faults source.old) (S.faults source.new)) input (number a.status) (string_bytes a.text))) }
+    ensures statuses { IfOk result (λ a. (a.status ≡ statuses.Done) ⊎ ((a.status ≡ statuses.Usage) ⊎ ((a.status ≡ statuses.Refused) ⊎ (a.status ≡ statuses.ReadFault)))) }
+    ensures usage { IfOk result (λ a. (a.status ≡ statuses.Usage) ↔ (¬ (IsForm (map string_bytes words.now)))) }
+    ensures read_fault { IfOk result (λ a. a.status ≡ statuses.ReadFault → Rose (S.faults source.old) (S.faults source.new)) }
+    ensures read { IfTold (S.left source.old) (S.left source.new) (λ _ rest. IfOk result (λ a. a.status ≡ statuses.Done → rest ≡ [])) }
     ensures unread { ¬ (IsForm (map string_bytes words.now)) → source.new ≡ source.old }
 {
     if is_form(words) {
@@ -80,23 +82,23 @@ fn is_form(words: &[String]) -> bool
 
 /// The answer to words that are no form.
 fn usage(alloc: Global) -> Result<Answer, NoMemory>
-    ensures { IfOk result (λ a. IsOfWords a.status (string_bytes a.text)) }
+    ensures { IfOk result (λ a. IsOfWords (number a.status) (string_bytes a.text)) }
 {
     let text = format!(in alloc;
         "usage: camelot run | trace | witness NAME | gen SEED SIZE | storm SEED ACTIONS THREADS MODE | inspect\n"
     )?;
     Ok(Answer {
-        status: status::USAGE,
+        status: Status::Usage,
         text,
     })
 }
 
 /// The answer to what the source gives.
 fn read_and_run<S: Source>(alloc: Global, source: &mut S) -> Result<Answer, NoMemory>
-    ensures answer { IfTold (S.left source.old) (S.left source.new) (λ input _. IfOk result (λ a. ((Rose (S.faults source.old) (S.faults source.new)) × IsOfFault a.status (string_bytes a.text)) ⊎ IsOfScript (script_of input) a.status (string_bytes a.text))) }
-    ensures statuses { IfOk result (λ a. (a.status ≡ 0) ⊎ ((a.status ≡ 3) ⊎ (a.status ≡ 4))) }
-    ensures read_fault { IfOk result (λ a. a.status ≡ 4 → Rose (S.faults source.old) (S.faults source.new)) }
-    ensures read { IfTold (S.left source.old) (S.left source.new) (λ _ rest. IfOk result (λ a. a.status ≡ 0 → rest ≡ [])) }
+    ensures answer { IfTold (S.left source.old) (S.left source.new) (λ input _. IfOk result (λ a. ((Rose (S.faults source.old) (S.faults source.new)) × IsOfFault (number a.status) (string_bytes a.text)) ⊎ IsOfScript (script_of input) (number a.status) (string_bytes a.text))) }
+    ensures statuses { IfOk result (λ a. (a.status ≡ statuses.Done) ⊎ ((a.status ≡ statuses.Refused) ⊎ (a.status ≡ statuses.ReadFault))) }
+    ensures read_fault { IfOk result (λ a. a.status ≡ statuses.ReadFault → Rose (S.faults source.old) (S.faults source.new)) }
+    ensures read { IfTold (S.left source.old) (S.left source.new) (λ _ rest. IfOk result (λ a. a.status ≡ statuses.Done → rest ≡ [])) }
 {
     match read_all(alloc, source, LIMIT) {
         Ok(bytes) => run_bytes(alloc, &bytes),
@@ -115,23 +117,23 @@ fn read_and_run<S: Source>(alloc: Global, source: &mut S) -> Result<Answer, NoMe
 
 /// The answer where the source failed.
 fn read_fault(alloc: Global) -> Result<Answer, NoMemory>
-    ensures { IfOk result (λ a. IsOfFault a.status (string_bytes a.text)) }
+    ensures { IfOk result (λ a. IsOfFault (number a.status) (string_bytes a.text)) }
 {
     let text = format!(in alloc; "read fault\n")?;
     Ok(Answer {
-        status: status::READ_FAULT,
+        status: Status::ReadFault,
         text,
     })
 }
 
 /// The answer to a script: the report of its run, or its first fault.
 fn run_bytes(alloc: Global, bytes: &[u8]) -> Result<Answer, NoMemory>
-    ensures answer { IfOk result (λ a. IsOfScript (script_of bytes.now) a.status (string_bytes a.text)) }
-    ensures statuses { IfOk result (λ a. (a.status ≡ 0) ⊎ (a.status ≡ 3)) }
+    ensures answer { IfOk result (λ a. IsOfScript (script_of bytes.now) (number a.status) (string_bytes a.text)) }
+    ensures statuses { IfOk result (λ a. (a.status ≡ statuses.Done) ⊎ (a.status ≡ statuses.Refused)) }
 {
     match parse(alloc, Stage::FirstPath, bytes) {
         Ok(script) => Ok(Answer {
-            status: status::DONE,
+            status: Status::Done,
             text: report(alloc, &script)?,
         }),
         Err(fault) => refusal(alloc, fault),
@@ -140,8 +142,8 @@ fn run_bytes(alloc: Global, bytes: &[u8]) -> Result<Answer, NoMemory>
 
 /// The answer to a script with this first fault.
 fn refusal(alloc: Global, fault: ScriptFault) -> Result<Answer, NoMemory>
-    ensures answer { IfOk result (λ a. IsOfScript (as_unknown_line (Err fault)) a.status (string_bytes a.text)) }
-    ensures status { IfOk result (λ a. a.status ≡ 3) }
+    ensures answer { IfOk result (λ a. IsOfScript (as_unknown_line (Err fault)) (number a.status) (string_bytes a.text)) }
+    ensures status { IfOk result (λ a. a.status ≡ statuses.Refused) }
 {
     match fault.as_unknown_line() {
         ScriptFault::Bad {
@@ -149,7 +151,7 @@ fn refusal(alloc: Global, fault: ScriptFault) -> Result<Answer, NoMemory>
             column,
             cause,
         } => Ok(Answer {
-            status: status::REFUSED,
+            status: Status::Refused,
             text: format!(in alloc; "refused {line} {column} S{cause}\n")?,
         }),
         ScriptFault::NoMemory => Err(NoMemory),
