@@ -7,9 +7,12 @@ use Rattle.cam_names.specs.Part.{PartFields}
 use Rattle.cam_names.specs.Dependencies.{greater_counts}
 use Rattle.cam_names.proofs.Dependencies.{greater_counts_at, greater_counts_length}
 use Rattle.cam_know.specs.declared.Outcome.{Outcome}
+use Rattle.cam_know.specs.declared.commits.Commit.{Commit}
+use Rattle.cam_know.specs.declared.commits.Commits.{Commits}
 use Rattle.cam_know.specs.declared.index.Index.{Index}
 use Rattle.cam_know.specs.Knowledge.{Knowledge}
 use Rattle.cam_know.specs.Known.{outcome_eq, knows, unknown}
+use Rattle.cam_know.specs.Commits.{has_commit, is_commit}
 use Rattle.cam_know.specs.Index.{blank, entry_at, noted_all}
 use Rattle.cam_know.specs.Invariant.{NoTwice, IsEightCounts, IsKnown}
 use Rattle.cam_know.proofs.Union.{knows_unknown}
@@ -47,19 +50,30 @@ pub distinct_behind : (xs ys : List Outcome) → NoTwice (xs ++ ys) → NoTwice 
 distinct_behind [] ys h = h
 distinct_behind (x ∷ xs) ys h = distinct_behind xs ys h.1
 
+-- both say the same
+abbrev pub SaysSame : Index → Index → Type 0
+SaysSame m n = (a : List PartFields) → entry_at n a ≡ entry_at m a
+
+abbrev pub HasSame : Commits → Commits → Type 0
+HasSame m n = (c : Commit) → has_commit n c ≡ has_commit m c
+
 -- where nothing was noted
-pub known_same : (os ps : List Outcome) (m n : Index) (cs : List ℕ) → ps ≡ os → ((a : List PartFields) → entry_at n a ≡ entry_at m a) → IsKnown os m cs → IsKnown ps n cs
-known_same os ps m n cs is same h =
-    subst (λ (xs : List Outcome). IsKnown xs n cs) (sym is)
-    (record { distinct = h.distinct; indexed = λ a. same a ∙ h.indexed a; counted = h.counted })
+pub known_same : (os ps : List Outcome) (m n : Index) (r s : Commits) (cs : List ℕ) → ps ≡ os → SaysSame m n → HasSame r s → IsKnown os m r cs → IsKnown ps n s cs
+known_same os ps m n r s cs is says has h =
+    subst (λ (xs : List Outcome). IsKnown xs n s cs) (sym is)
+    (record { distinct = h.distinct; indexed = λ a. says a ∙ h.indexed a; committed = λ c. has c ∙ h.committed c; counted = h.counted })
 
 -- where all that is fresh was noted
-pub known_more : (os fresh ps : List Outcome) (m r n : Index) (cs : List ℕ) → ps ≡ os ++ fresh → ((a : List PartFields) → entry_at r a ≡ entry_at m a) → ((a : List PartFields) → entry_at n a ≡ noted_all a fresh (entry_at r a)) → NoTwice (os ++ fresh) → IsKnown os m cs → IsKnown ps n cs
-known_more os fresh ps m r n cs is same noted distinct h =
-    subst (λ (xs : List Outcome). IsKnown xs n cs) (sym is)
+pub known_more : (os fresh ps : List Outcome) (m n : Index) (r s : Commits) (cs : List ℕ) → ps ≡ os ++ fresh
+    → ((a : List PartFields) → entry_at n a ≡ noted_all a fresh (entry_at m a))
+    → ((c : Commit) → has_commit s c ≡ (has_commit r c || list_any (is_commit c) fresh))
+    → NoTwice (os ++ fresh) → IsKnown os m r cs → IsKnown ps n s cs
+known_more os fresh ps m n r s cs is noted has distinct h =
+    subst (λ (xs : List Outcome). IsKnown xs n s cs) (sym is)
     (record {
       distinct = distinct;
-      indexed = λ a. noted a ∙ ap (noted_all a fresh) (same a ∙ h.indexed a) ∙ sym (noted_all_append a os fresh blank);
+      indexed = λ a. noted a ∙ ap (noted_all a fresh) (h.indexed a) ∙ sym (noted_all_append a os fresh blank);
+      committed = λ c. has c ∙ ap (λ t. t || list_any (is_commit c) fresh) (h.committed c) ∙ sym (list_any-append (is_commit c) os fresh);
       counted = h.counted;
     })
 
@@ -76,7 +90,7 @@ greater_counted a b one other = record {
     high : (x y : ℕ) → x ≤ 1000000000 → y ≤ 1000000000 → max x y ≤ 1000000000
     high x y h k = omega arith
 
-pub known_greater : (os : List Outcome) (m : Index) (cs ds es : List ℕ) → es ≡ greater_counts cs ds → IsEightCounts ds → IsKnown os m cs → IsKnown os m es
-known_greater os m cs ds es is other h =
-    subst (λ (ns : List ℕ). IsKnown os m ns) (sym is)
-    (record { distinct = h.distinct; indexed = h.indexed; counted = greater_counted cs ds h.counted other })
+pub known_greater : (os : List Outcome) (m : Index) (r : Commits) (cs ds es : List ℕ) → es ≡ greater_counts cs ds → IsEightCounts ds → IsKnown os m r cs → IsKnown os m r es
+known_greater os m r cs ds es is other h =
+    subst (λ (ns : List ℕ). IsKnown os m r ns) (sym is)
+    (record { distinct = h.distinct; indexed = h.indexed; committed = h.committed; counted = greater_counted cs ds h.counted other })

@@ -1,12 +1,7 @@
 -- What the index has after an entry was put into it.
-use Rattle.std.proofs.Common.{◌≡◌, ℕ, ◌+◌, ◌<◌, ◌≤◌, length, take, get_or, All, Bool, true, false, if◌then◌else◌, List, [], ◌∷◌, ◌++◌, Option, Some, None, Result, Ok, Err, OnOk, OnErr, is_some, sym, ap, subst, ◌∙◌, refl, inl, inr, cond}
-use Rattle.std.specs.Option.{unwrap_or}
+use Rattle.std.proofs.Common.{◌≡◌, ℕ, ◌+◌, ◌<◌, ◌≤◌, length, take, get_or, All, false, List, [], ◌∷◌, ◌++◌, Option, Some, None, Result, OnOk, OnErr, is_some, sym, ap, subst, ◌∙◌, refl, inl, inr}
 use Rattle.std.specs.BTreeMap.{get, is_at, Updates}
-use Rattle.std.specs.Ordering.{is_eq}
-use Rattle.std.specs.declared.cmp.Ordering.{Ordering}
-use Rattle.std.specs.declared.cmp.Ordering.TheVariants.{Less, Equal, Greater}
-use Rattle.std.proofs.lemmas.Bool.{cases_Bool, true≢false}
-use Rattle.std.proofs.lemmas.Cmp.{tied_itself}
+use Rattle.std.proofs.lemmas.Bool.{cases_Bool}
 use Rattle.std.proofs.lemmas.List.{take_more, take_all}
 use Rattle.std.proofs.lemmas.List.Elements.{All-more, All-weaker}
 use Rattle.cam_names.specs.Part.{PartFields}
@@ -18,49 +13,19 @@ use Rattle.cam_know.specs.declared.Outcome.TheVariants.{Aborted, Committed}
 use Rattle.cam_know.specs.declared.index.Entry.{Entry}
 use Rattle.cam_know.specs.declared.index.Index.{Index}
 use Rattle.cam_know.specs.Index.{blank, with_commit, with_child, entry_at, changed_at, changed_at_parent, noted, noted_all, HasEntry, HasEntryIfSome, HasRoom, KeepsEntries}
-
-equal_of : (o : Ordering) → is_eq o ≡ true → o ≡ Equal
-equal_of Less h = cc
-equal_of Equal h = refl
-equal_of Greater h = cc
+use Rattle.cam_know.proofs.Maps.{parts_keys, IsPut, put_there, put_says, put_nothing}
 
 -- the order parts just the names that are not the same
-pub same_at : (b a : List PartFields) → is_at (name_cmp b) a ≡ name_eq b a
-same_at b a =
-    elim (cases_Bool (is_at (name_cmp b) a)) [
-      | inl tied ↦ tied ∙ sym (subst (λ x. name_eq b x ≡ true) (name_tied b a (equal_of (name_cmp b a) tied)) (name_eq_refl b))
-      | inr apart ↦ elim (cases_Bool (name_eq b a)) [
-        | inl same ↦ ap (λ x. is_eq (name_cmp b x)) (sym (name_eq_same b a same)) ∙ ap is_eq (tied_itself name_total b) ∙ sym same
-        | inr other ↦ apart ∙ sym other
-      ]
-    ]
-
-pub entry_put : (m n : Index) (b : List PartFields) (e : Entry) → ((q : List PartFields) → get name_cmp n.entries q ≡ cond (is_at (name_cmp b) q) (Some e) (get name_cmp m.entries q)) → (a : List PartFields) → entry_at n a ≡ changed_at (λ _. e) b a (entry_at m a)
-entry_put m n b e put a =
-    ap (λ (o : Option Entry). unwrap_or o blank) (put a)
-    ∙ ap (λ t. unwrap_or (cond t (Some e) (get name_cmp m.entries a)) blank) (same_at b a)
-    ∙ by (name_eq b a)
-  where
-    by : (t : Bool) → unwrap_or (cond t (Some e) (get name_cmp m.entries a)) blank ≡ (if t then e else entry_at m a)
-    by true = refl
-    by false = refl
-
-none_of : (o : Option Entry) → is_some o ≡ false → o ≡ None
-none_of None h = refl
-none_of (Some e) h = cc
+same_at : (b a : List PartFields) → is_at (name_cmp b) a ≡ name_eq b a
+same_at = parts_keys name_cmp name_eq name_total name_tied name_eq_same name_eq_refl
 
 -- to put an entry where one is does not fail
 pub entry_set : {X Y : Type 0} (r : Result X Y) (m n : Index) (b : List PartFields) (e : Entry) → HasEntry m b → OnOk r (Updates name_cmp m.entries n.entries b (Some e)) → OnErr r (get name_cmp m.entries b ≡ None) → (a : List PartFields) → entry_at n a ≡ changed_at (λ _. e) b a (entry_at m a)
-entry_set (Ok x) m n b e has put absent a = entry_put m n b e put.0 a
-entry_set (Err y) m n b e has put absent a = absurd (true≢false (sym has ∙ ap is_some absent))
+entry_set r m n b e has put absent = put_says name_cmp name_eq same_at blank m.entries n.entries b e (put_there name_cmp r m.entries n.entries b e has put absent)
 
 -- a blank entry, put where there was none, says nothing new
-pub blank_put : (m n : Index) (b : List PartFields) (e : Entry) → e ≡ blank → is_some (get name_cmp m.entries b) ≡ false → ((q : List PartFields) → get name_cmp n.entries q ≡ cond (is_at (name_cmp b) q) (Some e) (get name_cmp m.entries q)) → (a : List PartFields) → entry_at n a ≡ entry_at m a
-blank_put m n b e is none put a = entry_put m n b e put a ∙
-    elim (cases_Bool (name_eq b a)) [
-      | inl same ↦ rw same (is ∙ ap (λ (o : Option Entry). unwrap_or o blank) (sym (none_of (get name_cmp m.entries b) none)) ∙ ap (entry_at m) (name_eq_same b a same))
-      | inr other ↦ rw other refl
-    ]
+pub blank_put : (m n : Index) (b : List PartFields) (e : Entry) → e ≡ blank → is_some (get name_cmp m.entries b) ≡ false → IsPut name_cmp m.entries n.entries b e → (a : List PartFields) → entry_at n a ≡ entry_at m a
+blank_put m n = put_nothing name_cmp name_eq same_at blank name_eq_same m.entries n.entries
 
 -- the entry was changed where it stood
 pub entry_changed : (m n : Index) (f : Entry → Entry) (b : List PartFields) (e : Entry) → e ≡ f (entry_at m b) → ((a : List PartFields) → entry_at n a ≡ changed_at (λ _. e) b a (entry_at m a)) → (a : List PartFields) → entry_at n a ≡ changed_at f b a (entry_at m a)
@@ -71,8 +36,8 @@ entry_changed m n f b e is put a = put a ∙
     ]
 
 -- a commit changes the entry of the action, and then that of the parent
-pub noted_commit : (a b : List PartFields) (d : List ℕ) (p : List PartFields) (e x y : Entry) → Some p ≡ parent b → x ≡ changed_at (with_child d) p a y → y ≡ changed_at (with_commit d) b a e → x ≡ noted a (Committed b d) e
-noted_commit a b d p e x y is two one = two ∙ ap (changed_at (with_child d) p a) one ∙ ap (λ q. changed_at_parent (with_child d) q a (changed_at (with_commit d) b a e)) is
+pub noted_commit : (a b : List PartFields) (d : List ℕ) (p : List PartFields) (e x y : Entry) → Some p ≡ parent b → x ≡ changed_at (with_child d) p a y → y ≡ changed_at with_commit b a e → x ≡ noted a (Committed b d) e
+noted_commit a b d p e x y is two one = two ∙ ap (changed_at (with_child d) p a) one ∙ ap (λ q. changed_at_parent (with_child d) q a (changed_at with_commit b a e)) is
 
 -- two outcomes one behind the other
 pub noted_all_push : (a : List PartFields) (os : List Outcome) (o : Outcome) (e : Entry) → noted_all a (os ++ o ∷ []) e ≡ noted a o (noted_all a os e)

@@ -1,10 +1,11 @@
 -- To join is to join sets: the order and the number of times change nothing.
-use Rattle.std.proofs.Common.{◌≡◌, ℕ, ◌-◌, ◌≤◌, Bool, true, false, ◌||◌, List, [], ◌∷◌, get_or, arith, sym, ap, ap₂, subst, ◌∙◌, refl}
+use Rattle.std.proofs.Common.{◌≡◌, ℕ, ◌-◌, ◌≤◌, ◌||◌, List, [], ◌∷◌, get_or, arith, sym, ap, ap₂, subst, ◌∙◌, refl}
 use Rattle.std.proofs.lemmas.Bool.{or_left, or_right}
 use Rattle.cam_names.specs.Dependencies.{greater_counts}
 use Rattle.cam_names.proofs.Dependencies.{greater_counts_at}
 use Rattle.cam_know.specs.Known.{outcome_eq, knows, both}
 use Rattle.cam_know.specs.Laws.{JoinCommutes, JoinAssociates, JoinAgainIsSame, JoinKnowsAtLeast}
+use Rattle.cam_know.proofs.Or.{or_itself, or_commutes, or_associates}
 use Rattle.cam_know.proofs.Union.{any_both}
 
 greater_commutes : (a b : List ℕ) → greater_counts a b ≡ greater_counts b a
@@ -22,20 +23,6 @@ greater_associates (x ∷ a) (y ∷ b) (z ∷ c) = ap₂ (λ (n : ℕ) (ns : Lis
 greater_itself : (a : List ℕ) → greater_counts a a ≡ a
 greater_itself [] = refl
 greater_itself (x ∷ a) = ap₂ (λ (n : ℕ) (ns : List ℕ). n ∷ ns) (omega arith) (greater_itself a)
-
-or_commutes : (a b : Bool) → (a || b) ≡ (b || a)
-or_commutes true true = refl
-or_commutes true false = refl
-or_commutes false true = refl
-or_commutes false false = refl
-
-or_associates : (a b c : Bool) → ((a || b) || c) ≡ (a || (b || c))
-or_associates true b c = refl
-or_associates false b c = refl
-
-or_itself : (a : Bool) → (a || a) ≡ a
-or_itself true = refl
-or_itself false = refl
 
 pub join_commutes : JoinCommutes
 join_commutes one other = record {

@@ -1,9 +1,9 @@
 -- What an entry says of an action is what the outcomes say of it.
-use Rattle.std.proofs.Common.{◌≡◌, ◌⊎◌, inl, inr, ℕ, ◌+◌, ◌≤◌, eqb, Bool, true, false, ◌&&◌, ◌||◌, if◌then◌else◌, List, [], ◌∷◌, ◌++◌, length, suc, Option, Some, None, arith, sym, ap, ◌∙◌, refl}
+use Rattle.std.proofs.Common.{◌≡◌, inl, inr, ℕ, ◌+◌, ◌≤◌, eqb, Bool, true, false, ◌&&◌, ◌||◌, if◌then◌else◌, List, [], ◌∷◌, ◌++◌, length, suc, Option, Some, None, arith, sym, ap, ◌∙◌, refl}
 use Rattle.std.proofs.lemmas.List.{append_assoc, append-nil}
 use Rattle.std.specs.Prelude.{flat_map}
 use Rattle.std.specs.List.{list_any}
-use Rattle.std.proofs.lemmas.Bool.{cases_Bool, true≢false, and_from, and_parts, and_right, ne_eqb, or_left, or_right}
+use Rattle.std.proofs.lemmas.Bool.{cases_Bool, and_right, ne_eqb, or_right}
 use Rattle.std.proofs.lemmas.Bool.Decides.{Decides-eqb, Decides-like, same_from_decides}
 use Rattle.cam_names.specs.Part.{PartFields, part_eq}
 use Rattle.cam_names.specs.Names.{name_eq, parent, is_prefix, is_child, before_last}
@@ -12,20 +12,12 @@ use Rattle.cam_names.specs.Dependencies.{pairs_of}
 use Rattle.cam_know.specs.declared.Outcome.{Outcome}
 use Rattle.cam_know.specs.declared.Outcome.TheVariants.{Aborted, Committed}
 use Rattle.cam_know.specs.declared.index.Entry.{Entry}
-use Rattle.cam_know.specs.Known.{outcome_eq, counts_eq, is_abort_of, is_commit_of}
+use Rattle.cam_know.specs.Known.{outcome_eq, is_abort_of, is_commit_of}
 use Rattle.cam_know.specs.Orphans.{commit_pairs}
 use Rattle.cam_know.specs.LeastCounts.{least_counts, lesser_counts}
 use Rattle.cam_know.specs.Index.{blank, with_abort, with_commit, with_child, changed_at, changed_at_parent, noted, noted_all}
-use Rattle.cam_know.proofs.Outcomes.{counts_eq_refl, counts_eq_same}
+use Rattle.cam_know.proofs.Or.{or_nothing, or_associates}
 use Rattle.cam_know.proofs.LeastCounts.{least_counts_append}
-
-or_nothing : (b : Bool) → b ≡ (b || false)
-or_nothing true = refl
-or_nothing false = refl
-
-or_assoc : (a b c : Bool) → ((a || b) || c) ≡ (a || (b || c))
-or_assoc true b c = refl
-or_assoc false b c = refl
 
 -- of a commit the entry of the action itself is changed, and the counts of the parent's
 child_aborted : (d : List ℕ) (p : Option (List PartFields)) (a : List PartFields) (e : Entry) → (changed_at_parent (with_child d) p a e).aborted ≡ e.aborted
@@ -36,76 +28,35 @@ child_committed : (d : List ℕ) (p : Option (List PartFields)) (a : List PartFi
 child_committed d None a e = refl
 child_committed d (Some p) a e = elim (cases_Bool (name_eq p a)) [ inl h ↦ rw h refl | inr h ↦ rw h refl ]
 
-child_first : (d : List ℕ) (p : Option (List PartFields)) (a : List PartFields) (e : Entry) → (changed_at_parent (with_child d) p a e).first ≡ e.first
-child_first d None a e = refl
-child_first d (Some p) a e = elim (cases_Bool (name_eq p a)) [ inl h ↦ rw h refl | inr h ↦ rw h refl ]
-
-commit_by : (c : Bool) (d : List ℕ) (e : Entry) → e.committed ≡ c → ((with_commit d e).aborted ≡ e.aborted) × (((with_commit d e).committed ≡ true) × ((with_commit d e).oldest ≡ e.oldest))
-commit_by true d e h = rw h (refl, (refl, refl))
-commit_by false d e h = rw h (refl, (refl, refl))
-
 noted_aborted : (a : List PartFields) (o : Outcome) (e : Entry) → (noted a o e).aborted ≡ (e.aborted || is_abort_of a o)
 noted_aborted a (Aborted b) e = ap (λ t. (if t then with_abort e else e).aborted) (name_eq_sym b a) ∙ by (name_eq a b)
   where
     by : (t : Bool) → (if t then with_abort e else e).aborted ≡ (e.aborted || t)
     by true = sym (or_right e.aborted true refl)
     by false = or_nothing e.aborted
-noted_aborted a (Committed b d) e = child_aborted d (parent b) a (changed_at (with_commit d) b a e) ∙
+noted_aborted a (Committed b d) e = child_aborted d (parent b) a (changed_at with_commit b a e) ∙
     elim (cases_Bool (name_eq b a)) [
-      | inl h ↦ rw h ((commit_by e.committed d e refl).0 ∙ or_nothing e.aborted)
+      | inl h ↦ rw h (or_nothing e.aborted)
       | inr h ↦ rw h (or_nothing e.aborted)
     ]
 
 noted_committed : (a : List PartFields) (o : Outcome) (e : Entry) → (noted a o e).committed ≡ (e.committed || is_commit_of a o)
 noted_committed a (Aborted b) e = elim (cases_Bool (name_eq b a)) [ inl h ↦ rw h (or_nothing e.committed) | inr h ↦ rw h (or_nothing e.committed) ]
-noted_committed a (Committed b d) e = child_committed d (parent b) a (changed_at (with_commit d) b a e) ∙
+noted_committed a (Committed b d) e = child_committed d (parent b) a (changed_at with_commit b a e) ∙
     elim (cases_Bool (name_eq b a)) [
-      | inl h ↦ rw h ((commit_by e.committed d e refl).1.0 ∙ sym (or_right e.committed (name_eq a b) (name_eq_sym a b ∙ h)))
+      | inl h ↦ rw h (sym (or_right e.committed (name_eq a b) (name_eq_sym a b ∙ h)))
       | inr h ↦ rw h (or_nothing e.committed ∙ ap (λ t. e.committed || t) (sym (name_eq_sym a b ∙ h)))
     ]
 
 pub aborted_says : (a : List PartFields) (os : List Outcome) (e : Entry) → (noted_all a os e).aborted ≡ (e.aborted || list_any (is_abort_of a) os)
 aborted_says a [] e = or_nothing e.aborted
 aborted_says a (o ∷ os) e =
-    aborted_says a os (noted a o e) ∙ ap (λ t. t || list_any (is_abort_of a) os) (noted_aborted a o e) ∙ or_assoc e.aborted (is_abort_of a o) (list_any (is_abort_of a) os)
+    aborted_says a os (noted a o e) ∙ ap (λ t. t || list_any (is_abort_of a) os) (noted_aborted a o e) ∙ or_associates e.aborted (is_abort_of a o) (list_any (is_abort_of a) os)
 
 pub committed_says : (a : List PartFields) (os : List Outcome) (e : Entry) → (noted_all a os e).committed ≡ (e.committed || list_any (is_commit_of a) os)
 committed_says a [] e = or_nothing e.committed
 committed_says a (o ∷ os) e =
-    committed_says a os (noted a o e) ∙ ap (λ t. t || list_any (is_commit_of a) os) (noted_committed a o e) ∙ or_assoc e.committed (is_commit_of a o) (list_any (is_commit_of a) os)
-
--- the dependencies that are kept are those of a known commit
-abbrev IsFirst : List PartFields → List ℕ → Outcome → Entry → Type 0
-IsFirst a first o e = (outcome_eq (Committed a first) o ≡ true) ⊎ ((e.committed ≡ true) × (first ≡ e.first))
-
-noted_first : (a : List PartFields) (o : Outcome) (e : Entry) → (noted a o e).committed ≡ true → IsFirst a (noted a o e).first o e
-noted_first a (Aborted b) e h = elim (cases_Bool (name_eq b a)) [
-  | inl t ↦ inr (rw t at h, rw t refl)
-  | inr t ↦ inr (rw t at h, rw t refl)
-]
-noted_first a (Committed b d) e h = elim (cases_Bool (name_eq b a)) [
-  | inl t ↦ elim (cases_Bool e.committed) [
-    | inl c ↦ inr (c, child_first d (parent b) a (changed_at (with_commit d) b a e) ∙ rw (t, c) refl)
-    | inr c ↦ inl (and_from (name_eq a b) _ (name_eq_sym a b ∙ t) (ap (λ x. counts_eq x d) (child_first d (parent b) a (changed_at (with_commit d) b a e) ∙ rw (t, c) refl) ∙ counts_eq_refl d))
-  ]
-  | inr t ↦ inr (sym (child_committed d (parent b) a (changed_at (with_commit d) b a e) ∙ rw t refl) ∙ h, child_first d (parent b) a (changed_at (with_commit d) b a e) ∙ rw t refl)
-]
-
-first_from : (a : List PartFields) (os : List Outcome) (e : Entry) → (noted_all a os e).committed ≡ true →
-    (list_any (outcome_eq (Committed a (noted_all a os e).first)) os ≡ true) ⊎ ((e.committed ≡ true) × ((noted_all a os e).first ≡ e.first))
-first_from a [] e h = inr (h, refl)
-first_from a (o ∷ os) e h =
-    let first = (noted_all a os (noted a o e)).first in
-    elim (first_from a os (noted a o e) h) [
-      | inl later ↦ inl (or_right (outcome_eq (Committed a first) o) (list_any (outcome_eq (Committed a first)) os) later)
-      | inr kept ↦ elim (noted_first a o e kept.0) [
-        | inl now ↦ inl (or_left (outcome_eq (Committed a first) o) (list_any (outcome_eq (Committed a first)) os) (ap (λ x. outcome_eq (Committed a x) o) kept.1 ∙ now))
-        | inr before ↦ inr (before.0, kept.1 ∙ before.1)
-      ]
-    ]
-
-pub first_says : (a : List PartFields) (os : List Outcome) → (noted_all a os blank).committed ≡ true → list_any (outcome_eq (Committed a (noted_all a os blank).first)) os ≡ true
-first_says a os h = elim (first_from a os blank h) [ inl known ↦ known | inr kept ↦ absurd (true≢false (sym kept.0)) ]
+    committed_says a os (noted a o e) ∙ ap (λ t. t || list_any (is_commit_of a) os) (noted_committed a o e) ∙ or_associates e.committed (is_commit_of a o) (list_any (is_commit_of a) os)
 
 -- a child is a name whose parent is the action
 child_by_parent : (a : List PartFields) (q : PartFields) (b : List PartFields) → is_child a (q ∷ b) ≡ name_eq (before_last (q ∷ b)) a
@@ -150,11 +101,11 @@ noted_oldest a (Aborted b) e ps some h = elim (cases_Bool (name_eq b a)) [
   | inr t ↦ rw t (h ∙ ap least_counts (sym (append-nil ps)))
 ]
 noted_oldest a (Committed b d) e ps some h =
-    child_oldest d (parent b) a (changed_at (with_commit d) b a e) ps (same ∙ h)
+    child_oldest d (parent b) a (changed_at with_commit b a e) ps (same ∙ h)
     ∙ ap (λ t. least_counts (ps ++ (if t then pairs_of d else []))) (sym (child_is_parent a b some))
   where
-    same : (changed_at (with_commit d) b a e).oldest ≡ e.oldest
-    same = elim (cases_Bool (name_eq b a)) [ inl t ↦ rw t ((commit_by e.committed d e refl).1.1) | inr t ↦ rw t refl ]
+    same : (changed_at with_commit b a e).oldest ≡ e.oldest
+    same = elim (cases_Bool (name_eq b a)) [ inl t ↦ rw t refl | inr t ↦ rw t refl ]
 
 oldest_from : (a : List PartFields) (os : List Outcome) (e : Entry) (ps : List (ℕ × ℕ)) → 1 ≤ length a → e.oldest ≡ least_counts ps → (noted_all a os e).oldest ≡ least_counts (ps ++ flat_map (commit_pairs a) os)
 oldest_from a [] e ps some h = h ∙ ap least_counts (sym (append-nil ps))
@@ -164,32 +115,6 @@ oldest_from a (o ∷ os) e ps some h =
 
 pub oldest_says : (a : List PartFields) (os : List Outcome) → 1 ≤ length a → (noted_all a os blank).oldest ≡ least_counts (flat_map (commit_pairs a) os)
 oldest_says a os some = oldest_from a os blank [] some refl
-
--- what is known of a commit with its dependencies
-any_weaker : (p q : Outcome → Bool) (os : List Outcome) → ((o : Outcome) → p o ≡ true → q o ≡ true) → list_any q os ≡ false → list_any p os ≡ false
-any_weaker p q [] h none = refl
-any_weaker p q (o ∷ os) h none =
-    elim (cases_Bool (p o)) [
-      | inl t ↦ absurd (true≢false (sym (or_left (q o) (list_any q os) (h o t)) ∙ none))
-      | inr f ↦ rw f (any_weaker p q os h (second (q o) (list_any q os) none))
-    ]
-  where
-    second : (a b : Bool) → (a || b) ≡ false → b ≡ false
-    second true b k = absurd (true≢false k)
-    second false b k = k
-
-commit_is_of : (a : List PartFields) (d : List ℕ) (o : Outcome) → outcome_eq (Committed a d) o ≡ true → is_commit_of a o ≡ true
-commit_is_of a d (Aborted b) h = cc
-commit_is_of a d (Committed b e) h = (and_parts (name_eq a b) (counts_eq d e) h).0
-
-pub no_commit_known : (a : List PartFields) (d : List ℕ) (os : List Outcome) (e : Entry) → e ≡ noted_all a os blank → e.committed ≡ false → list_any (outcome_eq (Committed a d)) os ≡ false
-no_commit_known a d os e is none =
-    any_weaker (outcome_eq (Committed a d)) (is_commit_of a) os (commit_is_of a d) (sym (committed_says a os blank) ∙ ap (λ x. x.committed) (sym is) ∙ none)
-
-pub first_commit_known : (a : List PartFields) (d : List ℕ) (os : List Outcome) (e : Entry) → e ≡ noted_all a os blank → e.committed ≡ true → counts_eq e.first d ≡ true → list_any (outcome_eq (Committed a d)) os ≡ true
-first_commit_known a d os e is some same =
-    ap (λ x. list_any (outcome_eq (Committed a x)) os) (sym (counts_eq_same e.first d same) ∙ ap (λ x. x.first) is)
-    ∙ first_says a os (ap (λ x. x.committed) (sym is) ∙ some)
 
 pub abort_known : (a : List PartFields) (os : List Outcome) (e : Entry) → e ≡ noted_all a os blank → e.aborted ≡ list_any (is_abort_of a) os
 abort_known a os e is = ap (λ x. x.aborted) is ∙ aborted_says a os blank

@@ -13,18 +13,18 @@ use Rattle.cam_know.specs.LeastCounts.{least_counts, lesser_counts}
 
 -- nothing is known of the action
 abbrev pub blank : Entry
-blank = record { aborted = false; committed = false; first = replicate 8 0; oldest = replicate 8 0 }
+blank = record { aborted = false; committed = false; oldest = replicate 8 0 }
 
--- the action committed; of several commits the first one's dependencies are kept
-abbrev pub with_commit : List ℕ → Entry → Entry
-with_commit d e = if e.committed then e else record { aborted = e.aborted; committed = true; first = d; oldest = e.oldest }
+-- the action committed
+abbrev pub with_commit : Entry → Entry
+with_commit e = record { aborted = e.aborted; committed = true; oldest = e.oldest }
 
 abbrev pub with_abort : Entry → Entry
-with_abort e = record { aborted = true; committed = e.committed; first = e.first; oldest = e.oldest }
+with_abort e = record { aborted = true; committed = e.committed; oldest = e.oldest }
 
 -- a child of the action committed
 abbrev pub with_child : List ℕ → Entry → Entry
-with_child d e = record { aborted = e.aborted; committed = e.committed; first = e.first; oldest = lesser_counts e.oldest (least_counts (pairs_of d)) }
+with_child d e = record { aborted = e.aborted; committed = e.committed; oldest = lesser_counts e.oldest (least_counts (pairs_of d)) }
 
 -- the entry of a, where an entry is changed
 abbrev pub changed_at : (Entry → Entry) → List PartFields → List PartFields → Entry → Entry
@@ -37,7 +37,7 @@ changed_at_parent f (Some p) a e = changed_at f p a e
 -- what one more outcome says of the action a
 abbrev pub noted : List PartFields → Outcome → Entry → Entry
 noted a (Aborted b) e = changed_at with_abort b a e
-noted a (Committed b d) e = changed_at_parent (with_child d) (parent b) a (changed_at (with_commit d) b a e)
+noted a (Committed b d) e = changed_at_parent (with_child d) (parent b) a (changed_at with_commit b a e)
 
 abbrev pub noted_all : List PartFields → List Outcome → Entry → Entry
 noted_all a [] e = e

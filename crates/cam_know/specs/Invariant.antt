@@ -2,8 +2,10 @@
 use Rattle.std.specs.Prelude.{◌≡◌, ℕ, ◌≤◌, ◌<◌, false, List, [], ◌∷◌, length, slice_index}
 use Rattle.std.specs.List.{list_any}
 use Rattle.cam_know.specs.declared.Outcome.{Outcome}
+use Rattle.cam_know.specs.declared.commits.Commits.{Commits}
 use Rattle.cam_know.specs.declared.index.Index.{Index}
 use Rattle.cam_know.specs.Known.{outcome_eq}
+use Rattle.cam_know.specs.Commits.{HasCommitsOf}
 use Rattle.cam_know.specs.Index.{IsIndexOf}
 
 -- no outcome stands twice in the list
@@ -17,7 +19,8 @@ pub record IsEightCounts (counts : List ℕ) : Type 0 where
   pub from : (k : ℕ) → k < 8 → 1 ≤ slice_index counts k
   pub to : (k : ℕ) → k < 8 → slice_index counts k ≤ 1000000000
 
-pub record IsKnown (outcomes : List Outcome) (index : Index) (counts : List ℕ) : Type 0 where
+pub record IsKnown (outcomes : List Outcome) (index : Index) (commits : Commits) (counts : List ℕ) : Type 0 where
   pub distinct : NoTwice outcomes
   pub indexed : IsIndexOf outcomes index
+  pub committed : HasCommitsOf outcomes commits
   pub counted : IsEightCounts counts

@@ -1,4 +1,4 @@
-ghost use Rattle.std.specs.Prelude.{◌≡◌, List, ◌∷◌, OnOk, All};
+ghost use Rattle.std.specs.Prelude.{◌≡◌, List, ◌∷◌, IfOk, OnOk, All};
 ghost use Rattle.cam_names.specs.Part.{PartFields};
 ghost use Rattle.cam_know.specs.Index.{blank, with_abort, with_commit, with_child, changed_at, noted, noted_all, entry_at, HasEntry, HasRoom, KeepsEntries};
 
@@ -14,8 +14,6 @@ use std::collections::BTreeMap;
 pub(crate) struct Entry {
     pub(crate) aborted: bool,
     pub(crate) committed: bool,
-    /// The dependencies of its commit; of several commits, of that which was learnt first.
-    pub(crate) first: Deps,
     /// The least counts of the known commits of its children.
     pub(crate) oldest: Oldest,
 }
@@ -27,7 +25,6 @@ impl Entry {
         Entry {
             aborted: false,
             committed: false,
-            first: Deps::none(),
             oldest: Oldest::none(),
         }
     }
@@ -40,15 +37,11 @@ impl Entry {
         entry
     }
 
-    fn with_commit(&self, deps: &Deps) -> Entry
-        ensures { result ≡ with_commit deps.now self.now }
+    fn with_commit(&self) -> Entry
+        ensures { result ≡ with_commit self.now }
     {
-        if self.committed {
-            return *self;
-        }
         let mut entry = *self;
         entry.committed = true;
-        entry.first = *deps;
         entry
     }
 
@@ -74,6 +67,15 @@ impl Index {
         Index {
             entries: BTreeMap::new(alloc),
         }
+    }
+
+    /// An index that says the same, in a time that grows with the number of entries alone.
+    pub(crate) fn copy(&self) -> Result<Index, NoMemory>
+        ensures { IfOk result (λ copy. (a : List PartFields) → entry_at copy a ≡ entry_at self.now a) }
+    {
+        Ok(Index {
+            entries: self.entries.clone()?,
+        })
     }
 
     /// What is known of this action.
@@ -147,7 +149,7 @@ impl Index {
         match outcome {
             Outcome::Aborted(name) => self.set(name, &self.entry(name).with_abort()),
             Outcome::Committed(name, deps) => {
-                self.set(name, &self.entry(name).with_commit(deps));
+                self.set(name, &self.entry(name).with_commit());
                 if let Some(parent) = name.parent() {
                     self.set(&parent, &self.entry(&parent).with_child(deps));
                 }

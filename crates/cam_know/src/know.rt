@@ -1,17 +1,16 @@
 ghost use Rattle.std.specs.Prelude.{◌≡◌, ◌≤◌, ◌++◌, List, length, IsTrue, IfOk, OnOk, OnErr, if◌then◌else◌};
-ghost use Rattle.std.specs.List.{list_any};
-ghost use Rattle.cam_know.specs.declared.Outcome.TheVariants.{Committed};
-ghost use Rattle.cam_know.specs.Known.{outcome_eq, nothing, knows, unknown, both, news, with_outcome, with_count, aborted_by, knows_abort, knows_commit, known_count, known_lift};
+ghost use Rattle.cam_know.specs.Known.{nothing, knows, unknown, both, news, with_outcome, with_count, aborted_by, knows_abort, knows_commit, known_count, known_lift};
 ghost use Rattle.cam_know.specs.Orphans.{children_pairs};
 ghost use Rattle.cam_know.specs.LeastCounts.{least_counts};
 ghost use Rattle.cam_know.specs.Invariant.{NoTwice, IsEightCounts};
 ghost use Rattle.cam_names.specs.Dependencies.{greater_counts};
 
 use crate::Outcome;
+use crate::commits::Commits;
 use crate::index::Index;
 use crate::oldest::Oldest;
 use cam_base::{NoMemory, Sequence};
-use cam_names::{Deps, Name};
+use cam_names::Name;
 use std::alloc::Global;
 use std::marker::Model;
 use std::slice;
@@ -19,12 +18,13 @@ use std::slice;
 /// Known outcomes, and for each node the greatest known count. Seen as the list of the outcomes in
 /// the order in which they were learnt, none of them twice, and eight counts.
 ///
-/// An index by name stands beside the list, so that a question costs a few look-ups, and what is
-/// learnt costs what is new.
+/// An index by name and the set of commits stand beside the list, so that a question costs a few
+/// look-ups, and what is learnt costs what is new.
 #[derive(Drop)]
 pub struct Know {
     outcomes: Vec<Outcome>,
     index: Index,
+    commits: Commits,
     counts: [u32; 8],
 }
 
@@ -37,7 +37,7 @@ impl Model for Know {
 
     ghost view = { λ k. record { outcomes = k.outcomes.items; counts = k.counts } };
 
-    ghost invariant = { λ k. IsKnown k.outcomes.items k.index k.counts };
+    ghost invariant = { λ k. IsKnown k.outcomes.items k.index k.commits k.counts };
 }
 
 impl Know {
@@ -48,6 +48,7 @@ impl Know {
         Know {
             outcomes: Vec::new(alloc),
             index: Index::new(alloc),
+            commits: Commits::new(alloc),
             counts: [1; 8],
         }
     }
@@ -58,11 +59,7 @@ impl Know {
     {
         match outcome {
             Outcome::Aborted(name) => self.index.entry(name).aborted,
-            Outcome::Committed(name, deps) => {
-                let entry = self.index.entry(name);
-                entry.committed
-                    && (entry.first == *deps || has_commit(self.outcomes.as_slice(), name, deps))
-            }
+            Outcome::Committed(name, deps) => self.commits.has(name, deps),
         }
     }
 
@@ -127,15 +124,18 @@ impl Know {
 }
 
 impl Know {
-    /// An equal value.
+    /// An equal value, in a time that grows with the number of outcomes alone.
     pub fn copy(&self) -> Result<Know, NoMemory>
         ensures { IfOk result (λ copy. copy ≡ self.now) }
     {
-        Know::of(
-            *self.outcomes.allocator(),
-            self.outcomes.as_slice(),
-            &self.counts,
-        )
+        let mut outcomes = Vec::new(*self.outcomes.allocator());
+        outcomes.extend_from_slice(self.outcomes.as_slice())?;
+        Ok(Know {
+            outcomes,
+            index: self.index.copy()?,
+            commits: self.commits.copy()?,
+            counts: self.counts,
+        })
     }
 
     /// What both know: the outcomes that the other knows besides come behind, and of each node the
@@ -200,8 +200,10 @@ impl Know {
         ensures err { OnErr result (self.new ≡ self.old) }
     {
         self.index.make_rooms(fresh)?;
+        self.commits.make_places(fresh)?;
         self.outcomes.extend_from_slice(fresh)?;
         self.index.note_all(fresh);
+        self.commits.note_all(fresh);
         Ok(())
     }
 }
@@ -257,26 +259,4 @@ fn greater(one: &[u32; 8], other: &[u32; 8]) -> [u32; 8]
         counts[node] = counts[node].max(other[node]);
     }
     counts
-}
-
-/// Whether this very commit is among the outcomes.
-fn has_commit(outcomes: &[Outcome], name: &Name, deps: &Deps) -> bool
-    ensures { result ≡ list_any (outcome_eq (Committed name.now deps.now)) outcomes.now }
-{
-    for outcome in outcomes {
-        if is_commit(outcome, name, deps) {
-            return true;
-        }
-    }
-    false
-}
-
-/// Whether the outcome is this very commit.
-fn is_commit(outcome: &Outcome, name: &Name, deps: &Deps) -> bool
-    ensures { result ≡ outcome_eq (Committed name.now deps.now) outcome.now }
-{
-    match outcome {
-        Outcome::Aborted(_) => false,
-        Outcome::Committed(known, on) => name == known && deps == on,
-    }
 }
