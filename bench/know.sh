@@ -1,5 +1,6 @@
 #!/bin/sh
-# How long an orphan test and joins take where 10, 100 and 500 outcomes are known, and how much of the first run's time that is.
+# How long an orphan test, joins and copies take where 10, 100 and 500 outcomes are known, and how much of the first run's time that is.
+# In the last line of each run all of them are commits of one name, with as many dependency sets.
 # A figure is such a ratio: the nanoseconds are those of one machine on one day. Each time is the least of several rounds.
 # bench/know.sh           proves the crates and the program, and runs it
 # bench/know.sh --quick   runs a build of the same sources that nothing has proved
@@ -7,7 +8,7 @@
 . "$(dirname "$0")/common.sh"
 make_program know_times anyhow cam_base cam_names cam_know cam_orphan
 cat > src/main.rt <<'PROGRAM'
-//! How long an orphan test and joins take.
+//! How long an orphan test, joins and copies take.
 #![tactic(auto)]
 
 use anyhow::Error;
@@ -109,6 +110,16 @@ fn join_all(rt: &HostRuntime, know: &Know) -> Result<u128, Error> {
     Ok(start.elapsed(rt)?.as_nanos() / JOINS as u128 / outcomes)
 }
 
+/// The time for each outcome of a copy.
+fn copy_all(rt: &HostRuntime, know: &Know) -> Result<u128, Error> {
+    let start = Instant::now(rt)?;
+    for _ in 0..JOINS {
+        let _copy = know.copy()?;
+    }
+    let outcomes = know.len().max(1) as u128;
+    Ok(start.elapsed(rt)?.as_nanos() / JOINS as u128 / outcomes)
+}
+
 /// What was measured.
 #[derive(Clone, Copy)]
 struct Times {
@@ -116,6 +127,7 @@ struct Times {
     join_new: u128,
     join_again: u128,
     join_all: u128,
+    copy_all: u128,
     one_name: u128,
 }
 
@@ -126,6 +138,7 @@ impl Times {
             join_new: self.join_new.min(other.join_new),
             join_again: self.join_again.min(other.join_again),
             join_all: self.join_all.min(other.join_all),
+            copy_all: self.copy_all.min(other.copy_all),
             one_name: self.one_name.min(other.one_name),
         }
     }
@@ -143,6 +156,7 @@ fn measure_once(rt: &HostRuntime, children: u32) -> Result<Times, Error> {
         join_new: join_new(rt, &top, children)?,
         join_again: join_again(rt, &mut know, &letter)?,
         join_all: join_all(rt, &know)?,
+        copy_all: copy_all(rt, &know)?,
         one_name: join_again(rt, &mut one, &again)?,
     })
 }
@@ -171,7 +185,8 @@ fn main(rt: HostRuntime) -> Result<(), Error> {
         show(&rt, "join of 10 new outcomes", times.join_new, first.join_new)?;
         show(&rt, "join of 10 known outcomes", times.join_again, first.join_again)?;
         show(&rt, "join into nothing, for each outcome", times.join_all, first.join_all)?;
-        show(&rt, "join of 10 known ones, all of one name", times.one_name, first.one_name)?;
+        show(&rt, "copy, for each outcome", times.copy_all, first.copy_all)?;
+        show(&rt, "join of 10 known dependency sets of one name", times.one_name, first.one_name)?;
     }
     Ok(())
 }
