@@ -1,0 +1,95 @@
+use crate::clocks;
+use cam_base::NoMemory;
+use cam_event::{Body, Deeds, Event, LetterId, Note, Sent, SentList, Trace};
+use std::alloc::Global;
+use std::collections::BTreeSet;
+use std::test::Fail;
+
+const EVENTS: u64 = 100;
+
+/// An event that sends news to each of eight nodes.
+fn event(alloc: Global, node: u8, got: Option<LetterId>) -> Result<Event, NoMemory> {
+    let mut sent = SentList::new(alloc);
+    for to in 1..=8 {
+        sent.push_copy(&Sent {
+            to,
+            body: Body::News,
+        })?;
+    }
+    Ok(Event {
+        node,
+        got,
+        deeds: Deeds::new(alloc),
+        sent,
+        note: Note::Plain,
+    })
+}
+
+/// A hundred events of eight nodes with 66 letters, of which 39 pairs cross between the same two
+/// nodes: the one that was sent later is received first.
+fn crossing(alloc: Global) -> Result<Trace, NoMemory> {
+    let mut trace = Trace::new(alloc);
+    for number in 0..EVENTS {
+        let place = (number * 6 + number / 7) % 8;
+        let back = 1 + (number * 17 + number / 7) % 30;
+        let got = if number % 4 == 0 || number < back {
+            None
+        } else {
+            Some(LetterId {
+                event: number - back,
+                place: place as u32,
+            })
+        };
+        trace.push(event(alloc, place as u8 + 1, got)?)?;
+    }
+    Ok(trace)
+}
+
+fn node(trace: &Trace, number: u64) -> Option<u8> {
+    trace.get(number as usize).map(|event| event.node)
+}
+
+fn sender(trace: &Trace, number: u64) -> Option<u64> {
+    let letter = trace.get(number as usize)?.got?;
+    Some(letter.event)
+}
+
+/// The past of an event by its definition: from the last event back, each member brings in the
+/// earlier events of its node, and the sender of its letter.
+fn past_of(alloc: Global, trace: &Trace, last: u64) -> Result<BTreeSet<u64>, Fail> {
+    let mut past = BTreeSet::new(alloc);
+    past.insert(last)?;
+    for member in (0..EVENTS).rev() {
+        if past.contains(&member) {
+            for earlier in 0..member {
+                if node(trace, earlier) == node(trace, member) {
+                    past.insert(earlier)?;
+                }
+            }
+            if let Some(sender) = sender(trace, member) {
+                past.insert(sender)?;
+            }
+        }
+    }
+    Ok(past)
+}
+
+#[test]
+fn clocks_tell_the_past_that_its_definition_gives(rt: HostRuntime) -> Result<(), Fail> {
+    let trace = crossing(rt.alloc())?;
+    let clocks = clocks(rt.alloc(), &trace)?;
+    let mut pairs = 0u32;
+    for j in 0..EVENTS {
+        let past = past_of(rt.alloc(), &trace, j)?;
+        for i in 0..EVENTS {
+            let is_in_past = clocks.in_past(i, j);
+            assert_eq!(rt; is_in_past, past.contains(&i));
+            if is_in_past {
+                pairs = pairs.saturating_add(1);
+            }
+        }
+    }
+    assert_eq!(rt; pairs, 1987);
+    assert!(rt; !clocks.in_past(0, EVENTS) && !clocks.in_past(EVENTS, 0));
+    Ok(())
+}
