@@ -19,13 +19,13 @@ ancestors_parent (q ∷ r ∷ b) p h =
     let is : p ≡ before_last (q ∷ r ∷ b) = cc in
     climb q r b ∙ ap (λ u. ancestors u ++ (q ∷ r ∷ b) ∷ []) (sym is)
 
-ancestors_top : (a : List PartFields) → length a ≡ 1 → ancestors a ≡ a ∷ []
+pub ancestors_top : (a : List PartFields) → length a ≡ 1 → ancestors a ≡ a ∷ []
 ancestors_top [] h = absurd (omega arith)
 ancestors_top (p ∷ []) h = refl
 ancestors_top (p ∷ q ∷ a) h = absurd (omega arith)
 
 -- the action itself is its last ancestor
-last_ancestor : (a : List PartFields) → 1 ≤ length a → (us : List (List PartFields)) × (ancestors a ≡ us ++ a ∷ [])
+pub last_ancestor : (a : List PartFields) → 1 ≤ length a → (us : List (List PartFields)) × (ancestors a ≡ us ++ a ∷ [])
 last_ancestor [] h = absurd (omega arith)
 last_ancestor (p ∷ []) h = ([], refl)
 last_ancestor (p ∷ q ∷ a) h = (ancestors (before_last (p ∷ q ∷ a)), climb p q a)

@@ -1,10 +1,12 @@
--- To join is to join sets: the order and the number of times change nothing.
-use Rattle.std.proofs.Common.{◌≡◌, ℕ, ◌-◌, ◌≤◌, ◌||◌, List, [], ◌∷◌, get_or, arith, sym, ap, ap₂, subst, ◌∙◌, refl}
+-- To join is to join sets: the order and the number of times change nothing. Nothing that was known is lost.
+use Rattle.std.proofs.Common.{◌≡◌, ℕ, zero, suc, ◌-◌, ◌≤◌, max, ◌||◌, List, [], ◌∷◌, get_or, set, arith, sym, ap, ap₂, subst, ◌∙◌, refl}
+use Rattle.std.specs.List.{list_any}
+use Rattle.std.proofs.lemmas.List.Folds.{list_any-append}
 use Rattle.std.proofs.lemmas.Bool.{or_left, or_right}
 use Rattle.cam_names.specs.Dependencies.{greater_counts}
 use Rattle.cam_names.proofs.Dependencies.{greater_counts_at}
-use Rattle.cam_know.specs.Known.{outcome_eq, knows, both}
-use Rattle.cam_know.specs.Laws.{JoinCommutes, JoinAssociates, JoinAgainIsSame, JoinKnowsAtLeast}
+use Rattle.cam_know.specs.Known.{outcome_eq, knows, unknown, both}
+use Rattle.cam_know.specs.Laws.{JoinCommutes, JoinAssociates, JoinAgainIsSame, JoinKnowsAtLeast, AddKnowsAtLeast, RaiseKnowsAtLeast}
 use Rattle.cam_know.proofs.Or.{or_itself, or_commutes, or_associates}
 use Rattle.cam_know.proofs.Union.{any_both}
 
@@ -55,3 +57,22 @@ join_knows_at_least one other = (
     counts = λ node. subst (λ (n : ℕ). get_or other.counts (node - 1) 0 ≤ n) (sym (greater_counts_at one.counts other.counts (node - 1))) (omega arith);
   },
 )
+
+pub add_knows_at_least : AddKnowsAtLeast
+add_knows_at_least o k = record {
+  outcomes = λ p h. list_any-append (outcome_eq p) k.outcomes (unknown k (o ∷ [])) ∙ or_left (knows k p) (list_any (outcome_eq p) (unknown k (o ∷ []))) h;
+  counts = λ node. omega arith;
+}
+
+raised_at : (cs : List ℕ) (i count j : ℕ) → get_or cs j 0 ≤ get_or (set cs i (max (get_or cs i 0) count)) j 0
+raised_at [] i count j = omega arith
+raised_at (c ∷ cs) zero count zero = omega arith
+raised_at (c ∷ cs) zero count (suc j) = omega arith
+raised_at (c ∷ cs) (suc i) count zero = omega arith
+raised_at (c ∷ cs) (suc i) count (suc j) = raised_at cs i count j
+
+pub raise_knows_at_least : RaiseKnowsAtLeast
+raise_knows_at_least node count k = record {
+  outcomes = λ o h. h;
+  counts = λ other. raised_at k.counts (node - 1) count (other - 1);
+}

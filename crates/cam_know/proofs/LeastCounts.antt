@@ -20,7 +20,7 @@ lesser_counts_at (c ∷ a) [] k = sym (lesser_nothing (get_or (c ∷ a) k 0))
 lesser_counts_at (c ∷ a) (d ∷ b) zero = refl
 lesser_counts_at (c ∷ a) (d ∷ b) (suc k) = lesser_counts_at a b k
 
-lesser_counts_length : (a b : List ℕ) → length a ≡ length b → length (lesser_counts a b) ≡ length a
+pub lesser_counts_length : (a b : List ℕ) → length a ≡ length b → length (lesser_counts a b) ≡ length a
 lesser_counts_length [] [] h = refl
 lesser_counts_length [] (d ∷ b) h = absurd (omega arith)
 lesser_counts_length (c ∷ a) [] h = refl

@@ -3,7 +3,7 @@ use Rattle.std.specs.Prelude.{◌≡◌, ℕ, ◌≤◌, true, List, IsSome}
 use Rattle.cam_names.specs.declared.name.Name.{Name}
 use Rattle.cam_know.specs.declared.Outcome.{Outcome}
 use Rattle.cam_know.specs.Knowledge.{Knowledge}
-use Rattle.cam_know.specs.Known.{knows, known_count, both, IsSame}
+use Rattle.cam_know.specs.Known.{knows, known_count, both, with_outcome, with_count, IsSame}
 use Rattle.cam_know.specs.Orphans.{known_orphan}
 
 -- In whatever order and however often knowledge is joined, the same is known.
@@ -28,3 +28,10 @@ OrphanStays = (more less : Knowledge) → KnowsAtLeast more less → (a : Name) 
 -- Joined knowledge is more than either.
 abbrev pub JoinKnowsAtLeast : Type 0
 JoinKnowsAtLeast = (one other : Knowledge) → KnowsAtLeast (both one other) one × KnowsAtLeast (both one other) other
+
+-- So is knowledge with one more outcome, and with a count raised.
+abbrev pub AddKnowsAtLeast : Type 0
+AddKnowsAtLeast = (o : Outcome) (k : Knowledge) → KnowsAtLeast (with_outcome o k) k
+
+abbrev pub RaiseKnowsAtLeast : Type 0
+RaiseKnowsAtLeast = (node count : ℕ) (k : Knowledge) → KnowsAtLeast (with_count node count k) k

@@ -32,7 +32,7 @@ impl Commits {
         }
     }
 
-    /// The same commits, in a time that grows with their number alone.
+    /// The same commits, in a time that grows with what it holds.
     pub(crate) fn copy(&self) -> Result<Commits, NoMemory>
         ensures { IfOk result (λ copy. (c : Key) → has_commit copy c ≡ has_commit self.now c) }
     {

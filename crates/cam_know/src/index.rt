@@ -69,7 +69,7 @@ impl Index {
         }
     }
 
-    /// An index that says the same, in a time that grows with the number of entries alone.
+    /// An index that says the same, in a time that grows with what it holds.
     pub(crate) fn copy(&self) -> Result<Index, NoMemory>
         ensures { IfOk result (λ copy. (a : List PartFields) → entry_at copy a ≡ entry_at self.now a) }
     {

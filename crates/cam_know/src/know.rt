@@ -77,7 +77,7 @@ impl Know {
         self.index.entry(name).committed
     }
 
-    /// The greatest known count of a node.
+    /// The greatest known count of a node, 1 to 8: 1 to 1,000,000,000, and 1 at first.
     pub fn count(&self, node: u8) -> u32
         requires { (1 ≤ node) × (node ≤ 8) }
         ensures value { result ≡ known_count self.now node }
@@ -87,7 +87,8 @@ impl Know {
         self.counts[node as usize - 1]
     }
 
-    /// A node has reached at least this count.
+    /// A node, 1 to 8, has reached at least this count, which is at most 1,000,000,000. A count that
+    /// is not above the known one changes nothing.
     pub fn raise(&mut self, node: u8, count: u32)
         requires node { (1 ≤ node) × (node ≤ 8) }
         requires count { count ≤ 1000000000 }
@@ -117,14 +118,14 @@ impl Know {
     pub fn oldest(&self, name: &Name) -> Oldest
         ensures { result ≡ least_counts (children_pairs self.now name.now) }
     {
-        // A name has a part.
+        // Only for the proof: it gives the fact that the name has at least one part.
         let _parts = name.parts();
         self.index.entry(name).oldest
     }
 }
 
 impl Know {
-    /// An equal value, in a time that grows with the number of outcomes alone.
+    /// An equal value, in a time that grows with what it holds.
     pub fn copy(&self) -> Result<Know, NoMemory>
         ensures { IfOk result (λ copy. copy ≡ self.now) }
     {
@@ -138,8 +139,8 @@ impl Know {
         })
     }
 
-    /// What both know: the outcomes that the other knows besides come behind, and of each node the
-    /// greater count stands.
+    /// Learns what the other knows: its outcomes that are not known here come behind, and of each node
+    /// the greater count. Nothing changes where memory runs out.
     pub fn join(&mut self, other: &Know) -> Result<(), NoMemory>
         ensures ok { OnOk result (self.new ≡ both self.old other.now) }
         ensures err { OnErr result (self.new ≡ self.old) }
@@ -150,7 +151,8 @@ impl Know {
         Ok(())
     }
 
-    /// One more outcome.
+    /// Learns one outcome, which comes behind. One that is known changes nothing, and neither does
+    /// want of memory.
     pub fn add(&mut self, outcome: &Outcome) -> Result<(), NoMemory>
         ensures ok { OnOk result (self.new ≡ with_outcome outcome.now self.old) }
         ensures err { OnErr result (self.new ≡ self.old) }
@@ -209,7 +211,8 @@ impl Know {
 }
 
 impl Know {
-    /// The shortest ancestor of the action that is known aborted.
+    /// The shortest ancestor of the action that is known aborted, where each action is its own
+    /// ancestor. None where none is known aborted.
     pub fn aborted_by(&self, name: &Name) -> Option<Name>
         ensures { result ≡ aborted_by self.now name.now }
     {
@@ -238,7 +241,7 @@ impl Know {
     pub fn lift(&self, name: &Name) -> Option<Name>
         ensures { result ≡ known_lift self.now name.now }
     {
-        // A name has a part.
+        // Only for the proof: it gives the fact that the name has at least one part.
         let _parts = name.parts();
         if !self.is_committed(name) {
             return Some(*name);

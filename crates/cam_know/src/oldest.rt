@@ -39,14 +39,14 @@ fn lesser(one: u32, other: u32) -> u32
 }
 
 impl Oldest {
-    /// Of no pairs.
+    /// The least counts of no pairs: 0 for each node.
     pub fn none() -> Oldest
         ensures { result ≡ replicate 8 0 }
     {
         Oldest { counts: [0; 8] }
     }
 
-    /// Of the pairs of these dependencies, which have one count of a node.
+    /// The least counts of these dependencies: the one count that they have of a node, or 0.
     pub fn of(deps: &Deps) -> Oldest
         ensures { result ≡ least_counts (pairs_of deps.now) }
     {
@@ -64,7 +64,7 @@ impl Oldest {
         }
     }
 
-    /// The least count of the node, or 0.
+    /// The least count of the node, 1 to 8: 1 to 1,000,000,000, or 0 where there is no pair of it.
     pub fn count_of(&self, node: u8) -> u32
         requires node { (1 ≤ node) × (node ≤ 8) }
         ensures value { result ≡ count_of self.now node }
@@ -73,7 +73,7 @@ impl Oldest {
         self.counts[node as usize - 1]
     }
 
-    /// Of the pairs of both.
+    /// The least counts of the pairs of both.
     pub fn join(&self, other: &Oldest) -> Oldest
         ensures { result ≡ lesser_counts self.now other.now }
     {

@@ -1,5 +1,5 @@
 use crate::{Know, Outcome};
-use cam_names::{Deps, Name};
+use cam_names::{Deps, Name, Part};
 use std::test::Fail;
 
 #[test]
@@ -37,5 +37,34 @@ fn what_is_learnt_is_known(rt: HostRuntime) -> Result<(), Fail> {
     know.add(&Outcome::Committed(middle, Deps::none()))?;
     know.add(&Outcome::Committed(top, Deps::none()))?;
     assert_eq!(rt; know.lift(&low), None);
+    Ok(())
+}
+
+/// The children of one action commit and abort in turn. What is known of all of them is learnt by one join.
+#[test]
+fn many_outcomes_are_joined_and_copied(rt: HostRuntime) -> Result<(), Fail> {
+    let top = Name::parse("1.1.1")?;
+    let mut know = Know::new(rt.alloc());
+    for number in 1..51 {
+        let Some(part) = Part::new(2, 1, number) else {
+            continue;
+        };
+        let Some(child) = top.child(part) else {
+            continue;
+        };
+        know.add(&Outcome::Committed(child, Deps::none().with(2, number)))?;
+        if number % 2 == 0 {
+            know.add(&Outcome::Aborted(child))?;
+        }
+    }
+    assert_eq!(rt; know.len(), 75);
+    let mut other = Know::new(rt.alloc());
+    other.join(&know)?;
+    other.join(&know)?;
+    let copy = other.copy()?;
+    assert_eq!(rt; (copy.len(), copy.news_since(&know)?.len()), (75, 0));
+    let (last, odd) = (Name::parse("1.1.1/2.1.50")?, Name::parse("1.1.1/2.1.49")?);
+    assert!(rt; copy.is_committed(&odd) && copy.is_aborted(&last) && !copy.is_aborted(&odd));
+    assert_eq!(rt; copy.oldest(&top).count_of(2), 1);
     Ok(())
 }
