@@ -10,14 +10,9 @@ use Rattle.cam_know.specs.declared.Outcome.TheVariants.{Aborted, Committed}
 use Rattle.cam_know.specs.Knowledge.{Knowledge}
 use Rattle.cam_know.specs.Orphans.{lesser, is_lesser, least, is_stale, commit_pairs, children_pairs}
 use Rattle.cam_know.specs.LeastCounts.{lesser_count, least_counts}
-use Rattle.cam_orphan.specs.Stale.{first_stale}
+use Rattle.cam_orphan.specs.Stale.{Valid, first_stale}
 
--- the pairs of dependencies: no node and no count is 0
-abbrev pub Valid : List (ℕ × ℕ) → Type 0
-Valid [] = Unit {0}
-Valid (p ∷ ps) = ((1 ≤ p.0) × (1 ≤ p.1)) × Valid ps
-
-valid_append : (ps qs : List (ℕ × ℕ)) → Valid ps → Valid qs → Valid (ps ++ qs)
+pub valid_append : (ps qs : List (ℕ × ℕ)) → Valid ps → Valid qs → Valid (ps ++ qs)
 valid_append [] qs one other = other
 valid_append (p ∷ ps) qs one other = (one.0, valid_append ps qs one.1 other)
 
@@ -40,9 +35,12 @@ valid_commit u (Committed b d) = elim (cases_Bool (is_child u b)) [
   | inr no' ↦ rw no' tt
 ]
 
-pub valid_tested : (k : Knowledge) (visited : List ℕ) (us : List Name) → Valid (pairs_of visited ++ flat_map (children_pairs k) us)
-valid_tested k visited us =
-    valid_append (pairs_of visited) (flat_map (children_pairs k) us) (valid_pairs 1 visited (omega arith))
+pub valid_visited : (visited : List ℕ) → Valid (pairs_of visited)
+valid_visited visited = valid_pairs 1 visited (omega arith)
+
+pub valid_tested : (k : Knowledge) (pairs : List (ℕ × ℕ)) (us : List Name) → Valid pairs → Valid (pairs ++ flat_map (children_pairs k) us)
+valid_tested k pairs us valid =
+    valid_append pairs (flat_map (children_pairs k) us) valid
     (valid_flat (children_pairs k) us (λ u. valid_flat (commit_pairs u) k.outcomes (valid_commit u)))
 
 -- the lesser of a pair and of those that there are

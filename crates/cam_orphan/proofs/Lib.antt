@@ -1,2 +1,3 @@
 pub mod FirstStale
 pub mod Family
+pub mod Home

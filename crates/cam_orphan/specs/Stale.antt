@@ -1,5 +1,10 @@
 -- The first node, in order, of which the least count is below the known one.
-use Rattle.std.specs.Prelude.{ℕ, ◌+◌, nat_lt, ◌&&◌, if◌then◌else◌, List, [], ◌∷◌, Option, Some, None}
+use Rattle.std.specs.Prelude.{ℕ, ◌+◌, ◌≤◌, nat_lt, ◌&&◌, if◌then◌else◌, List, [], ◌∷◌, Option, Some, None}
+
+-- pairs of which no node and no count is 0
+abbrev pub Valid : List (ℕ × ℕ) → Type 0
+Valid [] = Unit {0}
+Valid (p ∷ ps) = ((1 ≤ p.0) × (1 ≤ p.1)) × Valid ps
 
 -- counts of the nodes from this one on, 0 where there is none
 abbrev pub first_stale : (ℕ → ℕ) → ℕ → List ℕ → Option (ℕ × ℕ)

@@ -1,22 +1,24 @@
 //! Whether an action is an orphan by what a node knows, and why.
 //!
-//! An action whose ancestor is known aborted is an orphan, by the shortest such ancestor. Otherwise
-//! pairs of a node and a count are tested: those that the action itself has visited, and those of each
-//! known commit of a child of one of its ancestors. Where the count of such a pair is below the known
+//! The rule stands in `docs/RULES.md`, at 'The orphan test'. An action is an orphan where an ancestor
+//! is known aborted, by the shortest such ancestor; each action is its own ancestor. Otherwise pairs
+//! of a node and a count are tested: those that the action itself has visited, and those of each known
+//! commit of a child of one of its ancestors. Where the count of such a pair is below the known
 //! count of its node, what the action stands on was lost in a crash, and it is an orphan, by the least
 //! such node and then the least such count.
 //!
-//! It stands on `cam_names` and `cam_know`. Its one call is `orphan`, and its main clause says that the
-//! answer is just that rule's. A test costs a few look-ups for each ancestor, however much is known.
+//! It stands on `cam_names` and `cam_know`. Its calls are `orphan`, and `orphan_at_home` for an action
+//! that comes to its home. The main clause of each says that the answer is just that rule's. A test
+//! costs a few look-ups for each ancestor, however much is known.
 #![tactic(auto)]
 
-ghost use Rattle.std.specs.Prelude.{◌≡◌, flat_map, length, None};
-ghost use Rattle.cam_names.specs.Names.{ancestors};
+ghost use Rattle.std.specs.Prelude.{◌≡◌, ℕ, List, [], ◌∷◌, flat_map, length, None};
+ghost use Rattle.cam_names.specs.Names.{ancestors, home_node, home_count};
 ghost use Rattle.cam_names.specs.Dependencies.{pairs_of};
 ghost use Rattle.cam_know.specs.Known.{known_count};
 ghost use Rattle.cam_know.specs.Orphans.{known_orphan, children_pairs, reason_of};
 ghost use Rattle.cam_know.specs.LeastCounts.{least_counts};
-ghost use Rattle.cam_orphan.specs.Stale.{first_stale};
+ghost use Rattle.cam_orphan.specs.Stale.{Valid, first_stale};
 
 use cam_know::{Know, Oldest, Reason};
 use cam_names::{Deps, Name};
@@ -24,13 +26,41 @@ use cam_names::{Deps, Name};
 #[cfg(test)]
 mod tests;
 
-/// Why the action is an orphan by this knowledge, or None where it is none. It takes no memory.
+/// Why the action is an orphan by this knowledge, or None where it is none. `visited` has the pairs
+/// that it has visited. Each action is its own ancestor. It never answers want of memory. The rule
+/// stands in `docs/RULES.md`, at 'The orphan test'.
 pub fn orphan(know: &Know, name: &Name, visited: &Deps) -> Option<Reason>
     ensures { result ≡ known_orphan know.now name.now (pairs_of visited.now) }
 {
+    orphan_by(know, name, &Oldest::of(visited))
+}
+
+/// The same test of an action that comes to its home: `visited` has the pairs with which it comes,
+/// and the home is tested beside them. So an older pair of that very node counts too.
+pub fn orphan_at_home(know: &Know, name: &Name, visited: &Deps) -> Option<Reason>
+    ensures { result ≡ known_orphan know.now name.now ((home_node name.now, home_count name.now) ∷ pairs_of visited.now) }
+{
+    orphan_by(know, name, &home_oldest(name).join(&Oldest::of(visited)))
+}
+
+/// The count of the action's home.
+fn home_oldest(name: &Name) -> Oldest
+    ensures value { result ≡ least_counts ((home_node name.now, home_count name.now) ∷ []) }
+    ensures valid { Valid ((home_node name.now, home_count name.now) ∷ []) }
+{
+    let parts = name.parts();
+    let part = parts[parts.len() - 1];
+    Oldest::of(&Deps::none().with(part.node, part.count))
+}
+
+/// The test with any visited pairs that have these least counts.
+fn orphan_by(know: &Know, name: &Name, visited: &Oldest) -> Option<Reason>
+    requires { length visited.now ≡ 8 }
+    ensures { (pairs : List (ℕ × ℕ)) → Valid pairs → visited.now ≡ least_counts pairs → result ≡ known_orphan know.now name.now pairs }
+{
     match know.aborted_by(name) {
         Some(ancestor) => Some(Reason::Abort(ancestor)),
-        None => stale(know, &Oldest::of(visited).join(&family_oldest(know, name))),
+        None => stale(know, &visited.join(&family_oldest(know, name))),
     }
 }
 

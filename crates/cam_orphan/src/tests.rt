@@ -1,4 +1,4 @@
-use crate::orphan;
+use crate::{orphan, orphan_at_home};
 use cam_know::{Know, Outcome, Reason};
 use cam_names::{Deps, Name};
 use std::test::Fail;
@@ -33,5 +33,34 @@ fn what_a_sibling_stood_on_is_lost(rt: HostRuntime) -> Result<(), Fail> {
     know.add(&Outcome::Aborted(child))?;
     know.add(&Outcome::Aborted(top))?;
     assert_eq!(rt; orphan(&know, &child, &own), Some(Reason::Abort(top)));
+    Ok(())
+}
+
+/// A child's home stands at its second count, beside an older pair of the same node.
+#[test]
+fn a_newer_home_hides_no_older_pair(rt: HostRuntime) -> Result<(), Fail> {
+    let child = Name::parse("1.1.1/4.2.1")?;
+    let older = Deps::none().with(1, 1).with(4, 1);
+    let mut know = Know::new(rt.alloc());
+    know.raise(4, 2);
+    assert_eq!(rt; orphan_at_home(&know, &child, &Deps::none()), None);
+    let lost = Some(Reason::Crash {
+        node: 4,
+        old: 1,
+        new: 2,
+    });
+    assert_eq!(rt; orphan_at_home(&know, &child, &older), lost);
+    know.raise(4, 3);
+    let at_home = Some(Reason::Crash {
+        node: 4,
+        old: 2,
+        new: 3,
+    });
+    assert_eq!(rt; orphan_at_home(&know, &child, &Deps::none()), at_home);
+    know.add(&Outcome::Aborted(child))?;
+    assert_eq!(rt;
+        orphan_at_home(&know, &child, &older),
+        Some(Reason::Abort(child))
+    );
     Ok(())
 }

@@ -1,16 +1,10 @@
--- The rule, by the least counts.
-use Rattle.std.proofs.Common.{◌∙◌, ap, length}
-use Rattle.cam_orphan.proofs.Family.{rule_by_abort, rule_by_least, tested_is}
+use Rattle.std.proofs.Common.{ap, length}
+use Rattle.cam_names.specs.Dependencies.{pairs_of}
+use Rattle.cam_orphan.proofs.FirstStale.{valid_visited}
 use Rattle.cam_orphan.proofs.orphan.Goals as goal
 
-pub returns-in-Some : goal.returns-in-Some
-returns-in-Some c = rule_by_abort c.args.know.now c.args.name.now c.args.visited.now c.in-Some.ancestor c.in-Some.ensures
+pub orphan_by-requires : goal.orphan_by-requires
+orphan_by-requires c = ap length c.of.ensures
 
-pub stale-requires : goal.stale-requires
-stale-requires c = ap length (tested_is c.args.know.now c.args.name.now c.args.visited.now c.of.result c.family_oldest.result c.join.result c.of.ensures c.family_oldest.ensures c.join.ensures)
-
-pub returns-in-None : goal.returns-in-None
-returns-in-None c =
-    c.stale.ensures.value
-    ∙ rule_by_least c.args.know.now c.args.name.now c.args.visited.now c.join.result c.stale.ensures.eight c.in-None.ensures
-    (tested_is c.args.know.now c.args.name.now c.args.visited.now c.of.result c.family_oldest.result c.join.result c.of.ensures c.family_oldest.ensures c.join.ensures)
+pub returns : goal.returns
+returns c = c.orphan_by.ensures (pairs_of c.args.visited.now) (valid_visited c.args.visited.now) c.of.ensures
