@@ -14,6 +14,7 @@ impl Seat {
         ensures table { result.table ≡ table_of node }
         ensures place { result.place ≡ place_of node }
         ensures eight { result.place < 8 }
+        ensures few { result.table < 32 }
     {
         let seat = if node == 0 { 255 } else { node as usize - 1 };
         Seat {

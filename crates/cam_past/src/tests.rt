@@ -25,12 +25,12 @@ fn event(alloc: Global, node: u8, got: Option<LetterId>) -> Result<Event, NoMemo
     })
 }
 
-/// A hundred events of eight nodes with 66 letters, of which 39 pairs cross between the same two
-/// nodes: the one that was sent later is received first.
+/// A hundred events of eight nodes with 66 letters: 40 pairs cross between two nodes that write to
+/// each other, and of 66 pairs of one node to another the later letter comes first.
 fn crossing(alloc: Global) -> Result<Trace, NoMemory> {
     let mut trace = Trace::new(alloc);
     for number in 0..EVENTS {
-        let place = (number * 6 + number / 7) % 8;
+        let place = (number * 4 + number / 7) % 8;
         let back = 1 + (number * 17 + number / 7) % 30;
         let got = if number % 4 == 0 || number < back {
             None
@@ -89,7 +89,38 @@ fn clocks_tell_the_past_that_its_definition_gives(rt: HostRuntime) -> Result<(),
             }
         }
     }
-    assert_eq!(rt; pairs, 1987);
+    assert_eq!(rt; pairs, 3313);
     assert!(rt; !clocks.in_past(0, EVENTS) && !clocks.in_past(EVENTS, 0));
+    Ok(())
+}
+
+/// Nodes that no run has: 0 gets a letter of 9, and 255 one of 0.
+#[test]
+fn any_byte_is_a_node(rt: HostRuntime) -> Result<(), Fail> {
+    let mut trace = Trace::new(rt.alloc());
+    for (number, node) in [(0, 9), (1, 0), (2, 255)] {
+        let got = match number {
+            0 => None,
+            _ => Some(LetterId {
+                event: number - 1,
+                place: 0,
+            }),
+        };
+        trace.push(event(rt.alloc(), node, got)?)?;
+    }
+    let clocks = clocks(rt.alloc(), &trace)?;
+    for (i, j, is_in_past) in [
+        (0, 0, true),
+        (0, 1, true),
+        (0, 2, true),
+        (1, 0, false),
+        (1, 1, true),
+        (1, 2, true),
+        (2, 0, false),
+        (2, 1, false),
+        (2, 2, true),
+    ] {
+        assert_eq!(rt; clocks.in_past(i, j), is_in_past);
+    }
     Ok(())
 }

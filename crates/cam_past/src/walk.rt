@@ -1,4 +1,4 @@
-ghost use Rattle.std.specs.Prelude.{◌≡◌, ℕ, ◌+◌, ◌^◌, ◌<◌, get_or, length, reverse, IfOk};
+ghost use Rattle.std.specs.Prelude.{◌≡◌, ℕ, ◌+◌, ◌^◌, ◌<◌, ◌≤◌, get_or, length, reverse, IfOk};
 ghost use Rattle.cam_past.specs.Relation.{AreClocksOf};
 ghost use Rattle.cam_past.specs.Tables.{latest_of, next_latest, AreNodes, AreTables, AreWithin, IsTable};
 
@@ -25,7 +25,8 @@ pub fn clocks(alloc: Global, trace: &Trace) -> Result<Clocks, NoMemory>
 
 /// How many tables it takes to have a place for each of the nodes.
 fn table_count(nodes: &[u8]) -> usize
-    ensures { AreWithin result nodes.now }
+    ensures within { AreWithin result nodes.now }
+    ensures few { result ≤ 32 }
 {
     let mut count = 1;
     for node in nodes {

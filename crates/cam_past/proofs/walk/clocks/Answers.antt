@@ -8,5 +8,5 @@ returns c =
     let count = c.table_count-count.result in
     record {
       exact = told_is (reverse c.args.trace.now) c.in_ok-first.first.nodes.items count c.in_ok-tables.field-0 c.in_ok-first.ensures.nodes
-          (subst (AreWithin count) c.deref.ensures.value c.table_count-count.ensures) c.in_ok-tables.ensures;
+          (subst (AreWithin count) c.deref.ensures.value c.table_count-count.ensures.within) c.in_ok-tables.ensures;
     }
