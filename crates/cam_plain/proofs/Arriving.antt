@@ -4,19 +4,19 @@ use Rattle.std.specs.Prelude.{is_none, nat_le}
 use Rattle.std.specs.Bool.{Decides}
 use Rattle.std.specs.Option.{option_map_or}
 use Rattle.std.proofs.lemmas.Bool.{true≢false}
-use Rattle.std.proofs.lemmas.Bool.Decides.{Decides-eqb, Decides-and, Decides-like, Decides-int_eq, leb_tells}
+use Rattle.std.proofs.lemmas.Bool.Decides.{Decides-eqb, Decides-and, Decides-like, leb_tells}
 use Rattle.cam_names.specs.declared.name.Name.{Name}
 use Rattle.cam_names.specs.Names.{name_eq}
 use Rattle.cam_names.proofs.Names.{name_eq_same, name_eq_refl}
 use Rattle.cam_type.specs.declared.ObjectDecl.{ObjectDecl}
 use Rattle.cam_type.specs.declared.Answer.{Answer}
-use Rattle.cam_type.specs.declared.Answer.TheVariants as answers
 use Rattle.cam_type.specs.Table.{answer_of, answer_eq}
 use Rattle.cam_event.specs.declared.Deed.{Deed}
 use Rattle.cam_event.specs.History.{count, Addressed, call_of}
 use Rattle.cam_event.specs.Live.{site_of, first_conflict, holder, value}
 use Rattle.cam_plain.specs.Lines.{replied, ArrivalLine, PerformLine, BounceLine}
 use Rattle.cam_plain.specs.Tests.{arrival_test, is_performed, perform_test, is_name, is_bounced, bounce_test}
+use Rattle.cam_plain.proofs.SameAnswers.{answer_eq_same, answer_eq_refl}
 
 pub is_true : (b : Bool) → Decides b (b ≡ true)
 is_true b = (λ h. h, λ h. h)
@@ -67,23 +67,7 @@ arrives_decides objects L a n P test decides =
       ),
     )
 
--- equal answers are the same
-answer_eq_same : (x y : Answer) → answer_eq x y ≡ true → x ≡ y
-answer_eq_same answers.Ok answers.Ok h = refl
-answer_eq_same (answers.Value v) (answers.Value w) h = ap (λ z. answers.Value z) ((Decides-int_eq v w).0 h)
-answer_eq_same answers.Empty answers.Empty h = refl
-answer_eq_same answers.Ok (answers.Value w) h = cc
-answer_eq_same answers.Ok answers.Empty h = cc
-answer_eq_same (answers.Value v) answers.Ok h = cc
-answer_eq_same (answers.Value v) answers.Empty h = cc
-answer_eq_same answers.Empty answers.Ok h = cc
-answer_eq_same answers.Empty (answers.Value w) h = cc
-
-answer_eq_refl : (x : Answer) → answer_eq x x ≡ true
-answer_eq_refl answers.Ok = refl
-answer_eq_refl (answers.Value v) = (Decides-int_eq v v).1 refl
-answer_eq_refl answers.Empty = refl
-
+-- the test of two answers decides whether they are the same
 answer_decides : (one other : Answer) → Decides (answer_eq one other) (one ≡ other)
 answer_decides one other = (answer_eq_same one other, λ h. subst (λ (x : Answer). answer_eq one x ≡ true) h (answer_eq_refl one))
 

@@ -5,7 +5,8 @@ use Rattle.std.proofs.lemmas.Bool.{and_parts, and_from, cases_Bool, true≢false
 use Rattle.cam_names.specs.Part.{PartFields, part_eq}
 use Rattle.cam_names.specs.declared.name.Name.{Name}
 use Rattle.cam_names.specs.Names.{name_eq, is_prefix, is_child, parent, before_last}
-use Rattle.cam_names.proofs.Names.{part_eq_same, part_eq_refl, name_eq_same, name_eq_refl}
+use Rattle.cam_names.proofs.Names.{part_eq_same, name_eq_same, name_eq_refl}
+use Rattle.cam_plain.proofs.Ancestry.{before_last_child}
 
 before_last_is : (a b : List PartFields) → is_prefix a b ≡ true → length b ≡ length a + 1 → before_last b ≡ a
 before_last_is [] [] h e = refl
@@ -22,10 +23,6 @@ child_parent (p ∷ a) (q ∷ []) named h = let parts = and_parts (is_prefix (p 
 child_parent (p ∷ a) (q ∷ r ∷ b) named h =
     let parts = and_parts (is_prefix (p ∷ a) (q ∷ r ∷ b)) (eqb (length (q ∷ r ∷ b)) (length (p ∷ a) + 1)) h in
     ap (λ x. Some x) (before_last_is (p ∷ a) (q ∷ r ∷ b) parts.0 (eqb-true (length (q ∷ r ∷ b)) (length (p ∷ a) + 1) parts.1))
-
-before_last_child : (p q : PartFields) (a : List PartFields) → (is_prefix (before_last (p ∷ q ∷ a)) (p ∷ q ∷ a) ≡ true) × (length (p ∷ q ∷ a) ≡ length (before_last (p ∷ q ∷ a)) + 1)
-before_last_child p q [] = (and_from (part_eq p p) true (part_eq_refl p) refl, omega arith)
-before_last_child p q (r ∷ a) = let rest = before_last_child q r a in (and_from (part_eq p p) (is_prefix (before_last (q ∷ r ∷ a)) (q ∷ r ∷ a)) (part_eq_refl p) rest.0, omega (arith, rest.1))
 
 -- whether there is a name, and it is this one
 abbrev pub is_some_name : Name → Option Name → Bool

@@ -2,7 +2,7 @@ use Rattle.std.proofs.Common.{subst, List, ◌≤◌, length, ◌≡◌, true, f
 use Rattle.cam_names.specs.Part.{PartFields}
 use Rattle.cam_event.specs.History.{informed}
 use Rattle.cam_plain.specs.Legal.{history}
-use Rattle.cam_plain.proofs.Climbs.{lift_here, lift_above, lift_top}
+use Rattle.cam_know.proofs.Climbs.{lift_here, lift_above, lift_top}
 use Rattle.cam_plain.proofs.lifts.+lift.Goals as goal
 
 pub returns-then-not-is_in : goal.returns-then-not-is_in
