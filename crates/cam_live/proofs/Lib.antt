@@ -1,0 +1,4 @@
+pub mod Histories
+pub mod Noting
+pub mod Counting
+pub mod Choosing

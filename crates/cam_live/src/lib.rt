@@ -1,0 +1,24 @@
+//! The operations that are live after a list of deeds.
+//!
+//! A performed operation is live where no ancestor of its action has aborted so far as its site was
+//! informed, and no crash of the site has removed it: each came after the family was secured there
+//! (`cam_event/specs/Live`). [`live`] answers exactly these, in the order in which they were
+//! performed, for every list of deeds, legal or not.
+//!
+//! It goes over the deeds once. `tables` keeps what they say of calls, counts of sites, secured
+//! families and aborts; `performed` keeps each operation with the count of its site at that time. A
+//! crash so costs one step and not a look at all operations: at the end an operation stands if its
+//! count is still that of the site, or if the family was first secured there at no later count
+//! (`Counted`). With n deeds it takes about n times the logarithm of n.
+//!
+//! Stands on `cam_event` (deeds, live operations), `cam_type` (declarations), `cam_names` and
+//! `cam_base`.
+#![tactic(auto)]
+
+mod performed;
+mod tables;
+
+pub use performed::{Operations, live};
+
+#[cfg(test)]
+mod tests;

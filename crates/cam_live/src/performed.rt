@@ -1,0 +1,136 @@
+ghost use Rattle.std.specs.Prelude.{◌≡◌, ◌∷◌, ◌++◌, [], List, map, IfOk, OnOk};
+ghost use Rattle.cam_event.specs.declared.Deed.{Deed};
+ghost use Rattle.cam_event.specs.History.{after, call_of};
+ghost use Rattle.cam_event.specs.Live.{site_of, of_call, live};
+ghost use Rattle.cam_live.specs.Counted.{counted, performed, stands, is_live, live_of};
+ghost use Rattle.cam_live.specs.Tables.{Tells};
+
+use crate::tables::{Tables, count_of, has_ancestor};
+use cam_base::{NoMemory, Sequence};
+use cam_event::{Deed, Deeds, Operation};
+use cam_names::Name;
+use cam_type::{Answer, Objects};
+use std::alloc::Global;
+
+/// Operations, in the order in which they were performed.
+pub type Operations = Sequence<Operation>;
+
+/// A performed operation, with the count of its site at that time.
+#[derive(Clone, Copy, Debug)]
+pub(crate) struct Performed {
+    operation: Operation,
+    count: u64,
+}
+
+type PerformedList = Sequence<Performed>;
+
+/// The node where an object stands, and 0 where it is not declared.
+fn site_of(objects: &Objects, object: u8) -> u8
+    ensures { result ≡ site_of objects.now object }
+{
+    match objects.get(object as usize) {
+        Some(declared) => declared.node,
+        None => 0,
+    }
+}
+
+/// Adds an operation, where its call was made.
+fn perform(
+    objects: &Objects,
+    tables: &Tables,
+    list: &mut PerformedList,
+    action: &Name,
+    number: u32,
+    answer: Answer,
+) -> Result<(), NoMemory>
+    ensures { OnOk result ((L : List Deed) → Tells L tables.now → list.new ≡ list.old ++ map (counted objects.now L) (of_call action.now number answer (call_of L action.now number))) }
+{
+    if let Some(asked) = tables.calls.get(&(*action, number)) {
+        let operation = Operation {
+            action: *action,
+            number,
+            object: asked.object,
+            op: asked.op,
+            answer,
+        };
+        let count = count_of(&tables.counts, site_of(objects, asked.object));
+        list.push_copy(&Performed { operation, count })?;
+    }
+    Ok(())
+}
+
+/// Adds the operation that a deed performs.
+fn note_performed(
+    objects: &Objects,
+    tables: &Tables,
+    list: &mut PerformedList,
+    deed: &Deed,
+) -> Result<(), NoMemory>
+    ensures { OnOk result ((L : List Deed) → Tells L tables.now → list.old ≡ performed objects.now L → list.new ≡ performed objects.now (deed.now ∷ L)) }
+{
+    match deed {
+        Deed::Perform {
+            action,
+            number,
+            answer,
+        } => perform(objects, tables, list, action, *number, *answer),
+        _ => Ok(()),
+    }
+}
+
+/// Whether no crash has removed the operation.
+fn stands(objects: &Objects, tables: &Tables, performed: &Performed) -> bool
+    ensures { (L : List Deed) → Tells L tables.now → result ≡ stands objects.now L performed.now }
+{
+    let operation = &performed.operation;
+    let site = site_of(objects, operation.object);
+    if performed.count == count_of(&tables.counts, site) {
+        return true;
+    }
+    match tables.secured.get(&(site, operation.action.family())) {
+        Some(first) => *first <= performed.count,
+        None => false,
+    }
+}
+
+/// Whether the operation is live.
+fn is_live(objects: &Objects, tables: &Tables, performed: &Performed) -> bool
+    ensures { (L : List Deed) → Tells L tables.now → result ≡ is_live objects.now L performed.now }
+{
+    let site = site_of(objects, performed.operation.object);
+    stands(objects, tables, performed)
+        && !has_ancestor(&tables.aborted, site, &performed.operation.action)
+}
+
+/// Those of the performed operations that are live.
+fn live_of(
+    alloc: Global,
+    objects: &Objects,
+    tables: &Tables,
+    list: &PerformedList,
+) -> Result<Operations, NoMemory>
+    ensures { IfOk result (λ operations. (L : List Deed) → Tells L tables.now → operations ≡ live_of objects.now L list.now) }
+{
+    let mut operations = Operations::new(alloc);
+    for performed in list.as_slice() {
+        if is_live(objects, tables, performed) {
+            operations.push_copy(&performed.operation)?;
+        }
+    }
+    Ok(operations)
+}
+
+/// The operations that are live after the deeds, of all objects, in the order in which they were
+/// performed. The deeds may be any list. It fails only where memory runs out.
+pub fn live(alloc: Global, deeds: &Deeds, objects: &Objects) -> Result<Operations, NoMemory>
+    ensures { IfOk result (λ operations. operations ≡ live objects.now (after [] deeds.now)) }
+{
+    let mut tables = Tables::new(alloc);
+    let mut list = PerformedList::new(alloc);
+    for deed in deeds.as_slice() {
+        note_performed(objects, &tables, &mut list, deed)?;
+        tables.note(deed)?;
+    }
+    let operations = live_of(alloc, objects, &tables, &list)?;
+    Ok(operations)
+}

@@ -1,0 +1,153 @@
+ghost use Rattle.std.specs.Prelude.{◌≡◌, ◌∷◌, [], List, OnOk};
+ghost use Rattle.std.specs.BTreeSet.{contains};
+ghost use Rattle.std.specs.List.{list_any};
+ghost use Rattle.cam_names.specs.Names.{ancestors};
+ghost use Rattle.cam_event.specs.declared.Deed.{Deed};
+ghost use Rattle.cam_live.specs.Tables.{site_name_cmp, count_in, TellsCalls, TellsCounts, TellsSecured, TellsAborted, Tells};
+
+use cam_base::NoMemory;
+use cam_event::Deed;
+use cam_names::Name;
+use cam_type::Op;
+use std::alloc::Global;
+use std::collections::{BTreeMap, BTreeSet};
+
+/// What a call asked.
+#[derive(Clone, Copy, Debug)]
+pub(crate) struct Asked {
+    pub(crate) object: u8,
+    pub(crate) op: Op,
+}
+
+/// What each call asked, by the action and the call's number.
+pub(crate) type Calls = BTreeMap<(Name, u32), Asked>;
+
+/// The counts of the sites that have crashed.
+pub(crate) type Counts = BTreeMap<u8, u64>;
+
+/// The count of a site when a family was first secured there.
+pub(crate) type Secured = BTreeMap<(u8, Name), u64>;
+
+/// Names at sites.
+pub(crate) type SiteNames = BTreeSet<(u8, Name)>;
+
+/// What the deeds so far say.
+#[derive(Drop)]
+pub(crate) struct Tables {
+    pub(crate) calls: Calls,
+    pub(crate) counts: Counts,
+    pub(crate) secured: Secured,
+    /// The actions whose abort the site was informed of.
+    pub(crate) aborted: SiteNames,
+}
+
+impl Tables {
+    /// The tables before any deed.
+    pub(crate) fn new(alloc: Global) -> Tables
+        ensures { Tells [] result }
+    {
+        Tables {
+            calls: Calls::new(alloc),
+            counts: Counts::new(alloc),
+            secured: Secured::new(alloc),
+            aborted: SiteNames::new(alloc),
+        }
+    }
+
+    /// Keeps what one more deed says.
+    pub(crate) fn note(&mut self, deed: &Deed) -> Result<(), NoMemory>
+        ensures { OnOk result ((L : List Deed) → Tells L self.old → Tells (deed.now ∷ L) self.new) }
+    {
+        note_secure(&mut self.secured, &self.counts, deed)?;
+        note_call(&mut self.calls, deed)?;
+        note_crash(&mut self.counts, deed)?;
+        note_abort(&mut self.aborted, deed)?;
+        Ok(())
+    }
+}
+
+/// Keeps what a call asked.
+fn note_call(calls: &mut Calls, deed: &Deed) -> Result<(), NoMemory>
+    ensures { OnOk result ((L : List Deed) → TellsCalls L calls.old → TellsCalls (deed.now ∷ L) calls.new) }
+{
+    if let Deed::Call {
+        action,
+        number,
+        object,
+        op,
+        ..
+    } = deed
+    {
+        calls.insert(
+            (*action, *number),
+            Asked {
+                object: *object,
+                op: *op,
+            },
+        )?;
+    }
+    Ok(())
+}
+
+/// The count of a site.
+pub(crate) fn count_of(counts: &Counts, site: u8) -> u64
+    ensures { result ≡ count_in counts.now site }
+{
+    match counts.get(&site) {
+        Some(count) => *count,
+        None => 1,
+    }
+}
+
+/// Raises the count of a site that crashes. No memory holds so many deeds that the count could wrap.
+fn note_crash(counts: &mut Counts, deed: &Deed) -> Result<(), NoMemory>
+    ensures { OnOk result ((L : List Deed) → TellsCounts L counts.old → TellsCounts (deed.now ∷ L) counts.new) }
+{
+    if let Deed::Crash { site } = deed {
+        match count_of(counts, *site).checked_add(1) {
+            Some(next) => {
+                counts.insert(*site, next)?;
+            }
+            None => return Err(NoMemory),
+        }
+    }
+    Ok(())
+}
+
+/// Keeps the count at which a family is secured at a site for the first time.
+fn note_secure(secured: &mut Secured, counts: &Counts, deed: &Deed) -> Result<(), NoMemory>
+    ensures { OnOk result ((L : List Deed) → TellsCounts L counts.now → TellsSecured L secured.old → TellsSecured (deed.now ∷ L) secured.new) }
+{
+    if let Deed::Secure { family, site, .. } = deed {
+        let key = (*site, *family);
+        if !secured.contains_key(&key) {
+            secured.insert(key, count_of(counts, *site))?;
+        }
+    }
+    Ok(())
+}
+
+/// Keeps the action whose abort a site is informed of.
+fn note_abort(aborted: &mut SiteNames, deed: &Deed) -> Result<(), NoMemory>
+    ensures { OnOk result ((L : List Deed) → TellsAborted L aborted.old → TellsAborted (deed.now ∷ L) aborted.new) }
+{
+    if let Deed::Inform {
+        site,
+        name,
+        committed: false,
+    } = deed
+    {
+        aborted.insert((*site, *name))?;
+    }
+    Ok(())
+}
+
+/// Whether the set has an ancestor of the action at the site.
+pub(crate) fn has_ancestor(names: &SiteNames, site: u8, action: &Name) -> bool
+    ensures { result ≡ list_any (λ u. contains site_name_cmp names.now (site, u)) (ancestors action.now) }
+{
+    match action.parent() {
+        Some(parent) => has_ancestor(names, site, &parent) || names.contains(&(site, *action)),
+        None => names.contains(&(site, *action)),
+    }
+}
