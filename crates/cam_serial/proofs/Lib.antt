@@ -1,0 +1,11 @@
+pub mod Sequences
+pub mod Sorting
+pub mod Visible
+pub mod Tops
+pub mod CommitOrder
+pub mod OwnGroups
+pub mod Replaying
+pub mod Covering
+pub mod Laws
+pub mod Gathering
+pub mod Taking

@@ -1,0 +1,4 @@
+pub mod Serial
+pub mod Law
+pub mod Gathered
+pub mod Answering
