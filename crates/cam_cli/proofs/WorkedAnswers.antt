@@ -5,8 +5,8 @@ use Rattle.std.specs.Fmt.{digits}
 use Rattle.cam_type.specs.declared.State.TheVariants.{Register}
 use Rattle.cam_type.specs.declared.Op.TheVariants as ops
 use Rattle.cam_script.specs.declared.Script.{Script}
-use Rattle.cam_script.specs.declared.ScriptFault.{ScriptFault}
-use Rattle.cam_script.specs.declared.ScriptFault.TheVariants.{Bad}
+use Rattle.cam_words.specs.declared.fault.ScriptFault.{ScriptFault}
+use Rattle.cam_words.specs.declared.fault.ScriptFault.TheVariants.{Bad}
 use Rattle.cam_script.specs.declared.Step.{Step}
 use Rattle.cam_script.specs.declared.Act.TheVariants as acts
 use Rattle.cam_script.specs.Built.{Built, first_path}

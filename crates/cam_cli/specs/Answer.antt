@@ -9,8 +9,8 @@
 use Rattle.std.specs.Prelude.{ℕ, ◌≡◌, ◌≤◌, ◌⊎◌, List, [], ◌∷◌, ◌++◌, length, take, codes, Result, Ok, Err}
 use Rattle.cam_event.specs.Readings.{by_knowledge}
 use Rattle.cam_script.specs.declared.Script.{Script}
-use Rattle.cam_script.specs.declared.ScriptFault.{ScriptFault}
-use Rattle.cam_script.specs.declared.ScriptFault.TheVariants.{Bad, NoMemory}
+use Rattle.cam_words.specs.declared.fault.ScriptFault.{ScriptFault}
+use Rattle.cam_words.specs.declared.fault.ScriptFault.TheVariants.{Bad, NoMemory}
 use Rattle.cam_script.specs.Built.{first_path}
 use Rattle.cam_script.specs.Grammar.{read_script, as_unknown_line}
 use Rattle.cam_cluster.specs.Running.{Running}

@@ -2,12 +2,12 @@
 use Rattle.std.proofs.Common.{◌≡◌, ℕ, ◌+◌, Bool, true, false, not, List, [], ◌∷◌, Option, Some, None, if◌then◌else◌, refl, arith}
 use Rattle.std.specs.Prelude.{◌==◌, bytes_eq, Result, Ok}
 use Rattle.std.specs.List.{list_all}
-use Rattle.cam_script.specs.declared.ScriptFault.{ScriptFault}
+use Rattle.cam_words.specs.declared.fault.ScriptFault.{ScriptFault}
 use Rattle.cam_script.specs.declared.Form.{Form}
 use Rattle.cam_script.specs.declared.Form.TheVariants as forms
-use Rattle.cam_script.specs.Lines.{bad_byte}
-use Rattle.cam_script.specs.Words.{refuse, or_refuse, refuse_if, next_word, text_of, is_missing, end_at, looked_up}
-use Rattle.cam_script.specs.Numbers.{number_at, node_at, new_name_at, declared_at}
+use Rattle.cam_words.specs.Lines.{bad_byte}
+use Rattle.cam_words.specs.Words.{refuse, or_refuse, refuse_if, next_word, text_of, is_missing, end_at, looked_up}
+use Rattle.cam_words.specs.Numbers.{number_at, node_at, new_name_at, declared_at}
 use Rattle.cam_script.specs.Operations.{kind_at, op_at}
 use Rattle.cam_script.specs.Variables.{variable_at}
 use Rattle.cam_script.specs.declared.Use.TheVariants as uses
@@ -17,8 +17,7 @@ use Rattle.cam_script.specs.Declarations.{nodes_line, object_line}
 use Rattle.cam_script.specs.Steps.{begin_line, call_line, deliver_line}
 use Rattle.cam_script.specs.Order.{part_of, may_stand, is_too_many}
 use Rattle.cam_script.specs.Grammar.{statement_of, in_body, outside, by_place, with_word, begins_with_hash, all_allowed, read_line, script_by, read_lines}
-use Rattle.cam_script.specs.FirstPath.{is_first_act, is_first_step, IsFirstPath}
-use Rattle.cam_script.specs.Parse.{is_first_form}
+use Rattle.cam_script.specs.FirstPath.{is_first_form, is_first_act, is_first_step, IsFirstPath}
 use Rattle.cam_script.proofs.Holds.{Holds, IfThere, then_holds, then_any, read_there}
 use Rattle.cam_script.proofs.Appended.{all_more}
 

@@ -1,7 +1,7 @@
 -- What the parser's calls answer.
-use Rattle.std.specs.Prelude.{ℕ, ◌≡◌, ◌≤◌, ◌==◌, Bool, true, false, suc, List, [], ◌∷◌, length, Result, Ok, Err, if◌then◌else◌}
-use Rattle.cam_script.specs.declared.ScriptFault.{ScriptFault}
-use Rattle.cam_script.specs.declared.ScriptFault.TheVariants.{Bad, NoMemory}
+use Rattle.std.specs.Prelude.{◌≡◌, ◌≤◌, Bool, true, false, length, IfSome, Result, Ok, Err}
+use Rattle.cam_words.specs.declared.fault.ScriptFault.{ScriptFault}
+use Rattle.cam_words.specs.declared.fault.ScriptFault.TheVariants.{Bad, NoMemory}
 use Rattle.cam_script.specs.declared.Form.{Form}
 use Rattle.cam_script.specs.declared.Form.TheVariants as forms
 use Rattle.cam_script.specs.SoFar.{SoFar}
@@ -18,27 +18,31 @@ Leads (Ok done) next read = read ≡ Ok next
 Leads (Err (Bad line column cause)) next read = read ≡ Err (Bad line column cause)
 Leads (Err NoMemory) next read = Unit {0}
 
--- The lines of the first path.
-abbrev pub is_first_form : Form → Bool
-is_first_form forms.Nodes = true
-is_first_form forms.Object = true
-is_first_form forms.Begin = true
-is_first_form forms.Call = true
-is_first_form forms.Deliver = true
-is_first_form _ = false
+-- A step of this line costs 1: each but `start`.
+abbrev pub costs_one : Form → Bool
+costs_one forms.Begin = true
+costs_one forms.Ask = true
+costs_one forms.Call = true
+costs_one forms.Commit = true
+costs_one forms.Abort = true
+costs_one forms.GiveUp = true
+costs_one forms.Go = true
+costs_one forms.Deliver = true
+costs_one forms.Cut = true
+costs_one forms.Lose = true
+costs_one forms.Restart = true
+costs_one forms.Drain = true
+costs_one forms.Play = true
+costs_one forms.Tell = true
+costs_one forms.Query = true
+costs_one forms.Stop = true
+costs_one _ = false
 
 -- What is declared so far is within the limits of a script.
 pub record IsWithin (d : SoFar) : Type 0 where
   pub labels : length d.script.labels ≤ 64
   pub steps : length d.script.steps ≤ 512
-
--- how many bytes stand before the first LF, or in all
-abbrev pub line_len : List ℕ → ℕ
-line_len [] = 0
-line_len (b ∷ bs) = if b == 10 then 0 else suc (line_len bs)
-
--- a line but for a CR at its end
-abbrev pub without_cr : List ℕ → List ℕ
-without_cr [] = []
-without_cr (b ∷ []) = if b == 13 then [] else b ∷ []
-without_cr (b ∷ c ∷ bs) = b ∷ without_cr (c ∷ bs)
+  pub spent : d.spent ≤ 512
+  pub bodies : length d.body_names ≤ 32
+  pub names : length d.body_names ≡ length d.script.bodies
+  pub statements : IfSome d.writing (λ w. length w.statements ≤ 32)

@@ -4,7 +4,7 @@ use Rattle.cam_type.specs.declared.Kind.{Kind}
 use Rattle.cam_script.specs.declared.Script.{Script}
 use Rattle.cam_script.specs.declared.Form.{Form}
 use Rattle.cam_script.specs.declared.stage.Stage.{Stage}
-use Rattle.cam_script.specs.Words.{looked_up}
+use Rattle.cam_words.specs.Words.{looked_up}
 use Rattle.cam_script.specs.Built.{Built, built_of, everything}
 use Rattle.cam_script.specs.Grammar.{read_script}
 

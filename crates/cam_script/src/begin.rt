@@ -1,12 +1,13 @@
 ghost use Rattle.std.specs.Prelude.{◌≡◌, ◌≤◌, length, Ok, Err, IfOk, IsTrue};
-ghost use Rattle.cam_script.specs.Words.{text_of};
-ghost use Rattle.cam_script.specs.Numbers.{is_name};
+ghost use Rattle.cam_words.specs.Words.{text_of};
+ghost use Rattle.cam_words.specs.Numbers.{is_name};
 ghost use Rattle.cam_script.specs.SoFar.{step_cost};
 ghost use Rattle.cam_script.specs.Steps.{begin_line};
 
-use crate::line::{Line, Word};
+use crate::Act;
 use crate::so_far::SoFar;
-use crate::{Act, ScriptFault};
+use crate::variables::new_variable_at;
+use cam_words::{Line, ScriptFault, Word};
 
 impl SoFar {
     /// `begin A NODE`: the word of the variable, and the step.
@@ -18,8 +19,8 @@ impl SoFar {
         ensures name { IfOk result (λ said. IsTrue (is_name (text_of said.0 line.now.bytes.now))) }
         ensures cost { IfOk result (λ said. step_cost self.now.sizes said.1 ≡ 1) }
     {
-        let name = line.new_variable_at(at, &self.variables)?;
-        let (node, at) = line.node_at(name.1, self.script.nodes)?;
+        let name = new_variable_at(line, at, &self.variables)?;
+        let (node, at) = line.node_at(name.1, self.nodes)?;
         line.end_at(at)?;
         Ok((name, Act::Begin { node }))
     }

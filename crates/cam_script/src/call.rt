@@ -1,12 +1,14 @@
 ghost use Rattle.std.specs.Prelude.{◌≡◌, ◌≤◌, length, Ok, Err, IfOk};
 ghost use Rattle.cam_script.specs.SoFar.{step_cost};
 ghost use Rattle.cam_script.specs.Steps.{call_line};
+ghost use Rattle.cam_script.specs.Statements.{call_statement};
 ghost use Rattle.cam_script.specs.Parse.{IsWithin};
 
-use crate::line::Line;
-use crate::operations::kind_at;
+use crate::operations::{body_op_at, kind_at, op_at};
 use crate::so_far::SoFar;
-use crate::{Act, ScriptFault};
+use crate::variables::variable_at;
+use crate::{Act, Statement, Use};
+use cam_words::{Line, ScriptFault};
 
 impl SoFar {
     /// `call A OBJECT OP`
@@ -17,14 +19,32 @@ impl SoFar {
         ensures value { result ≡ call_line self.now line.now.number at line.now.bytes.now }
         ensures cost { IfOk result (λ act. step_cost self.now.sizes act ≡ 1) }
     {
-        let (action, at) = line.requester_at(at, &self.variables)?;
-        let (object, at) = line.declared_at(at, self.script.labels.as_slice())?;
-        let (op, at) = line.op_at(at, kind_at(&self.script.objects, object))?;
+        let (action, at) = variable_at(line, at, &self.variables, Use::Request, true)?;
+        let (object, at) = line.declared_at(at, self.labels.as_slice())?;
+        let (op, at) = op_at(line, at, kind_at(&self.objects, object))?;
         line.end_at(at)?;
-        Ok(Act::Call {
-            action,
-            object: object as u8,
-            op,
-        })
+        let object = object as u8;
+        Ok(Act::Call { action, object, op })
+    }
+
+    /// In a body `call TRIES OBJECT OP`, TRIES 1 to 9, behind this many earlier statements.
+    #[tactic(auto, unfolding(crate::specs::Statements::call_statement))]
+    pub fn call_statement(
+        &self,
+        line: &Line,
+        at: usize,
+        earlier: u8,
+    ) -> Result<Statement, ScriptFault>
+        requires place { at ≤ length line.now.bytes.now }
+        requires within { IsWithin self.now }
+        ensures { result ≡ call_statement self.now.script.labels self.now.script.objects earlier line.now.number at line.now.bytes.now }
+    {
+        let (tries, at) = line.number_at(at, 1, 9)?;
+        let (object, at) = line.declared_at(at, self.labels.as_slice())?;
+        let (op, at) = body_op_at(line, at, kind_at(&self.objects, object), earlier)?;
+        line.end_at(at)?;
+        let tries = tries as u8;
+        let object = object as u8;
+        Ok(Statement::Call { tries, object, op })
     }
 }

@@ -1,13 +1,13 @@
 ghost use Rattle.std.specs.Prelude.{◌≡◌, ◌≤◌, length, Ok, Err, IfOk, IsTrue};
-ghost use Rattle.cam_script.specs.Words.{text_of, looked_up};
-ghost use Rattle.cam_script.specs.Numbers.{is_name};
+ghost use Rattle.cam_words.specs.Words.{text_of};
+ghost use Rattle.cam_words.specs.Numbers.{is_name};
 ghost use Rattle.cam_script.specs.Built.{built_of};
 ghost use Rattle.cam_script.specs.Declarations.{kind_word_at, start_at, object_line};
 
-use crate::line::{Line, Word};
+use crate::Stage;
 use crate::so_far::SoFar;
-use crate::{ScriptFault, Stage, causes};
 use cam_type::{Items, Kind, ObjectDecl, State};
+use cam_words::{Line, ScriptFault, Word, causes};
 use std::alloc::Global;
 
 impl SoFar {
@@ -24,58 +24,46 @@ impl SoFar {
         ensures word { IfOk result (λ said. (said.0.0 ≤ said.0.1) × (said.0.1 ≤ length line.now.bytes.now)) }
         ensures name { IfOk result (λ said. IsTrue (is_name (text_of said.0 line.now.bytes.now))) }
     {
-        let name = line.new_name_at(at, self.script.labels.as_slice())?;
-        let (node, at) = line.node_at(name.1, self.script.nodes)?;
-        let (kind, at) = line.kind_word_at(at, stage)?;
-        let (start, at) = line.start_at(*self.variables.allocator(), at, kind)?;
+        let name = line.new_name_at(at, self.labels.as_slice())?;
+        let (node, at) = line.node_at(name.1, self.nodes)?;
+        let (kind, at) = kind_word_at(line, at, stage)?;
+        let (start, at) = start_at(*self.variables.allocator(), line, at, kind)?;
         line.end_at(at)?;
         Ok((name, ObjectDecl { node, start }))
     }
 }
 
-impl Line<'_> {
-    /// The word of a kind, and the place behind it.
-    #[tactic(auto, unfolding(crate::specs::Declarations::kind_word_at))]
-    fn kind_word_at(&self, at: usize, stage: Stage) -> Result<(Kind, usize), ScriptFault>
-        requires { at ≤ length self.now.bytes.now }
-        ensures value { result ≡ kind_word_at (built_of stage).kinds self.now.number at self.now.bytes.now }
-        ensures end { IfOk result (λ read. (at ≤ read.1) × (read.1 ≤ length self.now.bytes.now)) }
-    {
-        let word = self.word_at(at)?;
-        match kind_word_of(stage, self.text(word)) {
-            Some(kind) => Ok((kind, word.1)),
-            None => Err(self.fault(word.0, causes::UNKNOWN_WORD)),
-        }
-    }
-
-    /// The start state of an object of this kind, and the place behind it.
-    #[tactic(auto, unfolding(crate::specs::Declarations::start_at))]
-    fn start_at(&self, alloc: Global, at: usize, kind: Kind) -> Result<(State, usize), ScriptFault>
-        requires { at ≤ length self.now.bytes.now }
-        ensures value { result ≡ start_at kind self.now.number at self.now.bytes.now }
-        ensures end { IfOk result (λ read. (at ≤ read.1) × (read.1 ≤ length self.now.bytes.now)) }
-    {
-        match kind {
-            Kind::Register => {
-                let (value, at) = self.value_at(at)?;
-                Ok((State::Register(value), at))
-            }
-            Kind::Queue => Ok((State::Queue(Items::new(alloc)), at)),
-        }
+/// The word of a kind, and the place behind it.
+#[tactic(auto, unfolding(crate::specs::Declarations::kind_word_at))]
+fn kind_word_at(line: &Line, at: usize, stage: Stage) -> Result<(Kind, usize), ScriptFault>
+    requires { at ≤ length line.now.bytes.now }
+    ensures value { result ≡ kind_word_at (built_of stage).kinds line.now.number at line.now.bytes.now }
+    ensures end { IfOk result (λ read. (at ≤ read.1) × (read.1 ≤ length line.now.bytes.now)) }
+{
+    let word = line.word_at(at)?;
+    match stage.kind_of(line.text(word)) {
+        Some(kind) => Ok((kind, word.1)),
+        None => Err(line.fault(word.0, causes::UNKNOWN_WORD)),
     }
 }
 
-/// The kind that a word names, of those that are built.
-fn kind_word_of(stage: Stage, word: &[u8]) -> Option<Kind>
-    ensures { result ≡ looked_up (built_of stage).kinds word.now }
+/// The start state of an object of this kind, and the place behind it.
+#[tactic(auto, unfolding(crate::specs::Declarations::start_at))]
+fn start_at(
+    alloc: Global,
+    line: &Line,
+    at: usize,
+    kind: Kind,
+) -> Result<(State, usize), ScriptFault>
+    requires { at ≤ length line.now.bytes.now }
+    ensures value { result ≡ start_at kind line.now.number at line.now.bytes.now }
+    ensures end { IfOk result (λ read. (at ≤ read.1) × (read.1 ≤ length line.now.bytes.now)) }
 {
-    match stage {
-        Stage::FirstPath => {
-            if word == b"register".as_slice() {
-                Some(Kind::Register)
-            } else {
-                None
-            }
+    match kind {
+        Kind::Register => {
+            let (value, at) = line.value_at(at)?;
+            Ok((State::Register(value), at))
         }
+        Kind::Queue => Ok((State::Queue(Items::new(alloc)), at)),
     }
 }

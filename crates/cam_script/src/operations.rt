@@ -1,61 +1,106 @@
 ghost use Rattle.std.specs.Prelude.{◌≡◌, ◌≤◌, length, Ok, Err, IfOk};
-ghost use Rattle.cam_script.specs.Words.{looked_up};
-ghost use Rattle.cam_script.specs.Operations.{words_of, kind_at, op_word_at, op_of, op_at};
+ghost use Rattle.cam_words.specs.Words.{looked_up};
+ghost use Rattle.cam_script.specs.Operations.{words_of, kind_at, op_word_at, op_of, op_at, body_op_of, body_op_at};
 
-use crate::line::Line;
-use crate::{OpWord, ScriptFault, causes};
+use crate::{BodyOp, OpWord};
 use cam_type::{Kind, Objects, Op};
+use cam_words::{Line, ScriptFault, causes};
 
-impl Line<'_> {
-    /// An operation on an object of this kind, and the place behind it.
-    #[tactic(auto, unfolding(crate::specs::Operations::op_at))]
-    pub fn op_at(&self, at: usize, kind: Kind) -> Result<(Op, usize), ScriptFault>
-        requires { at ≤ length self.now.bytes.now }
-        ensures value { result ≡ op_at kind self.now.number at self.now.bytes.now }
-        ensures end { IfOk result (λ read. (at ≤ read.1) × (read.1 ≤ length self.now.bytes.now)) }
-    {
-        let (word, at) = self.op_word_at(at, kind)?;
-        self.op_of(at, word)
-    }
+/// An operation of a step on an object of this kind, and the place behind it.
+#[tactic(auto, unfolding(crate::specs::Operations::op_at))]
+pub(crate) fn op_at(line: &Line, at: usize, kind: Kind) -> Result<(Op, usize), ScriptFault>
+    requires { at ≤ length line.now.bytes.now }
+    ensures value { result ≡ op_at kind line.now.number at line.now.bytes.now }
+    ensures end { IfOk result (λ read. (at ≤ read.1) × (read.1 ≤ length line.now.bytes.now)) }
+{
+    let (word, at) = op_word_at(line, at, kind)?;
+    op_of(line, at, word)
+}
 
-    /// The word of an operation, and the place behind it.
-    #[tactic(auto, unfolding(crate::specs::Operations::op_word_at))]
-    fn op_word_at(&self, at: usize, kind: Kind) -> Result<(OpWord, usize), ScriptFault>
-        requires { at ≤ length self.now.bytes.now }
-        ensures value { result ≡ op_word_at kind self.now.number at self.now.bytes.now }
-        ensures end { IfOk result (λ read. (at ≤ read.1) × (read.1 ≤ length self.now.bytes.now)) }
-    {
-        let word = self.word_at(at)?;
-        match op_word_of(kind, self.text(word)) {
-            Some(op) => Ok((op, word.1)),
-            None => Err(self.fault(word.0, causes::UNKNOWN_WORD)),
+/// The operation of this word, with its value.
+#[tactic(auto, unfolding(crate::specs::Operations::op_of))]
+fn op_of(line: &Line, at: usize, word: OpWord) -> Result<(Op, usize), ScriptFault>
+    requires { at ≤ length line.now.bytes.now }
+    ensures value { result ≡ op_of word line.now.number at line.now.bytes.now }
+    ensures end { IfOk result (λ read. (at ≤ read.1) × (read.1 ≤ length line.now.bytes.now)) }
+{
+    match word {
+        OpWord::Read => Ok((Op::Read, at)),
+        OpWord::Write => {
+            let (value, at) = line.value_at(at)?;
+            Ok((Op::Write(value), at))
         }
-    }
-
-    /// The operation of this word, with its value.
-    #[tactic(auto, unfolding(crate::specs::Operations::op_of))]
-    fn op_of(&self, at: usize, word: OpWord) -> Result<(Op, usize), ScriptFault>
-        requires { at ≤ length self.now.bytes.now }
-        ensures value { result ≡ op_of word self.now.number at self.now.bytes.now }
-        ensures end { IfOk result (λ read. (at ≤ read.1) × (read.1 ≤ length self.now.bytes.now)) }
-    {
-        match word {
-            OpWord::Read => Ok((Op::Read, at)),
-            OpWord::Write => {
-                let (value, at) = self.value_at(at)?;
-                Ok((Op::Write(value), at))
-            }
-            OpWord::Swap => {
-                let (value, at) = self.value_at(at)?;
-                Ok((Op::Swap(value), at))
-            }
-            OpWord::Size => Ok((Op::Size, at)),
-            OpWord::Put => {
-                let (value, at) = self.value_at(at)?;
-                Ok((Op::Put(value), at))
-            }
-            OpWord::Take => Ok((Op::Take, at)),
+        OpWord::Swap => {
+            let (value, at) = line.value_at(at)?;
+            Ok((Op::Swap(value), at))
         }
+        OpWord::Size => Ok((Op::Size, at)),
+        OpWord::Put => {
+            let (value, at) = line.value_at(at)?;
+            Ok((Op::Put(value), at))
+        }
+        OpWord::Take => Ok((Op::Take, at)),
+    }
+}
+
+/// An operation of a statement behind this many earlier ones, and the place behind it.
+#[tactic(auto, unfolding(crate::specs::Operations::body_op_at))]
+pub(crate) fn body_op_at(
+    line: &Line,
+    at: usize,
+    kind: Kind,
+    earlier: u8,
+) -> Result<(BodyOp, usize), ScriptFault>
+    requires { at ≤ length line.now.bytes.now }
+    ensures value { result ≡ body_op_at earlier kind line.now.number at line.now.bytes.now }
+    ensures end { IfOk result (λ read. (at ≤ read.1) × (read.1 ≤ length line.now.bytes.now)) }
+{
+    let (word, at) = op_word_at(line, at, kind)?;
+    body_op_of(line, at, word, earlier)
+}
+
+/// The operation of this word, with its expression.
+#[tactic(auto, unfolding(crate::specs::Operations::body_op_of))]
+fn body_op_of(
+    line: &Line,
+    at: usize,
+    word: OpWord,
+    earlier: u8,
+) -> Result<(BodyOp, usize), ScriptFault>
+    requires { at ≤ length line.now.bytes.now }
+    ensures value { result ≡ body_op_of earlier word line.now.number at line.now.bytes.now }
+    ensures end { IfOk result (λ read. (at ≤ read.1) × (read.1 ≤ length line.now.bytes.now)) }
+{
+    match word {
+        OpWord::Read => Ok((BodyOp::Read, at)),
+        OpWord::Write => {
+            let (expr, at) = line.expression_at(at, earlier)?;
+            Ok((BodyOp::Write(expr), at))
+        }
+        OpWord::Swap => {
+            let (expr, at) = line.expression_at(at, earlier)?;
+            Ok((BodyOp::Swap(expr), at))
+        }
+        OpWord::Size => Ok((BodyOp::Size, at)),
+        OpWord::Put => {
+            let (expr, at) = line.expression_at(at, earlier)?;
+            Ok((BodyOp::Put(expr), at))
+        }
+        OpWord::Take => Ok((BodyOp::Take, at)),
+    }
+}
+
+/// The word of an operation that this kind has, and the place behind it.
+#[tactic(auto, unfolding(crate::specs::Operations::op_word_at))]
+fn op_word_at(line: &Line, at: usize, kind: Kind) -> Result<(OpWord, usize), ScriptFault>
+    requires { at ≤ length line.now.bytes.now }
+    ensures value { result ≡ op_word_at kind line.now.number at line.now.bytes.now }
+    ensures end { IfOk result (λ read. (at ≤ read.1) × (read.1 ≤ length line.now.bytes.now)) }
+{
+    let word = line.word_at(at)?;
+    match op_word_of(kind, line.text(word)) {
+        Some(op) => Ok((op, word.1)),
+        None => Err(line.fault(word.0, causes::UNKNOWN_WORD)),
     }
 }
 

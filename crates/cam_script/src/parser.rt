@@ -2,16 +2,15 @@ ghost use Rattle.std.specs.Prelude.{◌≡◌, ◌≤◌, length, IfOk};
 ghost use Rattle.cam_script.specs.declared.stage.Stage.TheVariants.{FirstPath};
 ghost use Rattle.cam_script.specs.Built.{built_of};
 ghost use Rattle.cam_script.specs.SoFar.{nothing};
-ghost use Rattle.cam_script.specs.Lines.{lines_of};
+ghost use Rattle.cam_words.specs.Lines.{lines_of};
 ghost use Rattle.cam_script.specs.Grammar.{read_lines, read_script};
 ghost use Rattle.cam_script.specs.Law.{IsScript};
 ghost use Rattle.cam_script.specs.FirstPath.{IsFirstPath};
 ghost use Rattle.cam_script.specs.Parse.{Gives};
 
-use crate::line::Line;
-use crate::lines::first_line;
 use crate::so_far::SoFar;
-use crate::{Script, ScriptFault, Stage, causes};
+use crate::{Script, ScriptFault, Stage};
+use cam_words::{Line, causes, first_line};
 use std::alloc::Global;
 
 /// The most bytes of a script.
@@ -19,21 +18,22 @@ const MOST_BYTES: usize = 262_144;
 
 /// The script that the bytes spell, or its first fault, by the lines that the stage has.
 ///
-/// It answers `NoMemory` where memory runs out, and else `Bad`, with the cause of the first fault:
+/// It answers `NoMemory` where memory runs out, and else `Bad`, with the cause of the first fault by lines, then by words. At one word the
+/// first of 3, 10, 12, 4, 6, 7, 8, 9, 11, 5 counts:
 ///
 /// 1. more than 262,144 bytes, at line 1, column 1, before all other causes;
-/// 2. a byte that is not allowed: each is 9, 10, 13 or 32 to 126;
+/// 2. a byte that is not allowed, before the words of its line: each is 9, 10, 13 or 32 to 126;
 /// 3. an unknown line, kind or operation, or one that the stage does not have;
 /// 4. a word is missing, at the place behind the last one;
 /// 5. a word too many;
-/// 6. a wrong number or value;
+/// 6. a wrong number, value or expression;
 /// 7. a new name that is not a letter and up to 15 letters or digits;
 /// 8. a name that is declared above;
-/// 9. a name that is not declared above;
-/// 10. a line where it may not stand, a variable in a use that it does not have, or no `nodes` at all, at the line
-///     after the last;
+/// 9. a name that is not declared above, or `$K` without an earlier statement K;
+/// 10. a line where it may not stand, a variable in a use that it does not have, or, at the line after the last, no `nodes` at all or a
+///     body without its `end`;
 /// 11. a node, 1 to 8, that the script does not have;
-/// 12. object 65, or the step that passes 512, at the first word.
+/// 12. object 65, body 33, statement 33, the step that passes 512, a body that nests to 9, at the first word.
 #[tactic(auto, using(crate::proofs::Gives::gives_script, crate::proofs::Gives::gives_first_path))]
 pub fn parse(alloc: Global, stage: Stage, bytes: &[u8]) -> Result<Script, ScriptFault>
     ensures value { Gives result (read_script (built_of stage) bytes.now) }

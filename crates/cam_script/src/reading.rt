@@ -1,15 +1,22 @@
-ghost use Rattle.std.specs.Prelude.{◌≡◌, ◌≤◌, ◌<◌, length, None, IsTrue, IsFalse, IfSome};
-ghost use Rattle.cam_script.specs.Words.{looked_up};
+ghost use Rattle.std.specs.Prelude.{◌≡◌, ◌≤◌, length, Some, None, Ok, Err, IsTrue, IsFalse, IfOk};
+ghost use Rattle.cam_script.specs.SoFar.{Writing as AnyWriting, step_cost};
 ghost use Rattle.cam_script.specs.Built.{built_of};
 ghost use Rattle.cam_script.specs.Order.{is_too_many};
-ghost use Rattle.cam_script.specs.Grammar.{begins_with_hash, outside, with_word, read_line};
-ghost use Rattle.cam_script.specs.Parse.{Leads, IsWithin, is_first_form};
+ghost use Rattle.cam_script.specs.Grammar.{statement_of, in_body, act_line, outside, by_place, begins_with_hash, with_word, read_line};
+ghost use Rattle.cam_script.specs.Parse.{Leads, IsWithin, costs_one};
 
-use crate::line::{Line, Word};
-use crate::lines::bad_byte;
+use crate::abort::abort_statement;
+use crate::commit::commit_statement;
+use crate::cut::cut_line;
+use crate::deliver::deliver_line;
+use crate::drain::drain_line;
+use crate::lose::lose_line;
+use crate::nodes::nodes_line;
 use crate::order::may_stand;
+use crate::play::play_line;
 use crate::so_far::SoFar;
-use crate::{Binding, Form, ScriptFault, Stage, causes};
+use crate::{Act, Binding, Form, Stage, Statement};
+use cam_words::{Line, ScriptFault, Word, bad_byte, causes};
 
 impl SoFar {
     /// Reads a line.
@@ -36,13 +43,13 @@ impl SoFar {
         requires end { first.1 ≤ length line.now.bytes.now }
         ensures { Leads result self.new (with_word (built_of stage) self.old line.now.number first line.now.bytes.now) }
     {
-        let Some(form) = form_of(stage, line.text(first)) else {
+        let Some(form) = stage.form_of(line.text(first)) else {
             return Err(line.fault(first.0, causes::UNKNOWN_WORD));
         };
         if !may_stand(self.part(), form) {
             return Err(line.fault(first.0, causes::MISPLACED));
         }
-        if self.is_full(form) {
+        if self.is_full(form, line, first.1) {
             return Err(line.fault(first.0, causes::TOO_MANY));
         }
         self.read_form(stage, form, line, first.1)
@@ -57,15 +64,84 @@ impl SoFar {
         at: usize,
     ) -> Result<(), ScriptFault>
         requires within { IsWithin self.old }
+        requires room { IsFalse (is_too_many self.old form at line.now.bytes.now) }
+        requires place { at ≤ length line.now.bytes.now }
+        ensures { Leads result self.new (by_place self.old.writing (built_of stage) self.old form line.now.number at line.now.bytes.now) }
+    {
+        match &self.writing {
+            Some(writing) => {
+                let earlier = writing.statements.len() as u8;
+                self.read_in_body(form, line, at, earlier)
+            }
+            None => self.read_outside(stage, form, line, at),
+        }
+    }
+
+    /// Reads a line in a body that has this many statements.
+    fn read_in_body(
+        &mut self,
+        form: Form,
+        line: &Line,
+        at: usize,
+        earlier: u8,
+    ) -> Result<(), ScriptFault>
+        requires within { IsWithin self.old }
+        requires place { at ≤ length line.now.bytes.now }
+        ensures { (w : AnyWriting) → self.old.writing ≡ Some w → length w.statements ≡ earlier → Leads result self.new (in_body self.old w form line.now.number at line.now.bytes.now) }
+    {
+        match form {
+            Form::End => {
+                line.end_at(at)?;
+                self.close_body()?;
+                Ok(())
+            }
+            _ => {
+                let statement = self.statement_of(form, line, at, earlier)?;
+                self.push_statement(statement)?;
+                Ok(())
+            }
+        }
+    }
+
+    /// The statement of a line in a body, behind this many earlier ones.
+    fn statement_of(
+        &self,
+        form: Form,
+        line: &Line,
+        at: usize,
+        earlier: u8,
+    ) -> Result<Statement, ScriptFault>
+        requires within { IsWithin self.now }
+        requires place { at ≤ length line.now.bytes.now }
+        ensures { (w : AnyWriting) → length w.statements ≡ earlier → result ≡ statement_of self.now w form line.now.number at line.now.bytes.now }
+    {
+        match form {
+            Form::Call => self.call_statement(line, at, earlier),
+            Form::Child => self.child_statement(line, at),
+            Form::Commit => commit_statement(line, at, earlier),
+            Form::Abort => abort_statement(line, at),
+            _ => Err(line.fault(0, causes::MISPLACED)),
+        }
+    }
+
+    /// Reads a line outside bodies.
+    #[tactic(auto, using(crate::proofs::Costs::room_for))]
+    fn read_outside(
+        &mut self,
+        stage: Stage,
+        form: Form,
+        line: &Line,
+        at: usize,
+    ) -> Result<(), ScriptFault>
+        requires within { IsWithin self.old }
         requires outside { self.old.writing ≡ None }
-        requires built { IsTrue (is_first_form form) }
         requires room { IsFalse (is_too_many self.old form at line.now.bytes.now) }
         requires place { at ≤ length line.now.bytes.now }
         ensures { Leads result self.new (outside (built_of stage) self.old form line.now.number at line.now.bytes.now) }
     {
         match form {
             Form::Nodes => {
-                let nodes = line.nodes_line(at)?;
+                let nodes = nodes_line(line, at)?;
                 self.set_nodes(nodes);
                 Ok(())
             }
@@ -74,23 +150,58 @@ impl SoFar {
                 self.push_object(line.text(name), object)?;
                 Ok(())
             }
+            Form::Body => {
+                let name = self.body_line(line, at)?;
+                self.open_body(line.text(name))?;
+                Ok(())
+            }
             Form::Begin => {
                 let (name, act) = self.begin_line(line, at)?;
-                self.push_variable(line.text(name), Binding::Begin)?;
+                self.push_binding(line.number, line.text(name), Binding::Begin, act)?;
+                Ok(())
+            }
+            Form::Start => {
+                let (name, act) = self.start_line(line, at)?;
+                self.push_binding(line.number, line.text(name), Binding::Start, act)?;
+                Ok(())
+            }
+            Form::Ask => {
+                let (name, act) = self.ask_line(line, at)?;
+                self.push_binding(line.number, line.text(name), Binding::Ask, act)?;
+                Ok(())
+            }
+            _ => {
+                let act = self.act_line(stage, form, line, at)?;
                 self.push_step(line.number, act)?;
                 Ok(())
             }
-            Form::Call => {
-                let act = self.call_line(line, at)?;
-                self.push_step(line.number, act)?;
-                Ok(())
-            }
-            Form::Deliver => {
-                let act = line.deliver_line(at)?;
-                self.push_step(line.number, act)?;
-                Ok(())
-            }
-            _ => unreachable!(),
+        }
+    }
+
+    /// The step of a line that binds no variable.
+    fn act_line(&self, stage: Stage, form: Form, line: &Line, at: usize) -> Result<Act, ScriptFault>
+        requires within { IsWithin self.now }
+        requires place { at ≤ length line.now.bytes.now }
+        ensures value { result ≡ act_line (built_of stage) self.now form line.now.number at line.now.bytes.now }
+        ensures cost { IfOk result (λ act. step_cost self.now.sizes act ≡ 1) }
+        ensures one { IfOk result (λ act. IsTrue (costs_one form)) }
+    {
+        match form {
+            Form::Call => self.call_line(line, at),
+            Form::Commit => self.commit_line(line, at, stage.has_top_commit()),
+            Form::Abort => self.abort_line(line, at),
+            Form::GiveUp => self.giveup_line(line, at),
+            Form::Go => self.go_line(line, at),
+            Form::Deliver => deliver_line(line, at),
+            Form::Cut => cut_line(line, at),
+            Form::Lose => lose_line(line, at),
+            Form::Restart => self.restart_line(line, at),
+            Form::Drain => drain_line(line, at),
+            Form::Play => play_line(line, at),
+            Form::Tell => self.tell_line(line, at),
+            Form::Query => self.query_line(line, at),
+            Form::Stop => self.stop_line(line, at),
+            _ => Err(line.fault(0, causes::MISPLACED)),
         }
     }
 }
@@ -102,29 +213,5 @@ fn begins_with_hash(word: &[u8]) -> bool
     match word.split_first() {
         Some((b'#', _)) => true,
         _ => false,
-    }
-}
-
-/// The line that a word begins, of those that are built.
-fn form_of(stage: Stage, word: &[u8]) -> Option<Form>
-    ensures value { result ≡ looked_up (built_of stage).forms word.now }
-    ensures built { IfSome result (λ form. IsTrue (is_first_form form)) }
-{
-    match stage {
-        Stage::FirstPath => {
-            if word == b"nodes".as_slice() {
-                Some(Form::Nodes)
-            } else if word == b"object".as_slice() {
-                Some(Form::Object)
-            } else if word == b"begin".as_slice() {
-                Some(Form::Begin)
-            } else if word == b"call".as_slice() {
-                Some(Form::Call)
-            } else if word == b"deliver".as_slice() {
-                Some(Form::Deliver)
-            } else {
-                None
-            }
-        }
     }
 }

@@ -1,31 +1,38 @@
-ghost use Rattle.std.specs.Prelude.{◌≡◌, ◌≤◌, ◌+◌, length, IsTrue, None, OnOk, Result};
-ghost use Rattle.cam_script.specs.Numbers.{is_name};
-ghost use Rattle.cam_script.specs.SoFar.{nothing, step_cost, with_nodes, with_object, with_variable, with_step};
+ghost use Rattle.std.specs.Prelude.{◌≡◌, ◌≤◌, ◌+◌, length, min, IsTrue, OnOk, Result};
+ghost use Rattle.cam_words.specs.Numbers.{is_name};
+ghost use Rattle.cam_script.specs.SoFar.{nothing, step_cost, with_nodes, with_object, with_variable, with_step, with_binding_step};
 ghost use Rattle.cam_script.specs.Grammar.{read_end};
 
-use crate::labels::label_of;
+use crate::body_table::{BodyTable, Writing};
 use crate::variables::Variable;
-use crate::{Act, Binding, Bodies, Labels, Script, ScriptFault, Step, Steps, causes};
+use crate::{Act, Binding, Script, Step, Steps};
 use cam_base::NoMemory;
 use cam_type::{ObjectDecl, Objects};
+use cam_words::{Label, Labels, ScriptFault, causes};
 use std::alloc::Global;
 use std::marker::Model;
 
-/// What is declared so far: the script's part, its variables, and the steps spent.
+/// What is declared so far, the steps so far and what they cost, and the body that is being written.
 #[derive(Drop)]
 pub(crate) struct SoFar {
-    pub script: Script,
+    /// 0 until `nodes` was read.
+    pub nodes: u8,
+    pub objects: Objects,
+    pub labels: Labels,
+    pub bodies: BodyTable,
+    pub steps: Steps,
     pub variables: Vec<Variable>,
+    /// The steps spent, with the costs of bodies.
     pub spent: u32,
+    pub writing: Option<Writing>,
 }
 
 impl Model for SoFar {
-    ghost use Rattle.std.specs.Prelude.{[], None};
     ghost use Rattle.cam_script.specs.SoFar.{SoFar as Seen};
 
     ghost Value = { Seen };
 
-    ghost view = { λ d. record { script = d.script; body_names = []; sizes = []; variables = d.variables.items; spent = d.spent; writing = None } };
+    ghost view = { λ d. record { script = record { nodes = d.nodes; objects = d.objects; labels = d.labels; bodies = d.bodies.bodies; steps = d.steps }; body_names = d.bodies.names; sizes = d.bodies.sizes; variables = d.variables.items; spent = d.spent; writing = d.writing } };
 }
 
 impl SoFar {
@@ -34,15 +41,14 @@ impl SoFar {
         ensures { result ≡ nothing }
     {
         SoFar {
-            script: Script {
-                nodes: 0,
-                objects: Objects::new(alloc),
-                labels: Labels::new(alloc),
-                bodies: Bodies::new(alloc),
-                steps: Steps::new(alloc),
-            },
+            nodes: 0,
+            objects: Objects::new(alloc),
+            labels: Labels::new(alloc),
+            bodies: BodyTable::new(alloc),
+            steps: Steps::new(alloc),
             variables: Vec::new(alloc),
             spent: 0,
+            writing: None,
         }
     }
 
@@ -50,7 +56,7 @@ impl SoFar {
     pub fn set_nodes(&mut self, nodes: u8)
         ensures { self.new ≡ with_nodes self.old nodes }
     {
-        self.script.nodes = nodes;
+        self.nodes = nodes;
     }
 
     /// After an object of this name.
@@ -58,20 +64,20 @@ impl SoFar {
         requires { IsTrue (is_name name.now) }
         ensures { OnOk result (self.new ≡ with_object self.old name.now object) }
     {
-        let label = label_of(*self.variables.allocator(), name)?;
-        self.script.objects.push(object)?;
-        self.script.labels.push(label)?;
+        let label = Label::of_word(*self.variables.allocator(), name)?;
+        self.objects.push(object)?;
+        self.labels.push(label)?;
         Ok(())
     }
 
     /// A variable of this name for the next step.
-    pub fn push_variable(&mut self, name: &[u8], binding: Binding) -> Result<(), NoMemory>
+    fn push_variable(&mut self, name: &[u8], binding: Binding) -> Result<(), NoMemory>
         requires name { IsTrue (is_name name.now) }
         requires room { length self.old.script.steps ≤ 512 }
         ensures { OnOk result (self.new ≡ with_variable self.old name.now binding) }
     {
-        let name = label_of(*self.variables.allocator(), name)?;
-        let step = self.script.steps.len() as u32;
+        let name = Label::of_word(*self.variables.allocator(), name)?;
+        let step = self.steps.len() as u32;
         self.variables.push(Variable {
             name,
             step,
@@ -80,15 +86,42 @@ impl SoFar {
         Ok(())
     }
 
-    /// After a step that costs 1, in the line of this number.
+    /// After a step that binds the variable of this name, in the line of this number.
+    pub fn push_binding(
+        &mut self,
+        line: u32,
+        name: &[u8],
+        binding: Binding,
+        act: Act,
+    ) -> Result<(), NoMemory>
+        requires name { IsTrue (is_name name.now) }
+        requires steps { length self.old.script.steps ≤ 512 }
+        requires room { self.old.spent + step_cost self.old.sizes act ≤ 512 }
+        ensures { OnOk result (self.new ≡ with_binding_step self.old line name.now binding act) }
+    {
+        self.push_variable(name, binding)?;
+        self.push_step(line, act)
+    }
+
+    /// After a step in the line of this number.
     pub fn push_step(&mut self, line: u32, act: Act) -> Result<(), NoMemory>
-        requires cost { step_cost self.old.sizes act ≡ 1 }
-        requires room { self.old.spent + 1 ≤ 512 }
+        requires { self.old.spent + step_cost self.old.sizes act ≤ 512 }
         ensures { OnOk result (self.new ≡ with_step self.old line act) }
     {
-        self.script.steps.push_copy(&Step { line, act })?;
-        self.spent += 1;
+        let cost = self.step_cost(act);
+        self.steps.push_copy(&Step { line, act })?;
+        self.spent += cost;
         Ok(())
+    }
+
+    /// What a step costs, up to what is too much for every script.
+    fn step_cost(&self, act: Act) -> u32
+        ensures { result ≡ min (step_cost self.now.sizes act) 514 }
+    {
+        match act {
+            Act::Start { node: _, body } => 1 + self.bodies.size_at(body as usize).cost,
+            _ => 1,
+        }
     }
 
     /// The script, where the line of this number is the one after the last.
@@ -96,17 +129,29 @@ impl SoFar {
         ensures { result ≡ read_end self line }
     {
         let SoFar {
-            script,
+            nodes,
+            objects,
+            labels,
+            bodies,
+            steps,
             variables: _,
             spent: _,
+            writing,
         } = self;
-        if script.nodes == 0 {
+        if writing.is_some() || nodes == 0 {
             return Err(ScriptFault::Bad {
                 line,
                 column: 1,
                 cause: causes::MISPLACED,
             });
         }
-        Ok(script)
+        let bodies = bodies.into_bodies();
+        Ok(Script {
+            nodes,
+            objects,
+            labels,
+            bodies,
+            steps,
+        })
     }
 }

@@ -1,12 +1,11 @@
-ghost use Rattle.std.specs.Prelude.{◌≡◌, ◌≤◌, ◌<◌, length, Ok, Err, IfOk, IfSome, IsTrue, true};
-ghost use Rattle.cam_script.specs.Words.{text_of, place_of};
-ghost use Rattle.cam_script.specs.Numbers.{is_name, new_name_at};
+ghost use Rattle.std.specs.Prelude.{◌≡◌, ◌≤◌, ◌<◌, length, Ok, Err, IfOk, IfSome, IsTrue};
+ghost use Rattle.cam_words.specs.Words.{text_of, place_of};
+ghost use Rattle.cam_words.specs.Numbers.{is_name, new_name_at};
 ghost use Rattle.cam_script.specs.SoFar.{variable_names};
-ghost use Rattle.cam_script.specs.Variables.{variable_at};
+ghost use Rattle.cam_script.specs.Variables.{against, variable_at};
 
-use crate::labels::is_name;
-use crate::line::{Line, Word};
-use crate::{Binding, Label, ScriptFault, Use, causes};
+use crate::{Binding, Use};
+use cam_words::{Label, Line, ScriptFault, Word, causes, is_name};
 use std::marker::Model;
 
 /// A variable, with the place of the step that binds it.
@@ -25,47 +24,71 @@ impl Model for Variable {
     ghost view = { λ v. record { name = v.name; step = v.step; binding = v.binding } };
 }
 
-impl Line<'_> {
-    /// A variable that is none of these: the word of its name.
-    #[tactic(auto, unfolding(crate::specs::Numbers::new_name_at))]
-    pub fn new_variable_at(&self, at: usize, variables: &[Variable]) -> Result<Word, ScriptFault>
-        requires { at ≤ length self.now.bytes.now }
-        ensures value { result ≡ new_name_at (variable_names variables.now) self.now.number at self.now.bytes.now }
-        ensures word { IfOk result (λ word. (at ≤ word.0) × ((word.0 ≤ word.1) × (word.1 ≤ length self.now.bytes.now))) }
-        ensures name { IfOk result (λ word. IsTrue (is_name (text_of word self.now.bytes.now))) }
-    {
-        let word = self.word_at(at)?;
-        if !is_name(self.text(word)) {
-            return Err(self.fault(word.0, causes::INVALID_NAME));
-        }
-        if place_of(variables, self.text(word)).is_some() {
-            return Err(self.fault(word.0, causes::DECLARED_AGAIN));
-        }
-        Ok(word)
+/// A variable that is none of these: the word of its name.
+#[tactic(auto, unfolding(cam_words::specs::Numbers::new_name_at))]
+pub(crate) fn new_variable_at(
+    line: &Line,
+    at: usize,
+    variables: &[Variable],
+) -> Result<Word, ScriptFault>
+    requires { at ≤ length line.now.bytes.now }
+    ensures value { result ≡ new_name_at (variable_names variables.now) line.now.number at line.now.bytes.now }
+    ensures word { IfOk result (λ word. (at ≤ word.0) × ((word.0 ≤ word.1) × (word.1 ≤ length line.now.bytes.now))) }
+    ensures name { IfOk result (λ word. IsTrue (is_name (text_of word line.now.bytes.now))) }
+{
+    let word = line.word_at(at)?;
+    if !is_name(line.text(word)) {
+        return Err(line.fault(word.0, causes::INVALID_NAME));
     }
+    if place_of(variables, line.text(word)).is_some() {
+        return Err(line.fault(word.0, causes::DECLARED_AGAIN));
+    }
+    Ok(word)
+}
 
-    /// The step of an action that may make a request, and the place behind its variable.
-    #[tactic(auto, unfolding(crate::specs::Variables::variable_at))]
-    pub fn requester_at(
-        &self,
-        at: usize,
-        variables: &[Variable],
-    ) -> Result<(u32, usize), ScriptFault>
-        requires { at ≤ length self.now.bytes.now }
-        ensures value { result ≡ variable_at true Use.Request variables.now self.now.number at self.now.bytes.now }
-        ensures end { IfOk result (λ read. (at ≤ read.1) × (read.1 ≤ length self.now.bytes.now)) }
-    {
-        let word = self.word_at(at)?;
-        match place_of(variables, self.text(word)) {
-            None => Err(self.fault(word.0, causes::UNDECLARED)),
-            Some(place) => {
-                let variable = &variables[place];
-                match variable.binding {
-                    Binding::Start => Err(self.fault(word.0, causes::MISPLACED)),
-                    Binding::Begin | Binding::Ask => Ok((variable.step, word.1)),
-                }
+/// The step of a variable that may be used so, and the place behind its word.
+#[tactic(auto, unfolding(crate::specs::Variables::variable_at))]
+pub(crate) fn variable_at(
+    line: &Line,
+    at: usize,
+    variables: &[Variable],
+    used: Use,
+    top_commit: bool,
+) -> Result<(u32, usize), ScriptFault>
+    requires { at ≤ length line.now.bytes.now }
+    ensures value { result ≡ variable_at top_commit used variables.now line.now.number at line.now.bytes.now }
+    ensures end { IfOk result (λ read. (at ≤ read.1) × (read.1 ≤ length line.now.bytes.now)) }
+{
+    let word = line.word_at(at)?;
+    match place_of(variables, line.text(word)) {
+        None => Err(line.fault(word.0, causes::UNDECLARED)),
+        Some(place) => {
+            let variable = &variables[place];
+            match against(used, variable.binding, top_commit) {
+                None => Ok((variable.step, word.1)),
+                Some(cause) => Err(line.fault(word.0, cause)),
             }
         }
+    }
+}
+
+/// The cause against such a use of a variable that is bound so.
+fn against(used: Use, binding: Binding, top_commit: bool) -> Option<u8>
+    ensures { result ≡ against top_commit used binding }
+{
+    match (used, binding) {
+        (Use::Commit, Binding::Begin) => {
+            if top_commit {
+                None
+            } else {
+                Some(causes::UNKNOWN_WORD)
+            }
+        }
+        (Use::Request | Use::Commit, Binding::Start) => Some(causes::MISPLACED),
+        (Use::Request | Use::Commit, _) => None,
+        (Use::Go, Binding::Start) => None,
+        (Use::Go, _) => Some(causes::MISPLACED),
+        (Use::Query, _) => None,
     }
 }
 

@@ -1,6 +1,6 @@
 use Rattle.std.proofs.Common.{◌∙◌, ap, sym, arith}
 use Rattle.cam_script.specs.Built.{built_of}
-use Rattle.cam_script.specs.Lines.{lines_of}
+use Rattle.cam_words.specs.Lines.{lines_of}
 use Rattle.cam_script.specs.Grammar.{read_lines}
 use Rattle.cam_script.proofs.Within.{stands_within}
 use Rattle.cam_script.proofs.Gives.{goes_on, next_stands}

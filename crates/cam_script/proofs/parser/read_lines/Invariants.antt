@@ -1,7 +1,7 @@
 use Rattle.std.proofs.Common.{◌≡◌, ◌≤◌, ◌+◌, length}
 use Rattle.cam_script.specs.Built.{built_of}
 use Rattle.cam_script.specs.SoFar.{nothing}
-use Rattle.cam_script.specs.Lines.{lines_of}
+use Rattle.cam_words.specs.Lines.{lines_of}
 use Rattle.cam_script.specs.Grammar.{read_lines}
 use Rattle.cam_script.proofs.Stands.{Stands}
 use Rattle.cam_script.proofs.parser.read_lines.Given as goal

@@ -1,5 +1,5 @@
 use Rattle.std.proofs.Common.{◌≡◌, drop}
-use Rattle.cam_script.specs.Words.{place_from}
+use Rattle.cam_words.specs.Words.{place_from}
 use Rattle.cam_script.specs.SoFar.{variable_names}
 use Rattle.cam_script.proofs.variables.place_of.Given as goal
 

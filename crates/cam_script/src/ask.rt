@@ -1,0 +1,28 @@
+ghost use Rattle.std.specs.Prelude.{◌≡◌, ◌≤◌, length, Ok, Err, IfOk, IsTrue};
+ghost use Rattle.cam_words.specs.Words.{text_of};
+ghost use Rattle.cam_words.specs.Numbers.{is_name};
+ghost use Rattle.cam_script.specs.SoFar.{step_cost};
+ghost use Rattle.cam_script.specs.Steps.{ask_line};
+
+use crate::so_far::SoFar;
+use crate::variables::{new_variable_at, variable_at};
+use crate::{Act, Use};
+use cam_words::{Line, ScriptFault, Word};
+
+impl SoFar {
+    /// `ask A B NODE`: the word of the variable, and the step.
+    #[tactic(auto, unfolding(crate::specs::Steps::ask_line))]
+    pub fn ask_line(&self, line: &Line, at: usize) -> Result<(Word, Act), ScriptFault>
+        requires { at ≤ length line.now.bytes.now }
+        ensures value { result ≡ ask_line self.now line.now.number at line.now.bytes.now }
+        ensures word { IfOk result (λ said. (said.0.0 ≤ said.0.1) × (said.0.1 ≤ length line.now.bytes.now)) }
+        ensures name { IfOk result (λ said. IsTrue (is_name (text_of said.0 line.now.bytes.now))) }
+        ensures cost { IfOk result (λ said. step_cost self.now.sizes said.1 ≡ 1) }
+    {
+        let (parent, at) = variable_at(line, at, &self.variables, Use::Request, true)?;
+        let name = new_variable_at(line, at, &self.variables)?;
+        let (node, at) = line.node_at(name.1, self.nodes)?;
+        line.end_at(at)?;
+        Ok((name, Act::Ask { parent, node }))
+    }
+}

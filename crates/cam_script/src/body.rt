@@ -1,0 +1,39 @@
+ghost use Rattle.std.specs.Prelude.{◌≡◌, ◌≤◌, length, Ok, Err, IfOk, IsTrue, OnOk};
+ghost use Rattle.cam_words.specs.Words.{text_of};
+ghost use Rattle.cam_words.specs.Numbers.{is_name};
+ghost use Rattle.cam_script.specs.SoFar.{with_body};
+ghost use Rattle.cam_script.specs.Declarations.{body_line};
+
+use crate::BodyText;
+use crate::body_table::Writing;
+use crate::so_far::SoFar;
+use cam_base::NoMemory;
+use cam_words::{Label, Line, ScriptFault, Word};
+
+impl SoFar {
+    /// `body NAME`: the word of the name.
+    #[tactic(auto, unfolding(crate::specs::Declarations::body_line))]
+    pub fn body_line(&self, line: &Line, at: usize) -> Result<Word, ScriptFault>
+        requires { at ≤ length line.now.bytes.now }
+        ensures value { result ≡ body_line self.now.body_names line.now.number at line.now.bytes.now }
+        ensures word { IfOk result (λ name. (name.0 ≤ name.1) × (name.1 ≤ length line.now.bytes.now)) }
+        ensures name { IfOk result (λ name. IsTrue (is_name (text_of name line.now.bytes.now))) }
+    {
+        let name = line.new_name_at(at, self.bodies.names())?;
+        line.end_at(name.1)?;
+        Ok(name)
+    }
+
+    /// After `body NAME`.
+    pub fn open_body(&mut self, name: &[u8]) -> Result<(), NoMemory>
+        requires { IsTrue (is_name name.now) }
+        ensures { OnOk result (self.new ≡ with_body self.old name.now) }
+    {
+        let alloc = *self.variables.allocator();
+        self.writing = Some(Writing {
+            name: Label::of_word(alloc, name)?,
+            statements: BodyText::new(alloc),
+        });
+        Ok(())
+    }
+}

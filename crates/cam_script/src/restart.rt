@@ -1,0 +1,21 @@
+ghost use Rattle.std.specs.Prelude.{◌≡◌, ◌≤◌, length, Ok, Err, IfOk};
+ghost use Rattle.cam_script.specs.SoFar.{step_cost};
+ghost use Rattle.cam_script.specs.Steps.{restart_line};
+
+use crate::Act;
+use crate::so_far::SoFar;
+use cam_words::{Line, ScriptFault};
+
+impl SoFar {
+    /// `restart NODE`
+    #[tactic(auto, unfolding(crate::specs::Steps::restart_line))]
+    pub fn restart_line(&self, line: &Line, at: usize) -> Result<Act, ScriptFault>
+        requires { at ≤ length line.now.bytes.now }
+        ensures value { result ≡ restart_line self.now line.now.number at line.now.bytes.now }
+        ensures cost { IfOk result (λ act. step_cost self.now.sizes act ≡ 1) }
+    {
+        let (node, at) = line.node_at(at, self.nodes)?;
+        line.end_at(at)?;
+        Ok(Act::Restart { node })
+    }
+}

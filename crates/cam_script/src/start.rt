@@ -1,0 +1,29 @@
+ghost use Rattle.std.specs.Prelude.{◌≡◌, ◌≤◌, length, Ok, Err, IfOk, IsTrue};
+ghost use Rattle.cam_words.specs.Words.{text_of};
+ghost use Rattle.cam_words.specs.Numbers.{is_name};
+ghost use Rattle.cam_script.specs.Steps.{start_line};
+ghost use Rattle.cam_script.specs.Parse.{IsWithin};
+
+use crate::Act;
+use crate::so_far::SoFar;
+use crate::variables::new_variable_at;
+use cam_words::{Line, ScriptFault, Word};
+
+impl SoFar {
+    /// `start A NODE BODY`: the word of the variable, and the step.
+    #[tactic(auto, unfolding(crate::specs::Steps::start_line))]
+    pub fn start_line(&self, line: &Line, at: usize) -> Result<(Word, Act), ScriptFault>
+        requires place { at ≤ length line.now.bytes.now }
+        requires within { IsWithin self.now }
+        ensures value { result ≡ start_line self.now line.now.number at line.now.bytes.now }
+        ensures word { IfOk result (λ said. (said.0.0 ≤ said.0.1) × (said.0.1 ≤ length line.now.bytes.now)) }
+        ensures name { IfOk result (λ said. IsTrue (is_name (text_of said.0 line.now.bytes.now))) }
+    {
+        let name = new_variable_at(line, at, &self.variables)?;
+        let (node, at) = line.node_at(name.1, self.nodes)?;
+        let (body, at) = line.declared_at(at, self.bodies.names())?;
+        line.end_at(at)?;
+        let body = body as u8;
+        Ok((name, Act::Start { node, body }))
+    }
+}

@@ -1,0 +1,6 @@
+pub mod Lines
+pub mod FirstLine
+pub mod Words
+pub mod Faults
+pub mod Numbers
+pub mod Expressions

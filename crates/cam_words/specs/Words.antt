@@ -1,0 +1,84 @@
+-- The words of a line, and faults at them. Places in a line count from 0, columns from 1; a word is the places where it begins and ends.
+use Rattle.std.specs.Prelude.{ℕ, ◌+◌, ◌==◌, ◌||◌, Bool, true, false, List, [], ◌∷◌, drop, slice_range, bytes_eq, Option, Some, None, Result, Ok, Err, if◌then◌else◌}
+use Rattle.cam_words.specs.declared.fault.ScriptFault.{ScriptFault}
+use Rattle.cam_words.specs.declared.fault.ScriptFault.TheVariants.{Bad}
+
+-- reading goes on from left to right, up to the first fault
+infixl 10 ◌>>=◌
+abbrev pub ◌>>=◌ : {A B : Type 0} → Result A ScriptFault → (A → Result B ScriptFault) → Result B ScriptFault
+(Ok x) >>= f = f x
+(Err e) >>= f = Err e
+
+-- the fault of this cause, listed in Grammar, at this place of the line of this number
+abbrev pub refuse : {A : Type 0} → ℕ → ℕ → ℕ → Result A ScriptFault
+refuse number at cause = Err (Bad number (at + 1) cause)
+
+-- what was read, or the fault
+abbrev pub or_refuse : {A : Type 0} → Option A → ℕ → ℕ → ℕ → Result A ScriptFault
+or_refuse (Some x) number at cause = Ok x
+or_refuse None number at cause = refuse number at cause
+
+-- the fault where something is wrong
+abbrev pub refuse_if : Bool → ℕ → ℕ → ℕ → Result (Unit {0}) ScriptFault
+refuse_if true number at cause = refuse number at cause
+refuse_if false number at cause = Ok tt
+
+-- Words are separated by blanks and tabs.
+abbrev pub is_blank : ℕ → Bool
+is_blank b = (b == 32) || (b == 9)
+
+-- the place behind the blanks that stand from `at` on
+abbrev pub blanks_end : ℕ → List ℕ → ℕ
+blanks_end at [] = at
+blanks_end at (b ∷ bs) = if is_blank b then blanks_end (at + 1) bs else at
+
+-- the place behind the word that stands from `at` on
+abbrev pub word_end : ℕ → List ℕ → ℕ
+word_end at [] = at
+word_end at (b ∷ bs) = if is_blank b then at else word_end (at + 1) bs
+
+-- the word that begins at this place
+abbrev pub word_from : ℕ → List ℕ → ℕ × ℕ
+word_from start line = (start, word_end start (drop start line))
+
+-- the next word from `at` on: an empty one at the line's end where there is none
+abbrev pub next_word : ℕ → List ℕ → ℕ × ℕ
+next_word at line = word_from (blanks_end at (drop at line)) line
+
+-- the bytes of a word
+abbrev pub text_of : ℕ × ℕ → List ℕ → List ℕ
+text_of word line = slice_range line word.0 word.1
+
+abbrev pub is_missing : ℕ × ℕ → Bool
+is_missing word = word.0 == word.1
+
+-- The next word behind a word that ends at `at`. Where it is missing, cause 4 stands one past the line's last word.
+abbrev pub some_word : ℕ → ℕ → ℕ × ℕ → Result (ℕ × ℕ) ScriptFault
+some_word number at word = if is_missing word then refuse number at 4 else Ok word
+
+abbrev pub word_at : ℕ → ℕ → List ℕ → Result (ℕ × ℕ) ScriptFault
+word_at number at line = some_word number at (next_word at line)
+
+-- No word is left. Where there is one, cause 5 stands at it.
+abbrev pub no_word : ℕ → ℕ × ℕ → Result (Unit {0}) ScriptFault
+no_word number word = if is_missing word then Ok tt else refuse number word.0 5
+
+abbrev pub end_at : ℕ → ℕ → List ℕ → Result (Unit {0}) ScriptFault
+end_at number at line = no_word number (next_word at line)
+
+-- the third word behind one that ends at `at`, empty where there is none: the fourth word of a line
+abbrev pub third_word : ℕ → List ℕ → ℕ × ℕ
+third_word at line = next_word (next_word (next_word at line).1 line).1 line
+
+-- what the table has for this word
+abbrev pub looked_up : {A : Type 0} → List (List ℕ × A) → List ℕ → Option A
+looked_up [] word = None
+looked_up (row ∷ rows) word = if bytes_eq word row.0 then Some row.1 else looked_up rows word
+
+-- the place of this name among the names, counted on from `place`
+abbrev pub place_from : ℕ → List (List ℕ) → List ℕ → Option ℕ
+place_from place [] name = None
+place_from place (n ∷ names) name = if bytes_eq n name then Some place else place_from (place + 1) names name
+
+abbrev pub place_of : List (List ℕ) → List ℕ → Option ℕ
+place_of names name = place_from 0 names name

@@ -1,0 +1,60 @@
+ghost use Rattle.std.specs.Prelude.{◌≡◌};
+ghost use Rattle.cam_words.specs.declared.fault.ScriptFault.TheVariants.{NoMemory};
+ghost use Rattle.cam_words.specs.Faults.{unknown_line};
+
+use crate::causes;
+use std::alloc::{AllocError, AllocFailed};
+use thiserror::Error;
+
+/// The first fault of a script: its line and column, from 1, and its cause, 1 to 12, by [`causes`].
+#[derive(Clone, Copy, Debug, PartialEq, Eq, Error)]
+pub enum ScriptFault {
+    #[error("line {line}, column {column}: S{cause}")]
+    Bad { line: u32, column: u32, cause: u8 },
+    #[error("out of memory")]
+    NoMemory,
+}
+
+impl ScriptFault {
+    /// The fault as that of an unknown line.
+    pub fn as_unknown_line(self) -> ScriptFault
+        ensures { result ≡ unknown_line self }
+    {
+        match self {
+            ScriptFault::Bad {
+                line,
+                column: _,
+                cause: _,
+            } => ScriptFault::Bad {
+                line,
+                column: 1,
+                cause: causes::UNKNOWN_WORD,
+            },
+            ScriptFault::NoMemory => ScriptFault::NoMemory,
+        }
+    }
+}
+
+impl From<cam_base::NoMemory> for ScriptFault {
+    ghost from_gives = { λ _ e. e ≡ NoMemory };
+
+    fn from(_: cam_base::NoMemory) -> ScriptFault {
+        ScriptFault::NoMemory
+    }
+}
+
+impl From<AllocError> for ScriptFault {
+    ghost from_gives = { λ _ e. e ≡ NoMemory };
+
+    fn from(_: AllocError) -> ScriptFault {
+        ScriptFault::NoMemory
+    }
+}
+
+impl<T: Drop> From<AllocFailed<T>> for ScriptFault {
+    ghost from_gives = { λ _ e. e ≡ NoMemory };
+
+    fn from(_: AllocFailed<T>) -> ScriptFault {
+        ScriptFault::NoMemory
+    }
+}
