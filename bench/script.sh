@@ -29,7 +29,7 @@ enum Lines {
     Names,
 }
 
-/// A script of so many lines, all of 32 bytes but the first, which is as long with the rest of its line.
+/// A script of so many lines, each of 32 bytes with its LF.
 fn script(rt: &HostRuntime, lines: Lines, count: u32) -> Result<String, Error> {
     let mut text = String::from_str(rt.alloc(), "nodes                         1\n")?;
     for n in 1..count {
