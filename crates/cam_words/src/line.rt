@@ -76,7 +76,7 @@ impl Line<'_> {
     /// No word is left.
     pub fn end_at(&self, at: usize) -> Result<(), ScriptFault>
         requires { at ≤ length self.now.bytes.now }
-        ensures { result ≡ end_at self.now.number at self.now.bytes.now }
+        ensures value { result ≡ end_at self.now.number at self.now.bytes.now }
     {
         let word = self.next_word(at);
         if word.0 != word.1 {
