@@ -17,7 +17,7 @@ use cam_script::{Stage, parse};
 use std::fmt::Write;
 use std::time::Instant;
 
-const ROUNDS: u32 = 20;
+const ROUNDS: u32 = 4;
 const LINE: u32 = 32;
 const MOST_STEPS: u32 = 512;
 

@@ -1,4 +1,5 @@
 -- What is kept of the place of an action in its body, and how each step of the view moves the place on.
+-- For private functions; the rule itself is in `Work`.
 use Rattle.std.specs.Prelude.{ℕ, ◌≡◌, pos, if◌then◌else◌, List, length, drop, slice_get, unwrap_or}
 use Rattle.cam_event.specs.declared.ViewStep.{ViewStep}
 use Rattle.cam_event.specs.declared.ViewStep.TheVariants as steps

@@ -46,6 +46,7 @@ enum Told {
     Busy,
     Gone,
     Ok,
+    Empty,
     Value(i64),
     Asked,
     Child(Option<i64>),
@@ -64,6 +65,7 @@ fn push(view: &mut View, told: Told) -> Result<(), Fail> {
         Told::Busy => ViewStep::Got(1, Seen::Busy(Name::top(part))),
         Told::Gone => ViewStep::Got(1, Seen::Gone),
         Told::Ok => ViewStep::Got(1, Seen::Done(Answer::Ok)),
+        Told::Empty => ViewStep::Got(1, Seen::Done(Answer::Empty)),
         Told::Value(value) => ViewStep::Got(1, Seen::Done(Answer::Value(value))),
         Told::Asked => ViewStep::Asked(Name::top(part)),
         Told::Child(value) => ViewStep::Child(Name::top(part), value),
@@ -115,6 +117,13 @@ fn statements_are_tried_again_and_leave_their_values(rt: HostRuntime) -> Result<
         (Told::CommitAsked, "Over"),
     ];
     assert_eq!(rt; first_wrong(&rt, &transfer, &retried)?, None);
+    let of_nothing = [
+        (Told::Called, "Wait"),
+        (Told::Empty, "Request(Ask(2))"),
+        (Told::Asked, "Wait"),
+        (Told::Child(Some(4)), "Request(Commit(3))"),
+    ];
+    assert_eq!(rt; first_wrong(&rt, &transfer, &of_nothing)?, None);
     let given_up = [
         (Told::Called, "Wait"),
         (Told::Gone, "Request(Call(0, Read))"),

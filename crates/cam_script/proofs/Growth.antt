@@ -2,12 +2,13 @@
 use Rattle.std.proofs.Common.{◌≡◌, ℕ, Bool, true, false, not, List, [], ◌∷◌, ◌++◌, Option, Some, None, if◌then◌else◌, refl, sym, ap}
 use Rattle.std.specs.Prelude.{bytes_eq, codes}
 use Rattle.std.specs.List.{list_all}
+use Rattle.std.specs.Option.{option_or}
 use Rattle.cam_type.specs.declared.Kind.TheVariants as kinds
 use Rattle.cam_words.specs.Words.{looked_up}
 use Rattle.cam_script.specs.declared.stage.Stage.{Stage}
 use Rattle.cam_script.specs.declared.stage.Stage.TheVariants as stages
 use Rattle.cam_script.specs.Built.{nested_forms, restart_forms, query_forms, cut_forms, body_forms, stop_forms, first_path, with_children, with_queues, with_restarts, with_commits, with_cuts, with_bodies, everything, built_of}
-use Rattle.cam_script.specs.Growth.{has_form, has_kind, kept}
+use Rattle.cam_script.specs.Growth.{has_form, has_kind, kept, later_forms}
 use Rattle.cam_script.proofs.Appended.{left, right}
 
 row_kept : {A : Type 0} (test : A → Bool) (b : Bool) (x : A) (o p : Option A) → test x ≡ true → o ≡ kept test p → (if b then Some x else o) ≡ kept test (if b then Some x else p)
@@ -51,3 +52,15 @@ kinds_kept stages.WithCommits word = front_kept (has_kind stages.WithCommits) wi
 kinds_kept stages.WithCuts word = front_kept (has_kind stages.WithCuts) with_cuts.kinds [] word refl refl
 kinds_kept stages.WithBodies word = front_kept (has_kind stages.WithBodies) with_bodies.kinds [] word refl refl
 kinds_kept stages.Everything word = front_kept (has_kind stages.Everything) everything.kinds [] word refl refl
+
+row_either : {A : Type 0} (b : Bool) (x : A) (o p q : Option A) → o ≡ option_or p q → (if b then Some x else o) ≡ option_or (if b then Some x else p) q
+row_either true x o p q e = refl
+row_either false x o p q e = e
+
+-- What a table in two pieces answers is what its front answers, or else its back.
+either : {A : Type 0} (front back : List (List ℕ × A)) (word : List ℕ) → looked_up (front ++ back) word ≡ option_or (looked_up front word) (looked_up back word)
+either [] back word = refl
+either (row ∷ rows) back word = row_either (bytes_eq word row.0) row.1 (looked_up (rows ++ back) word) (looked_up rows word) (looked_up back word) (either rows back word)
+
+pub forms_either : (word : List ℕ) → looked_up everything.forms word ≡ option_or (looked_up with_children.forms word) (looked_up later_forms word)
+forms_either word = either with_children.forms later_forms word

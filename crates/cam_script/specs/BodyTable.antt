@@ -1,4 +1,5 @@
 -- The bodies whose `end` was read, and how their sizes are kept.
+-- For private functions; the rule itself is in `SoFar`.
 use Rattle.std.specs.Prelude.{ℕ, ◌+◌, ◌*◌, min, max, List, [], ◌∷◌, ◌++◌}
 use Rattle.std.specs.Option.{option_map_or}
 use Rattle.cam_words.specs.Words.{place_of}

@@ -1,11 +1,13 @@
 -- From which stage on a line and a kind are built.
-use Rattle.std.specs.Prelude.{ℕ, Bool, nat_le, Option, Some, None, if◌then◌else◌}
+-- For private functions; the rule itself is in `Built`.
+use Rattle.std.specs.Prelude.{ℕ, Bool, nat_le, List, ◌++◌, Option, Some, None, if◌then◌else◌}
 use Rattle.cam_type.specs.declared.Kind.{Kind}
 use Rattle.cam_type.specs.declared.Kind.TheVariants as kinds
 use Rattle.cam_script.specs.declared.Form.{Form}
 use Rattle.cam_script.specs.declared.Form.TheVariants as forms
 use Rattle.cam_script.specs.declared.stage.Stage.{Stage}
 use Rattle.cam_script.specs.declared.stage.Stage.TheVariants as stages
+use Rattle.cam_script.specs.Built.{restart_forms, query_forms, cut_forms, body_forms, stop_forms}
 
 -- The stages in their order.
 abbrev pub level : Stage → ℕ
@@ -60,3 +62,7 @@ has_kind stage kind = reaches stage (first_stage_of_kind kind)
 abbrev pub kept : {A : Type 0} → (A → Bool) → Option A → Option A
 kept test (Some x) = if test x then Some x else None
 kept test None = None
+
+-- what the stages from `WithRestarts` on bring
+abbrev pub later_forms : List (List ℕ × Form)
+later_forms = restart_forms ++ query_forms ++ cut_forms ++ body_forms ++ stop_forms

@@ -1,12 +1,12 @@
-ghost use Rattle.std.specs.Prelude.{◌≡◌, ◌≤◌, length, Ok, Err, IfOk, IsTrue, OnOk};
+ghost use Rattle.std.specs.Prelude.{◌≡◌, ◌≤◌, length, Some, Ok, Err, IfOk, IsTrue, OnOk};
 ghost use Rattle.cam_words.specs.Words.{text_of};
 ghost use Rattle.cam_words.specs.Numbers.{is_name};
-ghost use Rattle.cam_script.specs.SoFar.{with_body};
+ghost use Rattle.cam_script.specs.SoFar.{Writing as AnyWriting, with_body, with_statement};
 ghost use Rattle.cam_script.specs.Declarations.{body_line};
 
-use crate::BodyText;
 use crate::body_table::Writing;
 use crate::so_far::SoFar;
+use crate::{BodyText, Statement};
 use cam_base::NoMemory;
 use cam_words::{Label, Line, ScriptFault, Word};
 
@@ -34,6 +34,17 @@ impl SoFar {
             name: Label::of_word(alloc, name)?,
             statements: BodyText::new(alloc),
         });
+        Ok(())
+    }
+
+    /// After a statement of the body that is being written.
+    pub fn push_statement(&mut self, statement: Statement) -> Result<(), NoMemory>
+        ensures { (w : AnyWriting) → self.old.writing ≡ Some w → OnOk result (self.new ≡ with_statement self.old w statement) }
+    {
+        if let Some(mut writing) = self.writing.take() {
+            writing.statements.push_copy(&statement)?;
+            self.writing = Some(writing);
+        }
         Ok(())
     }
 }

@@ -1,7 +1,8 @@
 ghost use Rattle.std.specs.Prelude.{◌≡◌};
 ghost use Rattle.cam_type.specs.declared.Kind.TheVariants as kinds;
 ghost use Rattle.cam_words.specs.Words.{looked_up};
-ghost use Rattle.cam_script.specs.Built.{everything, built_of};
+ghost use Rattle.cam_script.specs.Built.{with_children, everything, built_of};
+ghost use Rattle.cam_script.specs.Growth.{later_forms};
 
 use crate::{Form, Stage};
 use cam_type::Kind;
@@ -31,8 +32,19 @@ impl Stage {
 }
 
 /// The line that a word begins.
+#[tactic(auto, using(crate::proofs::Growth::forms_either))]
 fn form_named(word: &[u8]) -> Option<Form>
     ensures { result ≡ looked_up everything.forms word.now }
+{
+    match first_form_named(word) {
+        Some(form) => Some(form),
+        None => later_form_named(word),
+    }
+}
+
+/// The line that a word begins, of the first two stages.
+fn first_form_named(word: &[u8]) -> Option<Form>
+    ensures { result ≡ looked_up with_children.forms word.now }
 {
     if word == b"nodes".as_slice() {
         Some(Form::Nodes)
@@ -58,7 +70,16 @@ fn form_named(word: &[u8]) -> Option<Form>
         Some(Form::Lose)
     } else if word == b"drain".as_slice() {
         Some(Form::Drain)
-    } else if word == b"restart".as_slice() {
+    } else {
+        None
+    }
+}
+
+/// The line that a word begins, of the later stages.
+fn later_form_named(word: &[u8]) -> Option<Form>
+    ensures { result ≡ looked_up later_forms word.now }
+{
+    if word == b"restart".as_slice() {
         Some(Form::Restart)
     } else if word == b"query".as_slice() {
         Some(Form::Query)

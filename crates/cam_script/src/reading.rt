@@ -1,7 +1,7 @@
 ghost use Rattle.std.specs.Prelude.{◌≡◌, ◌≤◌, length, Some, None, Ok, Err, IsTrue, IsFalse, IfOk};
 ghost use Rattle.cam_script.specs.SoFar.{Writing as AnyWriting, step_cost};
 ghost use Rattle.cam_script.specs.Built.{built_of};
-ghost use Rattle.cam_script.specs.Order.{is_too_many};
+ghost use Rattle.cam_script.specs.Order.{is_step, is_too_many};
 ghost use Rattle.cam_script.specs.Grammar.{statement_of, in_body, act_line, outside, by_place, begins_with_hash, with_word, read_line};
 ghost use Rattle.cam_script.specs.Parse.{Leads, IsWithin, costs_one};
 
@@ -10,6 +10,7 @@ use crate::commit::commit_statement;
 use crate::cut::cut_line;
 use crate::deliver::deliver_line;
 use crate::drain::drain_line;
+use crate::end::end_line;
 use crate::lose::lose_line;
 use crate::nodes::nodes_line;
 use crate::order::may_stand;
@@ -91,7 +92,7 @@ impl SoFar {
     {
         match form {
             Form::End => {
-                line.end_at(at)?;
+                end_line(line, at)?;
                 self.close_body()?;
                 Ok(())
             }
@@ -125,7 +126,6 @@ impl SoFar {
     }
 
     /// Reads a line outside bodies.
-    #[tactic(auto, using(crate::proofs::Costs::room_for))]
     fn read_outside(
         &mut self,
         stage: Stage,
@@ -155,6 +155,28 @@ impl SoFar {
                 self.open_body(line.text(name))?;
                 Ok(())
             }
+            Form::Child | Form::End => Err(line.fault(0, causes::MISPLACED)),
+            _ => self.read_step(stage, form, line, at),
+        }
+    }
+
+    /// Reads a step.
+    #[tactic(auto, using(crate::proofs::Costs::room_for))]
+    fn read_step(
+        &mut self,
+        stage: Stage,
+        form: Form,
+        line: &Line,
+        at: usize,
+    ) -> Result<(), ScriptFault>
+        requires within { IsWithin self.old }
+        requires outside { self.old.writing ≡ None }
+        requires step { IsTrue (is_step form) }
+        requires room { IsFalse (is_too_many self.old form at line.now.bytes.now) }
+        requires place { at ≤ length line.now.bytes.now }
+        ensures { Leads result self.new (outside (built_of stage) self.old form line.now.number at line.now.bytes.now) }
+    {
+        match form {
             Form::Begin => {
                 let (name, act) = self.begin_line(line, at)?;
                 self.push_binding(line.number, line.text(name), Binding::Begin, act)?;

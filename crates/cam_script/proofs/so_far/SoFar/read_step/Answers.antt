@@ -2,7 +2,7 @@ use Rattle.std.proofs.Common.{sym, subst}
 use Rattle.std.specs.Prelude.{IsFalse}
 use Rattle.cam_script.specs.Order.{is_too_many}
 use Rattle.cam_script.proofs.Costs.{room_to_start}
-use Rattle.cam_script.proofs.so_far.SoFar.read_outside.Goals as goal
+use Rattle.cam_script.proofs.so_far.SoFar.read_step.Goals as goal
 
 pub push_binding-requires-in-Start-clause-room : goal.push_binding-requires-in-Start-clause-room
 push_binding-requires-in-Start-clause-room c =
