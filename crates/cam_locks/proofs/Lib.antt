@@ -1,0 +1,4 @@
+pub mod Lists
+pub mod Replaying
+pub mod Rising
+pub mod Restoring

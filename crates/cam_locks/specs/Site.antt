@@ -1,0 +1,48 @@
+-- What a lock table is seen as: the live operations of its site, and the outcomes that the site was informed of.
+use Rattle.std.specs.Prelude.{◌≡◌, ℕ, ◌≤◌, ◌<◌, true, eqb, Bool, false, ◌&&◌, List, [], ◌∷◌, slice_get}
+use Rattle.std.specs.Option.{option_map_or}
+use Rattle.cam_names.specs.declared.name.Name.{Name}
+use Rattle.cam_type.specs.declared.ObjectDecl.{ObjectDecl}
+use Rattle.cam_type.specs.declared.State.{State}
+use Rattle.cam_type.specs.declared.State.TheVariants.{Register}
+use Rattle.cam_type.specs.declared.Op.{Op}
+use Rattle.cam_type.specs.Table.{kind_of, fits}
+use Rattle.cam_locks.specs.declared.LiveOp.{LiveOp}
+
+pub record Site : Type 0 where
+  -- the declared objects, and the node of the site
+  pub objects : List ObjectDecl
+  pub node : ℕ
+  -- the live operations, in the order in which they were performed
+  pub live : List LiveOp
+  -- the actions of whose commit, and of whose abort, the site was informed
+  pub committed : List Name
+  pub aborted : List Name
+  -- the index of the next operation
+  pub next : ℕ
+
+-- a lock table: its site, and for how many more outcomes it has room
+pub record TableView : Type 0 where
+  pub site : Site
+  pub spare : ℕ
+
+-- whether the object stands at the node, and whether besides the op fits it
+abbrev pub is_here : List ObjectDecl → ℕ → ℕ → Bool
+is_here objects node x = option_map_or (λ o. eqb o.node node) (slice_get objects x) false
+
+abbrev pub is_fit : List ObjectDecl → ℕ → ℕ → Op → Bool
+is_fit objects node x op = option_map_or (λ o. eqb o.node node && fits (kind_of o.start) op) (slice_get objects x) false
+
+-- the start state of an object; what is not declared is a register that begins with 0
+abbrev pub start_of : List ObjectDecl → ℕ → State
+start_of objects x = option_map_or (λ o. o.start) (slice_get objects x) (Register (Rattle.std.specs.Prelude.pos 0))
+
+-- the indices of the operations rise, from `low` on, and stay below the next index
+abbrev pub IndicesRise : ℕ → List LiveOp → ℕ → Type 0
+IndicesRise low [] next = low ≤ next
+IndicesRise low (o ∷ os) next = (low ≤ o.index) × IndicesRise (Rattle.std.specs.Prelude.suc o.index) os next
+
+-- each operation is on an object of the node, and fits it
+abbrev pub AllFit : List ObjectDecl → ℕ → List LiveOp → Type 0
+AllFit objects node [] = Unit {0}
+AllFit objects node (o ∷ os) = (is_fit objects node o.object o.op ≡ true) × AllFit objects node os

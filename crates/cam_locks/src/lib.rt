@@ -1,0 +1,42 @@
+//! Moss's lock table: nested locks on the objects of one site.
+//!
+//! Stands on `cam_base` (lists), `cam_names`, `cam_type` (objects and the table of operations) and `cam_know` (what a restart knows).
+//! Its main clause is that of [`LockTable::try_lock_and_apply`].
+#![tactic(auto)]
+
+mod names;
+mod operations;
+mod restore;
+mod table;
+
+pub use table::LockTable;
+
+#[cfg(test)]
+mod tests;
+
+use cam_base::Sequence;
+use cam_names::Name;
+use cam_type::{Answer, Op};
+
+/// A live operation of a site: its place in the site's order, whose it is, and what it did to which object.
+#[derive(Clone, Copy, Debug)]
+pub struct LiveOp {
+    /// 0 to 999,999,999, and rising along the site's order.
+    pub index: u32,
+    /// The action that it was performed for; after a restart its family.
+    pub action: Name,
+    pub object: u8,
+    pub op: Op,
+}
+
+/// Live operations, in the site's order.
+pub type LiveOps = Sequence<LiveOp>;
+
+/// The answer of [`LockTable::try_lock_and_apply`].
+#[derive(Clone, Copy, Debug)]
+pub enum Grant {
+    /// The operation was done, with this answer.
+    Done(Answer),
+    /// This action stands in the way.
+    Conflict(Name),
+}

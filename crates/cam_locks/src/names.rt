@@ -1,0 +1,99 @@
+ghost use Rattle.std.specs.Prelude.{◌≡◌, ◌+◌, ◌≤◌, [], OnOk, IfOk};
+ghost use Rattle.cam_know.specs.Known.{lift_by};
+ghost use Rattle.cam_locks.specs.Names.{has_name, with_name};
+
+use cam_base::NoMemory;
+use cam_names::Name;
+use std::alloc::Global;
+use std::marker::Model;
+
+/// Names of actions, none of them twice, in the order in which they came in. Room for more can be reserved.
+#[derive(Drop)]
+pub(crate) struct Names {
+    names: Vec<Name>,
+}
+
+impl Model for Names {
+    ghost use Rattle.std.specs.Prelude.{◌-◌, vec_len};
+    ghost use Rattle.std.specs.Vec.{vec_capacity};
+    ghost use Rattle.cam_locks.specs.Names.{NamesView};
+
+    ghost Value = { NamesView };
+
+    ghost view = { λ n. record { names = n.names.items; spare = vec_capacity n.names - vec_len n.names } };
+}
+
+impl Names {
+    pub(crate) fn new(alloc: Global) -> Names
+        ensures { result.names ≡ [] }
+    {
+        Names {
+            names: Vec::new(alloc),
+        }
+    }
+
+    /// Whether the name is among them.
+    pub(crate) fn contains(&self, name: &Name) -> bool
+        ensures { result ≡ has_name self.now.names name.now }
+    {
+        for other in self.names.as_slice() {
+            if name == other {
+                return true;
+            }
+        }
+        false
+    }
+
+    /// Makes room for this many more.
+    pub(crate) fn reserve(&mut self, count: usize) -> Result<(), NoMemory>
+        ensures names { self.new.names ≡ self.old.names }
+        ensures ok { OnOk result (count ≤ self.new.spare) }
+        ensures kept { self.old.spare ≤ self.new.spare }
+    {
+        self.names.reserve(count)?;
+        Ok(())
+    }
+
+    /// Adds a name, for which there is room, where it is not among them. It takes no memory.
+    pub(crate) fn put(&mut self, name: &Name)
+        requires { 1 ≤ self.old.spare }
+        ensures names { self.new.names ≡ with_name self.old.names name.now }
+        ensures spare { self.old.spare ≤ self.new.spare + 1 }
+    {
+        if !self.contains(name) {
+            self.names.push_reserved(*name);
+        }
+    }
+
+    /// Adds a name where it is not among them.
+    pub(crate) fn add(&mut self, name: &Name) -> Result<(), NoMemory>
+        ensures ok { OnOk result (self.new.names ≡ with_name self.old.names name.now) }
+    {
+        self.reserve(1)?;
+        self.put(name);
+        Ok(())
+    }
+
+    /// The same names.
+    pub(crate) fn copy(&self) -> Result<Names, NoMemory>
+        ensures { IfOk result (λ copy. copy.names ≡ self.now.names) }
+    {
+        let names = self.names.iter().copied().collect(*self.names.allocator())?;
+        Ok(Names { names })
+    }
+
+    /// Climbs from the name to the parent while the present one is among the names. None where that goes past the top.
+    pub(crate) fn lift(&self, name: &Name) -> Option<Name>
+        ensures { result ≡ lift_by (has_name self.now.names) name.now }
+    {
+        // A name has a part.
+        let _parts = name.parts();
+        if !self.contains(name) {
+            return Some(*name);
+        }
+        match name.parent() {
+            Some(parent) => self.lift(&parent),
+            None => None,
+        }
+    }
+}

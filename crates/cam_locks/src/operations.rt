@@ -1,0 +1,73 @@
+ghost use Rattle.std.specs.Prelude.{◌≡◌, IfOk, filter, not};
+ghost use Rattle.cam_locks.specs.Site.{start_of};
+ghost use Rattle.cam_locks.specs.Moss.{is_on, replay};
+ghost use Rattle.cam_locks.specs.Calls.{is_below, is_of};
+
+use crate::{LiveOp, LiveOps};
+use cam_base::NoMemory;
+use cam_names::Name;
+use cam_type::{Objects, State, apply};
+use std::alloc::Global;
+
+/// An equal list of declarations.
+pub(crate) fn copy_objects(alloc: Global, objects: &Objects) -> Result<Objects, NoMemory>
+    ensures { IfOk result (λ copy. copy ≡ objects.now) }
+{
+    let mut copy = Objects::new(alloc);
+    for declared in objects.as_slice() {
+        copy.push(declared.copy()?)?;
+    }
+    Ok(copy)
+}
+
+/// The start state of an object.
+pub(crate) fn start_of(objects: &Objects, object: u8) -> Result<State, NoMemory>
+    ensures { IfOk result (λ state. state ≡ start_of objects.now object) }
+{
+    match objects.get(object as usize) {
+        Some(declared) => declared.start.copy(),
+        None => Ok(State::Register(0)),
+    }
+}
+
+/// Those of the operations that are on the object.
+pub(crate) fn on_object(
+    alloc: Global,
+    operations: &[LiveOp],
+    object: u8,
+) -> Result<LiveOps, NoMemory>
+    ensures { IfOk result (λ on. on ≡ filter (is_on object) operations.now) }
+{
+    let mut on = LiveOps::new(alloc);
+    for operation in operations {
+        if operation.object == object {
+            on.push_copy(operation)?;
+        }
+    }
+    Ok(on)
+}
+
+/// The state after these operations, in their order.
+pub(crate) fn replay(state: State, operations: &[LiveOp]) -> Result<State, NoMemory>
+    ensures { IfOk result (λ after. after ≡ replay state operations.now) }
+{
+    let mut state = state;
+    for operation in operations {
+        apply(&mut state, &operation.op)?;
+    }
+    Ok(state)
+}
+
+/// Whether the operation is of the family.
+pub(crate) fn is_of(family: &Name, operation: &LiveOp) -> bool
+    ensures { result ≡ is_of family.now operation.now }
+{
+    *family == operation.action.family()
+}
+
+/// Leaves out the operations of an action and of all below it. It takes no memory.
+pub(crate) fn drop_below(operations: &mut Vec<LiveOp>, name: &Name)
+    ensures { operations.new.items ≡ filter (λ o. not (is_below name.now o)) operations.old.items }
+{
+    operations.retain(|operation| !name.is_ancestor(&operation.action));
+}

@@ -1,0 +1,173 @@
+ghost use Rattle.std.specs.Prelude.{◌≡◌, ◌≤◌, ◌++◌, [], length, insert, OnOk, IfOk, flat_map, map};
+ghost use Rattle.cam_know.specs.Known.{committed_name, aborted_name};
+ghost use Rattle.cam_locks.specs.Names.{with_names};
+ghost use Rattle.cam_locks.specs.Restored.{of_family, ops_of, put_in_order, put_all, next_after, all_held, restored, CanRestore, InRange};
+
+use crate::names::Names;
+use crate::operations::copy_objects;
+use crate::table::LockTable;
+use crate::{LiveOp, LiveOps};
+use cam_base::NoMemory;
+use cam_know::{Know, Outcome};
+use cam_names::Name;
+use cam_type::{Held, HeldList, HeldOp, Objects};
+use std::alloc::Global;
+
+impl LockTable {
+    /// The table that a restart makes of what was secured, by what is known: the operations of each held family whose abort is not known,
+    /// in order of their indices, each with its family as its action.
+    pub fn restore(
+        alloc: Global,
+        objects: &Objects,
+        node: u8,
+        held: &HeldList,
+        know: &Know,
+    ) -> Result<LockTable, NoMemory>
+        requires { CanRestore objects.now node held.now }
+        ensures { IfOk result (λ table. table.site ≡ restored objects.now node held.now know.now) }
+    {
+        let kept = kept_operations(alloc, held.as_slice(), know)?;
+        Ok(LockTable {
+            objects: copy_objects(alloc, objects)?,
+            node,
+            live: in_order(alloc, kept.as_slice())?,
+            committed: committed_names(alloc, know.outcomes())?,
+            aborted: aborted_names(alloc, know.outcomes())?,
+            next: next_after(held.as_slice()),
+        })
+    }
+}
+
+/// The operations of each held family whose abort is not known.
+fn kept_operations(alloc: Global, held: &[Held], know: &Know) -> Result<LiveOps, NoMemory>
+    ensures { IfOk result (λ kept. kept ≡ flat_map (ops_of know.now) held.now) }
+{
+    let mut kept = LiveOps::new(alloc);
+    for family in held {
+        keep_family(&mut kept, family, know)?;
+    }
+    Ok(kept)
+}
+
+/// Adds the operations of a held family, unless its abort is known.
+fn keep_family(kept: &mut LiveOps, family: &Held, know: &Know) -> Result<(), NoMemory>
+    ensures { OnOk result (kept.new ≡ kept.old ++ ops_of know.now family.now) }
+{
+    if know.is_aborted(&family.family) {
+        return Ok(());
+    }
+    add_family(kept, &family.family, family.ops.as_slice())
+}
+
+/// Adds held operations, with their family as their action.
+fn add_family(kept: &mut LiveOps, family: &Name, ops: &[HeldOp]) -> Result<(), NoMemory>
+    ensures { OnOk result (kept.new ≡ kept.old ++ map (of_family family.now) ops.now) }
+{
+    for op in ops {
+        kept.push_copy(&of_family(family, op))?;
+    }
+    Ok(())
+}
+
+/// A held operation, with its family as its action.
+fn of_family(family: &Name, op: &HeldOp) -> LiveOp
+    ensures { result ≡ of_family family.now op.now }
+{
+    LiveOp {
+        index: op.index,
+        action: *family,
+        object: op.object,
+        op: op.op,
+    }
+}
+
+/// The operations in order of their indices.
+fn in_order(alloc: Global, operations: &[LiveOp]) -> Result<Vec<LiveOp>, NoMemory>
+    ensures { IfOk result (λ ordered. ordered.items ≡ put_all operations.now []) }
+{
+    let mut ordered = Vec::new(alloc);
+    for operation in operations {
+        let place = place_of(ordered.as_slice(), operation);
+        ordered.insert(place, *operation)?;
+    }
+    Ok(ordered)
+}
+
+/// The first place at which the index is not less.
+fn place_of(ordered: &[LiveOp], operation: &LiveOp) -> usize
+    ensures value { put_in_order operation.now ordered.now ≡ insert ordered.now result operation.now }
+    ensures within { result ≤ length ordered.now }
+{
+    for (place, other) in ordered.iter().enumerate() {
+        if operation.index <= other.index {
+            return place;
+        }
+    }
+    ordered.len()
+}
+
+/// The actions whose commit is among the outcomes.
+fn committed_names(alloc: Global, outcomes: &[Outcome]) -> Result<Names, NoMemory>
+    ensures { IfOk result (λ names. names.names ≡ with_names [] (flat_map committed_name outcomes.now)) }
+{
+    let mut names = Names::new(alloc);
+    for outcome in outcomes {
+        add_if_committed(&mut names, outcome)?;
+    }
+    Ok(names)
+}
+
+/// Adds the action of which the outcome is a commit.
+fn add_if_committed(names: &mut Names, outcome: &Outcome) -> Result<(), NoMemory>
+    ensures { OnOk result (names.new.names ≡ with_names names.old.names (committed_name outcome.now)) }
+{
+    match outcome {
+        Outcome::Committed(name, _) => names.add(name),
+        _ => Ok(()),
+    }
+}
+
+/// The actions whose abort is among the outcomes.
+fn aborted_names(alloc: Global, outcomes: &[Outcome]) -> Result<Names, NoMemory>
+    ensures { IfOk result (λ names. names.names ≡ with_names [] (flat_map aborted_name outcomes.now)) }
+{
+    let mut names = Names::new(alloc);
+    for outcome in outcomes {
+        add_if_aborted(&mut names, outcome)?;
+    }
+    Ok(names)
+}
+
+/// Adds the action of which the outcome is an abort.
+fn add_if_aborted(names: &mut Names, outcome: &Outcome) -> Result<(), NoMemory>
+    ensures { OnOk result (names.new.names ≡ with_names names.old.names (aborted_name outcome.now)) }
+{
+    match outcome {
+        Outcome::Aborted(name) => names.add(name),
+        _ => Ok(()),
+    }
+}
+
+/// One above the greatest index of the held operations, and 0 where there is none.
+fn next_after(held: &[Held]) -> u32
+    requires { InRange (all_held held.now) }
+    ensures value { result ≡ next_after (all_held held.now) 0 }
+{
+    let mut next = 0;
+    for family in held {
+        next = next_over(family.ops.as_slice(), next);
+    }
+    next
+}
+
+/// The greater of a number and one above the greatest index of these operations.
+fn next_over(ops: &[HeldOp], first: u32) -> u32
+    requires { InRange ops.now }
+    ensures { result ≡ next_after ops.now first }
+{
+    let mut next = first;
+    for op in ops {
+        next = next.max(op.index + 1);
+    }
+    next
+}

@@ -1,0 +1,252 @@
+ghost use Rattle.std.specs.Prelude.{◌≡◌, ◌+◌, ◌≤◌, ◌∷◌, ◌++◌, IsTrue, IfOk, OnOk, OnErr, filter, not, map};
+ghost use Rattle.cam_names.specs.Names.{is_ancestor};
+ghost use Rattle.cam_type.specs.declared.HeldOp.{HeldOp};
+ghost use Rattle.cam_locks.specs.Site.{Site, is_here, is_fit, IndicesRise};
+ghost use Rattle.cam_locks.specs.Moss.{first_conflict, holder, is_conflict, is_in_the_way, is_settled, value, settled, lift};
+ghost use Rattle.cam_locks.specs.Calls.{new_site, with_operation, grant, after_grant, with_commit, with_abort, is_below, is_of, held, held_op, has_family};
+
+use crate::names::Names;
+use crate::operations::{copy_objects, drop_below, is_of, on_object, replay, start_of};
+use crate::{Grant, LiveOp, LiveOps};
+use cam_base::NoMemory;
+use cam_names::Name;
+use cam_type::{Held, HeldOp, HeldOps, Objects, Op, State, apply, compatible, mode_of};
+use std::alloc::Global;
+use std::marker::Model;
+
+/// Nested locks on the objects of one site. Seen as the site's live operations in order, the outcomes that the site was informed of, and
+/// the next index; beside them stands for how many more outcomes there is room.
+#[derive(Drop)]
+pub struct LockTable {
+    pub(crate) objects: Objects,
+    pub(crate) node: u8,
+    pub(crate) live: Vec<LiveOp>,
+    pub(crate) committed: Names,
+    pub(crate) aborted: Names,
+    pub(crate) next: u32,
+}
+
+impl Model for LockTable {
+    ghost use Rattle.std.specs.Prelude.{min, ◌≤◌};
+    ghost use Rattle.cam_locks.specs.Site.{TableView, IndicesRise};
+
+    ghost Value = { TableView };
+
+    ghost view = { λ t. record { site = record { objects = t.objects; node = t.node; live = t.live.items; committed = t.committed.names; aborted = t.aborted.names; next = t.next }; spare = min t.committed.spare t.aborted.spare } };
+
+    ghost invariant = { λ t. IndicesRise 0 t.live.items t.next };
+}
+
+impl LockTable {
+    /// The table of a node, with no operations.
+    pub fn new(alloc: Global, objects: &Objects, node: u8) -> Result<LockTable, NoMemory>
+        ensures { IfOk result (λ table. table.site ≡ new_site objects.now node) }
+    {
+        Ok(LockTable {
+            objects: copy_objects(alloc, objects)?,
+            node,
+            live: Vec::new(alloc),
+            committed: Names::new(alloc),
+            aborted: Names::new(alloc),
+            next: 0,
+        })
+    }
+
+    /// Does an operation of an action on an object, unless a live operation conflicts: then the lift of the first one is named, and
+    /// nothing changes.
+    pub fn try_lock_and_apply(
+        &mut self,
+        name: &Name,
+        object: u8,
+        op: &Op,
+    ) -> Result<Grant, NoMemory>
+        requires fits { IsTrue (is_fit self.old.site.objects self.old.site.node object op.now) }
+        requires index { self.old.site.next ≤ 999999999 }
+        ensures grant { IfOk result (λ granted. granted ≡ grant self.old.site name.now object op.now) }
+        ensures ok { OnOk result (self.new.site ≡ after_grant self.old.site name.now object op.now) }
+        ensures err { OnErr result (self.new.site ≡ self.old.site) }
+        ensures spare { self.new.spare ≡ self.old.spare }
+    {
+        if let Some(holder) = self.holder(name, object, op) {
+            return Ok(Grant::Conflict(holder));
+        }
+        let mut state = self.value_met(object)?;
+        let answer = apply(&mut state, op)?;
+        self.live.push(LiveOp {
+            index: self.next,
+            action: *name,
+            object,
+            op: *op,
+        })?;
+        self.next += 1;
+        Ok(Grant::Done(answer))
+    }
+
+    /// Makes room for this many more outcomes. Nothing else changes.
+    pub fn reserve(&mut self, outcomes: u64) -> Result<(), NoMemory>
+        ensures site { self.new.site ≡ self.old.site }
+        ensures ok { OnOk result (outcomes ≤ self.new.spare) }
+        ensures kept { self.old.spare ≤ self.new.spare }
+    {
+        self.committed.reserve(outcomes as usize)?;
+        self.aborted.reserve(outcomes as usize)
+    }
+
+    /// The site was informed of the commit of an action. It takes no memory.
+    pub fn commit(&mut self, name: &Name)
+        requires { 1 ≤ self.old.spare }
+        ensures site { self.new.site ≡ with_commit self.old.site name.now }
+        ensures spare { self.old.spare ≤ self.new.spare + 1 }
+    {
+        self.committed.put(name);
+    }
+
+    /// The site was informed of the abort of an action: the operations of the action and of all below it are dropped. It takes no
+    /// memory.
+    pub fn abort(&mut self, name: &Name)
+        requires { 1 ≤ self.old.spare }
+        ensures site { self.new.site ≡ with_abort self.old.site name.now }
+        ensures spare { self.old.spare ≤ self.new.spare + 1 }
+    {
+        self.aborted.put(name);
+        drop_below(&mut self.live, name);
+    }
+
+    /// An equal table, but for its room.
+    pub fn copy(&self) -> Result<LockTable, NoMemory>
+        ensures { IfOk result (λ copy. copy.site ≡ self.now.site) }
+    {
+        let alloc = *self.live.allocator();
+        let live = self.live.iter().copied().collect(alloc)?;
+        let committed = self.committed.copy()?;
+        let aborted = self.aborted.copy()?;
+        Ok(LockTable {
+            objects: copy_objects(alloc, &self.objects)?,
+            node: self.node,
+            live,
+            committed,
+            aborted,
+            next: self.next,
+        })
+    }
+
+    /// What is to be secured of a family: all its live operations in order, reads included. The locks stay.
+    pub fn secure(&self, family: &Name, count: u32) -> Result<Held, NoMemory>
+        ensures { IfOk result (λ secured. secured ≡ held self.now.site family.now count) }
+    {
+        let mut ops = HeldOps::new(*self.live.allocator());
+        for operation in self.live.as_slice() {
+            if is_of(family, operation) {
+                ops.push(held_op(operation))?;
+            }
+        }
+        Ok(Held {
+            family: *family,
+            count,
+            ops,
+        })
+    }
+
+    /// Whether a live operation of the family stands here.
+    pub fn has_family(&self, family: &Name) -> bool
+        ensures { result ≡ has_family self.now.site family.now }
+    {
+        for operation in self.live.as_slice() {
+            if is_of(family, operation) {
+                return true;
+            }
+        }
+        false
+    }
+
+    /// The value of an object that is handed up past the top.
+    pub fn value(&self, object: u8) -> Result<State, NoMemory>
+        requires { IsTrue (is_here self.now.site.objects self.now.site.node object) }
+        ensures { IfOk result (λ state. state ≡ settled self.now.site object) }
+    {
+        let mut operations = LiveOps::new(*self.live.allocator());
+        for operation in self.live.as_slice() {
+            if self.is_settled(object, operation) {
+                operations.push_copy(operation)?;
+            }
+        }
+        replay(start_of(&self.objects, object)?, operations.as_slice())
+    }
+
+    /// The index of the next operation, which is above those of all live ones.
+    pub fn next_index(&self) -> u32
+        ensures value { result ≡ self.now.site.next }
+        ensures order { IndicesRise 0 self.now.site.live self.now.site.next }
+    {
+        self.next
+    }
+}
+
+impl LockTable {
+    /// The lift of the first live operation that conflicts.
+    fn holder(&self, name: &Name, object: u8, op: &Op) -> Option<Name>
+        ensures { result ≡ holder self.now.site name.now object op.now }
+    {
+        match self.first_conflict(name, object, op) {
+            Some(operation) => self.committed.lift(&operation.action),
+            None => None,
+        }
+    }
+
+    /// The first live operation that conflicts.
+    fn first_conflict(&self, name: &Name, object: u8, op: &Op) -> Option<LiveOp>
+        ensures { result ≡ first_conflict self.now.site name.now object op.now }
+    {
+        for operation in self.live.as_slice() {
+            if self.is_conflict(name, object, op, operation) {
+                return Some(*operation);
+            }
+        }
+        None
+    }
+
+    /// Whether a live operation conflicts.
+    fn is_conflict(&self, name: &Name, object: u8, op: &Op, operation: &LiveOp) -> bool
+        ensures { result ≡ is_conflict self.now.site name.now object op.now operation.now }
+    {
+        operation.object == object
+            && is_in_the_way(name, &self.committed.lift(&operation.action))
+            && !compatible(mode_of(&operation.op), mode_of(op))
+    }
+
+    /// Whether an operation is on the object and handed up past the top.
+    fn is_settled(&self, object: u8, operation: &LiveOp) -> bool
+        ensures { result ≡ is_settled self.now.site object operation.now }
+    {
+        operation.object == object && self.committed.lift(&operation.action).is_none()
+    }
+
+    /// The value that an operation on the object meets.
+    fn value_met(&self, object: u8) -> Result<State, NoMemory>
+        ensures { IfOk result (λ state. state ≡ value self.now.site object) }
+    {
+        let operations = on_object(*self.live.allocator(), self.live.as_slice(), object)?;
+        replay(start_of(&self.objects, object)?, operations.as_slice())
+    }
+}
+
+/// A lift stands in the way where it is neither past the top nor an ancestor.
+fn is_in_the_way(name: &Name, lift: &Option<Name>) -> bool
+    ensures { result ≡ is_in_the_way name.now lift.now }
+{
+    match lift {
+        Some(holder) => !holder.is_ancestor(name),
+        None => false,
+    }
+}
+
+/// The operation as it is held.
+fn held_op(operation: &LiveOp) -> HeldOp
+    ensures { result ≡ held_op operation.now }
+{
+    HeldOp {
+        index: operation.index,
+        object: operation.object,
+        op: operation.op,
+    }
+}
