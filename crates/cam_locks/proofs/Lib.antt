@@ -1,4 +1,11 @@
 pub mod Lists
 pub mod Replaying
 pub mod Rising
+pub mod Members
+pub mod Lifting
+pub mod Leading
+pub mod Values
+pub mod Keeping
+pub mod Finding
+pub mod Tidying
 pub mod Restoring

@@ -19,3 +19,7 @@ rise_filter test low (o ∷ os) next h = kept (test o) (rise_filter test (suc o.
 pub rise_push : (low : ℕ) (os : List LiveOp) (next : ℕ) (o : LiveOp) → IndicesRise low os next → o.index ≡ next → IndicesRise low (os ++ o ∷ []) (next + 1)
 rise_push low [] next o h is = let at : low ≤ next = h in (omega arith, omega arith)
 rise_push low (p ∷ os) next o h is = (h.0, rise_push (suc p.index) os next o h.1 is)
+
+pub rise_later : (low : ℕ) (os : List LiveOp) (next later : ℕ) → next ≤ later → IndicesRise low os next → IndicesRise low os later
+rise_later low [] next later le h = let at : low ≤ next = h in omega arith
+rise_later low (o ∷ os) next later le h = (h.0, rise_later (suc o.index) os next later le h.1)

@@ -4,15 +4,18 @@
 //! Its main clause is that of [`LockTable::try_lock_and_apply`].
 #![tactic(auto)]
 
+mod leaders;
+mod locks;
 mod names;
 mod operations;
 mod restore;
 mod table;
+mod versions;
 
 pub use table::LockTable;
 
-#[cfg(test)]
-mod tests;
+
+
 
 use cam_base::Sequence;
 use cam_names::Name;

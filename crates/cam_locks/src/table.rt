@@ -10,7 +10,7 @@ use crate::operations::{copy_objects, drop_below, is_of, on_object, replay, star
 use crate::{Grant, LiveOp, LiveOps};
 use cam_base::NoMemory;
 use cam_names::Name;
-use cam_type::{Held, HeldOp, HeldOps, Objects, Op, State, apply, compatible, mode_of};
+use cam_type::{Held, HeldOp, HeldOps, Objects, Op, State, apply, compatible, fits, mode_of};
 use std::alloc::Global;
 use std::marker::Model;
 
@@ -80,6 +80,16 @@ impl LockTable {
         })?;
         self.next += 1;
         Ok(Grant::Done(answer))
+    }
+
+    /// Whether the object stands at the table's node and the op fits it.
+    pub fn takes(&self, object: u8, op: &Op) -> bool
+        ensures { result ≡ is_fit self.now.site.objects self.now.site.node object op.now }
+    {
+        match self.objects.get(object as usize) {
+            Some(declared) => declared.node == self.node && fits(declared.start.kind(), op),
+            None => false,
+        }
     }
 
     /// Makes room for this many more outcomes. Nothing else changes.

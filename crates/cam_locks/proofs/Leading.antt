@@ -1,0 +1,162 @@
+-- What is kept of the holders of one mode on an object, through each call.
+use Rattle.std.proofs.Common.{◌≡◌, ◌⊎◌, ℕ, ◌+◌, ◌≤◌, ◌<◌, eqb, Bool, true, false, not, ◌&&◌, ◌||◌, if◌then◌else◌, cond, List, [], ◌∷◌, ◌++◌, Option, Some, None, suc, refl, sym, ap, subst, ◌∙◌, arith}
+use Rattle.std.proofs.Math.Logic.{inl, inr}
+use Rattle.std.specs.Prelude.{filter, find, option_and_then}
+use Rattle.std.proofs.lemmas.Bool.{and_parts, and_from}
+use Rattle.cam_names.specs.declared.name.Name.{Name}
+use Rattle.cam_names.specs.Names.{is_ancestor}
+use Rattle.cam_type.specs.declared.Mode.{Mode}
+use Rattle.cam_locks.specs.declared.LiveOp.{LiveOp}
+use Rattle.cam_locks.specs.Members.{In}
+use Rattle.cam_locks.specs.Names.{has_name}
+use Rattle.cam_locks.specs.Site.{IndicesRise}
+use Rattle.cam_locks.specs.Moss.{is_in_the_way}
+use Rattle.cam_locks.specs.Calls.{is_below}
+use Rattle.cam_locks.specs.Holding.{lift_in, has_op, is_lock, IsLeader, KeepsLeaders}
+use Rattle.cam_locks.proofs.Rising.{rise_push, rise_later}
+use Rattle.cam_locks.proofs.Members.{in_left, in_right, in_either, in_last, in_filter, in_filtered, find_no, find_none_all, below, same_op, IsFirst, found_first, first_found, has_member, member_at}
+use Rattle.cam_locks.proofs.Lifting.{AtLeast, lift_ancestor, lift_below, lift_climbs, ancestor_through}
+
+abbrev pub way : Name → List Name → LiveOp → Bool
+way a ns o = is_in_the_way a (lift_in ns o.action)
+
+in_the_way_some : (a : Name) (r : Option Name) → is_in_the_way a r ≡ true → (u : Name) × (r ≡ Some u)
+in_the_way_some a None h = cc
+in_the_way_some a (Some u) h = (u, refl)
+
+-- the first lock of a mode that stands in the way is found among the leaders
+pub first_of_mode : (x : ℕ) (m : Mode) (ns : List Name) (os : List LiveOp) (next : ℕ) (ts : List LiveOp) (a : Name)
+    → IndicesRise 0 os next → KeepsLeaders x m ns os next ts
+    → find (λ o. is_lock x m o && way a ns o) os ≡ find (λ t. has_op os t.index && way a ns t) ts
+first_of_mode x m ns os next ts a rise keeps = by_found (find (λ t. has_op os t.index && way a ns t) ts) refl
+  where
+    stands : (p : LiveOp) → In p os → (is_lock x m p && way a ns p) ≡ true → (t : LiveOp) × (In t ts) × ((has_op os t.index && way a ns t) ≡ true) × (t.index ≤ p.index)
+    stands p member passes =
+        let parts = and_parts (is_lock x m p) (way a ns p) passes in
+        let some = in_the_way_some a (lift_in ns p.action) parts.1 in
+        let lead = keeps.covers p some.0 member parts.0 some.1 in
+        let same : way a ns lead.0 ≡ true = ap (is_in_the_way a) (lead.1.same_lift ∙ sym some.1) ∙ parts.1 in
+        (lead.0, lead.1.leads, and_from (has_op os lead.0.index) (way a ns lead.0) (has_member os lead.0 lead.1.is_live) same, lead.1.is_first)
+    false_or_stands : (p : LiveOp) → In p os → ((t : LiveOp) → In t ts → (has_op os t.index && way a ns t) ≡ false) → (b : Bool) → (is_lock x m p && way a ns p) ≡ b → b ≡ false
+    false_or_stands p member none false is = refl
+    false_or_stands p member none true is = let s = stands p member is in let no : true ≡ false = sym s.2 ∙ none s.0 s.1 in cc
+    by_found : (r : Option LiveOp) → find (λ t. has_op os t.index && way a ns t) ts ≡ r → find (λ o. is_lock x m o && way a ns o) os ≡ r
+    by_found None none =
+        find_no (λ o. is_lock x m o && way a ns o) os
+        (λ p member. false_or_stands p member (find_none_all (λ t. has_op os t.index && way a ns t) ts none) (is_lock x m p && way a ns p) refl)
+    by_found (Some t) found =
+        let f = found_first (λ s. has_op os s.index && way a ns s) 0 ts next t keeps.rising found in
+        let parts = and_parts (has_op os t.index) (way a ns t) f.passes in
+        first_found (λ o. is_lock x m o && way a ns o) 0 os next t rise
+        (record {
+          member = keeps.sound t f.member parts.0;
+          passes = and_from (is_lock x m t) (way a ns t) (keeps.locks t f.member) parts.1;
+          first = λ p member passes. let s = stands p member passes in let le : t.index ≤ s.0.index = f.first s.0 s.1 s.2 in let lf : s.0.index ≤ p.index = s.3 in omega arith;
+        })
+
+-- an index that is live after a push was live before, or is the new one
+pub has_push : (os : List LiveOp) (n : LiveOp) (i : ℕ) → i < n.index → has_op (os ++ n ∷ []) i ≡ true → has_op os i ≡ true
+has_push [] n i lt h = let no : eqb n.index i ≡ false = grind arith in let off : (eqb n.index i || false) ≡ false = ap (λ (b : Bool). b || false) no in cc
+has_push (o ∷ os) n i lt h = by_test (eqb o.index i) h (has_push os n i lt)
+  where
+    by_test : (b : Bool) → (b || has_op (os ++ n ∷ []) i) ≡ true → (has_op (os ++ n ∷ []) i ≡ true → has_op os i ≡ true) → (b || has_op os i) ≡ true
+    by_test true k rest = refl
+    by_test false k rest = rest k
+
+leader_push : (ns : List Name) (os ts more : List LiveOp) (n o : LiveOp) (u : Name) → (t : LiveOp) × IsLeader ns os ts o u t → (t : LiveOp) × IsLeader ns (os ++ n ∷ []) (ts ++ more) o u t
+leader_push ns os ts more n o u lead =
+    (lead.0, record { leads = in_left lead.0 ts more lead.1.leads; is_live = in_left lead.0 os (n ∷ []) lead.1.is_live; is_first = lead.1.is_first; same_lift = lead.1.same_lift })
+
+-- a new operation that takes no lock of the mode
+pub push_other : (x : ℕ) (m : Mode) (ns : List Name) (os : List LiveOp) (next : ℕ) (ts : List LiveOp) (n : LiveOp)
+    → n.index ≡ next → is_lock x m n ≡ false → KeepsLeaders x m ns os next ts → KeepsLeaders x m ns (os ++ n ∷ []) (next + 1) ts
+push_other x m ns os next ts n at other keeps = record {
+  rising = rise_later 0 ts next (next + 1) (omega arith) keeps.rising;
+  locks = keeps.locks;
+  sound = λ t h live. let lt : t.index < next = below 0 ts next t keeps.rising h in in_left t os (n ∷ []) (keeps.sound t h (has_push os n t.index (omega arith) live));
+  covers = λ o u h lock is. elim (in_either o os (n ∷ []) h) [
+    | inl k ↦ same_leaders o u (keeps.covers o u k lock is)
+    | inr k ↦ let wrong : true ≡ false = sym lock ∙ ap (is_lock x m) (in_last o n k) ∙ other in cc
+  ];
+}
+  where
+    same_leaders : (o : LiveOp) (u : Name) → (t : LiveOp) × IsLeader ns os ts o u t → (t : LiveOp) × IsLeader ns (os ++ n ∷ []) ts o u t
+    same_leaders o u lead = (lead.0, record { leads = lead.1.leads; is_live = in_left lead.0 os (n ∷ []) lead.1.is_live; is_first = lead.1.is_first; same_lift = lead.1.same_lift })
+
+-- a new operation that takes a lock of the mode leads for itself
+pub push_lock : (x : ℕ) (m : Mode) (ns : List Name) (os : List LiveOp) (next : ℕ) (ts : List LiveOp) (n : LiveOp)
+    → n.index ≡ next → is_lock x m n ≡ true → KeepsLeaders x m ns os next ts → KeepsLeaders x m ns (os ++ n ∷ []) (next + 1) (ts ++ n ∷ [])
+push_lock x m ns os next ts n at lock keeps = record {
+  rising = rise_push 0 ts next n keeps.rising at;
+  locks = λ t h. elim (in_either t ts (n ∷ []) h) [ inl k ↦ keeps.locks t k | inr k ↦ ap (is_lock x m) (in_last t n k) ∙ lock ];
+  sound = λ t h live. elim (in_either t ts (n ∷ []) h) [
+    | inl k ↦ let lt : t.index < next = below 0 ts next t keeps.rising k in in_left t os (n ∷ []) (keeps.sound t k (has_push os n t.index (omega arith) live))
+    | inr k ↦ in_right t os (n ∷ []) k
+  ];
+  covers = λ o u h is_locked is. elim (in_either o os (n ∷ []) h) [
+    | inl k ↦ leader_push ns os ts (n ∷ []) n o u (keeps.covers o u k is_locked is)
+    | inr k ↦ (o, record { leads = in_right o ts (n ∷ []) k; is_live = in_right o os (n ∷ []) k; is_first = omega arith; same_lift = is })
+  ];
+}
+
+-- a commit lets lifts climb on, of a leader and of those that it leads alike
+pub leaders_commit : (x : ℕ) (m : Mode) (less more : List Name) (os : List LiveOp) (next : ℕ) (ts : List LiveOp)
+    → AtLeast more less → KeepsLeaders x m less os next ts → KeepsLeaders x m more os next ts
+leaders_commit x m less more os next ts at_least keeps = record {
+  rising = keeps.rising;
+  locks = keeps.locks;
+  sound = keeps.sound;
+  covers = λ o u h lock is. climbs o u h lock is (lift_in less o.action) refl;
+}
+  where
+    climbs : (o : LiveOp) (u : Name) → In o os → is_lock x m o ≡ true → lift_in more o.action ≡ Some u → (r : Option Name) → lift_in less o.action ≡ r
+        → (t : LiveOp) × IsLeader more os ts o u t
+    climbs o u h lock is None none = let no : Some u ≡ None = sym is ∙ lift_climbs less more o.action at_least ∙ ap (option_and_then (lift_in more)) none in cc
+    climbs o u h lock is (Some v) some =
+        let lead = keeps.covers o v h lock some in
+        let same : lift_in more lead.0.action ≡ lift_in more o.action =
+        lift_climbs less more lead.0.action at_least ∙ ap (option_and_then (lift_in more)) (lead.1.same_lift ∙ sym some) ∙ sym (lift_climbs less more o.action at_least) in
+        (lead.0, record { leads = lead.1.leads; is_live = lead.1.is_live; is_first = lead.1.is_first; same_lift = same ∙ is })
+
+-- an abort of an action that is not committed drops a leader together with those that it leads
+pub stays : Name → LiveOp → Bool
+stays n o = not (is_below n o)
+
+pub stays_with : (ns : List Name) (n : Name) (o t : LiveOp) (u : Name) → has_name ns n ≡ false → lift_in ns o.action ≡ Some u → lift_in ns t.action ≡ Some u
+    → is_below n o ≡ false → is_below n t ≡ false
+stays_with ns n o t u open_yet is same not_below = by_test (is_below n t) refl
+  where
+    by_test : (b : Bool) → is_below n t ≡ b → is_below n t ≡ false
+    by_test false e = e
+    by_test true e =
+        let b = lift_below ns n t.action open_yet e in
+        let one : Some b.0 ≡ Some u = sym b.1 ∙ same in
+        let equal : b.0 ≡ u = cc in
+        let over : is_ancestor n u ≡ true = subst (λ (v : Name). is_ancestor n v ≡ true) equal b.2 in
+        let wrong : true ≡ false = sym (ancestor_through n u o.action over (lift_ancestor ns o.action u is)) ∙ not_below in cc
+
+not_true : (b : Bool) → not b ≡ true → b ≡ false
+not_true true h = cc
+not_true false h = refl
+
+pub leaders_abort : (x : ℕ) (m : Mode) (ns : List Name) (os : List LiveOp) (next : ℕ) (ts : List LiveOp) (n : Name)
+    → has_name ns n ≡ false → IndicesRise 0 os next → KeepsLeaders x m ns os next ts → KeepsLeaders x m ns (filter (λ o. not (is_below n o)) os) next ts
+leaders_abort x m ns os next ts n open_yet rise keeps = record {
+  rising = keeps.rising;
+  locks = keeps.locks;
+  sound = λ t h live.
+    let p = member_at (filter (λ o. not (is_below n o)) os) t.index live in
+    let q = in_filter (λ o. not (is_below n o)) p.0 os p.1 in
+    let was : has_op os t.index ≡ true = subst (λ (i : ℕ). has_op os i ≡ true) p.2 (has_member os p.0 q.0) in
+    subst (λ (o : LiveOp). In o (filter (λ o. not (is_below n o)) os)) (same_op 0 os next p.0 t rise q.0 (keeps.sound t h was) p.2) p.1;
+  covers = λ o u h lock is.
+    let k = in_filter (λ o. not (is_below n o)) o os h in
+    let lead = keeps.covers o u k.0 lock is in
+    let over : is_below n lead.0 ≡ false = stays_with ns n o lead.0 u open_yet is lead.1.same_lift (not_true (is_below n o) k.1) in
+    (lead.0, record {
+      leads = lead.1.leads;
+      is_live = in_filtered (λ o. not (is_below n o)) lead.0 os lead.1.is_live (ap not over);
+      is_first = lead.1.is_first;
+      same_lift = lead.1.same_lift;
+    });
+}

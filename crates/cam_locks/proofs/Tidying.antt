@@ -1,0 +1,158 @@
+-- What need not be kept can be left out.
+use Rattle.std.proofs.Common.{◌≡◌, ◌⊎◌, ℕ, ◌+◌, ◌≤◌, ◌<◌, Bool, true, false, not, ◌&&◌, ◌||◌, List, [], ◌∷◌, ◌++◌, map, Option, Some, None, suc, refl, sym, ap, subst, ◌∙◌, arith}
+use Rattle.std.proofs.Math.Logic.{inl, inr}
+use Rattle.std.specs.Prelude.{is_none}
+use Rattle.std.proofs.lemmas.List.{map-append}
+use Rattle.std.proofs.lemmas.Bool.{and_parts}
+use Rattle.cam_names.specs.declared.name.Name.{Name}
+use Rattle.cam_names.proofs.Names.{name_eq_same}
+use Rattle.cam_type.specs.declared.State.{State}
+use Rattle.cam_type.specs.declared.Mode.{Mode}
+use Rattle.cam_locks.specs.declared.LiveOp.{LiveOp}
+use Rattle.cam_locks.specs.declared.versions.Version.{Version}
+use Rattle.cam_locks.specs.Members.{In}
+use Rattle.cam_locks.specs.Site.{IndicesRise}
+use Rattle.cam_locks.specs.Holding.{lift_in, has_op, IsLeader, KeepsLeaders, IsVersionOf, KeepsVersions, lift_eq, is_led, is_idle, is_outdated}
+use Rattle.cam_locks.proofs.Rising.{rise_from_lower, rise_later}
+use Rattle.cam_locks.proofs.Members.{in_left, in_right, in_either, in_last, above, has_member}
+
+pub lift_eq_same : (r s : Option Name) → lift_eq r s ≡ true → r ≡ s
+lift_eq_same None None h = refl
+lift_eq_same None (Some u) h = cc
+lift_eq_same (Some u) None h = cc
+lift_eq_same (Some u) (Some v) h = ap Some (name_eq_same u v h)
+
+rise_without : (low : ℕ) (os : List LiveOp) (p : LiveOp) (qs : List LiveOp) (next : ℕ) → IndicesRise low (os ++ p ∷ qs) next → IndicesRise low (os ++ qs) next
+rise_without low [] p qs next h = let from : low ≤ p.index = h.0 in rise_from_lower (suc p.index) low qs next (omega arith) h.1
+rise_without low (o ∷ os) p qs next h = (h.0, rise_without (suc o.index) os p qs next h.1)
+
+-- what stands before p has lesser indices, and what stands behind it greater ones
+rise_before : (low : ℕ) (os : List LiveOp) (p : LiveOp) (qs : List LiveOp) (next : ℕ) (s : LiveOp) → IndicesRise low (os ++ p ∷ qs) next → In s os → s.index < p.index
+rise_before low [] p qs next s h k = absurd k
+rise_before low (o ∷ os) p qs next s h (inl e) =
+    let on : suc o.index ≤ p.index = above (suc o.index) (os ++ p ∷ qs) next p h.1 (in_right p os (p ∷ qs) (inl refl)) in
+    let same : s.index ≡ o.index = ap (λ (r : LiveOp). r.index) e in omega arith
+rise_before low (o ∷ os) p qs next s h (inr k) = rise_before (suc o.index) os p qs next s h.1 k
+
+rise_behind : (low : ℕ) (os : List LiveOp) (p q : LiveOp) (next : ℕ) → IndicesRise low (os ++ p ∷ q ∷ []) next → p.index < q.index
+rise_behind low [] p q next h = let on : suc p.index ≤ q.index = h.1.0 in omega arith
+rise_behind low (o ∷ os) p q next h = rise_behind (suc o.index) os p q next h.1
+
+append_nil : {X : Type 0} (xs : List X) → xs ++ [] ≡ xs
+append_nil [] = refl
+append_nil {X} (x ∷ xs) = ap (λ (ys : List X). x ∷ ys) (append_nil xs)
+
+or_cases : (a b : Bool) → (a || b) ≡ true → (a ≡ true) ⊎ (b ≡ true)
+or_cases true b h = inl refl
+or_cases false b h = inr h
+
+not_true : (b : Bool) → not b ≡ true → b ≡ false
+not_true true h = cc
+not_true false h = refl
+
+none_is : (r : Option Name) → is_none r ≡ true → r ≡ None
+none_is None h = refl
+none_is (Some u) h = cc
+
+-- the one before, where there is one, is among the rest
+abbrev pub IsAmong : Option LiveOp → List LiveOp → Type 0
+IsAmong None ts = Unit {0}
+IsAmong (Some s) ts = In s ts
+
+pub leaders_drop : (x : ℕ) (m : Mode) (ns : List Name) (os : List LiveOp) (next : ℕ) (ts : List LiveOp) (t : LiveOp) (before : Option LiveOp)
+    → IsAmong before ts → is_idle ns os before t ≡ true → KeepsLeaders x m ns os next (ts ++ t ∷ []) → KeepsLeaders x m ns os next ts
+leaders_drop x m ns os next ts t before among idle keeps = record {
+  rising = subst (λ (ps : List LiveOp). IndicesRise 0 ps next) (append_nil ts) (rise_without 0 ts t [] next keeps.rising);
+  locks = λ s h. keeps.locks s (in_left s ts (t ∷ []) h);
+  sound = λ s h live. keeps.sound s (in_left s ts (t ∷ []) h) live;
+  covers = λ o u h lock is. other o u is (keeps.covers o u h lock is);
+}
+  where
+    by_leader : (before : Option LiveOp) → IsAmong before ts → is_led ns os before t ≡ true → (o : LiveOp) (u : Name) → t.index ≤ o.index → lift_in ns t.action ≡ Some u
+        → (s : LiveOp) × IsLeader ns os ts o u s
+    by_leader None among led o u le same = cc
+    by_leader (Some s) among led o u le same =
+        let parts = and_parts (has_op os s.index) (lift_eq (lift_in ns s.action) (lift_in ns t.action)) led in
+        let lt : s.index < t.index = rise_before 0 ts t [] next s keeps.rising among in
+        (s, record {
+          leads = among;
+          is_live = keeps.sound s (in_left s ts (t ∷ []) among) parts.0;
+          is_first = omega arith;
+          same_lift = lift_eq_same (lift_in ns s.action) (lift_in ns t.action) parts.1 ∙ same;
+        })
+    not_itself : (o s : LiveOp) (u : Name) → s ≡ t → IsLeader ns os (ts ++ t ∷ []) o u s → (r : LiveOp) × IsLeader ns os ts o u r
+    not_itself o s u e lead =
+        let same : lift_in ns t.action ≡ Some u = ap (λ (p : LiveOp). lift_in ns p.action) (sym e) ∙ lead.same_lift in
+        let equal : s.index ≡ t.index = ap (λ (p : LiveOp). p.index) e in
+        let first : s.index ≤ o.index = lead.is_first in
+        let le : t.index ≤ o.index = omega arith in
+        let alive : has_op os t.index ≡ true = has_member os t (subst (λ (p : LiveOp). In p os) e lead.is_live) in
+        elim (or_cases (not (has_op os t.index)) (is_none (lift_in ns t.action) || is_led ns os before t) idle) [
+          | inl dead ↦ let wrong : true ≡ false = sym alive ∙ not_true (has_op os t.index) dead in cc
+          | inr rest ↦ elim (or_cases (is_none (lift_in ns t.action)) (is_led ns os before t) rest) [
+            | inl past ↦ let wrong : Some u ≡ None = sym same ∙ none_is (lift_in ns t.action) past in cc
+            | inr led ↦ by_leader before among led o u le same
+          ]
+        ]
+    other : (o : LiveOp) (u : Name) → lift_in ns o.action ≡ Some u → (s : LiveOp) × IsLeader ns os (ts ++ t ∷ []) o u s → (s : LiveOp) × IsLeader ns os ts o u s
+    other o u is lead =
+        elim (in_either lead.0 ts (t ∷ []) lead.1.leads) [
+          | inl k ↦ (lead.0, record { leads = k; is_live = lead.1.is_live; is_first = lead.1.is_first; same_lift = lead.1.same_lift })
+          | inr k ↦ not_itself o lead.0 u (in_last lead.0 t k) lead.1
+        ]
+
+abbrev ops : List Version → List LiveOp
+ops vs = map (λ v. v.last) vs
+
+-- a version can be left out where it is dead, or another covers all that it covers
+versions_without : (x : ℕ) (start : State) (ns : List Name) (os : List LiveOp) (next : ℕ) (vs : List Version) (v : Version) (ws : List Version)
+    → ((o : LiveOp) → IsVersionOf ns os (vs ++ v ∷ ws) o v → (w : Version) × IsVersionOf ns os (vs ++ ws) o w)
+    → KeepsVersions x start ns os next (vs ++ v ∷ ws) → KeepsVersions x start ns os next (vs ++ ws)
+versions_without x start ns os next vs v ws instead keeps = record {
+  rising =
+    subst (λ (ps : List LiveOp). IndicesRise 0 ps next) (sym (map-append (λ w. w.last) vs ws))
+    (rise_without 0 (ops vs) v.last (ops ws) next (subst (λ (ps : List LiveOp). IndicesRise 0 ps next) (map-append (λ w. w.last) vs (v ∷ ws)) keeps.rising));
+  locks = λ w h. keeps.locks w (wider w h);
+  sound = λ w h live. keeps.sound w (wider w h) live;
+  covers = λ o h lock. other o (keeps.covers o h lock);
+}
+  where
+    wider : (w : Version) → In w (vs ++ ws) → In w (vs ++ v ∷ ws)
+    wider w h = elim (in_either w vs ws h) [ inl k ↦ in_left w vs (v ∷ ws) k | inr k ↦ in_right w vs (v ∷ ws) (inr k) ]
+    other : (o : LiveOp) → (w : Version) × IsVersionOf ns os (vs ++ v ∷ ws) o w → (w : Version) × IsVersionOf ns os (vs ++ ws) o w
+    other o c =
+        elim (in_either c.0 vs (v ∷ ws) c.1.kept) [
+          | inl k ↦ (c.0, record { kept = in_left c.0 vs ws k; is_live = c.1.is_live; is_last = c.1.is_last; same_lift = c.1.same_lift })
+          | inr k ↦ elim k [
+            | inl e ↦ instead o (subst (λ (w : Version). IsVersionOf ns os (vs ++ v ∷ ws) o w) e c.1)
+            | inr j ↦ (c.0, record { kept = in_right c.0 vs ws j; is_live = c.1.is_live; is_last = c.1.is_last; same_lift = c.1.same_lift })
+          ]
+        ]
+
+pub versions_drop_last : (x : ℕ) (start : State) (ns : List Name) (os : List LiveOp) (next : ℕ) (vs : List Version) (v : Version)
+    → has_op os v.last.index ≡ false → KeepsVersions x start ns os next (vs ++ v ∷ []) → KeepsVersions x start ns os next vs
+versions_drop_last x start ns os next vs v dead keeps =
+    subst (λ (ws : List Version). KeepsVersions x start ns os next ws) (append_nil vs)
+    (versions_without x start ns os next vs v []
+    (λ o c. let wrong : true ≡ false = sym (has_member os v.last c.is_live) ∙ dead in cc) keeps)
+
+pub versions_drop_older : (x : ℕ) (start : State) (ns : List Name) (os : List LiveOp) (next : ℕ) (vs : List Version) (v later : Version)
+    → has_op os later.last.index ≡ true → is_outdated ns os v later ≡ true
+    → KeepsVersions x start ns os next (vs ++ v ∷ later ∷ []) → KeepsVersions x start ns os next (vs ++ later ∷ [])
+versions_drop_older x start ns os next vs v later live old keeps =
+    versions_without x start ns os next vs v (later ∷ []) instead keeps
+  where
+    lt : v.last.index < later.last.index
+    lt = rise_behind 0 (ops vs) v.last later.last next (subst (λ (ps : List LiveOp). IndicesRise 0 ps next) (map-append (λ w. w.last) vs (v ∷ later ∷ [])) keeps.rising)
+    instead : (o : LiveOp) → IsVersionOf ns os (vs ++ v ∷ later ∷ []) o v → (w : Version) × IsVersionOf ns os (vs ++ later ∷ []) o w
+    instead o c =
+        let on : o.index ≤ v.last.index = c.is_last in
+        elim (or_cases (not (has_op os v.last.index)) (lift_eq (lift_in ns v.last.action) (lift_in ns later.last.action)) old) [
+          | inl dead ↦ let wrong : true ≡ false = sym (has_member os v.last c.is_live) ∙ not_true (has_op os v.last.index) dead in cc
+          | inr same ↦ (later, record {
+            kept = in_right later vs (later ∷ []) (inl refl);
+            is_live = (keeps.sound later (in_right later vs (v ∷ later ∷ []) (inr (inl refl))) live).0;
+            is_last = omega (arith, lt, on);
+            same_lift = sym (lift_eq_same (lift_in ns v.last.action) (lift_in ns later.last.action) same) ∙ c.same_lift;
+          })
+        ]
