@@ -1,11 +1,13 @@
 pub mod Lists
 pub mod Replaying
 pub mod Rising
+pub mod Halving
 pub mod Members
 pub mod Lifting
 pub mod Leading
 pub mod Values
-pub mod Keeping
+pub mod Staying
 pub mod Finding
 pub mod Tidying
+pub mod Standing
 pub mod Restoring

@@ -158,3 +158,11 @@ member_at (p ∷ os) i h = by_test (eqb p.index i) refl h (member_at os i)
     by_test : (b : Bool) → eqb p.index i ≡ b → (b || has_op os i) ≡ true → (has_op os i ≡ true → (o : LiveOp) × In o os × (o.index ≡ i)) → (o : LiveOp) × In o (p ∷ os) × (o.index ≡ i)
     by_test true is k rest = (p, inl refl, grind (arith, is))
     by_test false is k rest = let r = rest k in (r.0, inr r.1, r.2)
+
+pub found_passes : {X : Type 0} (test : X → Bool) (xs : List X) (x : X) → find test xs ≡ Some x → test x ≡ true
+found_passes test [] x h = cc
+found_passes {X} test (y ∷ xs) x h = by_test (test y) refl h (found_passes test xs x)
+  where
+    by_test : (b : Bool) → test y ≡ b → cond b (Some y) (find test xs) ≡ Some x → (find test xs ≡ Some x → test x ≡ true) → test x ≡ true
+    by_test true is k rest = let e : y ≡ x = cc in ap test (sym e) ∙ is
+    by_test false is k rest = rest k

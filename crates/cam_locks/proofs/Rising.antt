@@ -1,5 +1,5 @@
 -- Indices rise on, whatever is left out or put at the end.
-use Rattle.std.proofs.Common.{◌≡◌, ℕ, ◌+◌, ◌≤◌, ◌<◌, Bool, true, false, if◌then◌else◌, List, [], ◌∷◌, ◌++◌, suc, arith, ap, subst, cond}
+use Rattle.std.proofs.Common.{◌≡◌, ℕ, ◌+◌, ◌≤◌, ◌<◌, Bool, true, false, if◌then◌else◌, List, [], ◌∷◌, ◌++◌, suc, arith, ap, subst, cond, refl}
 use Rattle.std.specs.Prelude.{filter}
 use Rattle.cam_locks.specs.declared.LiveOp.{LiveOp}
 use Rattle.cam_locks.specs.Site.{IndicesRise}
@@ -23,3 +23,6 @@ rise_push low (p ∷ os) next o h is = (h.0, rise_push (suc p.index) os next o h
 pub rise_later : (low : ℕ) (os : List LiveOp) (next later : ℕ) → next ≤ later → IndicesRise low os next → IndicesRise low os later
 rise_later low [] next later le h = let at : low ≤ next = h in omega arith
 rise_later low (o ∷ os) next later le h = (h.0, rise_later (suc o.index) os next later le h.1)
+
+pub rise_above : (low : ℕ) (os : List LiveOp) (next : ℕ) (o : LiveOp) → next ≤ o.index → IndicesRise low os next → IndicesRise low (os ++ o ∷ []) (o.index + 1)
+rise_above low os next o le h = rise_push low os o.index o (rise_later low os next o.index le h) refl

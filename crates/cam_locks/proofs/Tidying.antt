@@ -1,7 +1,7 @@
 -- What need not be kept can be left out.
-use Rattle.std.proofs.Common.{◌≡◌, ◌⊎◌, ℕ, ◌+◌, ◌≤◌, ◌<◌, Bool, true, false, not, ◌&&◌, ◌||◌, List, [], ◌∷◌, ◌++◌, map, Option, Some, None, suc, refl, sym, ap, subst, ◌∙◌, arith}
+use Rattle.std.proofs.Common.{◌≡◌, ◌⊎◌, ℕ, ◌+◌, ◌≤◌, ◌<◌, Bool, true, false, not, ◌&&◌, ◌||◌, if◌then◌else◌, cond, List, [], ◌∷◌, ◌++◌, length, take, get_or, map, Option, Some, None, zero, suc, refl, sym, ap, subst, ◌∙◌, arith}
 use Rattle.std.proofs.Math.Logic.{inl, inr}
-use Rattle.std.specs.Prelude.{is_none}
+use Rattle.std.specs.Prelude.{is_none, slice_get}
 use Rattle.std.proofs.lemmas.List.{map-append}
 use Rattle.std.proofs.lemmas.Bool.{and_parts}
 use Rattle.cam_names.specs.declared.name.Name.{Name}
@@ -12,7 +12,9 @@ use Rattle.cam_locks.specs.declared.LiveOp.{LiveOp}
 use Rattle.cam_locks.specs.declared.versions.Version.{Version}
 use Rattle.cam_locks.specs.Members.{In}
 use Rattle.cam_locks.specs.Site.{IndicesRise}
-use Rattle.cam_locks.specs.Holding.{lift_in, has_op, IsLeader, KeepsLeaders, IsVersionOf, KeepsVersions, lift_eq, is_led, is_idle, is_outdated}
+use Rattle.cam_locks.specs.Holding.{lift_in, has_op, IsLeader, KeepsLeaders, IsVersionOf, KeepsVersions, lift_eq, is_led, is_idle, is_outdated, last_current}
+use Rattle.std.specs.Option.{option_or}
+use Rattle.cam_locks.proofs.Lists.{taken}
 use Rattle.cam_locks.proofs.Rising.{rise_from_lower, rise_later}
 use Rattle.cam_locks.proofs.Members.{in_left, in_right, in_either, in_last, above, has_member}
 
@@ -38,7 +40,7 @@ rise_behind : (low : ℕ) (os : List LiveOp) (p q : LiveOp) (next : ℕ) → Ind
 rise_behind low [] p q next h = let on : suc p.index ≤ q.index = h.1.0 in omega arith
 rise_behind low (o ∷ os) p q next h = rise_behind (suc o.index) os p q next h.1
 
-append_nil : {X : Type 0} (xs : List X) → xs ++ [] ≡ xs
+pub append_nil : {X : Type 0} (xs : List X) → xs ++ [] ≡ xs
 append_nil [] = refl
 append_nil {X} (x ∷ xs) = ap (λ (ys : List X). x ∷ ys) (append_nil xs)
 
@@ -156,3 +158,48 @@ versions_drop_older x start ns os next vs v later live old keeps =
             same_lift = sym (lift_eq_same (lift_in ns v.last.action) (lift_in ns later.last.action) same) ∙ c.same_lift;
           })
         ]
+
+-- what stands at a place is among the rest
+pub last_among : (ts : List LiveOp) (r : Option LiveOp) (k : ℕ) → r ≡ slice_get ts k → IsAmong r ts
+last_among ts None k is = tt
+last_among [] (Some s) k is = cc
+last_among (t ∷ ts) (Some s) zero is = let same : s ≡ t = cc in inl same
+last_among (t ∷ ts) (Some s) (suc k) is = inr (last_among ts (Some s) k is)
+
+append_assoc : {X : Type 0} (xs ys zs : List X) → (xs ++ ys) ++ zs ≡ xs ++ (ys ++ zs)
+append_assoc [] ys zs = refl
+append_assoc {X} (x ∷ xs) ys zs = ap (λ (ws : List X). x ∷ ws) (append_assoc xs ys zs)
+
+pub versions_drop_before : (x : ℕ) (start : State) (ns : List Name) (os : List LiveOp) (next : ℕ) (vs : List Version) (v later : Version)
+    → has_op os later.last.index ≡ true → is_outdated ns os v later ≡ true
+    → KeepsVersions x start ns os next ((vs ++ v ∷ []) ++ later ∷ []) → KeepsVersions x start ns os next (vs ++ later ∷ [])
+versions_drop_before x start ns os next vs v later live old keeps =
+    versions_drop_older x start ns os next vs v later live old
+    (subst (λ (ws : List Version). KeepsVersions x start ns os next ws) (append_assoc vs (v ∷ []) (later ∷ [])) keeps)
+
+-- the last that passes, with one more
+last_more : (test : Version → Bool) (vs : List Version) (v : Version) → last_current test (vs ++ v ∷ []) ≡ (if test v then Some v else last_current test vs)
+last_more test [] v = refl
+last_more test (w ∷ vs) v =
+    ap (λ (r : Option Version). option_or r (if test w then Some w else None)) (last_more test vs v) ∙ by_test (test v)
+  where
+    by_test : (b : Bool) → option_or (cond b (Some v) (last_current test vs)) (cond (test w) (Some w) None) ≡ cond b (Some v) (option_or (last_current test vs) (cond (test w) (Some w) None))
+    by_test true = refl
+    by_test false = refl
+
+get_at : (vs : List Version) (i : ℕ) (v : Version) → i < length vs → v ≡ get_or vs i v → slice_get vs i ≡ Some v
+get_at [] i v lt is = absurd (omega arith)
+get_at (w ∷ vs) zero v lt is = ap Some (sym is)
+get_at (w ∷ vs) (suc i) v lt is = get_at vs i v (omega arith) is
+
+pub place_found : (test : Version → Bool) (vs : List Version) (i : ℕ) (v : Version) → i < length vs → v ≡ get_or vs i v → test v ≡ true
+    → last_current test (take (i + 1) vs) ≡ slice_get vs i
+place_found test vs i v lt is passes =
+    ap (last_current test) (taken vs i v lt is) ∙ last_more test (take i vs) v
+    ∙ ap (λ (b : Bool). cond b (Some v) (last_current test (take i vs))) passes ∙ sym (get_at vs i v lt is)
+
+pub place_passed : (test : Version → Bool) (vs : List Version) (i : ℕ) (v : Version) → i < length vs → v ≡ get_or vs i v → test v ≡ false
+    → last_current test (take (i + 1) vs) ≡ last_current test (take i vs)
+place_passed test vs i v lt is fails =
+    ap (last_current test) (taken vs i v lt is) ∙ last_more test (take i vs) v
+    ∙ ap (λ (b : Bool). cond b (Some v) (last_current test (take i vs))) fails

@@ -1,10 +1,12 @@
 -- What the lock table keeps of an object so that it need not replay: for each mode the operations that lead the holders, and versions.
 -- It is told by the live operations `live` in order and the committed actions. Nothing of it is seen in a clause of a public call.
-use Rattle.std.specs.Prelude.{◌≡◌, ◌≢◌, ℕ, ◌≤◌, ◌<◌, nat_le, eqb, Bool, true, false, not, ◌&&◌, ◌||◌, if◌then◌else◌, List, [], ◌∷◌, ◌++◌, filter, find, map, Option, Some, None, is_none}
+use Rattle.std.specs.Prelude.{◌≡◌, ◌≢◌, ℕ, ◌≤◌, ◌<◌, nat_le, eqb, Bool, true, false, not, ◌&&◌, ◌||◌, if◌then◌else◌, List, [], ◌∷◌, ◌++◌, filter, find, map, length, Option, Some, None, is_none, option_and_then}
 use Rattle.std.specs.Option.{option_or}
+use Rattle.std.proofs.Common.{get_or}
 use Rattle.std.specs.List.{list_any}
 use Rattle.cam_names.specs.declared.name.Name.{Name}
 use Rattle.cam_names.specs.Names.{name_eq}
+use Rattle.cam_type.specs.declared.ObjectDecl.{ObjectDecl}
 use Rattle.cam_type.specs.declared.State.{State}
 use Rattle.cam_type.specs.declared.Op.{Op}
 use Rattle.cam_type.specs.declared.Mode.{Mode}
@@ -15,7 +17,7 @@ use Rattle.cam_locks.specs.declared.LiveOp.{LiveOp}
 use Rattle.cam_locks.specs.declared.versions.Version.{Version}
 use Rattle.cam_locks.specs.Names.{has_name}
 use Rattle.cam_locks.specs.Members.{In}
-use Rattle.cam_locks.specs.Site.{IndicesRise}
+use Rattle.cam_locks.specs.Site.{IndicesRise, start_of}
 use Rattle.cam_locks.specs.Moss.{is_on, is_in_the_way, replay}
 
 -- the lift of an action, by the committed ones
@@ -88,6 +90,11 @@ abbrev pub last_current : (Version → Bool) → List Version → Option Version
 last_current test [] = None
 last_current test (v ∷ vs) = option_or (last_current test vs) (if test v then Some v else None)
 
+-- its state, or the start state where there is none
+abbrev pub state_of : State → Option Version → State
+state_of start None = start
+state_of start (Some v) = v.state
+
 -- All that is kept of an object.
 pub record LocksView : Type 0 where
   pub readers : List LiveOp
@@ -122,6 +129,11 @@ abbrev pub blocking : List Name → Name → ℕ → Op → Mode → List LiveOp
 blocking committed a x op m live =
     if compatible m (mode_of op) then None else find (λ o. is_lock x m o && is_in_the_way a (lift_in committed o.action)) live
 
+-- the same, by what leads the holders of the mode
+abbrev pub standing : List Name → List LiveOp → Name → Op → Mode → List LiveOp → Option LiveOp
+standing committed live a op m leaders =
+    if compatible m (mode_of op) then None else find (λ t. has_op live t.index && is_in_the_way a (lift_in committed t.action)) leaders
+
 -- the one with the lesser index
 abbrev pub earlier : Option LiveOp → Option LiveOp → Option LiveOp
 earlier None r = r
@@ -146,3 +158,53 @@ is_idle committed live before t = not (has_op live t.index) || (is_none (lift_in
 -- A version need not be kept where it is dead, or its holder has a later one.
 abbrev pub is_outdated : List Name → List LiveOp → Version → Version → Bool
 is_outdated committed live v later = not (has_op live v.last.index) || lift_eq (lift_in committed v.last.action) (lift_in committed later.last.action)
+
+-- what is kept of all objects, each at its place
+abbrev pub AllLocks : List ObjectDecl → List Name → List LiveOp → ℕ → List LocksView → Type 0
+AllLocks objects committed live next locks =
+    (x : ℕ) (l : LocksView) → x < length locks → AreLocks x (start_of objects x) committed live next (get_or locks x l)
+
+abbrev pub fresh : LocksView
+fresh = record { readers = []; writers = []; versions = []; stale = false }
+
+-- What one call makes of them.
+pub record Tidied (committed : List Name) (live : List LiveOp) (old new : LocksView) : Type 0 where
+  pub stale : new.stale ≡ old.stale
+  pub kept : (x : ℕ) (start : State) (next : ℕ) → KeepsLocks x start committed live next old → KeepsLocks x start committed live next new
+
+pub record EachTo (change : ℕ → LocksView → LocksView → Type 0) (old new : List LocksView) : Type 0 where
+  pub len : length new ≡ length old
+  pub each : (x : ℕ) (l : LocksView) → x < length old → change x (get_or old x l) (get_or new x l)
+
+abbrev pub TidiedTo : List Name → List LiveOp → ℕ → LocksView → LocksView → Type 0
+TidiedTo committed live x old new = Tidied committed live old new
+
+-- one more operation at its object, and the others as they were
+pub record AddedTo (o : LiveOp) (state : State) (x : ℕ) (old new : LocksView) : Type 0 where
+  pub here : x ≡ o.object → new ≡ added old o state
+  pub elsewhere : x ≢ o.object → new ≡ old
+
+abbrev pub SameTo : ℕ → LocksView → LocksView → Type 0
+SameTo x old new = new ≡ old
+
+abbrev pub SpoiledTo : ℕ → LocksView → LocksView → Type 0
+SpoiledTo x old new = new.stale ≡ true
+
+-- stale at its object, and the others as they were
+pub record SpoiledAt (object : ℕ) (x : ℕ) (old new : LocksView) : Type 0 where
+  pub here : x ≡ object → new.stale ≡ true
+  pub elsewhere : x ≢ object → new ≡ old
+
+-- The definitions of the first conflict's lift and of the value, by the lists.
+abbrev pub holder_of : List Name → List LiveOp → Name → ℕ → Op → Option Name
+holder_of committed live a x op =
+    option_and_then (λ o. lift_in committed o.action)
+    (find (λ o. is_on x o && (is_in_the_way a (lift_in committed o.action) && not (compatible (mode_of o.op) (mode_of op)))) live)
+
+abbrev pub value_of : List ObjectDecl → List LiveOp → ℕ → State
+value_of objects live x = replay (start_of objects x) (filter (is_on x) live)
+
+-- the old value where someone stands in the way, else the new one
+abbrev pub by_holder : {X : Type 0} → Option Name → X → X → X
+by_holder (Some u) old new = old
+by_holder None old new = new

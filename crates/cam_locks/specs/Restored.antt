@@ -1,5 +1,5 @@
 -- What a restart makes of what was secured.
-use Rattle.std.specs.Prelude.{◌≡◌, ℕ, ◌+◌, ◌≤◌, eqb, nat_lt, max, Bool, true, false, if◌then◌else◌, List, [], ◌∷◌, map, flat_map}
+use Rattle.std.specs.Prelude.{◌≡◌, ℕ, ◌+◌, ◌≤◌, eqb, nat_lt, max, Bool, true, false, if◌then◌else◌, List, [], ◌∷◌, ◌++◌, map, flat_map}
 use Rattle.std.specs.List.{list_any}
 use Rattle.cam_names.specs.declared.name.Name.{Name}
 use Rattle.cam_type.specs.declared.ObjectDecl.{ObjectDecl}
@@ -65,3 +65,7 @@ MayBeHeld objects node (h ∷ hs) =
 
 abbrev pub CanRestore : List ObjectDecl → ℕ → List Held → Type 0
 CanRestore objects node held = MayBeHeld objects node (all_held held)
+
+-- the site with one more operation, under its own index
+abbrev pub taken_over : Site → LiveOp → Site
+taken_over site o = record site { live = site.live ++ o ∷ []; next = o.index + 1 }

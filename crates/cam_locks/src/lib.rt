@@ -4,11 +4,15 @@
 //! Its main clause is that of [`LockTable::try_lock_and_apply`].
 #![tactic(auto)]
 
+mod by_list;
+mod keeping;
 mod leaders;
+mod live;
 mod locks;
 mod names;
 mod operations;
 mod restore;
+mod plain;
 mod table;
 mod versions;
 

@@ -1,9 +1,9 @@
 ghost use Rattle.std.specs.Prelude.{◌≡◌, IfOk, filter, not};
 ghost use Rattle.cam_locks.specs.Site.{start_of};
-ghost use Rattle.cam_locks.specs.Moss.{is_on, replay};
+ghost use Rattle.cam_locks.specs.Moss.{replay};
 ghost use Rattle.cam_locks.specs.Calls.{is_below, is_of};
 
-use crate::{LiveOp, LiveOps};
+use crate::LiveOp;
 use cam_base::NoMemory;
 use cam_names::Name;
 use cam_type::{Objects, State, apply};
@@ -28,23 +28,6 @@ pub(crate) fn start_of(objects: &Objects, object: u8) -> Result<State, NoMemory>
         Some(declared) => declared.start.copy(),
         None => Ok(State::Register(0)),
     }
-}
-
-/// Those of the operations that are on the object.
-pub(crate) fn on_object(
-    alloc: Global,
-    operations: &[LiveOp],
-    object: u8,
-) -> Result<LiveOps, NoMemory>
-    ensures { IfOk result (λ on. on ≡ filter (is_on object) operations.now) }
-{
-    let mut on = LiveOps::new(alloc);
-    for operation in operations {
-        if operation.object == object {
-            on.push_copy(operation)?;
-        }
-    }
-    Ok(on)
 }
 
 /// The state after these operations, in their order.

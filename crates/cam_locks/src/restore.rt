@@ -1,45 +1,19 @@
+//! What a restart reads off the held operations and the known outcomes.
 ghost use Rattle.std.specs.Prelude.{◌≡◌, ◌≤◌, ◌++◌, [], length, insert, OnOk, IfOk, flat_map, map};
 ghost use Rattle.cam_know.specs.Known.{committed_name, aborted_name};
 ghost use Rattle.cam_locks.specs.Names.{with_names};
-ghost use Rattle.cam_locks.specs.Restored.{of_family, ops_of, put_in_order, put_all, next_after, all_held, restored, CanRestore, InRange};
+ghost use Rattle.cam_locks.specs.Restored.{of_family, ops_of, put_in_order, put_all, next_after, all_held, InRange};
 
 use crate::names::Names;
-use crate::operations::copy_objects;
-use crate::table::LockTable;
 use crate::{LiveOp, LiveOps};
 use cam_base::NoMemory;
 use cam_know::{Know, Outcome};
 use cam_names::Name;
-use cam_type::{Held, HeldList, HeldOp, Objects};
+use cam_type::{Held, HeldOp};
 use std::alloc::Global;
 
-impl LockTable {
-    /// The table that a restart makes of what was secured, by what is known: the operations of each held family whose abort is not known,
-    /// in order of their indices, each with its family as its action.
-    pub fn restore(
-        alloc: Global,
-        objects: &Objects,
-        node: u8,
-        held: &HeldList,
-        know: &Know,
-    ) -> Result<LockTable, NoMemory>
-        requires { CanRestore objects.now node held.now }
-        ensures { IfOk result (λ table. table.site ≡ restored objects.now node held.now know.now) }
-    {
-        let kept = kept_operations(alloc, held.as_slice(), know)?;
-        Ok(LockTable {
-            objects: copy_objects(alloc, objects)?,
-            node,
-            live: in_order(alloc, kept.as_slice())?,
-            committed: committed_names(alloc, know.outcomes())?,
-            aborted: aborted_names(alloc, know.outcomes())?,
-            next: next_after(held.as_slice()),
-        })
-    }
-}
-
 /// The operations of each held family whose abort is not known.
-fn kept_operations(alloc: Global, held: &[Held], know: &Know) -> Result<LiveOps, NoMemory>
+pub(crate) fn kept_operations(alloc: Global, held: &[Held], know: &Know) -> Result<LiveOps, NoMemory>
     ensures { IfOk result (λ kept. kept ≡ flat_map (ops_of know.now) held.now) }
 {
     let mut kept = LiveOps::new(alloc);
@@ -82,7 +56,7 @@ fn of_family(family: &Name, op: &HeldOp) -> LiveOp
 }
 
 /// The operations in order of their indices.
-fn in_order(alloc: Global, operations: &[LiveOp]) -> Result<Vec<LiveOp>, NoMemory>
+pub(crate) fn in_order(alloc: Global, operations: &[LiveOp]) -> Result<Vec<LiveOp>, NoMemory>
     ensures { IfOk result (λ ordered. ordered.items ≡ put_all operations.now []) }
 {
     let mut ordered = Vec::new(alloc);
@@ -107,7 +81,7 @@ fn place_of(ordered: &[LiveOp], operation: &LiveOp) -> usize
 }
 
 /// The actions whose commit is among the outcomes.
-fn committed_names(alloc: Global, outcomes: &[Outcome]) -> Result<Names, NoMemory>
+pub(crate) fn committed_names(alloc: Global, outcomes: &[Outcome]) -> Result<Names, NoMemory>
     ensures { IfOk result (λ names. names.names ≡ with_names [] (flat_map committed_name outcomes.now)) }
 {
     let mut names = Names::new(alloc);
@@ -128,7 +102,7 @@ fn add_if_committed(names: &mut Names, outcome: &Outcome) -> Result<(), NoMemory
 }
 
 /// The actions whose abort is among the outcomes.
-fn aborted_names(alloc: Global, outcomes: &[Outcome]) -> Result<Names, NoMemory>
+pub(crate) fn aborted_names(alloc: Global, outcomes: &[Outcome]) -> Result<Names, NoMemory>
     ensures { IfOk result (λ names. names.names ≡ with_names [] (flat_map aborted_name outcomes.now)) }
 {
     let mut names = Names::new(alloc);
@@ -149,9 +123,10 @@ fn add_if_aborted(names: &mut Names, outcome: &Outcome) -> Result<(), NoMemory>
 }
 
 /// One above the greatest index of the held operations, and 0 where there is none.
-fn next_after(held: &[Held]) -> u32
+pub(crate) fn next_after(held: &[Held]) -> u32
     requires { InRange (all_held held.now) }
     ensures value { result ≡ next_after (all_held held.now) 0 }
+    ensures range { result ≤ 1000000000 }
 {
     let mut next = 0;
     for family in held {
@@ -162,8 +137,10 @@ fn next_after(held: &[Held]) -> u32
 
 /// The greater of a number and one above the greatest index of these operations.
 fn next_over(ops: &[HeldOp], first: u32) -> u32
-    requires { InRange ops.now }
-    ensures { result ≡ next_after ops.now first }
+    requires ops { InRange ops.now }
+    requires first { first ≤ 1000000000 }
+    ensures value { result ≡ next_after ops.now first }
+    ensures range { result ≤ 1000000000 }
 {
     let mut next = first;
     for op in ops {

@@ -1,16 +1,21 @@
-ghost use Rattle.std.specs.Prelude.{◌≡◌, ◌+◌, ◌≤◌, ◌∷◌, ◌++◌, IsTrue, IfOk, OnOk, OnErr, filter, not, map};
-ghost use Rattle.cam_names.specs.Names.{is_ancestor};
-ghost use Rattle.cam_type.specs.declared.HeldOp.{HeldOp};
-ghost use Rattle.cam_locks.specs.Site.{Site, is_here, is_fit, IndicesRise};
-ghost use Rattle.cam_locks.specs.Moss.{first_conflict, holder, is_conflict, is_in_the_way, is_settled, value, settled, lift};
-ghost use Rattle.cam_locks.specs.Calls.{new_site, with_operation, grant, after_grant, with_commit, with_abort, is_below, is_of, held, held_op, has_family};
+ghost use Rattle.std.specs.Prelude.{◌≡◌, ◌≤◌, ◌+◌, [], ◌++◌, IsTrue, IfOk, OnOk, OnErr};
+ghost use Rattle.cam_locks.specs.Site.{is_here, is_fit, IndicesRise};
+ghost use Rattle.cam_locks.specs.Moss.{settled};
+ghost use Rattle.cam_locks.specs.Calls.{new_site, grant, after_grant, with_commit, with_abort, held, has_family};
+ghost use Rattle.cam_locks.specs.Restored.{restored, taken_over, CanRestore};
 
+use crate::by_list;
+use crate::keeping;
+use crate::live::Live;
+use crate::locks::{self, Locks};
 use crate::names::Names;
-use crate::operations::{copy_objects, drop_below, is_of, on_object, replay, start_of};
-use crate::{Grant, LiveOp, LiveOps};
+use crate::operations::copy_objects;
+use crate::restore::{aborted_names, committed_names, in_order, kept_operations, next_after};
+use crate::{Grant, LiveOp};
 use cam_base::NoMemory;
+use cam_know::Know;
 use cam_names::Name;
-use cam_type::{Held, HeldOp, HeldOps, Objects, Op, State, apply, compatible, fits, mode_of};
+use cam_type::{Held, HeldList, Objects, Op, State, fits};
 use std::alloc::Global;
 use std::marker::Model;
 
@@ -18,23 +23,25 @@ use std::marker::Model;
 /// the next index; beside them stands for how many more outcomes there is room.
 #[derive(Drop)]
 pub struct LockTable {
-    pub(crate) objects: Objects,
-    pub(crate) node: u8,
-    pub(crate) live: Vec<LiveOp>,
-    pub(crate) committed: Names,
-    pub(crate) aborted: Names,
-    pub(crate) next: u32,
+    objects: Objects,
+    node: u8,
+    live: Live,
+    committed: Names,
+    aborted: Names,
+    /// What is kept of each declared object, by its place.
+    locks: Vec<Locks>,
 }
 
 impl Model for LockTable {
-    ghost use Rattle.std.specs.Prelude.{min, ◌≤◌};
-    ghost use Rattle.cam_locks.specs.Site.{TableView, IndicesRise};
+    ghost use Rattle.std.specs.Prelude.{min};
+    ghost use Rattle.cam_locks.specs.Site.{TableView};
+    ghost use Rattle.cam_locks.specs.Holding.{AllLocks};
 
     ghost Value = { TableView };
 
-    ghost view = { λ t. record { site = record { objects = t.objects; node = t.node; live = t.live.items; committed = t.committed.names; aborted = t.aborted.names; next = t.next }; spare = min t.committed.spare t.aborted.spare } };
+    ghost view = { λ t. record { site = record { objects = t.objects; node = t.node; live = t.live.ops; committed = t.committed.names; aborted = t.aborted.names; next = t.live.next }; spare = min t.committed.spare t.aborted.spare } };
 
-    ghost invariant = { λ t. IndicesRise 0 t.live.items t.next };
+    ghost invariant = { λ t. AllLocks t.objects t.committed.names t.live.ops t.live.next t.locks.items };
 }
 
 impl LockTable {
@@ -42,14 +49,13 @@ impl LockTable {
     pub fn new(alloc: Global, objects: &Objects, node: u8) -> Result<LockTable, NoMemory>
         ensures { IfOk result (λ table. table.site ≡ new_site objects.now node) }
     {
-        Ok(LockTable {
-            objects: copy_objects(alloc, objects)?,
+        LockTable::informed(
+            alloc,
+            objects,
             node,
-            live: Vec::new(alloc),
-            committed: Names::new(alloc),
-            aborted: Names::new(alloc),
-            next: 0,
-        })
+            Names::new(alloc),
+            Names::new(alloc),
+        )
     }
 
     /// Does an operation of an action on an object, unless a live operation conflicts: then the lift of the first one is named, and
@@ -67,19 +73,19 @@ impl LockTable {
         ensures err { OnErr result (self.new.site ≡ self.old.site) }
         ensures spare { self.new.spare ≡ self.old.spare }
     {
-        if let Some(holder) = self.holder(name, object, op) {
-            return Ok(Grant::Conflict(holder));
-        }
-        let mut state = self.value_met(object)?;
-        let answer = apply(&mut state, op)?;
-        self.live.push(LiveOp {
-            index: self.next,
+        let operation = LiveOp {
+            index: self.live.next(),
             action: *name,
             object,
             op: *op,
-        })?;
-        self.next += 1;
-        Ok(Grant::Done(answer))
+        };
+        keeping::grant(
+            &mut self.locks,
+            &mut self.live,
+            &self.committed,
+            &self.objects,
+            &operation,
+        )
     }
 
     /// Whether the object stands at the table's node and the op fits it.
@@ -119,24 +125,26 @@ impl LockTable {
         ensures spare { self.old.spare ≤ self.new.spare + 1 }
     {
         self.aborted.put(name);
-        drop_below(&mut self.live, name);
+        keeping::abort(
+            &mut self.locks,
+            &mut self.live,
+            &self.committed,
+            &self.objects,
+            name,
+        );
     }
 
     /// An equal table, but for its room.
     pub fn copy(&self) -> Result<LockTable, NoMemory>
         ensures { IfOk result (λ copy. copy.site ≡ self.now.site) }
     {
-        let alloc = *self.live.allocator();
-        let live = self.live.iter().copied().collect(alloc)?;
-        let committed = self.committed.copy()?;
-        let aborted = self.aborted.copy()?;
         Ok(LockTable {
-            objects: copy_objects(alloc, &self.objects)?,
+            objects: copy_objects(self.live.allocator(), &self.objects)?,
             node: self.node,
-            live,
-            committed,
-            aborted,
-            next: self.next,
+            live: self.live.copy()?,
+            committed: self.committed.copy()?,
+            aborted: self.aborted.copy()?,
+            locks: locks::copy(&self.locks)?,
         })
     }
 
@@ -144,12 +152,7 @@ impl LockTable {
     pub fn secure(&self, family: &Name, count: u32) -> Result<Held, NoMemory>
         ensures { IfOk result (λ secured. secured ≡ held self.now.site family.now count) }
     {
-        let mut ops = HeldOps::new(*self.live.allocator());
-        for operation in self.live.as_slice() {
-            if is_of(family, operation) {
-                ops.push(held_op(operation))?;
-            }
-        }
+        let ops = by_list::held(self.live.allocator(), self.live.as_slice(), family)?;
         Ok(Held {
             family: *family,
             count,
@@ -161,12 +164,7 @@ impl LockTable {
     pub fn has_family(&self, family: &Name) -> bool
         ensures { result ≡ has_family self.now.site family.now }
     {
-        for operation in self.live.as_slice() {
-            if is_of(family, operation) {
-                return true;
-            }
-        }
-        false
+        by_list::has_family(self.live.as_slice(), family)
     }
 
     /// The value of an object that is handed up past the top.
@@ -174,13 +172,13 @@ impl LockTable {
         requires { IsTrue (is_here self.now.site.objects self.now.site.node object) }
         ensures { IfOk result (λ state. state ≡ settled self.now.site object) }
     {
-        let mut operations = LiveOps::new(*self.live.allocator());
-        for operation in self.live.as_slice() {
-            if self.is_settled(object, operation) {
-                operations.push_copy(operation)?;
-            }
-        }
-        replay(start_of(&self.objects, object)?, operations.as_slice())
+        keeping::settled(
+            self.locks.as_slice(),
+            &self.live,
+            &self.committed,
+            &self.objects,
+            object,
+        )
     }
 
     /// The index of the next operation, which is above those of all live ones.
@@ -188,75 +186,96 @@ impl LockTable {
         ensures value { result ≡ self.now.site.next }
         ensures order { IndicesRise 0 self.now.site.live self.now.site.next }
     {
-        self.next
+        self.live.next()
     }
 }
 
 impl LockTable {
-    /// The lift of the first live operation that conflicts.
-    fn holder(&self, name: &Name, object: u8, op: &Op) -> Option<Name>
-        ensures { result ≡ holder self.now.site name.now object op.now }
+    /// The table that a restart makes of what was secured, by what is known.
+    pub fn restore(
+        alloc: Global,
+        objects: &Objects,
+        node: u8,
+        held: &HeldList,
+        know: &Know,
+    ) -> Result<LockTable, NoMemory>
+        requires { CanRestore objects.now node held.now }
+        ensures { IfOk result (λ table. table.site ≡ restored objects.now node held.now know.now) }
     {
-        match self.first_conflict(name, object, op) {
-            Some(operation) => self.committed.lift(&operation.action),
-            None => None,
-        }
-    }
-
-    /// The first live operation that conflicts.
-    fn first_conflict(&self, name: &Name, object: u8, op: &Op) -> Option<LiveOp>
-        ensures { result ≡ first_conflict self.now.site name.now object op.now }
-    {
-        for operation in self.live.as_slice() {
-            if self.is_conflict(name, object, op, operation) {
-                return Some(*operation);
-            }
-        }
-        None
-    }
-
-    /// Whether a live operation conflicts.
-    fn is_conflict(&self, name: &Name, object: u8, op: &Op, operation: &LiveOp) -> bool
-        ensures { result ≡ is_conflict self.now.site name.now object op.now operation.now }
-    {
-        operation.object == object
-            && is_in_the_way(name, &self.committed.lift(&operation.action))
-            && !compatible(mode_of(&operation.op), mode_of(op))
-    }
-
-    /// Whether an operation is on the object and handed up past the top.
-    fn is_settled(&self, object: u8, operation: &LiveOp) -> bool
-        ensures { result ≡ is_settled self.now.site object operation.now }
-    {
-        operation.object == object && self.committed.lift(&operation.action).is_none()
-    }
-
-    /// The value that an operation on the object meets.
-    fn value_met(&self, object: u8) -> Result<State, NoMemory>
-        ensures { IfOk result (λ state. state ≡ value self.now.site object) }
-    {
-        let operations = on_object(*self.live.allocator(), self.live.as_slice(), object)?;
-        replay(start_of(&self.objects, object)?, operations.as_slice())
+        let kept = kept_operations(alloc, held.as_slice(), know)?;
+        let ordered = in_order(alloc, kept.as_slice())?;
+        let committed = committed_names(alloc, know.outcomes())?;
+        let aborted = aborted_names(alloc, know.outcomes())?;
+        let mut table = LockTable::informed(alloc, objects, node, committed, aborted)?;
+        table.take_over_all(ordered.as_slice(), next_after(held.as_slice()))?;
+        Ok(table)
     }
 }
 
-/// A lift stands in the way where it is neither past the top nor an ancestor.
-fn is_in_the_way(name: &Name, lift: &Option<Name>) -> bool
-    ensures { result ≡ is_in_the_way name.now lift.now }
-{
-    match lift {
-        Some(holder) => !holder.is_ancestor(name),
-        None => false,
+impl LockTable {
+    /// The table of a node that was informed of these outcomes, with no operations.
+    fn informed(
+        alloc: Global,
+        objects: &Objects,
+        node: u8,
+        committed: Names,
+        aborted: Names,
+    ) -> Result<LockTable, NoMemory>
+        ensures { IfOk result (λ table. table.site ≡ record { objects = objects.now; node = node; live = []; committed = committed.names; aborted = aborted.names; next = 0 }) }
+    {
+        Ok(LockTable {
+            objects: copy_objects(alloc, objects)?,
+            node,
+            live: Live::new(alloc),
+            committed,
+            aborted,
+            locks: locks::for_objects(alloc, objects.len())?,
+        })
     }
-}
 
-/// The operation as it is held.
-fn held_op(operation: &LiveOp) -> HeldOp
-    ensures { result ≡ held_op operation.now }
-{
-    HeldOp {
-        index: operation.index,
-        object: operation.object,
-        op: operation.op,
+    /// Takes restored operations over, in order, and lets the next index be this one.
+    fn take_over_all(&mut self, operations: &[LiveOp], next: u32) -> Result<(), NoMemory>
+        requires order { IndicesRise self.old.site.next operations.now next }
+        requires range { next ≤ 1000000000 }
+        ensures ok { OnOk result (self.new.site ≡ record self.old.site { live = self.old.site.live ++ operations.now; next = next }) }
+    {
+        for operation in operations {
+            self.take_over(operation)?;
+        }
+        self.raise(next);
+        Ok(())
+    }
+
+    /// Lets the next index be this one.
+    fn raise(&mut self, next: u32)
+        requires { self.old.site.next ≤ next }
+        ensures { self.new.site ≡ record self.old.site { next = next } }
+    {
+        self.live.raise(next);
+    }
+
+    /// Takes a restored operation over. Where it conflicts with one before it nothing is kept of its object.
+    fn take_over(&mut self, operation: &LiveOp) -> Result<(), NoMemory>
+        requires index { self.old.site.next ≤ operation.now.index }
+        requires range { operation.now.index ≤ 999999999 }
+        ensures ok { OnOk result (self.new.site ≡ taken_over self.old.site operation.now) }
+    {
+        let granted = keeping::grant(
+            &mut self.locks,
+            &mut self.live,
+            &self.committed,
+            &self.objects,
+            operation,
+        )?;
+        match granted {
+            Grant::Done(_) => Ok(()),
+            Grant::Conflict(_) => keeping::append_spoiled(
+                &mut self.locks,
+                &mut self.live,
+                &self.committed,
+                &self.objects,
+                operation,
+            ),
+        }
     }
 }

@@ -4,13 +4,13 @@ use Rattle.cam_locks.specs.Restored.{InRange, next_after}
 use Rattle.cam_locks.proofs.Restoring.{in_range_of, next_family}
 use Rattle.cam_locks.proofs.restore.next_after.Goals as goal
 
-pub next_over-next-requires : goal.next_over-next-requires
-next_over-next-requires c =
+pub next_over-next-requires-clause-ops : goal.next_over-next-requires-clause-ops
+next_over-next-requires-clause-ops c =
     subst InRange (sym c.as_slice.ensures)
     (in_range_of c.args.held.now c.loop-family.family-index c.family-item.result c.loop-family-test.true c.family-item.is c.requires)
 
 pub loop-family-preserved : goal.loop-family-preserved
 loop-family-preserved c =
-    c.next_over-next.ensures ∙ ap (λ (hs : List HeldOp). next_after hs c.loop-family.next) c.as_slice.ensures
-    ∙ ap (next_after c.family-item.result.ops) c.loop-family.invariant
-    ∙ next_family c.args.held.now c.loop-family.family-index c.family-item.result c.loop-family-test.true c.family-item.is
+    (c.next_over-next.ensures.value ∙ ap (λ (hs : List HeldOp). next_after hs c.loop-family.next) c.as_slice.ensures
+    ∙ ap (next_after c.family-item.result.ops) c.loop-family.invariant.0
+    ∙ next_family c.args.held.now c.loop-family.family-index c.family-item.result c.loop-family-test.true c.family-item.is, c.next_over-next.ensures.range)

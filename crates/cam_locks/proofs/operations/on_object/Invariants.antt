@@ -1,7 +1,0 @@
-use Rattle.std.proofs.Common.{◌≡◌, take}
-use Rattle.std.specs.Prelude.{filter}
-use Rattle.cam_locks.specs.Moss.{is_on}
-use Rattle.cam_locks.proofs.operations.on_object.Given as goal
-
-abbrev pub invariant-loop-operation : goal.invariant-loop-operation
-invariant-loop-operation l = l.on ≡ filter (is_on l.object) (take l.operation-index l.operations)

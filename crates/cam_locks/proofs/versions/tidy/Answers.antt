@@ -1,0 +1,28 @@
+use Rattle.std.proofs.Common.{List, ℕ, ◌≡◌, ◌++◌, ◌∷◌, [], false, subst, sym, ap, ◌∙◌, arith}
+use Rattle.cam_locks.specs.declared.versions.Version.{Version}
+use Rattle.cam_locks.specs.Holding.{KeepsVersions, has_op}
+use Rattle.cam_locks.proofs.Tidying.{append_nil, versions_drop_last}
+use Rattle.cam_locks.proofs.versions.tidy.Goals as goal
+
+pub returns-then-has : goal.returns-then-has
+returns-then-has c = λ x start next h.
+    subst (λ (vs : List Version). KeepsVersions x start c.args.committed.now.names c.args.live.now.ops next vs) (sym c.push_reserved.ensures.items)
+    (c.drop_older.ensures.kept x start next
+    (subst (λ (vs : List Version). KeepsVersions x start c.args.committed.now.names c.args.live.now.ops next vs) c.in-Some.ensures.items (c.loop-last.invariant x start next h)))
+
+pub loop-last-preserved-else-has : goal.loop-last-preserved-else-has
+loop-last-preserved-else-has c = λ x start next h.
+    let dead : has_op c.args.live.now.ops c.in-Some.last.last.index ≡ false = sym c.has.ensures ∙ c.if-has.false in
+    versions_drop_last x start c.args.committed.now.names c.args.live.now.ops next c.pop.new.self.items c.in-Some.last dead
+    (subst (λ (vs : List Version). KeepsVersions x start c.args.committed.now.names c.args.live.now.ops next vs) c.in-Some.ensures.items (c.loop-last.invariant x start next h))
+
+pub loop-last-preserved : goal.loop-last-preserved
+loop-last-preserved c = λ x start next h.
+    let dead : has_op c.args.live.now.ops c.in-Some.last.last.index ≡ false = sym c.has.ensures ∙ c.if-has.false in
+    versions_drop_last x start c.args.committed.now.names c.args.live.now.ops next c.pop.new.self.items c.in-Some.last dead
+    (subst (λ (vs : List Version). KeepsVersions x start c.args.committed.now.names c.args.live.now.ops next vs) c.in-Some.ensures.items (c.loop-last.invariant x start next h))
+
+pub returns : goal.returns
+returns c = λ x start next h.
+    subst (λ (vs : List Version). KeepsVersions x start c.args.committed.now.names c.args.live.now.ops next vs)
+    (c.in_default.ensures.items ∙ append_nil c.pop.new.self.items) (c.loop-last.invariant x start next h)

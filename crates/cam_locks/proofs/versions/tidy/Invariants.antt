@@ -1,0 +1,12 @@
+use Rattle.std.proofs.Common.{ℕ, vec_len}
+use Rattle.cam_type.specs.declared.State.{State}
+use Rattle.cam_locks.specs.Holding.{KeepsVersions}
+use Rattle.cam_locks.proofs.versions.tidy.Given as goal
+
+abbrev pub invariant-loop-last : goal.invariant-loop-last
+invariant-loop-last l =
+    (x : ℕ) (start : State) (next : ℕ) → KeepsVersions x start l.committed.names l.live.ops next l.initial.versions.items
+    → KeepsVersions x start l.committed.names l.live.ops next l.versions.items
+
+abbrev pub decreases-loop-last : goal.decreases-loop-last
+decreases-loop-last l = vec_len l.versions

@@ -1,0 +1,130 @@
+//! What the definitions say, read off the list of live operations: for objects of which nothing else is kept.
+ghost use Rattle.std.specs.Prelude.{◌≡◌, ◌&&◌, not, filter, find, is_none, map, IfOk};
+ghost use Rattle.std.specs.List.{list_any};
+ghost use Rattle.cam_type.specs.Table.{mode_of, compatible};
+ghost use Rattle.cam_locks.specs.Site.{start_of};
+ghost use Rattle.cam_locks.specs.Moss.{is_on, is_in_the_way, replay};
+ghost use Rattle.cam_locks.specs.Calls.{is_of, held_op};
+ghost use Rattle.cam_locks.specs.Holding.{lift_in};
+
+use crate::leaders::is_in_the_way;
+use crate::names::Names;
+use crate::operations::{is_of, replay, start_of};
+use crate::{LiveOp, LiveOps};
+use cam_base::NoMemory;
+use cam_names::Name;
+use cam_type::{HeldOp, HeldOps, Objects, Op, State, compatible, mode_of};
+use std::alloc::Global;
+
+/// The first live operation that conflicts.
+pub(crate) fn first_conflict(
+    live: &[LiveOp],
+    committed: &Names,
+    name: &Name,
+    object: u8,
+    op: &Op,
+) -> Option<LiveOp>
+    ensures { result ≡ find (λ o. is_on object o && (is_in_the_way name.now (lift_in committed.now.names o.action) && not (compatible (mode_of o.op) (mode_of op.now)))) live.now }
+{
+    for operation in live {
+        if is_conflict(committed, name, object, op, operation) {
+            return Some(*operation);
+        }
+    }
+    None
+}
+
+/// Whether a live operation conflicts.
+fn is_conflict(
+    committed: &Names,
+    name: &Name,
+    object: u8,
+    op: &Op,
+    operation: &LiveOp,
+) -> bool
+    ensures { result ≡ (is_on object operation.now && (is_in_the_way name.now (lift_in committed.now.names operation.now.action) && not (compatible (mode_of operation.now.op) (mode_of op.now)))) }
+{
+    operation.object == object
+        && is_in_the_way(name, &committed.lift(&operation.action))
+        && !compatible(mode_of(&operation.op), mode_of(op))
+}
+
+/// The value that an operation on the object meets.
+pub(crate) fn value(
+    alloc: Global,
+    live: &[LiveOp],
+    objects: &Objects,
+    object: u8,
+) -> Result<State, NoMemory>
+    ensures { IfOk result (λ state. state ≡ replay (start_of objects.now object) (filter (is_on object) live.now)) }
+{
+    let mut operations = LiveOps::new(alloc);
+    for operation in live {
+        if operation.object == object {
+            operations.push_copy(operation)?;
+        }
+    }
+    replay(start_of(objects, object)?, operations.as_slice())
+}
+
+/// The value of the object that is handed up past the top.
+pub(crate) fn settled(
+    alloc: Global,
+    live: &[LiveOp],
+    committed: &Names,
+    objects: &Objects,
+    object: u8,
+) -> Result<State, NoMemory>
+    ensures { IfOk result (λ state. state ≡ replay (start_of objects.now object) (filter (λ o. is_on object o && is_none (lift_in committed.now.names o.action)) live.now)) }
+{
+    let mut operations = LiveOps::new(alloc);
+    for operation in live {
+        if is_settled(committed, object, operation) {
+            operations.push_copy(operation)?;
+        }
+    }
+    replay(start_of(objects, object)?, operations.as_slice())
+}
+
+/// Whether an operation is on the object and handed up past the top.
+fn is_settled(committed: &Names, object: u8, operation: &LiveOp) -> bool
+    ensures { result ≡ (is_on object operation.now && is_none (lift_in committed.now.names operation.now.action)) }
+{
+    operation.object == object && committed.lift(&operation.action).is_none()
+}
+
+/// The operations of a family, as they are held.
+pub(crate) fn held(alloc: Global, live: &[LiveOp], family: &Name) -> Result<HeldOps, NoMemory>
+    ensures { IfOk result (λ ops. ops ≡ map held_op (filter (is_of family.now) live.now)) }
+{
+    let mut ops = HeldOps::new(alloc);
+    for operation in live {
+        if is_of(family, operation) {
+            ops.push(held_op(operation))?;
+        }
+    }
+    Ok(ops)
+}
+
+/// The operation as it is held.
+fn held_op(operation: &LiveOp) -> HeldOp
+    ensures { result ≡ held_op operation.now }
+{
+    HeldOp {
+        index: operation.index,
+        object: operation.object,
+        op: operation.op,
+    }
+}
+
+/// Whether an operation of the family is among them.
+pub(crate) fn has_family(live: &[LiveOp], family: &Name) -> bool
+    ensures { result ≡ list_any (is_of family.now) live.now }
+{
+    for operation in live {
+        if is_of(family, operation) {
+            return true;
+        }
+    }
+    false
+}
