@@ -101,4 +101,7 @@ rise_at n (o ∷ os) zero bound x lt is rise =
     let to : suc o.index ≤ bound = next_at_least (suc o.index) os bound rise.1 in
     let at : suc o.index ≡ x.index + 1 = omega (arith, same) in
     (omega (arith, same), omega (arith, same), subst (λ (k : ℕ). IndicesRise k os bound) at rise.1)
-rise_at n (o ∷ os) (suc i) bound x lt is rise = rise_at n os i bound x (omega arith) is rise
+rise_at n (o ∷ os) (suc i) bound x lt is rise =
+    let r = rise_at n os i bound x (omega arith) is rise in
+    let e : suc (i + 1) ≡ suc i + 1 = omega arith in
+    (r.0, r.1, subst (λ (k : ℕ). IndicesRise (x.index + 1) (drop k (o ∷ os)) bound) e r.2)

@@ -18,6 +18,6 @@ returns-clause-kept c =
     let os = c.args.live.now.ops in
     let ls = c.args.locks.now.items in
     let open_yet : has_name ns c.args.name.now ≡ false = sym c.contains.ensures ∙ c.if-contains.false in
-    subst (λ (ps : List LiveOp). AllLocks objects ns ps c.drop_below.new.self.next ls) (sym c.drop_below.ensures.ops)
-    (subst (λ (n : ℕ). AllLocks objects ns (filter (λ o. not (is_below c.args.name.now o)) os) n ls) (sym c.drop_below.ensures.next)
+    subst (λ (ps : List LiveOp). AllLocks objects ns ps c.drop_below-2.new.self.next ls) (sym c.drop_below-2.ensures.ops)
+    (subst (λ (n : ℕ). AllLocks objects ns (filter (λ o. not (is_below c.args.name.now o)) os) n ls) (sym c.drop_below-2.ensures.next)
     (all_abort objects ns os c.args.live.now.next ls c.args.name.now open_yet c.next-next.ensures.order c.requires))
