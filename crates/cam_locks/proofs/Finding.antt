@@ -38,13 +38,16 @@ blocking_leads site a x op m rise = by_mode (compatible m (mode_of op)) refl
   where
     test : LiveOp → Bool
     test = is_conflict site a x op
+
     stands : LiveOp → Bool
     stands o = is_lock x m o && way a site.committed o
+
     to_stand : (p : LiveOp) → mode_eq (mode_of p.op) m ≡ true → test p ≡ true → stands p ≡ true
     to_stand p same passes =
         let one = and_parts (is_on x p) (way a site.committed p && not (compatible (mode_of p.op) (mode_of op))) passes in
         let two = and_parts (way a site.committed p) (not (compatible (mode_of p.op) (mode_of op))) one.1 in
         and_from (is_lock x m p) (way a site.committed p) (and_from (is_on x p) (mode_eq (mode_of p.op) m) one.0 same) two.0
+
     to_test : compatible m (mode_of op) ≡ false → (p : LiveOp) → stands p ≡ true → test p ≡ true
     to_test apart p passes =
         let one = and_parts (is_lock x m p) (way a site.committed p) passes in
@@ -52,14 +55,17 @@ blocking_leads site a x op m rise = by_mode (compatible m (mode_of op)) refl
         and_from (is_on x p) (way a site.committed p && not (compatible (mode_of p.op) (mode_of op))) two.0
         (and_from (way a site.committed p) (not (compatible (mode_of p.op) (mode_of op))) one.1
         (ap not (ap (λ (k : Mode). compatible k (mode_of op)) (same_mode (mode_of p.op) m two.1) ∙ apart)))
+
     false_by : (p : LiveOp) → (b : Bool) → test p ≡ b → (b ≡ true → stands p ≡ true) → stands p ≡ false → b ≡ false
     false_by p false is so fails = refl
     false_by p true is so fails = let wrong : true ≡ false = sym (so refl) ∙ fails in cc
+
     by_found : compatible m (mode_of op) ≡ false → (r : Option LiveOp) → find stands site.live ≡ r → Leads m test site.live r
     by_found apart None none = λ p h same. false_by p (test p) refl (λ t. to_stand p same t) (find_none_all stands site.live none p h)
     by_found apart (Some o) found =
         let f = found_first stands 0 site.live site.next o rise found in
         (f.member, to_test apart o f.passes, λ p h same t. f.first p h (to_stand p same t))
+
     by_mode : (b : Bool) → compatible m (mode_of op) ≡ b → Leads m test site.live (cond b None (find stands site.live))
     by_mode true joins = λ p h same.
         ap (λ (k : Mode). is_on x p && (way a site.committed p && not (compatible k (mode_of op)))) (same_mode (mode_of p.op) m same)
@@ -79,8 +85,10 @@ conflict_by_mode site a x op rise =
   where
     test : LiveOp → Bool
     test = is_conflict site a x op
+
     first : (o : LiveOp) → In o site.live → test o ≡ true → ((p : LiveOp) → In p site.live → test p ≡ true → o.index ≤ p.index) → first_conflict site a x op ≡ Some o
     first o h t least = first_found test 0 site.live site.next o rise (record { member = h; passes = t; first = least })
+
     by_leads : (r w : Option LiveOp) → Leads modes.Read test site.live r → Leads modes.Write test site.live w → first_conflict site a x op ≡ earlier r w
     by_leads None None no_read no_write =
         find_no test site.live (λ p h. elim (some_mode (mode_of p.op)) [ inl m ↦ no_read p h m | inr m ↦ no_write p h m ])

@@ -65,6 +65,7 @@ middle_below os next m i x rise within is lt k d km = by_order (eqb k m) refl
   where
     at : (get_or os m d).index ≡ x.index
     at = ap (λ (o : LiveOp). o.index) (get_any os m x d within is)
+
     by_order : (b : Bool) → eqb k m ≡ b → (get_or os k d).index < i
     by_order true e =
         let same : k ≡ m = grind (arith, e) in
@@ -79,6 +80,7 @@ middle_above os next m i x rise within is le k d mk short = by_order (eqb k m) r
   where
     at : (get_or os m d).index ≡ x.index
     at = ap (λ (o : LiveOp). o.index) (get_any os m x d within is)
+
     by_order : (b : Bool) → eqb k m ≡ b → i ≤ (get_or os k d).index
     by_order true e =
         let same : k ≡ m = grind (arith, e) in

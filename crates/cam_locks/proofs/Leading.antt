@@ -37,9 +37,11 @@ first_of_mode x m ns os next ts a rise keeps = by_found (find (λ t. has_op os t
         let lead = keeps.covers p some.0 member parts.0 some.1 in
         let same : way a ns lead.0 ≡ true = ap (is_in_the_way a) (lead.1.same_lift ∙ sym some.1) ∙ parts.1 in
         (lead.0, lead.1.leads, and_from (has_op os lead.0.index) (way a ns lead.0) (has_member os lead.0 lead.1.is_live) same, lead.1.is_first)
+
     false_or_stands : (p : LiveOp) → In p os → ((t : LiveOp) → In t ts → (has_op os t.index && way a ns t) ≡ false) → (b : Bool) → (is_lock x m p && way a ns p) ≡ b → b ≡ false
     false_or_stands p member none false is = refl
     false_or_stands p member none true is = let s = stands p member is in let no : true ≡ false = sym s.2 ∙ none s.0 s.1 in cc
+
     by_found : (r : Option LiveOp) → find (λ t. has_op os t.index && way a ns t) ts ≡ r → find (λ o. is_lock x m o && way a ns o) os ≡ r
     by_found None none =
         find_no (λ o. is_lock x m o && way a ns o) os
@@ -145,18 +147,20 @@ leaders_abort x m ns os next ts n open_yet rise keeps = record {
   rising = keeps.rising;
   locks = keeps.locks;
   sound = λ t h live.
-    let p = member_at (filter (λ o. not (is_below n o)) os) t.index live in
-    let q = in_filter (λ o. not (is_below n o)) p.0 os p.1 in
-    let was : has_op os t.index ≡ true = subst (λ (i : ℕ). has_op os i ≡ true) p.2 (has_member os p.0 q.0) in
-    subst (λ (o : LiveOp). In o (filter (λ o. not (is_below n o)) os)) (same_op 0 os next p.0 t rise q.0 (keeps.sound t h was) p.2) p.1;
+      let p = member_at (filter (λ o. not (is_below n o)) os) t.index live in
+      let q = in_filter (λ o. not (is_below n o)) p.0 os p.1 in
+      let was : has_op os t.index ≡ true = subst (λ (i : ℕ). has_op os i ≡ true) p.2 (has_member os p.0 q.0) in
+      subst (λ (o : LiveOp). In o (filter (λ o. not (is_below n o)) os)) (same_op 0 os next p.0 t rise q.0 (keeps.sound t h was) p.2) p.1;
   covers = λ o u h lock is.
-    let k = in_filter (λ o. not (is_below n o)) o os h in
-    let lead = keeps.covers o u k.0 lock is in
-    let over : is_below n lead.0 ≡ false = stays_with ns n o lead.0 u open_yet is lead.1.same_lift (not_true (is_below n o) k.1) in
-    (lead.0, record {
-      leads = lead.1.leads;
-      is_live = in_filtered (λ o. not (is_below n o)) lead.0 os lead.1.is_live (ap not over);
-      is_first = lead.1.is_first;
-      same_lift = lead.1.same_lift;
-    });
+      let k = in_filter (λ o. not (is_below n o)) o os h in
+      let lead = keeps.covers o u k.0 lock is in
+      let over : is_below n lead.0 ≡ false = stays_with ns n o lead.0 u open_yet is lead.1.same_lift (not_true (is_below n o) k.1) in (
+        lead.0,
+        record {
+          leads = lead.1.leads;
+          is_live = in_filtered (λ o. not (is_below n o)) lead.0 os lead.1.is_live (ap not over);
+          is_first = lead.1.is_first;
+          same_lift = lead.1.same_lift;
+        },
+      );
 }

@@ -151,18 +151,23 @@ lift_below ns n a open_yet is = subst (λ (x : Name). (u : Name) × (lift_in ns 
   where
     split : (w : Name) × (a ≡ n ++ w)
     split = is_prefix_split n a (as_prefix n a is)
+
     w : Name
     w = split.0
+
     parts : 1 ≤ length n
     parts = some_parts n a is
+
     empty : n ++ [] ≡ n
     empty = nil n
       where
         nil : (x : Name) → x ++ [] ≡ x
         nil [] = refl
         nil (p ∷ x) = ap (λ (y : Name). p ∷ y) (nil x)
+
     here : lift_in ns n ≡ Some n
     here = sym (lift_here (has_name ns) n parts open_yet)
+
     by_found : (r : Option Name) → behind ns n w ≡ r → (u : Name) × (lift_in ns (n ++ w) ≡ Some u) × (is_ancestor n u ≡ true)
     by_found None none = (n, lift_on ns n w ∙ ap (λ (r : Option Name). option_or r (lift_in ns n)) none ∙ here, subst (λ (x : Name). is_ancestor n x ≡ true) empty (ancestor_on n [] parts))
     by_found (Some v) found =
@@ -185,11 +190,13 @@ lift_climbs less more a at_least = by_lift (lift_in less a) refl
       where
         split : (w : Name) × (a ≡ u ++ w)
         split = is_prefix_split u a (as_prefix u a (lift_ancestor less a u is))
+
         climbs : (w : Name) → a ≡ u ++ w → lift_in more a ≡ lift_in more u
         climbs w e = ap (lift_in more) e ∙ lift_on more u w ∙ ap (λ (r : Option Name). option_or r (lift_in more u)) (nothing (behind less u w) refl)
           where
             is_on : option_or (behind less u w) (lift_in less u) ≡ Some u
             is_on = sym (lift_on less u w) ∙ ap (lift_in less) (sym e) ∙ is
+
             nothing : (r : Option Name) → behind less u w ≡ r → behind more u w ≡ None
             nothing None none =
                 find_no (λ v. not (has_name more v)) (reverse (map (λ x. u ++ x) (ancestors w)))
@@ -205,7 +212,7 @@ lift_climbs less more a at_least = by_lift (lift_in less a) refl
                 absurd (omega arith)
 
 -- one more name is among the names
-any_append : (a : Name) (us vs : List Name) → list_any (name_eq a) (us ++ vs) ≡ (list_any (name_eq a) us || list_any (name_eq a) vs)
+pub any_append : (a : Name) (us vs : List Name) → list_any (name_eq a) (us ++ vs) ≡ (list_any (name_eq a) us || list_any (name_eq a) vs)
 any_append a [] vs = refl
 any_append a (u ∷ us) vs = ap (λ (b : Bool). name_eq a u || b) (any_append a us vs) ∙ or_assoc (name_eq a u) (list_any (name_eq a) us) (list_any (name_eq a) vs)
   where
@@ -230,8 +237,21 @@ clear_stays less more a b at_least h = by_lift (lift_in less a) refl
       where
         above : is_ancestor u b ≡ true
         above = not_false (is_ancestor u b) (ap (is_in_the_way b) (sym is) ∙ h)
+
         climbed : lift_in more a ≡ lift_in more u
         climbed = lift_climbs less more a at_least ∙ ap (option_and_then (lift_in more)) is
+
         higher : (r : Option Name) → lift_in more u ≡ r → is_in_the_way b (lift_in more a) ≡ false
         higher None none = ap (is_in_the_way b) (climbed ∙ none)
         higher (Some v) found = ap (is_in_the_way b) (climbed ∙ found) ∙ ap not (ancestor_through v u b (lift_ancestor more u v found) above)
+
+-- one name more, as a table of hashes tells it
+pub more_has : (ns : List Name) (n a : Name) → (if name_eq n a then true else has_name ns a) ≡ has_name (ns ++ n ∷ []) a
+more_has ns n a =
+    by_test (name_eq n a) (has_name ns a) ∙ ap (λ (b : Bool). has_name ns a || (b || false)) (name_eq_sym n a) ∙ sym (any_append a ns (n ∷ []))
+  where
+    by_test : (b h : Bool) → cond b true h ≡ (h || (b || false))
+    by_test true true = refl
+    by_test true false = refl
+    by_test false true = refl
+    by_test false false = refl

@@ -99,19 +99,23 @@ keeps_added x start ns os l n state rise on is clear keeps = by_mode (mode_of n.
   where
     nested : IsNested x ns (os ++ n ∷ [])
     nested = nested_push x ns os n.index n refl rise clear keeps.nested
+
     lock_of : (m : Mode) (b : Bool) → mode_eq (mode_of n.op) m ≡ b → is_lock x m n ≡ b
     lock_of m b e = ap (λ (c : Bool). c && mode_eq (mode_of n.op) m) on ∙ e
+
     with_mode : (m : Mode) (ts : List LiveOp) → KeepsLeaders x m ns os n.index ts → (b : Bool) → mode_eq (mode_of n.op) m ≡ b
         → KeepsLeaders x m ns (os ++ n ∷ []) (n.index + 1) (ts ++ cond b (n ∷ []) [])
     with_mode m ts kept true e = push_lock x m ns os n.index ts n refl (lock_of m true e) kept
     with_mode m ts kept false e =
         subst (λ (us : List LiveOp). KeepsLeaders x m ns (os ++ n ∷ []) (n.index + 1) us) (sym (append_nil ts)) (push_other x m ns os n.index ts n refl (lock_of m false e) kept)
+
     with_version : (b : Bool) → mode_eq (mode_of n.op) modes.Write ≡ b
         → KeepsVersions x start ns (os ++ n ∷ []) (n.index + 1) (l.versions ++ cond b (record { last = n; state = state } ∷ []) [])
     with_version true e = versions_write x start ns os n.index l.versions n state refl (lock_of modes.Write true e) rise is keeps.versions
     with_version false e =
         subst (λ (vs : List Version). KeepsVersions x start ns (os ++ n ∷ []) (n.index + 1) vs) (sym (append_nil l.versions))
         (versions_other x start ns os n.index l.versions n refl (lock_of modes.Write false e) keeps.versions)
+
     by_mode : (m : Mode) → mode_of n.op ≡ m → KeepsLocks x start ns (os ++ n ∷ []) (n.index + 1) (added l n state)
     by_mode m e = record {
       readers = with_mode modes.Read l.readers keeps.readers (mode_eq (mode_of n.op) modes.Read) refl;
@@ -128,11 +132,13 @@ no_conflict ns os a x op none o h on apart = by_found (find (conflicts ns a x op
     open_way : (r : Option Name) → is_in_the_way a r ≡ true → r ≡ None → true ≡ false
     open_way None w e = cc
     open_way (Some u) w e = cc
+
     clear : conflicts ns a x op o ≡ false → (b : Bool) → way a ns o ≡ b → b ≡ false
     clear fails false e = refl
     clear fails true e =
         let all : conflicts ns a x op o ≡ true = and_from (is_on x o) (way a ns o && not (compatible (mode_of o.op) (mode_of op))) on (and_from (way a ns o) (not (compatible (mode_of o.op) (mode_of op))) e (ap not apart)) in
         sym all ∙ fails
+
     by_found : (r : Option LiveOp) → find (conflicts ns a x op) os ≡ r → option_and_then (λ o. lift_in ns o.action) r ≡ None → is_in_the_way a (lift_in ns o.action) ≡ false
     by_found None is e = clear (find_none_all (conflicts ns a x op) os is o h) (way a ns o) refl
     by_found (Some p) is e =
@@ -203,6 +209,7 @@ all_added objects ns os next old new n state rise le is none each all x l lt sta
   where
     risen : IndicesRise 0 os n.index
     risen = rise_later 0 os next n.index le rise
+
     here : x < length old → x ≡ n.object → KeepsLocks x (start_of objects x) ns (os ++ n ∷ []) (n.index + 1) (get_or new x l)
     here within same =
         let change = (each.each x l within).here same in
@@ -214,6 +221,7 @@ all_added objects ns os next old new n state rise le is none each all x l lt sta
         (λ o h on also apart. no_conflict ns os n.action n.object n.op none o h (subst (λ (y : ℕ). is_on y o ≡ true) same on) apart) in
         subst (λ (k : LocksView). KeepsLocks x (start_of objects x) ns (os ++ n ∷ []) (n.index + 1) k) (sym change)
         (keeps_added x (start_of objects x) ns os (get_or old x l) n state risen (on_object x n same) state_is clear kept)
+
     elsewhere : x < length old → x ≢ n.object → KeepsLocks x (start_of objects x) ns (os ++ n ∷ []) (n.index + 1) (get_or new x l)
     elsewhere within apart =
         let change = (each.each x l within).elsewhere apart in
@@ -228,11 +236,11 @@ all_spoiled_at objects ns os next old new n rise le each all x l lt stale =
     elim (by_eq x n.object) [
       | inl same ↦ let wrong : true ≡ false = sym ((each.each x l within).here same) ∙ stale in cc
       | inr apart ↦
-        let change = (each.each x l within).elsewhere apart in
-        let was : (get_or old x l).stale ≡ false = sym (ap (λ (k : LocksView). k.stale) change) ∙ stale in
-        subst (λ (k : LocksView). KeepsLocks x (start_of objects x) ns (os ++ n ∷ []) (n.index + 1) k) (sym change)
-        (keeps_other x (start_of objects x) ns os (get_or old x l) n (rise_later 0 os next n.index le rise) (off_object x n apart)
-        (keeps_later x (start_of objects x) ns os next n.index (get_or old x l) le (all x l within was)))
+          let change = (each.each x l within).elsewhere apart in
+          let was : (get_or old x l).stale ≡ false = sym (ap (λ (k : LocksView). k.stale) change) ∙ stale in
+          subst (λ (k : LocksView). KeepsLocks x (start_of objects x) ns (os ++ n ∷ []) (n.index + 1) k) (sym change)
+          (keeps_other x (start_of objects x) ns os (get_or old x l) n (rise_later 0 os next n.index le rise) (off_object x n apart)
+          (keeps_later x (start_of objects x) ns os next n.index (get_or old x l) le (all x l within was)))
     ]
 
 pub all_commit : (objects : List ObjectDecl) (less more : List Name) (os : List LiveOp) (next : ℕ) (ls : List LocksView) → AtLeast more less
@@ -272,6 +280,7 @@ each_set change ls at was now lt is changed others = record {
     get_any [] m k d short e = absurd (omega arith)
     get_any (j ∷ ks) zero k d short e = sym e
     get_any (j ∷ ks) (suc m) k d short e = get_any ks m k d (omega arith) e
+
     here : (x : ℕ) (l : LocksView) → x ≡ at → change x (get_or ls x l) (get_or (set ls at now) x l)
     here x l same =
         subst (λ (y : ℕ). change y (get_or ls y l) (get_or (set ls at now) y l)) (sym same)
@@ -290,3 +299,9 @@ all_alike objects objects' ns ns' os os' next next' ls ls' a b c d e all =
     (subst (λ (v : List LiveOp). AllLocks objects ns v next' ls') (sym c)
     (subst (λ (v : ℕ). AllLocks objects ns os v ls') (sym d)
     (subst (λ (v : List LocksView). AllLocks objects ns os next v) (sym e) all))))
+
+pub all_fresh_at : (objects : List ObjectDecl) (ns : List Name) (os : List LiveOp) (next : ℕ) (ls : List LocksView) → os ≡ [] → next ≡ 0
+    → Rattle.std.specs.List.All (λ l. l ≡ fresh) ls → AllLocks objects ns os next ls
+all_fresh_at objects ns os next ls no_ops zero_next each =
+    subst (λ (ps : List LiveOp). AllLocks objects ns ps next ls) (sym no_ops)
+    (subst (λ (n : ℕ). AllLocks objects ns [] n ls) (sym zero_next) (all_fresh objects ns ls each))

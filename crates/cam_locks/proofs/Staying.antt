@@ -49,10 +49,11 @@ versions_other x start ns os next vs n at other keeps = record {
   rising = rise_later 0 (map (λ v. v.last) vs) next (next + 1) (omega arith) keeps.rising;
   locks = keeps.locks;
   sound = λ v h live.
-    let lt : v.last.index < next = version_below vs next v keeps.rising h in
-    let own = keeps.sound v h (has_push os n v.last.index (omega arith) live) in
-    (in_left v.last os (n ∷ []) own.0,
-      own.1 ∙ ap (replay start) (sym (filter_more (is_written x v.last.index) os n (ap (λ (b : Bool). b && nat_le n.index v.last.index) other))));
+      let lt : v.last.index < next = version_below vs next v keeps.rising h in
+      let own = keeps.sound v h (has_push os n v.last.index (omega arith) live) in (
+        in_left v.last os (n ∷ []) own.0,
+        own.1 ∙ ap (replay start) (sym (filter_more (is_written x v.last.index) os n (ap (λ (b : Bool). b && nat_le n.index v.last.index) other))),
+      );
   covers = λ o h lock. elim (in_either o os (n ∷ []) h) [
     | inl k ↦ same_versions o (keeps.covers o k lock)
     | inr k ↦ let wrong : true ≡ false = sym lock ∙ ap (is_lock x modes.Write) (in_last o n k) ∙ other in cc
@@ -81,17 +82,20 @@ versions_write x start ns os next vs n state at lock rise is keeps = record {
   where
     new : Version
     new = record { last = n; state = state }
+
     old_sound : (v : Version) → In v vs → has_op (os ++ n ∷ []) v.last.index ≡ true → In v.last (os ++ n ∷ []) × (v.state ≡ replay start (filter (is_written x v.last.index) (os ++ n ∷ [])))
     old_sound v k live =
         let lt : v.last.index < next = version_below vs next v keeps.rising k in
         let own = keeps.sound v k (has_push os n v.last.index (omega arith) live) in
-        let later : nat_le n.index v.last.index ≡ false = le_no n.index v.last.index (omega arith) in
-        (in_left v.last os (n ∷ []) own.0,
-          own.1 ∙ ap (replay start) (sym (filter_more (is_written x v.last.index) os n (ap (λ (b : Bool). is_lock x modes.Write n && b) later ∙ and_no (is_lock x modes.Write n)))))
+        let later : nat_le n.index v.last.index ≡ false = le_no n.index v.last.index (omega arith) in (
+          in_left v.last os (n ∷ []) own.0,
+          own.1 ∙ ap (replay start) (sym (filter_more (is_written x v.last.index) os n (ap (λ (b : Bool). is_lock x modes.Write n && b) later ∙ and_no (is_lock x modes.Write n)))),
+        )
       where
         and_no : (b : Bool) → (b && false) ≡ false
         and_no true = refl
         and_no false = refl
+
     all_before : (o : LiveOp) → In o os → is_written x n.index o ≡ (is_on x o && mode_eq (mode_of o.op) modes.Write)
     all_before o h =
         let lt : o.index < next = below 0 os next o rise h in
@@ -100,22 +104,27 @@ versions_write x start ns os next vs n state at lock rise is keeps = record {
         and_yes : (b : Bool) → (b && true) ≡ b
         and_yes true = refl
         and_yes false = refl
+
     new_sound : In n (os ++ n ∷ []) × (state ≡ replay start (filter (is_written x n.index) (os ++ n ∷ [])))
-    new_sound =
-        (in_right n os (n ∷ []) (inl refl),
-          is ∙ ap (λ (s : State). state_after s n.op) (writes_count (is_on x) start os ∙ ap (replay start) (sym (filter_agree (is_written x n.index) (λ o. is_on x o && mode_eq (mode_of o.op) modes.Write) os all_before)))
+    new_sound = (
+      in_right n os (n ∷ []) (inl refl),
+      is ∙ ap (λ (s : State). state_after s n.op) (writes_count (is_on x) start os ∙ ap (replay start) (sym (filter_agree (is_written x n.index) (λ o. is_on x o && mode_eq (mode_of o.op) modes.Write) os all_before)))
           ∙ sym (replay_append start (filter (is_written x n.index) os) (n ∷ []))
           ∙ ap (replay start) (sym (filter-append (is_written x n.index) os (n ∷ [])
-          ∙ ap (λ (b : Bool). filter (is_written x n.index) os ++ cond b (n ∷ []) []) (and_from (is_lock x modes.Write n) (nat_le n.index n.index) lock (le_yes n.index n.index (omega arith))))))
+          ∙ ap (λ (b : Bool). filter (is_written x n.index) os ++ cond b (n ∷ []) []) (and_from (is_lock x modes.Write n) (nat_le n.index n.index) lock (le_yes n.index n.index (omega arith))))),
+    )
+
     new_cover : (o : LiveOp) → o ≡ n → (v : Version) × IsVersionOf ns (os ++ n ∷ []) (vs ++ new ∷ []) o v
     new_cover o e =
-        let same : o.index ≡ n.index = ap (λ (p : LiveOp). p.index) e in
-        (new, record {
-          kept = in_right new vs (new ∷ []) (inl refl);
-          is_live = in_right n os (n ∷ []) (inl refl);
-          is_last = omega arith;
-          same_lift = ap (λ (p : LiveOp). lift_in ns p.action) (sym e);
-        })
+        let same : o.index ≡ n.index = ap (λ (p : LiveOp). p.index) e in (
+          new,
+          record {
+            kept = in_right new vs (new ∷ []) (inl refl);
+            is_live = in_right n os (n ∷ []) (inl refl);
+            is_last = omega arith;
+            same_lift = ap (λ (p : LiveOp). lift_in ns p.action) (sym e);
+          },
+        )
 
 pub versions_commit : (x : ℕ) (start : State) (less more : List Name) (os : List LiveOp) (next : ℕ) (vs : List Version)
     → AtLeast more less → KeepsVersions x start less os next vs → KeepsVersions x start more os next vs
@@ -124,13 +133,15 @@ versions_commit x start less more os next vs at_least keeps = record {
   locks = keeps.locks;
   sound = keeps.sound;
   covers = λ o h lock.
-    let c = keeps.covers o h lock in
-    (c.0, record {
-      kept = c.1.kept;
-      is_live = c.1.is_live;
-      is_last = c.1.is_last;
-      same_lift = lift_climbs less more c.0.last.action at_least ∙ ap (option_and_then (lift_in more)) c.1.same_lift ∙ sym (lift_climbs less more o.action at_least);
-    });
+      let c = keeps.covers o h lock in (
+        c.0,
+        record {
+          kept = c.1.kept;
+          is_live = c.1.is_live;
+          is_last = c.1.is_last;
+          same_lift = lift_climbs less more c.0.last.action at_least ∙ ap (option_and_then (lift_in more)) c.1.same_lift ∙ sym (lift_climbs less more o.action at_least);
+        },
+      );
 }
 
 filter_twice : {X : Type 0} (p q : X → Bool) (xs : List X) → filter p (filter q xs) ≡ filter (λ x. q x && p x) xs
@@ -151,31 +162,36 @@ versions_abort x start ns os next vs n open_yet rise nested keeps = record {
   rising = keeps.rising;
   locks = keeps.locks;
   sound = λ v h live.
-    let p = member_at left v.last.index live in
-    let q = in_filter (λ o. not (is_below n o)) p.0 os p.1 in
-    let was : has_op os v.last.index ≡ true = subst (λ (i : ℕ). has_op os i ≡ true) p.2 (has_member os p.0 q.0) in
-    let own = keeps.sound v h was in
-    let still : In v.last left = subst (λ (o : LiveOp). In o left) (same_op 0 os next p.0 v.last rise q.0 own.0 p.2) p.1 in
-    (still, own.1 ∙ ap (replay start) (same_writes v h own.0 (in_filter (λ o. not (is_below n o)) v.last os still).1));
+      let p = member_at left v.last.index live in
+      let q = in_filter (λ o. not (is_below n o)) p.0 os p.1 in
+      let was : has_op os v.last.index ≡ true = subst (λ (i : ℕ). has_op os i ≡ true) p.2 (has_member os p.0 q.0) in
+      let own = keeps.sound v h was in
+      let still : In v.last left = subst (λ (o : LiveOp). In o left) (same_op 0 os next p.0 v.last rise q.0 own.0 p.2) p.1 in
+      (still, own.1 ∙ ap (replay start) (same_writes v h own.0 (in_filter (λ o. not (is_below n o)) v.last os still).1));
   covers = λ o h lock.
-    let k = in_filter (λ o. not (is_below n o)) o os h in
-    let c = keeps.covers o k.0 lock in
-    (c.0, record {
-      kept = c.1.kept;
-      is_live = in_filtered (λ o. not (is_below n o)) c.0.last os c.1.is_live (ap not (stays_along o c.0.last k.1 c.1.same_lift));
-      is_last = c.1.is_last;
-      same_lift = c.1.same_lift;
-    });
+      let k = in_filter (λ o. not (is_below n o)) o os h in
+      let c = keeps.covers o k.0 lock in (
+        c.0,
+        record {
+          kept = c.1.kept;
+          is_live = in_filtered (λ o. not (is_below n o)) c.0.last os c.1.is_live (ap not (stays_along o c.0.last k.1 c.1.same_lift));
+          is_last = c.1.is_last;
+          same_lift = c.1.same_lift;
+        },
+      );
 }
   where
     left : List LiveOp
     left = filter (λ o. not (is_below n o)) os
+
     not_true : (b : Bool) → not b ≡ true → b ≡ false
     not_true true h = cc
     not_true false h = refl
+
     not_false : (b : Bool) → not b ≡ false → b ≡ true
     not_false true h = refl
     not_false false h = cc
+
     stays_along : (o t : LiveOp) → not (is_below n o) ≡ true → lift_in ns t.action ≡ lift_in ns o.action → is_below n t ≡ false
     stays_along o t over same = by_test (is_below n t) refl
       where
@@ -188,6 +204,7 @@ versions_abort x start ns os next vs n open_yet rise nested keeps = record {
           where
             lift_over : (o : LiveOp) (u : Name) → lift_in ns o.action ≡ Some u → is_ancestor u o.action ≡ true
             lift_over o u is = Rattle.cam_locks.proofs.Lifting.lift_ancestor ns o.action u is
+
     same_writes : (v : Version) → In v vs → In v.last os → not (is_below n v.last) ≡ true → filter (is_written x v.last.index) os ≡ filter (is_written x v.last.index) left
     same_writes v h member over =
         filter_agree (is_written x v.last.index) (λ o. not (is_below n o) && is_written x v.last.index o) os agree
@@ -195,6 +212,7 @@ versions_abort x start ns os next vs n open_yet rise nested keeps = record {
       where
         its : (is_on x v.last ≡ true) × (mode_eq (mode_of v.last.op) modes.Write ≡ true)
         its = and_parts (is_on x v.last) (mode_eq (mode_of v.last.op) modes.Write) (keeps.locks v h)
+
         dropped_behind : (o : LiveOp) → In o os → is_lock x modes.Write o ≡ true → o.index < v.last.index → is_below n o ≡ true → is_below n v.last ≡ true
         dropped_behind o k lock lt under =
             let mine = and_parts (is_on x o) (mode_eq (mode_of o.op) modes.Write) lock in
@@ -203,6 +221,7 @@ versions_abort x start ns os next vs n open_yet rise nested keeps = record {
             let b = lift_below ns n o.action open_yet under in
             let clear = nested o v.last k member lt mine.0 its.0 apart in
             ancestor_through n b.0 v.last.action b.2 (not_false (is_ancestor b.0 v.last.action) (ap (is_in_the_way v.last.action) (sym b.1) ∙ clear))
+
         agree : (o : LiveOp) → In o os → is_written x v.last.index o ≡ (not (is_below n o) && is_written x v.last.index o)
         agree o k = by_test (is_written x v.last.index o) (is_below n o) refl refl
           where
@@ -234,11 +253,11 @@ nested_push x ns os next n at rise clear nested o p h k lt on also apart =
       ]
       | inr i ↦ elim (in_either p os (n ∷ []) k) [
         | inl j ↦
-          let before : p.index < next = below 0 os next p rise j in
-          let same : o.index ≡ n.index = ap (λ (q : LiveOp). q.index) (in_last o n i) in absurd (omega arith)
+            let before : p.index < next = below 0 os next p rise j in
+            let same : o.index ≡ n.index = ap (λ (q : LiveOp). q.index) (in_last o n i) in absurd (omega arith)
         | inr j ↦
-          let same : o.index ≡ n.index = ap (λ (q : LiveOp). q.index) (in_last o n i) in
-          let equal : p.index ≡ n.index = ap (λ (q : LiveOp). q.index) (in_last p n j) in absurd (omega arith)
+            let same : o.index ≡ n.index = ap (λ (q : LiveOp). q.index) (in_last o n i) in
+            let equal : p.index ≡ n.index = ap (λ (q : LiveOp). q.index) (in_last p n j) in absurd (omega arith)
       ]
     ]
   where

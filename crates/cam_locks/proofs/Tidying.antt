@@ -75,13 +75,16 @@ leaders_drop x m ns os next ts t before among idle keeps = record {
     by_leader None among led o u le same = cc
     by_leader (Some s) among led o u le same =
         let parts = and_parts (has_op os s.index) (lift_eq (lift_in ns s.action) (lift_in ns t.action)) led in
-        let lt : s.index < t.index = rise_before 0 ts t [] next s keeps.rising among in
-        (s, record {
-          leads = among;
-          is_live = keeps.sound s (in_left s ts (t ∷ []) among) parts.0;
-          is_first = omega arith;
-          same_lift = lift_eq_same (lift_in ns s.action) (lift_in ns t.action) parts.1 ∙ same;
-        })
+        let lt : s.index < t.index = rise_before 0 ts t [] next s keeps.rising among in (
+          s,
+          record {
+            leads = among;
+            is_live = keeps.sound s (in_left s ts (t ∷ []) among) parts.0;
+            is_first = omega arith;
+            same_lift = lift_eq_same (lift_in ns s.action) (lift_in ns t.action) parts.1 ∙ same;
+          },
+        )
+
     not_itself : (o s : LiveOp) (u : Name) → s ≡ t → IsLeader ns os (ts ++ t ∷ []) o u s → (r : LiveOp) × IsLeader ns os ts o u r
     not_itself o s u e lead =
         let same : lift_in ns t.action ≡ Some u = ap (λ (p : LiveOp). lift_in ns p.action) (sym e) ∙ lead.same_lift in
@@ -96,6 +99,7 @@ leaders_drop x m ns os next ts t before among idle keeps = record {
             | inr led ↦ by_leader before among led o u le same
           ]
         ]
+
     other : (o : LiveOp) (u : Name) → lift_in ns o.action ≡ Some u → (s : LiveOp) × IsLeader ns os (ts ++ t ∷ []) o u s → (s : LiveOp) × IsLeader ns os ts o u s
     other o u is lead =
         elim (in_either lead.0 ts (t ∷ []) lead.1.leads) [
@@ -112,8 +116,8 @@ versions_without : (x : ℕ) (start : State) (ns : List Name) (os : List LiveOp)
     → KeepsVersions x start ns os next (vs ++ v ∷ ws) → KeepsVersions x start ns os next (vs ++ ws)
 versions_without x start ns os next vs v ws instead keeps = record {
   rising =
-    subst (λ (ps : List LiveOp). IndicesRise 0 ps next) (sym (map-append (λ w. w.last) vs ws))
-    (rise_without 0 (ops vs) v.last (ops ws) next (subst (λ (ps : List LiveOp). IndicesRise 0 ps next) (map-append (λ w. w.last) vs (v ∷ ws)) keeps.rising));
+      subst (λ (ps : List LiveOp). IndicesRise 0 ps next) (sym (map-append (λ w. w.last) vs ws))
+      (rise_without 0 (ops vs) v.last (ops ws) next (subst (λ (ps : List LiveOp). IndicesRise 0 ps next) (map-append (λ w. w.last) vs (v ∷ ws)) keeps.rising));
   locks = λ w h. keeps.locks w (wider w h);
   sound = λ w h live. keeps.sound w (wider w h) live;
   covers = λ o h lock. other o (keeps.covers o h lock);
@@ -121,6 +125,7 @@ versions_without x start ns os next vs v ws instead keeps = record {
   where
     wider : (w : Version) → In w (vs ++ ws) → In w (vs ++ v ∷ ws)
     wider w h = elim (in_either w vs ws h) [ inl k ↦ in_left w vs (v ∷ ws) k | inr k ↦ in_right w vs (v ∷ ws) (inr k) ]
+
     other : (o : LiveOp) → (w : Version) × IsVersionOf ns os (vs ++ v ∷ ws) o w → (w : Version) × IsVersionOf ns os (vs ++ ws) o w
     other o c =
         elim (in_either c.0 vs (v ∷ ws) c.1.kept) [
@@ -146,17 +151,21 @@ versions_drop_older x start ns os next vs v later live old keeps =
   where
     lt : v.last.index < later.last.index
     lt = rise_behind 0 (ops vs) v.last later.last next (subst (λ (ps : List LiveOp). IndicesRise 0 ps next) (map-append (λ w. w.last) vs (v ∷ later ∷ [])) keeps.rising)
+
     instead : (o : LiveOp) → IsVersionOf ns os (vs ++ v ∷ later ∷ []) o v → (w : Version) × IsVersionOf ns os (vs ++ later ∷ []) o w
     instead o c =
         let on : o.index ≤ v.last.index = c.is_last in
         elim (or_cases (not (has_op os v.last.index)) (lift_eq (lift_in ns v.last.action) (lift_in ns later.last.action)) old) [
           | inl dead ↦ let wrong : true ≡ false = sym (has_member os v.last c.is_live) ∙ not_true (has_op os v.last.index) dead in cc
-          | inr same ↦ (later, record {
-            kept = in_right later vs (later ∷ []) (inl refl);
-            is_live = (keeps.sound later (in_right later vs (v ∷ later ∷ []) (inr (inl refl))) live).0;
-            is_last = omega (arith, lt, on);
-            same_lift = sym (lift_eq_same (lift_in ns v.last.action) (lift_in ns later.last.action) same) ∙ c.same_lift;
-          })
+          | inr same ↦ (
+            later,
+            record {
+              kept = in_right later vs (later ∷ []) (inl refl);
+              is_live = (keeps.sound later (in_right later vs (v ∷ later ∷ []) (inr (inl refl))) live).0;
+              is_last = omega (arith, lt, on);
+              same_lift = sym (lift_eq_same (lift_in ns v.last.action) (lift_in ns later.last.action) same) ∙ c.same_lift;
+            },
+          )
         ]
 
 -- what stands at a place is among the rest

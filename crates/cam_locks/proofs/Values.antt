@@ -54,6 +54,7 @@ writes_count test state (o ∷ os) = by_test (test o) (mode_eq (mode_of o.op) mo
   where
     kept : List LiveOp
     kept = filter (λ p. test p && mode_eq (mode_of p.op) modes.Write) os
+
     by_test : (b w : Bool) → mode_eq (mode_of o.op) modes.Write ≡ w → replay state (filter test os) ≡ replay state kept → replay (state_after state o.op) (filter test os) ≡ replay (state_after state o.op) kept
         → replay state (cond b (o ∷ filter test os) (filter test os)) ≡ replay state (cond (b && w) (o ∷ kept) kept)
     by_test true true is same further = further
@@ -125,8 +126,10 @@ value_current x start ns os next vs v keeps found =
   where
     l : IsLast (is_current ns os false) vs v
     l = current_last (is_current ns os false) 0 vs next v keeps.rising found
+
     live : has_op os v.last.index ≡ true
     live = (and_parts (has_op os v.last.index) true l.passes).0
+
     agree : (o : LiveOp) → In o os → is_written x v.last.index o ≡ is_lock x modes.Write o
     agree o member = by_lock (is_lock x modes.Write o) refl
       where
@@ -145,6 +148,7 @@ value_none x start ns os next vs keeps none =
     nothing : (ps : List LiveOp) → filter (λ o. false) ps ≡ []
     nothing [] = refl
     nothing (p ∷ ps) = nothing ps
+
     agree : (o : LiveOp) → In o os → is_lock x modes.Write o ≡ false
     agree o member = by_lock (is_lock x modes.Write o) refl
       where
@@ -172,16 +176,20 @@ settled_current x start ns os next vs v rise nested keeps found =
   where
     l : IsLast (is_current ns os true) vs v
     l = current_last (is_current ns os true) 0 vs next v keeps.rising found
+
     parts : (has_op os v.last.index ≡ true) × (is_done ns v.last ≡ true)
     parts = and_parts (has_op os v.last.index) (is_done ns v.last) l.passes
+
     own : In v.last os × (v.state ≡ replay start (filter (is_written x v.last.index) os))
     own = keeps.sound v l.member parts.0
+
     shape : (a b c : Bool) → ((a && b) && c) ≡ ((a && c) && b)
     shape true true true = refl
     shape true true false = refl
     shape true false true = refl
     shape true false false = refl
     shape false b c = refl
+
     -- an earlier write is done too: its lift is no ancestor of the version's action, since those are all committed
     earlier_done : (o : LiveOp) → In o os → is_lock x modes.Write o ≡ true → o.index < v.last.index → (r : Option Name) → lift_in ns o.action ≡ r → is_none r ≡ true
     earlier_done o member lock lt None is = refl
@@ -198,6 +206,7 @@ settled_current x start ns os next vs v rise nested keeps found =
         not_false : (b : Bool) → not b ≡ false → b ≡ true
         not_false true h = refl
         not_false false h = cc
+
     agree : (o : LiveOp) → In o os → is_written x v.last.index o ≡ ((is_on x o && is_done ns o) && mode_eq (mode_of o.op) modes.Write)
     agree o member = by_lock (is_lock x modes.Write o) refl ∙ sym (shape (is_on x o) (is_done ns o) (mode_eq (mode_of o.op) modes.Write))
       where
@@ -215,6 +224,7 @@ settled_current x start ns os next vs v rise nested keeps found =
           where
             at : o.index ≤ v.last.index
             at = le_from o.index v.last.index le
+
             by_order : (g : Bool) → nat_le v.last.index o.index ≡ g → true ≡ false
             by_order true ge =
                 let from : v.last.index ≤ o.index = le_from v.last.index o.index ge in
@@ -223,6 +233,7 @@ settled_current x start ns os next vs v rise nested keeps found =
             by_order false ge =
                 let before : o.index < v.last.index = lt_from v.last.index o.index ge in
                 sym (earlier_done o member lock before (lift_in ns o.action) refl) ∙ done
+
         by_lock : (b : Bool) → is_lock x modes.Write o ≡ b → (b && nat_le o.index v.last.index) ≡ (b && is_done ns o)
         by_lock false is = refl
         by_lock true is = by_done is (is_done ns o) refl (nat_le o.index v.last.index) refl
@@ -236,6 +247,7 @@ settled_none x start ns os next vs keeps none =
     nothing : (ps : List LiveOp) → filter (λ o. false) ps ≡ []
     nothing [] = refl
     nothing (p ∷ ps) = nothing ps
+
     agree : (o : LiveOp) → In o os → ((is_on x o && is_done ns o) && mode_eq (mode_of o.op) modes.Write) ≡ false
     agree o member = by_all ((is_on x o && is_done ns o) && mode_eq (mode_of o.op) modes.Write) refl
       where

@@ -121,7 +121,7 @@ added locks o state =
     record locks {
       readers = locks.readers ++ if_mode modes.Read o;
       writers = locks.writers ++ if_mode modes.Write o;
-      versions = locks.versions ++ (if mode_eq (mode_of o.op) modes.Write then record { last = o; state = state } ∷ [] else [])
+      versions = locks.versions ++ (if mode_eq (mode_of o.op) modes.Write then record { last = o; state = state } ∷ [] else []);
     }
 
 -- the first lock of the mode that stands in the way of an op of an action, unless the mode is compatible

@@ -35,13 +35,7 @@ pub(crate) fn first_conflict(
 }
 
 /// Whether a live operation conflicts.
-fn is_conflict(
-    committed: &Names,
-    name: &Name,
-    object: u8,
-    op: &Op,
-    operation: &LiveOp,
-) -> bool
+fn is_conflict(committed: &Names, name: &Name, object: u8, op: &Op, operation: &LiveOp) -> bool
     ensures { result ≡ (is_on object operation.now && (is_in_the_way name.now (lift_in committed.now.names operation.now.action) && not (compatible (mode_of operation.now.op) (mode_of op.now)))) }
 {
     operation.object == object

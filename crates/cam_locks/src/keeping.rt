@@ -6,12 +6,11 @@ ghost use Rattle.cam_locks.specs.Moss.{is_on, is_in_the_way, replay};
 ghost use Rattle.cam_locks.specs.Calls.{grant_by, is_below};
 ghost use Rattle.cam_locks.specs.Holding.{AllLocks, lift_in, holder_of, value_of, by_holder};
 
-use crate::by_list;
 use crate::live::Live;
 use crate::locks::{self, Locks};
 use crate::names::Names;
 use crate::operations::start_of;
-use crate::{Grant, LiveOp};
+use crate::{Grant, LiveOp, by_list};
 use cam_base::NoMemory;
 use cam_names::Name;
 use cam_type::{Objects, Op, State, apply};

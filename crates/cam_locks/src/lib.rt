@@ -11,15 +11,16 @@ mod live;
 mod locks;
 mod names;
 mod operations;
-mod restore;
 mod plain;
+mod restore;
 mod table;
 mod versions;
 
+pub use plain::PlainTable;
 pub use table::LockTable;
 
-
-
+#[cfg(test)]
+mod tests;
 
 use cam_base::Sequence;
 use cam_names::Name;

@@ -4,11 +4,10 @@ ghost use Rattle.cam_type.specs.declared.Mode.TheVariants.{Read as ReadMode, Wri
 ghost use Rattle.cam_locks.specs.Moss.{is_in_the_way};
 ghost use Rattle.cam_locks.specs.Holding.{EachTo, TidiedTo, AddedTo, SameTo, SpoiledAt, SpoiledTo, fresh, has_op, lift_in, added, standing, earlier, state_of, is_current, last_current, KeepsLocks};
 
-use crate::LiveOp;
-use crate::leaders;
 use crate::live::Live;
 use crate::names::Names;
 use crate::versions::{self, Version};
+use crate::{LiveOp, leaders};
 use cam_base::NoMemory;
 use cam_names::Name;
 use cam_type::{Mode, Op, State, compatible, mode_of};
@@ -85,8 +84,20 @@ impl Locks {
     {
         let mode = mode_of(op);
         earlier(
-            standing(&self.readers, live, committed, name, compatible(Mode::Read, mode)),
-            standing(&self.writers, live, committed, name, compatible(Mode::Write, mode)),
+            standing(
+                &self.readers,
+                live,
+                committed,
+                name,
+                compatible(Mode::Read, mode),
+            ),
+            standing(
+                &self.writers,
+                live,
+                committed,
+                name,
+                compatible(Mode::Write, mode),
+            ),
         )
     }
 

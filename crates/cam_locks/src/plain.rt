@@ -4,11 +4,10 @@ ghost use Rattle.cam_locks.specs.Moss.{holder, value, settled};
 ghost use Rattle.cam_locks.specs.Calls.{new_site, grant, after_grant, with_commit, with_abort, held, has_family};
 ghost use Rattle.cam_locks.specs.Restored.{restored, CanRestore};
 
-use crate::by_list;
 use crate::names::Names;
 use crate::operations::{copy_objects, drop_below};
 use crate::restore::{aborted_names, committed_names, in_order, kept_operations, next_after};
-use crate::{Grant, LiveOp};
+use crate::{Grant, LiveOp, by_list};
 use cam_base::NoMemory;
 use cam_know::Know;
 use cam_names::Name;
@@ -16,8 +15,8 @@ use cam_type::{Held, HeldList, Objects, Op, State, apply, fits};
 use std::alloc::Global;
 use std::marker::Model;
 
-/// The lock table that replays its list at each call. It stays for tests. Seen as the site's live operations in order, the outcomes that the site was informed of, and
-/// the next index; beside them stands for how many more outcomes there is room.
+/// The lock table that replays its list at each call: the definition's program, with the contract of [`crate::LockTable`]. It is there to
+/// be believed, and to test against.
 #[derive(Drop)]
 pub struct PlainTable {
     pub(crate) objects: Objects,

@@ -13,7 +13,11 @@ use cam_type::{Held, HeldOp};
 use std::alloc::Global;
 
 /// The operations of each held family whose abort is not known.
-pub(crate) fn kept_operations(alloc: Global, held: &[Held], know: &Know) -> Result<LiveOps, NoMemory>
+pub(crate) fn kept_operations(
+    alloc: Global,
+    held: &[Held],
+    know: &Know,
+) -> Result<LiveOps, NoMemory>
     ensures { IfOk result (λ kept. kept ≡ flat_map (ops_of know.now) held.now) }
 {
     let mut kept = LiveOps::new(alloc);

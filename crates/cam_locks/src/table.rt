@@ -4,14 +4,12 @@ ghost use Rattle.cam_locks.specs.Moss.{settled};
 ghost use Rattle.cam_locks.specs.Calls.{new_site, grant, after_grant, with_commit, with_abort, held, has_family};
 ghost use Rattle.cam_locks.specs.Restored.{restored, taken_over, CanRestore};
 
-use crate::by_list;
-use crate::keeping;
 use crate::live::Live;
 use crate::locks::{self, Locks};
 use crate::names::Names;
 use crate::operations::copy_objects;
 use crate::restore::{aborted_names, committed_names, in_order, kept_operations, next_after};
-use crate::{Grant, LiveOp};
+use crate::{Grant, LiveOp, by_list, keeping};
 use cam_base::NoMemory;
 use cam_know::Know;
 use cam_names::Name;
@@ -49,13 +47,7 @@ impl LockTable {
     pub fn new(alloc: Global, objects: &Objects, node: u8) -> Result<LockTable, NoMemory>
         ensures { IfOk result (λ table. table.site ≡ new_site objects.now node) }
     {
-        LockTable::informed(
-            alloc,
-            objects,
-            node,
-            Names::new(alloc),
-            Names::new(alloc),
-        )
+        LockTable::informed(alloc, objects, node, Names::new(alloc), Names::new(alloc))
     }
 
     /// Does an operation of an action on an object, unless a live operation conflicts: then the lift of the first one is named, and

@@ -45,17 +45,11 @@ pub(crate) fn copy(versions: &Vec<Version>) -> Result<Vec<Version>, NoMemory>
 fn is_current(live: &Live, committed: &Names, settled: bool, version: &Version) -> bool
     ensures { result ≡ is_current committed.now.names live.now.ops settled version.now }
 {
-    live.has(version.last.index)
-        && (!settled || committed.lift(&version.last.action).is_none())
+    live.has(version.last.index) && (!settled || committed.lift(&version.last.action).is_none())
 }
 
 /// The place of the last version that is current.
-fn last_place(
-    versions: &[Version],
-    live: &Live,
-    committed: &Names,
-    settled: bool,
-) -> Option<usize>
+fn last_place(versions: &[Version], live: &Live, committed: &Names, settled: bool) -> Option<usize>
     ensures { last_current (is_current committed.now.names live.now.ops settled) versions.now ≡ option_and_then (slice_get versions.now) result }
 {
     let mut found = None;

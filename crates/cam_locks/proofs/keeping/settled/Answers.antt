@@ -17,6 +17,6 @@ returns-then-not-is_stale c =
     let l = c.index-locks-at.result in
     let is : state_of c.in_ok-start_of.field-0 (last_current (is_current ns os true) l.versions) ≡ replay (start_of c.args.objects.now x) (filter (λ o. is_on x o && is_none (lift_in ns o.action)) os) =
     ap (λ (s : State). state_of s (last_current (is_current ns os true) l.versions)) c.in_ok-start_of.ensures
-    ∙ settled_kept x (start_of c.args.objects.now x) ns os next l c.as_slice-operations.ensures.order 
+    ∙ settled_kept x (start_of c.args.objects.now x) ns os next l c.as_slice-operations.ensures.order
     (at_place c.args.objects.now ns os next c.args.locks.now x l c.if-at-locks.true c.index-locks-at.is c.requires kept) in
     subst (λ (t : State). IfOk c.state.result (λ s. s ≡ t)) is c.state.ensures

@@ -10,7 +10,9 @@ next_over-next-requires-clause-ops c =
     (in_range_of c.args.held.now c.loop-family.family-index c.family-item.result c.loop-family-test.true c.family-item.is c.requires)
 
 pub loop-family-preserved : goal.loop-family-preserved
-loop-family-preserved c =
-    (c.next_over-next.ensures.value ∙ ap (λ (hs : List HeldOp). next_after hs c.loop-family.next) c.as_slice.ensures
-    ∙ ap (next_after c.family-item.result.ops) c.loop-family.invariant.0
-    ∙ next_family c.args.held.now c.loop-family.family-index c.family-item.result c.loop-family-test.true c.family-item.is, c.next_over-next.ensures.range)
+loop-family-preserved c = (
+  c.next_over-next.ensures.value ∙ ap (λ (hs : List HeldOp). next_after hs c.loop-family.next) c.as_slice.ensures
+      ∙ ap (next_after c.family-item.result.ops) c.loop-family.invariant.0
+      ∙ next_family c.args.held.now c.loop-family.family-index c.family-item.result c.loop-family-test.true c.family-item.is,
+  c.next_over-next.ensures.range,
+)

@@ -14,7 +14,8 @@ pub loop-op-preserved : goal.loop-op-preserved
 loop-op-preserved c =
     let inv = c.loop-op.invariant in
     let bound = inv.1 in
-    let at = in_range_at c.args.ops.now c.loop-op.op-index none c.loop-op-test.true c.requires.ops in
-    (c.max-next.ensures ∙ ap (λ (n : ℕ). max n ((get_or c.args.ops.now c.loop-op.op-index none).index + 1)) inv.0
-    ∙ next_further c.args.ops.now c.args.first c.loop-op.op-index none c.loop-op-test.true,
-    omega (arith, c.max-next.ensures, at, bound))
+    let at = in_range_at c.args.ops.now c.loop-op.op-index none c.loop-op-test.true c.requires.ops in (
+      c.max-next.ensures ∙ ap (λ (n : ℕ). max n ((get_or c.args.ops.now c.loop-op.op-index none).index + 1)) inv.0
+          ∙ next_further c.args.ops.now c.args.first c.loop-op.op-index none c.loop-op-test.true,
+      omega (arith, c.max-next.ensures, at, bound),
+    )

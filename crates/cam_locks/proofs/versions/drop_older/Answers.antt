@@ -12,20 +12,24 @@ returns-then-not-is_outdated-clause-kept c = λ x start next h.
 pub loop-version-preserved-else-not-is_outdated : goal.loop-version-preserved-else-not-is_outdated
 loop-version-preserved-else-not-is_outdated c =
     let old : is_outdated c.args.committed.now.names c.args.live.now.ops c.in-Some.version c.args.later.now ≡ true = grind arith in
-    let inv = c.loop-version.invariant in
-    (λ x start next h.
-      versions_drop_before x start c.args.committed.now.names c.args.live.now.ops next c.pop.new.self.items c.in-Some.version c.args.later.now c.requires old
-      (subst (λ (vs : List Version). KeepsVersions x start c.args.committed.now.names c.args.live.now.ops next (vs ++ c.args.later.now ∷ [])) c.in-Some.ensures.items (inv.0 x start next h)),
-      (let l = inv.1 in let k = c.in-Some.ensures.len in omega arith), c.pop.ensures.capacity ∙ inv.2)
+    let inv = c.loop-version.invariant in (
+      λ x start next h.
+          versions_drop_before x start c.args.committed.now.names c.args.live.now.ops next c.pop.new.self.items c.in-Some.version c.args.later.now c.requires old
+          (subst (λ (vs : List Version). KeepsVersions x start c.args.committed.now.names c.args.live.now.ops next (vs ++ c.args.later.now ∷ [])) c.in-Some.ensures.items (inv.0 x start next h)),
+      (let l = inv.1 in let k = c.in-Some.ensures.len in omega arith),
+      c.pop.ensures.capacity ∙ inv.2,
+    )
 
 pub loop-version-preserved : goal.loop-version-preserved
 loop-version-preserved c =
     let old : is_outdated c.args.committed.now.names c.args.live.now.ops c.in-Some.version c.args.later.now ≡ true = grind arith in
-    let inv = c.loop-version.invariant in
-    (λ x start next h.
-      versions_drop_before x start c.args.committed.now.names c.args.live.now.ops next c.pop.new.self.items c.in-Some.version c.args.later.now c.requires old
-      (subst (λ (vs : List Version). KeepsVersions x start c.args.committed.now.names c.args.live.now.ops next (vs ++ c.args.later.now ∷ [])) c.in-Some.ensures.items (inv.0 x start next h)),
-      (let l = inv.1 in let k = c.in-Some.ensures.len in omega arith), c.pop.ensures.capacity ∙ inv.2)
+    let inv = c.loop-version.invariant in (
+      λ x start next h.
+          versions_drop_before x start c.args.committed.now.names c.args.live.now.ops next c.pop.new.self.items c.in-Some.version c.args.later.now c.requires old
+          (subst (λ (vs : List Version). KeepsVersions x start c.args.committed.now.names c.args.live.now.ops next (vs ++ c.args.later.now ∷ [])) c.in-Some.ensures.items (inv.0 x start next h)),
+      (let l = inv.1 in let k = c.in-Some.ensures.len in omega arith),
+      c.pop.ensures.capacity ∙ inv.2,
+    )
 
 pub returns-clause-kept : goal.returns-clause-kept
 returns-clause-kept c = λ x start next h.

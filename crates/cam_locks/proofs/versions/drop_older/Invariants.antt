@@ -7,7 +7,7 @@ use Rattle.cam_locks.proofs.versions.drop_older.Given as goal
 abbrev pub invariant-loop-version : goal.invariant-loop-version
 invariant-loop-version l =
     ((x : ℕ) (start : State) (next : ℕ) → KeepsVersions x start l.committed.names l.live.ops next (l.initial.versions.items ++ l.later ∷ [])
-        → KeepsVersions x start l.committed.names l.live.ops next (l.versions.items ++ l.later ∷ []))
+    → KeepsVersions x start l.committed.names l.live.ops next (l.versions.items ++ l.later ∷ []))
     × (vec_len l.versions ≤ vec_len l.initial.versions) × (vec_capacity l.versions ≡ vec_capacity l.initial.versions)
 
 abbrev pub decreases-loop-version : goal.decreases-loop-version
