@@ -1,0 +1,54 @@
+-- The histories of the nodes after one more step.
+use Rattle.std.proofs.Common.{◌≡◌, ◌≢◌, ℕ, zero, suc, ◌+◌, ◌<◌, ◌≤◌, ◌*◌, ◌==◌, Bool, true, false, List, [], ◌∷◌, ◌++◌, length, if◌then◌else◌, refl, sym, ap, ◌∙◌, subst, arith, length-append}
+use Rattle.std.proofs.lemmas.Bool.Decides.{nat_tests}
+use Rattle.std.specs.Prelude.{All, nat_le}
+use Rattle.std.proofs.lemmas.List.Elements.{All-nil, All-cons}
+use Rattle.cam_journal.specs.declared.entry.Entry.{Entry}
+use Rattle.cam_journal.specs.declared.entry.Step.{Step}
+use Rattle.cam_journal.specs.Trace.{entry_of, history_from, history_of}
+use Rattle.cam_journal.specs.Rule.{IsNode}
+
+if_here : {A : Type 0} (b : Bool) (xs ys : A) → b ≡ true → (if b then xs else ys) ≡ xs
+if_here true xs ys e = refl
+if_here false xs ys e = absurd (cc)
+
+if_else : {A : Type 0} (b : Bool) (xs ys : A) → b ≡ false → (if b then xs else ys) ≡ ys
+if_else true xs ys e = absurd (cc)
+if_else false xs ys e = refl
+
+-- the same front before two equal rests
+front : {A : Type 0} (b : Bool) (x : A) (xs ys zs : List A) → xs ≡ ys ++ zs → (if b then x ∷ xs else xs) ≡ (if b then x ∷ ys else ys) ++ zs
+front true x xs ys zs e = ap (λ (rest : List _). x ∷ rest) e
+front false x xs ys zs e = e
+
+module _ {E L : Type 0} where
+  from_same : (node n : ℕ) (trace : List (Step E L)) (step : Step E L) → step.node ≡ node → history_from node n (trace ++ step ∷ []) ≡ history_from node n trace ++ entry_of (n + length trace) step ∷ []
+  from_same node n [] step e =
+      if_here (step.node == node) (entry_of n step ∷ []) [] (grind (arith, nat_tests)) ∙ ap (λ (k : ℕ). entry_of k step ∷ []) (omega arith)
+  from_same node n (s ∷ trace) step e =
+      front (s.node == node) (entry_of n s) _ _ _ (from_same node (n + 1) trace step e ∙ ap (λ (k : ℕ). history_from node (n + 1) trace ++ entry_of k step ∷ []) (omega arith))
+
+  from_other : (node n : ℕ) (trace : List (Step E L)) (step : Step E L) → step.node ≢ node → history_from node n (trace ++ step ∷ []) ≡ history_from node n trace
+  from_other node n [] step e = if_else (step.node == node) (entry_of n step ∷ []) [] (grind (arith, nat_tests))
+  from_other node n (s ∷ trace) step e = ap (λ (rest : List (Entry E L)). if s.node == node then entry_of n s ∷ rest else rest) (from_other node (n + 1) trace step e)
+
+  -- the node of the step has one more entry
+  pub history_of-same : (node : ℕ) (trace : List (Step E L)) (step : Step E L) → step.node ≡ node → history_of node (trace ++ step ∷ []) ≡ history_of node trace ++ entry_of (length trace) step ∷ []
+  history_of-same node trace step e = from_same node 0 trace step e ∙ ap (λ (k : ℕ). history_of node trace ++ entry_of k step ∷ []) (omega arith)
+
+  -- the other nodes have the same
+  pub history_of-other : (node : ℕ) (trace : List (Step E L)) (step : Step E L) → step.node ≢ node → history_of node (trace ++ step ∷ []) ≡ history_of node trace
+  history_of-other node trace step e = from_other node 0 trace step e
+
+  All_if : (b : Bool) (P : Entry E L → Type 0) (x : Entry E L) (xs : List (Entry E L)) → P x → All P xs → All P (if b then x ∷ xs else xs)
+  All_if true P x xs here each = All-cons P x xs here each
+  All_if false P x xs here each = each
+
+  from_below : (node n bound : ℕ) (trace : List (Step E L)) → n + length trace ≤ bound → All (λ entry. entry.number < bound) (history_from node n trace)
+  from_below node n bound [] within = All-nil (λ (entry : Entry E L). entry.number < bound)
+  from_below node n bound (s ∷ trace) within =
+      All_if (s.node == node) (λ (entry : Entry E L). entry.number < bound) (entry_of n s) (history_from node (n + 1) trace) (omega arith) (from_below node (n + 1) bound trace (omega arith))
+
+  -- the numbers of a history are below the length of the run
+  pub history_of-below : (node : ℕ) (trace : List (Step E L)) → All (λ entry. entry.number < length trace) (history_of node trace)
+  history_of-below node trace = from_below node 0 (length trace) trace (omega arith)

@@ -1,0 +1,4 @@
+pub mod Trace
+pub mod Taking
+pub mod Rule
+pub mod Seats

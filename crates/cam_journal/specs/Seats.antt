@@ -1,0 +1,62 @@
+-- What contracts see of a journal, of the seats of its nodes and of notes.
+use Rattle.std.specs.Prelude.{◌≡◌, ◌≢◌, ◌<◌, ◌≤◌, ◌+◌, ◌-◌, ℕ, min, List, [], ◌∷◌, ◌++◌, map, length, take, Contains, AllPairs, All, Option, Some, None, slice_get}
+use Rattle.atomic_table.specs.Seated.{TableId}
+use Rattle.cam_journal.specs.declared.entry.Sent.{Sent}
+use Rattle.cam_journal.specs.declared.entry.Entry.{Entry}
+use Rattle.cam_journal.specs.declared.view.View.{View}
+use Rattle.cam_journal.specs.declared.view.View.TheVariants.{Node}
+use Rattle.cam_journal.specs.Taking.{left_of, entry}
+
+-- which journal it is, and how many nodes it has
+pub record Opened : Type 0 where
+  pub id : TableId
+  pub nodes : ℕ
+
+-- the seat of a node: its journal, its number, its history, the letter that it took and has not used, and for how many events it has room
+pub record Sitting (E L : Type 0) : Type 0 where
+  pub journal : TableId
+  pub node : ℕ
+  pub history : List (Entry E L)
+  pub taken : Option (Sent L)
+  pub spare : ℕ
+
+module _ {E L : Type 0} where
+  abbrev pub numbered : Entry E L → ℕ × E
+  numbered entry = (entry.number, entry.event)
+
+  abbrev pub node_in : View E L → ℕ
+  node_in (Node node history taken) = node
+  node_in _ = 0
+
+  abbrev pub history_in : View E L → List (Entry E L)
+  history_in (Node node history taken) = history
+  history_in _ = []
+
+  abbrev pub taken_in : View E L → Option (Sent L)
+  taken_in (Node node history taken) = taken
+  taken_in _ = None
+
+  abbrev pub sitting : TableId → ℕ → View E L → Sitting E L
+  sitting journal spare view = record { journal = journal; node = node_in view; history = history_in view; taken = taken_in view; spare = spare }
+
+  -- each event of a history is lawful after those before it
+  abbrev pub IsHistory : (ℕ → List (Entry E L) → Option (Sent L) → E → Type 0) → ℕ → List (Entry E L) → Type 0
+  IsHistory lawful node history = (at : ℕ) (entry : Entry E L) → slice_get history at ≡ Some entry → lawful node (take at history) entry.received entry.event
+
+  -- numbers rise within a history
+  abbrev pub IsRising : List (Entry E L) → Type 0
+  IsRising history = (at later : ℕ) (one other : Entry E L) → at < later → slice_get history at ≡ Some one → slice_get history later ≡ Some other → one.number < other.number
+
+  -- a seat keeps the numbers and events of a lawful history
+  abbrev pub IsSeat : (ℕ → List (Entry E L) → Option (Sent L) → E → Type 0) → List (ℕ × E) → View E L → Type 0
+  IsSeat lawful entries (Node node history taken) = (entries ≡ map numbered history) × (length history ≤ 500000000) × IsHistory lawful node history × IsRising history
+  IsSeat lawful entries _ = ⊥
+
+  -- the seat after an event under this number
+  abbrev pub with_event : (E → Option (ℕ × ℕ)) → ℕ → E → Sitting E L → Sitting E L
+  with_event names number event seat = record seat { history = seat.history ++ entry names number seat.taken event ∷ []; taken = left_of (names event) seat.taken; spare = seat.spare - 1 }
+
+  -- the seats of a new journal: one for each node, in order, each with an empty history
+  pub record AreNew (journal : TableId) (nodes : ℕ) (seats : List (Sitting E L)) : Type 0 where
+    pub count : length seats ≡ nodes
+    pub each : (at : ℕ) (seat : Sitting E L) → slice_get seats at ≡ Some seat → (seat.journal ≡ journal) × (seat.node ≡ at + 1) × (seat.history ≡ []) × (seat.taken ≡ None)

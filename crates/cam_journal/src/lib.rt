@@ -1,0 +1,17 @@
+//! The numbered run of several threads.
+#![tactic(auto)]
+
+mod entry;
+mod fault;
+mod input;
+mod journal;
+mod nodes;
+mod seat;
+mod view;
+
+pub use entry::{Entry, Sent, Step};
+pub use fault::ReserveFault;
+pub use input::{CoreFault, CoreInput};
+pub use journal::{Journal, Seats};
+pub use nodes::Core;
+pub use seat::NodeSeat;
