@@ -1,7 +1,7 @@
 -- The histories of the nodes after one more step.
 use Rattle.std.proofs.Common.{◌≡◌, ◌≢◌, ℕ, zero, suc, ◌+◌, ◌<◌, ◌≤◌, ◌*◌, ◌==◌, Bool, true, false, List, [], ◌∷◌, ◌++◌, length, if◌then◌else◌, refl, sym, ap, ◌∙◌, subst, arith, length-append}
 use Rattle.std.proofs.lemmas.Bool.Decides.{nat_tests}
-use Rattle.std.specs.Prelude.{All, nat_le}
+use Rattle.std.specs.Prelude.{All, Some, slice_get}
 use Rattle.std.proofs.lemmas.List.Elements.{All-nil, All-cons}
 use Rattle.cam_journal.specs.declared.entry.Entry.{Entry}
 use Rattle.cam_journal.specs.declared.entry.Step.{Step}
@@ -52,3 +52,29 @@ module _ {E L : Type 0} where
   -- the numbers of a history are below the length of the run
   pub history_of-below : (node : ℕ) (trace : List (Step E L)) → All (λ entry. entry.number < length trace) (history_of node trace)
   history_of-below node trace = from_below node 0 (length trace) trace (omega arith)
+
+  -- where an entry of a history stands in steps that are numbered from here on
+  abbrev Found : ℕ → List (Step E L) → Entry E L → Type 0
+  Found n trace entry = (k : ℕ) × (step : Step E L) × (entry.number ≡ n + k) × (slice_get trace k ≡ Some step) × (step.event ≡ entry.event)
+
+  found_later : (n : ℕ) (s : Step E L) (trace : List (Step E L)) (entry : Entry E L) → Found (n + 1) trace entry → Found n (s ∷ trace) entry
+  found_later n s trace entry found = let number = found.2 in (suc found.0, found.1, omega arith, found.3, found.4)
+
+  found_if : (b : Bool) (n : ℕ) (s : Step E L) (trace : List (Step E L)) (rest : List (Entry E L)) (at : ℕ) (entry : Entry E L)
+      → ((k : ℕ) → slice_get rest k ≡ Some entry → Found (n + 1) trace entry)
+      → slice_get (if b then entry_of n s ∷ rest else rest) at ≡ Some entry → Found n (s ∷ trace) entry
+  found_if true n s trace rest zero entry later there = let is : entry_of n s ≡ entry = cc in (0, s, sym (ap (λ (e : Entry E L). e.number) is) ∙ omega arith, refl, ap (λ (e : Entry E L). e.event) is)
+  found_if true n s trace rest (suc at) entry later there = found_later n s trace entry (later at there)
+  found_if false n s trace rest at entry later there = found_later n s trace entry (later at there)
+
+  from_found : (node n : ℕ) (trace : List (Step E L)) (at : ℕ) (entry : Entry E L) → slice_get (history_from node n trace) at ≡ Some entry → Found n trace entry
+  from_found node n [] at entry there = absurd (cc)
+  from_found node n (s ∷ trace) at entry there = found_if (s.node == node) n s trace (history_from node (n + 1) trace) at entry (λ k e. from_found node (n + 1) trace k entry e) there
+
+  -- an event of a history is the step of the run that has its number
+  pub history_of-found : (node : ℕ) (trace : List (Step E L)) (at : ℕ) (entry : Entry E L) → slice_get (history_of node trace) at ≡ Some entry → (step : Step E L) × (slice_get trace entry.number ≡ Some step) × (step.event ≡ entry.event)
+  history_of-found node trace at entry there =
+      let found = from_found node 0 trace at entry there in
+      let number = found.2 in
+      let place : found.0 ≡ entry.number = omega arith in
+      (found.1, ap (λ (k : ℕ). slice_get trace k) (sym place) ∙ found.3, found.4)

@@ -5,3 +5,4 @@ pub mod Growth
 pub mod Moves
 pub mod Seating
 pub mod Openings
+pub mod Joining

@@ -12,7 +12,7 @@ use Rattle.cam_journal.specs.declared.view.View.{View}
 use Rattle.cam_journal.specs.declared.view.View.TheVariants.{Maker, Node, Note, Gatherer, Whole, Spent}
 use Rattle.cam_journal.specs.Taking.{IsNext, entry}
 use Rattle.cam_journal.specs.Rule.{recorded, IsBelow, CanRecord}
-use Rattle.cam_journal.specs.Seats.{Sitting, sitting, with_event, numbered, IsHistory, IsRising, IsSeat}
+use Rattle.cam_journal.specs.Seats.{Sitting, AreNew, sitting, with_event, numbered, IsHistory, IsRising, IsSeat}
 use Rattle.cam_journal.proofs.Lists.{slice_get-push}
 
 module _ {A : Type 0} where
@@ -100,3 +100,25 @@ spare_less capacity now count longer spare is same more = ap (λ (p : ℕ × ℕ
 
 pub room_left : (capacity count spare : ℕ) → min capacity 500000000 - count ≡ spare → 0 < spare → count < capacity
 room_left capacity count spare is some = omega arith
+
+module _ {E L : Type 0} where
+  pub AreNew-none : (journal : TableId) → AreNew {E = E} {L = L} journal 0 []
+  AreNew-none journal = record { count = refl; each = λ at seat there. absurd (cc) }
+
+  -- one more new seat
+  pub AreNew-push : (journal : TableId) (count : ℕ) (seats : List (Sitting E L)) (seat : Sitting E L) → AreNew journal count seats → seat.journal ≡ journal → seat.node ≡ count + 1 → seat.history ≡ [] → seat.taken ≡ None → AreNew journal (count + 1) (seats ++ seat ∷ [])
+  AreNew-push journal count seats seat new own node history taken = record {
+    count = omega (arith, new.count, length-append seats (seat ∷ []));
+    each = λ at one there. ⊎_elim
+        (λ (t : (at < length seats) × (slice_get seats at ≡ Some one)). new.each at one t.1)
+        (λ (t : (at ≡ length seats) × (seat ≡ one)).
+            let last = t.0 in
+            let counted = new.count in
+            subst (λ (s : Sitting E L). (s.journal ≡ journal) × (s.node ≡ at + 1) × (s.history ≡ []) × (s.taken ≡ None)) t.1 (own, omega (arith, node), history, taken))
+        (slice_get-push seats seat one at there);
+  }
+
+  -- the seat of a node that has no event yet
+  pub IsSeat-new : (lawful : ℕ → List (Entry E L) → Option (Sent L) → E → Type 0) (entries : List (ℕ × E)) (view : View E L) (node : ℕ) → view ≡ Node node [] None → entries ≡ [] → IsSeat lawful entries view
+  IsSeat-new lawful entries view node is none =
+      subst (λ (p : List (ℕ × E) × View E L). IsSeat lawful p.0 p.1) (λ i. (sym none i, sym is i)) (refl, omega arith, (λ at one there. absurd (cc)), (λ at later one other before first second. absurd (cc)))

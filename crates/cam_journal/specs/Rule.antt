@@ -1,5 +1,5 @@
 -- The rule of the table: one run, of which each seat knows a part.
-use Rattle.std.specs.Prelude.{◌≡◌, ◌<◌, ◌≤◌, ◌+◌, ℕ, All, List, [], ◌∷◌, ◌++◌, map, length, Option, Some, None, IfSome}
+use Rattle.std.specs.Prelude.{◌≡◌, ◌<◌, ◌≤◌, ◌+◌, ℕ, All, List, [], ◌∷◌, ◌++◌, map, length, Option, Some, None, IfSome, slice_get}
 use mathlib.Core.Option.{some}
 use lib.ListN.{get_elem?}
 use Rattle.atomic_table.specs.Table.{State, Me}
@@ -75,6 +75,11 @@ module _ {E L : Type 0} where
   abbrev pub CanRecord : (E → Option (ℕ × ℕ)) → (ℕ → List (Entry E L) → Option (Sent L) → E → Type 0) → View E L → E → Type 0
   CanRecord names lawful (Node node history taken) event = IsNext names lawful node history taken event × (length history < 500000000)
   CanRecord names lawful _ event = ⊥
+
+  -- The letter was sent by the event that it names, which stands in the history of this node.
+  abbrev pub HasSent : (E → List L) → View E L → Sent L → Type 0
+  HasSent sends (Node node history taken) sent = (at : ℕ) × (entry : Entry E L) × (slice_get history at ≡ Some entry) × (entry.number ≡ sent.number) × (slice_get (sends entry.event) sent.place ≡ Some sent.letter)
+  HasSent sends _ sent = ⊥
 
   -- a note of the letter that was told
   abbrev pub note_of : Option (Sent L) → View E L

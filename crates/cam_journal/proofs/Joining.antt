@@ -1,0 +1,93 @@
+-- The steps that make notes, take letters and gather histories keep the rule.
+use Rattle.std.proofs.Common.{◌≡◌, ◌≢◌, ◌⊎◌, ℕ, zero, suc, ◌+◌, ◌<◌, ◌≤◌, ◌==◌, Bool, true, false, List, [], ◌∷◌, ◌++◌, length, set, slice_index, if◌then◌else◌, refl, sym, ap, ◌∙◌, subst, inl, inr, ⊎_elim, arith}
+use Rattle.std.specs.Prelude.{All, Option, Some, None, IfSome, slice_get}
+use Rattle.std.proofs.lemmas.List.Elements.{All-weaker, All-push, All-nil}
+use mathlib.Core.Option.{some, some-ne-none, some-injective}
+use mathlib.Core.Option as maybe
+use lib.ListN.{get_elem?}
+use Rattle.atomic_table.specs.Table.{State, Me, Splits, Joins}
+use Rattle.atomic_table.proofs.Lists.{at_set, set_again}
+use Rattle.cam_journal.specs.declared.entry.Sent.{Sent}
+use Rattle.cam_journal.specs.declared.entry.Entry.{Entry}
+use Rattle.cam_journal.specs.declared.entry.Step.{Step}
+use Rattle.cam_journal.specs.declared.view.Held.{Held}
+use Rattle.cam_journal.specs.declared.view.View.{View}
+use Rattle.cam_journal.specs.declared.view.View.TheVariants.{Maker, Node, Note, Gatherer, Whole, Spent}
+use Rattle.cam_journal.specs.Trace.{history_of, IsSent}
+use Rattle.cam_journal.specs.Rule.{IsNode, Fits, IsKept, HasSent, note_of, with_letter, gatherer, with_history, Knows, IsWhole}
+use Rattle.cam_journal.specs.Seats.{IsSeat}
+use Rattle.cam_journal.proofs.Moves.{at_push}
+use Rattle.cam_journal.proofs.Histories.{history_of-found}
+use Rattle.cam_journal.proofs.Openings.{moved, moved_here, moved_else, moved_to, Fits-moved, kept_by}
+
+module _ {E L : Type 0} (names : E → Option (ℕ × ℕ)) (sends : E → List L) (lawful : ℕ → List (Entry E L) → Option (Sent L) → E → Type 0) where
+  sent_in : (nodes : ℕ) (trace : List (Step E L)) (seat : ℕ → ℕ) (id : ℕ) (view : View E L) (sent : Sent L) → Fits sends nodes trace seat id view → HasSent sends view sent → IsSent sends trace sent
+  sent_in nodes trace seat id (Node node history taken) sent fits has =
+      let there : slice_get (history_of node trace) has.0 ≡ Some has.1 = ap (λ (h : List (Entry E L)). slice_get h has.0) (sym fits.2) ∙ has.2 in
+      let found = history_of-found node trace has.0 has.1 there in record {
+        sender = found.0;
+        event = ap (λ (k : ℕ). slice_get trace k) (sym has.3) ∙ found.1;
+        letter = ap (λ (e : E). slice_get (sends e) sent.place) found.2 ∙ has.4;
+      }
+  sent_in nodes trace seat id (Maker count next) sent fits has = absurd has
+  sent_in nodes trace seat id (Note other) sent fits has = absurd has
+  sent_in nodes trace seat id (Gatherer count gathered) sent fits has = absurd has
+  sent_in nodes trace seat id (Whole gathered steps) sent fits has = absurd has
+  sent_in nodes trace seat id Spent sent fits has = absurd has
+
+  -- a further seat with a view that fits the run
+  further : {S : Type 0} (nodes : ℕ) (s : State S (View E L)) (kept : IsKept names sends lawful nodes s) (new : View E L) → Fits sends nodes kept.trace kept.seat (length s.views) new → IsKept names sends lawful {S = S} nodes record { words = s.words; homes = s.homes; views = s.views ++ new ∷ [] }
+  further nodes s kept new fits =
+      kept_by names sends lawful nodes s kept s.homes (s.views ++ new ∷ []) kept.seat (λ j view there.
+          ⊎_elim
+          (λ (old : get_elem? s.views j ≡ some view). kept.fits j view old)
+          (λ (t : (j ≡ length s.views) × (new ≡ view)). subst (λ (p : ℕ × View E L). Fits sends nodes kept.trace kept.seat p.0 p.1) (λ i. (sym t.0 i, t.1 i)) fits)
+          (at_push s.views new view j there))
+
+  splits : {S : Type 0} (nodes id : ℕ) (view new : View E L) → ((trace : List (Step E L)) (seat : ℕ → ℕ) (other : ℕ) → Fits sends nodes trace seat id view → Fits sends nodes trace seat other new) → Splits (IsKept names sends lawful {S = S} nodes) id view view new
+  splits {S = S} nodes id view new fits s kept at =
+      subst (λ (views : List (View E L)). IsKept names sends lawful {S = S} nodes record { words = s.words; homes = s.homes; views = views ++ new ∷ [] }) (sym (set_again s.views id view at))
+          (further nodes s kept new (fits kept.trace kept.seat (length s.views) (kept.fits id view at)))
+
+  -- a note of a letter that the node sent
+  pub notes : {S : Type 0} (nodes id : ℕ) (view : View E L) (sent : Sent L) (told : Option (Sent L)) → told ≡ Some sent → HasSent sends view sent → Splits (IsKept names sends lawful {S = S} nodes) id view view (note_of told)
+  notes {S = S} nodes id view sent told is has =
+      subst (λ (t : Option (Sent L)). Splits (IsKept names sends lawful {S = S} nodes) id view view (note_of t)) (sym is) (splits nodes id view (Note sent) (λ trace seat other fits. sent_in nodes trace seat id view sent fits has))
+
+  -- a second note of the same letter
+  pub copies : {S : Type 0} (nodes id : ℕ) (view : View E L) (sent : Sent L) → view ≡ Note sent → Splits (IsKept names sends lawful {S = S} nodes) id view view view
+  copies {S = S} nodes id view sent is =
+      subst (λ (v : View E L). Splits (IsKept names sends lawful {S = S} nodes) id v v v) (sym is) (splits nodes id (Note sent) (Note sent) (λ trace seat other fits. fits))
+
+  -- two seats changed, the second of which is spent
+  joins : {S : Type 0} (nodes id other : ℕ) (view w both : View E L)
+      → ((trace : List (Step E L)) (seat : ℕ → ℕ) → ¬ (other ≡ id) → Fits sends nodes trace seat id view → Fits sends nodes trace seat other w
+          → (now : ℕ → ℕ) × Fits sends nodes trace now id both × ((j : ℕ) (u : View E L) → j ≢ id → j ≢ other → Fits sends nodes trace seat j u → Fits sends nodes trace now j u))
+      → Joins (IsKept names sends lawful {S = S} nodes) id view other w both Spent
+  joins nodes id other view w both step s kept at apart there =
+      let theirs : get_elem? s.views other ≡ some w =
+          ⊎_elim (λ (t : (other ≡ id) × (both ≡ w)). absurd (apart t.0)) (λ (t : (other ≢ id) × (get_elem? s.views other ≡ some w)). t.1) (at_set s.views id other both w there) in
+      let new = step kept.trace kept.seat apart (kept.fits id view at) (kept.fits other w theirs) in
+      kept_by names sends lawful nodes s kept s.homes (set (set s.views id both) other Spent) new.0 (λ j u e.
+          ⊎_elim
+          (λ (t : (j ≡ other) × (Spent ≡ u)). subst (λ (p : View E L). Fits sends nodes kept.trace new.0 j p) t.1 tt)
+          (λ (t : (j ≢ other) × (get_elem? (set s.views id both) j ≡ some u)).
+              ⊎_elim
+              (λ (r : (j ≡ id) × (both ≡ u)). subst (λ (p : ℕ × View E L). Fits sends nodes kept.trace new.0 p.0 p.1) (λ i. (sym r.0 i, r.1 i)) new.1)
+              (λ (r : (j ≢ id) × (get_elem? s.views j ≡ some u)). new.2 j u r.0 t.0 (kept.fits j u r.1))
+              (at_set s.views id j both u t.1))
+          (at_set (set s.views id both) other j Spent u e))
+
+  takes_at : {S : Type 0} (nodes id other : ℕ) (view : View E L) (sent : Sent L) (entries : List (ℕ × E)) → IsSeat lawful entries view → Joins (IsKept names sends lawful {S = S} nodes) id view other (Note sent) (with_letter view (Note sent)) Spent
+  takes_at nodes id other (Node node history taken) sent entries seat =
+      joins nodes id other (Node node history taken) (Note sent) (Node node history (Some sent)) (λ trace at apart mine theirs. (at, (mine.0, mine.1, mine.2, theirs), λ j u not_mine not_theirs fits. fits))
+  takes_at nodes id other (Maker count next) sent entries seat = absurd seat
+  takes_at nodes id other (Note old) sent entries seat = absurd seat
+  takes_at nodes id other (Gatherer count gathered) sent entries seat = absurd seat
+  takes_at nodes id other (Whole gathered steps) sent entries seat = absurd seat
+  takes_at nodes id other Spent sent entries seat = absurd seat
+
+  -- a node takes the letter of a note
+  pub takes : {S : Type 0} (nodes id other : ℕ) (view w : View E L) (sent : Sent L) (entries : List (ℕ × E)) → w ≡ Note sent → IsSeat lawful entries view → Joins (IsKept names sends lawful {S = S} nodes) id view other w (with_letter view w) Spent
+  takes {S = S} nodes id other view w sent entries is seat =
+      subst (λ (v : View E L). Joins (IsKept names sends lawful {S = S} nodes) id view other v (with_letter view v) Spent) (sym is) (takes_at nodes id other view sent entries seat)
