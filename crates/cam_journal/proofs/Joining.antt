@@ -91,3 +91,77 @@ module _ {E L : Type 0} (names : E → Option (ℕ × ℕ)) (sends : E → List 
   pub takes : {S : Type 0} (nodes id other : ℕ) (view w : View E L) (sent : Sent L) (entries : List (ℕ × E)) → w ≡ Note sent → IsSeat lawful entries view → Joins (IsKept names sends lawful {S = S} nodes) id view other w (with_letter view w) Spent
   takes {S = S} nodes id other view w sent entries is seat =
       subst (λ (v : View E L). Joins (IsKept names sends lawful {S = S} nodes) id view other v (with_letter view v) Spent) (sym is) (takes_at nodes id other view sent entries seat)
+
+  gathers_at : {S : Type 0} (nodes id other : ℕ) (gathered : List (Held E L)) (view : View E L) (entries : List (ℕ × E)) → IsSeat lawful entries view → Joins (IsKept names sends lawful {S = S} nodes) id (Gatherer nodes gathered) other view (with_history (Gatherer nodes gathered) view) Spent
+  gathers_at nodes id other gathered (Node node history taken) entries seat =
+      joins nodes id other (Gatherer nodes gathered) (Node node history taken) (Gatherer nodes (gathered ++ record { node = node; history = history } ∷ [])) (λ trace at apart mine theirs. (
+          moved at node id,
+          (
+            refl,
+            All-push (λ (held : Held E L). (moved at node id held.node ≡ id) × (held.history ≡ history_of held.node trace)) gathered (record { node = node; history = history })
+                (All-weaker
+                (λ (held : Held E L). (at held.node ≡ id) × (held.history ≡ history_of held.node trace))
+                (λ (held : Held E L). (moved at node id held.node ≡ id) × (held.history ≡ history_of held.node trace))
+                (λ held was. (moved_to at node id held.node was.0, was.1))
+                gathered
+                mine.1)
+                (moved_here at node id, theirs.2),
+          ),
+          λ j u not_mine not_theirs fits. Fits-moved sends nodes trace at node id j u (λ same. not_theirs (sym same ∙ theirs.1)) fits,
+        ))
+  gathers_at nodes id other gathered (Maker count next) entries seat = absurd seat
+  gathers_at nodes id other gathered (Note old) entries seat = absurd seat
+  gathers_at nodes id other gathered (Gatherer count more) entries seat = absurd seat
+  gathers_at nodes id other gathered (Whole more steps) entries seat = absurd seat
+  gathers_at nodes id other gathered Spent entries seat = absurd seat
+
+  -- the history of a node is gathered
+  pub gathers : {S : Type 0} (key nodes id other : ℕ) (gathered : List (Held E L)) (u view : View E L) (entries : List (ℕ × E)) → u ≡ Gatherer nodes gathered → key ≡ nodes → IsSeat lawful entries view → Joins (IsKept names sends lawful {S = S} key) id u other view (with_history u view) Spent
+  gathers {S = S} key nodes id other gathered u view entries is of seat =
+      subst (λ (p : ℕ × View E L). Joins (IsKept names sends lawful {S = S} p.0) id p.1 other view (with_history p.1 view) Spent) (λ i. (sym of i, sym is i)) (gathers_at nodes id other gathered view entries seat)
+
+  -- a seat that has gathered nothing yet
+  pub starts : {S : Type 0} (nodes : ℕ) (s : State S (View E L)) → IsKept names sends lawful nodes s → IsKept names sends lawful {S = S} nodes record { words = s.words; homes = s.homes; views = s.views ++ Gatherer nodes [] ∷ [] }
+  starts nodes s kept = further nodes s kept (Gatherer nodes []) (refl, All-nil (λ (held : Held E L). (kept.seat held.node ≡ length s.views) × (held.history ≡ history_of held.node kept.trace)))
+
+  learns_at : {S : Type 0} (nodes id : ℕ) (gathered : List (Held E L)) (s : State S (View E L)) (homes : List (maybe.Option S)) → IsKept names sends lawful nodes s → get_elem? s.views id ≡ some (Gatherer nodes gathered)
+      → (w : View E L) × IsKept names sends lawful {S = S} nodes record { words = set s.words 0 (slice_index s.words 0); homes = homes; views = set s.views id w } × Knows names sends lawful (slice_index s.words 0) (Gatherer nodes gathered) w
+  learns_at nodes id gathered s homes kept at =
+      let mine = kept.fits id (Gatherer nodes gathered) at in (
+        Whole gathered kept.trace,
+        record {
+          trace = kept.trace;
+          seat = kept.seat;
+          few = kept.few;
+          words = ap (λ (w : List ℕ). set w 0 (slice_index w 0)) kept.words;
+          run = kept.run;
+          nodes_only = kept.nodes_only;
+          room = kept.room;
+          fits = λ j view there. ⊎_elim
+              (λ (t : (j ≡ id) × (Whole gathered kept.trace ≡ view)). subst (λ (v : View E L). Fits sends nodes kept.trace kept.seat j v) t.1 tt)
+              (λ (t : (j ≢ id) × (get_elem? s.views j ≡ some view)). kept.fits j view t.1)
+              (at_set s.views id j (Whole gathered kept.trace) view there);
+        },
+        (
+          refl,
+          ap (λ (w : List ℕ). slice_index w 0) kept.words,
+          record {
+            run = kept.run;
+            nodes_only = kept.nodes_only;
+            histories = All-weaker
+                (λ (held : Held E L). (kept.seat held.node ≡ id) × (held.history ≡ history_of held.node kept.trace))
+                (λ (held : Held E L). held.history ≡ history_of held.node kept.trace)
+                (λ held was. was.1)
+                gathered
+                mine.1;
+          },
+        ),
+      )
+
+  -- the whole run is learned
+  pub learns : {S : Type 0} (key nodes id : ℕ) (gathered : List (Held E L)) (u : View E L) (s : State S (View E L)) (homes : List (maybe.Option S)) → u ≡ Gatherer nodes gathered → key ≡ nodes → IsKept names sends lawful key s → get_elem? s.views id ≡ some u
+      → (w : View E L) × IsKept names sends lawful {S = S} key record { words = set s.words 0 (slice_index s.words 0); homes = homes; views = set s.views id w } × Knows names sends lawful (slice_index s.words 0) u w
+  learns {S = S} key nodes id gathered u s homes is of =
+      subst (λ (p : ℕ × View E L). IsKept names sends lawful p.0 s → get_elem? s.views id ≡ some p.1
+          → (w : View E L) × IsKept names sends lawful {S = S} p.0 record { words = set s.words 0 (slice_index s.words 0); homes = homes; views = set s.views id w } × Knows names sends lawful (slice_index s.words 0) p.1 w)
+      (λ i. (sym of i, sym is i)) (learns_at nodes id gathered s homes)

@@ -6,3 +6,4 @@ pub mod Moves
 pub mod Seating
 pub mod Openings
 pub mod Joining
+pub mod Gathering

@@ -4,11 +4,13 @@ ghost use Rattle.cam_journal.specs.declared.fault.ReserveFault.TheVariants.{Full
 ghost use Rattle.cam_journal.specs.Taking.{IsNext};
 ghost use Rattle.cam_journal.specs.Rule.{CanRecord, recorded, IsBelow};
 ghost use Rattle.cam_journal.specs.Seats.{AreNew, with_event};
+ghost use Rattle.cam_journal.specs.Gathered.{AreSeats, AreGathered};
 
 use crate::fault::ReserveFault;
 use crate::nodes::Core;
 use crate::seat::{MOST, NodeSeat};
-use crate::view::{Opens, Records, Rules, Token, Told, Views};
+use crate::gathered::Gathered;
+use crate::view::{Gathers, Learns, Opens, Records, Rules, Token, Told, Views};
 use atomic_table::Table;
 use cam_base::NoMemory;
 use std::alloc::Global;
@@ -83,6 +85,31 @@ impl<C: Core> Journal<C> {
             unreachable!();
         };
         number
+    }
+
+    /// Gathers the events of all seats in order of their numbers, which run from 0. It takes no memory and waits for nobody.
+    pub fn gather(self, seats: Seats<C>) -> Gathered<C>
+        requires { AreSeats self seats.items }
+        ensures { AreGathered C.names C.sends C.lawful self.nodes seats.items result }
+    {
+        let Journal { table, mut lists } = self;
+        let (_, mut token) = table.shared.load_new_seat::<Gathers>(0);
+        for seat in seats {
+            let NodeSeat {
+                entries,
+                token: other,
+            } = seat;
+            table.shared.join_seat::<Gathers>(&mut token, other);
+            let Ok(()) = lists.push(entries) else {
+                unreachable!();
+            };
+        }
+        table.shared.load::<Learns<C>>(&mut token, 0);
+        Gathered {
+            lists,
+            next: 0,
+            token,
+        }
     }
 }
 

@@ -3,6 +3,7 @@
 
 mod entry;
 mod fault;
+mod gathered;
 mod input;
 mod journal;
 mod nodes;
@@ -11,6 +12,7 @@ mod view;
 
 pub use entry::{Entry, Sent, Step};
 pub use fault::ReserveFault;
+pub use gathered::Gathered;
 pub use input::{CoreFault, CoreInput};
 pub use journal::{Journal, Seats};
 pub use nodes::Core;
