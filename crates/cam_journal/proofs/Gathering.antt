@@ -15,7 +15,7 @@ use Rattle.cam_journal.specs.Rule.{IsNode, with_history, Knows, IsWhole}
 use Rattle.cam_journal.specs.Seats.{Opened, Sitting, numbered, node_in, history_in, IsSeat}
 use Rattle.cam_journal.specs.Gathered.{IsApart, AreSeats, AreGathered, trace_in, lists_from, IsLeft}
 
-All-unmap : {A B : Type 0} (f : A → B) (P : B → Type 0) (xs : List A) → All P (map f xs) → All (λ x. P (f x)) xs
+pub All-unmap : {A B : Type 0} (f : A → B) (P : B → Type 0) (xs : List A) → All P (map f xs) → All (λ x. P (f x)) xs
 All-unmap f P [] each = All-nil (λ x. P (f x))
 All-unmap f P (x ∷ xs) each = All-cons (λ x. P (f x)) x xs (All-head P (f x) (map f xs) each) (All-unmap f P xs (All-tail P (f x) (map f xs) each))
 

@@ -8,11 +8,11 @@ use Rattle.cam_journal.specs.declared.entry.Step.{Step}
 use Rattle.cam_journal.specs.Trace.{entry_of, history_from, history_of}
 use Rattle.cam_journal.specs.Rule.{IsNode}
 
-if_here : {A : Type 0} (b : Bool) (xs ys : A) → b ≡ true → (if b then xs else ys) ≡ xs
+pub if_here : {A : Type 0} (b : Bool) (xs ys : A) → b ≡ true → (if b then xs else ys) ≡ xs
 if_here true xs ys e = refl
 if_here false xs ys e = absurd (cc)
 
-if_else : {A : Type 0} (b : Bool) (xs ys : A) → b ≡ false → (if b then xs else ys) ≡ ys
+pub if_else : {A : Type 0} (b : Bool) (xs ys : A) → b ≡ false → (if b then xs else ys) ≡ ys
 if_else true xs ys e = absurd (cc)
 if_else false xs ys e = refl
 

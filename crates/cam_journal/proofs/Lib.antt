@@ -7,3 +7,4 @@ pub mod Seating
 pub mod Openings
 pub mod Joining
 pub mod Gathering
+pub mod Handing

@@ -32,7 +32,9 @@ impl<C: Core> Gathered<C> {
     pub fn take(&mut self) -> Option<(u64, C::Event)>
         ensures { MatchOption result ((self.old ≡ []) × (self.new ≡ [])) (λ first. self.old ≡ first ∷ self.new) }
     {
-        let at = first_at(self.lists.as_slice(), self.next)?;
+        let Some(at) = first_at(self.lists.as_slice(), self.next) else {
+            return None;
+        };
         let list = &mut self.lists[at];
         let first = list.pop_front();
         self.next += 1;
