@@ -9,7 +9,7 @@ use Rattle.cam_journal.specs.declared.entry.Entry.{Entry}
 use Rattle.cam_journal.specs.declared.entry.Step.{Step}
 use Rattle.cam_journal.specs.declared.view.Held.{Held}
 use Rattle.cam_journal.specs.declared.view.View.{View}
-use Rattle.cam_journal.specs.declared.view.View.TheVariants.{Maker, Node, Note, Gatherer, Whole, Spent}
+use Rattle.cam_journal.specs.declared.view.View.TheVariants.{Maker, Node, Posted, Gatherer, Whole, Spent}
 use Rattle.cam_journal.specs.Trace.{history_from, history_of, numbered_from, IsRun}
 use Rattle.cam_journal.specs.Rule.{IsNode, with_history, Knows, IsWhole}
 use Rattle.cam_journal.specs.Seats.{Opened, Sitting, numbered, node_in, history_in, IsSeat}
@@ -41,7 +41,7 @@ module _ {E L : Type 0} where
   gathering_is nodes all rest lists (Gatherer count gathered) is = ap (λ (n : ℕ). Gatherer n gathered) is.0
   gathering_is nodes all rest lists (Maker count next) is = absurd is
   gathering_is nodes all rest lists (Node node history taken) is = absurd is
-  gathering_is nodes all rest lists (Note sent) is = absurd is
+  gathering_is nodes all rest lists (Posted sent) is = absurd is
   gathering_is nodes all rest lists (Whole gathered trace) is = absurd is
   gathering_is nodes all rest lists Spent is = absurd is
 
@@ -56,13 +56,13 @@ module _ {E L : Type 0} where
         (λ i. is.2 i ++ seat.0 i ∷ []) ∙ sym (map-append (λ (h : Held E L). map numbered h.history) gathered (new ∷ [])),
       )
   gathering_node lawful nodes all rest lists entries (Gatherer count gathered) (Maker more next) held is seat same_node same = absurd seat
-  gathering_node lawful nodes all rest lists entries (Gatherer count gathered) (Note sent) held is seat same_node same = absurd seat
+  gathering_node lawful nodes all rest lists entries (Gatherer count gathered) (Posted sent) held is seat same_node same = absurd seat
   gathering_node lawful nodes all rest lists entries (Gatherer count gathered) (Gatherer more others) held is seat same_node same = absurd seat
   gathering_node lawful nodes all rest lists entries (Gatherer count gathered) (Whole others trace) held is seat same_node same = absurd seat
   gathering_node lawful nodes all rest lists entries (Gatherer count gathered) Spent held is seat same_node same = absurd seat
   gathering_node lawful nodes all rest lists entries (Maker count next) other held is seat same_node same = absurd is
   gathering_node lawful nodes all rest lists entries (Node node history taken) other held is seat same_node same = absurd is
-  gathering_node lawful nodes all rest lists entries (Note sent) other held is seat same_node same = absurd is
+  gathering_node lawful nodes all rest lists entries (Posted sent) other held is seat same_node same = absurd is
   gathering_node lawful nodes all rest lists entries (Whole gathered trace) other held is seat same_node same = absurd is
   gathering_node lawful nodes all rest lists entries Spent other held is seat same_node same = absurd is
 
@@ -121,12 +121,12 @@ module _ {E L : Type 0} (names : E → Option (ℕ × ℕ)) (sends : E → List 
       )
   gathering_done journal seats lists (Gatherer count gathered) (Maker more next) word own small is knows = absurd knows
   gathering_done journal seats lists (Gatherer count gathered) (Node node history taken) word own small is knows = absurd knows
-  gathering_done journal seats lists (Gatherer count gathered) (Note sent) word own small is knows = absurd knows
+  gathering_done journal seats lists (Gatherer count gathered) (Posted sent) word own small is knows = absurd knows
   gathering_done journal seats lists (Gatherer count gathered) (Gatherer more others) word own small is knows = absurd knows
   gathering_done journal seats lists (Gatherer count gathered) Spent word own small is knows = absurd knows
   gathering_done journal seats lists (Maker count next) after word own small is knows = absurd is
   gathering_done journal seats lists (Node node history taken) after word own small is knows = absurd is
-  gathering_done journal seats lists (Note sent) after word own small is knows = absurd is
+  gathering_done journal seats lists (Posted sent) after word own small is knows = absurd is
   gathering_done journal seats lists (Whole gathered trace) after word own small is knows = absurd is
   gathering_done journal seats lists Spent after word own small is knows = absurd is
 

@@ -10,7 +10,7 @@ use Rattle.cam_journal.specs.declared.entry.Entry.{Entry}
 use Rattle.cam_journal.specs.declared.entry.Step.{Step}
 use Rattle.cam_journal.specs.declared.view.Held.{Held}
 use Rattle.cam_journal.specs.declared.view.View.{View}
-use Rattle.cam_journal.specs.declared.view.View.TheVariants.{Maker, Node, Note, Gatherer, Whole, Spent}
+use Rattle.cam_journal.specs.declared.view.View.TheVariants.{Maker, Node, Posted, Gatherer, Whole, Spent}
 use Rattle.cam_journal.specs.Trace.{history_of, IsSent, IsLawful, IsRun}
 use Rattle.cam_journal.specs.Rule.{IsNode, Fits}
 use Rattle.cam_journal.proofs.Lists.{slice_get-longer, slice_get-push}
@@ -44,7 +44,7 @@ module _ {E L : Type 0} (sends : E → List L) where
       (fits.0, λ node low high. let was = fits.1 node low high in (was.0, history_of-other node trace step (λ same. other (ap seat same ∙ was.0)) ∙ was.1))
   Fits-longer nodes trace step seat id (Node node history taken) other fits =
       (fits.0, fits.1, fits.2 ∙ sym (history_of-other node trace step (λ same. other (ap seat same ∙ fits.1))), taken-longer trace (step ∷ []) taken fits.3)
-  Fits-longer nodes trace step seat id (Note sent) other fits = IsSent-longer trace (step ∷ []) sent fits
+  Fits-longer nodes trace step seat id (Posted sent) other fits = IsSent-longer trace (step ∷ []) sent fits
   Fits-longer nodes trace step seat id (Gatherer count gathered) other fits =
       (
         fits.0,

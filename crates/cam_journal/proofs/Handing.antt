@@ -12,7 +12,7 @@ use Rattle.cam_journal.specs.declared.entry.Entry.{Entry}
 use Rattle.cam_journal.specs.declared.entry.Step.{Step}
 use Rattle.cam_journal.specs.declared.view.Held.{Held}
 use Rattle.cam_journal.specs.declared.view.View.{View}
-use Rattle.cam_journal.specs.declared.view.View.TheVariants.{Maker, Node, Note, Gatherer, Whole, Spent}
+use Rattle.cam_journal.specs.declared.view.View.TheVariants.{Maker, Node, Posted, Gatherer, Whole, Spent}
 use Rattle.cam_journal.specs.Trace.{entry_of, history_from, numbered_from}
 use Rattle.cam_journal.specs.Seats.{numbered}
 use Rattle.cam_journal.specs.Gathered.{IsApart, trace_in, lists_from, IsLeft, front_of}
@@ -24,7 +24,7 @@ Some-injective : {A : Type 0} (a b : A) → Some a ≡ Some b → a ≡ b
 Some-injective a b e = cc
 
 -- what is read in a mapped list was read in the list
-mapped_at : {A B : Type 0} (f : A → B) (xs : List A) (at : ℕ) (b : B) → slice_get (map f xs) at ≡ Some b → (a : A) × (slice_get xs at ≡ Some a) × (f a ≡ b)
+pub mapped_at : {A B : Type 0} (f : A → B) (xs : List A) (at : ℕ) (b : B) → slice_get (map f xs) at ≡ Some b → (a : A) × (slice_get xs at ≡ Some a) × (f a ≡ b)
 mapped_at f [] at b there = absurd (cc)
 mapped_at f (x ∷ xs) zero b there = (x, refl, Some-injective (f x) b there)
 mapped_at f (x ∷ xs) (suc at) b there = mapped_at f xs at b there
@@ -124,7 +124,7 @@ module _ {E L : Type 0} where
   take_none n lists (Whole gathered trace) is none = none_left n trace (drop n trace) (map (λ (held : Held E L). held.node) gathered) lists refl is.2 is.4 none
   take_none n lists (Maker count next) is none = absurd is
   take_none n lists (Node node history taken) is none = absurd is
-  take_none n lists (Note sent) is none = absurd is
+  take_none n lists (Posted sent) is none = absurd is
   take_none n lists (Gatherer count gathered) is none = absurd is
   take_none n lists Spent is none = absurd is
 
@@ -169,7 +169,7 @@ module _ {E L : Type 0} where
   take_some n lists (Whole gathered trace) at first rest is there begins = some_left n gathered trace (drop n trace) lists at first rest is refl there begins
   take_some n lists (Maker count next) at first rest is there begins = absurd is
   take_some n lists (Node node history taken) at first rest is there begins = absurd is
-  take_some n lists (Note sent) at first rest is there begins = absurd is
+  take_some n lists (Posted sent) at first rest is there begins = absurd is
   take_some n lists (Gatherer count gathered) at first rest is there begins = absurd is
   take_some n lists Spent at first rest is there begins = absurd is
 

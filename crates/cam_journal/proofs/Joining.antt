@@ -12,7 +12,7 @@ use Rattle.cam_journal.specs.declared.entry.Entry.{Entry}
 use Rattle.cam_journal.specs.declared.entry.Step.{Step}
 use Rattle.cam_journal.specs.declared.view.Held.{Held}
 use Rattle.cam_journal.specs.declared.view.View.{View}
-use Rattle.cam_journal.specs.declared.view.View.TheVariants.{Maker, Node, Note, Gatherer, Whole, Spent}
+use Rattle.cam_journal.specs.declared.view.View.TheVariants.{Maker, Node, Posted, Gatherer, Whole, Spent}
 use Rattle.cam_journal.specs.Trace.{history_of, IsSent}
 use Rattle.cam_journal.specs.Rule.{IsNode, Fits, IsKept, HasSent, note_of, with_letter, gatherer, with_history, Knows, IsWhole}
 use Rattle.cam_journal.specs.Seats.{IsSeat}
@@ -30,7 +30,7 @@ module _ {E L : Type 0} (names : E → Option (ℕ × ℕ)) (sends : E → List 
         letter = ap (λ (e : E). slice_get (sends e) sent.place) found.2 ∙ has.4;
       }
   sent_in nodes trace seat id (Maker count next) sent fits has = absurd has
-  sent_in nodes trace seat id (Note other) sent fits has = absurd has
+  sent_in nodes trace seat id (Posted other) sent fits has = absurd has
   sent_in nodes trace seat id (Gatherer count gathered) sent fits has = absurd has
   sent_in nodes trace seat id (Whole gathered steps) sent fits has = absurd has
   sent_in nodes trace seat id Spent sent fits has = absurd has
@@ -52,12 +52,12 @@ module _ {E L : Type 0} (names : E → Option (ℕ × ℕ)) (sends : E → List 
   -- a note of a letter that the node sent
   pub notes : {S : Type 0} (nodes id : ℕ) (view : View E L) (sent : Sent L) (told : Option (Sent L)) → told ≡ Some sent → HasSent sends view sent → Splits (IsKept names sends lawful {S = S} nodes) id view view (note_of told)
   notes {S = S} nodes id view sent told is has =
-      subst (λ (t : Option (Sent L)). Splits (IsKept names sends lawful {S = S} nodes) id view view (note_of t)) (sym is) (splits nodes id view (Note sent) (λ trace seat other fits. sent_in nodes trace seat id view sent fits has))
+      subst (λ (t : Option (Sent L)). Splits (IsKept names sends lawful {S = S} nodes) id view view (note_of t)) (sym is) (splits nodes id view (Posted sent) (λ trace seat other fits. sent_in nodes trace seat id view sent fits has))
 
   -- a second note of the same letter
-  pub copies : {S : Type 0} (nodes id : ℕ) (view : View E L) (sent : Sent L) → view ≡ Note sent → Splits (IsKept names sends lawful {S = S} nodes) id view view view
+  pub copies : {S : Type 0} (nodes id : ℕ) (view : View E L) (sent : Sent L) → view ≡ Posted sent → Splits (IsKept names sends lawful {S = S} nodes) id view view view
   copies {S = S} nodes id view sent is =
-      subst (λ (v : View E L). Splits (IsKept names sends lawful {S = S} nodes) id v v v) (sym is) (splits nodes id (Note sent) (Note sent) (λ trace seat other fits. fits))
+      subst (λ (v : View E L). Splits (IsKept names sends lawful {S = S} nodes) id v v v) (sym is) (splits nodes id (Posted sent) (Posted sent) (λ trace seat other fits. fits))
 
   -- two seats changed, the second of which is spent
   joins : {S : Type 0} (nodes id other : ℕ) (view w both : View E L)
@@ -78,17 +78,17 @@ module _ {E L : Type 0} (names : E → Option (ℕ × ℕ)) (sends : E → List 
               (at_set s.views id j both u t.1))
           (at_set (set s.views id both) other j Spent u e))
 
-  takes_at : {S : Type 0} (nodes id other : ℕ) (view : View E L) (sent : Sent L) (entries : List (ℕ × E)) → IsSeat lawful entries view → Joins (IsKept names sends lawful {S = S} nodes) id view other (Note sent) (with_letter view (Note sent)) Spent
+  takes_at : {S : Type 0} (nodes id other : ℕ) (view : View E L) (sent : Sent L) (entries : List (ℕ × E)) → IsSeat lawful entries view → Joins (IsKept names sends lawful {S = S} nodes) id view other (Posted sent) (with_letter view (Posted sent)) Spent
   takes_at nodes id other (Node node history taken) sent entries seat =
-      joins nodes id other (Node node history taken) (Note sent) (Node node history (Some sent)) (λ trace at apart mine theirs. (at, (mine.0, mine.1, mine.2, theirs), λ j u not_mine not_theirs fits. fits))
+      joins nodes id other (Node node history taken) (Posted sent) (Node node history (Some sent)) (λ trace at apart mine theirs. (at, (mine.0, mine.1, mine.2, theirs), λ j u not_mine not_theirs fits. fits))
   takes_at nodes id other (Maker count next) sent entries seat = absurd seat
-  takes_at nodes id other (Note old) sent entries seat = absurd seat
+  takes_at nodes id other (Posted old) sent entries seat = absurd seat
   takes_at nodes id other (Gatherer count gathered) sent entries seat = absurd seat
   takes_at nodes id other (Whole gathered steps) sent entries seat = absurd seat
   takes_at nodes id other Spent sent entries seat = absurd seat
 
   -- a node takes the letter of a note
-  pub takes : {S : Type 0} (nodes id other : ℕ) (view w : View E L) (sent : Sent L) (entries : List (ℕ × E)) → w ≡ Note sent → IsSeat lawful entries view → Joins (IsKept names sends lawful {S = S} nodes) id view other w (with_letter view w) Spent
+  pub takes : {S : Type 0} (nodes id other : ℕ) (view w : View E L) (sent : Sent L) (entries : List (ℕ × E)) → w ≡ Posted sent → IsSeat lawful entries view → Joins (IsKept names sends lawful {S = S} nodes) id view other w (with_letter view w) Spent
   takes {S = S} nodes id other view w sent entries is seat =
       subst (λ (v : View E L). Joins (IsKept names sends lawful {S = S} nodes) id view other v (with_letter view v) Spent) (sym is) (takes_at nodes id other view sent entries seat)
 
@@ -110,7 +110,7 @@ module _ {E L : Type 0} (names : E → Option (ℕ × ℕ)) (sends : E → List 
           λ j u not_mine not_theirs fits. Fits-moved sends nodes trace at node id j u (λ same. not_theirs (sym same ∙ theirs.1)) fits,
         ))
   gathers_at nodes id other gathered (Maker count next) entries seat = absurd seat
-  gathers_at nodes id other gathered (Note old) entries seat = absurd seat
+  gathers_at nodes id other gathered (Posted old) entries seat = absurd seat
   gathers_at nodes id other gathered (Gatherer count more) entries seat = absurd seat
   gathers_at nodes id other gathered (Whole more steps) entries seat = absurd seat
   gathers_at nodes id other gathered Spent entries seat = absurd seat

@@ -8,3 +8,5 @@ pub mod Openings
 pub mod Joining
 pub mod Gathering
 pub mod Handing
+pub mod Finding
+pub mod Letters

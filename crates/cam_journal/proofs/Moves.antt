@@ -16,7 +16,7 @@ use Rattle.cam_journal.specs.declared.entry.Entry.{Entry}
 use Rattle.cam_journal.specs.declared.entry.Step.{Step}
 use Rattle.cam_journal.specs.declared.view.Held.{Held}
 use Rattle.cam_journal.specs.declared.view.View.{View}
-use Rattle.cam_journal.specs.declared.view.View.TheVariants.{Maker, Node, Note, Gatherer, Whole, Spent}
+use Rattle.cam_journal.specs.declared.view.View.TheVariants.{Maker, Node, Posted, Gatherer, Whole, Spent}
 use Rattle.cam_journal.specs.Trace.{entry_of, history_of, IsSent, IsLawful, IsRun}
 use Rattle.cam_journal.specs.Taking.{received_of, left_of, IsNext, entry}
 use Rattle.cam_journal.specs.Rule.{IsNode, Fits, IsKept, IsBelow, CanRecord, Recorded, maker, without_next, next_node, recorded}
@@ -93,7 +93,7 @@ module _ {E L : Type 0} (names : E → Option (ℕ × ℕ)) (sends : E → List 
             (history_of-below node kept.trace),
       )
   records nodes s id event (Maker count following) next homes kept at may new = absurd may
-  records nodes s id event (Note sent) next homes kept at may new = absurd may
+  records nodes s id event (Posted sent) next homes kept at may new = absurd may
   records nodes s id event (Gatherer count gathered) next homes kept at may new = absurd may
   records nodes s id event (Whole gathered trace) next homes kept at may new = absurd may
   records nodes s id event Spent next homes kept at may new = absurd may

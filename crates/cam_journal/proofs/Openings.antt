@@ -13,7 +13,7 @@ use Rattle.cam_journal.specs.declared.entry.Entry.{Entry}
 use Rattle.cam_journal.specs.declared.entry.Step.{Step}
 use Rattle.cam_journal.specs.declared.view.Held.{Held}
 use Rattle.cam_journal.specs.declared.view.View.{View}
-use Rattle.cam_journal.specs.declared.view.View.TheVariants.{Maker, Node, Note, Gatherer, Whole, Spent}
+use Rattle.cam_journal.specs.declared.view.View.TheVariants.{Maker, Node, Posted, Gatherer, Whole, Spent}
 use Rattle.cam_journal.specs.Trace.{history_of, IsSent}
 use Rattle.cam_journal.specs.Rule.{IsNode, Fits, IsKept, maker, without_next, next_node, gatherer, with_history, with_letter, Knows, IsWhole}
 use Rattle.cam_journal.proofs.Moves.{at_push}
@@ -38,7 +38,7 @@ module _ {E L : Type 0} (sends : E → List L) where
       (fits.0, λ one low high. let was = fits.1 one low high in (moved_else seat node to one (λ same. other (ap seat (sym same) ∙ was.0)) ∙ was.0, was.1))
   Fits-moved nodes trace seat node to id (Node one history taken) other fits =
       (fits.0, moved_else seat node to one (λ same. other (ap seat (sym same) ∙ fits.1)) ∙ fits.1, fits.2, fits.3)
-  Fits-moved nodes trace seat node to id (Note sent) other fits = fits
+  Fits-moved nodes trace seat node to id (Posted sent) other fits = fits
   Fits-moved nodes trace seat node to id (Gatherer count gathered) other fits =
       (
         fits.0,

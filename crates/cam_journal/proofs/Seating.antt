@@ -9,7 +9,7 @@ use Rattle.atomic_table.specs.Seated.{TableId}
 use Rattle.cam_journal.specs.declared.entry.Sent.{Sent}
 use Rattle.cam_journal.specs.declared.entry.Entry.{Entry}
 use Rattle.cam_journal.specs.declared.view.View.{View}
-use Rattle.cam_journal.specs.declared.view.View.TheVariants.{Maker, Node, Note, Gatherer, Whole, Spent}
+use Rattle.cam_journal.specs.declared.view.View.TheVariants.{Maker, Node, Posted, Gatherer, Whole, Spent}
 use Rattle.cam_journal.specs.Taking.{IsNext, entry}
 use Rattle.cam_journal.specs.Rule.{recorded, IsBelow, CanRecord}
 use Rattle.cam_journal.specs.Seats.{Sitting, AreNew, sitting, with_event, numbered, IsHistory, IsRising, IsSeat}
@@ -61,7 +61,7 @@ module _ {E L : Type 0} (names : E → Option (ℕ × ℕ)) (lawful : ℕ → Li
         IsRising-push history last seat.3 below,
       )
   IsSeat-record (Maker count next) entries event number seat may below = absurd seat
-  IsSeat-record (Note sent) entries event number seat may below = absurd seat
+  IsSeat-record (Posted sent) entries event number seat may below = absurd seat
   IsSeat-record (Gatherer count gathered) entries event number seat may below = absurd seat
   IsSeat-record (Whole gathered trace) entries event number seat may below = absurd seat
   IsSeat-record Spent entries event number seat may below = absurd seat
@@ -77,7 +77,7 @@ module _ {E L : Type 0} (names : E → Option (ℕ × ℕ)) (lawful : ℕ → Li
         omega (arith, long, length-map history numbered),
       )
   can_record (Maker nodes next) journal capacity count entries seat event is counted kept spare may = absurd kept
-  can_record (Note sent) journal capacity count entries seat event is counted kept spare may = absurd kept
+  can_record (Posted sent) journal capacity count entries seat event is counted kept spare may = absurd kept
   can_record (Gatherer nodes gathered) journal capacity count entries seat event is counted kept spare may = absurd kept
   can_record (Whole gathered trace) journal capacity count entries seat event is counted kept spare may = absurd kept
   can_record Spent journal capacity count entries seat event is counted kept spare may = absurd kept
@@ -89,7 +89,7 @@ module _ {E L : Type 0} (names : E → Option (ℕ × ℕ)) (lawful : ℕ → Li
       let moved : sitting now left after ≡ sitting journal (spare - 1) (recorded names event number (Node node history taken)) = λ i. sitting (same i) (less i) (changed i) in
       moved ∙ ap (λ (s : Sitting E L). with_event names number event s) is
   sitting-record (Maker nodes next) after journal now spare left entries seat event number is kept changed same less = absurd kept
-  sitting-record (Note sent) after journal now spare left entries seat event number is kept changed same less = absurd kept
+  sitting-record (Posted sent) after journal now spare left entries seat event number is kept changed same less = absurd kept
   sitting-record (Gatherer nodes gathered) after journal now spare left entries seat event number is kept changed same less = absurd kept
   sitting-record (Whole gathered trace) after journal now spare left entries seat event number is kept changed same less = absurd kept
   sitting-record Spent after journal now spare left entries seat event number is kept changed same less = absurd kept

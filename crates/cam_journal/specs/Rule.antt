@@ -8,7 +8,7 @@ use Rattle.cam_journal.specs.declared.entry.Entry.{Entry}
 use Rattle.cam_journal.specs.declared.entry.Step.{Step}
 use Rattle.cam_journal.specs.declared.view.Held.{Held}
 use Rattle.cam_journal.specs.declared.view.View.{View}
-use Rattle.cam_journal.specs.declared.view.View.TheVariants.{Maker, Node, Note, Gatherer, Whole, Spent}
+use Rattle.cam_journal.specs.declared.view.View.TheVariants.{Maker, Node, Posted, Gatherer, Whole, Spent}
 use Rattle.cam_journal.specs.Trace.{history_of, IsSent, IsRun}
 use Rattle.cam_journal.specs.Taking.{left_of, entry, IsNext}
 
@@ -21,7 +21,7 @@ module _ {E L : Type 0} where
   abbrev pub Fits : (E → List L) → ℕ → List (Step E L) → (ℕ → ℕ) → ℕ → View E L → Type 0
   Fits sends nodes trace seat id (Maker count next) = (count ≡ nodes) × ((node : ℕ) → next ≤ node → node ≤ nodes → (seat node ≡ id) × (history_of node trace ≡ []))
   Fits sends nodes trace seat id (Node node history taken) = IsNode nodes node × (seat node ≡ id) × (history ≡ history_of node trace) × IfSome taken (IsSent sends trace)
-  Fits sends nodes trace seat id (Note sent) = IsSent sends trace sent
+  Fits sends nodes trace seat id (Posted sent) = IsSent sends trace sent
   Fits sends nodes trace seat id (Gatherer count gathered) = (count ≡ nodes) × All (λ held. (seat held.node ≡ id) × (held.history ≡ history_of held.node trace)) gathered
   Fits sends nodes trace seat id (Whole gathered steps) = Unit {0}
   Fits sends nodes trace seat id Spent = Unit {0}
@@ -44,7 +44,7 @@ module _ {E L : Type 0} where
   abbrev pub without_next : View E L → View E L
   without_next (Maker nodes next) = Maker nodes (next + 1)
   without_next (Node node history taken) = Node node history taken
-  without_next (Note sent) = Note sent
+  without_next (Posted sent) = Posted sent
   without_next (Gatherer nodes gathered) = Gatherer nodes gathered
   without_next (Whole gathered trace) = Whole gathered trace
   without_next Spent = Spent
@@ -57,7 +57,7 @@ module _ {E L : Type 0} where
   abbrev pub recorded : (E → Option (ℕ × ℕ)) → E → ℕ → View E L → View E L
   recorded names event number (Node node history taken) = Node node (history ++ entry names number taken event ∷ []) (left_of (names event) taken)
   recorded names event number (Maker nodes next) = Maker nodes next
-  recorded names event number (Note sent) = Note sent
+  recorded names event number (Posted sent) = Posted sent
   recorded names event number (Gatherer nodes gathered) = Gatherer nodes gathered
   recorded names event number (Whole gathered trace) = Whole gathered trace
   recorded names event number Spent = Spent
@@ -83,12 +83,12 @@ module _ {E L : Type 0} where
 
   -- a note of the letter that was told
   abbrev pub note_of : Option (Sent L) → View E L
-  note_of (Some sent) = Note sent
+  note_of (Some sent) = Posted sent
   note_of None = Spent
 
   -- a node takes the letter of a note, in place of one that it took and has not used
   abbrev pub with_letter : View E L → View E L → View E L
-  with_letter (Node node history taken) (Note sent) = Node node history (Some sent)
+  with_letter (Node node history taken) (Posted sent) = Node node history (Some sent)
   with_letter view _ = view
 
   -- the seat that gathers, from the first view

@@ -1,5 +1,5 @@
 -- What contracts see of a journal, of the seats of its nodes and of notes.
-use Rattle.std.specs.Prelude.{◌≡◌, ◌≢◌, ◌<◌, ◌≤◌, ◌+◌, ◌-◌, ℕ, min, List, [], ◌∷◌, ◌++◌, map, length, take, Contains, AllPairs, All, Option, Some, None, slice_get}
+use Rattle.std.specs.Prelude.{◌≡◌, ◌≢◌, ◌<◌, ◌≤◌, ◌+◌, ◌-◌, ◌==◌, if◌then◌else◌, ℕ, min, List, [], ◌∷◌, ◌++◌, map, length, take, Contains, AllPairs, All, Option, Some, None, slice_get}
 use Rattle.atomic_table.specs.Seated.{TableId}
 use Rattle.cam_journal.specs.declared.entry.Sent.{Sent}
 use Rattle.cam_journal.specs.declared.entry.Entry.{Entry}
@@ -19,6 +19,11 @@ pub record Sitting (E L : Type 0) : Type 0 where
   pub history : List (Entry E L)
   pub taken : Option (Sent L)
   pub spare : ℕ
+
+-- a note: its journal, and the letter with the number of the event that sent it and its place
+pub record Mention (L : Type 0) : Type 0 where
+  pub journal : TableId
+  pub sent : Sent L
 
 module _ {E L : Type 0} where
   abbrev pub numbered : Entry E L → ℕ × E
@@ -60,3 +65,16 @@ module _ {E L : Type 0} where
   pub record AreNew (journal : TableId) (nodes : ℕ) (seats : List (Sitting E L)) : Type 0 where
     pub count : length seats ≡ nodes
     pub each : (at : ℕ) (seat : Sitting E L) → slice_get seats at ≡ Some seat → (seat.journal ≡ journal) × (seat.node ≡ at + 1) × (seat.history ≡ []) × (seat.taken ≡ None)
+
+  -- the letter that the event with this number sent, at a place
+  abbrev pub letter_at : (E → List L) → List (Entry E L) → ℕ → ℕ → Option L
+  letter_at sends [] number place = None
+  letter_at sends (entry ∷ history) number place = if entry.number == number then slice_get (sends entry.event) place else letter_at sends history number place
+
+  -- the seat once it took a letter
+  abbrev pub with_taken : Sent L → Sitting E L → Sitting E L
+  with_taken sent seat = record seat { taken = Some sent }
+
+-- the numbers of a list of events rise
+abbrev pub AreRising : {E : Type 0} → List (ℕ × E) → Type 0
+AreRising {E} entries = (at later : ℕ) (one other : ℕ × E) → at < later → slice_get entries at ≡ Some one → slice_get entries later ≡ Some other → one.0 < other.0

@@ -23,7 +23,7 @@ pub type Seats<C> = Vec<NodeSeat<C>>;
 /// Numbers the events of its nodes, whatever threads record them. Contracts see which journal it is, and how many nodes it has.
 #[derive(Drop)]
 pub struct Journal<C: Core> {
-    table: Views<C>,
+    pub(crate) table: Views<C>,
     lists: Vec<VecDeque<(u64, C::Event)>>,
 }
 

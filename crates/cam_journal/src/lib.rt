@@ -7,6 +7,7 @@ mod gathered;
 mod input;
 mod journal;
 mod nodes;
+mod note;
 mod seat;
 mod view;
 
@@ -16,4 +17,5 @@ pub use gathered::Gathered;
 pub use input::{CoreFault, CoreInput};
 pub use journal::{Journal, Seats};
 pub use nodes::Core;
+pub use note::Note;
 pub use seat::NodeSeat;

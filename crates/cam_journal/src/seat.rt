@@ -1,6 +1,6 @@
 //! The seat of a node.
-ghost use Rattle.std.specs.Prelude.{◌≡◌, ◌≤◌, ◌+◌, ◌-◌, length, min, [], slice_get, IsTrue};
-ghost use Rattle.std.specs.VecDeque.{deque_capacity};
+ghost use Rattle.std.specs.Prelude.{◌≡◌, ◌≤◌, ◌+◌, map, length, Some, slice_get, MatchOption};
+ghost use Rattle.cam_journal.specs.Seats.{numbered};
 
 use crate::nodes::Core;
 use crate::view::Token;
@@ -29,4 +29,23 @@ impl<C: Core> Model for NodeSeat<C> {
     ghost view = { λ s. sitting s.token.table_id (min (deque_capacity s.entries) 500000000 - deque_len s.entries) s.token.me.0 };
 
     ghost invariant = { λ s. (s.token.me.1 ≡ []) × IsSeat C.lawful s.entries.items s.token.me.0 };
+}
+
+impl<C: Core> NodeSeat<C> {
+    /// How many events the history has. It takes no memory.
+    pub fn len(&self) -> u64
+        ensures len { result ≡ length self.now.history }
+        ensures room { self.now.spare + result ≤ 500000000 }
+    {
+        self.entries.len() as u64
+    }
+
+    /// The event at a place of the history, from 0, with its number; none exactly where the history has no such place. It takes no
+    /// memory.
+    pub fn get(&self, at: u64) -> Option<(u64, &C::Event)>
+        ensures { MatchOption result (length self.now.history ≤ at) (λ entry. slice_get (map numbered self.now.history) at ≡ Some (entry.0, entry.1.now)) }
+    {
+        let (number, event) = self.entries.get(at as usize)?;
+        Some((*number, event))
+    }
 }

@@ -21,7 +21,7 @@ pub enum View<E, L> {
     /// It stands for a node: its number, its history, and the letter that it took and has not used.
     Node { node: u8, history: LinkedList<Entry<E, L>>, taken: Option<Sent<L>> },
     /// It stands for a letter that was sent.
-    Note { sent: Sent<L> },
+    Posted { sent: Sent<L> },
     /// It gathers the histories of the nodes: how many there are in all, and those gathered so far.
     Gatherer { nodes: u8, gathered: LinkedList<Held<E, L>> },
     /// It knows the whole run, and the nodes in the order in which they were gathered.
