@@ -1,0 +1,64 @@
+//! A core for tests: an event is a number, and sends that number as its one letter.
+ghost use Rattle.std.specs.Prelude.{[], ◌∷◌, None};
+
+use crate::{Core, CoreFault, CoreInput};
+use cam_base::NoMemory;
+
+#[derive(Drop)]
+pub(crate) struct Numbers;
+
+impl Core for Numbers {
+    type Event = u64;
+
+    type Letter = u64;
+
+    ghost use Rattle.std.specs.Prelude.{[], ◌∷◌, None};
+    ghost use Rattle.cam_journal.specs.NumbersCore.{is_drive};
+
+    ghost faults = { λ core. 0 };
+
+    ghost names = { λ event. None };
+
+    ghost sends = { λ event. event ∷ [] };
+
+    ghost goes_to = { λ letter. 2 };
+
+    ghost copied = { λ letter. 1 };
+
+    ghost lawful = { λ node history received event. Unit {0} };
+
+    ghost is_replay = { λ core node history. Unit {0} };
+
+    ghost is_idle = { λ core input. is_drive input };
+
+    fn step(&mut self, input: CoreInput<u64>) -> Result<Option<u64>, CoreFault> {
+        match input {
+            CoreInput::Letter { letter, .. } => Ok(Some(letter)),
+            CoreInput::Drive => Ok(None),
+        }
+    }
+
+    fn idle(&self, input: &CoreInput<u64>) -> bool {
+        matches!(input, CoreInput::Drive)
+    }
+
+    fn copies(_letter: &u64) -> u8 {
+        1
+    }
+
+    fn to(_letter: &u64) -> u8 {
+        2
+    }
+
+    fn letters(_event: &u64) -> u32 {
+        1
+    }
+
+    fn letter(event: &u64, _place: u32) -> Result<u64, NoMemory> {
+        Ok(*event)
+    }
+
+    fn copy(letter: &u64) -> Result<u64, NoMemory> {
+        Ok(*letter)
+    }
+}
