@@ -3,4 +3,3 @@ pub mod Taking
 pub mod Rule
 pub mod Seats
 pub mod Gathered
-pub mod NumbersCore

@@ -1,6 +1,4 @@
 //! A core for tests: an event is a number, and sends that number as its one letter.
-ghost use Rattle.std.specs.Prelude.{[], ◌∷◌, None};
-
 use crate::{Core, CoreFault, CoreInput};
 use cam_base::NoMemory;
 
@@ -12,8 +10,8 @@ impl Core for Numbers {
 
     type Letter = u64;
 
-    ghost use Rattle.std.specs.Prelude.{[], ◌∷◌, None};
-    ghost use Rattle.cam_journal.specs.NumbersCore.{is_drive};
+    ghost use Rattle.std.specs.Prelude.{[], ◌∷◌, None, is_none};
+    ghost use Rattle.cam_journal.specs.Taking.{letter_in};
 
     ghost faults = { λ core. 0 };
 
@@ -29,7 +27,7 @@ impl Core for Numbers {
 
     ghost is_replay = { λ core node history. Unit {0} };
 
-    ghost is_idle = { λ core input. is_drive input };
+    ghost is_idle = { λ core input. is_none (letter_in input) };
 
     fn step(&mut self, input: CoreInput<u64>) -> Result<Option<u64>, CoreFault> {
         match input {
