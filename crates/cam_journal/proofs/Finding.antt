@@ -27,13 +27,13 @@ module _ {E : Type 0} where
   rises : (entries : List (ℕ × E)) (number : ℕ) → AreRising entries → IsNonDecreasingBy (λ y. ordering_index (nat_cmp y.0 number)) entries
   rises entries number rising i j d before within =
       elim (cases_lt i j) [
-      | inl less ↦
-        let above : (get_or entries i d).0 < (get_or entries j d).0 = rising i j (get_or entries i d) (get_or entries j d) less (slice_get-get_or entries i d (omega arith)) (slice_get-get_or entries j d within) in
-        rank_rises (get_or entries i d).0 (get_or entries j d).0 number (omega arith)
-      | inr not_less ↦
-        let same : i ≡ j = omega arith in
-        subst (λ (k : ℕ). ordering_index (nat_cmp (get_or entries i d).0 number) ≤ ordering_index (nat_cmp (get_or entries k d).0 number)) same (rank_rises (get_or entries i d).0 (get_or entries i d).0 number (omega arith))
-    ]
+        | inl less ↦
+            let above : (get_or entries i d).0 < (get_or entries j d).0 = rising i j (get_or entries i d) (get_or entries j d) less (slice_get-get_or entries i d (omega arith)) (slice_get-get_or entries j d within) in
+            rank_rises (get_or entries i d).0 (get_or entries j d).0 number (omega arith)
+        | inr not_less ↦
+            let same : i ≡ j = omega arith in
+            subst (λ (k : ℕ). ordering_index (nat_cmp (get_or entries i d).0 number) ≤ ordering_index (nat_cmp (get_or entries k d).0 number)) same (rank_rises (get_or entries i d).0 (get_or entries i d).0 number (omega arith))
+      ]
 
   -- no event has the number where a search found none
   pub absent : (entries : List (ℕ × E)) (number place : ℕ) → AreRising entries → (IsNonDecreasingBy (λ y. ordering_index (nat_cmp y.0 number)) entries → IsPartitionPoint (λ y. nat_cmp y.0 number ≡ Less) (λ y. nat_cmp y.0 number ≡ Greater) entries place) → All (λ entry. entry.0 ≢ number) entries
@@ -41,6 +41,6 @@ module _ {E : Type 0} where
       let sides = parts (rises entries number rising) in
       let here : ℕ = (get_or entries k d).0 in
       elim (cases_lt k place) [
-      | inl below ↦ let less = ranked here number Less (sym (sides.0 k d (omega arith) below)) in absurd (omega (arith, less, same))
-      | inr above ↦ let more = ranked here number Greater (sym (sides.1 k d above within)) in absurd (omega (arith, more, same))
-    ]
+        | inl below ↦ let less = ranked here number Less (sym (sides.0 k d (omega arith) below)) in absurd (omega (arith, less, same))
+        | inr above ↦ let more = ranked here number Greater (sym (sides.1 k d above within)) in absurd (omega (arith, more, same))
+      ]

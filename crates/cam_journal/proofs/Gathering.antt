@@ -49,8 +49,7 @@ module _ {E L : Type 0} where
       → IsGathering nodes all (held ∷ rest) lists view → IsSeat lawful entries other → held.node ≡ node_in other → held.history ≡ history_in other → IsGathering nodes all rest (lists ++ entries ∷ []) (with_history view other)
   gathering_node lawful nodes all rest lists entries (Gatherer count gathered) (Node node history taken) held is seat same_node same =
       let new : Held E L = record { node = node; history = history } in
-      let one : held ≡ new = λ i. record { node = same_node i; history = same i } in
-      (
+      let one : held ≡ new = λ i. record { node = same_node i; history = same i } in (
         is.0,
         is.1 ∙ ap (λ (h : Held E L). gathered ++ h ∷ rest) one ∙ sym (append_assoc gathered (new ∷ []) rest),
         (λ i. is.2 i ++ seat.0 i ∷ []) ∙ sym (map-append (λ (h : Held E L). map numbered h.history) gathered (new ∷ [])),
@@ -99,8 +98,7 @@ module _ {E L : Type 0} (names : E → Option (ℕ × ℕ)) (sends : E → List 
       let here : same ≡ gathered = knows.0 in
       let nodes : map (λ (h : Held E L). h.node) same ≡ map (λ (s : Sitting E L). s.node) seats = ap (map (λ (h : Held E L). h.node)) (here ∙ all) ∙ nodes_of seats in
       let within : All (λ step. IsNode journal.nodes step.node) trace = subst (λ (n : ℕ). All (λ (step : Step E L). IsNode n step.node) trace) is.0 whole.nodes_only in
-      let histories = subst (λ (g : List (Held E L)). All (λ (h : Held E L). h.history ≡ history_of h.node trace) g) all whole.histories in
-      (
+      let histories = subst (λ (g : List (Held E L)). All (λ (h : Held E L). h.history ≡ history_of h.node trace) g) all whole.histories in (
         (
           omega arith,
           subst (λ (n : ℕ). n < 18446744073709551616) knows.1 small,

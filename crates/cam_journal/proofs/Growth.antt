@@ -22,11 +22,11 @@ module _ {E L : Type 0} (names : E → Option (ℕ × ℕ)) (sends : E → List 
   IsRun-push trace step run last number s at =
       ⊎_elim
       (λ (t : (number < length trace) × (slice_get trace number ≡ Some s)).
-          let below = t.0 in
-          subst (λ (front : List (Step E L)). IsLawful names sends lawful front s) (sym (take-append-le number trace (step ∷ []) (omega arith))) (run number s t.1))
+      let below = t.0 in
+      subst (λ (front : List (Step E L)). IsLawful names sends lawful front s) (sym (take-append-le number trace (step ∷ []) (omega arith))) (run number s t.1))
       (λ (t : (number ≡ length trace) × (step ≡ s)).
-          let front : take number (trace ++ step ∷ []) ≡ trace = ap (λ (k : ℕ). take k (trace ++ step ∷ [])) t.0 ∙ take-append_seam trace (step ∷ []) in
-          subst (λ (p : List (Step E L) × Step E L). IsLawful names sends lawful p.0 p.1) (λ i. (sym front i, t.1 i)) last)
+      let front : take number (trace ++ step ∷ []) ≡ trace = ap (λ (k : ℕ). take k (trace ++ step ∷ [])) t.0 ∙ take-append_seam trace (step ∷ []) in
+      subst (λ (p : List (Step E L) × Step E L). IsLawful names sends lawful p.0 p.1) (λ i. (sym front i, t.1 i)) last)
       (slice_get-push trace step s number at)
 
 module _ {E L : Type 0} (sends : E → List L) where
@@ -45,15 +45,14 @@ module _ {E L : Type 0} (sends : E → List L) where
   Fits-longer nodes trace step seat id (Node node history taken) other fits =
       (fits.0, fits.1, fits.2 ∙ sym (history_of-other node trace step (λ same. other (ap seat same ∙ fits.1))), taken-longer trace (step ∷ []) taken fits.3)
   Fits-longer nodes trace step seat id (Posted sent) other fits = IsSent-longer trace (step ∷ []) sent fits
-  Fits-longer nodes trace step seat id (Gatherer count gathered) other fits =
-      (
-        fits.0,
-        All-weaker
+  Fits-longer nodes trace step seat id (Gatherer count gathered) other fits = (
+    fits.0,
+    All-weaker
         (λ (held : Held E L). (seat held.node ≡ id) × (held.history ≡ history_of held.node trace))
         (λ (held : Held E L). (seat held.node ≡ id) × (held.history ≡ history_of held.node (trace ++ step ∷ [])))
         (λ held was. (was.0, was.1 ∙ sym (history_of-other held.node trace step (λ same. other (ap seat same ∙ was.0)))))
         gathered
         fits.1,
-      )
+  )
   Fits-longer nodes trace step seat id (Whole gathered steps) other fits = tt
   Fits-longer nodes trace step seat id Spent other fits = tt

@@ -70,13 +70,13 @@ module _ {E L : Type 0} where
   front_later node n (s ∷ steps) number front =
       dite (ℕ_discrete s.node node)
       (λ same.
-          let here = ap (λ (h : List (Entry E L)). front_of (map numbered h)) (if_here (s.node == node) (entry_of n s ∷ history_from node (n + 1) steps) (history_from node (n + 1) steps) (grind (arith, nat_tests))) in
-          let is : n ≡ number = Some-injective n number (sym here ∙ front) in
-          omega arith)
+      let here = ap (λ (h : List (Entry E L)). front_of (map numbered h)) (if_here (s.node == node) (entry_of n s ∷ history_from node (n + 1) steps) (history_from node (n + 1) steps) (grind (arith, nat_tests))) in
+      let is : n ≡ number = Some-injective n number (sym here ∙ front) in
+      omega arith)
       (λ other.
-          let rest = ap (λ (h : List (Entry E L)). front_of (map numbered h)) (if_else (s.node == node) (entry_of n s ∷ history_from node (n + 1) steps) (history_from node (n + 1) steps) (grind (arith, nat_tests))) in
-          let later = front_later node (n + 1) steps number (sym rest ∙ front) in
-          omega arith)
+      let rest = ap (λ (h : List (Entry E L)). front_of (map numbered h)) (if_else (s.node == node) (entry_of n s ∷ history_from node (n + 1) steps) (history_from node (n + 1) steps) (grind (arith, nat_tests))) in
+      let later = front_later node (n + 1) steps number (sym rest ∙ front) in
+      omega arith)
 
   -- the list of a node, before its own step and before another's
   list_same : (node n : ℕ) (s : Step E L) (steps : List (Step E L)) → s.node ≡ node → map numbered (history_from node n (s ∷ steps)) ≡ (n, s.event) ∷ map numbered (history_from node (n + 1) steps)
@@ -90,7 +90,7 @@ module _ {E L : Type 0} where
       → set (lists_from n (s ∷ steps) nodes) at (map numbered (history_from s.node (n + 1) steps)) ≡ lists_from (n + 1) steps nodes
   lists_after n s steps nodes at apart there =
       set_apart (λ node. map numbered (history_from node n (s ∷ steps))) (λ node. map numbered (history_from node (n + 1) steps)) nodes at s.node apart there
-          (λ other apart_here. list_other other n s steps (λ same. apart_here (sym same)))
+      (λ other apart_here. list_other other n s steps (λ same. apart_here (sym same)))
 
   -- a list that begins with the next number is that of the next step's node
   front_is : (n : ℕ) (s : Step E L) (steps : List (Step E L)) (nodes : List ℕ) (at : ℕ) (list : List (ℕ × E)) → slice_get (lists_from n (s ∷ steps) nodes) at ≡ Some list → front_of list ≡ Some n
@@ -99,20 +99,20 @@ module _ {E L : Type 0} where
       let node = mapped_at (λ node. map numbered (history_from node n (s ∷ steps))) nodes at list there in
       dite (ℕ_discrete s.node node.0)
       (λ same. (
-          node.1 ∙ ap (λ (k : ℕ). Some k) (sym same),
-          sym node.2 ∙ list_same node.0 n s steps same ∙ ap (λ (k : ℕ). (n, s.event) ∷ map numbered (history_from k (n + 1) steps)) (sym same),
-        ))
+        node.1 ∙ ap (λ (k : ℕ). Some k) (sym same),
+        sym node.2 ∙ list_same node.0 n s steps same ∙ ap (λ (k : ℕ). (n, s.event) ∷ map numbered (history_from k (n + 1) steps)) (sym same),
+      ))
       (λ other.
-          let later = front_later node.0 (n + 1) steps n (ap front_of (sym (list_other node.0 n s steps other) ∙ node.2) ∙ front) in
-          absurd (omega arith))
+      let later = front_later node.0 (n + 1) steps n (ap front_of (sym (list_other node.0 n s steps other) ∙ node.2) ∙ front) in
+      absurd (omega arith))
 
   -- while a step is left, its node's list begins with its number
   front_there : (n : ℕ) (s : Step E L) (steps : List (Step E L)) (nodes : List ℕ) → Contains nodes s.node → All (λ list. front_of list ≢ Some n) (lists_from n (s ∷ steps) nodes) → ⊥
   front_there n s steps nodes has none =
       All-contains (λ node. front_of (map numbered (history_from node n (s ∷ steps))) ≢ Some n) nodes s.node
-          (All-unmap (λ node. map numbered (history_from node n (s ∷ steps))) (λ (list : List (ℕ × E)). front_of list ≢ Some n) nodes none)
-          has
-          (ap front_of (list_same s.node n s steps refl))
+      (All-unmap (λ node. map numbered (history_from node n (s ∷ steps))) (λ (list : List (ℕ × E)). front_of list ≢ Some n) nodes none)
+      has
+      (ap front_of (list_same s.node n s steps refl))
 
   none_left : (n : ℕ) (trace rest : List (Step E L)) (nodes : List ℕ) (lists : List (List (ℕ × E))) → drop n trace ≡ rest → lists ≡ lists_from n rest nodes → All (λ step. Contains nodes step.node) trace → All (λ list. front_of list ≢ Some n) lists → numbered_from n rest ≡ []
   none_left n trace [] nodes lists is same each none = refl
@@ -151,8 +151,7 @@ module _ {E L : Type 0} where
       let first_is : first ≡ (n, s.event) = cc in
       let after : drop (n + 1) trace ≡ steps = drop_next trace n s steps some in
       let within : n < length trace = slice_get_within trace n s (at_drop trace n s steps some) in
-      let small = is.1 in
-      (
+      let small = is.1 in (
         omega arith,
         (
           omega arith,

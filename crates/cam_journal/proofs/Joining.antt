@@ -39,15 +39,15 @@ module _ {E L : Type 0} (names : E → Option (ℕ × ℕ)) (sends : E → List 
   further : {S : Type 0} (nodes : ℕ) (s : State S (View E L)) (kept : IsKept names sends lawful nodes s) (new : View E L) → Fits sends nodes kept.trace kept.seat (length s.views) new → IsKept names sends lawful {S = S} nodes record { words = s.words; homes = s.homes; views = s.views ++ new ∷ [] }
   further nodes s kept new fits =
       kept_by names sends lawful nodes s kept s.homes (s.views ++ new ∷ []) kept.seat (λ j view there.
-          ⊎_elim
-          (λ (old : get_elem? s.views j ≡ some view). kept.fits j view old)
-          (λ (t : (j ≡ length s.views) × (new ≡ view)). subst (λ (p : ℕ × View E L). Fits sends nodes kept.trace kept.seat p.0 p.1) (λ i. (sym t.0 i, t.1 i)) fits)
-          (at_push s.views new view j there))
+      ⊎_elim
+      (λ (old : get_elem? s.views j ≡ some view). kept.fits j view old)
+      (λ (t : (j ≡ length s.views) × (new ≡ view)). subst (λ (p : ℕ × View E L). Fits sends nodes kept.trace kept.seat p.0 p.1) (λ i. (sym t.0 i, t.1 i)) fits)
+      (at_push s.views new view j there))
 
   splits : {S : Type 0} (nodes id : ℕ) (view new : View E L) → ((trace : List (Step E L)) (seat : ℕ → ℕ) (other : ℕ) → Fits sends nodes trace seat id view → Fits sends nodes trace seat other new) → Splits (IsKept names sends lawful {S = S} nodes) id view view new
   splits {S = S} nodes id view new fits s kept at =
       subst (λ (views : List (View E L)). IsKept names sends lawful {S = S} nodes record { words = s.words; homes = s.homes; views = views ++ new ∷ [] }) (sym (set_again s.views id view at))
-          (further nodes s kept new (fits kept.trace kept.seat (length s.views) (kept.fits id view at)))
+      (further nodes s kept new (fits kept.trace kept.seat (length s.views) (kept.fits id view at)))
 
   -- a note of a letter that the node sent
   pub notes : {S : Type 0} (nodes id : ℕ) (view : View E L) (sent : Sent L) (told : Option (Sent L)) → told ≡ Some sent → HasSent sends view sent → Splits (IsKept names sends lawful {S = S} nodes) id view view (note_of told)
@@ -62,21 +62,21 @@ module _ {E L : Type 0} (names : E → Option (ℕ × ℕ)) (sends : E → List 
   -- two seats changed, the second of which is spent
   joins : {S : Type 0} (nodes id other : ℕ) (view w both : View E L)
       → ((trace : List (Step E L)) (seat : ℕ → ℕ) → ¬ (other ≡ id) → Fits sends nodes trace seat id view → Fits sends nodes trace seat other w
-          → (now : ℕ → ℕ) × Fits sends nodes trace now id both × ((j : ℕ) (u : View E L) → j ≢ id → j ≢ other → Fits sends nodes trace seat j u → Fits sends nodes trace now j u))
+      → (now : ℕ → ℕ) × Fits sends nodes trace now id both × ((j : ℕ) (u : View E L) → j ≢ id → j ≢ other → Fits sends nodes trace seat j u → Fits sends nodes trace now j u))
       → Joins (IsKept names sends lawful {S = S} nodes) id view other w both Spent
   joins nodes id other view w both step s kept at apart there =
       let theirs : get_elem? s.views other ≡ some w =
-          ⊎_elim (λ (t : (other ≡ id) × (both ≡ w)). absurd (apart t.0)) (λ (t : (other ≢ id) × (get_elem? s.views other ≡ some w)). t.1) (at_set s.views id other both w there) in
+      ⊎_elim (λ (t : (other ≡ id) × (both ≡ w)). absurd (apart t.0)) (λ (t : (other ≢ id) × (get_elem? s.views other ≡ some w)). t.1) (at_set s.views id other both w there) in
       let new = step kept.trace kept.seat apart (kept.fits id view at) (kept.fits other w theirs) in
       kept_by names sends lawful nodes s kept s.homes (set (set s.views id both) other Spent) new.0 (λ j u e.
-          ⊎_elim
-          (λ (t : (j ≡ other) × (Spent ≡ u)). subst (λ (p : View E L). Fits sends nodes kept.trace new.0 j p) t.1 tt)
-          (λ (t : (j ≢ other) × (get_elem? (set s.views id both) j ≡ some u)).
-              ⊎_elim
-              (λ (r : (j ≡ id) × (both ≡ u)). subst (λ (p : ℕ × View E L). Fits sends nodes kept.trace new.0 p.0 p.1) (λ i. (sym r.0 i, r.1 i)) new.1)
-              (λ (r : (j ≢ id) × (get_elem? s.views j ≡ some u)). new.2 j u r.0 t.0 (kept.fits j u r.1))
-              (at_set s.views id j both u t.1))
-          (at_set (set s.views id both) other j Spent u e))
+      ⊎_elim
+      (λ (t : (j ≡ other) × (Spent ≡ u)). subst (λ (p : View E L). Fits sends nodes kept.trace new.0 j p) t.1 tt)
+      (λ (t : (j ≢ other) × (get_elem? (set s.views id both) j ≡ some u)).
+      ⊎_elim
+      (λ (r : (j ≡ id) × (both ≡ u)). subst (λ (p : ℕ × View E L). Fits sends nodes kept.trace new.0 p.0 p.1) (λ i. (sym r.0 i, r.1 i)) new.1)
+      (λ (r : (j ≢ id) × (get_elem? s.views j ≡ some u)). new.2 j u r.0 t.0 (kept.fits j u r.1))
+      (at_set s.views id j both u t.1))
+      (at_set (set s.views id both) other j Spent u e))
 
   takes_at : {S : Type 0} (nodes id other : ℕ) (view : View E L) (sent : Sent L) (entries : List (ℕ × E)) → IsSeat lawful entries view → Joins (IsKept names sends lawful {S = S} nodes) id view other (Posted sent) (with_letter view (Posted sent)) Spent
   takes_at nodes id other (Node node history taken) sent entries seat =
@@ -95,20 +95,20 @@ module _ {E L : Type 0} (names : E → Option (ℕ × ℕ)) (sends : E → List 
   gathers_at : {S : Type 0} (nodes id other : ℕ) (gathered : List (Held E L)) (view : View E L) (entries : List (ℕ × E)) → IsSeat lawful entries view → Joins (IsKept names sends lawful {S = S} nodes) id (Gatherer nodes gathered) other view (with_history (Gatherer nodes gathered) view) Spent
   gathers_at nodes id other gathered (Node node history taken) entries seat =
       joins nodes id other (Gatherer nodes gathered) (Node node history taken) (Gatherer nodes (gathered ++ record { node = node; history = history } ∷ [])) (λ trace at apart mine theirs. (
-          moved at node id,
-          (
-            refl,
-            All-push (λ (held : Held E L). (moved at node id held.node ≡ id) × (held.history ≡ history_of held.node trace)) gathered (record { node = node; history = history })
-                (All-weaker
-                (λ (held : Held E L). (at held.node ≡ id) × (held.history ≡ history_of held.node trace))
-                (λ (held : Held E L). (moved at node id held.node ≡ id) × (held.history ≡ history_of held.node trace))
-                (λ held was. (moved_to at node id held.node was.0, was.1))
-                gathered
-                mine.1)
-                (moved_here at node id, theirs.2),
-          ),
-          λ j u not_mine not_theirs fits. Fits-moved sends nodes trace at node id j u (λ same. not_theirs (sym same ∙ theirs.1)) fits,
-        ))
+        moved at node id,
+        (
+          refl,
+          All-push (λ (held : Held E L). (moved at node id held.node ≡ id) × (held.history ≡ history_of held.node trace)) gathered (record { node = node; history = history })
+              (All-weaker
+              (λ (held : Held E L). (at held.node ≡ id) × (held.history ≡ history_of held.node trace))
+              (λ (held : Held E L). (moved at node id held.node ≡ id) × (held.history ≡ history_of held.node trace))
+              (λ held was. (moved_to at node id held.node was.0, was.1))
+              gathered
+              mine.1)
+              (moved_here at node id, theirs.2),
+        ),
+        λ j u not_mine not_theirs fits. Fits-moved sends nodes trace at node id j u (λ same. not_theirs (sym same ∙ theirs.1)) fits,
+      ))
   gathers_at nodes id other gathered (Maker count next) entries seat = absurd seat
   gathers_at nodes id other gathered (Posted old) entries seat = absurd seat
   gathers_at nodes id other gathered (Gatherer count more) entries seat = absurd seat
@@ -163,5 +163,5 @@ module _ {E L : Type 0} (names : E → Option (ℕ × ℕ)) (sends : E → List 
       → (w : View E L) × IsKept names sends lawful {S = S} key record { words = set s.words 0 (slice_index s.words 0); homes = homes; views = set s.views id w } × Knows names sends lawful (slice_index s.words 0) u w
   learns {S = S} key nodes id gathered u s homes is of =
       subst (λ (p : ℕ × View E L). IsKept names sends lawful p.0 s → get_elem? s.views id ≡ some p.1
-          → (w : View E L) × IsKept names sends lawful {S = S} p.0 record { words = set s.words 0 (slice_index s.words 0); homes = homes; views = set s.views id w } × Knows names sends lawful (slice_index s.words 0) p.1 w)
+      → (w : View E L) × IsKept names sends lawful {S = S} p.0 record { words = set s.words 0 (slice_index s.words 0); homes = homes; views = set s.views id w } × Knows names sends lawful (slice_index s.words 0) p.1 w)
       (λ i. (sym of i, sym is i)) (learns_at nodes id gathered s homes)

@@ -74,7 +74,7 @@ module _ {E L : Type 0} (sends : E → List L) (lawful : ℕ → List (Entry E L
       let letter = some_there (letter_at sends history number place) sent in
       let stands = letter_found sends history number place letter.0 letter.1 in
       let there : slice_get entries stands.0 ≡ Some (numbered stands.1) =
-          ap (λ (es : List (ℕ × E)). slice_get es stands.0) seat.0 ∙ slice_get-map numbered history stands.0 ∙ ap (option_map numbered) stands.2 in
+      ap (λ (es : List (ℕ × E)). slice_get es stands.0) seat.0 ∙ slice_get-map numbered history stands.0 ∙ ap (option_map numbered) stands.2 in
       All-slice_get (λ (entry : ℕ × E). entry.0 ≢ number) entries stands.0 (numbered stands.1) none there stands.3
   sender_kept entries (Maker count next) number place seat sent none = absurd seat
   sender_kept entries (Posted other) number place seat sent none = absurd seat
@@ -103,8 +103,7 @@ module _ {E L : Type 0} (sends : E → List L) (lawful : ℕ → List (Entry E L
       → HasSent sends view sent × IsFromLawful sends lawful sent
   has_sent entries (Node node history taken) sent at event seat there letter =
       let entry = kept_at history entries at sent.number event seat.0 there in
-      let letter_there = ap (λ (e : E). slice_get (sends e) sent.place) entry.3 ∙ letter in
-      (
+      let letter_there = ap (λ (e : E). slice_get (sends e) sent.place) entry.3 ∙ letter in (
         (at, entry.0, entry.1, entry.2, letter_there),
         record { node = node; history = take at history; received = entry.0.received; event = entry.0.event; allowed = seat.2 at entry.0 entry.1; letter = letter_there },
       )

@@ -10,3 +10,4 @@ pub mod Gathering
 pub mod Handing
 pub mod Finding
 pub mod Letters
+pub mod Pairs

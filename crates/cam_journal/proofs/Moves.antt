@@ -56,7 +56,7 @@ module _ {E L : Type 0} (names : E → Option (ℕ × ℕ)) (sends : E → List 
       let next_is : next ≡ length trace = new ∙ mod-eq_of_lt plain ∙ omega (arith, word, length-append kept.trace (step ∷ [])) in
       let more : history_of node trace ≡ history_of node kept.trace ++ entry_of (length kept.trace) step ∷ [] = history_of-same node kept.trace step refl in
       let mine_now : history ++ entry names (slice_index s.words 0) taken event ∷ [] ≡ history_of node trace =
-          ap (λ (p : List (Entry E L) × ℕ). p.0 ++ entry names p.1 taken event ∷ []) (λ i. (mine.2 i, word i)) ∙ sym more in
+      ap (λ (p : List (Entry E L) × ℕ). p.0 ++ entry names p.1 taken event ∷ []) (λ i. (mine.2 i, word i)) ∙ sym more in
       record {
         trace = trace;
         seat = kept.seat;
@@ -73,8 +73,8 @@ module _ {E L : Type 0} (names : E → Option (ℕ × ℕ)) (sends : E → List 
             (λ apart. subst (λ (h : List (Entry E L)). length h ≤ 500000000) (sym (history_of-other k kept.trace step apart)) (kept.room k));
         fits = λ j view there. ⊎_elim
             (λ (t : (j ≡ id) × (recorded names event (slice_index s.words 0) (Node node history taken) ≡ view)).
-                subst (λ (p : ℕ × View E L). Fits sends nodes trace kept.seat p.0 p.1) (λ i. (sym t.0 i, t.1 i))
-                    (mine.0, mine.1, mine_now, left_sent (names event) trace taken (taken-longer sends kept.trace (step ∷ []) taken mine.3)))
+            subst (λ (p : ℕ × View E L). Fits sends nodes trace kept.seat p.0 p.1) (λ i. (sym t.0 i, t.1 i))
+            (mine.0, mine.1, mine_now, left_sent (names event) trace taken (taken-longer sends kept.trace (step ∷ []) taken mine.3)))
             (λ (t : (j ≢ id) × (get_elem? s.views j ≡ some view)). Fits-longer sends nodes kept.trace step kept.seat j view (λ same. t.0 (sym same ∙ mine.1)) (kept.fits j view t.1))
             (at_set s.views id j (recorded names event (slice_index s.words 0) (Node node history taken)) view there);
       }
@@ -85,8 +85,7 @@ module _ {E L : Type 0} (names : E → Option (ℕ × ℕ)) (sends : E → List 
       → next ≡ (slice_index s.words 0 + 1) % 18446744073709551616
       → IsKept names sends lawful {S = S} nodes record { words = set s.words 0 next; homes = homes; views = set s.views id (recorded names event (slice_index s.words 0) view) } × IsBelow (slice_index s.words 0) view
   records nodes s id event (Node node history taken) next homes kept at may new =
-      let mine = kept.fits id (Node node history taken) at in
-      (
+      let mine = kept.fits id (Node node history taken) at in (
         IsKept-record nodes s id event node history taken next homes kept at may.0 may.1 new,
         subst (λ (p : List (Entry E L) × ℕ). All (λ (e : Entry E L). e.number < p.1) p.0)
             (λ i. (sym mine.2 i, sym (ap (λ (w : List ℕ). slice_index w 0) kept.words) i))

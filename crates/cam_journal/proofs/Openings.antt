@@ -39,16 +39,15 @@ module _ {E L : Type 0} (sends : E → List L) where
   Fits-moved nodes trace seat node to id (Node one history taken) other fits =
       (fits.0, moved_else seat node to one (λ same. other (ap seat (sym same) ∙ fits.1)) ∙ fits.1, fits.2, fits.3)
   Fits-moved nodes trace seat node to id (Posted sent) other fits = fits
-  Fits-moved nodes trace seat node to id (Gatherer count gathered) other fits =
-      (
-        fits.0,
-        All-weaker
+  Fits-moved nodes trace seat node to id (Gatherer count gathered) other fits = (
+    fits.0,
+    All-weaker
         (λ (held : Held E L). (seat held.node ≡ id) × (held.history ≡ history_of held.node trace))
         (λ (held : Held E L). (moved seat node to held.node ≡ id) × (held.history ≡ history_of held.node trace))
         (λ held was. (moved_else seat node to held.node (λ same. other (ap seat (sym same) ∙ was.0)) ∙ was.0, was.1))
         gathered
         fits.1,
-      )
+  )
   Fits-moved nodes trace seat node to id (Whole gathered steps) other fits = tt
   Fits-moved nodes trace seat node to id Spent other fits = tt
 
@@ -83,18 +82,18 @@ module _ {E L : Type 0} (names : E → Option (ℕ × ℕ)) (sends : E → List 
       let views = set s.views id (Maker nodes (next + 1)) in
       let here = mine.1 next (omega arith) within in
       kept_by nodes s kept s.homes (views ++ Node next [] None ∷ []) (moved kept.seat next (length views)) (λ j view there.
-          ⊎_elim
-          (λ (old : get_elem? views j ≡ some view).
-              ⊎_elim
-              (λ (t : (j ≡ id) × (Maker nodes (next + 1) ≡ view)).
-                  subst (λ (p : ℕ × View E L). Fits sends nodes kept.trace (moved kept.seat next (length views)) p.0 p.1) (λ i. (sym t.0 i, t.1 i))
-                      (refl, λ node low high. let was = mine.1 node (omega arith) high in (moved_else kept.seat next (length views) node (λ same. omega arith) ∙ was.0, was.1)))
-              (λ (t : (j ≢ id) × (get_elem? s.views j ≡ some view)). Fits-moved sends nodes kept.trace kept.seat next (length views) j view (λ same. t.0 (sym same ∙ here.0)) (kept.fits j view t.1))
-              (at_set s.views id j (Maker nodes (next + 1)) view old))
-          (λ (t : (j ≡ length views) × (Node next [] None ≡ view)).
-              subst (λ (p : ℕ × View E L). Fits sends nodes kept.trace (moved kept.seat next (length views)) p.0 p.1) (λ i. (sym t.0 i, t.1 i))
-                  ((some_node, within), moved_here kept.seat next (length views), sym here.1, tt))
-          (at_push views (Node next [] None) view j there))
+      ⊎_elim
+      (λ (old : get_elem? views j ≡ some view).
+      ⊎_elim
+      (λ (t : (j ≡ id) × (Maker nodes (next + 1) ≡ view)).
+      subst (λ (p : ℕ × View E L). Fits sends nodes kept.trace (moved kept.seat next (length views)) p.0 p.1) (λ i. (sym t.0 i, t.1 i))
+      (refl, λ node low high. let was = mine.1 node (omega arith) high in (moved_else kept.seat next (length views) node (λ same. omega arith) ∙ was.0, was.1)))
+      (λ (t : (j ≢ id) × (get_elem? s.views j ≡ some view)). Fits-moved sends nodes kept.trace kept.seat next (length views) j view (λ same. t.0 (sym same ∙ here.0)) (kept.fits j view t.1))
+      (at_set s.views id j (Maker nodes (next + 1)) view old))
+      (λ (t : (j ≡ length views) × (Node next [] None ≡ view)).
+      subst (λ (p : ℕ × View E L). Fits sends nodes kept.trace (moved kept.seat next (length views)) p.0 p.1) (λ i. (sym t.0 i, t.1 i))
+      ((some_node, within), moved_here kept.seat next (length views), sym here.1, tt))
+      (at_push views (Node next [] None) view j there))
 
   -- the same at a view that is known
   pub opens_as : {S : Type 0} (key nodes id next : ℕ) (view : View E L) → view ≡ Maker nodes next → key ≡ nodes → 0 < next → next ≤ nodes → Splits (IsKept names sends lawful {S = S} key) id view (without_next view) (next_node view)

@@ -27,27 +27,27 @@ module _ {E L : Type 0} (names : E → Option (ℕ × ℕ)) (lawful : ℕ → Li
   IsHistory-push node history last each here at one there =
       ⊎_elim
       (λ (t : (at < length history) × (slice_get history at ≡ Some one)).
-          let below = t.0 in
-          subst (λ (front : List (Entry E L)). lawful node front one.received one.event) (sym (take-append-le at history (last ∷ []) (omega arith))) (each at one t.1))
+      let below = t.0 in
+      subst (λ (front : List (Entry E L)). lawful node front one.received one.event) (sym (take-append-le at history (last ∷ []) (omega arith))) (each at one t.1))
       (λ (t : (at ≡ length history) × (last ≡ one)).
-          let front : take at (history ++ last ∷ []) ≡ history = ap (λ (k : ℕ). take k (history ++ last ∷ [])) t.0 ∙ take-append_seam history (last ∷ []) in
-          subst (λ (p : List (Entry E L) × Entry E L). lawful node p.0 p.1.received p.1.event) (λ i. (sym front i, t.1 i)) here)
+      let front : take at (history ++ last ∷ []) ≡ history = ap (λ (k : ℕ). take k (history ++ last ∷ [])) t.0 ∙ take-append_seam history (last ∷ []) in
+      subst (λ (p : List (Entry E L) × Entry E L). lawful node p.0 p.1.received p.1.event) (λ i. (sym front i, t.1 i)) here)
       (slice_get-push history last one at there)
 
   IsRising-push : (history : List (Entry E L)) (last : Entry E L) → IsRising history → All (λ e. e.number < last.number) history → IsRising (history ++ last ∷ [])
   IsRising-push history last rising below at later one other before first second =
       ⊎_elim
       (λ (s : (later < length history) × (slice_get history later ≡ Some other)).
-          ⊎_elim
-          (λ (t : (at < length history) × (slice_get history at ≡ Some one)). rising at later one other before t.1 s.1)
-          (λ (t : (at ≡ length history) × (last ≡ one)). let end = t.0 in let within = s.0 in absurd (omega arith))
-          (slice_get-push history last one at first))
+      ⊎_elim
+      (λ (t : (at < length history) × (slice_get history at ≡ Some one)). rising at later one other before t.1 s.1)
+      (λ (t : (at ≡ length history) × (last ≡ one)). let end = t.0 in let within = s.0 in absurd (omega arith))
+      (slice_get-push history last one at first))
       (λ (s : (later ≡ length history) × (last ≡ other)).
-          ⊎_elim
-          (λ (t : (at < length history) × (slice_get history at ≡ Some one)).
-              subst (λ (e : Entry E L). one.number < e.number) s.1 (All-slice_get (λ (e : Entry E L). e.number < last.number) history at one below t.1))
-          (λ (t : (at ≡ length history) × (last ≡ one)). let end = t.0 in let there = s.0 in absurd (omega arith))
-          (slice_get-push history last one at first))
+      ⊎_elim
+      (λ (t : (at < length history) × (slice_get history at ≡ Some one)).
+      subst (λ (e : Entry E L). one.number < e.number) s.1 (All-slice_get (λ (e : Entry E L). e.number < last.number) history at one below t.1))
+      (λ (t : (at ≡ length history) × (last ≡ one)). let end = t.0 in let there = s.0 in absurd (omega arith))
+      (slice_get-push history last one at first))
       (slice_get-push history last other later second)
 
   -- a seat with one more event
@@ -71,8 +71,7 @@ module _ {E L : Type 0} (names : E → Option (ℕ × ℕ)) (lawful : ℕ → Li
       → sitting journal (min capacity 500000000 - count) view ≡ seat → count ≡ length entries → IsSeat lawful entries view → 0 < seat.spare → IsNext names lawful seat.node seat.history seat.taken event → CanRecord names lawful view event
   can_record (Node node history taken) journal capacity count entries seat event is counted kept spare may =
       let room : 0 < min capacity 500000000 - count = subst (λ (s : Sitting E L). 0 < s.spare) (sym is) spare in
-      let long = ap length kept.0 in
-      (
+      let long = ap length kept.0 in (
         subst (λ (s : Sitting E L). IsNext names lawful s.node s.history s.taken event) (sym is) may,
         omega (arith, long, length-map history numbered),
       )
@@ -112,9 +111,9 @@ module _ {E L : Type 0} where
     each = λ at one there. ⊎_elim
         (λ (t : (at < length seats) × (slice_get seats at ≡ Some one)). new.each at one t.1)
         (λ (t : (at ≡ length seats) × (seat ≡ one)).
-            let last = t.0 in
-            let counted = new.count in
-            subst (λ (s : Sitting E L). (s.journal ≡ journal) × (s.node ≡ at + 1) × (s.history ≡ []) × (s.taken ≡ None)) t.1 (own, omega (arith, node), history, taken))
+        let last = t.0 in
+        let counted = new.count in
+        subst (λ (s : Sitting E L). (s.journal ≡ journal) × (s.node ≡ at + 1) × (s.history ≡ []) × (s.taken ≡ None)) t.1 (own, omega (arith, node), history, taken))
         (slice_get-push seats seat one at there);
   }
 

@@ -7,11 +7,10 @@ ghost use Rattle.cam_journal.specs.Seats.{AreNew, with_event};
 ghost use Rattle.cam_journal.specs.Gathered.{AreSeats, AreGathered};
 
 use crate::fault::ReserveFault;
+use crate::gathered::Gathered;
 use crate::nodes::Core;
 use crate::seat::{MOST, NodeSeat};
-use crate::gathered::Gathered;
 use crate::view::{Gathers, Learns, Opens, Records, Rules, Token, Told, Views};
-use atomic_table::Table;
 use cam_base::NoMemory;
 use std::alloc::Global;
 use std::collections::VecDeque;
@@ -114,7 +113,11 @@ impl<C: Core> Journal<C> {
 }
 
 // Takes the next number for the event, which the step is told.
-fn record_as<C: Core, N: Told<C::Event>>(shared: &Rules<C>, token: &mut Token<C>, event: &C::Event) -> u64
+fn record_as<C: Core, N: Told<C::Event>>(
+    shared: &Rules<C>,
+    token: &mut Token<C>,
+    event: &C::Event,
+) -> u64
     requires told { N.told ≡ Some event.now }
     requires table { (token.old.table_id ≡ shared.now.table_id) × (shared.now.table_id.words ≡ 1) }
     requires next { CanRecord C.names C.lawful token.old.me.0 event.now }

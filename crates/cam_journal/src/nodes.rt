@@ -3,7 +3,7 @@ ghost use Rattle.std.specs.Prelude.{◌≡◌, ◌<◌, ◌≤◌, ◌↔◌, �
 ghost use Rattle.cam_journal.specs.declared.entry.Entry.{Entry};
 ghost use Rattle.cam_journal.specs.declared.entry.Sent.{Sent};
 ghost use Rattle.cam_journal.specs.declared.input.CoreInput.{CoreInput};
-ghost use Rattle.cam_journal.specs.Taking.{CanStep, Steps, FaultsWithCause};
+ghost use Rattle.cam_journal.specs.Taking.{CanStep, IsStep, FaultsWithCause};
 
 use crate::input::{CoreFault, CoreInput};
 use cam_base::NoMemory;
@@ -41,7 +41,7 @@ pub trait Core: Drop {
     /// Takes a step: an event, or none exactly where there is nothing to do. After none and after a fault the core is as before.
     fn step(&mut self, input: CoreInput<Self::Letter>) -> Result<Option<Self::Event>, CoreFault>
         requires { CanStep is_replay sends goes_to lawful self.old input }
-        ensures step { (node : ℕ) (history : List (Entry Self.Event Self.Letter)) → is_replay self.old node history → Steps is_replay names lawful node history input self.new result }
+        ensures step { IsStep is_replay names lawful self.old input self.new result }
         ensures none { IfOk result (λ made. IsNone made ↔ IsTrue (is_idle self.old input)) }
         ensures cause { FaultsWithCause (faults self.old) (faults self.new) result };
 

@@ -52,12 +52,7 @@ impl<C: Core> Note<C> {
 
 impl<C: Core> Journal<C> {
     /// A note of the letter that an event of the seat sent, at a place. The seat stays as it is.
-    pub fn note(
-        &self,
-        seat: &mut NodeSeat<C>,
-        number: u64,
-        place: u32,
-    ) -> Result<Note<C>, NoMemory>
+    pub fn note(&self, seat: &mut NodeSeat<C>, number: u64, place: u32) -> Result<Note<C>, NoMemory>
         requires own { seat.old.journal ≡ self.now.id }
         requires sent { IsSome (letter_at C.sends seat.old.history number place) }
         ensures journal { IfOk result (λ note. note.journal ≡ self.now.id) }

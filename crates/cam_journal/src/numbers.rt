@@ -1,4 +1,7 @@
 //! A core for tests: an event is a number, and sends that number as its one letter.
+ghost use Rattle.std.specs.Prelude.{◌↔◌, None, IsNone, IsTrue, IfOk, is_none};
+ghost use Rattle.cam_journal.specs.Taking.{letter_in, IsStep, FaultsWithCause};
+
 use crate::{Core, CoreFault, CoreInput};
 use cam_base::NoMemory;
 
@@ -29,7 +32,11 @@ impl Core for Numbers {
 
     ghost is_idle = { λ core input. is_none (letter_in input) };
 
-    fn step(&mut self, input: CoreInput<u64>) -> Result<Option<u64>, CoreFault> {
+    fn step(&mut self, input: CoreInput<u64>) -> Result<Option<u64>, CoreFault>
+        ensures step { IsStep (λ core node history. Unit {0}) (λ event. None) (λ node history received event. Unit {0}) self.old input self.new result }
+        ensures none { IfOk result (λ made. IsNone made ↔ IsTrue (is_none (letter_in input))) }
+        ensures cause { FaultsWithCause 0 0 result }
+    {
         match input {
             CoreInput::Letter { letter, .. } => Ok(Some(letter)),
             CoreInput::Drive => Ok(None),

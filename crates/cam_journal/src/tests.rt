@@ -13,8 +13,7 @@ fn two_seats(
     mut seats: Seats<Numbers>,
 ) -> Option<(NodeSeat<Numbers>, NodeSeat<Numbers>)>
     requires { AreNew journal.now.id 2 seats.items }
-    ensures one { IfSome result (λ two. (two.0.journal ≡ journal.now.id) × (two.0.node ≡ 1) × (two.0.history ≡ [])) }
-    ensures two { IfSome result (λ two. (two.1.journal ≡ journal.now.id) × (two.1.node ≡ 2)) }
+    ensures { IfSome result (λ two. (two.0.journal ≡ journal.now.id) × (two.0.node ≡ 1) × (two.0.history ≡ []) × (two.1.journal ≡ journal.now.id) × (two.1.node ≡ 2)) }
 {
     let two = seats.pop()?;
     let one = seats.pop()?;
@@ -52,6 +51,7 @@ fn say(
 }
 
 // Records a first number, and notes the letter of that event.
+#[tactic(auto, using(crate::proofs::Pairs::first_letter))]
 fn say_and_note(
     journal: &Journal<Numbers>,
     seat: &mut NodeSeat<Numbers>,
@@ -93,11 +93,7 @@ fn events_and_letters_of_two_nodes_come_in_one_order(rt: HostRuntime) -> Result<
 const EACH: u64 = 10_000;
 
 // Records as many numbers as one thread is to record, from this one on.
-fn say_all(
-    journal: &Journal<Numbers>,
-    mut seat: NodeSeat<Numbers>,
-    first: u64,
-) -> NodeSeat<Numbers>
+fn say_all(journal: &Journal<Numbers>, mut seat: NodeSeat<Numbers>, first: u64) -> NodeSeat<Numbers>
     requires { seat.journal ≡ journal.now.id }
     ensures { (result.journal ≡ seat.journal) × (result.node ≡ seat.node) }
 {
@@ -145,9 +141,13 @@ fn two_threads_record_side_by_side(rt: HostRuntime) -> Result<(), Fail> {
     for number in 0..2 * EACH {
         let (at, said) = gathered.take().ok_or("an event is left")?;
         assert_eq!(rt; at, number);
-        let next = if said < EACH { &mut one } else { &mut two };
-        assert_eq!(rt; said, *next);
-        *next = next.wrapping_add(1);
+        if said < EACH {
+            assert_eq!(rt; said, one);
+            one = one.wrapping_add(1);
+        } else {
+            assert_eq!(rt; said, two);
+            two = two.wrapping_add(1);
+        }
     }
     assert_eq!(rt; gathered.take(), None);
     Ok(())

@@ -17,15 +17,30 @@ pub struct Held<E, L> {
 /// What a seat of the table knows. No value of it is made.
 pub enum View<E, L> {
     /// It makes the seats of the nodes: how many there are in all, and which is the next.
-    Maker { nodes: u8, next: u8 },
+    Maker {
+        nodes: u8,
+        next: u8,
+    },
     /// It stands for a node: its number, its history, and the letter that it took and has not used.
-    Node { node: u8, history: LinkedList<Entry<E, L>>, taken: Option<Sent<L>> },
+    Node {
+        node: u8,
+        history: LinkedList<Entry<E, L>>,
+        taken: Option<Sent<L>>,
+    },
     /// It stands for a letter that was sent.
-    Posted { sent: Sent<L> },
+    Posted {
+        sent: Sent<L>,
+    },
     /// It gathers the histories of the nodes: how many there are in all, and those gathered so far.
-    Gatherer { nodes: u8, gathered: LinkedList<Held<E, L>> },
+    Gatherer {
+        nodes: u8,
+        gathered: LinkedList<Held<E, L>>,
+    },
     /// It knows the whole run, and the nodes in the order in which they were gathered.
-    Whole { gathered: LinkedList<Held<E, L>>, trace: LinkedList<Step<E, L>> },
+    Whole {
+        gathered: LinkedList<Held<E, L>>,
+        trace: LinkedList<Step<E, L>>,
+    },
     /// It was joined into another.
     Spent,
 }
@@ -44,7 +59,13 @@ impl<C: Core> TableRule<(), View<C::Event, C::Letter>, u8> for Lawful<C> {
 }
 
 /// The word and the views of a journal.
-pub(crate) type Views<C> = Table<(), View<<C as Core>::Event, <C as Core>::Letter>, u8, Lawful<C>, Global>;
+pub(crate) type Views<C> = Table<
+    (),
+    View<<C as Core>::Event, <C as Core>::Letter>,
+    u8,
+    Lawful<C>,
+    Global,
+>;
 
 /// The same without the memory.
 pub(crate) type Rules<C> = Shared<(), View<<C as Core>::Event, <C as Core>::Letter>, u8, Lawful<C>>;

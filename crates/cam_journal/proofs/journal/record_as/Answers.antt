@@ -12,8 +12,7 @@ fetch_add-requires g c = (
       let core = g.C.Core in
       let token = c.args.token.now in
       let event = c.args.event.now in
-      let step = records core.names core.sends core.lawful c.args.shared.now.key s token.id event token.me.0 _ s.homes holds at c.requires.next refl in
-      (
+      let step = records core.names core.sends core.lawful c.args.shared.now.key s token.id event token.me.0 _ s.homes holds at c.requires.next refl in (
         recorded core.names event (slice_index s.words 0) token.me.0,
         keeps,
         tt,

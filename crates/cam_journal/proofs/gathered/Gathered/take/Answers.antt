@@ -12,7 +12,7 @@ returns-in_default g c =
     let lists = c.as_slice.ensures.value in
     let inside = c.self.inside in
     let none = take_none inside.next _ inside.token.me.0 c.self.invariant
-        (All-map (λ (list : List (ℕ × g.row.C-Event.Denot)). front_of list ≢ Some inside.next) (λ list. list.items) inside.lists.items (subst (λ ls. All (λ list. front_of list.items ≢ Some inside.next) ls) lists c.in_default.ensures)) in
+    (All-map (λ (list : List (ℕ × g.row.C-Event.Denot)). front_of list ≢ Some inside.next) (λ list. list.items) inside.lists.items (subst (λ ls. All (λ list. front_of list.items ≢ Some inside.next) ls) lists c.in_default.ensures)) in
     let empty = sym c.self.view_is ∙ none in
     (empty, empty)
 

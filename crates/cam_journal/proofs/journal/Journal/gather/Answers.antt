@@ -25,8 +25,7 @@ loop-seat-init g c =
     let full = ap length rest in
     let long = c.self.inside.lists.ok.0 in
     let room = c.self.invariant.2 in
-    let count = c.requires.count in
-    (
+    let count = c.requires.count in (
       new.0,
       new.1,
       gathering_none c.self.inside.table.shared.key c.args.self.nodes c.args.seats.items c.into_iter-seat-iterator.result.rest.items _ _ new.2 key rest (ap (map (λ list. list.items)) lists),
@@ -44,8 +43,7 @@ join_seat-requires g c =
     let Own : Sitting g.row.C-Event.Denot g.row.C-Letter.Denot → Type 0 = λ s. s.journal ≡ c.args.self.id in
     let own = All-head Own c.in-Some.seat c.next.new.self.rest.items (All-same Own _ _ (sym c.in-Some.ensures.steps.0) kept.3) in
     let token = c.loop-seat.token in
-    let seat = c.seat.inside in
-    (
+    let seat = c.seat.inside in (
       kept.0,
       ap (λ s. s.journal) c.seat.view_is ∙ own ∙ sym (ap (λ j. j.id) c.self.view_is),
       c.seat.invariant.0,
@@ -64,8 +62,7 @@ loop-seat-preserved g c =
     let room = kept.4 in
     let count = kept.5 in
     let longer = pushed.len in
-    let wider = pushed.capacity in
-    (
+    let wider = pushed.capacity in (
       join.0 ∙ kept.0,
       ap (λ me. me.1) join.2 ∙ kept.1,
       gathering_more g.C.Core.lawful c.args.self.nodes _ _ _ _ _ c.seat.inside.entries.items c.loop-seat.token.me.0 c.join_seat.new.seat.me.0 c.seat.inside.token.me.0 (held_of c.in-Some.seat)
@@ -96,8 +93,7 @@ load-requires g c =
     let one = c.self.invariant.0 in
     let key : c.self.inside.table.shared.key ≡ c.args.self.nodes = ap (λ j. j.nodes) c.self.view_is in
     let kept = c.loop-seat.invariant in
-    let token = c.loop-seat.token in
-    (
+    let token = c.loop-seat.token in (
       kept.0,
       omega arith,
       λ s holds homes at fits.

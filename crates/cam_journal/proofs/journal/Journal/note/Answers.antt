@@ -27,8 +27,7 @@ note_as-token-requires-clause-sent g c =
 
 pub invariant_of-result : goal.invariant_of-result
 invariant_of-result g c =
-    let core = g.C.Core in
-    (
+    let core = g.C.Core in (
       c.note_as-token.ensures.note,
       (has_sent core.sends core.lawful c.seat.inside.entries.items c.seat.inside.token.me.0 _ c.in-Some.ensures.0 c.in-Some.event.now c.seat.invariant.1 c.in-Some.ensures.1 c.in_ok-letter.ensures).1,
     )

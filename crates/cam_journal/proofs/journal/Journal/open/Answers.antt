@@ -11,8 +11,7 @@ of_words-requires g c = let core = g.C.Core in IsKept-opening core.names core.se
 pub loop-node-init : goal.loop-node-init
 loop-node-init g c =
     let table = c.in_ok-table.ensures in
-    let journal = c.in_ok-table.table.shared.table_id in
-    (
+    let journal = c.in_ok-table.table.shared.table_id in (
       table.2,
       table.4,
       subst (λ (seats : List (Sitting g.row.C-Event.Denot g.row.C-Letter.Denot)). AreNew journal 0 seats) (sym c.in_ok-seats.ensures.items) (AreNew-none journal),
@@ -24,8 +23,7 @@ split_seat-token-requires g c =
     let table = c.in_ok-table.ensures in
     let kept = c.loop-node.invariant in
     let more = c.loop-node-test.true in
-    let one = table.0 in
-    (
+    let one = table.0 in (
       kept.0,
       omega arith,
       opens_as core.names core.sends core.lawful c.in_ok-table.table.shared.key c.args.nodes c.loop-node.maker.id (c.loop-node._node + 1) c.loop-node.maker.me.0 (ap (λ me. me.0) kept.1) table.5 (omega arith) (omega arith),
@@ -34,8 +32,7 @@ split_seat-token-requires g c =
 pub invariant_of-push : goal.invariant_of-push
 invariant_of-push g c =
     let me = c.split_seat-token.ensures.4 in
-    let kept = c.loop-node.invariant in
-    (
+    let kept = c.loop-node.invariant in (
       ap (λ m. m.1) me,
       IsSeat-new g.C.Core.lawful c.new.result.items c.split_seat-token.result.me.0 (c.loop-node._node + 1) (ap (λ m. m.0) me ∙ ap (λ m. next_node m.0) kept.1) c.new.ensures.items,
     )
@@ -45,8 +42,7 @@ loop-node-preserved g c =
     let kept = c.loop-node.invariant in
     let split = c.split_seat-token.ensures in
     let view = ap (λ m. m.0) split.4 ∙ ap (λ m. next_node m.0) kept.1 in
-    let journal = c.in_ok-table.table.shared.table_id in
-    (
+    let journal = c.in_ok-table.table.shared.table_id in (
       split.0 ∙ kept.0,
       split.2 ∙ ap (λ m. (without_next m.0, m.1)) kept.1,
       subst (λ (seats : List (Sitting g.row.C-Event.Denot g.row.C-Letter.Denot)). AreNew journal (c.loop-node._node + 1) seats) (sym c.in_ok-push.ensures.items)

@@ -22,8 +22,7 @@ invariant_of-seat g c =
     let step = c.record_as-number.ensures in
     let own = can_record core.names core.lawful seat.token.me.0 seat.token.table_id _ _ seat.entries.items c.args.seat.now c.args.event c.seat.view_is seat.entries.ok.0 c.seat.invariant.1 c.requires.room c.requires.next in
     let kept = IsSeat-record core.names core.lawful seat.token.me.0 seat.entries.items c.args.event c.record_as-number.result c.seat.invariant.1 own step.above in
-    let P : List (ℕ × g.row.C-Event.Denot) × View g.row.C-Event.Denot g.row.C-Letter.Denot → Type 0 = λ p. IsSeat core.lawful p.0 p.1 in
-    (
+    let P : List (ℕ × g.row.C-Event.Denot) × View g.row.C-Event.Denot g.row.C-Letter.Denot → Type 0 = λ p. IsSeat core.lawful p.0 p.1 in (
       ap (λ me. me.1) step.me ∙ c.seat.invariant.0,
       subst P (λ i. (sym c.in-Ok.ensures.items i, sym (ap (λ me. me.0) step.me) i)) kept,
     )

@@ -12,8 +12,7 @@ join_seat-requires g c =
     let one = c.self.invariant.0 in
     let seat = c.seat.inside in
     let note = c.note.inside in
-    let journal = sym (ap (λ j. j.id) c.self.view_is) in
-    (
+    let journal = sym (ap (λ j. j.id) c.self.view_is) in (
       ap (λ s. s.journal) c.seat.view_is ∙ c.requires.seat ∙ journal,
       ap (λ n. n.journal) c.note.view_is ∙ c.requires.note ∙ journal,
       ap (λ me. me.1) c.note.invariant.0,
@@ -26,8 +25,7 @@ invariant_of-seat g c =
     let core = g.C.Core in
     let seat = c.seat.inside in
     let note = c.note.inside in
-    let after = ap (λ me. me.0) c.join_seat.ensures.2 ∙ ap (with_letter seat.token.me.0) (ap (λ me. me.0) c.note.invariant.0) in
-    (
+    let after = ap (λ me. me.0) c.join_seat.ensures.2 ∙ ap (with_letter seat.token.me.0) (ap (λ me. me.0) c.note.invariant.0) in (
       ap (λ me. me.1) c.join_seat.ensures.2 ∙ c.seat.invariant.0,
       subst (λ (v : View g.row.C-Event.Denot g.row.C-Letter.Denot). IsSeat core.lawful seat.entries.items v) (sym after) (IsSeat-letter core.sends core.lawful seat.entries.items seat.token.me.0 note.sent c.seat.invariant.1),
     )
