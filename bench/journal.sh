@@ -10,7 +10,8 @@ cat > src/main.rt <<'PROGRAM'
 //! How long a record takes.
 #![tactic(auto)]
 
-ghost use Rattle.std.specs.Prelude.{◌≡◌};
+ghost use Rattle.std.specs.Prelude.{◌≡◌, ◌↔◌, None, IsNone, IsTrue, IfOk, false};
+ghost use Rattle.cam_journal.specs.Taking.{IsStep, FaultsWithCause};
 
 use anyhow::Error;
 use cam_base::NoMemory;
@@ -49,7 +50,12 @@ impl Core for Numbers {
 
     ghost is_idle = { λ core input. false };
 
-    fn step(&mut self, _input: CoreInput<u64>) -> Result<Option<u64>, CoreFault> {
+    fn step(&mut self, input: CoreInput<u64>) -> Result<Option<u64>, CoreFault>
+        ensures step { IsStep (λ core node history. Unit {0}) (λ event. None) (λ node history received event. Unit {0}) self.old input self.new result }
+        ensures none { IfOk result (λ made. IsNone made ↔ IsTrue false) }
+        ensures cause { FaultsWithCause 0 0 result }
+    {
+        drop(input);
         Ok(Some(0))
     }
 
