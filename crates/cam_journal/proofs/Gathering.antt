@@ -1,8 +1,8 @@
 -- The histories of the seats, as they are gathered one after another.
-use Rattle.std.proofs.Common.{◌≡◌, ◌≢◌, ◌⊎◌, ℕ, zero, suc, ◌+◌, ◌-◌, ◌<◌, ◌≤◌, ◌==◌, Bool, true, false, List, [], ◌∷◌, ◌++◌, map, length, drop, set, if◌then◌else◌, refl, sym, ap, ◌∙◌, subst, ⊎_elim, arith, length-append, append-nil}
-use Rattle.std.proofs.lemmas.List.{map-append, length-map}
+use Rattle.std.proofs.Common.{◌≡◌, ℕ, ◌<◌, List, [], ◌∷◌, ◌++◌, map, length, drop, refl, sym, ap, ◌∙◌, subst, arith, append-nil}
+use Rattle.std.proofs.lemmas.List.{map-append}
 use Rattle.std.proofs.lemmas.List.Elements.{All-weaker, All-nil, All-cons, All-head, All-tail}
-use Rattle.std.specs.Prelude.{All, Contains, Option, Some, None, slice_get}
+use Rattle.std.specs.Prelude.{All, Contains, Option}
 use mathlib.Core.List.{append_assoc}
 use Rattle.cam_journal.specs.declared.entry.Sent.{Sent}
 use Rattle.cam_journal.specs.declared.entry.Entry.{Entry}
@@ -10,7 +10,7 @@ use Rattle.cam_journal.specs.declared.entry.Step.{Step}
 use Rattle.cam_journal.specs.declared.view.Held.{Held}
 use Rattle.cam_journal.specs.declared.view.View.{View}
 use Rattle.cam_journal.specs.declared.view.View.TheVariants.{Maker, Node, Posted, Gatherer, Whole, Spent}
-use Rattle.cam_journal.specs.Trace.{history_from, history_of, numbered_from, IsRun}
+use Rattle.cam_journal.specs.Trace.{history_of, numbered_from}
 use Rattle.cam_journal.specs.Rule.{IsNode, with_history, Knows, IsWhole}
 use Rattle.cam_journal.specs.Seats.{Opened, Sitting, numbered, node_in, history_in, IsSeat}
 use Rattle.cam_journal.specs.Gathered.{IsApart, AreSeats, AreGathered, trace_in, lists_from, IsLeft}

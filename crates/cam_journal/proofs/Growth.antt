@@ -1,9 +1,8 @@
 -- What stays true of a run, and of what seats know of it, when one more step is taken.
-use Rattle.std.proofs.Common.{◌≡◌, ◌≢◌, ℕ, zero, suc, ◌+◌, ◌<◌, ◌≤◌, List, [], ◌∷◌, ◌++◌, length, take, refl, sym, ap, ◌∙◌, subst, ⊎_elim, arith}
+use Rattle.std.proofs.Common.{◌≡◌, ◌≢◌, ℕ, ◌<◌, List, [], ◌∷◌, ◌++◌, length, take, sym, ap, ◌∙◌, subst, ⊎_elim, arith}
 use Rattle.std.proofs.lemmas.List.{take-append-le}
-use Rattle.std.proofs.lemmas.Option.{slice_get_within}
 use Rattle.std.proofs.Math.Seq.{take-append_seam}
-use Rattle.std.specs.Prelude.{All, Option, Some, None, IfSome, slice_get}
+use Rattle.std.specs.Prelude.{Option, Some, None, IfSome, slice_get}
 use Rattle.std.proofs.lemmas.List.Elements.{All-weaker}
 use Rattle.cam_journal.specs.declared.entry.Sent.{Sent}
 use Rattle.cam_journal.specs.declared.entry.Entry.{Entry}
@@ -12,7 +11,7 @@ use Rattle.cam_journal.specs.declared.view.Held.{Held}
 use Rattle.cam_journal.specs.declared.view.View.{View}
 use Rattle.cam_journal.specs.declared.view.View.TheVariants.{Maker, Node, Posted, Gatherer, Whole, Spent}
 use Rattle.cam_journal.specs.Trace.{history_of, IsSent, IsLawful, IsRun}
-use Rattle.cam_journal.specs.Rule.{IsNode, Fits}
+use Rattle.cam_journal.specs.Rule.{Fits}
 use Rattle.cam_journal.proofs.Lists.{slice_get-longer, slice_get-push}
 use Rattle.cam_journal.proofs.Histories.{history_of-other}
 

@@ -1,11 +1,11 @@
 -- The steps that make notes, take letters and gather histories keep the rule.
-use Rattle.std.proofs.Common.{◌≡◌, ◌≢◌, ◌⊎◌, ℕ, zero, suc, ◌+◌, ◌<◌, ◌≤◌, ◌==◌, Bool, true, false, List, [], ◌∷◌, ◌++◌, length, set, slice_index, if◌then◌else◌, refl, sym, ap, ◌∙◌, subst, inl, inr, ⊎_elim, arith}
-use Rattle.std.specs.Prelude.{All, Option, Some, None, IfSome, slice_get}
+use Rattle.std.proofs.Common.{◌≡◌, ◌≢◌, ℕ, List, [], ◌∷◌, ◌++◌, length, set, slice_index, refl, sym, ap, ◌∙◌, subst, ⊎_elim}
+use Rattle.std.specs.Prelude.{Option, Some, slice_get}
 use Rattle.std.proofs.lemmas.List.Elements.{All-weaker, All-push, All-nil}
 use mathlib.Core.Option.{some, some-ne-none, some-injective}
 use mathlib.Core.Option as maybe
 use lib.ListN.{get_elem?}
-use Rattle.atomic_table.specs.Table.{State, Me, Splits, Joins}
+use Rattle.atomic_table.specs.Table.{State, Splits, Joins}
 use Rattle.atomic_table.proofs.Lists.{at_set, set_again}
 use Rattle.cam_journal.specs.declared.entry.Sent.{Sent}
 use Rattle.cam_journal.specs.declared.entry.Entry.{Entry}
@@ -14,11 +14,11 @@ use Rattle.cam_journal.specs.declared.view.Held.{Held}
 use Rattle.cam_journal.specs.declared.view.View.{View}
 use Rattle.cam_journal.specs.declared.view.View.TheVariants.{Maker, Node, Posted, Gatherer, Whole, Spent}
 use Rattle.cam_journal.specs.Trace.{history_of, IsSent}
-use Rattle.cam_journal.specs.Rule.{IsNode, Fits, IsKept, HasSent, note_of, with_letter, gatherer, with_history, Knows, IsWhole}
+use Rattle.cam_journal.specs.Rule.{Fits, IsKept, HasSent, note_of, with_letter, with_history, Knows}
 use Rattle.cam_journal.specs.Seats.{IsSeat}
 use Rattle.cam_journal.proofs.Moves.{at_push}
 use Rattle.cam_journal.proofs.Histories.{history_of-found}
-use Rattle.cam_journal.proofs.Openings.{moved, moved_here, moved_else, moved_to, Fits-moved, kept_by}
+use Rattle.cam_journal.proofs.Openings.{moved, moved_here, moved_to, Fits-moved, kept_by}
 
 module _ {E L : Type 0} (names : E → Option (ℕ × ℕ)) (sends : E → List L) (lawful : ℕ → List (Entry E L) → Option (Sent L) → E → Type 0) where
   sent_in : (nodes : ℕ) (trace : List (Step E L)) (seat : ℕ → ℕ) (id : ℕ) (view : View E L) (sent : Sent L) → Fits sends nodes trace seat id view → HasSent sends view sent → IsSent sends trace sent

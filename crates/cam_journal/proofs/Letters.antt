@@ -1,8 +1,8 @@
 -- The letters that a node sent, as its history tells them.
-use Rattle.std.proofs.Common.{◌≡◌, ◌≢◌, ℕ, zero, suc, ◌+◌, ◌<◌, ◌≤◌, ◌==◌, Bool, true, false, List, [], ◌∷◌, map, length, take, if◌then◌else◌, refl, sym, ap, ◌∙◌, subst, arith}
+use Rattle.std.proofs.Common.{◌≡◌, ◌≢◌, ℕ, zero, suc, ◌<◌, ◌==◌, Bool, true, false, List, [], ◌∷◌, map, length, take, if◌then◌else◌, refl, sym, ap, ◌∙◌, arith}
 use Rattle.std.proofs.lemmas.Bool.Decides.{nat_tests}
 use Rattle.std.proofs.lemmas.Option.{slice_get_within, slice_get-map}
-use Rattle.std.specs.Prelude.{All, Option, Some, None, IsSome, IfSome, slice_get}
+use Rattle.std.specs.Prelude.{All, Option, Some, None, IsSome, slice_get}
 use Rattle.std.specs.Option.{option_map}
 use Rattle.cam_journal.specs.declared.entry.Sent.{Sent}
 use Rattle.cam_journal.specs.declared.entry.Entry.{Entry}
@@ -10,7 +10,7 @@ use Rattle.cam_journal.specs.declared.view.View.{View}
 use Rattle.cam_journal.specs.declared.view.View.TheVariants.{Maker, Node, Posted, Gatherer, Whole, Spent}
 use Rattle.cam_journal.specs.Taking.{IsFromLawful}
 use Rattle.cam_journal.specs.Rule.{HasSent, with_letter}
-use Rattle.cam_journal.specs.Seats.{Sitting, sitting, with_taken, numbered, history_in, letter_at, AreRising, IsRising, IsHistory, IsSeat}
+use Rattle.cam_journal.specs.Seats.{sitting, with_taken, numbered, history_in, letter_at, AreRising, IsRising, IsSeat}
 use Rattle.cam_journal.proofs.Histories.{if_here, if_else}
 use Rattle.cam_journal.proofs.Seating.{All-slice_get}
 use Rattle.cam_journal.proofs.Handing.{mapped_at}

@@ -1,6 +1,6 @@
 -- Lists read by place, after one more element.
-use Rattle.std.proofs.Common.{◌≡◌, ◌⊎◌, ℕ, zero, suc, ◌+◌, ◌<◌, ◌≤◌, List, [], ◌∷◌, ◌++◌, length, Some, refl, ap, inl, inr, ⊎_elim, arith}
-use Rattle.std.specs.Prelude.{slice_get, Option, None}
+use Rattle.std.proofs.Common.{◌≡◌, ◌⊎◌, ℕ, zero, suc, ◌<◌, List, [], ◌∷◌, ◌++◌, length, Some, refl, inl, inr, ⊎_elim, arith}
+use Rattle.std.specs.Prelude.{slice_get}
 
 module _ {A : Type 0} where
   -- what stands in the front stands there in the whole

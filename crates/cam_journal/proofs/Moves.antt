@@ -1,25 +1,23 @@
 -- Each step keeps the rule.
-use Rattle.std.proofs.Common.{◌≡◌, ◌≢◌, ◌⊎◌, ℕ, zero, suc, ◌+◌, ◌*◌, ◌%◌, ◌<◌, ◌≤◌, ◌==◌, Bool, true, false, List, [], ◌∷◌, ◌++◌, map, length, set, slice_index, take, if◌then◌else◌, refl, sym, ap, ◌∙◌, subst, inl, inr, ⊎_elim, arith, length-append}
-use Rattle.std.proofs.lemmas.Bool.Decides.{nat_tests}
+use Rattle.std.proofs.Common.{◌≡◌, ◌≢◌, ◌⊎◌, ℕ, zero, suc, ◌+◌, ◌%◌, ◌<◌, ◌≤◌, List, [], ◌∷◌, ◌++◌, length, set, slice_index, refl, sym, ap, ◌∙◌, subst, inl, inr, ⊎_elim, arith, length-append}
 use Rattle.std.proofs.Math.Nat.{mod-eq_of_lt}
-use Rattle.std.specs.Prelude.{All, Option, Some, None, IfSome, slice_get}
-use Rattle.std.proofs.lemmas.List.Elements.{All-weaker, All-push, All-nil}
+use Rattle.std.specs.Prelude.{All, Option, Some, None, IfSome}
+use Rattle.std.proofs.lemmas.List.Elements.{All-push}
 use mathlib.Core.Option.{some, some-ne-none, some-injective}
 use mathlib.Core.Option as maybe
 use mathlib.Core.Logic.{dite}
 use native.Mathlib.Decide.{ℕ_discrete}
 use lib.ListN.{get_elem?}
-use Rattle.atomic_table.specs.Table.{State, Me, Splits, Joins, opening}
+use Rattle.atomic_table.specs.Table.{State, Me}
 use Rattle.atomic_table.proofs.Lists.{at_set}
 use Rattle.cam_journal.specs.declared.entry.Sent.{Sent}
 use Rattle.cam_journal.specs.declared.entry.Entry.{Entry}
 use Rattle.cam_journal.specs.declared.entry.Step.{Step}
-use Rattle.cam_journal.specs.declared.view.Held.{Held}
 use Rattle.cam_journal.specs.declared.view.View.{View}
 use Rattle.cam_journal.specs.declared.view.View.TheVariants.{Maker, Node, Posted, Gatherer, Whole, Spent}
-use Rattle.cam_journal.specs.Trace.{entry_of, history_of, IsSent, IsLawful, IsRun}
+use Rattle.cam_journal.specs.Trace.{entry_of, history_of, IsSent}
 use Rattle.cam_journal.specs.Taking.{received_of, left_of, IsNext, entry}
-use Rattle.cam_journal.specs.Rule.{IsNode, Fits, IsKept, IsBelow, CanRecord, Recorded, maker, without_next, next_node, recorded}
+use Rattle.cam_journal.specs.Rule.{IsNode, Fits, IsKept, IsBelow, CanRecord, Recorded, recorded}
 use Rattle.cam_journal.proofs.Histories.{history_of-same, history_of-other, history_of-below}
 use Rattle.cam_journal.proofs.Room.{run_room}
 use Rattle.cam_journal.proofs.Growth.{IsRun-push, Fits-longer, taken-longer}

@@ -1,12 +1,11 @@
 -- A journal of two nodes.
-use Rattle.std.proofs.Common.{◌≡◌, ◌≢◌, ℕ, ◌+◌, ◌<◌, ◌≤◌, ◌==◌, List, [], ◌∷◌, ◌++◌, map, length, refl, sym, ap, ◌∙◌, subst, inl, inr, arith, length-append}
-use Rattle.std.specs.Prelude.{All, Contains, Some, None, IsSome, slice_get}
+use Rattle.std.proofs.Common.{◌≡◌, ◌≢◌, ℕ, ◌==◌, List, [], ◌∷◌, ◌++◌, length, sym, ap, ◌∙◌, subst, inl, inr, arith, length-append}
+use Rattle.std.specs.Prelude.{Contains, Some, None, IsSome, slice_get}
 use Rattle.std.proofs.lemmas.Bool.{cases_lt}
 use Rattle.std.proofs.lemmas.Bool.Decides.{nat_tests}
 use Rattle.std.proofs.lemmas.List.Elements.{All-nil, All-cons, Contains-get_or}
 use Rattle.atomic_table.specs.Seated.{TableId}
 use Rattle.cam_journal.specs.declared.entry.Entry.{Entry}
-use Rattle.cam_journal.specs.Rule.{IsNode}
 use Rattle.cam_journal.specs.Seats.{Opened, Sitting, AreNew, letter_at}
 use Rattle.cam_journal.specs.Gathered.{AreSeats}
 use Rattle.cam_journal.proofs.Lists.{slice_get-longer, slice_get-end}

@@ -1,9 +1,8 @@
 -- How long a run is, where no node has more than so many events.
-use Rattle.std.proofs.Common.{◌≡◌, ℕ, zero, suc, ◌+◌, ◌*◌, ◌<◌, ◌≤◌, ◌==◌, Bool, true, false, List, [], ◌∷◌, length, if◌then◌else◌, refl, sym, ap, ◌∙◌, arith}
+use Rattle.std.proofs.Common.{◌≡◌, ℕ, zero, suc, ◌+◌, ◌*◌, ◌<◌, ◌≤◌, ◌==◌, Bool, true, false, List, [], ◌∷◌, length, if◌then◌else◌, refl, arith}
 use Rattle.std.proofs.lemmas.Bool.Decides.{nat_tests}
 use Rattle.std.specs.Prelude.{All, nat_le}
 use Rattle.std.proofs.lemmas.List.Elements.{All-head, All-tail}
-use Rattle.cam_journal.specs.declared.entry.Entry.{Entry}
 use Rattle.cam_journal.specs.declared.entry.Step.{Step}
 use Rattle.cam_journal.specs.Trace.{entry_of, history_from, history_of}
 use Rattle.cam_journal.specs.Rule.{IsNode}

@@ -1,10 +1,8 @@
 -- What is gathered from the seats of a journal.
-use Rattle.std.specs.Prelude.{◌≡◌, ◌≢◌, ◌<◌, ◌≤◌, ◌+◌, ℕ, All, Contains, List, [], ◌∷◌, map, length, drop, Option, Some, None}
-use Rattle.atomic_table.specs.Seated.{TableId}
+use Rattle.std.specs.Prelude.{◌≡◌, ◌≢◌, ◌<◌, ◌≤◌, ℕ, All, Contains, List, [], ◌∷◌, map, length, drop, Option, Some, None}
 use Rattle.cam_journal.specs.declared.entry.Sent.{Sent}
 use Rattle.cam_journal.specs.declared.entry.Entry.{Entry}
 use Rattle.cam_journal.specs.declared.entry.Step.{Step}
-use Rattle.cam_journal.specs.declared.view.Held.{Held}
 use Rattle.cam_journal.specs.declared.view.View.{View}
 use Rattle.cam_journal.specs.declared.view.View.TheVariants.{Whole}
 use Rattle.cam_journal.specs.Trace.{history_from, history_of, numbered_from, IsRun}

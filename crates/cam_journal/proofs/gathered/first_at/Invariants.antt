@@ -1,4 +1,4 @@
-use Rattle.std.proofs.Common.{◌≡◌, ◌≢◌, ℕ, ◌<◌, Some, take}
+use Rattle.std.proofs.Common.{◌≢◌, Some, take}
 use Rattle.std.specs.Prelude.{All}
 use Rattle.cam_journal.specs.Gathered.{front_of}
 use Rattle.cam_journal.proofs.gathered.first_at.Given as goal

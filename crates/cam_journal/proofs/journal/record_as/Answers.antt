@@ -1,4 +1,4 @@
-use Rattle.std.proofs.Common.{ℕ, ◌<◌, slice_index, refl, arith}
+use Rattle.std.proofs.Common.{slice_index, refl, arith}
 use Rattle.atomic_table.specs.Table.{keeps}
 use Rattle.cam_journal.specs.Rule.{recorded}
 use Rattle.cam_journal.proofs.Moves.{records, tells_record}

@@ -1,4 +1,4 @@
-use Rattle.std.proofs.Common.{◌<◌, arith}
+use Rattle.std.proofs.Common.{arith}
 use Rattle.cam_journal.proofs.Joining.{notes}
 use Rattle.cam_journal.proofs.note.note_as.Goals as goal
 

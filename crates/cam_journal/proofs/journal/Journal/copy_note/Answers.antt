@@ -1,4 +1,4 @@
-use Rattle.std.proofs.Common.{◌≡◌, ◌<◌, sym, ap, ◌∙◌, arith}
+use Rattle.std.proofs.Common.{sym, ap, ◌∙◌, arith}
 use Rattle.cam_journal.proofs.Joining.{copies}
 use Rattle.cam_journal.proofs.journal.Journal.copy_note.Goals as goal
 

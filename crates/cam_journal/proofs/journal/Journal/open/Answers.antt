@@ -1,4 +1,4 @@
-use Rattle.std.proofs.Common.{◌≡◌, ◌<◌, ◌≤◌, ◌+◌, [], ◌∷◌, ◌++◌, List, ℕ, refl, sym, ap, ◌∙◌, subst, arith}
+use Rattle.std.proofs.Common.{◌≡◌, ◌+◌, List, ℕ, sym, ap, ◌∙◌, subst, arith}
 use Rattle.cam_journal.specs.Rule.{without_next, next_node}
 use Rattle.cam_journal.specs.Seats.{Sitting, AreNew, node_in, history_in, taken_in}
 use Rattle.cam_journal.proofs.Openings.{IsKept-opening, opens_as}

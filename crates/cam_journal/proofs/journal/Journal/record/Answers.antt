@@ -1,5 +1,4 @@
-use Rattle.std.proofs.Common.{◌≡◌, ◌+◌, ◌-◌, ◌<◌, ◌++◌, ◌∷◌, [], List, ℕ, refl, sym, ap, ◌∙◌, subst, arith}
-use Rattle.std.specs.Prelude.{min}
+use Rattle.std.proofs.Common.{List, ℕ, refl, sym, ap, ◌∙◌, subst}
 use Rattle.cam_journal.specs.declared.view.View.{View}
 use Rattle.cam_journal.specs.Seats.{IsSeat}
 use Rattle.cam_journal.proofs.Seating.{can_record, IsSeat-record, sitting-record, spare_less, room_left}
