@@ -3,7 +3,6 @@
 # A figure is such a ratio: the nanoseconds are those of one machine on one day. Each time is the least of several rounds.
 # bench/journal.sh           proves the crates and the program, and runs it
 # bench/journal.sh --quick   runs a build of the same sources that nothing has proved
-# The figures in README.md come from the first, which has run to its end.
 . "$(dirname "$0")/common.sh"
 make_program journal_times anyhow cam_base cam_journal
 cat > src/main.rt <<'PROGRAM'
