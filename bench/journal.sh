@@ -1,5 +1,5 @@
 #!/bin/sh
-# How long it takes to make room for an event and record it, as a ratio to one bare atomic increment, and what of it making room takes.
+# How long a record takes, growth of the seat's list counted in, and making room that is there: each as a ratio to one bare atomic increment.
 # A figure is such a ratio: the nanoseconds are those of one machine on one day. Each time is the least of several rounds.
 # bench/journal.sh           proves the crates and the program, and runs it
 # bench/journal.sh --quick   runs a build of the same sources that nothing has proved
@@ -50,7 +50,7 @@ impl Core for Numbers {
     ghost is_idle = { λ core input. false };
 
     fn step(&mut self, input: CoreInput<u64>) -> Result<Option<u64>, CoreFault>
-        ensures step { IsStep (λ core node history. Unit {0}) (λ event. None) (λ node history received event. Unit {0}) self.old input self.new result }
+        ensures step { IsStep (λ core node history. Unit {0}) (λ event. None) (λ letter. 1) (λ node history received event. Unit {0}) self.old input self.new result }
         ensures none { IfOk result (λ made. IsNone made ↔ IsTrue false) }
         ensures cause { FaultsWithCause 0 0 result }
     {
@@ -178,6 +178,8 @@ fn main(rt: HostRuntime) -> Result<(), Error> {
     show(&rt, "atomic increment", least.increments, least.increments)?;
     show(&rt, "room that is there", least.reserves, least.increments)?;
     show(&rt, "room and record", least.records, least.increments)?;
+    let alone = least.records.saturating_sub(least.reserves);
+    show(&rt, "record", alone, least.increments)?;
     Ok(())
 }
 PROGRAM

@@ -2,7 +2,7 @@
 use Rattle.std.proofs.Common.{◌≡◌, ℕ, zero, suc, ◌+◌, ◌-◌, ◌<◌, List, [], ◌∷◌, ◌++◌, length, take, refl, sym, ap, ◌∙◌, subst, ⊎_elim, arith, length-append}
 use Rattle.std.specs.Prelude.{All, Option, Some, None, slice_get, min}
 use Rattle.std.proofs.lemmas.List.{take-append-le, map-append, length-map}
-use Rattle.std.proofs.lemmas.List.Elements.{All-head, All-tail}
+use Rattle.std.proofs.lemmas.List.Elements.{All-nil, All-head, All-tail}
 use Rattle.std.proofs.Math.Seq.{take-append_seam}
 use Rattle.atomic_table.specs.Seated.{TableId}
 use Rattle.cam_journal.specs.declared.entry.Sent.{Sent}
@@ -11,7 +11,7 @@ use Rattle.cam_journal.specs.declared.view.View.{View}
 use Rattle.cam_journal.specs.declared.view.View.TheVariants.{Maker, Node, Posted, Gatherer, Whole, Spent}
 use Rattle.cam_journal.specs.Taking.{IsNext, entry}
 use Rattle.cam_journal.specs.Rule.{recorded, IsBelow, CanRecord}
-use Rattle.cam_journal.specs.Seats.{Sitting, AreNew, sitting, with_event, numbered, IsHistory, IsRising, IsSeat}
+use Rattle.cam_journal.specs.Seats.{Sitting, AreNew, history_in, sitting, with_event, numbered, IsHistory, IsRising, IsSeat}
 use Rattle.cam_journal.proofs.Lists.{slice_get-push}
 
 module _ {A : Type 0} where
@@ -91,6 +91,15 @@ module _ {E L : Type 0} (names : E → Option (ℕ × ℕ)) (lawful : ℕ → Li
   sitting-record (Gatherer nodes gathered) after journal now spare left entries seat event number is kept changed same less = absurd kept
   sitting-record (Whole gathered trace) after journal now spare left entries seat event number is kept changed same less = absurd kept
   sitting-record Spent after journal now spare left entries seat event number is kept changed same less = absurd kept
+
+-- the events that contracts see of a seat have numbers below this one
+pub below_in : {E L : Type 0} (view : View E L) (number : ℕ) → IsBelow number view → All (λ entry. entry.number < number) (history_in view)
+below_in (Node node history taken) number below = below
+below_in {E} {L} (Maker nodes next) number below = All-nil (λ (e : Entry E L). e.number < number)
+below_in {E} {L} (Posted sent) number below = All-nil (λ (e : Entry E L). e.number < number)
+below_in {E} {L} (Gatherer nodes gathered) number below = All-nil (λ (e : Entry E L). e.number < number)
+below_in {E} {L} (Whole gathered trace) number below = All-nil (λ (e : Entry E L). e.number < number)
+below_in {E} {L} Spent number below = All-nil (λ (e : Entry E L). e.number < number)
 
 -- the spare after one more entry that took no memory
 pub spare_less : (capacity now count longer spare : ℕ) → min capacity 500000000 - count ≡ spare → now ≡ capacity → longer ≡ count + 1 → min now 500000000 - longer ≡ min capacity 500000000 - count - 1

@@ -58,9 +58,9 @@ Steps is_replay names lawful node history input after (Ok None) = is_replay afte
 Steps is_replay names lawful node history input after (Ok (Some event)) = IsNext names lawful node history (letter_in input) event × ((number : ℕ) → is_replay after node (history ++ entry names number (letter_in input) event ∷ []))
 Steps is_replay names lawful node history input after (Err fault) = is_replay after node history
 
--- so for each history of which it was the replay
-abbrev pub IsStep : {S E L : Type 0} → (S → ℕ → List (Entry E L) → Type 0) → (E → Option (ℕ × ℕ)) → (ℕ → List (Entry E L) → Option (Sent L) → E → Type 0) → S → CoreInput L → S → Result (Option E) CoreFault → Type 0
-IsStep {E = E} {L = L} is_replay names lawful before input after result = (node : ℕ) (history : List (Entry E L)) → is_replay before node history → Steps is_replay names lawful node history input after result
+-- so for each history with room of which it was the replay, where the letter was sent to its node
+abbrev pub IsStep : {S E L : Type 0} → (S → ℕ → List (Entry E L) → Type 0) → (E → Option (ℕ × ℕ)) → (L → ℕ) → (ℕ → List (Entry E L) → Option (Sent L) → E → Type 0) → S → CoreInput L → S → Result (Option E) CoreFault → Type 0
+IsStep {E = E} {L = L} is_replay names goes_to lawful before input after result = (node : ℕ) (history : List (Entry E L)) → is_replay before node history → length history < 500000000 → IfSome (letter_in input) (λ sent. goes_to sent.letter ≡ node) → Steps is_replay names lawful node history input after result
 
 -- The count of faults never falls, and a disk fault comes only where it rose.
 abbrev pub FaultsWithCause : {E : Type 0} → ℕ → ℕ → Result E CoreFault → Type 0

@@ -10,6 +10,7 @@ pub enum ReserveFault {
     /// The seat has 500,000,000 events.
     #[error("the seat has as many events as a seat can have")]
     Full,
+    /// There is no memory for one more event.
     #[error("out of memory")]
     NoMemory,
 }

@@ -16,6 +16,7 @@ pub enum CoreFault {
     /// The core's disk failed, and its count of faults rose.
     #[error("the disk failed")]
     DiskFault,
+    /// The core wanted memory and got none.
     #[error("out of memory")]
     NoMemory,
 }

@@ -1,5 +1,5 @@
 //! The journal, which numbers the events of its nodes.
-ghost use Rattle.std.specs.Prelude.{◌≡◌, ◌<◌, ◌≤◌, ◌+◌, [], ◌∷◌, ◌++◌, length, Some, None, IfSome, IfOk, IsErrOf, OnOk, ◌↔◌, slice_get};
+ghost use Rattle.std.specs.Prelude.{◌≡◌, ◌<◌, ◌≤◌, ◌+◌, [], ◌∷◌, ◌++◌, length, All, Some, None, IfSome, IfOk, IsErrOf, OnOk, ◌↔◌, slice_get};
 ghost use Rattle.cam_journal.specs.declared.fault.ReserveFault.TheVariants.{Full};
 ghost use Rattle.cam_journal.specs.Taking.{IsNext};
 ghost use Rattle.cam_journal.specs.Rule.{CanRecord, recorded, IsBelow};
@@ -39,7 +39,8 @@ impl<C: Core> Model for Journal<C> {
 }
 
 impl<C: Core> Journal<C> {
-    /// A journal for so many nodes, 1 to 8, with a seat for each node, in order, whose history is empty.
+    /// A journal for so many nodes, 1 to 8, with a seat for each node, in order, whose history is empty. It fails for want of memory
+    /// alone.
     pub fn open(alloc: Global, nodes: u8) -> Result<(Journal<C>, Seats<C>), NoMemory>
         requires { (0 < nodes) × (nodes ≤ 8) }
         ensures { IfOk result (λ opened. (opened.0.nodes ≡ nodes) × AreNew opened.0.id nodes opened.1.items) }
@@ -57,11 +58,13 @@ impl<C: Core> Journal<C> {
         Ok((Journal { table, lists }, seats))
     }
 
-    /// Makes room for one more event of the seat, at least. Nothing else of the seat changes.
+    /// Makes room for one more event of the seat, at least, and takes none away. Nothing else of the seat changes. `Full` comes exactly
+    /// where the seat has 500,000,000 events; `NoMemory` may come wherever memory is wanted.
     pub fn reserve(&self, seat: &mut NodeSeat<C>) -> Result<(), ReserveFault>
         requires { seat.old.journal ≡ self.now.id }
         ensures ok { OnOk result (0 < seat.new.spare) }
         ensures full { IsErrOf result Full ↔ (length seat.old.history ≡ 500000000) }
+        ensures kept { seat.old.spare ≤ seat.new.spare }
         ensures limit { seat.new.spare + length seat.new.history ≤ 500000000 }
         ensures same { seat.new ≡ record seat.old { spare = seat.new.spare } }
     {
@@ -72,12 +75,14 @@ impl<C: Core> Journal<C> {
         Ok(())
     }
 
-    /// Records the event under the next number of the journal, and answers that number. It takes no memory and waits for nobody.
+    /// Records the event under the next number of the journal, which is above the earlier ones of the seat, and answers that number. It
+    /// takes no memory and waits for nobody.
     pub fn record(&self, seat: &mut NodeSeat<C>, event: C::Event) -> u64
         requires own { seat.old.journal ≡ self.now.id }
         requires room { 0 < seat.old.spare }
         requires next { IsNext C.names C.lawful seat.old.node seat.old.history seat.old.taken event }
-        ensures { seat.new ≡ with_event C.names result event seat.old }
+        ensures seat { seat.new ≡ with_event C.names result event seat.old }
+        ensures above { All (λ entry. entry.number < result) seat.old.history }
     {
         let number = record_as::<C, Brand>(&self.table.shared, &mut seat.token, &event);
         let Ok(()) = seat.entries.push_back((number, event)) else {

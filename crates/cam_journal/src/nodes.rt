@@ -10,8 +10,10 @@ use cam_base::NoMemory;
 
 /// A node whose events are recorded. It is the replay of its history, and says which event may come next.
 pub trait Core: Drop {
+    /// What a node records: one step of it.
     type Event: Drop;
 
+    /// What an event sends to a node.
     type Letter: Drop;
 
     /// How often the core's disk has failed.
@@ -41,7 +43,7 @@ pub trait Core: Drop {
     /// Takes a step: an event, or none exactly where there is nothing to do. After none and after a fault the core is as before.
     fn step(&mut self, input: CoreInput<Self::Letter>) -> Result<Option<Self::Event>, CoreFault>
         requires { CanStep is_replay sends goes_to lawful self.old input }
-        ensures step { IsStep is_replay names lawful self.old input self.new result }
+        ensures step { IsStep is_replay names goes_to lawful self.old input self.new result }
         ensures none { IfOk result (λ made. IsNone made ↔ IsTrue (is_idle self.old input)) }
         ensures cause { FaultsWithCause (faults self.old) (faults self.new) result };
 

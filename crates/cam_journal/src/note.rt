@@ -51,7 +51,7 @@ impl<C: Core> Note<C> {
 }
 
 impl<C: Core> Journal<C> {
-    /// A note of the letter that an event of the seat sent, at a place. The seat stays as it is.
+    /// A note of the letter that an event of the seat sent, at a place. The seat stays as it is. It fails for want of memory alone.
     pub fn note(&self, seat: &mut NodeSeat<C>, number: u64, place: u32) -> Result<Note<C>, NoMemory>
         requires own { seat.old.journal ≡ self.now.id }
         requires sent { IsSome (letter_at C.sends seat.old.history number place) }
@@ -73,7 +73,7 @@ impl<C: Core> Journal<C> {
         Ok(Note { sent, token })
     }
 
-    /// Another note of the same letter. The note stays as it is.
+    /// Another note of the same letter. The note stays as it is. It fails for want of memory alone.
     pub fn copy_note(&self, note: &mut Note<C>) -> Result<Note<C>, NoMemory>
         requires { note.old.journal ≡ self.now.id }
         ensures copy { IfOk result (λ copy. copy ≡ note.old) }

@@ -130,7 +130,7 @@ fn say_in_threads<R: Threads + Sync>(
 }
 
 #[test]
-fn two_threads_record_side_by_side(rt: HostRuntime) -> Result<(), Fail> {
+fn events_of_two_threads_are_gathered_in_order(rt: HostRuntime) -> Result<(), Fail> {
     let (journal, seats) = Journal::<Numbers>::open(rt.alloc(), 2)?;
     let (one, two) = two_seats(&journal, seats).ok_or("two seats")?;
     let (one, two) = say_in_threads(&rt, &journal, one, two);

@@ -1,7 +1,9 @@
-use Rattle.std.proofs.Common.{List, ℕ, refl, sym, ap, ◌∙◌, subst}
+use Rattle.std.proofs.Common.{List, ℕ, refl, sym, ap, ◌∙◌, ◌<◌, subst}
+use Rattle.std.specs.Prelude.{All}
+use Rattle.cam_journal.specs.declared.entry.Entry.{Entry}
 use Rattle.cam_journal.specs.declared.view.View.{View}
 use Rattle.cam_journal.specs.Seats.{IsSeat}
-use Rattle.cam_journal.proofs.Seating.{can_record, IsSeat-record, sitting-record, spare_less, room_left}
+use Rattle.cam_journal.proofs.Seating.{can_record, IsSeat-record, below_in, sitting-record, spare_less, room_left}
 use Rattle.cam_journal.proofs.journal.Journal.record.Goals as goal
 use Rattle.cam_journal.proofs.journal.Journal.record.Goals.{In-Ok}
 
@@ -26,8 +28,8 @@ invariant_of-seat g c =
       subst P (λ i. (sym c.in-Ok.ensures.items i, sym (ap (λ me. me.0) step.me) i)) kept,
     )
 
-pub returns : goal.returns
-returns g c =
+pub returns-clause-seat : goal.returns-clause-seat
+returns-clause-seat g c =
     let core = g.C.Core in
     let seat = c.seat.inside in
     let step = c.record_as-number.ensures in
@@ -35,3 +37,9 @@ returns g c =
     let room = room_left _ _ _ spare c.requires.room in
     let left = spare_less _ _ _ _ _ spare (c.push_back.ensures.in_place room) c.in-Ok.ensures.len in
     sitting-record core.names core.lawful seat.token.me.0 c.record_as-number.new.token.me.0 _ _ _ _ seat.entries.items c.args.seat.now c.args.event c.record_as-number.result c.seat.view_is c.seat.invariant.1 (ap (λ me. me.0) step.me) step.table left
+
+pub returns-clause-above : goal.returns-clause-above
+returns-clause-above g c =
+    let number = c.record_as-number.result in
+    let Below : List (Entry g.row.C-Event.Denot g.row.C-Letter.Denot) → Type 0 = λ h. All (λ e. e.number < number) h in
+    subst Below (ap (λ s. s.history) c.seat.view_is) (below_in c.seat.inside.token.me.0 number c.record_as-number.ensures.above)
