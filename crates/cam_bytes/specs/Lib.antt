@@ -1,1 +1,5 @@
 pub mod Fields
+pub mod Reading
+pub mod Ranges
+pub mod Laws
+pub mod Refuses

@@ -1,0 +1,71 @@
+-- Each kind of field is read as it was written.
+use Rattle.std.proofs.Common.{◌≡◌, ℕ, ℤ, ◌+◌, ◌<◌, ◌≤◌, List, [], ◌∷◌, ◌++◌, length, drop, Result, Ok, ap, ◌∙◌, sym, arith, subst, lit<}
+use Rattle.std.proofs.lemmas.List.{length-drop, length-append}
+use Rattle.cam_names.specs.declared.name.Name.{Name}
+use Rattle.cam_type.specs.declared.Op.{Op}
+use Rattle.cam_type.specs.declared.Op.TheVariants as ops
+use Rattle.cam_bytes.specs.declared.WireFault.{WireFault}
+use Rattle.cam_bytes.specs.Fields.{number, value, name, deps, op}
+use Rattle.cam_bytes.specs.Ranges.{IsBytes, IsNumber, IsValue, IsName, IsDeps, IsOp}
+use Rattle.cam_bytes.specs.Reading.{number_in, value_at, name_at, deps_at, op_at}
+use Rattle.cam_bytes.specs.Laws.{IsField, NumbersAreFields, ValuesAreFields, NamesAreFields, DependenciesAreFields, OperationsAreFields}
+use Rattle.cam_bytes.proofs.Steady.{Within, IsSteady, steady_number_in, steady_value, steady_name_in, steady_pairs_in, steady_op}
+use Rattle.cam_bytes.proofs.Again.{Reads, reads_number_in, reads_value, reads_name, reads_op}
+use Rattle.cam_bytes.proofs.AgainPairs.{reads_deps}
+use Rattle.cam_bytes.proofs.Taken.{took_number_in, took_value, took_name}
+use Rattle.cam_bytes.proofs.TakenPairs.{took_deps}
+use Rattle.cam_bytes.proofs.TakenOps.{took_op}
+
+module _ (A : Type 0) (range : A → Type 0) (spelled : A → List ℕ) (read : ℕ → List ℕ → Result (A × ℕ) WireFault) where
+  ends : (bytes : List ℕ) (at : ℕ) (x : A) (rest : List ℕ) → IsSteady read → 0 < length (spelled x) → drop at bytes ≡ spelled x ++ rest → Reads bytes (read at bytes) x rest → read at bytes ≡ Ok (x, at + length (spelled x))
+  ends bytes at x rest steady some stands (behind, is, left) =
+      let all = ap (λ (t : List ℕ). length t) stands in
+      let within : at ≤ length bytes = omega (arith, length-drop at bytes, all, length-append (spelled x) rest, some) in
+      let inside : Within at (length bytes) (Ok (x, behind)) = subst (λ (r : Result (A × ℕ) WireFault). Within at (length bytes) r) is (steady at bytes rest within).0 in
+      let place : behind ≡ at + length (spelled x) = omega (arith, length-drop at bytes, all, length-append (spelled x) rest, length-drop behind bytes, ap (λ (t : List ℕ). length t) left, inside.0, inside.1, within) in
+      is ∙ ap (λ (n : ℕ). Ok (x, n)) place
+
+  pub is_field : IsSteady read → ((x : A) → 0 < length (spelled x)) → ((bytes : List ℕ) (at : ℕ) (x : A) (rest : List ℕ) → range x → drop at bytes ≡ spelled x ++ rest → Reads bytes (read at bytes) x rest) → ((bytes : List ℕ) (at : ℕ) (x : A) (behind : ℕ) → IsBytes bytes → read at bytes ≡ Ok (x, behind) → range x × (drop at bytes ≡ spelled x ++ drop behind bytes)) → IsField A range spelled read
+  is_field steady some reads took = record {
+    again = λ bytes at x rest r stands. ends bytes at x rest steady (some x) stands (reads bytes at x rest r stands);
+    written = took;
+    steady = λ bytes at more within. (steady at bytes more within).1;
+  }
+
+pub numbers_are_fields : NumbersAreFields
+numbers_are_fields =
+    is_field ℕ IsNumber number (number_in 1 1000000000) (steady_number_in 1 1000000000) (λ n. lit< tt)
+    (λ bytes at n rest r stands. reads_number_in bytes 1 1000000000 at n rest r (omega arith) stands)
+    (λ bytes at n behind are e. let t = took_number_in bytes 1 1000000000 at (n, behind) are e in (t.1, t.0))
+
+pub values_are_fields : ValuesAreFields
+values_are_fields =
+    is_field ℤ IsValue value value_at steady_value (λ v. lit< tt)
+    (λ bytes at v rest r stands. reads_value bytes at v rest r stands)
+    (λ bytes at v behind are e. let t = took_value bytes at (v, behind) are e in (t.1, t.0))
+
+pub names_are_fields : NamesAreFields
+names_are_fields =
+    is_field Name IsName name name_at (steady_name_in 8) (λ a. omega arith)
+    (λ bytes at a rest r stands. reads_name bytes 8 at a rest r r.depth.1 stands)
+    (λ bytes at a behind are e. let t = took_name bytes 8 at (a, behind) (omega arith) are e in (t.1, t.0))
+
+pub dependencies_are_fields : DependenciesAreFields
+dependencies_are_fields =
+    is_field (List ℕ) IsDeps deps deps_at (steady_pairs_in 1 (0 ∷ 0 ∷ 0 ∷ 0 ∷ 0 ∷ 0 ∷ 0 ∷ 0 ∷ [])) (λ cs. omega arith)
+    (λ bytes at cs rest r stands. reads_deps bytes cs at rest r stands)
+    (λ bytes at cs behind are e. let t = took_deps bytes at (cs, behind) are e in (t.1, t.0))
+
+some_op : (o : Op) → 0 < length (op o)
+some_op ops.Read = lit< tt
+some_op (ops.Write v) = lit< tt
+some_op (ops.Swap v) = lit< tt
+some_op ops.Size = lit< tt
+some_op (ops.Put v) = lit< tt
+some_op ops.Take = lit< tt
+
+pub operations_are_fields : OperationsAreFields
+operations_are_fields =
+    is_field Op IsOp op op_at steady_op some_op
+    (λ bytes at o rest r stands. reads_op bytes at o rest r stands)
+    (λ bytes at o behind are e. let t = took_op bytes at (o, behind) are e in (t.1, t.0))

@@ -1,0 +1,11 @@
+ghost use Rattle.cam_bytes.specs.Laws.{NumbersAreFields, ValuesAreFields, NamesAreFields, DependenciesAreFields, OperationsAreFields};
+
+/// Of each kind of field: what was written is read again, whatever stands behind it; what is read was written there, and is in
+/// its ranges; more bytes behind change no answer but that the bytes were short.
+pub fn fields()
+    ensures numbers { NumbersAreFields }
+    ensures values { ValuesAreFields }
+    ensures names { NamesAreFields }
+    ensures dependencies { DependenciesAreFields }
+    ensures operations { OperationsAreFields }
+{}

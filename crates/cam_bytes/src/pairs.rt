@@ -1,0 +1,107 @@
+// Counts of nodes as pairs: the number of pairs, then each node with its count, the nodes rising.
+ghost use Rattle.std.specs.Prelude.{◌≡◌, ◌+◌, ◌<◌, ◌≤◌, ◌++◌, length, replicate, IfOk};
+ghost use Rattle.cam_bytes.specs.Fields.{pair, pairs, pairs_above, deps as bytes_of_deps};
+ghost use Rattle.cam_bytes.specs.Ranges.{IsDeps};
+ghost use Rattle.cam_bytes.specs.Reading.{pairs_from, pairs_in, deps_at};
+
+use crate::WireFault;
+use crate::numbers::{byte_in, number_in, write_byte, write_number};
+use cam_base::NoMemory;
+use cam_names::{Deps, Part};
+
+/// The counts with so many more pairs put in, each count at least `least` and each node above the one before, and the place
+/// behind them.
+#[tactic(auto, unfolding(crate::specs::Reading::pairs_from))]
+fn pairs_from(
+    bytes: &[u8],
+    at: usize,
+    left: u8,
+    least: u32,
+    before: u8,
+    mut counts: [u32; 8],
+) -> Result<([u32; 8], usize), WireFault>
+    requires { at ≤ length bytes.now }
+    ensures value { result ≡ pairs_from left least before counts at bytes.now }
+    ensures end { IfOk result (λ read. (at ≤ read.1) × (read.1 ≤ length bytes.now)) }
+{
+    if left == 0 {
+        return Ok((counts, at));
+    }
+    let (node, behind) = byte_in(bytes, at, 1, 8)?;
+    if node <= before {
+        return Err(WireFault::Order(at as u64));
+    }
+    let (count, end) = number_in(bytes, behind, least, Part::LAST)?;
+    counts[node as usize - 1] = count;
+    pairs_from(bytes, end, left - 1, least, node, counts)
+}
+
+/// The counts with the pairs that stand at a place put in, each count at least `least`, and the place behind them.
+///
+/// `Short` where a field is not whole; `BadNumber` at the first byte of a number of pairs, a node or a count out of its range; `Order` at a
+/// node that is not above the one before.
+#[tactic(auto, unfolding(crate::specs::Reading::pairs_in))]
+pub fn pairs_in(
+    bytes: &[u8],
+    at: usize,
+    least: u32,
+    counts: [u32; 8],
+) -> Result<([u32; 8], usize), WireFault>
+    requires { at ≤ length bytes.now }
+    ensures value { result ≡ pairs_in least counts at bytes.now }
+    ensures end { IfOk result (λ read. (at < read.1) × (read.1 ≤ length bytes.now)) }
+{
+    let (number, at) = byte_in(bytes, at, 0, 8)?;
+    pairs_from(bytes, at, number, least, 0, counts)
+}
+
+/// Dependencies at a place, and the place behind them. `Short`, `BadNumber` and `Order` as `pairs_in`, with counts of at least 1.
+pub fn deps_at(bytes: &[u8], at: usize) -> Result<(Deps, usize), WireFault>
+    requires { at ≤ length bytes.now }
+    ensures value { result ≡ deps_at at bytes.now }
+    ensures end { IfOk result (λ read. (at < read.1) × (read.1 ≤ length bytes.now)) }
+{
+    let (counts, at) = pairs_in(bytes, at, 1, [0; 8])?;
+    Ok((Deps::of(&counts), at))
+}
+
+/// A node with its count, written behind what was written.
+fn write_pair(out: Vec<u8>, node: u8, count: u32) -> Result<Vec<u8>, NoMemory>
+    ensures { IfOk result (λ text. text.items ≡ out.items ++ pair (node, count)) }
+{
+    write_number(write_byte(out, node)?, count)
+}
+
+/// How many of the counts are above `base`.
+fn number_above(counts: &[u32; 8], base: u32) -> u8
+    ensures { result ≡ length (pairs_above base 1 counts.now) }
+{
+    let mut number = 0;
+    for node in 0..8 {
+        if counts[node] > base {
+            number += 1;
+        }
+    }
+    number
+}
+
+/// The counts above `base` as pairs, written behind what was written. Fails only where memory runs out.
+pub fn write_pairs(out: Vec<u8>, counts: &[u32; 8], base: u32) -> Result<Vec<u8>, NoMemory>
+    ensures { IfOk result (λ text. text.items ≡ out.items ++ pairs (pairs_above base 1 counts.now)) }
+{
+    let mut out = write_byte(out, number_above(counts, base))?;
+    for node in 0..8 {
+        if counts[node] > base {
+            out = write_pair(out, node as u8 + 1, counts[node])?;
+        }
+    }
+    Ok(out)
+}
+
+/// Dependencies, written behind what was written. Fails only where memory runs out.
+pub fn write_deps(out: Vec<u8>, deps: &Deps) -> Result<Vec<u8>, NoMemory>
+    ensures ok { IfOk result (λ text. text.items ≡ out.items ++ bytes_of_deps deps.now) }
+    ensures range { IsDeps deps.now }
+{
+    write_pairs(out, &deps.counts(), 0)
+}
