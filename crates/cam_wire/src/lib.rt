@@ -1,4 +1,49 @@
-//! Letters as bytes: definitions alone. They stand on `cam_bytes` (the fields) and `cam_event` (letters).
+//! Letters as bytes.
+//!
+//! Each letter has exactly one spelling, and any bytes are read as the letter that they spell or answered with the first fault and its
+//! place. All numbers are big-endian; number, value, name, dependencies and operation are the fields of `cam_bytes`.
+//!
+//! | Part of a letter | Bytes |
+//! |---|---|
+//! | version | 1 (one byte) |
+//! | sender | its node (one byte), its count (number) |
+//! | addressee | its node (one byte) |
+//! | counts | the number of pairs, 0 to 8 (one byte), then of each pair its node (one byte) and count (number, 2 or more), the nodes rising; count 1 is not written |
+//! | aborts | how many (four bytes), then their names, rising |
+//! | commits | how many (four bytes), then of each its name and its dependencies, the names rising |
+//! | body | a tag (one byte), then its fields in this order |
+//!
+//! | Tag | Body | Fields |
+//! |---|---|---|
+//! | 1 | Start | child (name), dependencies |
+//! | 2 | Call | action (name), number, object (one byte, 0 to 63), operation, count (number), dependencies |
+//! | 3 | Answer | action (name), number, reply |
+//! | 4 | Finish | action (name), value, dependencies |
+//! | 5 | Quit | action (name) |
+//! | 6 | Prepare | family (name of one part), count (number) |
+//! | 7 | Vote | family (name of one part), count (number), 0 for no or 1 for yes (one byte) |
+//! | 8 | Query | family (name of one part) |
+//! | 9 | News | none |
+//!
+//! A reply is 1 Ok, 2 Value and a value, 3 Empty, 4 Busy and a name, 5 Missed, 6 Refused.
+//!
+//! Its main clauses are `read`, `refused` and `each` of [`decode`] (the letter whose spelling the bytes are, or the first fault),
+//! and those of the law [`spellings`]. It stands on `cam_bytes` (fields), `cam_know` (knowledge) and `cam_event` (letters).
 #![tactic(auto)]
 
+mod bodies;
+mod knowledge;
+mod laws;
+mod outcomes;
+mod reading;
+mod replies;
+mod sorting;
+#[cfg(test)]
+mod tests;
+mod write_body;
+mod writing;
+
 pub use cam_bytes::WireFault;
+pub use laws::spellings;
+pub use reading::decode;
+pub use writing::encode;

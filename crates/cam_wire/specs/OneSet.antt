@@ -1,0 +1,31 @@
+-- The spelling of a letter whose knowledge may have a name as committed with several dependency sets: that of the letter with one of them.
+use Rattle.std.specs.Prelude.{◌≡◌, ℕ, true, List}
+use Rattle.cam_names.specs.declared.name.Name.{Name}
+use Rattle.cam_know.specs.declared.Outcome.{Outcome}
+use Rattle.cam_know.specs.declared.Outcome.TheVariants.{Aborted, Committed}
+use Rattle.cam_know.specs.Known.{knows, knows_commit}
+use Rattle.cam_event.specs.declared.Letter.{Letter}
+use Rattle.cam_wire.specs.Laws.{IsSpelled}
+
+-- the letter with one dependency set of each name that is committed
+pub record IsWithOneSet (one letter : Letter) : Type 0 where
+  pub from : one.from ≡ letter.from
+  pub count : one.count ≡ letter.count
+  pub to : one.to ≡ letter.to
+  pub counts : one.know.counts ≡ letter.know.counts
+  pub body : one.body ≡ letter.body
+  -- nothing else is known of it
+  pub known : (o : Outcome) → knows one.know o ≡ true → knows letter.know o ≡ true
+  -- the same names are aborted, and the same are committed
+  pub aborted : (a : Name) → knows one.know (Aborted a) ≡ knows letter.know (Aborted a)
+  pub committed : (a : Name) → knows_commit one.know a ≡ knows_commit letter.know a
+
+-- the bytes are the spelling of the letter with one set of each
+pub record IsSpelledWithOneSet (letter : Letter) (bytes : List ℕ) : Type 0 where
+  pub one : Letter
+  pub of : IsWithOneSet one letter
+  pub spelled : IsSpelled one bytes
+
+-- no name is known as committed with two dependency sets
+abbrev pub HasOneSetEach : Letter → Type 0
+HasOneSetEach letter = (a : Name) (d e : List ℕ) → knows letter.know (Committed a d) ≡ true → knows letter.know (Committed a e) ≡ true → d ≡ e

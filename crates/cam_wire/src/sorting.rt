@@ -1,0 +1,62 @@
+// The outcomes of a letter in rising order of names, each name once.
+ghost use Rattle.std.specs.Prelude.{◌≡◌, map, flat_map, IfOk, OnOk};
+ghost use Rattle.cam_know.specs.Known.{aborted_name};
+ghost use Rattle.cam_event.specs.Rules.{sorted_names};
+ghost use Rattle.cam_wire.specs.OfTrace.{committed_pair, sorted_commits};
+ghost use Rattle.cam_wire.specs.Spelling.{Rising};
+ghost use Rattle.cam_wire.specs.Sorting.{with_abort, with_commit};
+
+use cam_base::NoMemory;
+use cam_know::Outcome;
+use cam_names::{Deps, Name};
+use std::alloc::Global;
+use std::collections::{BTreeMap, BTreeSet};
+
+/// One more outcome beside the aborts.
+fn note_abort(aborts: &mut BTreeSet<Name>, outcome: &Outcome) -> Result<(), NoMemory>
+    ensures { OnOk result (aborts.new.keys ≡ with_abort outcome.now aborts.old.keys) }
+{
+    if let Outcome::Aborted(name) = outcome {
+        aborts.insert(*name)?;
+    }
+    Ok(())
+}
+
+/// The names of the aborts.
+pub fn sorted_aborts(alloc: Global, outcomes: &[Outcome]) -> Result<BTreeSet<Name>, NoMemory>
+    ensures { IfOk result (λ aborts. aborts.keys ≡ sorted_names (flat_map aborted_name outcomes.now)) }
+{
+    let mut aborts = BTreeSet::new(alloc);
+    let mut left = outcomes.len();
+    while left > 0 {
+        left -= 1;
+        note_abort(&mut aborts, &outcomes[left])?;
+    }
+    Ok(aborts)
+}
+
+/// One more outcome beside the commits, of which a name keeps the dependencies that it has.
+fn note_commit(commits: &mut BTreeMap<Name, Deps>, outcome: &Outcome) -> Result<(), NoMemory>
+    requires { Rising (map (λ c. c.0) commits.old.entries) }
+    ensures { OnOk result (commits.new.entries ≡ with_commit outcome.now commits.old.entries) }
+{
+    if let Outcome::Committed(name, deps) = outcome {
+        if !commits.contains_key(name) {
+            commits.insert(*name, *deps)?;
+        }
+    }
+    Ok(())
+}
+
+/// The commits with their dependencies. Of a name with several the set that was learnt last counts.
+pub fn sorted_commits(alloc: Global, outcomes: &[Outcome]) -> Result<BTreeMap<Name, Deps>, NoMemory>
+    ensures { IfOk result (λ commits. commits.entries ≡ sorted_commits (flat_map committed_pair outcomes.now)) }
+{
+    let mut commits = BTreeMap::new(alloc);
+    let mut left = outcomes.len();
+    while left > 0 {
+        left -= 1;
+        note_commit(&mut commits, &outcomes[left])?;
+    }
+    Ok(commits)
+}
