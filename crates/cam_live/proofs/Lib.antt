@@ -1,4 +1,3 @@
-pub mod Histories
 pub mod Noting
 pub mod Counting
 pub mod Choosing

@@ -13,6 +13,7 @@ use Rattle.cam_names.specs.Part.{part_cmp}
 use Rattle.cam_names.specs.declared.name.Name.{Name}
 use Rattle.cam_names.specs.Names.{name_cmp, name_eq}
 use Rattle.cam_names.proofs.Names.{name_eq_same, name_eq_sym}
+use Rattle.cam_names.proofs.Names.{name_ties_back}
 use Rattle.cam_event.specs.declared.Deed.{Deed}
 use Rattle.cam_event.specs.declared.Deed.TheVariants.{Call, Secure, Inform}
 use Rattle.cam_event.specs.History.{count, informed, Addressed, call_of}
@@ -28,14 +29,11 @@ both_equal Greater p = refl
 pub number_ties : (m n : ℕ) → is_eq (nat_cmp m n) ≡ eqb n m
 number_ties m n = grind arith
 
-pub name_ties : (b a : Name) → is_eq (name_cmp b a) ≡ name_eq a b
-name_ties b a = sym (lists_ties part_cmp (search (comparing, rules)) b a) ∙ name_eq_sym b a
-
 site_name_ties : (t s : ℕ) (b a : Name) → is_eq (site_name_cmp (t, b) (s, a)) ≡ (eqb s t && name_eq a b)
-site_name_ties t s b a = both_equal (nat_cmp t s) (name_cmp b a) ∙ (λ i. number_ties t s i && name_ties b a i)
+site_name_ties t s b a = both_equal (nat_cmp t s) (name_cmp b a) ∙ (λ i. number_ties t s i && name_ties_back a b i)
 
 call_ties : (b a : Name) (m n : ℕ) → is_eq (call_cmp (b, m) (a, n)) ≡ (name_eq a b && eqb n m)
-call_ties b a m n = both_equal (name_cmp b a) (nat_cmp m n) ∙ (λ i. name_ties b a i && number_ties m n i)
+call_ties b a m n = both_equal (name_cmp b a) (nat_cmp m n) ∙ (λ i. name_ties_back a b i && number_ties m n i)
 
 -- one more call
 pub calls_put : (L : List Deed) (b : Name) (m : ℕ) (call : Addressed) (old new : BTreeMap (Name × ℕ) Asked) → TellsCalls L old

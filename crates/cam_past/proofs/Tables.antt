@@ -5,17 +5,13 @@ use Rattle.std.specs.Option.{unwrap_or}
 use Rattle.std.proofs.lemmas.Bool.{eqb-true, eq-eqb, ne_eqb, and_parts, false_from_ne_true, cond-true, cond-false}
 use Rattle.std.proofs.lemmas.Bool.Decides.{eqb_tells}
 use Rattle.std.proofs.lemmas.List.{take_more, reverse-append, length-reverse, get_or-set_same, get_or-set_other}
+use Rattle.cam_base.proofs.Newest.{taken_back}
 use Rattle.cam_event.specs.declared.Event.{Event}
 use Rattle.cam_event.specs.Pasts.{last_of, sender_of, in_past}
 use Rattle.cam_event.proofs.PastLaws.{past_below}
 use Rattle.cam_past.specs.declared.clock.Clock.{Clock}
 use Rattle.cam_past.specs.Tables.{node_at, at_or_zero, latest, seat, table_of, place_of, latest_by, latest_at, latest_of, next_latest, IsTable, AreNodes, AreWithin, AreTables, table_at, is_told_of, is_told}
 use Rattle.cam_past.proofs.Latest.{latest_own, latest_other, latest_older, latest_tells, node_at_beyond}
-
--- one event further along a trace
-pub further : (events : List Event) (i : ℕ) (e : Event) → i < length events → e ≡ get_or events i e → reverse (take (i + 1) events) ≡ e ∷ reverse (take i events)
-further events i e h is =
-    ap reverse (take_more events i e h ∙ ap (λ (d : Event). take i events ++ d ∷ []) (sym is)) ∙ reverse-append (take i events) (e ∷ [])
 
 pushed_at : {X : Type 0} (xs : List X) (x : X) → slice_get (xs ++ x ∷ []) (length xs) ≡ Some x
 pushed_at [] x = refl
@@ -42,8 +38,8 @@ nodes_more t e nodes are = record {
 
 -- the nodes of the events, one event further
 pub nodes_further : (events : List Event) (i : ℕ) (e : Event) (nodes nodes' : List ℕ) → i < length events → e ≡ get_or events i e → nodes' ≡ nodes ++ e.node ∷ [] → AreNodes (reverse (take i events)) nodes → AreNodes (reverse (take (i + 1) events)) nodes'
-nodes_further events i e nodes nodes' h is more are =
-    subst (λ (t : List Event). AreNodes t nodes') (sym (further events i e h is))
+nodes_taken_back events i e nodes nodes' h is more are =
+    subst (λ (t : List Event). AreNodes t nodes') (sym (taken_back events i e h is))
     (subst (AreNodes (e ∷ reverse (take i events))) (sym more) (nodes_more (reverse (take i events)) e nodes are))
 
 -- the places of the nodes, one node further
@@ -157,9 +153,9 @@ table_length events k table clocks h is = is.long ∙ length-reverse (take k eve
 
 -- a table, one event further
 pub table_further : (events : List Event) (k table : ℕ) (e : Event) (clocks clocks' : List Clock) (clock : Clock) (last : List (Option ℕ)) → k < length events → e ≡ get_or events k e → e.node < 256 → clocks' ≡ clocks ++ clock ∷ [] → ((s : ℕ) → s < 256 → get_or last s None ≡ last_of (reverse (take k events)) s) → ((place : ℕ) → place < 8 → get_or clock.latest place 0 ≡ next_latest clocks table (get_or last e.node None) e place) → IsTable (reverse (take k events)) table clocks → IsTable (reverse (take (k + 1) events)) table clocks'
-table_further events k table e clocks clocks' clock last h is node more told next tabled =
+table_taken_back events k table e clocks clocks' clock last h is node more told next tabled =
     let t : List Event = reverse (take k events) in
-    subst (λ (u : List Event). IsTable u table clocks') (sym (further events k e h is))
+    subst (λ (u : List Event). IsTable u table clocks') (sym (taken_back events k e h is))
     (subst (IsTable (e ∷ t) table) (sym more) (table_more t e table clocks clock (get_or last e.node None) tabled node (told e.node node) next))
 
 -- the last events of all nodes, one event further
@@ -167,7 +163,7 @@ pub last_further : (events : List Event) (k : ℕ) (e : Event) (last : List (Opt
 last_further events k e last n h is node long count told s small =
     let t : List Event = reverse (take k events) in
     let sized : length t ≡ k = length-reverse (take k events) ∙ length-take-le k events (omega (arith, h)) in
-    last_more t e last n long node (count ∙ sym sized) told s small ∙ sym (ap (λ (u : List Event). last_of u s) (further events k e h is))
+    last_more t e last n long node (count ∙ sym sized) told s small ∙ sym (ap (λ (u : List Event). last_of u s) (taken_back events k e h is))
 
 pub tables_more : (t : List Event) (number : ℕ) (tables : List (List Clock)) (table : List Clock) → length tables ≡ number → AreTables t number tables → IsTable t number table → AreTables t (number + 1) (tables ++ table ∷ [])
 tables_more t number tables table long are is n small =

@@ -20,7 +20,7 @@ use Rattle.cam_plain.specs.Lines.{is_perform}
 use Rattle.cam_plain.proofs.Called.{call_stays}
 use Rattle.cam_plain.proofs.Fates.{performed_fate}
 use Rattle.cam_plain.proofs.Held.{deps_grow}
-use Rattle.cam_plain.proofs.SameAnswers.{answer_eq_same}
+use Rattle.cam_type.proofs.SameAnswers.{answer_eq_same}
 
 -- the action got this answer of its call
 abbrev pub is_done : Answer → Seen → Bool

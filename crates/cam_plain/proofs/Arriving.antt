@@ -16,7 +16,7 @@ use Rattle.cam_event.specs.History.{count, Addressed, call_of}
 use Rattle.cam_event.specs.Live.{site_of, first_conflict, holder, value}
 use Rattle.cam_plain.specs.Lines.{replied, ArrivalLine, PerformLine, BounceLine}
 use Rattle.cam_plain.specs.Tests.{arrival_test, is_performed, perform_test, is_name, is_bounced, bounce_test}
-use Rattle.cam_plain.proofs.SameAnswers.{answer_eq_same, answer_eq_refl}
+use Rattle.cam_type.proofs.SameAnswers.{answer_eq_same, answer_eq_refl}
 
 pub is_true : (b : Bool) → Decides b (b ≡ true)
 is_true b = (λ h. h, λ h. h)

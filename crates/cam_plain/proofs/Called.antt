@@ -17,7 +17,7 @@ use Rattle.cam_event.specs.declared.Seen.{Seen}
 use Rattle.cam_event.specs.declared.Seen.TheVariants.{Done, Busy, Gone}
 use Rattle.cam_plain.specs.Legal.{Legal}
 use Rattle.cam_plain.specs.Lines.{is_perform, is_reply_to, replied, is_bounce, IsSeen}
-use Rattle.cam_plain.proofs.Any.{any_weaker}
+use Rattle.cam_names.proofs.Any.{any_weaker}
 
 -- a Perform of the call, whatever its answer, and a Bounce of it, whatever its holder
 abbrev pub is_performed : Name → ℕ → Deed → Bool

@@ -8,7 +8,7 @@ use Rattle.cam_plain.specs.Tests.{meets}
 use Rattle.cam_plain.specs.Depending.{DependsOn}
 use Rattle.std.specs.BTreeMap.{BTreeMap}
 use Rattle.cam_names.specs.declared.name.Name.{Name}
-use Rattle.cam_plain.proofs.Histories.{further}
+use Rattle.cam_event.proofs.Snoc.{further}
 use Rattle.cam_plain.proofs.Deciders.{meets_decides}
 
 pub legal_further : (objects : List ObjectDecl) (ds : List Deed) (i : ℕ) (d : Deed) → i < length ds → d ≡ get_or ds i d

@@ -3,30 +3,8 @@ use Rattle.std.proofs.Common.{◌≡◌, ◌≤◌, Bool, true, false, ◌||◌,
 use Rattle.std.specs.List.{list_any}
 use Rattle.cam_names.specs.Part.{PartFields}
 use Rattle.cam_names.specs.Names.{ancestors, before_last, parent}
-use Rattle.cam_know.proofs.Climbs.{ancestors_parent}
-
--- a top action is its one ancestor, and each action is its own last one
-ancestors_top : (a : List PartFields) → length a ≡ 1 → ancestors a ≡ a ∷ []
-ancestors_top [] h = absurd (omega arith)
-ancestors_top (p ∷ []) h = refl
-ancestors_top (p ∷ q ∷ a) h = absurd (omega arith)
-
-last_ancestor : (a : List PartFields) → 1 ≤ length a → (us : List (List PartFields)) × (ancestors a ≡ us ++ a ∷ [])
-last_ancestor [] h = absurd (omega arith)
-last_ancestor (p ∷ []) h = ([], refl)
-last_ancestor (p ∷ q ∷ a) h = (ancestors (before_last (p ∷ q ∷ a)), ancestors_parent (p ∷ q ∷ a) (before_last (p ∷ q ∷ a)) refl)
-
-any_last : (test : List PartFields → Bool) (us : List (List PartFields)) (a : List PartFields) → list_any test (us ++ a ∷ []) ≡ (list_any test us || test a)
-any_last test [] a = nothing (test a)
-  where
-    nothing : (b : Bool) → (b || false) ≡ b
-    nothing true = refl
-    nothing false = refl
-any_last test (u ∷ us) a = ap (λ r. test u || r) (any_last test us a) ∙ grouped (test u) (list_any test us) (test a)
-  where
-    grouped : (x y z : Bool) → (x || (y || z)) ≡ ((x || y) || z)
-    grouped true y z = refl
-    grouped false y z = refl
+use Rattle.cam_names.proofs.Any.{any_last}
+use Rattle.cam_know.proofs.Climbs.{ancestors_parent, ancestors_top, last_ancestor}
 
 or_true : (b : Bool) → true ≡ (b || true)
 or_true true = refl

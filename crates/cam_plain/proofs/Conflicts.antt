@@ -13,8 +13,8 @@ use Rattle.cam_event.specs.declared.Deed.{Deed}
 use Rattle.cam_event.specs.declared.Deed.TheVariants.{Perform}
 use Rattle.cam_event.specs.declared.Operation.{Operation}
 use Rattle.cam_plain.specs.Legal.{Legal}
-use Rattle.cam_plain.proofs.Any.{none_found}
-use Rattle.cam_plain.proofs.Every.{Every, Pairs, every_any, every_weaker, every_unfilter}
+use Rattle.cam_names.proofs.Any.{none_found}
+use Rattle.cam_names.proofs.Every.{Every, Pairs, every_any, every_weaker, every_unfilter}
 use Rattle.cam_plain.proofs.InTheWay.{not_in_the_way}
 use Rattle.cam_plain.proofs.LiveSteps.{operation, pair_induction}
 

@@ -13,8 +13,8 @@ use Rattle.cam_event.specs.declared.Deed.{Deed}
 use Rattle.cam_event.specs.declared.Deed.TheVariants.{Create, Ask, AskCommit, Commit, Abort}
 use Rattle.cam_plain.specs.Legal.{Legal}
 use Rattle.cam_plain.specs.Lines.{asked_for}
-use Rattle.cam_plain.proofs.Ancestry.{is_ancestor_trans, ancestor_same, parent_is, parent_between, top_family}
-use Rattle.cam_plain.proofs.Any.{any_filter}
+use Rattle.cam_names.proofs.Ancestry.{is_ancestor_trans, ancestor_same, parent_is, parent_between, top_family}
+use Rattle.cam_names.proofs.Any.{any_filter}
 use Rattle.cam_plain.proofs.Deciding.{runs_not_asked, committed_asked}
 use Rattle.cam_plain.proofs.Performed.{runs_created}
 

@@ -21,11 +21,7 @@ use Rattle.cam_event.specs.declared.Seen.TheVariants.{Done}
 use Rattle.cam_event.specs.History.{call_of}
 use Rattle.cam_event.specs.Gained.{deps, home, visited}
 use Rattle.cam_plain.specs.Depending.{pairs_in, AddsPairs, DependsOn}
-use Rattle.cam_plain.proofs.Children.{is_some_name, child_of}
-
--- the test of two names goes by their order
-name_ties : (a b : Name) → name_eq a b ≡ is_eq (name_cmp a b)
-name_ties = lists_ties part_cmp (search (comparing, rules))
+use Rattle.cam_names.proofs.Children.{is_some_name, child_of}
 
 or_grouped : (x y z : Bool) → (x || (y || z)) ≡ ((x || y) || z)
 or_grouped true y z = refl

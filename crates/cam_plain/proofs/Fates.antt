@@ -17,8 +17,8 @@ use Rattle.cam_event.specs.declared.Deed.TheVariants.{Call, Perform, Inform, Cra
 use Rattle.cam_event.specs.declared.Operation.{Operation}
 use Rattle.cam_plain.specs.Legal.{Legal}
 use Rattle.cam_plain.specs.Lines.{is_perform}
-use Rattle.cam_plain.proofs.Ancestry.{some_ancestor}
-use Rattle.cam_plain.proofs.Any.{any_left, any_right, lost}
+use Rattle.cam_names.proofs.Ancestry.{some_ancestor}
+use Rattle.cam_names.proofs.Any.{any_left, any_right, lost}
 use Rattle.cam_plain.proofs.Called.{call_stays, count_grows}
 use Rattle.cam_plain.proofs.Deciding.{informed_aborted}
 use Rattle.cam_plain.proofs.LiveSteps.{keeps, added, operation, live_step}

@@ -18,11 +18,11 @@ use Rattle.cam_event.specs.declared.Seen.{Seen}
 use Rattle.cam_event.specs.declared.Seen.TheVariants.{Done, Busy, Gone}
 use Rattle.cam_plain.specs.Legal.{Legal}
 use Rattle.cam_plain.specs.Lines.{IsSeen, MayCommit}
-use Rattle.cam_plain.proofs.Ancestry.{is_ancestor_trans, ancestor_same, parent_is, parent_between, ancestor_order, is_ancestor_self, IsParent}
-use Rattle.cam_plain.proofs.Any.{any_left, any_right}
+use Rattle.cam_names.proofs.Ancestry.{is_ancestor_trans, ancestor_same, parent_is, parent_between, ancestor_order, is_ancestor_self, IsParent}
+use Rattle.cam_names.proofs.Any.{any_left, any_right}
 use Rattle.cam_plain.proofs.Called.{one_reply, seen_bounced}
 use Rattle.cam_plain.proofs.Deciding.{asked_no_call, runs_not_committed}
-use Rattle.cam_plain.proofs.Every.{Every}
+use Rattle.cam_names.proofs.Every.{Every}
 use Rattle.cam_plain.proofs.LiveSteps.{keeps, operation, live_induction}
 use Rattle.cam_plain.proofs.Performed.{Performed, performed, perform_open, perform_not_committed, created_named, called_created}
 

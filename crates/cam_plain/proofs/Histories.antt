@@ -7,13 +7,9 @@ use Rattle.cam_plain.specs.Facts.{tally}
 use Rattle.cam_type.specs.declared.ObjectDecl.{ObjectDecl}
 use Rattle.cam_event.specs.declared.Deed.{Deed}
 use Rattle.cam_event.specs.History.{after}
+use Rattle.cam_event.proofs.Snoc.{after_more}
 use Rattle.cam_plain.specs.Lines.{Line}
 use Rattle.cam_plain.specs.Legal.{Legal, history}
-
--- one more deed at the end of a list is the newest of its history
-pub after_more : (L ds : List Deed) (d : Deed) → after L (ds ++ d ∷ []) ≡ d ∷ after L ds
-after_more L [] d = refl
-after_more L (e ∷ ds) d = after_more (e ∷ L) ds d
 
 -- what is legal has been legal all along
 pub legal_before : (objects : List ObjectDecl) (ds L : List Deed) → Legal objects (after L ds) → Legal objects L
@@ -23,11 +19,6 @@ legal_before objects (d ∷ ds) L h = (legal_before objects ds (d ∷ L) h).1
 -- a list goes on legally by a deed that meets its line
 pub legal_more : (objects : List ObjectDecl) (ds : List Deed) (d : Deed) → Legal objects (history ds) → Line objects (history ds) d → Legal objects (history (ds ++ d ∷ []))
 legal_more objects ds d legal meets = rw after_more (meets, legal)
-
--- one deed further along a list
-pub further : (ds : List Deed) (i : ℕ) (d : Deed) → i < length ds → d ≡ get_or ds i d → history (take (i + 1) ds) ≡ d ∷ history (take i ds)
-further ds i d h is =
-    ap history (take_more ds i d h ∙ ap (λ (e : Deed). take i ds ++ e ∷ []) (sym is)) ∙ after_more [] (take i ds) d
 
 -- the count of a node is 1 more than its crashes
 one_more : (b : Bool) (m n : ℕ) → m ≡ n + 1 → (if b then m + 1 else m) ≡ (if b then n + 1 else n) + 1

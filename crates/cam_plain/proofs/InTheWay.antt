@@ -9,9 +9,9 @@ use Rattle.cam_names.specs.Names.{is_prefix, is_ancestor, ancestors}
 use Rattle.cam_names.specs.Part.{PartFields, part_eq}
 use Rattle.cam_know.specs.Known.{lift_by}
 use Rattle.cam_event.specs.Live.{is_in_the_way}
-use Rattle.cam_plain.proofs.Ancestry.{is_ancestor_trans}
-use Rattle.cam_plain.proofs.Any.{any_every, found_of}
-use Rattle.cam_plain.proofs.Every.{Every, Pairs, every_any, pairs_weaker, every_map, pairs_map, every_reverse}
+use Rattle.cam_names.proofs.Ancestry.{is_ancestor_trans}
+use Rattle.cam_names.proofs.Any.{any_every, found_of}
+use Rattle.cam_names.proofs.Every.{Every, Pairs, every_any, pairs_weaker, every_map, pairs_map, every_reverse}
 
 -- ancestors stand in a list each before those that it is an ancestor of
 ancestors_chain : (a : List PartFields) → Pairs (λ u v. is_ancestor u v ≡ true) (ancestors a)

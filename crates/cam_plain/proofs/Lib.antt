@@ -2,17 +2,11 @@ pub mod Histories
 pub mod Climbing
 pub mod Replaying
 pub mod LastPart
-pub mod Ancestry
-pub mod Children
 pub mod Dependent
-pub mod SameAnswers
 pub mod Arriving
 pub mod Deciders
 pub mod Checking
 pub mod Handing
-pub mod Every
-pub mod Any
-pub mod KeptKinds
 pub mod Deciding
 pub mod Called
 pub mod LiveSteps

@@ -10,7 +10,7 @@ use Rattle.cam_event.specs.declared.Deed.{Deed}
 use Rattle.cam_event.specs.declared.Deed.TheVariants.{Call, Perform, Got, Inform, Crash, Bounce, Create, Ask, AskCommit, Commit, Abort, AskAbort, Secure}
 use Rattle.cam_event.specs.declared.Operation.{Operation}
 use Rattle.cam_plain.specs.Legal.{Legal}
-use Rattle.cam_plain.proofs.Every.{Every, Pairs, every_weaker, every_append, pairs_weaker, every_filter, every_both, pairs_filter, pairs_both, pairs_first, pairs_second, pairs_push}
+use Rattle.cam_names.proofs.Every.{Every, Pairs, every_weaker, every_append, pairs_weaker, every_filter, every_both, pairs_filter, pairs_both, pairs_first, pairs_second, pairs_push}
 
 -- whether a deed leaves a live operation alive
 abbrev pub keeps : List ObjectDecl → List Deed → Deed → Operation → Bool

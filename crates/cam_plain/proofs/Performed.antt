@@ -15,10 +15,10 @@ use Rattle.cam_event.specs.declared.Deed.TheVariants.{Call, Perform, Crash, Crea
 use Rattle.cam_event.specs.declared.Operation.{Operation}
 use Rattle.cam_plain.specs.Legal.{Legal}
 use Rattle.cam_plain.specs.Lines.{asked_for}
-use Rattle.cam_plain.proofs.Ancestry.{is_prefix_refl}
+use Rattle.cam_names.proofs.Ancestry.{is_prefix_refl}
 use Rattle.cam_plain.proofs.Called.{call_stays, is_performed, call_fits, call_stands}
 use Rattle.cam_plain.proofs.Deciding.{committed_asked, asked_no_call}
-use Rattle.cam_plain.proofs.Every.{Every, every_any}
+use Rattle.cam_names.proofs.Every.{Every, every_any}
 use Rattle.cam_plain.proofs.LiveSteps.{keeps, operation, live_induction}
 
 pub record Performed (objects : List ObjectDecl) (L : List Deed) (o : Operation) : Type 0 where

@@ -12,7 +12,7 @@ use Rattle.cam_event.specs.Live.{surviving, replay}
 use Rattle.cam_type.specs.Table.{state_after}
 use Rattle.std.proofs.lemmas.List.{take_more}
 use Rattle.cam_plain.specs.Legal.{history}
-use Rattle.cam_plain.proofs.Histories.{further}
+use Rattle.cam_event.proofs.Snoc.{further}
 
 pub surviving_further : (objects : List ObjectDecl) (ds before : List Deed) (i : ℕ) (d : Deed) (old new : List Operation)
     → i < length ds → d ≡ get_or ds i d → before ≡ take i ds

@@ -16,10 +16,10 @@ use Rattle.cam_event.specs.declared.Deed.TheVariants.{Perform, Commit, Secure}
 use Rattle.cam_event.specs.declared.Operation.{Operation}
 use Rattle.cam_plain.specs.Legal.{Legal}
 use Rattle.cam_plain.specs.Lines.{MayCommit, IsAtHome}
-use Rattle.cam_plain.proofs.Ancestry.{is_ancestor_trans, parent_is, top_family, is_ancestor_self, IsParent}
-use Rattle.cam_plain.proofs.Any.{any_weaker}
+use Rattle.cam_names.proofs.Ancestry.{is_ancestor_trans, parent_is, top_family, is_ancestor_self, IsParent}
+use Rattle.cam_names.proofs.Any.{any_weaker}
 use Rattle.cam_plain.proofs.Deciding.{asked_no_call, runs_not_committed}
-use Rattle.cam_plain.proofs.Every.{Every}
+use Rattle.cam_names.proofs.Every.{Every}
 use Rattle.cam_plain.proofs.Held.{Held, Reaches, reaches}
 use Rattle.cam_plain.proofs.LiveSteps.{keeps, operation, live_induction}
 use Rattle.cam_plain.proofs.Performed.{perform_not_committed, created_named, called_created}

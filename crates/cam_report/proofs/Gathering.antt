@@ -12,17 +12,11 @@ use Rattle.cam_names.specs.Part.{part_cmp}
 use Rattle.cam_names.specs.declared.name.Name.{Name}
 use Rattle.cam_names.specs.Names.{name_cmp, name_eq, name_lt}
 use Rattle.cam_event.specs.Rules.{put_name, sorted_names}
+use Rattle.cam_base.proofs.Newest.{taken_back}
+use Rattle.cam_names.proofs.Names.{name_ties}
 use Rattle.cam_event.specs.declared.Deed.{Deed}
 use Rattle.cam_report.specs.declared.milestones.Milestone.{Milestone}
 use Rattle.cam_report.specs.Gathered.{reached}
-
--- one more of a list, the last first
-pub taken_back : {X : Type 0} (xs : List X) (i : ℕ) (x : X) → i < length xs → x ≡ get_or xs i x → reverse (take (i + 1) xs) ≡ x ∷ reverse (take i xs)
-taken_back xs i x h e = ap reverse (take_more xs i x h ∙ ap (λ y. take i xs ++ y ∷ []) (sym e)) ∙ reverse-append (take i xs) (x ∷ [])
-
--- the test of two names goes by their order
-pub name_ties : (a b : Name) → name_eq a b ≡ is_eq (name_cmp a b)
-name_ties = lists_ties part_cmp (search (comparing, rules))
 
 -- a set puts a name at its place
 by_order : (o : Ordering) (a b : Name) (bs one other : List Name) → one ≡ other → match_ordering o (a ∷ b ∷ bs) (b ∷ bs) (b ∷ one) ≡ (if is_lt o then a ∷ b ∷ bs else if is_eq o then b ∷ bs else b ∷ other)

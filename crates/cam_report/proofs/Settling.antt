@@ -24,7 +24,7 @@ use Rattle.cam_report.specs.Words.{line, state_text}
 use Rattle.cam_event.specs.Settled.{is_past_top, settled}
 use Rattle.cam_report.specs.Report.{values_from}
 use Rattle.cam_report.specs.Sited.{site_name_cmp, is_settled, settled_operations, TellsSites}
-use Rattle.cam_report.proofs.Siting.{all_last}
+use Rattle.cam_names.proofs.Any.{all_last}
 
 -- the deeds in order, the last first
 after_back : (before ds : List Deed) → after before ds ≡ reverse ds ++ before

@@ -21,7 +21,7 @@ use Rattle.cam_report.specs.declared.sites.SiteFact.{SiteFact}
 use Rattle.cam_report.specs.declared.sites.SiteFact.TheVariants.{Secured, Committed, Aborted}
 use Rattle.cam_report.specs.declared.operations.Asked.{Asked}
 use Rattle.cam_report.specs.Sited.{site_name_cmp, call_cmp, sited, is_so, TellsSites, asked_of, TellsCalls}
-use Rattle.cam_report.proofs.Gathering.{name_ties}
+use Rattle.cam_names.proofs.Names.{name_ties_back}
 
 both_equal : (o p : Ordering) → is_eq (ordering_then o p) ≡ (is_eq o && is_eq p)
 both_equal Less p = refl
@@ -30,9 +30,6 @@ both_equal Greater p = refl
 
 number_ties : (m n : ℕ) → is_eq (nat_cmp m n) ≡ eqb n m
 number_ties m n = grind arith
-
-name_ties_back : (a b : Name) → is_eq (name_cmp b a) ≡ name_eq a b
-name_ties_back a b = sym (name_ties b a) ∙ name_eq_sym b a
 
 site_name_ties : (t s : ℕ) (b a : Name) → is_eq (site_name_cmp (t, b) (s, a)) ≡ (eqb s t && name_eq a b)
 site_name_ties t s b a = both_equal (nat_cmp t s) (name_cmp b a) ∙ (λ i. number_ties t s i && name_ties_back a b i)
@@ -112,27 +109,3 @@ pub ancestors_top : (a : Name) → length a ≡ 1 → ancestors a ≡ a ∷ []
 ancestors_top [] h = absurd (omega (arith, h))
 ancestors_top (p ∷ []) h = refl
 ancestors_top (p ∷ q ∷ a) h = absurd (omega (arith, h))
-
-pub any_last : {X : Type 0} (test : X → Bool) (xs : List X) (x : X) → list_any test (xs ++ x ∷ []) ≡ (list_any test xs || test x)
-any_last test [] x = last (test x)
-  where
-    last : (b : Bool) → (b || false) ≡ b
-    last true = refl
-    last false = refl
-any_last test (y ∷ ys) x = ap (λ r. test y || r) (any_last test ys x) ∙ grouped (test y) (list_any test ys) (test x)
-  where
-    grouped : (a b c : Bool) → (a || (b || c)) ≡ ((a || b) || c)
-    grouped true b c = refl
-    grouped false b c = refl
-
-pub all_last : {X : Type 0} (test : X → Bool) (xs : List X) (x : X) → list_all test (xs ++ x ∷ []) ≡ (list_all test xs && test x)
-all_last test [] x = last (test x)
-  where
-    last : (b : Bool) → (b && true) ≡ b
-    last true = refl
-    last false = refl
-all_last test (y ∷ ys) x = ap (λ r. test y && r) (all_last test ys x) ∙ grouped (test y) (list_all test ys) (test x)
-  where
-    grouped : (a b c : Bool) → (a && (b && c)) ≡ ((a && b) && c)
-    grouped true b c = refl
-    grouped false b c = refl

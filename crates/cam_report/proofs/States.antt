@@ -14,7 +14,7 @@ use Rattle.cam_report.specs.declared.milestones.Milestone.{Milestone}
 use Rattle.cam_report.specs.declared.milestones.Milestone.TheVariants as milestones
 use Rattle.cam_report.specs.Gathered.{reached}
 use Rattle.cam_report.specs.Report.{create_in}
-use Rattle.cam_report.proofs.Gathering.{name_ties}
+use Rattle.cam_names.proofs.Names.{name_ties}
 
 any_append : {X : Type 0} (p : X → Bool) (xs ys : List X) → list_any p (xs ++ ys) ≡ (list_any p xs || list_any p ys)
 any_append p [] ys = refl

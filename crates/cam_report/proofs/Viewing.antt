@@ -14,8 +14,8 @@ use Rattle.cam_event.specs.declared.ViewStep.TheVariants as steps
 use Rattle.cam_event.specs.History.{commit_value}
 use Rattle.cam_event.specs.Views.{step_of, committed_child}
 use Rattle.cam_report.specs.Gathered.{child_step, committed_step, step_gained, steps_for, view_in, TellsValues, TellsViews}
-use Rattle.cam_report.proofs.Gathering.{name_ties}
-use Rattle.cam_report.proofs.Children.{is_some_name, child_of}
+use Rattle.cam_names.proofs.Names.{name_ties}
+use Rattle.cam_names.proofs.Children.{is_some_name, child_of}
 
 -- a view taken out, and put back with a step behind it
 pub view_put : (old gone new : BTreeMap Name (List ViewStep)) (b : Name) (step : ViewStep)

@@ -14,10 +14,10 @@ use Rattle.cam_event.specs.declared.Deed.TheVariants.{Perform, Commit}
 use Rattle.cam_event.specs.declared.Operation.{Operation}
 use Rattle.cam_plain.specs.Legal.{Legal}
 use Rattle.cam_plain.specs.Lines.{MayCommit}
-use Rattle.cam_plain.proofs.Ancestry.{is_ancestor_trans, parent_is, top_family, is_ancestor_self, IsParent, family_is_ancestor}
+use Rattle.cam_names.proofs.Ancestry.{is_ancestor_trans, parent_is, top_family, is_ancestor_self, IsParent, family_is_ancestor}
 use Rattle.cam_plain.proofs.Conflicts.{NotInTheWay, Apart, not_in_the_way_more, perform_apart}
 use Rattle.cam_plain.proofs.Deciding.{runs_not_committed}
-use Rattle.cam_plain.proofs.Every.{Every, Pairs, every_weaker}
+use Rattle.cam_names.proofs.Every.{Every, Pairs, every_weaker}
 use Rattle.cam_plain.proofs.LiveSteps.{operation, pair_induction}
 use Rattle.cam_plain.proofs.Performed.{Performed, performed, perform_not_committed, created_named, called_created, performed_named}
 use Rattle.cam_serial.proofs.Sequences.{Swaps}

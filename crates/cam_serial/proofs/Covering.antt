@@ -19,13 +19,13 @@ use Rattle.cam_event.specs.declared.Deed.TheVariants.{Got}
 use Rattle.cam_event.specs.declared.Operation.{Operation}
 use Rattle.cam_event.specs.declared.Seen.TheVariants.{Done, Busy, Gone}
 use Rattle.cam_plain.specs.Legal.{Legal}
-use Rattle.cam_plain.proofs.Ancestry.{all_ancestors}
+use Rattle.cam_names.proofs.Ancestry.{all_ancestors}
 use Rattle.cam_plain.proofs.Answered.{is_got, visits, got_done}
-use Rattle.cam_plain.proofs.Any.{any_right, any_weaker, none_found, any_every, any_filter, any_flat, filter_none}
+use Rattle.cam_names.proofs.Any.{any_right, any_weaker, none_found, any_every, any_filter, any_flat, filter_none}
 use Rattle.cam_plain.proofs.Decided.{ancestors_committed}
 use Rattle.cam_plain.proofs.Fates.{is_answer, Fate, performed_fate}
 use Rattle.cam_plain.proofs.Performed.{created_named}
-use Rattle.cam_plain.proofs.SameAnswers.{answer_eq_refl}
+use Rattle.cam_type.proofs.SameAnswers.{answer_eq_refl}
 use Rattle.cam_serial.proofs.Tops.{tops_have, family_top}
 use Rattle.cam_serial.specs.Serial.{committed_tops, all_committed, group, serial_committed, committed_up_to, seen_by, serial_for, Covers}
 

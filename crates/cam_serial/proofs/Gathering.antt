@@ -13,28 +13,15 @@ use Rattle.cam_event.specs.declared.Deed.TheVariants.{Commit}
 use Rattle.cam_event.specs.declared.Operation.{Operation}
 use Rattle.cam_event.specs.History.{committed}
 use Rattle.cam_event.specs.Live.{live}
-use Rattle.cam_live.proofs.Noting.{name_ties}
+use Rattle.cam_names.proofs.Names.{name_ties_back}
 use Rattle.cam_serial.specs.Serial.{committed_tops, serial_committed, seen_by, serial}
 use Rattle.cam_serial.specs.Gathered.{TellsCommitted, is_above, group_in, TellsGroups, joined, own_of}
-
--- a test of all of a list with one more
-pub all_last : {X : Type 0} (test : X → Bool) (xs : List X) (x : X) → list_all test (xs ++ x ∷ []) ≡ (list_all test xs && test x)
-all_last test [] x = last (test x)
-  where
-    last : (b : Bool) → (b && true) ≡ b
-    last true = refl
-    last false = refl
-all_last test (y ∷ ys) x = ap (λ r. test y && r) (all_last test ys x) ∙ grouped (test y) (list_all test ys) (test x)
-  where
-    grouped : (a b c : Bool) → (a && (b && c)) ≡ ((a && b) && c)
-    grouped true b c = refl
-    grouped false b c = refl
 
 -- one more committed action
 pub committed_put : (L : List Deed) (b : Name) (old new : BTreeSet Name) → TellsCommitted L old
     → ((q : Name) → contains name_cmp new q ≡ cond (is_eq (name_cmp b q)) true (contains name_cmp old q))
     → TellsCommitted (Commit b ∷ L) new
-committed_put L b old new before put a = put a ∙ (λ i. cond (name_ties b a i) true (before a i)) ∙ cond_or (name_eq a b) (committed L a)
+committed_put L b old new before put a = put a ∙ (λ i. cond (name_ties_back a b i) true (before a i)) ∙ cond_or (name_eq a b) (committed L a)
   where
     cond_or : (x y : Bool) → cond x true y ≡ (x || y)
     cond_or true y = refl
@@ -46,7 +33,7 @@ pub group_put : (old gone new : BTreeMap Name (List Operation)) (b : Name) (o : 
     → ((q : Name) → get name_cmp new q ≡ cond (is_eq (name_cmp b q)) (Some (group_in old b ++ o ∷ [])) (get name_cmp gone q))
     → (f : Name) → group_in new f ≡ group_in old f ++ (if name_eq f b then o ∷ [] else [])
 group_put old gone new b o out put f =
-    ap (λ g. unwrap_or g []) (put f ∙ (λ i. cond (name_ties b f i) (Some (group_in old b ++ o ∷ [])) ((out f ∙ (λ j. cond (name_ties b f j) None (get name_cmp old f))) i)))
+    ap (λ g. unwrap_or g []) (put f ∙ (λ i. cond (name_ties_back f b i) (Some (group_in old b ++ o ∷ [])) ((out f ∙ (λ j. cond (name_ties_back f b j) None (get name_cmp old f))) i)))
     ∙ by (name_eq f b) refl
   where
     by : (t : Bool) → name_eq f b ≡ t → unwrap_or (cond t (Some (group_in old b ++ o ∷ [])) (cond t None (get name_cmp old f))) [] ≡ group_in old f ++ (if t then o ∷ [] else [])

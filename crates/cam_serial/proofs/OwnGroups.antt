@@ -4,20 +4,13 @@ use Rattle.std.proofs.lemmas.Bool.{true≢false, or_parts}
 use Rattle.std.specs.List.{flat_map}
 use Rattle.cam_names.specs.Names.{name_eq}
 use Rattle.cam_names.specs.declared.name.Name.{Name}
-use Rattle.cam_plain.proofs.Every.{Every}
+use Rattle.cam_names.proofs.Every.{Every}
 use Rattle.cam_serial.proofs.Tops.{stands_in}
 
 -- joined lists that are the same piece by piece
 pub flat_map_same : {X Y : Type 0} (f g : X → List Y) (xs : List X) → Every (λ x. f x ≡ g x) xs → flat_map f xs ≡ flat_map g xs
 flat_map_same f g [] h = refl
 flat_map_same f g (x ∷ xs) h = λ i. h.0 i ++ flat_map_same f g xs h.1 i
-
--- either order of two tests
-pub and_comm : (a b : Bool) → (a && b) ≡ (b && a)
-and_comm true true = refl
-and_comm true false = refl
-and_comm false true = refl
-and_comm false false = refl
 
 -- a name that is not in a list differs from each in it
 pub not_stands_every : (f : Name) (hs : List Name) → stands_in f hs ≡ false → Every (λ h. name_eq h f ≡ false) hs

@@ -15,13 +15,14 @@ use Rattle.cam_event.specs.Live.{site_of, live, start_of}
 use Rattle.cam_event.specs.declared.Deed.{Deed}
 use Rattle.cam_event.specs.declared.Operation.{Operation}
 use Rattle.cam_plain.specs.Legal.{Legal}
-use Rattle.cam_plain.proofs.Ancestry.{family_is_ancestor, all_ancestors, every_ancestor}
+use Rattle.cam_names.proofs.Ancestry.{family_is_ancestor, all_ancestors, every_ancestor}
 use Rattle.cam_plain.proofs.Conflicts.{NotInTheWay, Apart}
 use Rattle.cam_plain.proofs.Deciding.{informed_committed}
-use Rattle.cam_plain.proofs.Every.{Pairs, every_any, every_weaker, pairs_weaker, every_both, pairs_filter, pairs_both, pairs_first, pairs_second}
+use Rattle.cam_names.proofs.Every.{Pairs, every_any, every_weaker, pairs_weaker, every_both, pairs_filter, pairs_both, pairs_first, pairs_second}
 use Rattle.cam_plain.proofs.Performed.{Performed, performed, performed_named}
 use Rattle.cam_serial.proofs.CommitOrder.{Ordered, ordered, swaps_free, first_free, same_free}
-use Rattle.cam_serial.proofs.OwnGroups.{flat_map_same, and_comm, not_stands_every, committed_group_test, own_group_test}
+use Rattle.cam_event.proofs.LiveLaws.{and_comm}
+use Rattle.cam_serial.proofs.OwnGroups.{flat_map_same, not_stands_every, committed_group_test, own_group_test}
 use Rattle.cam_serial.proofs.Sequences.{ReplaysFrom, replays_after}
 use Rattle.cam_serial.proofs.Sorting.{FreeOrder, in_family, compatible_swaps, sorted}
 use Rattle.cam_serial.proofs.Tops.{tops_have, family_top, comes_first, comes_first_append, comes_first_new, stands_in, tops_distinct, tops_and, not_committed_not_in, different}

@@ -10,8 +10,8 @@ use Rattle.cam_type.specs.declared.State.{State}
 use Rattle.cam_event.proofs.Snoc.{replay_append}
 use Rattle.cam_event.specs.Live.{start_of, replay}
 use Rattle.cam_event.specs.declared.Operation.{Operation}
-use Rattle.cam_plain.proofs.Every.{Every, Pairs, every_weaker, every_filter}
-use Rattle.cam_plain.proofs.KeptKinds.{keeping}
+use Rattle.cam_names.proofs.Every.{Every, Pairs, every_weaker, every_filter}
+use Rattle.cam_type.proofs.KeptKinds.{keeping}
 use Rattle.cam_serial.specs.Answering.{step}
 use Rattle.cam_serial.specs.Serial.{on_object, ReplaysAfter}
 

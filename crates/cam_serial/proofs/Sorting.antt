@@ -15,7 +15,7 @@ use Rattle.cam_type.specs.declared.State.TheVariants.{Register}
 use Rattle.cam_event.proofs.Snoc.{filter_filter, filter_same}
 use Rattle.cam_event.specs.Live.{is_fit, start_of}
 use Rattle.cam_event.specs.declared.Operation.{Operation}
-use Rattle.cam_plain.proofs.Every.{Every, Pairs, pairs_weaker, pairs_filter}
+use Rattle.cam_names.proofs.Every.{Every, Pairs, pairs_weaker, pairs_filter}
 use Rattle.cam_serial.proofs.Sequences.{Swaps, ReplaysFrom, OfKind, run, run_kind, pull, replays_parts, replays_append}
 
 -- an op that fits an object fits the kind of its start state

@@ -6,7 +6,7 @@ use Rattle.cam_type.specs.declared.State.{State}
 use Rattle.cam_type.specs.Table.{answer_of, answer_eq}
 use Rattle.cam_event.specs.declared.Operation.{Operation}
 use Rattle.cam_event.specs.Live.{start_of}
-use Rattle.cam_plain.proofs.SameAnswers.{answer_eq_same, answer_eq_refl}
+use Rattle.cam_type.proofs.SameAnswers.{answer_eq_same, answer_eq_refl}
 use Rattle.cam_serial.specs.Answering.{step, answers_from}
 use Rattle.cam_serial.specs.Serial.{Replays}
 use Rattle.cam_serial.proofs.Sequences.{ReplaysFrom, replays_after, replays_before}

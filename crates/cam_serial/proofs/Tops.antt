@@ -11,7 +11,7 @@ use Rattle.cam_event.specs.History.{aborted, committed}
 use Rattle.cam_event.specs.declared.Deed.{Deed}
 use Rattle.cam_event.specs.declared.Deed.TheVariants.{Commit}
 use Rattle.cam_plain.specs.Legal.{Legal}
-use Rattle.cam_plain.proofs.Every.{every_append}
+use Rattle.cam_names.proofs.Every.{every_append}
 use Rattle.cam_serial.proofs.Sorting.{Distinct}
 use Rattle.cam_serial.specs.Serial.{committed_tops}
 

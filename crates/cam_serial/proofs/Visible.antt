@@ -18,11 +18,11 @@ use Rattle.cam_event.specs.declared.Deed.{Deed}
 use Rattle.cam_event.specs.declared.Deed.TheVariants.{Perform, Inform, Crash}
 use Rattle.cam_event.specs.declared.Operation.{Operation}
 use Rattle.cam_plain.specs.Legal.{Legal}
-use Rattle.cam_plain.proofs.Ancestry.{family_ancestor}
+use Rattle.cam_names.proofs.Ancestry.{family_ancestor}
 use Rattle.cam_plain.proofs.Called.{call_fits}
 use Rattle.cam_plain.proofs.Conflicts.{NotInTheWay, Apart, not_in_the_way_more, perform_apart, apart}
 use Rattle.cam_plain.proofs.Deciding.{informed_committed, one_outcome}
-use Rattle.cam_plain.proofs.Every.{Every, Pairs, every_weaker, every_unfilter, pairs_weaker, every_both, pairs_both, pairs_first, pairs_second, every_left}
+use Rattle.cam_names.proofs.Every.{Every, Pairs, every_weaker, every_unfilter, pairs_weaker, every_both, pairs_both, pairs_first, pairs_second, every_left}
 use Rattle.cam_plain.proofs.LiveSteps.{keeps, added, operation, live_step}
 use Rattle.cam_plain.proofs.Performed.{Performed, performed, performed_fits}
 use Rattle.cam_plain.proofs.Secured.{SecuredIfCommitted, secured_committed}

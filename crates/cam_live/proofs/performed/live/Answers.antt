@@ -5,7 +5,7 @@ use Rattle.cam_event.specs.History.{after}
 use Rattle.cam_event.specs.Live.{live}
 use Rattle.cam_live.specs.Tables.{Tells}
 use Rattle.cam_live.specs.Counted.{performed, live_of}
-use Rattle.cam_live.proofs.Histories.{further}
+use Rattle.cam_event.proofs.Snoc.{further}
 use Rattle.cam_live.proofs.Counting.{live_is}
 use Rattle.cam_live.proofs.performed.live.Goals as goal
 

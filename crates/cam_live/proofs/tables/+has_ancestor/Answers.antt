@@ -5,7 +5,7 @@ use Rattle.cam_names.specs.declared.name.Name.{Name}
 use Rattle.cam_names.specs.Names.{ancestors}
 use Rattle.cam_live.specs.Tables.{site_name_cmp}
 use Rattle.cam_know.proofs.Climbs.{ancestors_parent}
-use Rattle.cam_live.proofs.Choosing.{any_last}
+use Rattle.cam_names.proofs.Any.{any_last}
 use Rattle.cam_live.proofs.tables.+has_ancestor.Goals as goal
 
 pub returns-else-has_ancestor : goal.returns-else-has_ancestor

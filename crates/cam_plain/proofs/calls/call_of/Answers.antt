@@ -3,7 +3,7 @@ use Rattle.cam_event.specs.declared.Deed.{Deed}
 use Rattle.cam_event.specs.History.{call_of}
 use Rattle.cam_plain.specs.Facts.{addressed}
 use Rattle.cam_plain.specs.Legal.{history}
-use Rattle.cam_plain.proofs.Histories.{further}
+use Rattle.cam_event.proofs.Snoc.{further}
 use Rattle.cam_plain.proofs.calls.call_of.Goals as goal
 
 pub loop-deed-preserved : goal.loop-deed-preserved

@@ -2,7 +2,7 @@ use Rattle.std.proofs.Common.{◌≡◌, List, take, sym, subst}
 use Rattle.cam_event.specs.declared.Deed.{Deed}
 use Rattle.cam_event.specs.History.{open_children}
 use Rattle.cam_plain.specs.Legal.{history}
-use Rattle.cam_plain.proofs.Histories.{further}
+use Rattle.cam_event.proofs.Snoc.{further}
 use Rattle.cam_plain.proofs.standing.has_open_child.Goals as goal
 
 pub loop-deed-preserved : goal.loop-deed-preserved

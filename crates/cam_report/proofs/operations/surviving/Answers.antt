@@ -3,7 +3,7 @@ use Rattle.cam_event.specs.declared.Deed.{Deed}
 use Rattle.cam_event.specs.Live.{surviving}
 use Rattle.cam_report.specs.declared.sites.SiteFact.TheVariants.{Secured}
 use Rattle.cam_report.specs.Sited.{TellsCalls, TellsSites}
-use Rattle.cam_report.proofs.Gathering.{taken_back}
+use Rattle.cam_base.proofs.Newest.{taken_back}
 use Rattle.cam_report.proofs.operations.surviving.Goals as goal
 
 pub loop-deed-preserved : goal.loop-deed-preserved

@@ -4,7 +4,8 @@ use Rattle.std.specs.BTreeSet.{contains}
 use Rattle.cam_names.specs.declared.name.Name.{Name}
 use Rattle.cam_names.specs.Names.{ancestors}
 use Rattle.cam_report.specs.Sited.{site_name_cmp}
-use Rattle.cam_report.proofs.Siting.{ancestors_below, all_last}
+use Rattle.cam_names.proofs.Any.{all_last}
+use Rattle.cam_report.proofs.Siting.{ancestors_below}
 use Rattle.cam_report.proofs.sites.+has_ancestors.Goals as goal
 
 pub returns-then-has_ancestors : goal.returns-then-has_ancestors

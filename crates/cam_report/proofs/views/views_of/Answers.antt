@@ -1,7 +1,7 @@
 use Rattle.std.proofs.Common.{List, take, reverse, sym, subst}
 use Rattle.cam_event.specs.declared.Deed.{Deed}
 use Rattle.cam_report.specs.Gathered.{TellsValues, TellsViews}
-use Rattle.cam_report.proofs.Gathering.{taken_back}
+use Rattle.cam_base.proofs.Newest.{taken_back}
 use Rattle.cam_report.proofs.Viewing.{views_step}
 use Rattle.cam_report.proofs.views.views_of.Goals as goal
 

@@ -6,7 +6,7 @@ use Rattle.cam_names.specs.declared.name.Name.{Name}
 use Rattle.cam_names.specs.Names.{name_cmp, ancestors}
 use Rattle.cam_know.proofs.Climbs.{ancestors_parent}
 use Rattle.cam_serial.specs.Gathered.{is_above}
-use Rattle.cam_serial.proofs.Gathering.{all_last}
+use Rattle.cam_names.proofs.Any.{all_last}
 use Rattle.cam_serial.proofs.committed.+is_seen.Goals as goal
 
 pub returns-then-is_seen : goal.returns-then-is_seen

@@ -1,7 +1,7 @@
 use Rattle.std.proofs.Common.{◌≡◌, List, take, sym, subst}
 use Rattle.cam_event.specs.declared.Deed.{Deed}
 use Rattle.cam_plain.specs.Legal.{history}
-use Rattle.cam_plain.proofs.Histories.{further}
+use Rattle.cam_event.proofs.Snoc.{further}
 use Rattle.cam_serial.specs.Gathered.{joined}
 use Rattle.cam_serial.proofs.list.joined.Goals as goal
 

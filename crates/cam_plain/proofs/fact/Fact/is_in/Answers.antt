@@ -2,7 +2,7 @@ use Rattle.std.proofs.Common.{◌≡◌, List, take, sym, subst}
 use Rattle.cam_event.specs.declared.Deed.{Deed}
 use Rattle.cam_plain.specs.Facts.{has}
 use Rattle.cam_plain.specs.Legal.{history}
-use Rattle.cam_plain.proofs.Histories.{further}
+use Rattle.cam_event.proofs.Snoc.{further}
 use Rattle.cam_plain.proofs.fact.Fact.is_in.Goals as goal
 
 pub loop-deed-preserved : goal.loop-deed-preserved

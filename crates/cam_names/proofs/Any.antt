@@ -1,12 +1,12 @@
 -- What some element of a list passes, and what is found in one.
-use Rattle.std.proofs.Common.{◌≡◌, inl, inr, Bool, true, false, List, [], ◌∷◌, Some, None, refl, sym, ◌∙◌, subst, ◌⊎◌, cond, ◌++◌, filter, ◌||◌, find}
+use Rattle.std.proofs.Common.{◌≡◌, inl, inr, Bool, true, false, List, [], ◌∷◌, Some, None, refl, sym, ap, ◌∙◌, subst, ◌⊎◌, cond, ◌++◌, filter, ◌||◌, ◌&&◌, find}
 use Rattle.std.proofs.lemmas.Bool.{true≢false, or_cases, or_left, or_right}
 use Rattle.std.proofs.lemmas.Option.{same_Some, none-some}
-use Rattle.std.specs.List.{list_any, flat_map}
+use Rattle.std.specs.List.{list_any, list_all, flat_map}
 use Rattle.cam_names.proofs.Names.{name_eq_same}
 use Rattle.cam_names.specs.Names.{name_eq}
 use Rattle.cam_names.specs.Part.{PartFields}
-use Rattle.cam_plain.proofs.Every.{Every}
+use Rattle.cam_names.proofs.Every.{Every}
 
 -- a fact of some element by a weaker test
 pub any_weaker : {X : Type 0} (p q : X → Bool) (xs : List X) → ((x : X) → p x ≡ true → q x ≡ true) → list_any p xs ≡ true → list_any q xs ≡ true
@@ -92,3 +92,29 @@ lost {X} test keep Fact (x ∷ xs) facts h = by (keep x) refl (or_cases (test x)
     by true e (inr r) rest = elim (rest r) [ inl k ↦ inl (or_right (test x) (list_any test (filter keep xs)) k) | inr l ↦ inr l ]
     by false e (inl y) rest = inr (x, y, e, facts.0)
     by false e (inr r) rest = rest r
+
+-- a test of some element of a list with one more
+pub any_last : {X : Type 0} (test : X → Bool) (xs : List X) (x : X) → list_any test (xs ++ x ∷ []) ≡ (list_any test xs || test x)
+any_last test [] x = last (test x)
+  where
+    last : (b : Bool) → (b || false) ≡ b
+    last true = refl
+    last false = refl
+any_last test (y ∷ ys) x = ap (λ r. test y || r) (any_last test ys x) ∙ grouped (test y) (list_any test ys) (test x)
+  where
+    grouped : (a b c : Bool) → (a || (b || c)) ≡ ((a || b) || c)
+    grouped true b c = refl
+    grouped false b c = refl
+
+-- a test of all elements of a list with one more
+pub all_last : {X : Type 0} (test : X → Bool) (xs : List X) (x : X) → list_all test (xs ++ x ∷ []) ≡ (list_all test xs && test x)
+all_last test [] x = last (test x)
+  where
+    last : (b : Bool) → (b && true) ≡ b
+    last true = refl
+    last false = refl
+all_last test (y ∷ ys) x = ap (λ r. test y && r) (all_last test ys x) ∙ grouped (test y) (list_all test ys) (test x)
+  where
+    grouped : (a b c : Bool) → (a && (b && c)) ≡ ((a && b) && c)
+    grouped true b c = refl
+    grouped false b c = refl

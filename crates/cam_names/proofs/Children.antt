@@ -6,7 +6,7 @@ use Rattle.cam_names.specs.Part.{PartFields, part_eq}
 use Rattle.cam_names.specs.declared.name.Name.{Name}
 use Rattle.cam_names.specs.Names.{name_eq, is_prefix, is_child, parent, before_last}
 use Rattle.cam_names.proofs.Names.{part_eq_same, name_eq_same, name_eq_refl}
-use Rattle.cam_plain.proofs.Ancestry.{before_last_child}
+use Rattle.cam_names.proofs.Ancestry.{before_last_child}
 
 before_last_is : (a b : List PartFields) → is_prefix a b ≡ true → length b ≡ length a + 1 → before_last b ≡ a
 before_last_is [] [] h e = refl
