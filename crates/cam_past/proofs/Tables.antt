@@ -4,7 +4,7 @@ use Rattle.std.specs.Prelude.{slice_get}
 use Rattle.std.specs.Option.{unwrap_or}
 use Rattle.std.proofs.lemmas.Bool.{eqb-true, eq-eqb, ne_eqb, and_parts, false_from_ne_true, cond-true, cond-false}
 use Rattle.std.proofs.lemmas.Bool.Decides.{eqb_tells}
-use Rattle.std.proofs.lemmas.List.{take_more, reverse-append, length-reverse, get_or-set_same, get_or-set_other}
+use Rattle.std.proofs.lemmas.List.{take_more, length-reverse, get_or-set_same, get_or-set_other}
 use Rattle.cam_base.proofs.Newest.{taken_back}
 use Rattle.cam_event.specs.declared.Event.{Event}
 use Rattle.cam_event.specs.Pasts.{last_of, sender_of, in_past}
@@ -38,7 +38,7 @@ nodes_more t e nodes are = record {
 
 -- the nodes of the events, one event further
 pub nodes_further : (events : List Event) (i : ℕ) (e : Event) (nodes nodes' : List ℕ) → i < length events → e ≡ get_or events i e → nodes' ≡ nodes ++ e.node ∷ [] → AreNodes (reverse (take i events)) nodes → AreNodes (reverse (take (i + 1) events)) nodes'
-nodes_taken_back events i e nodes nodes' h is more are =
+nodes_further events i e nodes nodes' h is more are =
     subst (λ (t : List Event). AreNodes t nodes') (sym (taken_back events i e h is))
     (subst (AreNodes (e ∷ reverse (take i events))) (sym more) (nodes_more (reverse (take i events)) e nodes are))
 
@@ -153,7 +153,7 @@ table_length events k table clocks h is = is.long ∙ length-reverse (take k eve
 
 -- a table, one event further
 pub table_further : (events : List Event) (k table : ℕ) (e : Event) (clocks clocks' : List Clock) (clock : Clock) (last : List (Option ℕ)) → k < length events → e ≡ get_or events k e → e.node < 256 → clocks' ≡ clocks ++ clock ∷ [] → ((s : ℕ) → s < 256 → get_or last s None ≡ last_of (reverse (take k events)) s) → ((place : ℕ) → place < 8 → get_or clock.latest place 0 ≡ next_latest clocks table (get_or last e.node None) e place) → IsTable (reverse (take k events)) table clocks → IsTable (reverse (take (k + 1) events)) table clocks'
-table_taken_back events k table e clocks clocks' clock last h is node more told next tabled =
+table_further events k table e clocks clocks' clock last h is node more told next tabled =
     let t : List Event = reverse (take k events) in
     subst (λ (u : List Event). IsTable u table clocks') (sym (taken_back events k e h is))
     (subst (IsTable (e ∷ t) table) (sym more) (table_more t e table clocks clock (get_or last e.node None) tabled node (told e.node node) next))
