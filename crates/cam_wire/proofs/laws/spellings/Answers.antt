@@ -1,12 +1,18 @@
 -- The laws of spellings.
 use Rattle.cam_wire.proofs.Letters.{spellings_are_read, no_spelling_begins_another}
-use Rattle.cam_wire.proofs.Prefixes.{proper_beginnings_are_short, none_begins_another}
+use Rattle.cam_wire.proofs.Prefixes.{bytes_behind_are_rest, faults_stay, proper_beginnings_are_short, none_begins_another}
 use Rattle.cam_wire.proofs.Exactly.{read_is_spelled}
 use Rattle.cam_wire.proofs.Unique.{one_spelling}
 use Rattle.cam_wire.proofs.laws.spellings.Goals as goal
 
 pub returns-clause-read : goal.returns-clause-read
 returns-clause-read c = spellings_are_read
+
+pub returns-clause-rest : goal.returns-clause-rest
+returns-clause-rest c = bytes_behind_are_rest
+
+pub returns-clause-stays : goal.returns-clause-stays
+returns-clause-stays c = faults_stay
 
 pub returns-clause-beginnings : goal.returns-clause-beginnings
 returns-clause-beginnings c = proper_beginnings_are_short
