@@ -6,3 +6,4 @@ pub mod Taken
 pub mod TakenPairs
 pub mod TakenOps
 pub mod FieldLaws
+pub mod Refusing

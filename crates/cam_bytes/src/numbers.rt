@@ -1,5 +1,5 @@
 // Bytes, and numbers of four and of eight bytes, the greatest place first.
-ghost use Rattle.std.specs.Prelude.{◌≡◌, ◌<◌, ◌≤◌, ◌++◌, ◌∷◌, [], length, take, IfOk};
+ghost use Rattle.std.specs.Prelude.{◌≡◌, ◌<◌, ◌≤◌, ◌++◌, ◌∷◌, [], length, take, IfOk, OnOk};
 ghost use Rattle.std.specs.Int.{w32, w64, from_be_bytes, cast_signed};
 ghost use Rattle.cam_bytes.specs.Fields.{number, value};
 ghost use Rattle.cam_bytes.specs.Ranges.{IsFrom};
@@ -125,6 +125,18 @@ pub fn write_number(mut out: Vec<u8>, n: u32) -> Result<Vec<u8>, NoMemory>
 {
     out.extend_from_slice(&n.to_be_bytes())?;
     Ok(out)
+}
+
+/// How many items a field has, as a number of four bytes behind what was written. More than four bytes can tell are answered as want of
+/// memory; it fails else only where memory runs out.
+pub fn write_length(out: Vec<u8>, length: usize) -> Result<Vec<u8>, NoMemory>
+    ensures ok { IfOk result (λ text. text.items ≡ out.items ++ number length) }
+    ensures few { OnOk result (length < 4294967296) }
+{
+    if length > u32::MAX as usize {
+        return Err(NoMemory);
+    }
+    write_number(out, length as u32)
 }
 
 /// A value of eight bytes, written behind what was written. Fails only where memory runs out.

@@ -13,7 +13,7 @@ use crate::reading::VERSION;
 use crate::sorting::{sorted_aborts, sorted_commits};
 use crate::write_body::write_body;
 use cam_base::NoMemory;
-use cam_bytes::{write_byte, write_deps, write_name, write_number, write_pairs};
+use cam_bytes::{write_byte, write_deps, write_length, write_name, write_number, write_pairs};
 use cam_event::Letter;
 use cam_know::Know;
 use cam_names::{Deps, Name};
@@ -35,17 +35,6 @@ fn counts_of(know: &Know) -> [u32; 8]
         know.count(7),
         know.count(8),
     ]
-}
-
-/// How many, as four bytes. More than four bytes can tell are answered as want of memory.
-fn write_length(out: Vec<u8>, length: usize) -> Result<Vec<u8>, NoMemory>
-    ensures ok { IfOk result (λ text. text.items ≡ out.items ++ number length) }
-    ensures few { OnOk result (length < 4294967296) }
-{
-    if length > u32::MAX as usize {
-        return Err(NoMemory);
-    }
-    write_number(out, length as u32)
 }
 
 /// The aborts, written behind what was written.

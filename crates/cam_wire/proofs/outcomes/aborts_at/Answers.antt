@@ -1,8 +1,9 @@
 use Rattle.std.proofs.Common.{◌∙◌, sym, arith, List}
 use Rattle.std.proofs.lemmas.Result.{err_from_is_err_and}
 use Rattle.cam_names.specs.declared.name.Name.{Name}
+use Rattle.cam_bytes.proofs.Refusing.{refused_here, ended_here}
 use Rattle.cam_wire.specs.Reading.{aborts_from, aborts_at}
-use Rattle.cam_wire.proofs.Decoding.{no_aborts, aborts_begin, refused_here, ended_here, no_more_aborts}
+use Rattle.cam_wire.proofs.Decoding.{no_aborts, aborts_begin, no_more_aborts}
 use Rattle.cam_wire.proofs.TakenLists.{took_aborts}
 use Rattle.cam_wire.proofs.outcomes.aborts_at.Goals as goal
 

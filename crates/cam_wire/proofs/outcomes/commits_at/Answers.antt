@@ -1,8 +1,9 @@
 use Rattle.std.proofs.Common.{◌∙◌, sym, arith, List, ℕ}
 use Rattle.std.proofs.lemmas.Result.{err_from_is_err_and}
 use Rattle.cam_names.specs.declared.name.Name.{Name}
+use Rattle.cam_bytes.proofs.Refusing.{refused_here, ended_here}
 use Rattle.cam_wire.specs.Reading.{commits_from, commits_at}
-use Rattle.cam_wire.proofs.Decoding.{no_commits, commits_begin, refused_here, ended_here, no_more_commits}
+use Rattle.cam_wire.proofs.Decoding.{no_commits, commits_begin, no_more_commits}
 use Rattle.cam_wire.proofs.TakenLists.{took_commits}
 use Rattle.cam_wire.proofs.outcomes.commits_at.Goals as goal
 
