@@ -12,7 +12,7 @@ use Rattle.cam_names.specs.Part.{part_cmp}
 use Rattle.cam_names.specs.declared.name.Name.{Name}
 use Rattle.cam_names.specs.Names.{name_cmp, name_eq, is_top, parent, home_node, home_count}
 use Rattle.cam_names.specs.Dependencies.{has_pair}
-use Rattle.cam_names.proofs.Names.{name_eq_same, name_eq_sym}
+use Rattle.cam_names.proofs.Names.{name_eq_same, name_eq_sym, name_ties}
 use Rattle.cam_type.specs.declared.ObjectDecl.{ObjectDecl}
 use Rattle.cam_type.specs.declared.Answer.{Answer}
 use Rattle.cam_event.specs.declared.Deed.{Deed}

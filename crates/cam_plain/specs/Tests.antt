@@ -99,18 +99,28 @@ abbrev pub secure_test : List ObjectDecl → List Deed → Name → ℕ → ℕ 
 secure_test objects L f s c =
     is_top f && (asked_commit L f && (has_pair (deps objects L f) s c && (eqb c (count L s) && (not (secured_at L f s) && handed_up objects L f s))))
 
+-- the tests of what comes of calls, and of what sites do on their own; the other deeds pass
+abbrev pub call_meets : List ObjectDecl → List Deed → Deed → Bool
+call_meets objects L (Call a n x op c) = call_test objects L a n x op c
+call_meets objects L (Perform a n answer) = perform_test objects L a n answer
+call_meets objects L (Bounce a n u) = bounce_test objects L a n u
+call_meets objects L (Got a n seen) = got_test objects L a n seen
+call_meets objects L _ = true
+
+abbrev pub site_meets : List ObjectDecl → List Deed → Deed → Bool
+site_meets objects L (Secure f s c) = secure_test objects L f s c
+site_meets objects L (Inform s a outcome) = inform_test L s a outcome
+site_meets objects L _ = true
+
 -- the test of each deed
 abbrev pub meets : List ObjectDecl → List Deed → Deed → Bool
 meets objects L (Create a) = create_test L a
 meets objects L (Ask a b) = ask_test L a b
-meets objects L (Call a n x op c) = call_test objects L a n x op c
-meets objects L (Perform a n answer) = perform_test objects L a n answer
-meets objects L (Bounce a n u) = bounce_test objects L a n u
-meets objects L (Got a n seen) = got_test objects L a n seen
 meets objects L (AskCommit a v) = ask_commit_test L a
 meets objects L (AskAbort a) = runs L a
 meets objects L (Commit a) = commit_test objects L a
 meets objects L (Abort a) = abort_test L a
-meets objects L (Secure f s c) = secure_test objects L f s c
-meets objects L (Inform s a outcome) = inform_test L s a outcome
-meets objects L (Crash s) = true
+meets objects L (Secure f s c) = site_meets objects L (Secure f s c)
+meets objects L (Inform s a outcome) = site_meets objects L (Inform s a outcome)
+meets objects L (Crash s) = site_meets objects L (Crash s)
+meets objects L d = call_meets objects L d

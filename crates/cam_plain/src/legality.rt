@@ -4,7 +4,7 @@ ghost use Rattle.cam_plain.specs.declared.legality.CheckFault.TheVariants.{NoMem
 ghost use Rattle.cam_plain.specs.Depending.{DependsOn};
 ghost use Rattle.cam_plain.specs.Faults.{IsFault};
 ghost use Rattle.cam_plain.specs.Legal.{Legal, history, cause_of};
-ghost use Rattle.cam_plain.specs.Tests.{meets};
+ghost use Rattle.cam_plain.specs.Tests.{meets, call_meets, site_meets};
 
 use crate::arrivals::{may_bounce, may_perform};
 use crate::calls::AddressedCall;
@@ -97,6 +97,33 @@ fn is_legal(
     match deed {
         Deed::Create { action } => Ok(may_create(before, action)),
         Deed::Ask { action, child } => Ok(may_ask(before, action, child)),
+        Deed::AskCommit { action, .. } => may_ask_commit(alloc, before, action),
+        Deed::AskAbort { action } => Ok(runs(before, action)),
+        Deed::Commit { action } => Ok(may_commit(before, dependencies, action)),
+        Deed::Abort { action } => Ok(may_abort(before, action)),
+        Deed::Secure { .. } | Deed::Inform { .. } | Deed::Crash { .. } => Ok(is_legal_at_site(
+            objects,
+            before,
+            operations,
+            dependencies,
+            deed,
+        )),
+        _ => is_legal_of_call(alloc, objects, before, operations, deed),
+    }
+}
+
+/// Whether a deed of a call, a reply to it or its end, meets its line; any other passes.
+fn is_legal_of_call(
+    alloc: Global,
+    objects: &Objects,
+    before: &[Deed],
+    operations: &Operations,
+    deed: &Deed,
+) -> Result<bool, NoMemory>
+    requires { operations.now ≡ surviving objects.now (history before.now) }
+    ensures { IfOk result (λ legal. legal ≡ call_meets objects.now (history before.now) deed.now) }
+{
+    match deed {
         Deed::Call {
             action,
             number,
@@ -126,15 +153,28 @@ fn is_legal(
             number,
             seen,
         } => Ok(may_get(objects, before, action, *number, seen)),
-        Deed::AskCommit { action, .. } => may_ask_commit(alloc, before, action),
-        Deed::AskAbort { action } => Ok(runs(before, action)),
-        Deed::Commit { action } => Ok(may_commit(before, dependencies, action)),
-        Deed::Abort { action } => Ok(may_abort(before, action)),
+        _ => Ok(true),
+    }
+}
+
+/// Whether a deed that a site does on its own meets its line; any other passes.
+fn is_legal_at_site(
+    objects: &Objects,
+    before: &[Deed],
+    operations: &Operations,
+    dependencies: &Dependencies,
+    deed: &Deed,
+) -> bool
+    requires performed { operations.now ≡ surviving objects.now (history before.now) }
+    requires depending { DependsOn objects.now (history before.now) dependencies.now }
+    ensures { result ≡ site_meets objects.now (history before.now) deed.now }
+{
+    match deed {
         Deed::Secure {
             family,
             site,
             count,
-        } => Ok(may_secure(
+        } => may_secure(
             objects,
             before,
             operations,
@@ -142,12 +182,12 @@ fn is_legal(
             family,
             *site,
             *count,
-        )),
+        ),
         Deed::Inform {
             site,
             name,
             committed,
-        } => Ok(may_inform(before, *site, name, *committed)),
-        Deed::Crash { .. } => Ok(true),
+        } => may_inform(before, *site, name, *committed),
+        _ => true,
     }
 }
