@@ -1,8 +1,8 @@
 -- Whether an ancestor passes a test, by climbing from the action to the top.
-use Rattle.std.proofs.Common.{◌≡◌, ◌≤◌, Bool, true, false, ◌||◌, List, [], ◌∷◌, ◌++◌, length, Some, refl, sym, ap, ◌∙◌, arith}
+use Rattle.std.proofs.Common.{◌≡◌, ◌≤◌, Bool, true, false, ◌||◌, List, length, Some, refl, sym, ap, ◌∙◌}
 use Rattle.std.specs.List.{list_any}
 use Rattle.cam_names.specs.Part.{PartFields}
-use Rattle.cam_names.specs.Names.{ancestors, before_last, parent}
+use Rattle.cam_names.specs.Names.{ancestors, parent}
 use Rattle.cam_names.proofs.Any.{any_last}
 use Rattle.cam_know.proofs.Climbs.{ancestors_parent, ancestors_top, last_ancestor}
 

@@ -1,6 +1,5 @@
 -- Histories of lists of deeds, and of their beginnings.
-use Rattle.std.proofs.Common.{◌≡◌, ℕ, ◌+◌, ◌<◌, Bool, true, false, if◌then◌else◌, List, [], ◌∷◌, ◌++◌, length, take, get_or, refl, sym, ap, ◌∙◌}
-use Rattle.std.proofs.lemmas.List.{take_more}
+use Rattle.std.proofs.Common.{◌≡◌, ℕ, ◌+◌, Bool, true, false, if◌then◌else◌, List, [], ◌∷◌, ◌++◌, refl, ap}
 use Rattle.cam_event.specs.History.{count, is_crash}
 use Rattle.cam_plain.specs.declared.tally.Tally.TheVariants.{Crashes}
 use Rattle.cam_plain.specs.Facts.{tally}
