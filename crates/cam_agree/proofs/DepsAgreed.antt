@@ -30,6 +30,7 @@ use Rattle.cam_plain.proofs.Deciding.{committed_asked}
 use Rattle.cam_cut.proofs.Lists.{in_flat, flat_in}
 use Rattle.cam_cut.proofs.Holds.{RunHolds}
 use Rattle.cam_cut.proofs.Step.{run_holds}
+use Rattle.cam_know.proofs.OrphanBySet.{both_ways}
 use Rattle.cam_agree.proofs.DepsPairs.{counts_same}
 use Rattle.cam_agree.proofs.DepsWhole.{asked_same}
 use Rattle.cam_agree.proofs.DepsKnown.{IsTold, held_tell}
@@ -95,12 +96,6 @@ in_told objects L b h = let found = any_in (is_commit b) L h in by found.0 found
         in_flat (outcome_in objects L) L (Commit a) (Committed b (as_counts (deps objects L b))) i
         (inl (ap (λ x. Committed x (as_counts (deps objects L x))) (name_eq_same b a e)))
     by _ i e = cc
-
-both_ways : (a b : Bool) → (a ≡ true → b ≡ true) → (b ≡ true → a ≡ true) → a ≡ b
-both_ways true true f g = refl
-both_ways true false f g = sym (f refl)
-both_ways false true f g = g refl
-both_ways false false f g = refl
 
 aborts_any : (a : Name) (os : List Outcome) → list_any (outcome_eq (Aborted a)) os ≡ list_any (is_abort_of a) os
 aborts_any a [] = refl

@@ -1,6 +1,6 @@
 -- What one deed adds to what a node keeps of an action's dependencies is what it adds by the definition.
 use Rattle.std.proofs.Common.{◌≡◌, inl, inr, if◌then◌else◌, ℕ, Bool, true, false, ◌&&◌, ◌||◌, List, [], ◌∷◌, ◌++◌, Option, Some, refl, sym, ap, ◌∙◌, subst}
-use Rattle.std.proofs.lemmas.Bool.{or_cases, or_parts, true≢false, false_from_ne_true}
+use Rattle.std.proofs.lemmas.Bool.{or_parts, true≢false, false_from_ne_true}
 use Rattle.cam_names.specs.declared.name.Name.{Name}
 use Rattle.cam_names.specs.Names.{name_eq, is_ancestor, is_child, is_top}
 use Rattle.cam_names.specs.Dependencies.{pairs_of}
@@ -17,7 +17,7 @@ use Rattle.cam_event.specs.ByKnowledge.{start_counts, finish_counts, gained_by}
 use Rattle.cam_event.proofs.Members.{In}
 use Rattle.cam_plain.specs.Lines.{asked_for, MayCommit}
 use Rattle.cam_plain.specs.Legal.{Legal}
-use Rattle.cam_plain.proofs.Performed.{runs_created, created_named}
+use Rattle.cam_plain.proofs.Performed.{runs_created}
 use Rattle.cam_plain.proofs.Decided.{not_top}
 use Rattle.cam_cut.proofs.HomeFacts.{child_parent}
 use Rattle.cam_cut.proofs.LegalFacts.{asked_commit_created}

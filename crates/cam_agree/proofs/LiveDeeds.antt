@@ -1,7 +1,8 @@
 -- What a node keeps of its site stays beside the standing operations through deeds that fit.
-use Rattle.std.proofs.Common.{◌≡◌, ℕ, ◌+◌, Bool, true, false, ◌&&◌, ◌||◌, List, [], ◌∷◌, ◌++◌, map, Option, Some, refl, sym, ap, ◌∙◌, subst}
+use Rattle.std.proofs.Common.{◌≡◌, ℕ, ◌+◌, true, false, ◌&&◌, ◌||◌, List, [], ◌∷◌, ◌++◌, map, Option, Some, sym, ap, ◌∙◌, subst}
 use Rattle.std.specs.List.{list_any}
 use Rattle.std.proofs.lemmas.Bool.{eq-eqb, or_right}
+use Rattle.std.proofs.Math.Bool.{and-true}
 use Rattle.cam_names.specs.declared.name.Name.{Name}
 use Rattle.cam_names.specs.Names.{name_eq, is_ancestor, ancestors, family}
 use Rattle.cam_event.specs.declared.Operation.{Operation}
@@ -56,10 +57,6 @@ pub fit_append : (H : List Deed) (s : ℕ) (L : List Deed) (mail : Option Mail) 
 fit_append H s L mail [] ys h g = g
 fit_append H s L mail (x ∷ xs) ys h g = (h.0, fit_append H s (x ∷ L) mail xs ys h.1 g)
 
-and_true : (b : Bool) → (b && true) ≡ b
-and_true true = refl
-and_true false = refl
-
 stands_one : (H L : List Deed) (s : ℕ) (mail : Option Mail) (S : Site) (d : Deed) → StandsAt H L s S → Fits H s L mail d → StandsAt H (d ∷ L) s (site_after L mail S d)
 stands_one H L s mail S (Perform a n answer) h fits =
     let o : Operation = operation_of a n answer fits.call in
@@ -71,7 +68,7 @@ stands_one H L s mail S (Perform a n answer) h fits =
     subst (λ (os : List Operation). Stands (crashed L) (number_of is_any_perform L + 1) (standing H L s ++ map p (of_call a n answer (call_of H a n))) (λ f. secured_at L f s) (λ u. informed L s u false) (λ u. informed L s u true) (record S { live = S.live ++ map p os })) (sym fits.brought) called
 stands_one H L s mail S (Secure f site c) h fits =
     stands_secure (crashed L) (number_of is_any_perform L) (standing H L s) (λ g. secured_at L g s) (λ g. secured_at (Secure f site c ∷ L) g s) (λ u. informed L s u false) (λ u. informed L s u true) S f h
-    (λ g. ap (λ b. (name_eq g f && b) || secured_at L g s) (eq-eqb s site (sym fits.here)) ∙ ap (λ b. b || secured_at L g s) (and_true (name_eq g f))) fits.fresh fits.to_it
+    (λ g. ap (λ b. (name_eq g f && b) || secured_at L g s) (eq-eqb s site (sym fits.here)) ∙ ap (λ b. b || secured_at L g s) (and-true (name_eq g f))) fits.fresh fits.to_it
 stands_one H L s mail S (Inform site u false) h fits =
     stands_abort (crashed L) (number_of is_any_perform L) (standing H L s) (λ g. secured_at L g s) (λ v. informed L s v false) (λ v. informed L s v true) (λ v. informed (Inform site u false ∷ L) s v false) S u h
     (λ v. ap (λ b. (b && name_eq v u) || informed L s v false) (eq-eqb s site (sym fits.0))) fits.1

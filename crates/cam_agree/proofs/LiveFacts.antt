@@ -4,6 +4,7 @@ use Rattle.std.specs.Prelude.{nat_lt}
 use Rattle.std.specs.List.{list_any}
 use Rattle.std.proofs.lemmas.Bool.{true≢false, lt-ltb, le-ltb, or_left, or_right, cases_Bool, false_from_ne_true}
 use Rattle.std.proofs.lemmas.List.Elements.{filter-append}
+use Rattle.std.proofs.Math.Bool.{and-false}
 use Rattle.cam_names.specs.declared.name.Name.{Name}
 use Rattle.cam_names.specs.Names.{name_eq, is_ancestor, ancestors, family}
 use Rattle.cam_names.proofs.Names.{name_eq_same, name_eq_sym, name_eq_refl, ancestors_any}
@@ -11,7 +12,8 @@ use Rattle.cam_event.proofs.Snoc.{filter_filter, filter_same}
 use Rattle.cam_event.specs.ByKnowledge.{Placed}
 use Rattle.cam_names.proofs.Every.{Every, every_weaker}
 use Rattle.cam_names.proofs.Ancestry.{is_ancestor_self, family_is_ancestor, is_ancestor_trans}
-use Rattle.cam_agree.proofs.LiveLists.{any_or, any_each}
+use Rattle.cam_event.proofs.LiveLaws.{list_any_or}
+use Rattle.cam_agree.proofs.LiveLists.{any_each}
 use Rattle.cam_agree.proofs.LiveOrder.{of_family}
 use Rattle.cam_agree.proofs.LiveStands.{dropped, alive, handed, take_over, HandedUp, names_of}
 
@@ -35,18 +37,18 @@ taken_old c p h = ap (λ (b : Bool). if b then handed p else p) (lt-ltb p.index 
 pub alive_more : (down : Name → Bool) (st : List Placed) (p : Placed) → dropped down p ≡ false → alive down (st ++ p ∷ []) ≡ alive down st ++ p ∷ []
 alive_more down st p h = filter-append (λ q. not (dropped down q)) st (p ∷ []) ∙ ap (λ b. alive down st ++ cond (not b) (p ∷ []) []) h
 
--- one more abort
 not_or : (x y : Bool) → not (x || y) ≡ (not y && not x)
 not_or true true = refl
 not_or true false = refl
 not_or false true = refl
 not_or false false = refl
 
+-- one more abort
 pub alive_abort : (down more : Name → Bool) (u : Name) (st : List Placed) → ((v : Name) → more v ≡ (name_eq v u || down v)) → alive more st ≡ filter (λ p. not (is_ancestor u p.operation.action)) (alive down st)
 alive_abort down more u st h =
     filter_same (λ p. not (dropped more p)) (λ p. not (dropped down p) && not (is_ancestor u p.operation.action)) st (λ p.
     ap not (any_each more (λ v. name_eq v u || down v) (ancestors p.operation.action) h
-    ∙ any_or (λ v. name_eq v u) down (ancestors p.operation.action)
+    ∙ list_any_or (λ v. name_eq v u) down (ancestors p.operation.action)
     ∙ ap (λ b. b || dropped down p) (any_each (λ v. name_eq v u) (name_eq u) (ancestors p.operation.action) (λ v. name_eq_sym v u) ∙ ancestors_any u p.operation.action))
     ∙ not_or (is_ancestor u p.operation.action) (dropped down p))
     ∙ sym (filter_filter (λ p. not (is_ancestor u p.operation.action)) (λ p. not (dropped down p)) st)
@@ -57,13 +59,9 @@ secured_family sec f xs h =
     filter_filter (of_family f) (λ p. sec (family p.operation.action)) xs
     ∙ filter_same (λ p. sec (family p.operation.action) && of_family f p) (of_family f) xs (λ p. by p (of_family f p) refl)
   where
-    and_false : (b : Bool) → (b && false) ≡ false
-    and_false true = refl
-    and_false false = refl
-
     by : (p : Placed) → (b : Bool) → of_family f p ≡ b → (sec (family p.operation.action) && b) ≡ b
     by p true e = ap (λ b. b && true) (subst (λ (a : Name). sec a ≡ true) (name_eq_same f (family p.operation.action) e) h)
-    by p false e = and_false (sec (family p.operation.action))
+    by p false e = and-false (sec (family p.operation.action))
 
 -- each secured family is among the names
 each_among : (gs all : List (Name × List Placed)) → ((f : Name) → list_any (name_eq f) (names_of gs) ≡ true → list_any (name_eq f) (names_of all) ≡ true) → Every (λ g. list_any (name_eq g.0) (names_of all) ≡ true) gs

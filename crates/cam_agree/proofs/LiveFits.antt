@@ -1,7 +1,7 @@
 -- The deeds of each event of a run fit: what the node keeps of its site goes with them.
-use Rattle.std.proofs.Common.{◌≡◌, inl, inr, ℕ, eqb, Bool, true, false, ◌||◌, List, [], ◌∷◌, map, filter, Option, Some, refl, sym, ap, ◌∙◌, subst}
+use Rattle.std.proofs.Common.{◌≡◌, inl, inr, ℕ, eqb, Bool, true, false, List, [], ◌∷◌, map, filter, Option, Some, refl, sym, ap, ◌∙◌, subst}
 use Rattle.std.specs.List.{list_any}
-use Rattle.std.proofs.lemmas.Bool.{true≢false, false_from_ne_true, and_from, eq-eqb}
+use Rattle.std.proofs.lemmas.Bool.{true≢false, false_from_ne_true, and_from, or_parts, eq-eqb}
 use Rattle.std.proofs.lemmas.Option.{same_Some}
 use Rattle.cam_names.specs.declared.name.Name.{Name}
 use Rattle.cam_names.specs.Names.{name_eq, is_ancestor, ancestors, family}
@@ -105,11 +105,12 @@ perform_fits objects t s got H a n answer b legal test = record {
     uncommitted : list_any (committed M) (ancestors a) ≡ false
     uncommitted = sym (any_each (sight_by objects t s (first_informs t s got) (base_of t s got)).knows_commit (committed M) (ancestors a) (λ u. b.sees.knows_commit u)) ∙ test.uncommitted
 
--- a Secure fits
-every_map : {X Y : Type 0} (P : Y → Type 0) (f : X → Y) (xs : List X) → Every P (map f xs) → Every (λ x. P (f x)) xs
-every_map P f [] h = tt
-every_map P f (x ∷ xs) h = (h.0, every_map P f xs h.1)
+-- what holds of each image holds of each element
+every_unmap : {X Y : Type 0} (P : Y → Type 0) (f : X → Y) (xs : List X) → Every P (map f xs) → Every (λ x. P (f x)) xs
+every_unmap P f [] h = tt
+every_unmap P f (x ∷ xs) h = (h.0, every_unmap P f xs h.1)
 
+-- a Secure fits
 pub secure_fits : (objects : List ObjectDecl) (t : List Event) (s : ℕ) (got : Option LetterId) (H : List Deed) (f : Name) (site c : ℕ) → Before objects t s got H → Legal objects (Secure f site c ∷ with_first t s got (base_of t s got)) → site ≡ s → FitsSecure H s (own_of t s got) f site
 secure_fits objects t s got H f site c b legal here = record {
   here = here;
@@ -134,7 +135,7 @@ secure_fits objects t s got H f site c b legal here = record {
 
     lifted : Every (λ p. of_family f p ≡ true → is_lift f (lift M s p.operation.action) ≡ true) kept
     lifted =
-        every_map (λ o. name_eq f (family o.action) ≡ true → is_lift f (lift M s o.action) ≡ true) operation kept
+        every_unmap (λ o. name_eq f (family o.action) ≡ true → is_lift f (lift M s o.action) ≡ true) operation kept
         (every_unfilter (λ o. name_eq f (family o.action)) (λ o. is_lift f (lift M s o.action) ≡ true) (map operation kept)
         (subst (λ (os : List Operation). Every (λ o. is_lift f (lift M s o.action) ≡ true) (filter (λ o. name_eq f (family o.action)) os)) b.live
         (every_list_all (λ o. is_lift f (lift M s o.action)) (filter (λ o. name_eq f (family o.action)) (live_at objects M s)) line.handed_up)))
@@ -168,8 +169,4 @@ shape_fits objects t s got H P ds b (Aborts a) legal placed tests = (tt, ((refl,
     M = with_first t s got (base_of t s got)
 
     undone : informed (Abort a ∷ own_of t s got) s a true ≡ false
-    undone = b.sees.same_told a true ∙ b.sees.told a true ∙ first (committed M a) (aborted M a) legal.1.0.undecided
-      where
-        first : (x y : Bool) → (x || y) ≡ false → x ≡ false
-        first true y e = e
-        first false y e = refl
+    undone = b.sees.same_told a true ∙ b.sees.told a true ∙ (or_parts (committed M a) (aborted M a) legal.1.0.undecided).0

@@ -2,7 +2,8 @@
 use Rattle.std.proofs.Common.{◌≡◌, inl, inr, cond, ℕ, ◌<◌, Bool, true, false, not, ◌&&◌, ◌||◌, if◌then◌else◌, List, [], ◌∷◌, map, filter, refl, sym, ap, ◌∙◌, arith, subst}
 use Rattle.std.specs.Prelude.{nat_lt, flat_map}
 use Rattle.std.specs.List.{list_any}
-use Rattle.std.proofs.lemmas.Bool.{true≢false, or_right, or_cases, false_from_ne_true}
+use Rattle.std.proofs.lemmas.Bool.{true≢false, or_right, or_cases, false_from_ne_true, not-true}
+use Rattle.std.proofs.Math.Bool.{and-false}
 use Rattle.cam_names.specs.declared.name.Name.{Name}
 use Rattle.cam_names.specs.Names.{name_eq, is_ancestor, ancestors, family}
 use Rattle.cam_names.proofs.Names.{name_eq_same, name_eq_sym}
@@ -80,26 +81,18 @@ order_handed [] = refl
 order_handed (p ∷ ps) = ap (put_placed (handed p)) (order_handed ps) ∙ put_handed p (in_order ps)
 
 -- some of the names still stand once each
-and_false : (b : Bool) → (b && false) ≡ false
-and_false true = refl
-and_false false = refl
-
 distinct_filter : (q : Name → Bool) (fs : List Name) → Distinct fs → Distinct (filter q fs)
 distinct_filter q [] h = tt
 distinct_filter q (f ∷ fs) h = elim (q f) as (λ b. Distinct (cond b (f ∷ filter q fs) (filter q fs))) [
-  | true ↦ (any_filter_name q f fs ∙ ap (λ b. q f && b) h.0 ∙ and_false (q f), distinct_filter q fs h.1)
+  | true ↦ (any_filter_name q f fs ∙ ap (λ b. q f && b) h.0 ∙ and-false (q f), distinct_filter q fs h.1)
   | false ↦ distinct_filter q fs h.1
 ]
-
-not_true : (b : Bool) → not b ≡ true → b ≡ false
-not_true true h = cc
-not_true false h = refl
 
 -- of an operation that is not dropped the family is not aborted
 family_stays : (down : Name → Bool) (p : Placed) → is_ancestor p.operation.action p.operation.action ≡ true → not (dropped down p) ≡ true → down (family p.operation.action) ≡ false
 family_stays down p named h = false_from_ne_true (down (family p.operation.action)) (λ y.
     let a : Name = p.operation.action in
-    true≢false (sym (in_any down (ancestors a) (family a) (ancestors_in a (family a) (family_is_ancestor a a named)) y) ∙ not_true (dropped down p) h))
+    true≢false (sym (in_any down (ancestors a) (family a) (ancestors_in a (family a) (family_is_ancestor a a named)) y) ∙ not-true (dropped down p) h))
 
 -- A crash leaves the operations of the secured families that are not aborted, in their order.
 pub stands_crash : (c n : ℕ) (st : List Placed) (sec down up : Name → Bool) (S : Site) → Stands c n st sec down up S
@@ -135,7 +128,7 @@ stands_crash c n st sec down up S h = record {
     each : flat_map (λ g. map (for_family g.0) g.1) left ≡ map handed (flat_map (λ g. filter (of_family g.0) (alive down st)) left)
     each =
         flat_each (λ g. map (for_family g.0) g.1) (λ g. map handed (filter (of_family g.0) (alive down st))) left
-        (every_weaker (λ g. IsKept down st g × (not (down g.0) ≡ true)) (λ g. map (for_family g.0) g.1 ≡ map handed (filter (of_family g.0) (alive down st))) left (λ g k. k.0 (not_true (down g.0) k.1))
+        (every_weaker (λ g. IsKept down st g × (not (down g.0) ≡ true)) (λ g. map (for_family g.0) g.1 ≡ map handed (filter (of_family g.0) (alive down st))) left (λ g k. k.0 (not-true (down g.0) k.1))
         (every_kept (λ g. not (down g.0)) (IsKept down st) S.secured h.groups))
         ∙ sym (map_flat handed (λ g. filter (of_family g.0) (alive down st)) left)
 

@@ -3,7 +3,7 @@ use Rattle.std.proofs.Common.{◌≡◌, cond, Bool, true, false, ◌||◌, List
 use Rattle.std.specs.Prelude.{flat_map, find, Some, option_map}
 use Rattle.std.specs.List.{list_any}
 use Rattle.std.proofs.lemmas.List.{map-append}
-use Rattle.cam_names.proofs.Every.{Every}
+use Rattle.cam_names.proofs.Every.{Every, every_weaker, every_filter}
 
 -- where two tests give the same of each element, they keep the same
 pub filter_each : {X : Type 0} (p q : X → Bool) (xs : List X) → Every (λ x. p x ≡ q x) xs → filter p xs ≡ filter q xs
@@ -43,23 +43,8 @@ every_kept test P (x ∷ xs) h = by (every_kept test P xs h.1) (test x) refl
     by ih true e = ((h.0, e), ih)
     by ih false e = ih
 
-pub every_left : {X : Type 0} (P Q : X → Type 0) (xs : List X) → Every (λ x. P x × Q x) xs → Every P xs
-every_left P Q [] h = tt
-every_left P Q (x ∷ xs) h = (h.0.0, every_left P Q xs h.1)
-
 pub every_filtered : {X : Type 0} (test : X → Bool) (P : X → Type 0) (xs : List X) → Every P xs → Every P (filter test xs)
-every_filtered test P xs h = every_left P (λ x. test x ≡ true) (filter test xs) (every_kept test P xs h)
-
--- a test of one or the other
-pub any_or : {X : Type 0} (p q : X → Bool) (xs : List X) → list_any (λ x. p x || q x) xs ≡ (list_any p xs || list_any q xs)
-any_or p q [] = refl
-any_or p q (x ∷ xs) = ap (λ r. (p x || q x) || r) (any_or p q xs) ∙ or_swap (p x) (q x) (list_any p xs) (list_any q xs)
-  where
-    or_swap : (a b c d : Bool) → ((a || b) || (c || d)) ≡ ((a || c) || (b || d))
-    or_swap true b c d = refl
-    or_swap false true true d = refl
-    or_swap false true false d = refl
-    or_swap false false c d = refl
+every_filtered test P xs h = every_filter test P xs (every_weaker P (λ x. test x ≡ true → P x) xs (λ x p e. p) h)
 
 pub any_each : {X : Type 0} (p q : X → Bool) (xs : List X) → ((x : X) → p x ≡ q x) → list_any p xs ≡ list_any q xs
 any_each p q [] h = refl
@@ -69,10 +54,6 @@ any_each p q (x ∷ xs) h = λ i. h x i || any_each p q xs h i
 pub find_map : {X Y : Type 0} (q : Y → Bool) (f : X → Y) (xs : List X) → find q (map f xs) ≡ option_map f (find (λ x. q (f x)) xs)
 find_map q f [] = refl
 find_map {X} {Y} q f (x ∷ xs) = elim (q (f x)) as (λ b. cond b (Some (f x)) (find q (map f xs)) ≡ option_map f (cond b (Some x) (find (λ y. q (f y)) xs))) [ true ↦ refl | false ↦ find_map q f xs ]
-
-pub find_each : {X : Type 0} (p q : X → Bool) (xs : List X) → Every (λ x. p x ≡ q x) xs → find p xs ≡ find q xs
-find_each p q [] h = refl
-find_each p q (x ∷ xs) h = λ i. cond (h.0 i) (Some x) (find_each p q xs h.1 i)
 
 pub any_map : {X Y : Type 0} (q : Y → Bool) (f : X → Y) (xs : List X) → list_any q (map f xs) ≡ list_any (λ x. q (f x)) xs
 any_map q f [] = refl

@@ -1,5 +1,5 @@
 -- On runs both readings have a site's live operations alike.
-use Rattle.std.proofs.Common.{◌≡◌, inl, inr, ℕ, ◌<◌, Bool, true, false, not, ◌&&◌, if◌then◌else◌, List, [], ◌∷◌, ◌++◌, length, map, find, reverse, Option, Some, None, is_some, refl, sym, ap, ◌∙◌, subst}
+use Rattle.std.proofs.Common.{◌≡◌, inl, inr, ℕ, ◌<◌, Bool, true, false, not, ◌&&◌, if◌then◌else◌, List, [], ◌∷◌, ◌++◌, map, find, reverse, Option, None, refl, sym, ap, ◌∙◌, subst}
 use Rattle.std.specs.Prelude.{nat_lt}
 use Rattle.std.proofs.lemmas.Bool.{and_from, ltb-true}
 use Rattle.std.proofs.lemmas.List.{reverse-append}
@@ -13,22 +13,21 @@ use Rattle.cam_event.specs.declared.LetterId.{LetterId}
 use Rattle.cam_event.specs.declared.Event.{Event}
 use Rattle.cam_event.specs.declared.Deed.{Deed}
 use Rattle.cam_event.specs.History.{after, informed, secured_at}
-use Rattle.cam_event.specs.Pasts.{in_base, plain_all, IsEarlier}
-use Rattle.cam_event.specs.Inputs.{Mail, letter_at}
+use Rattle.cam_event.specs.Pasts.{in_base, plain_all}
 use Rattle.cam_event.specs.Sights.{Sight, entries, own_deeds}
 use Rattle.cam_event.specs.ByPast.{first_informs, sight}
 use Rattle.cam_event.specs.Runs.{IsRun}
 use Rattle.cam_event.specs.Agreement.{IsSent}
 use Rattle.cam_event.specs.ByKnowledge.{Placed, of_node, carried_of, site, site_after_all}
-use Rattle.cam_event.proofs.Members.{In, in_new, in_old, event_below}
+use Rattle.cam_event.proofs.Members.{In, in_new, in_old}
 use Rattle.cam_event.proofs.OwnSteps.{entries_same}
 use Rattle.cam_event.proofs.SameInforms.{informs_agree}
 use Rattle.cam_names.proofs.Every.{Every, every_weaker, every_both}
 use Rattle.cam_plain.proofs.Deciding.{one_outcome}
+use Rattle.cam_event.proofs.SameOutcomes.{sent_earlier}
 use Rattle.cam_cut.proofs.FirstInforms.{first_told}
 use Rattle.cam_cut.proofs.SecureLines.{in_ancestors}
 use Rattle.cam_cut.proofs.Lists.{in_image, in_reverse}
-use Rattle.cam_cut.proofs.Families.{sent_by}
 use Rattle.cam_cut.proofs.Holds.{RunHolds, IsPart, base_part}
 use Rattle.cam_cut.proofs.Parts.{base_of, first_is}
 use Rattle.cam_cut.proofs.SeesRun.{own_of}
@@ -41,7 +40,6 @@ use Rattle.cam_agree.proofs.LiveDeeds.{stands_all}
 use Rattle.cam_agree.proofs.LiveHere.{operation}
 use Rattle.cam_agree.proofs.LiveFits.{OneOutcome, informs_fit}
 use Rattle.cam_agree.proofs.LiveRun.{base_live, site_stands}
-use Rattle.cam_agree.proofs.OrphanPairs.{sent_earlier}
 
 -- what a search passes over
 find_behind : {X : Type 0} (test : X → Bool) (xs ys : List X) → ((x : X) → In x xs → test x ≡ false) → find test (xs ++ ys) ≡ find test ys

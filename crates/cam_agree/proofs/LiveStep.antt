@@ -2,7 +2,8 @@
 use Rattle.std.proofs.Common.{◌≡◌, cond, ℕ, ◌+◌, ◌<◌, Bool, true, false, not, ◌&&◌, ◌||◌, if◌then◌else◌, List, [], ◌∷◌, ◌++◌, map, filter, refl, sym, ap, ◌∙◌, arith, subst}
 use Rattle.std.specs.Prelude.{nat_lt}
 use Rattle.std.specs.List.{list_any}
-use Rattle.std.proofs.lemmas.Bool.{true≢false, ltb-true, false_from_ne_true}
+use Rattle.std.proofs.lemmas.Bool.{true≢false, ltb-true, or_parts, false_from_ne_true}
+use Rattle.std.proofs.Math.Bool.{and-false}
 use Rattle.std.proofs.lemmas.List.Elements.{filter-append}
 use Rattle.cam_names.specs.declared.name.Name.{Name}
 use Rattle.cam_names.specs.Names.{name_eq, is_ancestor, ancestors, family}
@@ -130,25 +131,17 @@ stands_abort c n st sec down up more S u h is absent = record {
         ∙ filter_each (λ p. not (is_ancestor u p.operation.action) && of_family g.0 p) (of_family g.0) (alive down st) (every_weaker Fact (λ p. (not (is_ancestor u p.operation.action) && of_family g.0 p) ≡ of_family g.0 p) (alive down st) stays facts))
         ∙ ap (filter (of_family g.0)) (sym fewer))
       where
-        parts : (b d : Bool) → (b || d) ≡ false → (b ≡ false) × (d ≡ false)
-        parts false d e = (refl, e)
-        parts true d e = cc
-
         both : (name_eq g.0 u ≡ false) × (down g.0 ≡ false)
-        both = parts (name_eq g.0 u) (down g.0) (sym (is g.0) ∙ gone)
+        both = or_parts (name_eq g.0 u) (down g.0) (sym (is g.0) ∙ gone)
 
         old_gone : down g.0 ≡ false
         old_gone = both.1
-
-        and_false : (b : Bool) → (b && false) ≡ false
-        and_false true = refl
-        and_false false = refl
 
         stays : (p : Placed) → Fact p → (not (is_ancestor u p.operation.action) && of_family g.0 p) ≡ of_family g.0 p
         stays p k = by (of_family g.0 p) refl
           where
             by : (b : Bool) → of_family g.0 p ≡ b → (not (is_ancestor u p.operation.action) && b) ≡ b
-            by false e = and_false (not (is_ancestor u p.operation.action))
+            by false e = and-false (not (is_ancestor u p.operation.action))
             by true e = ap (λ b. not b && true) (false_from_ne_true (is_ancestor u p.operation.action) (λ y.
                 let mine : g.0 ≡ family p.operation.action = name_eq_same g.0 (family p.operation.action) e in
                 let other : name_eq u (family p.operation.action) ≡ false = name_eq_sym u (family p.operation.action) ∙ subst (λ (x : Name). name_eq x u ≡ false) mine both.0 in

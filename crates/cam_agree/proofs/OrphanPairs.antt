@@ -1,6 +1,6 @@
 -- On runs the orphan test by what a node knows answers what the definition answers over its base, for an action that is not known
 -- committed and the pairs on which it depends.
-use Rattle.std.proofs.Common.{◌≡◌, ◌⊎◌, inl, inr, if◌then◌else◌, ℕ, Bool, true, false, List, [], length, Option, Some, None, refl, sym, ◌∙◌, subst, arith}
+use Rattle.std.proofs.Common.{◌≡◌, ◌⊎◌, inl, inr, if◌then◌else◌, ℕ, Bool, true, false, List, [], length, Option, refl, sym, ◌∙◌, subst, arith}
 use Rattle.std.specs.Prelude.{flat_map}
 use Rattle.cam_names.specs.declared.name.Name.{Name}
 use Rattle.cam_names.specs.Names.{is_ancestor, ancestors, is_child, is_top}
@@ -16,13 +16,13 @@ use Rattle.cam_event.specs.declared.Deed.{Deed}
 use Rattle.cam_event.specs.History.{committed, aborted}
 use Rattle.cam_event.specs.Gained.{deps}
 use Rattle.cam_event.specs.Orphans.{orphan}
-use Rattle.cam_event.specs.Pasts.{in_base, plain_all, every, IsEarlier}
+use Rattle.cam_event.specs.Pasts.{in_base, plain_all, every}
 use Rattle.cam_event.specs.Inputs.{mail_got}
 use Rattle.cam_event.specs.ByKnowledge.{of_node, held, carried_by, carried_of}
 use Rattle.cam_event.specs.Agreement.{IsSent, KnowsItsBase, known_at}
 use Rattle.cam_event.specs.Runs.{IsRun}
 use Rattle.cam_event.proofs.Members.{In, in_append, in_left, in_right, plain_more}
-use Rattle.cam_event.proofs.SameOutcomes.{sent_below}
+use Rattle.cam_event.proofs.SameOutcomes.{sent_earlier}
 use Rattle.cam_event.proofs.Base.{knowledge_is_the_past}
 use Rattle.cam_plain.specs.Lines.{asked_for}
 use Rattle.cam_plain.specs.Legal.{Legal}
@@ -43,11 +43,6 @@ use Rattle.cam_agree.proofs.DepsKnown.{IsTold, held_tell}
 use Rattle.cam_agree.proofs.DepsAgreed.{commit_known, known_commit}
 use Rattle.cam_agree.proofs.OrphanCover.{OfChild, Covered, covers, child_gives}
 use Rattle.cam_agree.proofs.OrphanSame.{tested, defined, test_same}
-
--- a letter that was sent was sent by an earlier event
-pub sent_earlier : (t : List Event) (got : Option LetterId) → IsSent t got → IsEarlier (length t) got
-sent_earlier t None h = tt
-sent_earlier t (Some letter) h = sent_below t letter h
 
 -- what is asked of the action and of the pairs that it has visited
 pub record IsTested (objects : List ObjectDecl) (B : List Deed) (a : Name) (visited : List (ℕ × ℕ)) : Type 0 where

@@ -66,14 +66,14 @@ child_open objects (Abort c ∷ L) u b legal h =
 child_open objects (_ ∷ L) u b legal h = child_open objects L u b legal.1 h
 
 -- what is decided stays so
-decided_more : (L : List Deed) (d : Deed) (b : Name) → decided L b ≡ true → decided (d ∷ L) b ≡ true
+pub decided_more : (L : List Deed) (d : Deed) (b : Name) → decided L b ≡ true → decided (d ∷ L) b ≡ true
 decided_more L d b h = elim (or_cases (committed L b) (aborted L b) h) [
   | inl y ↦ or_left (committed (d ∷ L) b) (aborted (d ∷ L) b) (or_right (is_commit b d) (committed L b) y)
   | inr n ↦ or_right (committed (d ∷ L) b) (aborted (d ∷ L) b) (or_right (is_abort b d) (aborted L b) n)
 ]
 
 -- where no child is open none is in the list of open ones
-no_open : (xs : List Name) (b : Name) → not (is_empty xs) ≡ false → list_any (name_eq b) xs ≡ true → ⊥
+pub no_open : (xs : List Name) (b : Name) → not (is_empty xs) ≡ false → list_any (name_eq b) xs ≡ true → ⊥
 no_open [] b h g = cc
 no_open (x ∷ xs) b h g = cc
 
