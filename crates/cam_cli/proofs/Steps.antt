@@ -7,8 +7,8 @@ use Rattle.std.proofs.lemmas.Option.{slice_get-get_or}
 use Rattle.cam_event.specs.Readings.{by_knowledge}
 use Rattle.cam_script.specs.declared.Script.{Script}
 use Rattle.cam_script.specs.declared.Step.{Step}
-use Rattle.cam_cluster.specs.Running.{Running, start}
-use Rattle.cam_cluster.specs.Run.{act, after_line, run_steps, run}
+use Rattle.cam_runs.specs.Running.{Running, start}
+use Rattle.cam_runs.specs.Run.{act, after_line, run_steps, run}
 use Rattle.cam_cluster.specs.Contract.{ClusterState, IsNextStep, after_step}
 
 -- what the steps from a place on lead to

@@ -13,8 +13,8 @@ use Rattle.cam_words.specs.declared.fault.ScriptFault.{ScriptFault}
 use Rattle.cam_words.specs.declared.fault.ScriptFault.TheVariants.{Bad, NoMemory}
 use Rattle.cam_script.specs.Built.{first_path}
 use Rattle.cam_script.specs.Grammar.{read_script, as_unknown_line}
-use Rattle.cam_cluster.specs.Running.{Running}
-use Rattle.cam_cluster.specs.Run.{run}
+use Rattle.cam_runs.specs.Running.{Running}
+use Rattle.cam_runs.specs.Run.{run}
 use Rattle.cam_report.specs.Report.{report}
 use Rattle.cam_cli.specs.Texts.{usage_text, read_fault_text, refused_text}
 

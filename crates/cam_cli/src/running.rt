@@ -3,7 +3,7 @@ ghost use Rattle.cam_event.specs.Readings.{by_knowledge};
 ghost use Rattle.cam_script.specs.Law.{IsScript};
 ghost use Rattle.cam_script.specs.FirstPath.{IsFirstPath};
 ghost use Rattle.cam_cluster.specs.Contract.{IsNextStep, after_step};
-ghost use Rattle.cam_cluster.specs.Run.{run};
+ghost use Rattle.cam_runs.specs.Run.{run};
 ghost use Rattle.cam_cli.specs.Answer.{script_report};
 
 use cam_base::NoMemory;

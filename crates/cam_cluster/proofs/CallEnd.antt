@@ -23,7 +23,7 @@ use Rattle.cam_cluster.specs.declared.LineDone.{LineDone}
 use Rattle.cam_cluster.specs.declared.parts.Found.{Found}
 use Rattle.cam_cluster.specs.declared.parts.Parts.{Parts}
 use Rattle.cam_cluster.specs.Contract.{ClusterState, IsDone, taken}
-use Rattle.cam_cluster.specs.Requests.{Refused, variable, of_variable, unless_refused, led_asking, requested, take_request}
+use Rattle.cam_runs.specs.Requests.{Refused, variable, of_variable, unless_refused, led_asking, requested, take_request}
 use Rattle.cam_cluster.specs.Lines.{call_event}
 use Rattle.cam_cluster.specs.FirstPath.{is_node}
 use Rattle.cam_cluster.specs.Nodes.{place_of, found, NodeState, node_state}

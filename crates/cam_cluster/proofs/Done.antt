@@ -18,9 +18,9 @@ use Rattle.cam_script.specs.declared.Script.{Script}
 use Rattle.cam_script.specs.declared.Step.{Step}
 use Rattle.cam_script.specs.declared.Act.TheVariants as acts
 use Rattle.cam_cluster.specs.Contract.{ClusterState, refused_by, IsDone, IsRefused}
-use Rattle.cam_cluster.specs.Running.{letter_of, deliver}
-use Rattle.cam_cluster.specs.Requests.{Refused, Led, variable, of_variable, of_letter, unless_refused, led_asking, asked_in, created_in, requested, take_request}
-use Rattle.cam_cluster.specs.Run.{act, after_line}
+use Rattle.cam_runs.specs.Running.{letter_of, deliver}
+use Rattle.cam_runs.specs.Requests.{Refused, Led, variable, of_variable, of_letter, unless_refused, led_asking, asked_in, created_in, requested, take_request}
+use Rattle.cam_runs.specs.Run.{act, after_line}
 use Rattle.cam_cluster.specs.Keeps.{Kept, seen}
 use Rattle.cam_cluster.proofs.Letters.{reverse_more}
 

@@ -11,7 +11,7 @@ use Rattle.cam_script.specs.declared.Script.{Script}
 use Rattle.cam_script.specs.declared.Act.TheVariants as acts
 use Rattle.cam_cluster.specs.declared.LineDone.{LineDone}
 use Rattle.cam_cluster.specs.Contract.{ClusterState, IsDone}
-use Rattle.cam_cluster.specs.Running.{letter_of}
+use Rattle.cam_runs.specs.Running.{letter_of}
 use Rattle.cam_cluster.specs.Keeps.{Kept, seen, Keeps}
 use Rattle.cam_cluster.proofs.Letters.{reverse_more}
 use Rattle.cam_cluster.proofs.Done.{deliver_done}

@@ -13,7 +13,7 @@ use Rattle.cam_event.specs.declared.Sent.{Sent}
 use Rattle.cam_event.specs.Inputs.{Mail, event_at, mail_of, letter_at}
 use Rattle.cam_event.proofs.Members.{event_below}
 use Rattle.cam_cluster.specs.FirstPath.{is_first_deed, is_first_sent, is_first_event, are_first}
-use Rattle.cam_cluster.specs.Running.{ids_from, letters}
+use Rattle.cam_runs.specs.Running.{ids_from, letters}
 use Rattle.cam_cluster.proofs.Served.{if_so, if_not}
 
 -- a place in two lists one behind the other

@@ -17,8 +17,8 @@ use Rattle.cam_cluster.specs.declared.LineDone.{LineDone}
 use Rattle.cam_cluster.specs.declared.LineFault.{LineFault}
 use Rattle.cam_cluster.specs.declared.LineFault.TheVariants as line_faults
 use Rattle.cam_cluster.specs.Contract.{ClusterState, taken, IsWanting, IsLine}
-use Rattle.cam_cluster.specs.Running.{letter_of, deliver}
-use Rattle.cam_cluster.specs.Requests.{Refused, Led, of_letter}
+use Rattle.cam_runs.specs.Running.{letter_of, deliver}
+use Rattle.cam_runs.specs.Requests.{Refused, Led, of_letter}
 use Rattle.cam_cluster.specs.Changes.{IsRefusedBy}
 use Rattle.cam_cluster.specs.FirstPath.{is_node, is_bound_here}
 use Rattle.cam_cluster.specs.Keeps.{Kept, Keeps}

@@ -22,7 +22,7 @@ use Rattle.cam_script.specs.declared.Script.{Script}
 use Rattle.cam_cluster.specs.declared.delivery.Delivery.{Delivery}
 use Rattle.cam_cluster.specs.declared.site.Asked.{Asked}
 use Rattle.cam_cluster.specs.Contract.{ClusterState}
-use Rattle.cam_cluster.specs.Running.{letters, letter_of, has_number}
+use Rattle.cam_runs.specs.Running.{letters, letter_of, has_number}
 use Rattle.cam_cluster.specs.FirstPath.{is_node, is_first_reply, is_first_body}
 use Rattle.cam_cluster.specs.Deliveries.{sent_of, IsComing, IsCallComing}
 use Rattle.cam_cluster.specs.declared.parts.Parts.{Parts}

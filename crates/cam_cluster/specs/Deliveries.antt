@@ -22,7 +22,7 @@ use Rattle.cam_cluster.specs.declared.site.Served.{Served}
 use Rattle.cam_cluster.specs.declared.node.OpenCall.{OpenCall}
 use Rattle.cam_cluster.specs.declared.parts.Found.{Found}
 use Rattle.cam_cluster.specs.Contract.{ClusterState}
-use Rattle.cam_cluster.specs.Running.{letter_of}
+use Rattle.cam_runs.specs.Running.{letter_of}
 use Rattle.cam_cluster.specs.Served.{performed, holder_of}
 use Rattle.cam_cluster.specs.Nodes.{found, IsFound, NodeState}
 use Rattle.cam_cluster.specs.Keeps.{Kept}

@@ -10,7 +10,7 @@ use Rattle.cam_script.specs.Law.{IsScript}
 use Rattle.cam_script.specs.FirstPath.{IsFirstPath}
 use Rattle.cam_cluster.specs.declared.parts.Parts.{Parts}
 use Rattle.cam_cluster.specs.Contract.{ClusterState}
-use Rattle.cam_cluster.specs.Running.{letters}
+use Rattle.cam_runs.specs.Running.{letters}
 use Rattle.cam_cluster.specs.FirstPath.{are_first, is_bound_here}
 use Rattle.cam_cluster.specs.Nodes.{NodeState, node_state, NodesStand, is_few}
 

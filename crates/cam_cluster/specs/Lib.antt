@@ -1,7 +1,3 @@
-pub mod Running
-pub mod Requests
-pub mod Playing
-pub mod Run
 pub mod Contract
 pub mod Parts
 pub mod FirstPath

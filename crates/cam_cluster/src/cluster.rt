@@ -1,5 +1,5 @@
 ghost use Rattle.std.specs.Prelude.{◌≡◌};
-ghost use Rattle.cam_cluster.specs.Requests.{variable};
+ghost use Rattle.cam_runs.specs.Requests.{variable};
 ghost use Rattle.cam_cluster.specs.Changes.{IsRefusedBy};
 ghost use Rattle.cam_cluster.specs.Contract.{IsTrace, IsRunRecord};
 

@@ -4,7 +4,7 @@ ghost use Rattle.cam_event.specs.ByKnowledge.{next_held};
 ghost use Rattle.cam_event.specs.Readings.{by_knowledge};
 ghost use Rattle.cam_script.specs.declared.Act.TheVariants as acts;
 ghost use Rattle.cam_cluster.specs.Contract.{IsLine};
-ghost use Rattle.cam_cluster.specs.Running.{letter_of};
+ghost use Rattle.cam_runs.specs.Running.{letter_of};
 ghost use Rattle.cam_cluster.specs.Lines.{late_event};
 ghost use Rattle.cam_cluster.specs.Deliveries.{sent_of, IsCallComing, IsAnswerComing};
 

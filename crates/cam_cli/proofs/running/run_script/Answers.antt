@@ -1,8 +1,8 @@
 use Rattle.std.proofs.Common.{◌≤◌, ◌+◌, ◌∙◌, ap, length, get_or, arith}
 use Rattle.cam_event.specs.Readings.{by_knowledge}
 use Rattle.cam_script.specs.declared.Act.TheVariants.{Begin}
-use Rattle.cam_cluster.specs.Run.{run}
-use Rattle.cam_cluster.proofs.Following.{one_place_more}
+use Rattle.cam_runs.specs.Run.{run}
+use Rattle.cam_runs.proofs.Following.{one_place_more}
 use Rattle.cam_cli.proofs.Steps.{runs_from_start, is_next, runs_on, runs_to_end}
 use Rattle.cam_cli.proofs.running.run_script.Goals as goal
 
@@ -26,12 +26,13 @@ loop-step-preserved c =
     let at = c.loop-step.step-index in
     let old = c.loop-step.cluster in
     let before = c.loop-step.invariant in
+    let step = get_or steps at (record { line = 0; act = Begin 0 }) in
     let taken = c.in_ok-take_step.ensures in
     record {
       script = ap (λ cluster. cluster.script) taken ∙ before.script;
       place =
           ap (λ cluster. length cluster.running.bound) taken
-          ∙ one_place_more by_knowledge (get_or steps at (record { line = 0; act = Begin 0 })) old
+          ∙ one_place_more (by_knowledge old.script.objects) old.script.bodies old.running step.line step.act
           ∙ ap (λ n. n + 1) before.place;
       runs =
           runs_on c.args.script.now steps at (record { line = 0; act = Begin 0 }) old c.take_step.new.cluster (run by_knowledge c.args.script.now)

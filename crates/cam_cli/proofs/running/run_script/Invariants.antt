@@ -1,6 +1,6 @@
 use Rattle.std.proofs.Common.{◌≡◌, length}
 use Rattle.cam_event.specs.Readings.{by_knowledge}
-use Rattle.cam_cluster.specs.Run.{run}
+use Rattle.cam_runs.specs.Run.{run}
 use Rattle.cam_cli.proofs.Steps.{run_from}
 use Rattle.cam_cli.proofs.running.run_script.Given as goal
 

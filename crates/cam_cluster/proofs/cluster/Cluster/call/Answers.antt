@@ -4,7 +4,7 @@ use Rattle.cam_event.specs.declared.LineRefusal.TheVariants as refusals
 use Rattle.cam_event.specs.Live.{site_of, is_fit}
 use Rattle.cam_script.specs.declared.Act.TheVariants as acts
 use Rattle.cam_cluster.specs.Contract.{ClusterState, taken}
-use Rattle.cam_cluster.specs.Requests.{Refused, variable}
+use Rattle.cam_runs.specs.Requests.{Refused, variable}
 use Rattle.cam_cluster.specs.Keeps.{kept_of}
 use Rattle.cam_cluster.specs.FirstPath.{is_node}
 use Rattle.cam_cluster.specs.Lines.{call_event}

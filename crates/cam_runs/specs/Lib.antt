@@ -1,0 +1,5 @@
+pub mod Running
+pub mod Requests
+pub mod Playing
+pub mod Run
+pub mod InRange

@@ -1,0 +1,2 @@
+//! The run of a script: what its lines do, one after another.
+#![tactic(auto)]
