@@ -51,7 +51,7 @@ no_create (d ∷ ds) L a h there = by (is_some_step (step_of L d a)) refl h (no_
     by false e g rest = old d e (rest g there)
 
 -- a created action has a last event with a step
-has_last : (t : List Event) (a : Name) → created (plain_all t) a ≡ true → (j : ℕ) × (last_step t a ≡ Some j)
+pub has_last : (t : List Event) (a : Name) → created (plain_all t) a ≡ true → (j : ℕ) × (last_step t a ≡ Some j)
 has_last [] a h = cc
 has_last (e ∷ t) a h = by (gives_step (plain_all t) e.deeds a) refl (has_last t a)
   where

@@ -1,0 +1,35 @@
+use Rattle.std.proofs.Common.{◌≡◌, false, List, if◌then◌else◌, ◌++◌, reverse, take, sym, ap, ◌∙◌, subst}
+use Rattle.std.proofs.lemmas.List.{take_all}
+use Rattle.std.proofs.lemmas.Option.{unwrap_or-slice_get}
+use Rattle.cam_event.specs.declared.Event.{Event}
+use Rattle.cam_event.specs.Pasts.{plain}
+use Rattle.cam_plain.specs.Legal.{Legal}
+use Rattle.cam_cut.specs.Kept.{is_kept}
+use Rattle.cam_cut.proofs.Cutting.{stands, cut_more}
+use Rattle.cam_cut.proofs.Laws.{closed_sets_are_legal}
+use Rattle.cam_cut.proofs.cut.cut_deeds.Goals.{then-keep-number+in_ok-extend, else-keep-number}
+use Rattle.cam_cut.proofs.cut.cut_deeds.Goals as goal
+
+pub loop-number-preserved : goal.loop-number-preserved
+loop-number-preserved c =
+    let i = c.loop-number.number in
+    let e = c.event-item.result in
+    let keep = c.args.keep.now in
+    let old = c.loop-number.deeds in
+    let flag = unwrap_or-slice_get keep i false in
+    cut_more c.args.trace.now i e (is_kept keep) old c.if-keep-number.deeds
+    (stands c.args.trace.now c.as_slice-event-items.result.now i e c.as_slice-event-items.ensures c.loop-number-test.true c.event-item.is)
+    c.loop-number.invariant
+    (elim c.if-keep-number.branch [
+      | then-keep-number+in_ok-extend w ↦ w.deeds-is ∙ w.in_ok-extend.ensures ∙ sym (ap (λ b. if b then old ++ e.deeds else old) (flag ∙ w.if-keep-number.true))
+      | else-keep-number w ↦ w.deeds-is ∙ sym (ap (λ b. if b then old ++ e.deeds else old) (flag ∙ w.if-keep-number.false))
+    ])
+
+pub returns-clause-legal : goal.returns-clause-legal
+returns-clause-legal c = λ objects run closed.
+    let events = c.args.trace.now in
+    let items = c.as_slice-event-items.result.now in
+    let all : take c.loop-number.number events ≡ events =
+    subst (λ (es : List Event). take c.loop-number.number es ≡ es) c.as_slice-event-items.ensures (take_all c.loop-number.number items c.loop-number-test.false) in
+    subst (Legal objects) (sym (c.loop-number.invariant ∙ ap (λ (es : List Event). plain (reverse es) (is_kept c.args.keep.now)) all))
+    (closed_sets_are_legal objects (reverse events) (is_kept c.args.keep.now) run closed)

@@ -1,0 +1,38 @@
+ghost use Rattle.std.specs.Prelude.{◌≡◌, ◌++◌, List, length, reverse, IfOk, OnOk};
+ghost use Rattle.cam_type.specs.declared.ObjectDecl.{ObjectDecl};
+ghost use Rattle.cam_event.specs.Pasts.{IsClosed, plain};
+ghost use Rattle.cam_event.specs.Runs.{IsRun};
+ghost use Rattle.cam_plain.specs.Legal.{Legal, history};
+ghost use Rattle.cam_cut.specs.Kept.{is_kept};
+
+use cam_base::NoMemory;
+use cam_event::{Deeds, Trace};
+use std::alloc::Global;
+
+/// The deeds of the events that are kept, in the order of the trace: `keep` has a flag for each event.
+/// Where the trace is a run and the kept events are closed under pasts, these are a legal history of
+/// plain nested transactions. It is linear in the deeds of the trace, and fails only where memory runs
+/// out.
+pub fn cut_deeds(alloc: Global, trace: &Trace, keep: &[bool]) -> Result<Deeds, NoMemory>
+    requires flags { length keep.now ≡ length trace.now }
+    ensures exact { IfOk result (λ deeds. history deeds ≡ plain (reverse trace.now) (is_kept keep.now)) }
+    ensures legal { IfOk result (λ deeds. (objects : List ObjectDecl) → IsRun objects (reverse trace.now) → IsClosed (reverse trace.now) (is_kept keep.now) → Legal objects (history deeds)) }
+{
+    let mut deeds = Deeds::new(alloc);
+    for (number, event) in trace.as_slice().iter().enumerate() {
+        if keep[number] {
+            extend(&mut deeds, &event.deeds)?;
+        }
+    }
+    Ok(deeds)
+}
+
+/// Adds deeds at the end.
+fn extend(deeds: &mut Deeds, more: &Deeds) -> Result<(), NoMemory>
+    ensures { OnOk result (deeds.new ≡ deeds.old ++ more.now) }
+{
+    for deed in more.as_slice() {
+        deeds.push_copy(deed)?;
+    }
+    Ok(())
+}
