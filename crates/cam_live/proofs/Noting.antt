@@ -1,5 +1,5 @@
 -- What one more deed adds to the tables.
-use Rattle.std.proofs.Common.{◌≡◌, ℕ, eqb, Bool, true, false, ◌&&◌, ◌||◌, if◌then◌else◌, cond, List, ◌∷◌, Option, Some, None, is_some, refl, sym, ap, ◌∙◌, arith}
+use Rattle.std.proofs.Common.{◌≡◌, ℕ, eqb, Bool, true, false, ◌&&◌, ◌||◌, if◌then◌else◌, cond, List, ◌∷◌, Option, Some, None, is_some, unwrap_or, refl, sym, ap, ◌∙◌, arith}
 use Rattle.std.specs.Option.{option_map, option_or}
 use Rattle.std.specs.Ordering.{is_eq, nat_cmp, ordering_then}
 use Rattle.std.specs.declared.cmp.Ordering.{Ordering}
@@ -15,7 +15,7 @@ use Rattle.cam_event.specs.declared.Deed.{Deed}
 use Rattle.cam_event.specs.declared.Deed.TheVariants.{Call, Secure, Inform}
 use Rattle.cam_event.specs.History.{count, informed, Addressed, call_of}
 use Rattle.cam_live.specs.declared.tables.Asked.{Asked}
-use Rattle.cam_live.specs.Tables.{site_name_cmp, call_cmp, asked_of, TellsCalls, first_secured, TellsSecured, TellsAborted}
+use Rattle.cam_live.specs.Tables.{site_name_cmp, call_cmp, asked_of, TellsCalls, first_secured, TellsSecured, informed_of, TellsInforms}
 
 -- two keys tie where their parts do
 both_equal : (o p : Ordering) → is_eq (ordering_then o p) ≡ (is_eq o && is_eq p)
@@ -43,12 +43,29 @@ calls_put L b m call old new before put a n =
     chosen true = refl
     chosen false = refl
 
--- one more abort of which a site is informed
-pub aborted_put : (L : List Deed) (t : ℕ) (b : Name) (old new : BTreeSet (ℕ × Name)) → TellsAborted L old
-    → ((q : ℕ × Name) → contains site_name_cmp new q ≡ cond (is_eq (site_name_cmp (t, b) q)) true (contains site_name_cmp old q))
-    → TellsAborted (Inform t b false ∷ L) new
-aborted_put L t b old new before put s a =
-    put (s, a) ∙ (λ i. cond (site_name_ties t s b a i) true (before s a i)) ∙ cond_or (eqb s t && name_eq a b) (informed L s a false)
+-- one more deed that informs a site of this outcome
+named : (L : List Deed) (site t : ℕ) (c b : Name) (s : ℕ) (a : Name) (outcome : Bool) → ◌≡◌ {A = Option (ℕ × Name)} (Some (t, b)) (Some (site, c))
+    → ((eqb s site && name_eq a c) || informed L s a outcome) ≡ ((eqb s t && name_eq a b) || informed L s a outcome)
+named L site t c b s a outcome e =
+    let same : (t, b) ≡ (site, c) = ap (λ o. unwrap_or o (t, b)) e in
+    sym (ap (λ (k : ℕ × Name). (eqb s k.0 && name_eq a k.1) || informed L s a outcome) same)
+
+more_informed : (outcome : Bool) (L : List Deed) (d : Deed) (t : ℕ) (b : Name) → Some (t, b) ≡ informed_of outcome d → (s : ℕ) (a : Name) → informed (d ∷ L) s a outcome ≡ ((eqb s t && name_eq a b) || informed L s a outcome)
+more_informed true L (Inform site c true) t b e s a = named L site t c b s a true e
+more_informed true L (Inform site c false) t b e s a = cc e
+more_informed true L _ t b e s a = cc e
+more_informed false L (Inform site c false) t b e s a = named L site t c b s a false e
+more_informed false L (Inform site c true) t b e s a = cc e
+more_informed false L _ t b e s a = cc e
+
+pub informs_put : (outcome : Bool) (L : List Deed) (d : Deed) (key : ℕ × Name) (old new : BTreeSet (ℕ × Name)) → Some key ≡ informed_of outcome d → TellsInforms outcome L old
+    → ((q : ℕ × Name) → contains site_name_cmp new q ≡ cond (is_eq (site_name_cmp key q)) true (contains site_name_cmp old q))
+    → TellsInforms outcome (d ∷ L) new
+informs_put outcome L d key old new e before put s a =
+    put (s, a)
+    ∙ (λ i. cond (site_name_ties key.0 s key.1 a i) true (before s a i))
+    ∙ cond_or (eqb s key.0 && name_eq a key.1) (informed L s a outcome)
+    ∙ sym (more_informed outcome L d key.0 key.1 e s a)
   where
     cond_or : (x y : Bool) → cond x true y ≡ (x || y)
     cond_or true y = refl

@@ -1,5 +1,5 @@
--- What the tables have of the deeds so far: calls, counts of sites, secured families and aborts.
-use Rattle.std.specs.Prelude.{◌≡◌, ℕ, eqb, false, ◌&&◌, if◌then◌else◌, List, [], ◌∷◌, Option, Some, None, option_map, unwrap_or}
+-- What the tables have of the deeds so far: calls, counts of sites, secured families and informs.
+use Rattle.std.specs.Prelude.{◌≡◌, ℕ, eqb, Bool, true, false, ◌&&◌, if◌then◌else◌, List, [], ◌∷◌, Option, Some, None, option_map, unwrap_or}
 use Rattle.std.specs.Option.{option_or}
 use Rattle.std.specs.Ordering.{nat_cmp, ordering_then}
 use Rattle.std.specs.declared.cmp.Ordering.{Ordering}
@@ -8,7 +8,7 @@ use Rattle.std.specs.BTreeSet.{BTreeSet, contains}
 use Rattle.cam_names.specs.declared.name.Name.{Name}
 use Rattle.cam_names.specs.Names.{name_cmp, name_eq}
 use Rattle.cam_event.specs.declared.Deed.{Deed}
-use Rattle.cam_event.specs.declared.Deed.TheVariants.{Secure}
+use Rattle.cam_event.specs.declared.Deed.TheVariants.{Secure, Inform}
 use Rattle.cam_event.specs.History.{count, Addressed, call_of, informed}
 use Rattle.cam_live.specs.declared.tables.Asked.{Asked}
 use Rattle.cam_live.specs.declared.tables.Tables.{Tables}
@@ -44,13 +44,20 @@ first_secured (_ ∷ before) s f = first_secured before s f
 abbrev pub TellsSecured : List Deed → BTreeMap (ℕ × Name) ℕ → Type 0
 TellsSecured L secured = (s : ℕ) (f : Name) → get site_name_cmp secured (s, f) ≡ first_secured L s f
 
--- the names at the sites that were informed of their abort
-abbrev pub TellsAborted : List Deed → BTreeSet (ℕ × Name) → Type 0
-TellsAborted L aborted = (s : ℕ) (a : Name) → contains site_name_cmp aborted (s, a) ≡ informed L s a false
+-- the site that a deed informs of this outcome of an action, and the action
+abbrev pub informed_of : Bool → Deed → Option (ℕ × Name)
+informed_of true (Inform s a true) = Some (s, a)
+informed_of false (Inform s a false) = Some (s, a)
+informed_of _ _ = None
+
+-- the names at the sites that were informed of their commit, or of their abort
+abbrev pub TellsInforms : Bool → List Deed → BTreeSet (ℕ × Name) → Type 0
+TellsInforms outcome L names = (s : ℕ) (a : Name) → contains site_name_cmp names (s, a) ≡ informed L s a outcome
 
 -- The tables have what the deeds say.
 pub record Tells (L : List Deed) (tables : Tables) : Type 0 where
   pub calls : TellsCalls L tables.calls
   pub counts : TellsCounts L tables.counts
   pub secured : TellsSecured L tables.secured
-  pub aborted : TellsAborted L tables.aborted
+  pub aborted : TellsInforms false L tables.aborted
+  pub committed : TellsInforms true L tables.committed

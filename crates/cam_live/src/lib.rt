@@ -3,10 +3,11 @@
 //! A performed operation is live where no ancestor of its action has aborted so far as its site was
 //! informed, and no crash of the site has removed it: each came after the family was secured there
 //! (`cam_event/specs/Live`). [`live`] answers exactly these, in the order in which they were
-//! performed, for every list of deeds, legal or not.
+//! performed, for every list of deeds, legal or not. [`settled`] answers those of them that are
+//! handed up past the top, which stay whatever runs on.
 //!
 //! It goes over the deeds once. `tables` keeps what they say of calls, counts of sites, secured
-//! families and aborts; `performed` keeps each operation with the count of its site at that time. A
+//! families and informs; `performed` keeps each operation with the count of its site at that time. A
 //! crash so costs one step and not a look at all operations: at the end an operation stands if its
 //! count is still that of the site, or if the family was first secured there at no later count
 //! (`Counted`). With n deeds it takes about n times the logarithm of n.
@@ -18,7 +19,7 @@
 mod performed;
 mod tables;
 
-pub use performed::{Operations, live};
+pub use performed::{Operations, live, settled};
 
 #[cfg(test)]
 mod tests;

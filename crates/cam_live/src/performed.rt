@@ -2,10 +2,11 @@ ghost use Rattle.std.specs.Prelude.{◌≡◌, ◌∷◌, ◌++◌, [], List, ma
 ghost use Rattle.cam_event.specs.declared.Deed.{Deed};
 ghost use Rattle.cam_event.specs.History.{after, call_of};
 ghost use Rattle.cam_event.specs.Live.{site_of, of_call, live};
-ghost use Rattle.cam_live.specs.Counted.{counted, performed, stands, is_live, live_of};
+ghost use Rattle.cam_live.specs.Counted.{counted, performed, stands, is_live, live_of, IsGathered};
+ghost use Rattle.cam_live.specs.Settled.{is_handed_up, past_top_of, settled_operations};
 ghost use Rattle.cam_live.specs.Tables.{Tells};
 
-use crate::tables::{Tables, count_of, has_ancestor};
+use crate::tables::{Tables, count_of, has_ancestor, lift};
 use cam_base::{NoMemory, Sequence};
 use cam_event::{Deed, Deeds, Operation};
 use cam_names::Name;
@@ -120,17 +121,69 @@ fn live_of(
     Ok(operations)
 }
 
+/// Whether the operation is handed up past the top.
+fn is_past_top(objects: &Objects, tables: &Tables, operation: &Operation) -> bool
+    ensures { (L : List Deed) → Tells L tables.now → result ≡ is_handed_up objects.now L operation.now }
+{
+    let site = site_of(objects, operation.object);
+    lift(&tables.committed, site, &operation.action).is_none()
+}
+
+/// Those of the operations that are handed up past the top.
+fn past_top_of(
+    alloc: Global,
+    objects: &Objects,
+    tables: &Tables,
+    operations: &Operations,
+) -> Result<Operations, NoMemory>
+    ensures { IfOk result (λ settled. (L : List Deed) → Tells L tables.now → settled ≡ past_top_of objects.now L operations.now) }
+{
+    let mut settled = Operations::new(alloc);
+    for operation in operations.as_slice() {
+        if is_past_top(objects, tables, operation) {
+            settled.push_copy(operation)?;
+        }
+    }
+    Ok(settled)
+}
+
+/// What is gathered of a list of deeds.
+#[derive(Drop)]
+pub(crate) struct Gathered {
+    tables: Tables,
+    performed: PerformedList,
+}
+
+/// Goes over the deeds, and gathers what they say and the operations that they perform.
+fn gather(alloc: Global, deeds: &Deeds, objects: &Objects) -> Result<Gathered, NoMemory>
+    ensures { IfOk result (IsGathered objects.now (after [] deeds.now)) }
+{
+    let mut tables = Tables::new(alloc);
+    let mut performed = PerformedList::new(alloc);
+    for deed in deeds.as_slice() {
+        note_performed(objects, &tables, &mut performed, deed)?;
+        tables.note(deed)?;
+    }
+    Ok(Gathered { tables, performed })
+}
+
 /// The operations that are live after the deeds, of all objects, in the order in which they were
 /// performed. The deeds may be any list. It fails only where memory runs out.
 pub fn live(alloc: Global, deeds: &Deeds, objects: &Objects) -> Result<Operations, NoMemory>
     ensures { IfOk result (λ operations. operations ≡ live objects.now (after [] deeds.now)) }
 {
-    let mut tables = Tables::new(alloc);
-    let mut list = PerformedList::new(alloc);
-    for deed in deeds.as_slice() {
-        note_performed(objects, &tables, &mut list, deed)?;
-        tables.note(deed)?;
-    }
-    let operations = live_of(alloc, objects, &tables, &list)?;
-    Ok(operations)
+    let gathered = gather(alloc, deeds, objects)?;
+    let live = live_of(alloc, objects, &gathered.tables, &gathered.performed)?;
+    Ok(live)
+}
+
+/// The live operations that are handed up past the top after the deeds, as [`live`] has them: what
+/// each object holds for good. It fails only where memory runs out.
+pub fn settled(alloc: Global, deeds: &Deeds, objects: &Objects) -> Result<Operations, NoMemory>
+    ensures { IfOk result (λ operations. operations ≡ settled_operations objects.now (after [] deeds.now)) }
+{
+    let gathered = gather(alloc, deeds, objects)?;
+    let live = live_of(alloc, objects, &gathered.tables, &gathered.performed)?;
+    let settled = past_top_of(alloc, objects, &gathered.tables, &live)?;
+    Ok(settled)
 }

@@ -2,8 +2,9 @@ ghost use Rattle.std.specs.Prelude.{◌≡◌, ◌∷◌, [], List, OnOk};
 ghost use Rattle.std.specs.BTreeSet.{contains};
 ghost use Rattle.std.specs.List.{list_any};
 ghost use Rattle.cam_names.specs.Names.{ancestors};
+ghost use Rattle.cam_know.specs.Known.{lift_by};
 ghost use Rattle.cam_event.specs.declared.Deed.{Deed};
-ghost use Rattle.cam_live.specs.Tables.{site_name_cmp, count_in, TellsCalls, TellsCounts, TellsSecured, TellsAborted, Tells};
+ghost use Rattle.cam_live.specs.Tables.{site_name_cmp, count_in, informed_of, TellsCalls, TellsCounts, TellsSecured, TellsInforms, Tells};
 
 use cam_base::NoMemory;
 use cam_event::Deed;
@@ -39,6 +40,8 @@ pub(crate) struct Tables {
     pub(crate) secured: Secured,
     /// The actions whose abort the site was informed of.
     pub(crate) aborted: SiteNames,
+    /// The actions whose commit the site was informed of.
+    pub(crate) committed: SiteNames,
 }
 
 impl Tables {
@@ -51,6 +54,7 @@ impl Tables {
             counts: Counts::new(alloc),
             secured: Secured::new(alloc),
             aborted: SiteNames::new(alloc),
+            committed: SiteNames::new(alloc),
         }
     }
 
@@ -61,7 +65,8 @@ impl Tables {
         note_secure(&mut self.secured, &self.counts, deed)?;
         note_call(&mut self.calls, deed)?;
         note_crash(&mut self.counts, deed)?;
-        note_abort(&mut self.aborted, deed)?;
+        note_inform(&mut self.aborted, deed, false)?;
+        note_inform(&mut self.committed, deed, true)?;
         Ok(())
     }
 }
@@ -127,17 +132,37 @@ fn note_secure(secured: &mut Secured, counts: &Counts, deed: &Deed) -> Result<()
     Ok(())
 }
 
-/// Keeps the action whose abort a site is informed of.
-fn note_abort(aborted: &mut SiteNames, deed: &Deed) -> Result<(), NoMemory>
-    ensures { OnOk result ((L : List Deed) → TellsAborted L aborted.old → TellsAborted (deed.now ∷ L) aborted.new) }
+/// The site that the deed informs of this outcome of an action, and the action.
+fn informed_of(deed: &Deed, outcome: bool) -> Option<(u8, Name)>
+    ensures { result ≡ informed_of outcome deed.now }
 {
-    if let Deed::Inform {
-        site,
-        name,
-        committed: false,
-    } = deed
-    {
-        aborted.insert((*site, *name))?;
+    match (deed, outcome) {
+        (
+            Deed::Inform {
+                site,
+                name,
+                committed: true,
+            },
+            true,
+        ) => Some((*site, *name)),
+        (
+            Deed::Inform {
+                site,
+                name,
+                committed: false,
+            },
+            false,
+        ) => Some((*site, *name)),
+        _ => None,
+    }
+}
+
+/// Keeps the action of whose commit, or of whose abort, a site is informed.
+fn note_inform(names: &mut SiteNames, deed: &Deed, outcome: bool) -> Result<(), NoMemory>
+    ensures { OnOk result ((L : List Deed) → TellsInforms outcome L names.old → TellsInforms outcome (deed.now ∷ L) names.new) }
+{
+    if let Some(name) = informed_of(deed, outcome) {
+        names.insert(name)?;
     }
     Ok(())
 }
@@ -149,5 +174,21 @@ pub(crate) fn has_ancestor(names: &SiteNames, site: u8, action: &Name) -> bool
     match action.parent() {
         Some(parent) => has_ancestor(names, site, &parent) || names.contains(&(site, *action)),
         None => names.contains(&(site, *action)),
+    }
+}
+
+/// Climbs to the parent while the set has the present action at the site. None where that goes past
+/// the top.
+pub(crate) fn lift(names: &SiteNames, site: u8, action: &Name) -> Option<Name>
+    ensures { result ≡ lift_by (λ u. contains site_name_cmp names.now (site, u)) action.now }
+{
+    // A name has a part.
+    let _parts = action.parts();
+    if !names.contains(&(site, *action)) {
+        return Some(*action);
+    }
+    match action.parent() {
+        Some(parent) => lift(names, site, &parent),
+        None => None,
     }
 }

@@ -1,12 +1,13 @@
-use crate::live;
+use crate::{live, settled};
 use cam_event::{Deed, Deeds};
 use cam_names::Name;
 use cam_type::{Answer, ObjectDecl, Objects, Op, State};
 use std::alloc::Global;
 use std::test::Fail;
 
-/// Two writes of an action, of which one is secured before the crash and the other after it.
-fn two_writes(secured: Name, late: Name) -> [Deed; 8] {
+/// Two writes, of which one is secured before the crash and the other after it. The site is informed
+/// of the commit of the late one, and of the abort of the other.
+fn two_writes(secured: Name, late: Name) -> [Deed; 9] {
     let call = |action: Name, object: u8| Deed::Call {
         action,
         number: 1,
@@ -24,19 +25,21 @@ fn two_writes(secured: Name, late: Name) -> [Deed; 8] {
         site: 1,
         count: 1,
     };
+    let inform = |name: Name, committed: bool| Deed::Inform {
+        site: 1,
+        name,
+        committed,
+    };
     [
         call(secured, 0),
         perform(secured),
         call(late, 1),
         perform(late),
+        inform(late, true),
         secure(secured),
         Deed::Crash { site: 1 },
         secure(late),
-        Deed::Inform {
-            site: 1,
-            name: secured,
-            committed: false,
-        },
+        inform(secured, false),
     ]
 }
 
@@ -52,17 +55,28 @@ fn a_crash_keeps_what_was_secured_before(rt: HostRuntime) -> Result<(), Fail> {
     }
     let secured = Name::parse("1.1.1")?;
     let mut deeds = Deeds::new(alloc);
-    let lives = [0, 1, 1, 2, 2, 1, 1, 0];
-    for (deed, count) in two_writes(secured, Name::parse("1.1.2")?)
+    let counts = [
+        (0, 0),
+        (1, 0),
+        (1, 0),
+        (2, 0),
+        (2, 1),
+        (2, 1),
+        (1, 0),
+        (1, 0),
+        (0, 0),
+    ];
+    for (deed, (lives, settles)) in two_writes(secured, Name::parse("1.1.2")?)
         .iter()
-        .zip(&lives)
+        .zip(&counts)
     {
         deeds.push_copy(deed)?;
         let live = live(alloc, &deeds, &objects)?;
-        assert_eq!(rt; live.len(), *count);
+        assert_eq!(rt; live.len(), *lives);
         if let Some(first) = live.get(0) {
             assert!(rt; first.action == secured);
         }
+        assert_eq!(rt; settled(alloc, &deeds, &objects)?.len(), *settles);
     }
     Ok(())
 }

@@ -3,5 +3,4 @@ pub mod Gathering
 pub mod Viewing
 pub mod Stopping
 pub mod States
-pub mod Siting
 pub mod Settling

@@ -2,4 +2,3 @@ pub mod Words
 pub mod Report
 pub mod Records
 pub mod Gathered
-pub mod Sited

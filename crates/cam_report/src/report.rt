@@ -21,6 +21,6 @@ pub fn report_text(alloc: Global, script: &Script, run: &RunRecord) -> Result<St
     write_actions(alloc, &script.labels, deeds.as_slice(), &mut text)?;
     write_stops(alloc, &run.trace, &mut text)?;
     write_marks(&run.marks, &mut text)?;
-    write_values(alloc, script, deeds.as_slice(), &mut text)?;
+    write_values(alloc, script, &deeds, &mut text)?;
     Ok(text)
 }

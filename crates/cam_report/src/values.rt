@@ -1,57 +1,20 @@
-ghost use Rattle.std.specs.Prelude.{◌≡◌, ◌++◌, ◌∷◌, [], List, OnOk, IfOk, codes, filter, eqb, reverse, string_bytes};
+ghost use Rattle.std.specs.Prelude.{◌≡◌, ◌++◌, ◌∷◌, [], List, OnOk, IfOk, codes, filter, eqb, string_bytes};
 ghost use Rattle.cam_event.specs.declared.Deed.{Deed};
+ghost use Rattle.cam_event.specs.History.{after};
 ghost use Rattle.cam_event.specs.Live.{start_of, replay};
-ghost use Rattle.cam_report.specs.Words.{line, state_text};
 ghost use Rattle.cam_event.specs.Settled.{settled};
+ghost use Rattle.cam_live.specs.Settled.{settled_operations};
+ghost use Rattle.cam_report.specs.Words.{line, state_text};
 ghost use Rattle.cam_report.specs.Report.{values_from};
-ghost use Rattle.cam_report.specs.Sited.{is_settled, settled_operations, TellsSites};
 
-use crate::operations::{Operations, site_of, surviving};
-use crate::sites::{SiteFact, SiteNames, all_sited, has_ancestor, has_ancestors};
 use crate::words::write_state;
 use cam_base::NoMemory;
-use cam_event::{Deed, Operation};
+use cam_event::Deeds;
+use cam_live::{Operations, settled};
 use cam_script::{Label, Script};
 use cam_type::{Objects, State, apply};
 use std::alloc::Global;
 use std::fmt::Write;
-
-/// The informs of a run: the names at sites whose abort, and whose commit, the site was informed of.
-#[derive(Drop)]
-struct Informs {
-    aborted: SiteNames,
-    committed: SiteNames,
-}
-
-/// Whether the operation is live and handed up past the top.
-fn is_settled(objects: &Objects, informs: &Informs, operation: &Operation) -> bool
-    ensures { (L : List Deed) → TellsSites SiteFact.Aborted L informs.now.aborted → TellsSites SiteFact.Committed L informs.now.committed → result ≡ is_settled objects.now L operation.now }
-{
-    let site = site_of(objects, operation.object);
-    !has_ancestor(&informs.aborted, site, &operation.action)
-        && has_ancestors(&informs.committed, site, &operation.action)
-}
-
-/// The operations that are handed up past the top, of all objects.
-fn settled_operations(
-    alloc: Global,
-    objects: &Objects,
-    deeds: &[Deed],
-) -> Result<Operations, NoMemory>
-    ensures { IfOk result (λ operations. operations ≡ settled_operations objects.now (reverse deeds.now)) }
-{
-    let informs = Informs {
-        aborted: all_sited(alloc, deeds, SiteFact::Aborted)?,
-        committed: all_sited(alloc, deeds, SiteFact::Committed)?,
-    };
-    let mut settled = Operations::new(alloc);
-    for operation in surviving(alloc, objects, deeds)?.as_slice() {
-        if is_settled(objects, &informs, operation) {
-            settled.push_copy(operation)?;
-        }
-    }
-    Ok(settled)
-}
 
 /// The start state of an object; of one that is not declared a register's.
 fn start_of(objects: &Objects, object: usize) -> Result<State, NoMemory>
@@ -97,12 +60,12 @@ fn write_value(
 pub(crate) fn write_values(
     alloc: Global,
     script: &Script,
-    deeds: &[Deed],
+    deeds: &Deeds,
     out: &mut String,
 ) -> Result<(), NoMemory>
-    ensures { OnOk result (string_bytes out.new ≡ string_bytes out.old ++ values_from script.now.objects (reverse deeds.now) 0 script.now.labels) }
+    ensures { OnOk result (string_bytes out.new ≡ string_bytes out.old ++ values_from script.now.objects (after [] deeds.now) 0 script.now.labels) }
 {
-    let operations = settled_operations(alloc, &script.objects, deeds)?;
+    let operations = settled(alloc, deeds, &script.objects)?;
     for (object, label) in script.labels.as_slice().iter().enumerate() {
         write_value(script, object, label, &operations, out)?;
     }

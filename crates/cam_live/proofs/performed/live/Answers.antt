@@ -1,29 +1,11 @@
-use Rattle.std.proofs.Common.{◌≡◌, List, [], take, sym, ap, ◌∙◌, subst}
-use Rattle.cam_event.specs.declared.Deed.{Deed}
-use Rattle.std.proofs.lemmas.List.{take_all}
+use Rattle.std.proofs.Common.{[], ap, ◌∙◌}
 use Rattle.cam_event.specs.History.{after}
-use Rattle.cam_event.specs.Live.{live}
-use Rattle.cam_live.specs.Tables.{Tells}
-use Rattle.cam_live.specs.Counted.{performed, live_of}
-use Rattle.cam_event.proofs.Snoc.{further}
+use Rattle.cam_live.specs.Counted.{live_of}
 use Rattle.cam_live.proofs.Counting.{live_is}
 use Rattle.cam_live.proofs.performed.live.Goals as goal
 
-pub loop-deed-preserved : goal.loop-deed-preserved
-loop-deed-preserved c =
-    let L = after [] (take c.loop-deed.deed-index c.as_slice-deed-items.result.now) in
-    let more = further c.as_slice-deed-items.result.now c.loop-deed.deed-index c.deed-item.result c.loop-deed-test.true c.deed-item.is in
-    let before = c.loop-deed.invariant in
-    record {
-      tells = subst (λ (M : List Deed). Tells M c.note.new.self) (sym more) (c.in_ok-note.ensures L before.tells);
-      list = subst (λ (M : List Deed). c.note_performed.new.list ≡ performed c.args.objects.now M) (sym more) (c.in_ok-note_performed.ensures L before.tells before.list);
-    }
-
 pub returns : goal.returns
 returns c =
-    let ds = c.as_slice-deed-items.result.now in
-    let before = c.loop-deed.invariant in
-    let all : take c.loop-deed.deed-index ds ≡ c.args.deeds.now = take_all c.loop-deed.deed-index ds c.loop-deed-test.false ∙ c.as_slice-deed-items.ensures in
-    let L = after [] (take c.loop-deed.deed-index ds) in
-    c.in_ok-operations.ensures L before.tells ∙ ap (live_of c.args.objects.now L) before.list ∙ live_is c.args.objects.now L
-    ∙ ap (λ (es : List Deed). live c.args.objects.now (after [] es)) all
+    let L = after [] c.args.deeds.now in
+    let gathered = c.in_ok-gathered.ensures in
+    c.in_ok-live.ensures L gathered.tells ∙ ap (live_of c.args.objects.now L) gathered.performed ∙ live_is c.args.objects.now L

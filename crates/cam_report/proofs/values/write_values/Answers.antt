@@ -1,13 +1,14 @@
-use Rattle.std.proofs.Common.{◌∷◌, [], ◌++◌, List, ℕ, codes, reverse, string_bytes, sym, ap, ◌∙◌}
+use Rattle.std.proofs.Common.{◌∷◌, [], ◌++◌, List, ℕ, codes, string_bytes, sym, ap, ◌∙◌}
 use Rattle.std.proofs.lemmas.List.{append_assoc}
 use Rattle.cam_report.specs.Words.{line, state_text}
+use Rattle.cam_event.specs.History.{after}
 use Rattle.cam_event.specs.Settled.{settled}
 use Rattle.cam_report.proofs.Settling.{values_more}
 use Rattle.cam_report.proofs.values.write_values.Goals as goal
 
 pub loop-object-preserved : goal.loop-object-preserved
 loop-object-preserved c =
-    let L = reverse c.args.deeds.now in
+    let L = after [] c.args.deeds.now in
     let objects = c.args.script.now.objects in
     let labels = c.as_slice-label-items.result.now in
     let value = line (codes "value" ∷ c.label-item.result ∷ state_text (settled objects L c.loop-object.object) ∷ []) in

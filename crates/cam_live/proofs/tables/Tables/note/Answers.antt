@@ -6,5 +6,6 @@ returns c = λ L before.
       calls = c.in_ok-note_call.ensures L before.calls;
       counts = c.in_ok-note_crash.ensures L before.counts;
       secured = c.in_ok-note_secure.ensures L before.counts before.secured;
-      aborted = c.in_ok-note_abort.ensures L before.aborted;
+      aborted = c.in_ok-note_inform.ensures L before.aborted;
+      committed = c.in_ok-note_inform-2.ensures L before.committed;
     }
