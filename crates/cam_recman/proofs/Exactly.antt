@@ -1,0 +1,195 @@
+-- What is read as records is their bytes, each number in its range.
+use Rattle.std.proofs.Common.{◌≡◌, inl, inr, ℕ, zero, suc, ◌<◌, ◌≤◌, Bool, true, false, cond, ltb, ltb-false, List, [], ◌∷◌, ◌++◌, length, drop, replicate, flat_map, Result, Ok, Err, refl, sym, ap, ◌∙◌, arith, subst, append_assoc, append-nil, drop_of_length-le}
+use Rattle.std.specs.List.{AllByRecursion}
+use Rattle.std.proofs.lemmas.Bool.Decides.{eqb_tells}
+use Rattle.std.proofs.lemmas.List.{length-append}
+use Rattle.cam_type.specs.declared.HeldOp.{HeldOp}
+use Rattle.cam_bytes.specs.declared.WireFault.{WireFault}
+use Rattle.cam_bytes.specs.declared.WireFault.TheVariants.{BadTag}
+use Rattle.cam_bytes.specs.Fields.{number, name, deps, op}
+use Rattle.cam_bytes.specs.Ranges.{IsBytes}
+use Rattle.cam_bytes.specs.Reading.{◌>>=◌, byte_at, number_at, byte_in, number_in, name_in, pairs_in, op_at}
+use Rattle.cam_bytes.proofs.Taken.{Stands, stands_then, bind_in, done, ok_is, took_byte, took_number, took_byte_in, took_number_in, took_name}
+use Rattle.cam_bytes.proofs.TakenPairs.{took_deps}
+use Rattle.cam_bytes.proofs.TakenOps.{took_op}
+use Rattle.cam_recman.specs.declared.Record.{Record}
+use Rattle.cam_recman.specs.declared.Record.TheVariants.{Count, Abort, Commit, Seen, Secure}
+use Rattle.cam_recman.specs.Records.{held_op, record_bytes, entry_bytes}
+use Rattle.cam_recman.specs.Reading.{count_record, abort_record, commit_record, seen_record, held_op_at, held_ops_from, held_ops_at, secure_record, record_of, record_at, records_from, in_entry, read_entry}
+use Rattle.cam_recman.specs.Ranges.{IsHeldOp, IsRecord, AreRecords}
+
+abbrev TookRecord : List ℕ → ℕ → Record × ℕ → Type 0
+TookRecord bytes at x = Stands bytes at (record_bytes x.0) x.1 × IsRecord x.0
+
+took_count : (bytes : List ℕ) (at behind : ℕ) (x : Record × ℕ) → IsBytes bytes → Stands bytes at (1 ∷ []) behind → count_record behind bytes ≡ Ok x → TookRecord bytes at x
+unfolding count_record
+took_count bytes at behind x are s e =
+    bind_in (number_in 2 1000000000 behind bytes) _ x e (λ c f e1.
+    let t = took_number_in bytes 2 1000000000 behind c are f in
+    subst (λ (p : Record × ℕ). TookRecord bytes at p) (ok_is (Count c.0, c.1) x e1) (stands_then bytes at (1 ∷ []) behind (number c.0) c.1 s t.0, t.1))
+
+took_abort : (bytes : List ℕ) (at behind : ℕ) (x : Record × ℕ) → IsBytes bytes → Stands bytes at (2 ∷ []) behind → abort_record behind bytes ≡ Ok x → TookRecord bytes at x
+unfolding abort_record
+took_abort bytes at behind x are s e =
+    bind_in (name_in 8 behind bytes) _ x e (λ a f e1.
+    let t = took_name bytes 8 behind a (omega arith) are f in
+    subst (λ (p : Record × ℕ). TookRecord bytes at p) (ok_is (Abort a.0, a.1) x e1) (stands_then bytes at (2 ∷ []) behind (name a.0) a.1 s t.0, t.1))
+
+took_commit : (bytes : List ℕ) (at behind : ℕ) (x : Record × ℕ) → IsBytes bytes → Stands bytes at (3 ∷ []) behind → commit_record behind bytes ≡ Ok x → TookRecord bytes at x
+unfolding commit_record
+took_commit bytes at behind x are s e =
+    bind_in (name_in 8 behind bytes) _ x e (λ a f e1.
+    bind_in (pairs_in 1 (replicate 8 0) a.1 bytes) _ x e1 (λ d f1 e2.
+    let t = took_name bytes 8 behind a (omega arith) are f in
+    let u = took_deps bytes a.1 d are f1 in
+    subst (λ (p : Record × ℕ). TookRecord bytes at p) (ok_is (Commit a.0 d.0, d.1) x e2)
+    (stands_then bytes at (3 ∷ name a.0) a.1 (deps d.0) d.1 (stands_then bytes at (3 ∷ []) behind (name a.0) a.1 s t.0) u.0, (t.1, u.1))))
+
+took_seen : (bytes : List ℕ) (at behind : ℕ) (x : Record × ℕ) → IsBytes bytes → Stands bytes at (4 ∷ []) behind → seen_record behind bytes ≡ Ok x → TookRecord bytes at x
+unfolding seen_record
+took_seen bytes at behind x are s e =
+    bind_in (byte_in 1 8 behind bytes) _ x e (λ m f e1.
+    bind_in (number_in 2 1000000000 m.1 bytes) _ x e1 (λ c f1 e2.
+    let t = took_byte_in bytes 1 8 behind m f in
+    let u = took_number_in bytes 2 1000000000 m.1 c are f1 in
+    subst (λ (p : Record × ℕ). TookRecord bytes at p) (ok_is (Seen m.0 c.0, c.1) x e2)
+    (stands_then bytes at (4 ∷ m.0 ∷ []) m.1 (number c.0) c.1 (stands_then bytes at (4 ∷ []) behind (m.0 ∷ []) m.1 s t.0) u.0, (t.1, u.1))))
+
+took_held_op : (bytes : List ℕ) (at : ℕ) (x : HeldOp × ℕ) → IsBytes bytes → held_op_at at bytes ≡ Ok x → Stands bytes at (held_op x.0) x.1 × IsHeldOp x.0
+unfolding held_op_at
+took_held_op bytes at x are e =
+    bind_in (number_in 0 999999999 at bytes) _ x e (λ i f e1.
+    bind_in (byte_in 0 63 i.1 bytes) _ x e1 (λ o f1 e2.
+    bind_in (op_at o.1 bytes) _ x e2 (λ p f2 e3.
+    let t = took_number_in bytes 0 999999999 at i are f in
+    let t1 = took_byte_in bytes 0 63 i.1 o f1 in
+    let t2 = took_op bytes o.1 p are f2 in
+    let one : HeldOp = record { index = i.0; object = o.0; op = p.0 } in
+    subst (λ (q : HeldOp × ℕ). Stands bytes at (held_op q.0) q.1 × IsHeldOp q.0) (ok_is (one, p.1) x e3) (
+      stands_then bytes at (number i.0) i.1 (o.0 ∷ op p.0) p.1 t.0 (stands_then bytes i.1 (o.0 ∷ []) o.1 (op p.0) p.1 t1.0 t2.0),
+      record { index = t.1.1; object = t1.1.1; op = t2.1 },
+    ))))
+
+record TookOps (bytes : List ℕ) (at left : ℕ) (found : List HeldOp) (x : List HeldOp × ℕ) : Type 0 where
+  ops : List HeldOp
+  is : x.0 ≡ found ++ ops
+  many : length ops ≡ left
+  range : AllByRecursion IsHeldOp ops
+  stands : Stands bytes at (flat_map held_op ops) x.1
+
+took_ops : (bytes : List ℕ) (left : ℕ) (found : List HeldOp) (at : ℕ) (x : List HeldOp × ℕ) → IsBytes bytes → held_ops_from left found at bytes ≡ Ok x → TookOps bytes at left found x
+unfolding held_ops_from
+took_ops bytes zero found at x are e =
+    subst (λ (p : List HeldOp × ℕ). TookOps bytes at 0 found p) (ok_is (found, at) x e) (record { ops = []; is = sym (append-nil found); many = refl; range = tt; stands = refl })
+took_ops bytes (suc left) found at x are e =
+    bind_in (held_op_at at bytes) _ x e (λ o f e1.
+    let t = took_held_op bytes at o are f in
+    let r = took_ops bytes left (found ++ o.0 ∷ []) o.1 x are e1 in
+    record {
+      ops = o.0 ∷ r.ops;
+      is = r.is ∙ append_assoc found (o.0 ∷ []) r.ops;
+      many = omega (arith, r.many);
+      range = (t.1, r.range);
+      stands = stands_then bytes at (held_op o.0) o.1 (flat_map held_op r.ops) x.1 t.0 r.stands;
+    })
+
+took_secure : (bytes : List ℕ) (at behind : ℕ) (x : Record × ℕ) → IsBytes bytes → Stands bytes at (5 ∷ []) behind → secure_record behind bytes ≡ Ok x → TookRecord bytes at x
+unfolding secure_record held_ops_at
+took_secure bytes at behind x are s e =
+    bind_in (name_in 1 behind bytes) _ x e (λ a f e1.
+    bind_in (number_in 1 1000000000 a.1 bytes) _ x e1 (λ c f1 e2.
+    bind_in (held_ops_at c.1 bytes) _ x e2 (λ os g e4.
+    bind_in (number_at c.1 bytes) _ os g (λ n f2 f3.
+    let t = took_name bytes 1 behind a (omega arith) are f in
+    let t1 = took_number_in bytes 1 1000000000 a.1 c are f1 in
+    let t2 = took_number bytes c.1 n are f2 in
+    let r = took_ops bytes n.0 [] n.1 os are f3 in
+    let many : length os.0 ≡ n.0 = ap (λ (xs : List HeldOp). length xs) r.is ∙ r.many in
+    let s1 = stands_then bytes at (5 ∷ []) behind (name a.0) a.1 s t.0 in
+    let s2 = stands_then bytes at (5 ∷ name a.0) a.1 (number c.0) c.1 s1 t1.0 in
+    let s3 = stands_then bytes at (5 ∷ name a.0 ++ number c.0) c.1 (number (length os.0)) n.1 s2 (subst (λ (k : ℕ). Stands bytes c.1 (number k) n.1) (sym many) t2.0) in
+    let s4 = stands_then bytes at (5 ∷ name a.0 ++ number c.0 ++ number (length os.0)) n.1 (flat_map held_op os.0) os.1 s3 (subst (λ (xs : List HeldOp). Stands bytes n.1 (flat_map held_op xs) os.1) (sym r.is) r.stands) in
+    subst (λ (p : Record × ℕ). TookRecord bytes at p) (ok_is (Secure (record { family = a.0; count = c.0; ops = os.0 }), os.1) x e4) (
+      s4,
+      record {
+        family = record { name = t.1; top = omega (arith, t.1.depth.0, t.2) };
+        count = t1.1;
+        number = omega (arith, many, t2.1);
+        ops = subst (λ (xs : List HeldOp). AllByRecursion IsHeldOp xs) (sym r.is) r.range;
+      },
+    )))))
+
+tag_is : (bytes : List ℕ) (at tag k behind : ℕ) → tag ≡ k → Stands bytes at (tag ∷ []) behind → Stands bytes at (k ∷ []) behind
+tag_is bytes at tag k behind is stands = subst (λ (n : ℕ). Stands bytes at (n ∷ []) behind) is stands
+
+took_record_of : (bytes : List ℕ) (tag at behind : ℕ) (x : Record × ℕ) → IsBytes bytes → Stands bytes at (tag ∷ []) behind → record_of tag at behind bytes ≡ Ok x → TookRecord bytes at x
+unfolding record_of
+took_record_of bytes tag at behind x are s e =
+    elim (eqb_tells tag 1) [
+      | inl y ↦ took_count bytes at behind x are (tag_is bytes at tag 1 behind y.1 s) (rw y.0 at e)
+      | inr n ↦ let e = rw n.0 at e in elim (eqb_tells tag 2) [
+        | inl y ↦ took_abort bytes at behind x are (tag_is bytes at tag 2 behind y.1 s) (rw y.0 at e)
+        | inr n ↦ let e = rw n.0 at e in elim (eqb_tells tag 3) [
+          | inl y ↦ took_commit bytes at behind x are (tag_is bytes at tag 3 behind y.1 s) (rw y.0 at e)
+          | inr n ↦ let e = rw n.0 at e in elim (eqb_tells tag 4) [
+            | inl y ↦ took_seen bytes at behind x are (tag_is bytes at tag 4 behind y.1 s) (rw y.0 at e)
+            | inr n ↦ let e = rw n.0 at e in elim (eqb_tells tag 5) [
+              | inl y ↦ took_secure bytes at behind x are (tag_is bytes at tag 5 behind y.1 s) (rw y.0 at e)
+              | inr n ↦ let e = rw n.0 at e in absurd (let f : Err (BadTag at) ≡ done x = e in cc)
+            ]
+          ]
+        ]
+      ]
+    ]
+
+took_record : (bytes : List ℕ) (at : ℕ) (x : Record × ℕ) → IsBytes bytes → record_at at bytes ≡ Ok x → TookRecord bytes at x
+unfolding record_at
+took_record bytes at x are e = bind_in (byte_at at bytes) _ x e (λ tag f e1. took_record_of bytes tag.0 at tag.1 x are (took_byte bytes at tag f) e1)
+
+record TookRecords (bytes : List ℕ) (at : ℕ) (found out : List Record) : Type 0 where
+  records : List Record
+  is : out ≡ found ++ records
+  range : AreRecords records
+  stands : drop at bytes ≡ entry_bytes records
+
+-- a record takes a byte at least
+shorter : (bytes : List ℕ) (at : ℕ) (x : Record × ℕ) → Stands bytes at (record_bytes x.0) x.1 → 1 ≤ length (record_bytes x.0) → length (drop x.1 bytes) < length (drop at bytes)
+shorter bytes at x stands some = omega (arith, ap (λ (u : List ℕ). length u) stands, length-append (record_bytes x.0) (drop x.1 bytes), some)
+
+some_bytes : (one : Record) → 1 ≤ length (record_bytes one)
+some_bytes (Count c) = omega arith
+some_bytes (Abort a) = omega arith
+some_bytes (Commit a d) = omega arith
+some_bytes (Seen s c) = omega arith
+some_bytes (Secure held) = omega arith
+
+took_records : (bytes : List ℕ) (room : ℕ) (found out : List Record) (at : ℕ) → IsBytes bytes → length (drop at bytes) ≤ room → records_from room found at bytes ≡ Ok out → TookRecords bytes at found out
+unfolding records_from
+took_records bytes zero found out at are small e =
+    record { records = []; is = sym (ok_is found out e) ∙ sym (append-nil found); range = tt; stands = empty (drop at bytes) small }
+  where
+    empty : (xs : List ℕ) → length xs ≤ 0 → xs ≡ []
+    empty [] h = refl
+    empty (x ∷ xs) h = absurd (omega (arith, h))
+took_records bytes (suc room) found out at are small e =
+    by (ltb at (length bytes)) refl e (λ x small' e1. took_records bytes room (found ++ x.0 ∷ []) out x.1 are small' e1)
+  where
+    more : (x : Record × ℕ) → TookRecord bytes at x → TookRecords bytes x.1 (found ++ x.0 ∷ []) out → TookRecords bytes at found out
+    more x t r =
+        record { records = x.0 ∷ r.records; is = r.is ∙ append_assoc found (x.0 ∷ []) r.records; range = (t.1, r.range); stands = t.0 ∙ ap (λ (u : List ℕ). record_bytes x.0 ++ u) r.stands }
+
+    by : (test : Bool) → ltb at (length bytes) ≡ test → cond test (record_at at bytes >>= (λ x. records_from room (found ++ x.0 ∷ []) x.1 bytes)) (Ok found) ≡ Ok out → ((x : Record × ℕ) → length (drop x.1 bytes) ≤ room → records_from room (found ++ x.0 ∷ []) x.1 bytes ≡ Ok out → TookRecords bytes x.1 (found ++ x.0 ∷ []) out) → TookRecords bytes at found out
+    by true h e again =
+        bind_in (record_at at bytes) _ out e (λ x f e1.
+        let t = took_record bytes at x are f in
+        more x t (again x (omega (arith, small, shorter bytes at x t.0 (some_bytes x.0))) e1))
+    by false h e again = record { records = []; is = sym (ok_is found out e) ∙ sym (append-nil found); range = tt; stands = drop_of_length-le bytes (ltb-false _ _ h) }
+
+entry_ok : (number : ℕ) (one : Result (List Record) WireFault) (records : List Record) → in_entry number one ≡ Ok records → one ≡ Ok records
+entry_ok number (Ok x) records e = cc
+entry_ok number (Err fault) records e = absurd cc
+
+pub read_is_written : (number : ℕ) (bytes : List ℕ) (records : List Record) → IsBytes bytes → read_entry number bytes ≡ Ok records → (entry_bytes records ≡ bytes) × AreRecords records
+read_is_written number bytes records are e =
+    let r = took_records bytes (length bytes) [] records 0 are (omega arith) (entry_ok number (records_from (length bytes) [] 0 bytes) records e) in
+    subst (λ (rs : List Record). (entry_bytes rs ≡ bytes) × AreRecords rs) (sym r.is) (sym r.stands, r.range)

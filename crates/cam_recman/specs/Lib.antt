@@ -1,0 +1,9 @@
+pub mod Records
+pub mod Reading
+pub mod Ranges
+pub mod Writable
+pub mod Refuses
+pub mod Recovery
+pub mod Faults
+pub mod Inspect
+pub mod Laws

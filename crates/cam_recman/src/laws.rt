@@ -1,0 +1,23 @@
+ghost use Rattle.cam_recman.specs.Laws.{EntriesAreRead, ReadIsWritten, RecoveryIsOfTheRecords, OutcomesAreThoseSaid, HeldIsWhatWasSecured, CountsAreTheGreatest, CountIsTheLast, OneMoreEntryAdds, WrittenEntryAdds, StoppedAppendRecovers, FaultIsTheFirst, FirstIsTheFault};
+
+/// An entry that was written is read as its records, and what is read as records is their bytes.
+pub fn entries()
+    ensures read { EntriesAreRead }
+    ensures exactly { ReadIsWritten }
+{}
+
+/// Recovered is what the records of all entries say, and nothing else: the last count, just the outcomes that a record says, of each node
+/// the greatest count that a record has seen, and what was secured, in order. One more entry adds what its records say, so a log that was
+/// stopped while it appended one recovers as before or with it. A fault is that of the first entry that is no list of records.
+pub fn recovery()
+    ensures recovered { RecoveryIsOfTheRecords }
+    ensures outcomes { OutcomesAreThoseSaid }
+    ensures held { HeldIsWhatWasSecured }
+    ensures counts { CountsAreTheGreatest }
+    ensures count { CountIsTheLast }
+    ensures one_more { OneMoreEntryAdds }
+    ensures written { WrittenEntryAdds }
+    ensures stopped { StoppedAppendRecovers }
+    ensures first { FaultIsTheFirst }
+    ensures faulty { FirstIsTheFault }
+{}
