@@ -1,4 +1,4 @@
-ghost use Rattle.std.specs.Prelude.{◌<◌, IfSome};
+ghost use Rattle.std.specs.Prelude.{◌<◌};
 ghost use Rattle.cam_wire.specs.Writable.{IsWritableBody};
 
 use crate::{WireFault, decode, encode};
@@ -24,6 +24,19 @@ const QUIT: [u8; 73] = [
     1, 2, 0, 0, 0, 3, 1, 2, 2, 0, 0, 0, 3, 4, 0, 0, 0, 2, 0, 0, 0, 2, 1, 1, 0, 0, 0, 1, 0, 0, 0, 1,
     1, 1, 0, 0, 0, 1, 0, 0, 0, 2, 0, 0, 0, 1, 1, 2, 0, 0, 0, 3, 0, 0, 0, 1, 1, 2, 0, 0, 0, 3, 5, 1,
     1, 0, 0, 0, 1, 0, 0, 0, 2,
+];
+
+/// `NEWS` in another version, from no node, with a body of no kind, and with a byte behind it.
+const OTHER_VERSION: [u8; 17] = [3, 1, 0, 0, 0, 1, 2, 0, 0, 0, 0, 0, 0, 0, 0, 0, 9];
+const NO_NODE: [u8; 17] = [1, 9, 0, 0, 0, 1, 2, 0, 0, 0, 0, 0, 0, 0, 0, 0, 9];
+const NO_BODY: [u8; 17] = [1, 1, 0, 0, 0, 1, 2, 0, 0, 0, 0, 0, 0, 0, 0, 0, 10];
+const LONGER: [u8; 18] = [1, 1, 0, 0, 0, 1, 2, 0, 0, 0, 0, 0, 0, 0, 0, 0, 9, 0];
+
+/// `QUIT` where 2.3.1 is committed twice, the second time with no dependencies.
+const TWICE: [u8; 84] = [
+    1, 2, 0, 0, 0, 3, 1, 2, 2, 0, 0, 0, 3, 4, 0, 0, 0, 2, 0, 0, 0, 2, 1, 1, 0, 0, 0, 1, 0, 0, 0, 1,
+    1, 1, 0, 0, 0, 1, 0, 0, 0, 2, 0, 0, 0, 2, 1, 2, 0, 0, 0, 3, 0, 0, 0, 1, 1, 2, 0, 0, 0, 3, 1, 2,
+    0, 0, 0, 3, 0, 0, 0, 1, 0, 5, 1, 1, 0, 0, 0, 1, 0, 0, 0, 2,
 ];
 
 #[test]
@@ -155,75 +168,71 @@ fn each_reply_is_spelled_as_the_format_says(rt: HostRuntime) -> Result<(), Fail>
     Ok(())
 }
 
-#[test]
-fn the_first_fault_is_answered(rt: HostRuntime) -> Result<(), Fail> {
-    for (place, byte, fault) in [
-        (0, 3, WireFault::BadTag(0)),
-        (1, 9, WireFault::BadNumber(1)),
-        (16, 10, WireFault::BadTag(16)),
-    ] {
-        let mut bytes = NEWS;
-        bytes[place] = byte;
-        assert_eq!(rt; decode(rt.alloc(), &bytes).err(), Some(fault));
+/// The fault that is answered. None where a letter is read, and is spelled again as these bytes.
+fn fault_of(alloc: Global, bytes: &[u8]) -> Result<Option<WireFault>, Fail> {
+    let letter = match decode(alloc, bytes) {
+        Ok(letter) => letter,
+        Err(fault) => return Ok(Some(fault)),
+    };
+    if encode(alloc, &letter)?.as_slice() == bytes {
+        Ok(None)
+    } else {
+        Err("another spelling".into())
     }
-    let mut longer = NEWS.to_vec(rt.alloc())?;
-    longer.push(0)?;
-    assert_eq!(rt;
-        decode(rt.alloc(), &longer).err(),
-        Some(WireFault::Rest(17))
-    );
-    assert_eq!(rt; decode(rt.alloc(), &[]).err(), Some(WireFault::Short(0)));
-    // Two commits of one name, the second with lesser dependencies.
-    let mut bytes = QUIT;
-    bytes[45] = 2;
-    let mut twice = bytes[..62].to_vec(rt.alloc())?;
-    twice.extend_from_slice(&QUIT[46..61])?;
-    twice.push(1)?;
-    twice.extend_from_slice(&QUIT[62..])?;
-    assert_eq!(rt;
-        decode(rt.alloc(), &twice).err(),
-        Some(WireFault::Order(62))
-    );
+}
+
+#[test]
+fn letters_are_read_and_other_bytes_refused(rt: HostRuntime) -> Result<(), Fail> {
+    for (bytes, fault) in [
+        (NEWS.as_slice(), None),
+        (CALL.as_slice(), None),
+        (QUIT.as_slice(), None),
+        (OTHER_VERSION.as_slice(), Some(WireFault::BadTag(0))),
+        (NO_NODE.as_slice(), Some(WireFault::BadNumber(1))),
+        (NO_BODY.as_slice(), Some(WireFault::BadTag(16))),
+        (LONGER.as_slice(), Some(WireFault::Rest(17))),
+        (&[], Some(WireFault::Short(0))),
+        (TWICE.as_slice(), Some(WireFault::Order(62))),
+    ] {
+        assert_eq!(rt; fault_of(rt.alloc(), bytes)?, fault);
+    }
     for end in 0..QUIT.len() {
-        let fault = WireFault::Short(end as u64);
-        assert_eq!(rt; decode(rt.alloc(), &QUIT[..end]).err(), Some(fault));
+        let short = Some(WireFault::Short(end as u64));
+        assert_eq!(rt; fault_of(rt.alloc(), &QUIT[..end])?, short);
     }
     Ok(())
 }
 
-/// Which kind of answer it is, a letter first, and its place. None where a letter is not spelled as it was read.
-fn answer(alloc: Global, bytes: &[u8]) -> Option<(usize, u64)>
-    ensures { IfSome result (λ kind. kind.0 < 6) }
+/// Which kind of answer it is, a letter first, and its place.
+fn kind_of(fault: Option<WireFault>) -> (usize, u64)
+    ensures { result.0 < 7 }
 {
-    match decode(alloc, bytes) {
-        Ok(letter) => match encode(alloc, &letter) {
-            Ok(again) if again.as_slice() == bytes => Some((0, 0)),
-            _ => None,
-        },
-        Err(WireFault::Short(at)) => Some((1, at)),
-        Err(WireFault::BadTag(at)) => Some((2, at)),
-        Err(WireFault::BadNumber(at)) => Some((3, at)),
-        Err(WireFault::Order(at)) => Some((4, at)),
-        Err(WireFault::Rest(at)) => Some((5, at)),
-        Err(WireFault::NoMemory) => None,
+    match fault {
+        None => (0, 0),
+        Some(WireFault::Short(at)) => (1, at),
+        Some(WireFault::BadTag(at)) => (2, at),
+        Some(WireFault::BadNumber(at)) => (3, at),
+        Some(WireFault::Order(at)) => (4, at),
+        Some(WireFault::Rest(at)) => (5, at),
+        Some(WireFault::NoMemory) => (6, 0),
     }
 }
 
 // The numbers are those of a reader in another language that was written from the format's text.
 #[test]
 fn each_changed_byte_is_read_or_refused(rt: HostRuntime) -> Result<(), Fail> {
-    let mut kinds = [0u64; 6];
-    let mut places = [0u64; 6];
+    let mut kinds = [0u64; 7];
+    let mut places = [0u64; 7];
     for place in 0..QUIT.len() {
         for change in 1..=255 {
             let mut bytes = QUIT;
             bytes[place] ^= change;
-            let (kind, at) = answer(rt.alloc(), &bytes).ok_or("another spelling")?;
+            let (kind, at) = kind_of(fault_of(rt.alloc(), &bytes)?);
             kinds[kind] = kinds[kind].wrapping_add(1);
             places[kind] = places[kind].wrapping_add(at);
         }
     }
-    assert_eq!(rt; kinds, [8277, 1032, 504, 7140, 1661, 1]);
-    assert_eq!(rt; places, [0, 75336, 15447, 249899, 53019, 63]);
+    assert_eq!(rt; kinds, [8277, 1032, 504, 7140, 1661, 1, 0]);
+    assert_eq!(rt; places, [0, 75336, 15447, 249899, 53019, 63, 0]);
     Ok(())
 }
