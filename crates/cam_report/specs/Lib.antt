@@ -1,4 +1,6 @@
 pub mod Words
 pub mod Report
+pub mod DeedWords
+pub mod Traces
 pub mod Records
 pub mod Gathered
