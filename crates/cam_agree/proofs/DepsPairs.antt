@@ -4,8 +4,7 @@ use Rattle.std.proofs.lemmas.Bool.Decides.{eqb_tells}
 use Rattle.cam_names.specs.Dependencies.{greatest_count, as_counts, pairs_of}
 use Rattle.cam_event.proofs.Members.{In, in_append, in_left, in_right}
 use Rattle.cam_cut.proofs.DepsFacts.{InRange}
-use Rattle.cam_cut.proofs.GreatestCounts.{greatest_in, pairs_in}
-use Rattle.cam_cut.proofs.Pairs.{OneCount, greatest_ge, greatest_one, in_pairs}
+use Rattle.cam_cut.proofs.Pairs.{OneCount, greatest_ge, greatest_in, greatest_one, pairs_in, in_pairs}
 
 -- each pair of the one is among the other
 abbrev pub Within : List (ℕ × ℕ) → List (ℕ × ℕ) → Type 0

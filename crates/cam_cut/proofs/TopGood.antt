@@ -27,7 +27,7 @@ use Rattle.cam_cut.proofs.Clear.{NoOrphan, no_orphan, clear_empty}
 use Rattle.cam_cut.proofs.Good.{Good, AllOk}
 use Rattle.cam_cut.proofs.GoodForms.{good_idle, good_nothing, good_abort, good_if}
 use Rattle.cam_cut.proofs.Lists.{in_image}
-use Rattle.cam_cut.proofs.GreatestCounts.{pairs_in}
+use Rattle.cam_cut.proofs.Pairs.{pairs_in}
 
 -- a top action has no parent, and an action without one is a top action
 pub top_parent : (a : Name) → is_top a ≡ true → parent a ≡ None
