@@ -18,9 +18,7 @@ use Rattle.cam_event.specs.Runs.{MayCome}
 use Rattle.cam_event.proofs.OwnSteps.{entries_same}
 use Rattle.cam_event.proofs.SameInforms.{informs_agree}
 use Rattle.cam_event.proofs.Members.{In}
-use Rattle.cam_event.specs.Agreement.{EventsAgree, QueryRefusalsAgree}
-use Rattle.cam_agree.proofs.DepsEvents.{events_follow, query_refusals_follow}
-use Rattle.cam_agree.proofs.LiveServed.{calls_are_served_alike, families_agree}
+use Rattle.cam_agree.proofs.DepsEvents.{events_agree}
 use Rattle.cam_script.specs.declared.Script.{Script}
 use Rattle.cam_script.specs.declared.Statement.{Statement}
 use Rattle.cam_body.specs.declared.Next.{Next}
@@ -34,13 +32,6 @@ use Rattle.cam_runs.proofs.BodyRequests.{body_request}
 use Rattle.cam_runs.proofs.Going.{go_leads, may_parts, round_leads}
 use Rattle.cam_runs.proofs.Delivering.{letters_sent, waiting_numbered, one_delivery, drain_leads}
 use Rattle.cam_runs.specs.UnderWay.{IsUnderWay}
-
--- each input gives the same event, and queries are refused alike
-events_agree : EventsAgree
-events_agree = events_follow calls_are_served_alike
-
-pub query_refusals_agree : QueryRefusalsAgree
-query_refusals_agree = query_refusals_follow families_agree
 
 -- one event
 pub event_alike : (script : Script) (r : Running) (input : Input) → IsUnderWay script r → MayCome script.objects r.trace input → with_event (by_knowledge script.objects) r input ≡ with_event (by_pasts script.objects) r input

@@ -29,7 +29,8 @@ use Rattle.cam_runs.proofs.Bodies.{node_of_test}
 use Rattle.cam_runs.proofs.MayAsk.{first_two}
 use Rattle.cam_runs.proofs.Delivering.{letters_sent, letter_numbered}
 use Rattle.cam_runs.proofs.LeadOn.{next_passes}
-use Rattle.cam_runs.proofs.Alike.{query_refusals_agree, event_alike, deliver_alike, drain_alike, go_refusal_alike, go_alike, play_alike}
+use Rattle.cam_agree.proofs.DepsEvents.{query_refusals_agree}
+use Rattle.cam_runs.proofs.Alike.{event_alike, deliver_alike, drain_alike, go_refusal_alike, go_alike, play_alike}
 use Rattle.cam_runs.specs.Laws.{LinesAgree}
 use Rattle.cam_runs.specs.UnderWay.{IsUnderWay}
 
