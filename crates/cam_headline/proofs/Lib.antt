@@ -1,0 +1,11 @@
+pub mod Decided
+pub mod Agreed
+pub mod Whole
+pub mod SceneRun
+pub mod Stays
+pub mod Secure
+pub mod Recovered
+pub mod Light
+pub mod Lighter
+pub mod Drained
+pub mod HaltedRuns
