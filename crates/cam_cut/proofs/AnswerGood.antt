@@ -1,6 +1,6 @@
 -- The rules of answers, and of children that finish or quit, are good.
 use Rattle.std.proofs.Common.{◌≡◌, ℕ, ◌≤◌, ltb, ℤ, true, not, List, [], ◌∷◌, Option, Some, None, refl, sym, ap, ◌∙◌, subst}
-use Rattle.std.proofs.lemmas.Bool.{ltb-false}
+use Rattle.std.proofs.lemmas.Bool.{ltb-false, not-false}
 use Rattle.std.proofs.lemmas.Option.{same_Some}
 use Rattle.cam_names.specs.declared.name.Name.{Name}
 use Rattle.cam_names.specs.Names.{is_ancestor, parent}
@@ -32,7 +32,6 @@ use Rattle.cam_cut.proofs.DecideLines.{Decides, decides_so, commit_child_line, a
 use Rattle.cam_cut.proofs.Clear.{NoOrphan, no_orphan, clear_got, clear_commit, clear_abort}
 use Rattle.cam_cut.proofs.Good.{Good}
 use Rattle.cam_cut.proofs.GoodForms.{good_one, good_nothing, good_commit, good_abort, good_if, good_unless, no_letters}
-use Rattle.cam_cut.proofs.ArriveGood.{passed}
 
 -- what an action gets
 got_good : (objects : List ObjectDecl) (g : Sight) (B L : List Deed) (a : Name) (n : ℕ) (seen : Seen) → Sees objects g B L → Awaits objects g L a n → IsSeen objects L a n seen → NoOrphan objects (Got a n seen ∷ B) a → Good objects g B L (did (one (Got a n seen)) [])
@@ -45,7 +44,7 @@ pub answer_good : (objects : List ObjectDecl) (g : Sight) (B L : List Deed) (fro
 answer_good objects g B L from a n reply sees ok =
     good_if objects g B L (not (awaits g a n)) _ _
     (λ late. good_nothing objects g B L notes.Late sees (λ f. refl))
-    (λ waits. good_unless objects g B L a (pairs_of (g.deps a)) _ sees (λ clear. open_one (awaits_so objects g B L a n sees (passed (awaits g a n) waits)) clear (call_of g.deeds a n) refl))
+    (λ waits. good_unless objects g B L a (pairs_of (g.deps a)) _ sees (λ clear. open_one (awaits_so objects g B L a n sees (not-false (awaits g a n) waits)) clear (call_of g.deeds a n) refl))
   where
     young : Awaits objects g L a n → (call : Addressed) → call_of g.deeds a n ≡ Some call → g.known_count (site_of objects call.object) ≤ call.count → (other : Addressed) → call_of B a n ≡ Some other → count B (site_of objects other.object) ≤ other.count
     young waits call called now other base =
@@ -71,7 +70,7 @@ pub finish_good : (objects : List ObjectDecl) (g : Sight) (B L : List Deed) (fro
 finish_good objects g B L from p b v counts sees father ok =
     good_if objects g B L (not (decides_child g p b)) _ _
     (λ late. good_nothing objects g B L notes.Late sees (λ f. refl))
-    (λ now. good_unless objects g B L p (pairs_of (g.deps p)) _ sees (λ clear. by (decides_so objects g B L p b sees (passed (decides_child g p b) now)) clear (g.orphan b (pairs_of counts)) refl))
+    (λ now. good_unless objects g B L p (pairs_of (g.deps p)) _ sees (λ clear. by (decides_so objects g B L p b sees (not-false (decides_child g p b) now)) clear (g.orphan b (pairs_of counts)) refl))
   where
     there : asked_commit L b ≡ true
     there = in_any (is_ask_commit b) L (AskCommit b v) ok.0 (name_eq_refl b)
@@ -91,7 +90,7 @@ pub quit_good : (objects : List ObjectDecl) (g : Sight) (B L : List Deed) (p b :
 quit_good objects g B L p b sees father =
     good_if objects g B L (not (decides_child g p b)) _ _
     (λ late. good_nothing objects g B L notes.Late sees (λ f. refl))
-    (λ now. good_unless objects g B L p (pairs_of (g.deps p)) _ sees (λ clear. by (decides_so objects g B L p b sees (passed (decides_child g p b) now)) clear))
+    (λ now. good_unless objects g B L p (pairs_of (g.deps p)) _ sees (λ clear. by (decides_so objects g B L p b sees (not-false (decides_child g p b) now)) clear))
   where
     by : Decides g L p b → NoOrphan objects B p → Good objects g B L (did (aborts g b) [])
     by is clear =

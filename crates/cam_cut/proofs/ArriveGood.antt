@@ -1,5 +1,5 @@
 -- The rules of letters between homes and to sites are good.
-use Rattle.std.proofs.Common.{◌≡◌, inl, ℕ, eqb, Bool, true, false, not, List, [], ◌∷◌, find, Option, Some, None, refl, sym, ◌∙◌, subst}
+use Rattle.std.proofs.Common.{◌≡◌, inl, ℕ, eqb, true, false, not, List, [], ◌∷◌, find, Option, Some, None, refl, sym, ◌∙◌, subst}
 use Rattle.std.specs.List.{list_any}
 use Rattle.std.proofs.lemmas.Bool.{and_from, true≢false, eqb-true, not-false}
 use Rattle.std.proofs.lemmas.Option.{none-some}
@@ -36,10 +36,6 @@ use Rattle.cam_cut.proofs.Clear.{NoOrphan, clear_create}
 use Rattle.cam_cut.proofs.Good.{Good}
 use Rattle.cam_cut.proofs.GoodForms.{good_one, good_idle, good_nothing, good_if, good_unless, no_letters, one_letter, quiet}
 
--- a test that fails is not passed
-pub passed : (b : Bool) → not b ≡ false → b ≡ true
-passed b h = not-false b h
-
 -- a child's start comes to its home
 pub start_good : (objects : List ObjectDecl) (g : Sight) (B L : List Deed) (from : ℕ) (b : Name) (counts : List ℕ) → Sees objects g B L → BodyOk objects L from g.node (bodies.Start b counts) → Good objects g B L (start_comes g from b counts)
 start_good objects g B L from b counts sees ok =
@@ -57,7 +53,7 @@ start_good objects g B L from b counts sees ok =
     (λ there. good_nothing objects g B L notes.Again sees (λ f. refl))
     (λ fresh. good_unless objects g B L b (with_home counts b) _ sees (λ clear.
     good_one objects g B L (Create b) [] sees refl
-    (start_line objects g B L p b sees ok.1 (sym ok.2) (eqb-true (home_count b) (present g) (passed (is_present g b) now)) fresh)
+    (start_line objects g B L p b sees ok.1 (sym ok.2) (eqb-true (home_count b) (present g) (not-false (is_present g b) now)) fresh)
     (sym ok.2) (λ top. absurd (true≢false (sym top ∙ child))) (no_letters objects (Create b ∷ L) g.node)
     (λ a e. subst (NoOrphan objects (Create b ∷ B)) (sym (name_eq_same a b e)) (clear_create objects B b child clear)))))
 
@@ -100,7 +96,7 @@ call_good objects g B L from a n x op c counts sees ok =
     (λ old. good_idle objects g B L _ notes.Missed sees (one_letter objects L g.node (home_node a) (bodies.Answer a n replies.Missed) tt) (quiet objects L g.node notes.Missed (λ f. refl)))
     (λ now. good_if objects g B L (list_any g.knows_commit (ancestors a)) _ _
     (λ over. good_nothing objects g B L notes.Ended sees (λ f. refl))
-    (λ going. by (eqb-true c (present g) (passed (eqb c (present g)) now)) (kept_reply g.deeds a n) refl))
+    (λ going. by (eqb-true c (present g) (not-false (eqb c (present g)) now)) (kept_reply g.deeds a n) refl))
   where
     serve : Arrived objects g L a n x op c → (r : Option Reason) → Good objects g B L (refused_or_served objects g a n x op r)
     serve here (Some reason) = good_idle objects g B L _ (notes.Stopped a reason) sees (one_letter objects L g.node (home_node a) (bodies.Answer a n replies.Refused) tt) (quiet objects L g.node (notes.Stopped a reason) (λ f. refl))

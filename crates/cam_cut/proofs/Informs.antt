@@ -2,11 +2,15 @@
 use Rattle.std.proofs.Common.{◌≡◌, inl, inr, cond, ℕ, eqb, Bool, true, false, ◌&&◌, ◌||◌, List, [], ◌∷◌, ◌++◌, map, filter, refl, sym, ap, ◌∙◌, subst}
 use Rattle.std.specs.Prelude.{flat_map}
 use Rattle.std.specs.List.{list_any}
-use Rattle.std.proofs.lemmas.Bool.{eq-eqb}
+use Rattle.std.proofs.Math.Bool.{or-false}
+use Rattle.std.proofs.lemmas.Bool.{eq-eqb, false_from_ne_true}
+use Rattle.std.proofs.lemmas.List.Folds.{list_any-append}
 use Rattle.cam_names.specs.declared.name.Name.{Name}
-use Rattle.cam_names.specs.Names.{name_eq}
+use Rattle.cam_names.specs.Names.{name_eq, name_lt}
 use Rattle.cam_names.proofs.Names.{name_eq_same, name_eq_refl}
+use Rattle.cam_names.proofs.Order.{name_lt_other}
 use Rattle.cam_event.proofs.Members.{In, in_any, in_append}
+use Rattle.cam_event.proofs.SortedNames.{Rises, sorted_rises, sorted_any}
 use Rattle.cam_type.specs.declared.ObjectDecl.{ObjectDecl}
 use Rattle.cam_event.specs.declared.Deed.{Deed}
 use Rattle.cam_event.specs.declared.Deed.TheVariants.{Commit, Abort, Inform}
@@ -15,22 +19,12 @@ use Rattle.cam_event.specs.Rules.{sorted_names, informs}
 use Rattle.cam_event.specs.ByPast.{abort_in, commit_in}
 use Rattle.cam_plain.specs.Lines.{outcome_in}
 use Rattle.cam_plain.specs.Legal.{Legal}
-use Rattle.cam_cut.proofs.Lists.{every_in, in_image}
-use Rattle.cam_cut.proofs.NameOrder.{Distinct, sorted_distinct, sorted_any}
+use Rattle.cam_cut.proofs.Lists.{in_image}
 
 -- deeds in two parts
 pub after_append : (L xs ys : List Deed) → after L (xs ++ ys) ≡ after (after L xs) ys
 after_append L [] ys = refl
 after_append L (x ∷ xs) ys = after_append (x ∷ L) xs ys
-
--- a test of two lists one behind the other
-pub any_append : {X : Type 0} (p : X → Bool) (xs ys : List X) → list_any p (xs ++ ys) ≡ (list_any p xs || list_any p ys)
-any_append p [] ys = refl
-any_append p (x ∷ xs) ys = ap (λ r. p x || r) (any_append p xs ys) ∙ moved (p x) (list_any p xs) (list_any p ys)
-  where
-    moved : (a b c : Bool) → (a || (b || c)) ≡ ((a || b) || c)
-    moved true b c = refl
-    moved false b c = refl
 
 -- the first Informs are Informs at the node
 pub record IsInformAt (s : ℕ) (d : Deed) : Type 0 where
@@ -80,13 +74,22 @@ other_outcome : (s : ℕ) (a : Name) (names : List Name) (L : List Deed) → inf
 other_outcome s a [] L = refl
 other_outcome s a (b ∷ names) L = other_outcome s a names (Inform s b false ∷ L)
 
--- Informs of names that are decided, each once and new to the node, are legal
-legal_map : (objects : List ObjectDecl) (s : ℕ) (o : Bool) (names : List Name) (L : List Deed) → Distinct names → ((a : Name) → In a names → (outcome_in L a o ≡ true) × (informed L s a o ≡ false)) → Legal objects L → Legal objects (after L (map (λ a. Inform s a o) names))
-legal_map objects s o [] L distinct new legal = legal
-legal_map objects s o (a ∷ names) L distinct new legal =
+-- in a rising list a name is before each later one, and so another name
+later : (a b : Name) (names : List Name) → Rises (a ∷ names) → In b names → name_lt a b ≡ true
+later a b [] rises i = absurd i
+later a b (c ∷ names) rises (inl same) = subst (λ x. name_lt a x ≡ true) (sym same) rises.0.0
+later a b (c ∷ names) rises (inr i) = later a b names (rises.0.1, rises.1.1) i
+
+later_other : (a b : Name) (names : List Name) → Rises (a ∷ names) → In b names → name_eq b a ≡ false
+later_other a b names rises i = false_from_ne_true (name_eq b a) (λ same. name_lt_other a b (later a b names rises i) (sym (name_eq_same b a same)))
+
+-- Informs of names that are decided, in rising order and new to the node, are legal
+legal_map : (objects : List ObjectDecl) (s : ℕ) (o : Bool) (names : List Name) (L : List Deed) → Rises names → ((a : Name) → In a names → (outcome_in L a o ≡ true) × (informed L s a o ≡ false)) → Legal objects L → Legal objects (after L (map (λ a. Inform s a o) names))
+legal_map objects s o [] L rises new legal = legal
+legal_map objects s o (a ∷ names) L rises new legal =
     let here = new a (inl refl) in
-    legal_map objects s o names (Inform s a o ∷ L) distinct.1
-    (λ b i. (keep_outcome b o s a o L ∙ (new b (inr i)).0, other_name s b a o L (every_in (λ x. name_eq x a ≡ false) names b distinct.0 i) ∙ (new b (inr i)).1))
+    legal_map objects s o names (Inform s a o ∷ L) rises.1
+    (λ b i. (keep_outcome b o s a o L ∙ (new b (inr i)).0, other_name s b a o L (later_other a b names rises i) ∙ (new b (inr i)).1))
     (record { decided = here.0; fresh = here.1 }, legal)
 
 -- a name is found in a list that has it
@@ -98,11 +101,11 @@ pub informs_legal : (objects : List ObjectDecl) (s : ℕ) (xs ys : List Name) (L
 informs_legal objects s xs ys L one other legal =
     let first : List Deed = after L (map (λ a. Inform s a false) (sorted_names xs)) in
     subst (Legal objects) (sym (after_append L (map (λ a. Inform s a false) (sorted_names xs)) (map (λ a. Inform s a true) (sorted_names ys))))
-    (legal_map objects s true (sorted_names ys) first (sorted_distinct ys)
+    (legal_map objects s true (sorted_names ys) first (sorted_rises ys)
     (λ a i.
-    let known = other a (sym (sorted_any a ys) ∙ in_name a (sorted_names ys) i) in
+    let known = other a (sym (sorted_any (name_eq a) ys) ∙ in_name a (sorted_names ys) i) in
     (keep_map (λ M. outcome_in M a true) (λ r b p M. keep_outcome a true r b p M) s false (sorted_names xs) L ∙ known.0, other_outcome s a (sorted_names xs) L ∙ known.1))
-    (legal_map objects s false (sorted_names xs) L (sorted_distinct xs) (λ a i. one a (sym (sorted_any a xs) ∙ in_name a (sorted_names xs) i)) legal))
+    (legal_map objects s false (sorted_names xs) L (sorted_rises xs) (λ a i. one a (sym (sorted_any (name_eq a) xs) ∙ in_name a (sorted_names xs) i)) legal))
 
 -- which names a node is informed of by them
 map_same : (s : ℕ) (a : Name) (o : Bool) (names : List Name) → list_any (is_inform s a o) (map (λ b. Inform s b o) names) ≡ list_any (name_eq a) names
@@ -115,18 +118,13 @@ map_other : (s : ℕ) (a : Name) (names : List Name) → (list_any (is_inform s 
 map_other s a [] = (refl, refl)
 map_other s a (b ∷ names) = map_other s a names
 
--- nothing beside a test
-pub or_false : (b : Bool) → (b || false) ≡ b
-or_false true = refl
-or_false false = refl
-
 -- a name is among the first Informs where it is among the names
 pub any_informs : (s : ℕ) (a : Name) (xs ys : List Name) → (list_any (is_inform s a false) (informs s xs ys) ≡ list_any (name_eq a) xs) × (list_any (is_inform s a true) (informs s xs ys) ≡ list_any (name_eq a) ys)
 any_informs s a xs ys = (
-  any_append (is_inform s a false) (map (λ b. Inform s b false) (sorted_names xs)) (map (λ b. Inform s b true) (sorted_names ys))
-      ∙ (λ i. map_same s a false (sorted_names xs) i || (map_other s a (sorted_names ys)).1 i) ∙ or_false (list_any (name_eq a) (sorted_names xs)) ∙ sorted_any a xs,
-  any_append (is_inform s a true) (map (λ b. Inform s b false) (sorted_names xs)) (map (λ b. Inform s b true) (sorted_names ys))
-      ∙ (λ i. (map_other s a (sorted_names xs)).0 i || map_same s a true (sorted_names ys) i) ∙ sorted_any a ys,
+  list_any-append (is_inform s a false) (map (λ b. Inform s b false) (sorted_names xs)) (map (λ b. Inform s b true) (sorted_names ys))
+      ∙ (λ i. map_same s a false (sorted_names xs) i || (map_other s a (sorted_names ys)).1 i) ∙ or-false (list_any (name_eq a) (sorted_names xs)) ∙ sorted_any (name_eq a) xs,
+  list_any-append (is_inform s a true) (map (λ b. Inform s b false) (sorted_names xs)) (map (λ b. Inform s b true) (sorted_names ys))
+      ∙ (λ i. (map_other s a (sorted_names xs)).0 i || map_same s a true (sorted_names ys) i) ∙ sorted_any (name_eq a) ys,
 )
 
 -- the names that a history aborts, and commits

@@ -1,5 +1,5 @@
 -- Members of lists that are filtered, mapped, joined and searched.
-use Rattle.std.proofs.Common.{◌≡◌, ◌⊎◌, inl, inr, cond, if◌then◌else◌, ℕ, Bool, true, false, ◌&&◌, List, [], ◌∷◌, ◌++◌, filter, find, Some, None, refl, sym, ap, ◌∙◌, subst, ◌||◌, zero, suc, map, reverse}
+use Rattle.std.proofs.Common.{◌≡◌, ◌⊎◌, inl, inr, cond, if◌then◌else◌, ℕ, Bool, true, false, ◌&&◌, List, [], ◌∷◌, filter, find, Some, None, refl, sym, ◌∙◌, subst, ◌||◌, zero, suc, map, reverse}
 use Rattle.std.specs.Prelude.{flat_map, slice_get}
 use Rattle.std.proofs.lemmas.Bool.{and_parts, or_cases, or_left, or_right, and_from}
 use Rattle.cam_event.proofs.Members.{In, in_append, in_left, in_right}
@@ -8,6 +8,7 @@ use Rattle.cam_names.proofs.Every.{Every}
 use Rattle.std.specs.List.{list_any, list_all}
 use Rattle.std.proofs.lemmas.Option.{same_Some}
 use Rattle.std.proofs.lemmas.List.{reverse-append}
+use Rattle.cam_event.proofs.LiveLaws.{and_comm}
 
 -- what is in a list of which a filter keeps nothing fails
 pub filter_none : {X : Type 0} (p : X → Bool) (xs : List X) (x : X) → filter p xs ≡ [] → In x xs → p x ≡ false
@@ -42,13 +43,6 @@ flat_in f (z ∷ xs) y h = elim (in_append (f z) (flat_map f xs) y h) [
 pub filter_each : {X : Type 0} (p : X → Bool) (xs : List X) → ((x : X) → In x xs → p x ≡ true) → filter p xs ≡ xs
 filter_each p [] h = refl
 filter_each {X} p (x ∷ xs) h = λ i. cond (h x (inl refl) i) (x ∷ filter_each p xs (λ y k. h y (inr k)) i) (filter_each p xs (λ y k. h y (inr k)) i)
-
--- two tests in either order
-pub and_comm : (a b : Bool) → (a && b) ≡ (b && a)
-and_comm true true = refl
-and_comm true false = refl
-and_comm false true = refl
-and_comm false false = refl
 
 -- two filters in the other order
 pub filter_swap : {X : Type 0} (p q : X → Bool) (xs : List X) → filter p (filter q xs) ≡ filter q (filter p xs)
@@ -107,11 +101,6 @@ in_reverse (y ∷ xs) x h = elim (in_append (reverse xs) (y ∷ []) x (subst (In
 pub filter_true : {X : Type 0} (p : X → Bool) (xs : List X) → ((x : X) → p x ≡ true) → filter p xs ≡ xs
 filter_true p [] h = refl
 filter_true {X} p (x ∷ xs) h = λ i. cond (h x i) (x ∷ filter_true p xs h i) (filter_true p xs h i)
-
--- nothing behind a list
-pub append_nothing : {X : Type 0} (xs : List X) → xs ++ [] ≡ xs
-append_nothing [] = refl
-append_nothing (x ∷ xs) = ap (λ ys. x ∷ ys) (append_nothing xs)
 
 -- two tests that agree on what a filter keeps find the same in it
 pub find_kept : {X : Type 0} (p r q : X → Bool) (xs : List X) → ((x : X) → q x ≡ true → p x ≡ r x) → find p (filter q xs) ≡ find r (filter q xs)

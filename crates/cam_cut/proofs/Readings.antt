@@ -1,6 +1,6 @@
 -- How sets of events read with one more event.
-use Rattle.std.proofs.Common.{◌≡◌, if◌then◌else◌, ℕ, ◌<◌, Bool, true, false, ◌||◌, List, [], ◌∷◌, length, Option, Some, None, refl, ap, ◌∙◌, arith}
-use Rattle.std.proofs.lemmas.Bool.{eq-eqb, ne_eqb, false_from_ne_true}
+use Rattle.std.proofs.Common.{◌≡◌, if◌then◌else◌, ℕ, Bool, true, false, ◌||◌, List, [], ◌∷◌, length, Option, Some, refl, ap, ◌∙◌, arith}
+use Rattle.std.proofs.lemmas.Bool.{eq-eqb, ne_eqb}
 use Rattle.cam_names.specs.declared.name.Name.{Name}
 use Rattle.cam_type.specs.declared.ObjectDecl.{ObjectDecl}
 use Rattle.cam_event.specs.declared.LetterId.{LetterId}
@@ -12,7 +12,7 @@ use Rattle.cam_event.specs.Pasts.{last_of, sender_of, holds, in_past, in_base, p
 use Rattle.cam_event.specs.Rules.{Did}
 use Rattle.cam_event.specs.ByPast.{first_informs, event_of}
 use Rattle.cam_event.proofs.Members.{plain_same}
-use Rattle.cam_event.proofs.PastLaws.{in_past_newest, in_past_older, past_below}
+use Rattle.cam_event.proofs.PastLaws.{in_past_newest}
 use Rattle.cam_plain.proofs.Histories.{legal_before}
 use Rattle.cam_plain.proofs.Called.{call_stays}
 use Rattle.cam_plain.specs.Legal.{Legal}
@@ -31,14 +31,6 @@ plain_new t s got d S h = ap (λ b. if b then after (plain t S) (event_with t s 
 -- without the new event a set reads as before
 pub plain_old : (e : Event) (t : List Event) (S : ℕ → Bool) → S (length t) ≡ false → plain (e ∷ t) S ≡ plain t S
 plain_old e t S h = ap (λ b. if b then after (plain t S) e.deeds else plain t S) h
-
--- the past of an older event reads as before
-pub past_old : (e : Event) (t : List Event) (o : Option ℕ) → ((l : ℕ) → o ≡ Some l → l < length t) → plain (e ∷ t) (λ i. holds (in_past (e ∷ t) i) o) ≡ plain t (λ i. holds (in_past t i) o)
-past_old e t None below = refl
-past_old e t (Some l) below =
-    let small : l < length t = below l refl in
-    let none : in_past (e ∷ t) (length t) l ≡ false = in_past_older e t (length t) l small ∙ false_from_ne_true (in_past t (length t) l) (λ h. omega (arith, past_below t (length t) l h)) in
-    plain_old e t (λ i. in_past (e ∷ t) i l) none ∙ plain_same t (λ i. in_past (e ∷ t) i l) (λ i. in_past t i l) (λ k k_small. in_past_older e t k l small)
 
 -- the past of the new event is its base, and itself
 pub past_has_new : (e : Event) (t : List Event) → in_past (e ∷ t) (length t) (length t) ≡ true

@@ -23,6 +23,7 @@ use Rattle.cam_cut.proofs.Places.{PlacedAt, PlacedDeeds, AllPlaced}
 use Rattle.cam_cut.proofs.HomeFacts.{child_decider}
 use Rattle.cam_cut.proofs.DepsAgree.{HasDeeds}
 use Rattle.cam_cut.proofs.Good.{is_step}
+use Rattle.std.proofs.lemmas.List.{append-nil}
 
 -- a step that is given under a test passes it
 step_if : (t : Bool) (xs : List ViewStep) → is_some_step (if t then xs else []) ≡ true → t ≡ true
@@ -54,11 +55,6 @@ gives_any (d ∷ ds) L a h = by (is_some_step (step_of L d a)) refl h (gives_any
     by true e g rest = or_left (is_step a d) (list_any (is_step a) ds) (step_some L d a e)
     by false e g rest = or_right (is_step a d) (list_any (is_step a) ds) (rest g)
 
--- nothing behind a list
-append_nothing : {X : Type 0} (xs : List X) → xs ++ [] ≡ xs
-append_nothing [] = refl
-append_nothing (x ∷ xs) = ap (λ ys. x ∷ ys) (append_nothing xs)
-
 -- no steps
 no_step : (xs : List ViewStep) → is_some_step xs ≡ false → xs ≡ []
 no_step [] h = refl
@@ -71,7 +67,7 @@ gives_none (d ∷ ds) L a h = by (is_some_step (step_of L d a)) refl h (gives_no
   where
     by : (t : Bool) → is_some_step (step_of L d a) ≡ t → (if t then true else gives_step (d ∷ L) ds a) ≡ false → (gives_step (d ∷ L) ds a ≡ false → view (after (d ∷ L) ds) a ≡ view (d ∷ L) a) → view (after (d ∷ L) ds) a ≡ view L a
     by true e g rest = absurd (true≢false g)
-    by false e g rest = rest g ∙ ap (λ xs. view L a ++ xs) (no_step (step_of L d a) e) ∙ append_nothing (view L a)
+    by false e g rest = rest g ∙ ap (λ xs. view L a ++ xs) (no_step (step_of L d a) e) ∙ append-nil (view L a)
 
 -- an action asks to commit once
 pub commit_value_in : (objects : List ObjectDecl) (L : List Deed) (b : Name) (v : ℤ) → Legal objects L → In (AskCommit b v) L → commit_value L b ≡ Some v

@@ -17,7 +17,8 @@ use Rattle.cam_plain.proofs.Called.{call_stays}
 use Rattle.cam_plain.specs.Legal.{Legal}
 use Rattle.cam_cut.proofs.Places.{PlacedAt, Local}
 use Rattle.cam_cut.proofs.HomeFacts.{skip_secure}
-use Rattle.cam_cut.proofs.Lists.{filter_true, append_nothing}
+use Rattle.cam_cut.proofs.Lists.{filter_true}
+use Rattle.std.proofs.lemmas.List.{append-nil}
 
 -- the operations that no crash has removed, where a Perform's call is looked up in another history
 abbrev pub surviving_in : List ObjectDecl → List Deed → List Deed → List Operation
@@ -100,7 +101,7 @@ site_other objects H s (Perform a n answer) L M r placed away h = (
       filter-append (at_site objects s) (surviving_in objects H M) (of_call a n answer (call_of H a n))
       ∙ ap (λ o. filter (at_site objects s) (surviving_in objects H M) ++ filter (at_site objects s) (of_call a n answer o)) placed.1
       ∙ ap (λ b. filter (at_site objects s) (surviving_in objects H M) ++ cond b (record { action = a; number = n; object = placed.0.object; op = placed.0.op; answer = answer } ∷ []) []) (ne_eqb (site_of objects placed.0.object) s (λ (e : site_of objects placed.0.object ≡ s). away (sym placed.2 ∙ e)))
-      ∙ append_nothing (filter (at_site objects s) (surviving_in objects H M))
+      ∙ append-nil (filter (at_site objects s) (surviving_in objects H M))
       ),
   h.1,
 )

@@ -1,7 +1,7 @@
 -- The rules of Prepares, votes and queries are good.
 use Rattle.std.proofs.Common.{◌≡◌, inl, inr, if◌then◌else◌, ℕ, eqb, ltb, Bool, true, false, not, ◌&&◌, ◌||◌, List, [], ◌∷◌, Option, Some, None, is_some, refl, sym, ap, ◌∙◌, subst}
 use Rattle.std.specs.Prelude.{unwrap_or}
-use Rattle.std.proofs.lemmas.Bool.{and_parts, or_cases, or_parts, true≢false, eqb-true}
+use Rattle.std.proofs.lemmas.Bool.{and_parts, or_cases, or_parts, true≢false, eqb-true, not-false}
 use Rattle.cam_names.specs.declared.name.Name.{Name}
 use Rattle.cam_names.specs.Names.{name_eq, parent, home_node, home_count}
 use Rattle.cam_names.specs.Dependencies.{has_pair}
@@ -27,7 +27,6 @@ use Rattle.cam_cut.proofs.TopLines.{commit_top_line}
 use Rattle.cam_cut.proofs.SecureLines.{secure_line}
 use Rattle.cam_cut.proofs.Good.{Good}
 use Rattle.cam_cut.proofs.GoodForms.{good_one, good_idle, good_nothing, good_commit, good_abort, good_if, one_letter, quiet}
-use Rattle.cam_cut.proofs.ArriveGood.{passed}
 use Rattle.cam_cut.proofs.TopGood.{top_parent, clear_top, news_ok}
 
 -- a family that is secured at a site is so at a count at which it depends on the site
@@ -53,7 +52,7 @@ prepare_good objects g B L from f c sees ok base =
     (λ fresh. good_if objects g B L (not (eqb c (present g))) _ _
     (λ old. good_idle objects g B L _ notes.Missed sees (one_letter objects L g.node (home_node f) (bodies.Vote f c false) tt) (quiet objects L g.node notes.Missed (λ h. refl)))
     (λ now. good_one objects g B L (Secure f g.node c) _ sees refl
-    (secure_line objects g B L f c sees ok.0 ok.1 base.1 ok.2 (eqb-true c (present g) (passed (eqb c (present g)) now)) fresh none)
+    (secure_line objects g B L f c sees ok.0 ok.1 base.1 ok.2 (eqb-true c (present g) (not-false (eqb c (present g)) now)) fresh none)
     refl tt (one_letter objects (Secure f g.node c ∷ L) g.node (home_node f) (bodies.Vote f c true) (inl refl)) (λ a h. absurd (true≢false (sym h))))))
   where
     again : secured_at L f g.node ≡ true → In (Secure f g.node c) L
@@ -69,7 +68,7 @@ vote_good objects g B L from f c agrees sees ok =
     (λ now.
     let one = or_parts (not (is_present g f) || not (is_preparing g f)) (knows_outcome g f) now in
     let two = or_parts (not (is_present g f)) (not (is_preparing g f)) one.0 in
-    counted agrees ok (passed (is_present g f) two.0) (passed (is_preparing g f) two.1) one.1)
+    counted agrees ok (not-false (is_present g f) two.0) (not-false (is_preparing g f) two.1) one.1)
   where
     top : is_preparing g f ≡ true → parent f ≡ None
     top preparing = top_parent f (sees.prepared f preparing).top
