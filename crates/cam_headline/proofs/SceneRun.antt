@@ -1,5 +1,5 @@
 -- The worked scene, as the checker computes it.
-use Rattle.std.proofs.Common.{◌≡◌, ℕ, List, [], ◌∷◌, Ok, refl, ◌∙◌, pos}
+use Rattle.std.proofs.Common.{◌≡◌, [], ◌∷◌, Ok, refl, ◌∙◌, pos}
 use Rattle.std.specs.Prelude.{codes}
 use Rattle.std.specs.Fmt.{digits}
 use Rattle.cam_type.specs.declared.State.TheVariants.{Register}

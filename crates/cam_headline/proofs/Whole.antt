@@ -1,5 +1,5 @@
 -- The headline, put together.
-use Rattle.std.proofs.Common.{◌≡◌, ℕ, if◌then◌else◌, ℤ, Bool, true, false, ◌||◌, List, [], ◌∷◌, ◌++◌, Option, Some, None, refl, sym, ap, ◌∙◌}
+use Rattle.std.proofs.Common.{◌≡◌, ℕ, if◌then◌else◌, ℤ, Bool, true, false, ◌||◌, List, [], ◌∷◌, Option, Some, None, refl, sym, ap, ◌∙◌}
 use Rattle.std.specs.List.{list_any}
 use Rattle.std.specs.Prelude.{reverse, Result, Ok, Err, IfOk}
 use Rattle.std.proofs.lemmas.List.{reverse-reverse}
