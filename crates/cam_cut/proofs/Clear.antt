@@ -9,12 +9,11 @@ use Rattle.cam_names.proofs.Names.{name_eq_same, ancestors_any}
 use Rattle.cam_event.proofs.Members.{In, in_append, any_in}
 use Rattle.cam_names.proofs.Any.{none_found}
 use Rattle.cam_type.specs.declared.ObjectDecl.{ObjectDecl}
-use Rattle.cam_type.specs.declared.Op.{Op}
 use Rattle.cam_know.specs.Orphans.{is_stale, least, reason_of}
 use Rattle.cam_event.specs.declared.Seen.{Seen}
 use Rattle.cam_event.specs.declared.Seen.TheVariants.{Done, Busy, Gone}
 use Rattle.cam_event.specs.declared.Deed.{Deed}
-use Rattle.cam_event.specs.declared.Deed.TheVariants.{Create, Ask, Call, Got, Commit, Abort, Inform}
+use Rattle.cam_event.specs.declared.Deed.TheVariants.{Create, Ask, Got, Commit, Abort}
 use Rattle.cam_event.specs.History.{count, aborted, Addressed, call_of}
 use Rattle.cam_event.specs.Live.{site_of}
 use Rattle.cam_event.specs.Gained.{deps, visited, home}
@@ -135,11 +134,3 @@ clear_commit objects B a b named one other = record { unaborted = one.unaborted;
 -- an abort of a child leaves its parent
 pub clear_abort : (objects : List ObjectDecl) (B : List Deed) (a b : Name) → is_child a b ≡ true → NoOrphan objects B a → NoOrphan objects (Abort b ∷ B) a
 clear_abort objects B a b child h = record { unaborted = λ u above. or_from (name_eq u b) (aborted B u) (child_not_above a b u child above) (h.unaborted u above); current = h.current }
-
--- any deed that neither gains pairs nor aborts nor crashes leaves it so
-pub clear_inform : (objects : List ObjectDecl) (B : List Deed) (s : ℕ) (u a : Name) (o : Bool) → NoOrphan objects B a → NoOrphan objects (Inform s u o ∷ B) a
-clear_inform objects B s u a o h = record { unaborted = h.unaborted; current = h.current }
-
--- a Call leaves it so
-pub clear_call : (objects : List ObjectDecl) (B : List Deed) (a b : Name) (n x : ℕ) (op : Op) (c : ℕ) → NoOrphan objects B a → NoOrphan objects (Call b n x op c ∷ B) a
-clear_call objects B a b n x op c h = record { unaborted = h.unaborted; current = h.current }

@@ -1,8 +1,9 @@
-ghost use Rattle.std.specs.Prelude.{◌≡◌, ℕ, ◌<◌, List, true, false, length, reverse, IfOk, OnOk, IfErr, MatchOption};
+ghost use Rattle.std.specs.Prelude.{◌≡◌, ℕ, Bool, ◌<◌, List, true, false, length, reverse, IfOk, OnOk, IfErr, MatchOption};
 ghost use Rattle.cam_type.specs.declared.ObjectDecl.{ObjectDecl};
 ghost use Rattle.cam_event.specs.History.{created};
 ghost use Rattle.cam_event.specs.Pasts.{in_past, plain_all};
 ghost use Rattle.cam_event.specs.Runs.{IsRun};
+ghost use Rattle.cam_event.specs.Taken.{IsRunTaking};
 ghost use Rattle.cam_plain.specs.Legal.{history};
 ghost use Rattle.cam_cut.specs.declared.action.CutFault.TheVariants.{NoMemory as OutOfMemory};
 ghost use Rattle.cam_cut.specs.Faults.{IsCause};
@@ -37,12 +38,17 @@ impl From<NoMemory> for CutFault {
     }
 }
 
-/// The witness of an action: the deeds in the past of the last event that gives a step of its view.
+/// The witness of an action: the deeds in the past of the last event that gives a step of its view, in
+/// the order of the trace. Where the trace is a run, also one in which nodes halt, these are a legal
+/// history of plain nested transactions in which the action is no orphan and has the view that it has
+/// in the whole run. The time is linear in the trace, times the logarithm of how many children the
+/// action has.
 pub fn witness(alloc: Global, trace: &Trace, name: &Name) -> Result<Deeds, CutFault>
     ensures exact { IfOk result (λ deeds. history deeds ≡ witness (reverse trace.now) name.now) }
-    ensures found { OnOk result (created (plain_all (reverse trace.now)) name.now ≡ true) }
+    ensures created { OnOk result (created (plain_all (reverse trace.now)) name.now ≡ true) }
     ensures fault { IfErr result (IsCause (reverse trace.now) name.now) }
     ensures view { IfOk result (λ deeds. (objects : List ObjectDecl) → IsRun objects (reverse trace.now) → IsWitness objects (reverse trace.now) name.now (history deeds)) }
+    ensures halted_view { IfOk result (λ deeds. (objects : List ObjectDecl) (taken : ℕ → Bool) → IsRunTaking objects taken (reverse trace.now) → IsWitness objects (reverse trace.now) name.now (history deeds)) }
 {
     let Some(last) = last_step(alloc, trace, name)? else {
         return Err(CutFault::NoSuchAction);

@@ -8,7 +8,7 @@ use Rattle.cam_plain.specs.Legal.{history}
 use Rattle.cam_cut.specs.Kept.{is_kept}
 use Rattle.cam_cut.specs.Law.{IsWitness}
 use Rattle.cam_cut.specs.Witness.{cut_at, last_step, witness}
-use Rattle.cam_cut.proofs.Laws.{each_view_is_legal}
+use Rattle.cam_cut.proofs.Laws.{each_view_is_legal, each_halted_view_is_legal}
 use Rattle.cam_cut.proofs.action.witness.Goals as goal
 
 pub returns : goal.returns
@@ -24,7 +24,8 @@ returns c =
     c.in_ok-deeds.ensures.exact ∙ ap (λ (flags : List Bool). plain t (is_kept flags)) c.deref.ensures.value ∙ same ∙ ap (cut_at t) (sym found.1) in
     record {
       exact = exact;
-      found = found.0;
+      created = found.0;
       fault = tt;
       view = λ objects run. subst (IsWitness objects t a) (sym exact) (each_view_is_legal objects t a run found.0);
+      halted_view = λ objects taken run. subst (IsWitness objects t a) (sym exact) (each_halted_view_is_legal objects taken t a run found.0);
     }

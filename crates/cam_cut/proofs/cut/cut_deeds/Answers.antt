@@ -3,10 +3,10 @@ use Rattle.std.proofs.lemmas.List.{take_all}
 use Rattle.std.proofs.lemmas.Option.{unwrap_or-slice_get}
 use Rattle.cam_event.specs.declared.Event.{Event}
 use Rattle.cam_event.specs.Pasts.{plain}
-use Rattle.cam_plain.specs.Legal.{Legal}
+use Rattle.cam_plain.specs.Legal.{Legal, history}
 use Rattle.cam_cut.specs.Kept.{is_kept}
 use Rattle.cam_cut.proofs.Cutting.{stands, cut_more}
-use Rattle.cam_cut.proofs.Laws.{closed_sets_are_legal}
+use Rattle.cam_cut.proofs.Laws.{closed_sets_are_legal, halted_sets_are_legal}
 use Rattle.cam_cut.proofs.cut.cut_deeds.Goals.{then-keep-number+in_ok-extend, else-keep-number}
 use Rattle.cam_cut.proofs.cut.cut_deeds.Goals as goal
 
@@ -25,11 +25,16 @@ loop-number-preserved c =
       | else-keep-number w ↦ w.deeds-is ∙ sym (ap (λ b. if b then old ++ e.deeds else old) (flag ∙ w.if-keep-number.false))
     ])
 
-pub returns-clause-legal : goal.returns-clause-legal
-returns-clause-legal c = λ objects run closed.
-    let events = c.args.trace.now in
-    let items = c.as_slice-event-items.result.now in
-    let all : take c.loop-number.number events ≡ events =
-    subst (λ (es : List Event). take c.loop-number.number es ≡ es) c.as_slice-event-items.ensures (take_all c.loop-number.number items c.loop-number-test.false) in
-    subst (Legal objects) (sym (c.loop-number.invariant ∙ ap (λ (es : List Event). plain (reverse es) (is_kept c.args.keep.now)) all))
-    (closed_sets_are_legal objects (reverse events) (is_kept c.args.keep.now) run closed)
+pub returns : goal.returns
+returns c =
+    let t = reverse c.args.trace.now in
+    let S = is_kept c.args.keep.now in
+    let all : take c.loop-number.number c.args.trace.now ≡ c.args.trace.now =
+    subst (λ (es : List Event). take c.loop-number.number es ≡ es) c.as_slice-event-items.ensures
+    (take_all c.loop-number.number c.as_slice-event-items.result.now c.loop-number-test.false) in
+    let exact : history c.loop-number.deeds ≡ plain t S = c.loop-number.invariant ∙ ap (λ (es : List Event). plain (reverse es) S) all in
+    record {
+      exact = exact;
+      legal = λ objects run closed. subst (Legal objects) (sym exact) (closed_sets_are_legal objects t S run closed);
+      halted_legal = λ objects taken run closed. subst (Legal objects) (sym exact) (halted_sets_are_legal objects taken t S run closed);
+    }

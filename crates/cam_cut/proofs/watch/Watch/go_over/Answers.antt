@@ -19,10 +19,10 @@ loop-deed-preserved c = λ L a has.
     let M = after L (take i ds) in
     let split : take (i + 1) ds ≡ take i ds ++ d ∷ [] = take_more ds i d c.loop-deed-test.true ∙ ap (λ (e : Deed). take i ds ++ e ∷ []) (sym c.deed-item.is) in
     let either : c.if-gives.gives ≡ (c.loop-deed.gives || c.gives_step-step.result) =
-        elim c.if-gives.branch [ 
-          | then-gives w ↦ w.gives-is ∙ w.if-gives.true ∙ sym (ap (λ b. b || c.gives_step-step.result) w.if-gives.true)
-          | else-gives w ↦ w.gives-is ∙ sym (ap (λ b. b || c.gives_step-step.result) w.if-gives.false)
-        ]
+    elim c.if-gives.branch [
+      | then-gives w ↦ w.gives-is ∙ w.if-gives.true ∙ sym (ap (λ b. b || c.gives_step-step.result) w.if-gives.true)
+      | else-gives w ↦ w.gives-is ∙ sym (ap (λ b. b || c.gives_step-step.result) w.if-gives.false)
+    ]
     in (
       either ∙ (λ k. before.0 k || c.gives_step-step.ensures M a before.1 k) ∙ sym (gives_more L (take i ds) d a) ∙ ap (λ (es : List Deed). gives_step L es a) (sym split),
       subst (λ (es : List Deed). Watches (after L es) a new) (sym split) (subst (λ (N : List Deed). Watches N a new) (sym (after_more L (take i ds) d)) (c.in_ok-note.ensures M a before.1)),
