@@ -3,7 +3,6 @@ use Rattle.std.proofs.Common.{◌≡◌, ℕ, List, Result, Ok, Err, refl, sym, 
 use Rattle.cam_bytes.specs.declared.WireFault.{WireFault}
 use Rattle.cam_bytes.specs.declared.WireFault.TheVariants.{Short, BadTag, BadNumber, Order, Rest, NoMemory as OutOfMemory}
 use Rattle.cam_bytes.specs.Refuses.{Refuses as RefusesField}
-use Rattle.cam_bytes.specs.Reading.{◌>>=◌}
 use Rattle.cam_recman.specs.declared.Record.{Record}
 use Rattle.cam_recman.specs.declared.RecFault.{RecFault}
 use Rattle.cam_recman.specs.declared.RecFault.TheVariants.{BadRecord, NoMemory}
@@ -21,11 +20,6 @@ refused_entry entry reading (BadNumber at) r = ap (in_entry entry) r
 refused_entry entry reading (Order at) r = ap (in_entry entry) r
 refused_entry entry reading (Rest at) r = ap (in_entry entry) r
 refused_entry entry reading OutOfMemory r = tt
-
--- a fault of a step is that of the whole
-pub refused_then : {A B : Type 0} (one : Result A RecFault) (next : A → Result B RecFault) (fault : RecFault) → Refuses fault one → Refuses fault (one >>= next)
-refused_then one next (BadRecord entry at) r = rw r refl
-refused_then one next NoMemory r = tt
 
 abbrev found : {A : Type 0} → A → Result A RecFault
 found x = Ok x

@@ -58,14 +58,10 @@ module _ (bytes : List ℕ) (records : List Record) (at : ℕ) (many : length re
 
 -- records that are added one after another
 pub next_said : (r s : Recovered) (one : Record) (records rest : List Record) (whole : Recovered) → records ≡ one ∷ rest → s ≡ with_record r one → with_records r records ≡ whole → AreRecords records → (with_records s rest ≡ whole) × AreRecords rest
-next_said r s one records rest whole is more same are =
-    (
-      ap (λ (x : Recovered). with_records x rest) more ∙ sym (ap (λ (rs : List Record). with_records r rs) is) ∙ same,
-      (subst (λ (rs : List Record). AreRecords rs) is are).1,
-    )
-
-pub next_range : (one : Record) (records rest : List Record) → records ≡ one ∷ rest → AreRecords records → IsRecord one
-next_range one records rest is are = (subst (λ (rs : List Record). AreRecords rs) is are).0
+next_said r s one records rest whole is more same are = (
+  ap (λ (x : Recovered). with_records x rest) more ∙ sym (ap (λ (rs : List Record). with_records r rs) is) ∙ same,
+  (subst (λ (rs : List Record). AreRecords rs) is are).1,
+)
 
 pub all_said : (r : Recovered) (records : List Record) (whole : Recovered) → length records ≡ 0 → with_records r records ≡ whole → r ≡ whole
 all_said r [] whole none same = same

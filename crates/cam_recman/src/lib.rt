@@ -33,6 +33,8 @@ pub use laws::{entries, recovery};
 pub use recovering::{recover, restart};
 pub use writing::encode_entry;
 
+#[cfg(test)]
+mod tests;
 
 use cam_base::{NoMemory, Sequence};
 use cam_know::Know;
