@@ -32,7 +32,7 @@ use Rattle.cam_cut.proofs.Holds.{RunHolds, IsPart, base_part}
 use Rattle.cam_cut.proofs.Parts.{base_of, first_is}
 use Rattle.cam_cut.proofs.SeesRun.{own_of}
 use Rattle.cam_cut.proofs.Step.{run_holds}
-use Rattle.cam_agree.specs.LiveOperations.{counts_of, held_at, LiveOperationsAgree}
+use Rattle.cam_agree.specs.LiveOperations.{essentials_of, held_at, LiveOperationsAgree}
 use Rattle.cam_agree.proofs.LiveLists.{map_each, map_map, every_filtered}
 use Rattle.cam_agree.proofs.LiveStands.{standing, crashed, dropped, alive, handed, take_over, HandedUp, StandsAt}
 use Rattle.cam_agree.proofs.LiveFacts.{family_family}
@@ -69,10 +69,10 @@ lift_family up (p ∷ a) h =
 
 -- so what the family has taken over counts as before
 taken_counts : (g : Sight) (up : Name → Bool) (c : ℕ) (sec : Name → Bool) (p : Placed) → ((u : Name) → informed g.deeds g.node u true ≡ up u) → (p.index < c → sec (family p.operation.action) ≡ true) → (sec (family p.operation.action) ≡ true → HandedUp up p.operation.action)
-    → counts_of g (take_over c p).operation ≡ counts_of g p.operation
+    → essentials_of g (take_over c p).operation ≡ essentials_of g p.operation
 taken_counts g up c sec p told old up_to = by (nat_lt p.index c) refl
   where
-    by : (b : Bool) → nat_lt p.index c ≡ b → counts_of g (if b then handed p else p).operation ≡ counts_of g p.operation
+    by : (b : Bool) → nat_lt p.index c ≡ b → essentials_of g (if b then handed p else p).operation ≡ essentials_of g p.operation
     by false e = refl
     by true e =
         let over : HandedUp (λ u. informed g.deeds g.node u true) p.operation.action = λ u above other. told u ∙ up_to (old (ltb-true p.index c e)) u above other in
@@ -115,16 +115,16 @@ live_operations_agree objects t s got run sent =
     let k : Sight = held_at objects t s got in
     let g : Sight = sight objects t s got in
     let st : List Placed = alive (λ u. informed O s u false) (standing (plain_all t) O s) in
-    ap (map (counts_of k)) (held_live objects t s got run sent ∙ ap (map operation) there.kept_live)
-    ∙ ap (map (counts_of k)) (map_map operation (take_over (crashed O)) st)
-    ∙ map_map (counts_of k) (λ p. (take_over (crashed O) p).operation) st
-    ∙ map_each (λ p. counts_of k (take_over (crashed O) p).operation) (λ p. counts_of g p.operation) st
-    (every_weaker Fact (λ p. counts_of k (take_over (crashed O) p).operation ≡ counts_of g p.operation) st (λ p h.
+    ap (map (essentials_of k)) (held_live objects t s got run sent ∙ ap (map operation) there.kept_live)
+    ∙ ap (map (essentials_of k)) (map_map operation (take_over (crashed O)) st)
+    ∙ map_map (essentials_of k) (λ p. (take_over (crashed O) p).operation) st
+    ∙ map_each (λ p. essentials_of k (take_over (crashed O) p).operation) (λ p. essentials_of g p.operation) st
+    (every_weaker Fact (λ p. essentials_of k (take_over (crashed O) p).operation ≡ essentials_of g p.operation) st (λ p h.
     taken_counts k (λ u. informed O s u true) (crashed O) (λ f. secured_at O f s) p (λ u. ap (λ L. informed L s u true) (held_deeds objects t s got run sent)) h.0 h.1
     ∙ λ i. record { object = p.operation.object; op = p.operation.op; answer = p.operation.answer; family = family p.operation.action; lift = lift_by (λ u. informed (held_deeds objects t s got run sent i) s u true) p.operation.action })
     facts)
-    ∙ sym (map_map (counts_of g) operation st)
-    ∙ ap (map (counts_of g)) (sym (base_live objects t s got (plain_all t) (run_holds objects t run) (sent_earlier t got sent) (λ a n call h. h)))
+    ∙ sym (map_map (essentials_of g) operation st)
+    ∙ ap (map (essentials_of g)) (sym (base_live objects t s got (plain_all t) (run_holds objects t run) (sent_earlier t got sent) (λ a n call h. h)))
   where
     O : List Deed
     O = own_of t s got
