@@ -7,7 +7,7 @@
 -- 5 a front of one of these texts, where the sink failed
 -- 7 nothing, where memory was wanting
 use Rattle.std.specs.Prelude.{ℕ, ◌≡◌, ◌≤◌, ◌⊎◌, List, [], ◌∷◌, ◌++◌, length, take, codes, Result, Ok, Err}
-use Rattle.cam_event.specs.Readings.{by_knowledge}
+use Rattle.cam_event.specs.Readings.{by_pasts}
 use Rattle.cam_script.specs.declared.Script.{Script}
 use Rattle.cam_words.specs.declared.fault.ScriptFault.{ScriptFault}
 use Rattle.cam_words.specs.declared.fault.ScriptFault.TheVariants.{Bad, NoMemory}
@@ -31,7 +31,7 @@ abbrev pub report_of : Script → Running → List ℕ
 report_of script running = report script.objects script.labels running.trace running.marks
 
 abbrev pub script_report : Script → List ℕ
-script_report script = report_of script (run by_knowledge script)
+script_report script = report_of script (run by_pasts script)
 
 -- the answer to an input that was read, by what it spells: the report of the script's run, or the refusal
 abbrev pub IsOfScript : Result Script ScriptFault → ℕ → List ℕ → Type 0

@@ -11,6 +11,8 @@ use Rattle.cam_script.specs.FirstPath.{IsFirstPath}
 use Rattle.cam_cluster.specs.declared.parts.Parts.{Parts}
 use Rattle.cam_cluster.specs.Contract.{ClusterState}
 use Rattle.cam_runs.specs.Running.{letters}
+use Rattle.cam_runs.specs.InRange.{IsInRange}
+use Rattle.cam_runs.specs.UnderWay.{IsUnderWay}
 use Rattle.cam_cluster.specs.FirstPath.{are_first, is_bound_here}
 use Rattle.cam_cluster.specs.Nodes.{NodeState, node_state, NodesStand, is_few}
 
@@ -48,3 +50,8 @@ pub record Keeps (script : Script) (t : List Event) (kept : Kept) : Type 0 where
   -- the letters in order of sending
   pub sent_so : kept.sent ≡ letters t
   pub bound_here : IsTrue (list_all (is_bound_here script.nodes) kept.bound)
+
+-- What stands in a cluster, of a script that the parser accepts, is under way.
+pub record IsAtWork (cluster : ClusterState) : Type 0 where
+  pub in_range : IsInRange cluster.script
+  pub under_way : IsUnderWay cluster.script cluster.running

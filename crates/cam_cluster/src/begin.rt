@@ -4,7 +4,7 @@ ghost use Rattle.cam_script.specs.declared.Act.TheVariants as acts;
 ghost use Rattle.cam_cluster.specs.Contract.{IsLine};
 ghost use Rattle.cam_cluster.specs.Lines.{begin_event_of};
 
-use crate::cluster::Cluster;
+use crate::engine::Engine;
 use crate::node::Action;
 use crate::parts::record_event;
 use crate::room::one;
@@ -27,7 +27,7 @@ fn begin_event(alloc: Global, node: u8, name: &Name) -> Result<Event, NoMemory>
     })
 }
 
-impl<'a> Cluster<'a> {
+impl<'a> Engine<'a> {
     /// `begin A NODE`: a top action is created at the node, and the variable stands for it.
     pub(crate) fn begin(&mut self, line: u32, node: u8) -> Result<LineDone, LineFault>
         requires node { (1 ≤ node) × (node ≤ self.old.script.nodes) }

@@ -6,7 +6,7 @@ ghost use Rattle.cam_cluster.specs.Contract.{IsLine};
 ghost use Rattle.cam_cluster.specs.FirstPath.{is_node};
 ghost use Rattle.cam_cluster.specs.Lines.{call_event};
 
-use crate::cluster::Cluster;
+use crate::engine::Engine;
 use crate::node::Action;
 use crate::parts::record_event;
 use crate::room::one;
@@ -55,7 +55,7 @@ fn call_event(
     })
 }
 
-impl<'a> Cluster<'a> {
+impl<'a> Engine<'a> {
     /// `call A OBJECT OP`: the action makes a call, by a letter to the object's node. It is refused where a call of the action is open.
     pub(crate) fn call(
         &mut self,

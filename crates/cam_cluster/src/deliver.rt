@@ -8,15 +8,15 @@ ghost use Rattle.cam_runs.specs.Running.{letter_of};
 ghost use Rattle.cam_cluster.specs.Lines.{late_event};
 ghost use Rattle.cam_cluster.specs.Deliveries.{sent_of, IsCallComing, IsAnswerComing};
 
-use crate::cluster::Cluster;
 use crate::delivery::{Delivery, seen_of};
+use crate::engine::Engine;
 use crate::parts::record_event;
 use crate::site::{Asked, reply_to_call, serve};
 use crate::{LineDone, LineFault};
 use cam_event::{Body, LetterId, LineRefusal, Reply, Sent};
 use cam_names::Name;
 
-impl<'a> Cluster<'a> {
+impl<'a> Engine<'a> {
     /// `deliver N`: the letter of this number is handed to its node. It is refused where no such letter was sent.
     pub(crate) fn deliver(&mut self, line: u32, number: u32) -> Result<LineDone, LineFault>
         ensures { IsLine by_knowledge (record { line = line; act = acts.Deliver number }) self.old self.new result }

@@ -5,7 +5,7 @@ ghost use Rattle.cam_script.specs.FirstPath.{IsFirstPath};
 ghost use Rattle.cam_cluster.specs.Contract.{IsNew, IsNextStep, IsLine};
 ghost use Rattle.cam_cluster.specs.Nodes.{node_state, new_nodes};
 
-use crate::cluster::Cluster;
+use crate::engine::Engine;
 use crate::node::Node;
 use crate::parts::Parts;
 use crate::{LineDone, LineFault};
@@ -25,15 +25,14 @@ fn new_nodes(alloc: Global, count: u8) -> Result<Vec<Node>, NoMemory>
     Ok(nodes)
 }
 
-impl<'a> Cluster<'a> {
-    /// The run of a script before its first line. The script is one of the first path: it has no other steps than `begin`, `call` and
-    /// `deliver`.
-    pub fn new(alloc: Global, script: &'a Script) -> Result<Cluster<'a>, NoMemory>
+impl<'a> Engine<'a> {
+    /// Nodes that have done nothing, and no letter.
+    pub(crate) fn new(alloc: Global, script: &'a Script) -> Result<Engine<'a>, NoMemory>
         requires script { IsScript script.now }
         requires first { IsFirstPath script.now }
-        ensures { IfOk result (λ cluster. IsNew script.now cluster) }
+        ensures { IfOk result (λ engine. IsNew script.now engine) }
     {
-        Ok(Cluster {
+        Ok(Engine {
             script,
             parts: Parts {
                 nodes: new_nodes(alloc, script.nodes)?,
@@ -48,9 +47,8 @@ impl<'a> Cluster<'a> {
         })
     }
 
-    /// Takes the next step of the script. What stands after it is the definition's step of what stood before it, and the answer goes by
-    /// cases of that step: how many events were made, or the first test that refuses the line. Where memory was wanting, nothing changed.
-    pub fn line(&mut self, step: &Step) -> Result<LineDone, LineFault>
+    /// Takes the next step of the script, by what the nodes hold.
+    pub(crate) fn line(&mut self, step: &Step) -> Result<LineDone, LineFault>
         requires { IsNextStep self.old step.now }
         ensures { IsLine by_knowledge step.now self.old self.new result }
     {

@@ -1,4 +1,5 @@
-use crate::{Cluster, LineFault};
+use crate::engine::Engine;
+use crate::{LineFault, run_script};
 use cam_base::NoMemory;
 use cam_event::{Body, Deed, Reply, Seen, Trace};
 use cam_names::{Deps, Name};
@@ -223,17 +224,17 @@ fn last_event(alloc: Global, labels: &Labels, trace: &Trace) -> Result<String, N
 }
 
 /// Takes the next line of the script, and says what it came to.
-fn next_line<'a>(alloc: Global, cluster: &mut Cluster<'a>) -> Result<String, NoMemory> {
-    let script = cluster.script;
-    let Some(step) = script.steps.get(cluster.parts.bound.len()) else {
+fn next_line<'a>(alloc: Global, engine: &mut Engine<'a>) -> Result<String, NoMemory> {
+    let script = engine.script;
+    let Some(step) = script.steps.get(engine.parts.bound.len()) else {
         return Ok(String::from_str(alloc, "no line")?);
     };
-    match cluster.line(step) {
+    match engine.line(step) {
         Ok(done) if done.events == 1 && done.halted.is_none() && done.bad.is_none() => {
-            last_event(alloc, &script.labels, cluster.trace())
+            last_event(alloc, &script.labels, engine.trace())
         }
         Ok(done) => Ok(format!(in alloc; "{done:?}")?),
-        Err(LineFault::Refused(refusal)) => match cluster.run().marks.as_slice().last() {
+        Err(LineFault::Refused(refusal)) => match engine.run().marks.as_slice().last() {
             Some(mark) => Ok(format!(in alloc; "{refusal:?}, {mark:?}")?),
             None => Ok(format!(in alloc; "{refusal:?}")?),
         },
@@ -260,37 +261,40 @@ fn each_line_has_its_event_or_its_refusal(rt: HostRuntime) -> Result<(), Fail> {
     for table in [CONFLICT, TWO_NODES, REPEATS] {
         let text = script_of(rt.alloc(), table)?;
         let script = parse(rt.alloc(), Stage::FirstPath, text.as_bytes())?;
-        let mut cluster = Cluster::new(rt.alloc(), &script)?;
+        let mut engine = Engine::new(rt.alloc(), &script)?;
         let mut events = 0usize;
         let mut marks = 0usize;
         for row in table.lines() {
             let Some((line, want)) = row.split_once(" | ") else {
                 continue;
             };
-            let told = next_line(rt.alloc(), &mut cluster)?;
+            let told = next_line(rt.alloc(), &mut engine)?;
             assert_eq!(rt; told.as_str(), want, "at {line}");
             if want.starts_with("node") {
                 events = events.wrapping_add(1);
             } else {
                 marks = marks.wrapping_add(1);
             }
-            assert_eq!(rt; cluster.trace().len(), events, "at {line}");
-            assert_eq!(rt; cluster.run().marks.len(), marks, "at {line}");
+            assert_eq!(rt; engine.trace().len(), events, "at {line}");
+            assert_eq!(rt; engine.run().marks.len(), marks, "at {line}");
         }
-        let told = next_line(rt.alloc(), &mut cluster)?;
+        let told = next_line(rt.alloc(), &mut engine)?;
         assert_eq!(rt; told.as_str(), "no line");
     }
     Ok(())
 }
 
 #[test]
-fn with_ample_memory_a_cluster_takes_a_line(rt: HostRuntime) -> Result<(), Fail> {
-    let script = parse(rt.alloc(), Stage::FirstPath, b"nodes 8\nbegin A 8\n")?;
-    let mut cluster = Cluster::new(rt.alloc(), &script)?;
-    assert!(rt; cluster.trace().is_empty());
-    let told = next_line(rt.alloc(), &mut cluster)?;
+fn with_ample_memory_a_script_runs(rt: HostRuntime) -> Result<(), Fail> {
+    let script = parse(
+        rt.alloc(),
+        Stage::FirstPath,
+        b"nodes 8\nbegin A 8\ndeliver 1\n",
+    )?;
+    let cluster = run_script(rt.alloc(), &script)?;
+    let told = last_event(rt.alloc(), &script.labels, cluster.trace())?;
     assert_eq!(rt; told.as_str(), "node 8 got 0 Plain, create 8.1.1");
     assert_eq!(rt; cluster.run().trace.len(), 1);
-    assert!(rt; cluster.run().marks.is_empty());
+    assert_eq!(rt; cluster.run().marks.len(), 1);
     Ok(())
 }

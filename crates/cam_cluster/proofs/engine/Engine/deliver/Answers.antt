@@ -4,7 +4,7 @@ use Rattle.cam_script.specs.declared.Act.TheVariants as acts
 use Rattle.cam_cluster.specs.Keeps.{kept_of}
 use Rattle.cam_cluster.proofs.RefusedLine.{refused_answers, deliver_unsent}
 use Rattle.cam_cluster.proofs.SentLetters.{was_sent, says_first, call_or_answer}
-use Rattle.cam_cluster.proofs.cluster.Cluster.deliver.Goals as goal
+use Rattle.cam_cluster.proofs.engine.Engine.deliver.Goals as goal
 
 pub returns-in_default : goal.returns-in_default
 returns-in_default c =

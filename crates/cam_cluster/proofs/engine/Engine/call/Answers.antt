@@ -12,7 +12,7 @@ use Rattle.cam_cluster.specs.Changes.{calling, after_call}
 use Rattle.cam_cluster.specs.Deliveries.{IsKept}
 use Rattle.cam_cluster.proofs.CallEnd.{kept_few, kept_within, kept_place, call_not_open, call_has_open, call_ends, call_answers}
 use Rattle.cam_cluster.proofs.RefusedLine.{refused_answers}
-use Rattle.cam_cluster.proofs.cluster.Cluster.call.Goals as goal
+use Rattle.cam_cluster.proofs.engine.Engine.call.Goals as goal
 
 pub returns-in_default-find : goal.returns-in_default-find
 returns-in_default-find c =

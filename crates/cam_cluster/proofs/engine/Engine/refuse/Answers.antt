@@ -2,7 +2,7 @@ use Rattle.std.proofs.Common.{◌∙◌, ◌∷◌, [], ◌++◌, None, ap}
 use Rattle.std.specs.Prelude.{reverse}
 use Rattle.cam_cluster.specs.Keeps.{kept_of}
 use Rattle.cam_cluster.proofs.RefusedLine.{refused_keeps}
-use Rattle.cam_cluster.proofs.cluster.Cluster.refuse.Goals as goal
+use Rattle.cam_cluster.proofs.engine.Engine.refuse.Goals as goal
 
 pub invariant_of-self-2 : goal.invariant_of-self-2
 invariant_of-self-2 c =

@@ -3,7 +3,7 @@ use Rattle.cam_cluster.specs.Contract.{ClusterState}
 use Rattle.cam_cluster.specs.Keeps.{kept_of}
 use Rattle.cam_cluster.specs.Changes.{after_late}
 use Rattle.cam_cluster.proofs.AnswerEnd.{late_ends}
-use Rattle.cam_cluster.proofs.cluster.Cluster.late.Goals as goal
+use Rattle.cam_cluster.proofs.engine.Engine.late.Goals as goal
 
 pub invariant_of-self-2 : goal.invariant_of-self-2
 invariant_of-self-2 c =

@@ -12,7 +12,7 @@ use Rattle.cam_cluster.proofs.NodeLists.{state_at}
 use Rattle.cam_cluster.proofs.SentLetters.{call_of, node_within, kept_place_within}
 use Rattle.cam_cluster.proofs.DeliverEnd.{IsServing, again_next, again_ends, served_next, served_ends}
 use Rattle.cam_cluster.proofs.Ends.{delivered_answers}
-use Rattle.cam_cluster.proofs.cluster.Cluster.call_comes.Goals as goal
+use Rattle.cam_cluster.proofs.engine.Engine.call_comes.Goals as goal
 
 pub overflow_sub-place : goal.overflow_sub-place
 overflow_sub-place c =

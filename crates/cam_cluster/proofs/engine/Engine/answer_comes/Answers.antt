@@ -12,7 +12,7 @@ use Rattle.cam_cluster.proofs.SentLetters.{IsHere, here_of}
 use Rattle.cam_cluster.proofs.CallEnd.{kept_within, kept_place}
 use Rattle.cam_cluster.proofs.AnswerEnd.{late_unseen, late_not_kept, late_not_awaited, awaited_site, awaited_count, got_next_so, got_ends}
 use Rattle.cam_cluster.proofs.Ends.{delivered_answers}
-use Rattle.cam_cluster.proofs.cluster.Cluster.answer_comes.Goals as goal
+use Rattle.cam_cluster.proofs.engine.Engine.answer_comes.Goals as goal
 
 pub late-requires-clause-node : goal.late-requires-clause-node
 late-requires-clause-node c =

@@ -5,7 +5,7 @@ use Rattle.cam_event.specs.Inputs.{letter_at}
 use Rattle.cam_cluster.specs.Contract.{ClusterState}
 use Rattle.cam_cluster.specs.Deliveries.{sent_of}
 use Rattle.cam_cluster.proofs.SentLetters.{read_letter}
-use Rattle.cam_cluster.proofs.cluster.Cluster.sent.Goals as goal
+use Rattle.cam_cluster.proofs.engine.Engine.sent.Goals as goal
 
 pub returns-in_err-event : goal.returns-in_err-event
 returns-in_err-event c =

@@ -3,7 +3,7 @@ use Rattle.cam_cluster.specs.Contract.{ClusterState}
 use Rattle.cam_cluster.specs.Keeps.{kept_of}
 use Rattle.cam_cluster.specs.Changes.{after_begin}
 use Rattle.cam_cluster.proofs.BeginLine.{node_is_few, begin_ends, begin_answers}
-use Rattle.cam_cluster.proofs.cluster.Cluster.begin.Goals as goal
+use Rattle.cam_cluster.proofs.engine.Engine.begin.Goals as goal
 
 pub next_name-name-requires-clause-node : goal.next_name-name-requires-clause-node
 next_name-name-requires-clause-node c =

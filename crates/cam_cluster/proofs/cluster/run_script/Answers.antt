@@ -1,10 +1,10 @@
 use Rattle.std.proofs.Common.{◌≤◌, ◌+◌, ◌∙◌, ap, length, get_or, arith}
-use Rattle.cam_event.specs.Readings.{by_knowledge}
+use Rattle.cam_event.specs.Readings.{by_pasts}
 use Rattle.cam_script.specs.declared.Act.TheVariants.{Begin}
 use Rattle.cam_runs.specs.Run.{run}
 use Rattle.cam_runs.proofs.Following.{one_place_more}
-use Rattle.cam_cli.proofs.Steps.{runs_from_start, is_next, runs_on, runs_to_end}
-use Rattle.cam_cli.proofs.running.run_script.Goals as goal
+use Rattle.cam_cluster.proofs.Steps.{runs_from_start, is_next, runs_on, runs_to_end}
+use Rattle.cam_cluster.proofs.cluster.run_script.Goals as goal
 
 pub loop-step-init : goal.loop-step-init
 loop-step-init c =
@@ -32,15 +32,19 @@ loop-step-preserved c =
       script = ap (λ cluster. cluster.script) taken ∙ before.script;
       place =
           ap (λ cluster. length cluster.running.bound) taken
-          ∙ one_place_more (by_knowledge old.script.objects) old.script.bodies old.running step.line step.act
+          ∙ one_place_more (by_pasts old.script.objects) old.script.bodies old.running step.line step.act
           ∙ ap (λ n. n + 1) before.place;
       runs =
-          runs_on c.args.script.now steps at (record { line = 0; act = Begin 0 }) old c.take_step.new.cluster (run by_knowledge c.args.script.now)
+          runs_on c.args.script.now steps at (record { line = 0; act = Begin 0 }) old c.take_step.new.cluster (run by_pasts c.args.script.now)
           c.loop-step-test.true before.script taken before.runs;
     }
 
 pub returns : goal.returns
 returns c =
     let end : length c.as_slice-step-items.result.now ≤ c.loop-step.step-index = omega arith in
-    runs_to_end c.args.script.now c.as_slice-step-items.result.now c.loop-step.step-index c.loop-step.cluster.running (run by_knowledge c.args.script.now)
-    end c.loop-step.invariant.runs
+    record {
+      script = c.loop-step.invariant.script;
+      running =
+          runs_to_end c.args.script.now c.as_slice-step-items.result.now c.loop-step.step-index c.loop-step.cluster.running (run by_pasts c.args.script.now)
+          end c.loop-step.invariant.runs;
+    }
