@@ -1,7 +1,8 @@
-ghost use Rattle.std.specs.Prelude.{◌≡◌, ◌⊎◌, ◌↔◌, [], IfOk, IsTrue, Err, map, string_bytes};
+ghost use Rattle.std.specs.Prelude.{◌≡◌, ◌⊎◌, ◌↔◌, ℕ, List, [], IfOk, IsTrue, Err, map, string_bytes};
 ghost use Rattle.cam_base.specs.Causes.{Rose};
 ghost use Rattle.cam_base.specs.Told.{IfTold};
 ghost use Rattle.cam_script.specs.Grammar.{as_unknown_line};
+ghost use Rattle.cam_headline.specs.Headline.{HasOneRun};
 ghost use Rattle.cam_cli.specs.declared.status.Status.TheVariants as statuses;
 ghost use Rattle.cam_cli.specs.Status.{number};
 ghost use Rattle.cam_cli.specs.Answer.{IsAnswer, IsForm, IsOfFault, IsOfScript, IsOfWords, IsWritten, script_of, status_of};
@@ -20,7 +21,8 @@ const LIMIT: usize = 262_144;
 ///
 /// The answer is the status of the program: 0 the report was written; 2 the words are no form; 3 the script was refused; 4 the source
 /// failed; 5 the sink failed, and a front of the text was written; 7 memory was wanting, and nothing was written. The text is made
-/// whole before the first write.
+/// whole before the first write. What the run of each accepted script owes is told in `docs/HEADLINE.md`.
+#[tactic(auto, using(cam_headline::proofs::Whole::headline_as_shown))]
 pub fn camelot<S: Source, K: Sink>(
     alloc: Global,
     words: &[String],
@@ -37,6 +39,10 @@ pub fn camelot<S: Source, K: Sink>(
     // What was written, and that nothing else keeps an accepted or a refused script from its answer.
     ensures written { IfTold (S.left source.old) (S.left source.new) (λ input _. IfTold (K.written sink.old) (K.written sink.new) (λ before after. IsWritten (map string_bytes words.now) (Rose (S.faults source.old) (S.faults source.new)) input result before after)) }
     ensures complete { IfTold (S.left source.old) (S.left source.new) (λ input _. IsForm (map string_bytes words.now) → ¬ (Rose (S.faults source.old) (S.faults source.new)) → ¬ (Rose (K.faults sink.old) (K.faults sink.new)) → (result ≡ status_of (script_of input)) ⊎ (result ≡ 7)) }
+
+    // Of every script that is accepted: the run that is reported is the one run of the step rules; each action in it, orphan or not, has
+    // its view in a legal execution in which it is no orphan; and committed top actions replay serially in commit order.
+    ensures headline { (input : List ℕ) → IfOk (script_of input) HasOneRun }
 
     // The source: read to its end for a report, and not at all for the usage text.
     ensures read { result ≡ 0 → IfTold (S.left source.old) (S.left source.new) (λ _ rest. rest ≡ []) }
