@@ -1,5 +1,5 @@
 -- Which performed operations are live, by the count of the site when each was performed.
-use Rattle.std.specs.Prelude.{◌≡◌, ℕ, eqb, leb, Bool, false, not, ◌&&◌, ◌||◌, List, [], ◌∷◌, ◌++◌, map, filter, Option, Some, None}
+use Rattle.std.specs.Prelude.{ℕ, eqb, leb, Bool, false, not, ◌&&◌, ◌||◌, List, [], ◌∷◌, ◌++◌, map, filter, Option, Some, None}
 use Rattle.cam_names.specs.Names.{family}
 use Rattle.cam_type.specs.declared.ObjectDecl.{ObjectDecl}
 use Rattle.cam_event.specs.declared.Deed.{Deed}
@@ -8,8 +8,7 @@ use Rattle.cam_event.specs.declared.Operation.{Operation}
 use Rattle.cam_event.specs.History.{count, call_of}
 use Rattle.cam_event.specs.Live.{site_of, of_call, is_dropped}
 use Rattle.cam_live.specs.declared.performed.Performed.{Performed}
-use Rattle.cam_live.specs.declared.performed.Gathered.{Gathered}
-use Rattle.cam_live.specs.Tables.{first_secured, Tells}
+use Rattle.cam_live.specs.Tables.{first_secured}
 
 -- an operation, with the count of its site
 abbrev pub counted : List ObjectDecl → List Deed → Operation → Performed
@@ -39,8 +38,3 @@ is_live objects L p = stands objects L p && not (is_dropped objects L p.operatio
 -- the operations of those of a list that are live
 abbrev pub live_of : List ObjectDecl → List Deed → List Performed → List Operation
 live_of objects L ps = map (λ p. p.operation) (filter (is_live objects L) ps)
-
--- what is gathered of the deeds: the tables, and the performed operations
-pub record IsGathered (objects : List ObjectDecl) (L : List Deed) (gathered : Gathered) : Type 0 where
-  pub tells : Tells L gathered.tables
-  pub performed : gathered.performed ≡ performed objects L

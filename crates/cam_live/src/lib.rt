@@ -6,20 +6,25 @@
 //! performed, for every list of deeds, legal or not. [`settled`] answers those of them that are
 //! handed up past the top, which stay whatever runs on.
 //!
-//! It goes over the deeds once. `tables` keeps what they say of calls, counts of sites, secured
-//! families and informs; `performed` keeps each operation with the count of its site at that time. A
-//! crash so costs one step and not a look at all operations: at the end an operation stands if its
-//! count is still that of the site, or if the family was first secured there at no later count
-//! (`Counted`). With n deeds it takes about n times the logarithm of n.
+//! It goes over the deeds once, and takes each into a [`Ledger`]: `tables` keeps what the deeds say of
+//! calls, counts of sites, secured families and informs; `performed` keeps each operation with the
+//! count of its site at that time. A crash so costs one step and not a look at all operations: at the
+//! end an operation stands if its count is still that of the site, or if the family was first secured
+//! there at no later count (`Counted`). With n deeds it takes about n times the logarithm of n. Who
+//! needs the live operations deed by deed keeps a ledger.
 //!
 //! Stands on `cam_event` (deeds, live operations), `cam_type` (declarations), `cam_names` and
 //! `cam_base`.
 #![tactic(auto)]
 
+mod ledger;
 mod performed;
 mod tables;
+mod values;
 
-pub use performed::{Operations, live, settled};
+pub use ledger::{Ledger, live, settled};
+pub use performed::Operations;
+pub use values::{site_of, value_after};
 
 #[cfg(test)]
 mod tests;

@@ -1,14 +1,15 @@
-ghost use Rattle.std.specs.Prelude.{◌≡◌, ◌∷◌, ◌++◌, [], List, map, IfOk, OnOk};
+ghost use Rattle.std.specs.Prelude.{◌≡◌, ◌∷◌, ◌++◌, List, map, IfOk, OnOk};
 ghost use Rattle.cam_event.specs.declared.Deed.{Deed};
-ghost use Rattle.cam_event.specs.History.{after, call_of};
-ghost use Rattle.cam_event.specs.Live.{site_of, of_call, live};
-ghost use Rattle.cam_live.specs.Counted.{counted, performed, stands, is_live, live_of, IsGathered};
-ghost use Rattle.cam_live.specs.Settled.{is_handed_up, past_top_of, settled_operations};
+ghost use Rattle.cam_event.specs.History.{call_of};
+ghost use Rattle.cam_event.specs.Live.{of_call};
+ghost use Rattle.cam_live.specs.Counted.{counted, performed, stands, is_live, live_of};
+ghost use Rattle.cam_live.specs.Settled.{is_handed_up, past_top_of};
 ghost use Rattle.cam_live.specs.Tables.{Tells};
 
 use crate::tables::{Tables, count_of, has_ancestor, lift};
+use crate::values::site_of;
 use cam_base::{NoMemory, Sequence};
-use cam_event::{Deed, Deeds, Operation};
+use cam_event::{Deed, Operation};
 use cam_names::Name;
 use cam_type::{Answer, Objects};
 use std::alloc::Global;
@@ -17,23 +18,14 @@ use std::alloc::Global;
 pub type Operations = Sequence<Operation>;
 
 /// A performed operation, with the count of its site at that time.
-#[derive(Clone, Copy, Debug)]
+#[derive(Clone, Copy)]
 pub(crate) struct Performed {
     operation: Operation,
     count: u64,
 }
 
-type PerformedList = Sequence<Performed>;
-
-/// The node where an object stands, and 0 where it is not declared.
-fn site_of(objects: &Objects, object: u8) -> u8
-    ensures { result ≡ site_of objects.now object }
-{
-    match objects.get(object as usize) {
-        Some(declared) => declared.node,
-        None => 0,
-    }
-}
+/// Performed operations, in the order in which they were performed.
+pub(crate) type PerformedList = Sequence<Performed>;
 
 /// Adds an operation, where its call was made.
 fn perform(
@@ -61,7 +53,7 @@ fn perform(
 }
 
 /// Adds the operation that a deed performs.
-fn note_performed(
+pub(crate) fn note_performed(
     objects: &Objects,
     tables: &Tables,
     list: &mut PerformedList,
@@ -104,7 +96,7 @@ fn is_live(objects: &Objects, tables: &Tables, performed: &Performed) -> bool
 }
 
 /// Those of the performed operations that are live.
-fn live_of(
+pub(crate) fn live_of(
     alloc: Global,
     objects: &Objects,
     tables: &Tables,
@@ -130,7 +122,7 @@ fn is_past_top(objects: &Objects, tables: &Tables, operation: &Operation) -> boo
 }
 
 /// Those of the operations that are handed up past the top.
-fn past_top_of(
+pub(crate) fn past_top_of(
     alloc: Global,
     objects: &Objects,
     tables: &Tables,
@@ -144,46 +136,5 @@ fn past_top_of(
             settled.push_copy(operation)?;
         }
     }
-    Ok(settled)
-}
-
-/// What is gathered of a list of deeds.
-#[derive(Drop)]
-pub(crate) struct Gathered {
-    tables: Tables,
-    performed: PerformedList,
-}
-
-/// Goes over the deeds, and gathers what they say and the operations that they perform.
-fn gather(alloc: Global, deeds: &Deeds, objects: &Objects) -> Result<Gathered, NoMemory>
-    ensures { IfOk result (IsGathered objects.now (after [] deeds.now)) }
-{
-    let mut tables = Tables::new(alloc);
-    let mut performed = PerformedList::new(alloc);
-    for deed in deeds.as_slice() {
-        note_performed(objects, &tables, &mut performed, deed)?;
-        tables.note(deed)?;
-    }
-    Ok(Gathered { tables, performed })
-}
-
-/// The operations that are live after the deeds, of all objects, in the order in which they were
-/// performed. The deeds may be any list. It fails only where memory runs out.
-pub fn live(alloc: Global, deeds: &Deeds, objects: &Objects) -> Result<Operations, NoMemory>
-    ensures { IfOk result (λ operations. operations ≡ live objects.now (after [] deeds.now)) }
-{
-    let gathered = gather(alloc, deeds, objects)?;
-    let live = live_of(alloc, objects, &gathered.tables, &gathered.performed)?;
-    Ok(live)
-}
-
-/// The live operations that are handed up past the top after the deeds, as [`live`] has them: what
-/// each object holds for good. It fails only where memory runs out.
-pub fn settled(alloc: Global, deeds: &Deeds, objects: &Objects) -> Result<Operations, NoMemory>
-    ensures { IfOk result (λ operations. operations ≡ settled_operations objects.now (after [] deeds.now)) }
-{
-    let gathered = gather(alloc, deeds, objects)?;
-    let live = live_of(alloc, objects, &gathered.tables, &gathered.performed)?;
-    let settled = past_top_of(alloc, objects, &gathered.tables, &live)?;
     Ok(settled)
 }

@@ -1,26 +1,14 @@
 -- Going through a list of deeds: each that meets its line goes on legally, and the first that does not is the fault.
-use Rattle.std.proofs.Common.{◌≡◌, ℕ, ◌+◌, ◌<◌, ◌≤◌, true, false, List, [], ◌∷◌, ◌++◌, length, take, drop, get_or, zero, suc, refl, sym, ap, ◌∙◌, subst, arith}
+use Rattle.std.proofs.Common.{◌≡◌, ℕ, ◌<◌, ◌≤◌, true, false, List, [], ◌∷◌, ◌++◌, length, take, drop, get_or, zero, suc, refl, sym, ap, ◌∙◌, arith}
 use Rattle.std.proofs.lemmas.Bool.{true≢false}
 use Rattle.cam_type.specs.declared.ObjectDecl.{ObjectDecl}
 use Rattle.cam_event.specs.declared.Deed.{Deed}
 use Rattle.cam_plain.specs.Legal.{Legal, history, cause_of, IsFirstIllegal}
 use Rattle.cam_plain.specs.Tests.{meets}
-use Rattle.cam_plain.specs.Depending.{DependsOn}
-use Rattle.std.specs.BTreeMap.{BTreeMap}
-use Rattle.cam_names.specs.declared.name.Name.{Name}
-use Rattle.cam_event.proofs.Snoc.{further}
 use Rattle.cam_plain.proofs.Deciders.{meets_decides}
 
-pub legal_further : (objects : List ObjectDecl) (ds : List Deed) (i : ℕ) (d : Deed) → i < length ds → d ≡ get_or ds i d
-    → Legal objects (history (take i ds)) → meets objects (history (take i ds)) d ≡ true → Legal objects (history (take (i + 1) ds))
-legal_further objects ds i d h is legal passes =
-    subst (λ (L : List Deed). Legal objects L) (sym (further ds i d h is)) ((meets_decides objects (history (take i ds)) d).0 passes, legal)
-
-pub depends_further : (objects : List ObjectDecl) (ds : List Deed) (i : ℕ) (d : Deed) (old new : BTreeMap Name (List (ℕ × ℕ))) → i < length ds → d ≡ get_or ds i d
-    → (DependsOn objects (history (take i ds)) old → DependsOn objects (d ∷ history (take i ds)) new)
-    → DependsOn objects (history (take i ds)) old → DependsOn objects (history (take (i + 1) ds)) new
-depends_further objects ds i d old new h is step so_far =
-    subst (λ (L : List Deed). DependsOn objects L new) (sym (further ds i d h is)) (step so_far)
+pub legal_next : (objects : List ObjectDecl) (L : List Deed) (d : Deed) → Legal objects L → meets objects L d ≡ true → Legal objects (d ∷ L)
+legal_next objects L d legal passes = ((meets_decides objects L d).0 passes, legal)
 
 split_at : (ds : List Deed) (i : ℕ) (d : Deed) → i < length ds → d ≡ get_or ds i d → ds ≡ take i ds ++ d ∷ drop (suc i) ds
 split_at [] i d h is = absurd (omega (arith, h))

@@ -1,6 +1,5 @@
 pub mod Histories
-pub mod Climbing
-pub mod Replaying
+pub mod Finding
 pub mod LastPart
 pub mod Dependent
 pub mod Arriving

@@ -15,7 +15,8 @@ use Rattle.cam_event.specs.declared.Seen.TheVariants.{Done, Busy, Gone}
 use Rattle.cam_event.specs.declared.Deed.{Deed}
 use Rattle.cam_event.specs.declared.Deed.TheVariants.{Create, Ask, Call, Perform, Bounce, Got, AskCommit, AskAbort, Commit, Abort, Secure, Inform, Crash}
 use Rattle.cam_event.specs.History.{count, created, decided, asked_commit, runs, asked, informed, secured, secured_at, tops, asks, calls, open_call, has_open_child, Addressed, call_of}
-use Rattle.cam_event.specs.Live.{site_of, is_fit, live_at, lift, first_conflict, holder, value}
+use Rattle.cam_event.specs.declared.Operation.{Operation}
+use Rattle.cam_event.specs.Live.{site_of, is_fit, live_at, lift, is_conflict, first_conflict, holder, value}
 use Rattle.cam_event.specs.Gained.{deps}
 use Rattle.cam_plain.specs.Lines.{asked_for, replied, is_perform, is_bounce, outcome_in, is_lift}
 
@@ -38,6 +39,10 @@ call_test objects L a n x op c =
 abbrev pub arrival_test : List ObjectDecl → List Deed → Name → ℕ → (Addressed → Bool) → Bool
 arrival_test objects L a n test =
     not (replied L a n) && option_map_or (λ call. eqb call.count (count L (site_of objects call.object)) && test call) (call_of L a n) false
+
+-- an operation on the object conflicts with an op of the action
+abbrev pub stands_against : List ObjectDecl → List Deed → Name → ℕ → Op → Operation → Bool
+stands_against objects L a x op o = eqb o.object x && is_conflict objects L a op o
 
 -- the call meets no conflict, and this is its answer
 abbrev pub is_performed : List ObjectDecl → List Deed → Name → Answer → Addressed → Bool
@@ -90,6 +95,10 @@ may_commit_test objects L a None = is_at_home L a && list_all (λ p. secured L a
 
 abbrev pub commit_test : List ObjectDecl → List Deed → Name → Bool
 commit_test objects L a = asked_commit L a && (not (decided L a) && may_commit_test objects L a (parent a))
+
+-- an operation of the family at the site has not been handed up to it
+abbrev pub is_held_below : List ObjectDecl → List Deed → Name → ℕ → Operation → Bool
+is_held_below objects L f s o = eqb (site_of objects o.object) s && (name_eq f (family o.action) && not (is_lift f (lift L s o.action)))
 
 -- all live operations of the family at the site have been handed up to it
 abbrev pub handed_up : List ObjectDecl → List Deed → Name → ℕ → Bool

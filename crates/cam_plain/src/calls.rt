@@ -9,7 +9,7 @@ use cam_names::Name;
 use cam_type::Op;
 
 /// What a call asked, and the count at which the object's site was addressed.
-#[derive(Clone, Copy, Debug)]
+#[derive(Clone, Copy)]
 pub(crate) struct AddressedCall {
     pub(crate) object: u8,
     pub(crate) op: Op,

@@ -12,9 +12,9 @@ ghost use Rattle.cam_plain.specs.Depending.{pairs_in, AddsPairs, DependsOn};
 ghost use Rattle.cam_plain.specs.Legal.{history};
 
 use crate::calls::{AddressedCall, call_of};
-use crate::operations::site_of;
 use cam_base::{NoMemory, Sequence};
 use cam_event::{Deed, Seen};
+use cam_live::site_of;
 use cam_names::Name;
 use cam_type::Objects;
 use std::alloc::Global;

@@ -9,7 +9,7 @@ use cam_names::Name;
 use cam_type::Answer;
 
 /// Something that one deed can show.
-#[derive(Clone, Copy, Debug)]
+#[derive(Clone, Copy)]
 pub(crate) enum Fact {
     Created(Name),
     AskedFor(Name),

@@ -1,5 +1,5 @@
 ghost use Rattle.std.specs.Prelude.{◌≡◌, ◌∷◌, IfOk, OnOk, IfErr, OnErr};
-ghost use Rattle.cam_event.specs.Live.{surviving};
+ghost use Rattle.cam_live.specs.Ledger.{Keeps};
 ghost use Rattle.cam_plain.specs.declared.legality.CheckFault.TheVariants.{NoMemory as OutOfMemory};
 ghost use Rattle.cam_plain.specs.Depending.{DependsOn};
 ghost use Rattle.cam_plain.specs.Faults.{IsFault};
@@ -10,11 +10,11 @@ use crate::arrivals::{may_bounce, may_perform};
 use crate::calls::AddressedCall;
 use crate::dependencies::{Dependencies, take_deed};
 use crate::lines::{may_abort, may_ask, may_ask_commit, may_call, may_create, may_get, may_inform};
-use crate::operations::{Operations, take_over};
 use crate::securing::{may_commit, may_secure};
 use crate::standing::runs;
 use cam_base::NoMemory;
 use cam_event::{Deed, Deeds};
+use cam_live::Ledger;
 use cam_type::Objects;
 use std::alloc::Global;
 use thiserror::Error;
@@ -43,18 +43,18 @@ pub fn check(alloc: Global, deeds: &Deeds, objects: &Objects) -> Result<(), Chec
     ensures illegal { IfErr result (IsFault objects.now deeds.now) }
 {
     let list = deeds.as_slice();
-    let mut operations = Operations::new(alloc);
+    let mut ledger = Ledger::new(alloc);
     let mut dependencies = Dependencies::new(alloc);
     for (at, deed) in list.iter().enumerate() {
         let before = &list[..at];
-        let legal = is_legal(alloc, objects, before, &operations, &dependencies, deed)?;
+        let legal = is_legal(alloc, objects, before, &ledger, &dependencies, deed)?;
         if !legal {
             return Err(CheckFault::Illegal {
                 at: at as u64,
                 cause: cause_of(deed),
             });
         }
-        take_over(alloc, &mut operations, objects, before, deed)?;
+        ledger.note(objects, deed)?;
         take_deed(alloc, &mut dependencies, objects, before, deed)?;
     }
     Ok(())
@@ -86,11 +86,11 @@ fn is_legal(
     alloc: Global,
     objects: &Objects,
     before: &[Deed],
-    operations: &Operations,
+    ledger: &Ledger,
     dependencies: &Dependencies,
     deed: &Deed,
 ) -> Result<bool, NoMemory>
-    requires performed { operations.now ≡ surviving objects.now (history before.now) }
+    requires live { Keeps objects.now (history before.now) ledger.now }
     requires depending { DependsOn objects.now (history before.now) dependencies.now }
     ensures { IfOk result (λ legal. legal ≡ meets objects.now (history before.now) deed.now) }
 {
@@ -101,14 +101,10 @@ fn is_legal(
         Deed::AskAbort { action } => Ok(runs(before, action)),
         Deed::Commit { action } => Ok(may_commit(before, dependencies, action)),
         Deed::Abort { action } => Ok(may_abort(before, action)),
-        Deed::Secure { .. } | Deed::Inform { .. } | Deed::Crash { .. } => Ok(is_legal_at_site(
-            objects,
-            before,
-            operations,
-            dependencies,
-            deed,
-        )),
-        _ => is_legal_of_call(alloc, objects, before, operations, deed),
+        Deed::Secure { .. } | Deed::Inform { .. } | Deed::Crash { .. } => {
+            is_legal_at_site(alloc, objects, before, ledger, dependencies, deed)
+        }
+        _ => is_legal_of_call(alloc, objects, before, ledger, deed),
     }
 }
 
@@ -117,10 +113,10 @@ fn is_legal_of_call(
     alloc: Global,
     objects: &Objects,
     before: &[Deed],
-    operations: &Operations,
+    ledger: &Ledger,
     deed: &Deed,
 ) -> Result<bool, NoMemory>
-    requires { operations.now ≡ surviving objects.now (history before.now) }
+    requires { Keeps objects.now (history before.now) ledger.now }
     ensures { IfOk result (λ legal. legal ≡ call_meets objects.now (history before.now) deed.now) }
 {
     match deed {
@@ -142,12 +138,12 @@ fn is_legal_of_call(
             action,
             number,
             answer,
-        } => may_perform(alloc, objects, before, operations, action, *number, answer),
+        } => may_perform(alloc, objects, before, ledger, action, *number, answer),
         Deed::Bounce {
             action,
             number,
             holder,
-        } => may_bounce(alloc, objects, before, operations, action, *number, holder),
+        } => may_bounce(alloc, objects, before, ledger, action, *number, holder),
         Deed::Got {
             action,
             number,
@@ -159,15 +155,16 @@ fn is_legal_of_call(
 
 /// Whether a deed that a site does on its own meets its line; any other passes.
 fn is_legal_at_site(
+    alloc: Global,
     objects: &Objects,
     before: &[Deed],
-    operations: &Operations,
+    ledger: &Ledger,
     dependencies: &Dependencies,
     deed: &Deed,
-) -> bool
-    requires performed { operations.now ≡ surviving objects.now (history before.now) }
+) -> Result<bool, NoMemory>
+    requires live { Keeps objects.now (history before.now) ledger.now }
     requires depending { DependsOn objects.now (history before.now) dependencies.now }
-    ensures { result ≡ site_meets objects.now (history before.now) deed.now }
+    ensures { IfOk result (λ legal. legal ≡ site_meets objects.now (history before.now) deed.now) }
 {
     match deed {
         Deed::Secure {
@@ -175,9 +172,10 @@ fn is_legal_at_site(
             site,
             count,
         } => may_secure(
+            alloc,
             objects,
             before,
-            operations,
+            ledger,
             dependencies,
             family,
             *site,
@@ -187,7 +185,7 @@ fn is_legal_at_site(
             site,
             name,
             committed,
-        } => may_inform(before, *site, name, *committed),
-        _ => true,
+        } => Ok(may_inform(before, *site, name, *committed)),
+        _ => Ok(true),
     }
 }

@@ -10,11 +10,11 @@ ghost use Rattle.cam_plain.specs.Tests.{create_test, ask_test, call_test, seen_t
 
 use crate::calls::{AddressedCall, call_of, open_call};
 use crate::fact::Fact;
-use crate::operations::site_of;
 use crate::standing::{count, has_open_child, is_at_home, runs};
 use crate::tally::Tally;
 use cam_base::NoMemory;
 use cam_event::{Deed, Seen};
+use cam_live::site_of;
 use cam_names::Name;
 use cam_type::{Objects, Op, fits};
 use std::alloc::Global;

@@ -1,26 +1,28 @@
 //! Whether families may be secured and committed.
 
-ghost use Rattle.std.specs.Prelude.{◌≡◌, ◌&&◌, eqb, not, List};
+ghost use Rattle.std.specs.Prelude.{◌≡◌, IfOk, List};
 ghost use Rattle.std.specs.List.{list_all};
-ghost use Rattle.cam_names.specs.Names.{name_eq, family as top_of, parent};
+ghost use Rattle.cam_names.specs.Names.{parent};
 ghost use Rattle.cam_names.specs.Dependencies.{has_pair};
 ghost use Rattle.cam_type.specs.declared.ObjectDecl.{ObjectDecl};
+ghost use Rattle.cam_event.specs.declared.Deed.{Deed};
 ghost use Rattle.cam_event.specs.History.{secured};
-ghost use Rattle.cam_event.specs.Live.{is_dropped, lift, site_of, surviving};
+ghost use Rattle.cam_event.specs.Live.{live};
+ghost use Rattle.cam_live.specs.Ledger.{Keeps};
 ghost use Rattle.cam_plain.specs.Depending.{pairs_in, DependsOn};
 ghost use Rattle.cam_plain.specs.Legal.{history};
-ghost use Rattle.cam_plain.specs.Lines.{is_lift};
-ghost use Rattle.cam_plain.specs.Tests.{may_commit_test, commit_test, handed_up, secure_test};
+ghost use Rattle.cam_plain.specs.Tests.{may_commit_test, commit_test, is_held_below, handed_up, secure_test};
 
 use crate::dependencies::{Dependencies, Pairs, has_pair};
 use crate::fact::Fact;
-use crate::lifts::lift;
 use crate::lines::is_decided;
-use crate::operations::{Operations, is_dropped, site_of};
 use crate::standing::{count, is_at_home, runs};
+use cam_base::NoMemory;
 use cam_event::{Deed, Operation};
+use cam_live::{Ledger, Operations, site_of};
 use cam_names::Name;
 use cam_type::Objects;
+use std::alloc::Global;
 
 /// Whether the family is secured at each pair.
 fn all_secured(before: &[Deed], family: &Name, pairs: &Pairs) -> bool
@@ -79,39 +81,37 @@ pub(crate) fn may_commit(before: &[Deed], dependencies: &Dependencies, action: &
     asked && !decided && may
 }
 
-/// Whether the operation is a live one of the family at the site that has not been handed up to it.
+/// Whether the operation is one of the family at the site that has not been handed up to it.
 fn is_held_below(
     objects: &Objects,
-    before: &[Deed],
+    ledger: &Ledger,
     family: &Name,
     site: u8,
     operation: &Operation,
 ) -> bool
-    ensures { result ≡ (not (is_dropped objects.now (history before.now) operation.now) && (eqb (site_of objects.now operation.now.object) site && (name_eq family.now (top_of operation.now.action) && not (is_lift family.now (lift (history before.now) site operation.now.action))))) }
+    ensures { (L : List Deed) → Keeps objects.now L ledger.now → result ≡ is_held_below objects.now L family.now site operation.now }
 {
-    let dropped = is_dropped(objects, before, operation);
     let here = site_of(objects, operation.object) == site;
     let of_family = *family == operation.action.family();
-    let lifted = match lift(before, site, &operation.action) {
+    let lifted = match ledger.lift(site, &operation.action) {
         Some(holder) => *family == holder,
         None => false,
     };
-    !dropped && here && of_family && !lifted
+    here && of_family && !lifted
 }
 
 /// Whether all live operations of the family at the site have been handed up to it.
 fn is_handed_up(
     objects: &Objects,
-    before: &[Deed],
+    ledger: &Ledger,
     operations: &Operations,
     family: &Name,
     site: u8,
 ) -> bool
-    requires { operations.now ≡ surviving objects.now (history before.now) }
-    ensures { result ≡ handed_up objects.now (history before.now) family.now site }
+    ensures { (L : List Deed) → Keeps objects.now L ledger.now → operations.now ≡ live objects.now L → result ≡ handed_up objects.now L family.now site }
 {
     for operation in operations.as_slice() {
-        if is_held_below(objects, before, family, site, operation) {
+        if is_held_below(objects, ledger, family, site, operation) {
             return false;
         }
     }
@@ -119,23 +119,25 @@ fn is_handed_up(
 }
 
 pub(crate) fn may_secure(
+    alloc: Global,
     objects: &Objects,
     before: &[Deed],
-    operations: &Operations,
+    ledger: &Ledger,
     dependencies: &Dependencies,
     family: &Name,
     site: u8,
     secured_count: u32,
-) -> bool
-    requires performed { operations.now ≡ surviving objects.now (history before.now) }
+) -> Result<bool, NoMemory>
+    requires live { Keeps objects.now (history before.now) ledger.now }
     requires depending { DependsOn objects.now (history before.now) dependencies.now }
-    ensures { result ≡ secure_test objects.now (history before.now) family.now site secured_count }
+    ensures { IfOk result (λ may. may ≡ secure_test objects.now (history before.now) family.now site secured_count) }
 {
     let is_top = family.depth() == 1;
     let asked = Fact::AskedCommit(*family).is_in(before);
     let depends = depends(dependencies, family, site, secured_count);
     let present = secured_count as usize == count(before, site);
     let secured = Fact::SecuredAt(*family, site).is_in(before);
-    let handed_up = is_handed_up(objects, before, operations, family, site);
-    is_top && asked && depends && present && !secured && handed_up
+    let live = ledger.live(alloc, objects)?;
+    let handed_up = is_handed_up(objects, ledger, &live, family, site);
+    Ok(is_top && asked && depends && present && !secured && handed_up)
 }

@@ -8,7 +8,7 @@ use cam_event::Deed;
 use cam_names::Name;
 
 /// A sort of deeds that is counted.
-#[derive(Clone, Copy, Debug)]
+#[derive(Clone, Copy)]
 pub(crate) enum Tally {
     /// The crashes of a site.
     Crashes(u8),

@@ -11,24 +11,22 @@ use std::alloc::Global;
 use std::test::Fail;
 
 /// A script that declares a register `x` at node 1, and a queue `q` at node 2 that holds 1 and 2.
-fn declared(alloc: Global, with_queue: bool) -> Result<Script, NoMemory> {
+fn declared(alloc: Global) -> Result<Script, NoMemory> {
+    let mut items = Items::new(alloc);
+    items.push(1)?;
+    items.push(2)?;
     let mut objects = Objects::new(alloc);
-    let mut labels = Labels::new(alloc);
     objects.push(ObjectDecl {
         node: 1,
         start: State::Register(0),
     })?;
+    objects.push(ObjectDecl {
+        node: 2,
+        start: State::Queue(items),
+    })?;
+    let mut labels = Labels::new(alloc);
     labels.push(Label::new(String::from_str(alloc, "x")?))?;
-    if with_queue {
-        let mut items = Items::new(alloc);
-        items.push(1)?;
-        items.push(2)?;
-        objects.push(ObjectDecl {
-            node: 2,
-            start: State::Queue(items),
-        })?;
-        labels.push(Label::new(String::from_str(alloc, "q")?))?;
-    }
+    labels.push(Label::new(String::from_str(alloc, "q")?))?;
     Ok(Script {
         nodes: 2,
         objects,
@@ -87,68 +85,9 @@ fn inform(site: u8, name: Name, committed: bool) -> Deed {
     }
 }
 
-/// The run of the script `begin A 1`, `begin B 1`, `call A x write 5`, `deliver 1`, `deliver 2`,
-/// `call B x read`, `deliver 3`, `deliver 4`, `call A x read`.
-fn first_path(alloc: Global) -> Result<RunRecord, Fail> {
-    let a = Name::parse("1.1.1")?;
-    let b = Name::parse("1.1.2")?;
-    let mut trace = Trace::new(alloc);
-    for deed in [
-        Deed::Create { action: a },
-        Deed::Create { action: b },
-        call(a, 1, 0, Op::Write(5)),
-        perform(a, 1, Answer::Ok),
-        got(a, 1, Seen::Done(Answer::Ok)),
-        call(b, 1, 0, Op::Read),
-        Deed::Bounce {
-            action: b,
-            number: 1,
-            holder: a,
-        },
-        got(b, 1, Seen::Busy(a)),
-        call(a, 2, 0, Op::Read),
-    ] {
-        trace.push(event(alloc, &[deed], Note::Plain)?)?;
-    }
-    Ok(RunRecord {
-        trace,
-        marks: Marks::new(alloc),
-    })
-}
-
-#[test]
-fn the_first_path_is_reported(rt: HostRuntime) -> Result<(), Fail> {
-    let script = declared(rt.alloc(), false)?;
-    let run = first_path(rt.alloc())?;
-    let text = report_text(rt.alloc(), &script, &run)?;
-    let mut lines = text.lines();
-    for line in [
-        "action 1.1.1 open",
-        "  created",
-        "  called 1 x write 5",
-        "  got 1 ok",
-        "  called 2 x read",
-        "action 1.1.2 open",
-        "  created",
-        "  called 1 x read",
-        "  got 1 busy 1.1.1",
-        "value x 0",
-    ] {
-        assert_eq!(rt; lines.next(), Some(line));
-    }
-    assert_eq!(rt; lines.next(), None);
-    Ok(())
-}
-
-/// A run with each kind of step, of stop and of mark. The family of 1.1.1 is committed, and secured
-/// at node 1 before its crash; 1.1.2 is not, so its write is lost there and its put is not settled.
-fn each_kind(alloc: Global) -> Result<RunRecord, Fail> {
-    let top = Name::parse("1.1.1")?;
-    let child = Name::parse("1.1.1/2.1.1")?;
-    let other = Name::parse("1.1.1/1.1.2")?;
-    let open = Name::parse("1.1.2")?;
-    let mut trace = Trace::new(alloc);
-    let begun = [
+/// A child writes and puts, and commits.
+fn begun(top: Name, child: Name) -> [Deed; 11] {
+    [
         Deed::Create { action: top },
         Deed::Ask { action: top, child },
         Deed::Create { action: child },
@@ -163,9 +102,12 @@ fn each_kind(alloc: Global) -> Result<RunRecord, Fail> {
             value: 9,
         },
         Deed::Commit { action: child },
-    ];
-    trace.push(event(alloc, &begun, Note::Plain)?)?;
-    let stopped = [
+    ]
+}
+
+/// Another child takes, and aborts.
+fn stopped(top: Name, other: Name) -> [Deed; 7] {
+    [
         Deed::Ask {
             action: top,
             child: other,
@@ -176,10 +118,12 @@ fn each_kind(alloc: Global) -> Result<RunRecord, Fail> {
         Deed::AskAbort { action: other },
         Deed::Abort { action: other },
         inform(2, other, false),
-    ];
-    let by_abort = Note::Stopped(other, Reason::Abort(top));
-    trace.push(event(alloc, &stopped, by_abort)?)?;
-    let committed = [
+    ]
+}
+
+/// Their parent takes, is secured at node 1, and commits; both nodes are informed.
+fn committed(top: Name, child: Name) -> [Deed; 10] {
+    [
         call(top, 1, 1, Op::Take),
         perform(top, 1, Answer::Value(1)),
         got(top, 1, Seen::Gone),
@@ -197,27 +141,26 @@ fn each_kind(alloc: Global) -> Result<RunRecord, Fail> {
         inform(1, top, true),
         inform(2, child, true),
         inform(2, top, true),
-    ];
-    trace.push(event(alloc, &committed, Note::Voted)?)?;
-    let crashed = [
+    ]
+}
+
+/// Another top action writes and puts; the crash of node 1 loses its write, and its put is not settled.
+fn crashed(open: Name, top: Name) -> [Deed; 9] {
+    [
         Deed::Create { action: open },
         call(open, 1, 0, Op::Write(8)),
         perform(open, 1, Answer::Ok),
+        got(open, 1, Seen::Busy(top)),
         call(open, 2, 1, Op::Put(6)),
         perform(open, 2, Answer::Ok),
         got(open, 2, Seen::Done(Answer::Empty)),
         call(open, 3, 1, Op::Size),
         Deed::Crash { site: 1 },
-    ];
-    let by_crash = Note::Stopped(
-        open,
-        Reason::Crash {
-            node: 1,
-            old: 1,
-            new: 2,
-        },
-    );
-    trace.push(event(alloc, &crashed, by_crash)?)?;
+    ]
+}
+
+/// A mark of each kind.
+fn marks(alloc: Global) -> Result<Marks, NoMemory> {
     let mut marks = Marks::new(alloc);
     for mark in [
         Mark::Refused {
@@ -243,53 +186,75 @@ fn each_kind(alloc: Global) -> Result<RunRecord, Fail> {
     ] {
         marks.push_copy(&mark)?;
     }
+    Ok(marks)
+}
+
+/// A run with each kind of step, of stop and of mark.
+fn each_kind(alloc: Global) -> Result<RunRecord, Fail> {
+    let top = Name::parse("1.1.1")?;
+    let child = Name::parse("1.1.1/2.1.1")?;
+    let other = Name::parse("1.1.1/1.1.2")?;
+    let open = Name::parse("1.1.2")?;
+    let by_abort = Note::Stopped(other, Reason::Abort(top));
+    let by_crash = Note::Stopped(
+        open,
+        Reason::Crash {
+            node: 1,
+            old: 1,
+            new: 2,
+        },
+    );
+    let mut trace = Trace::new(alloc);
+    trace.push(event(alloc, &begun(top, child), Note::Plain)?)?;
+    trace.push(event(alloc, &stopped(top, other), by_abort)?)?;
+    trace.push(event(alloc, &committed(top, child), Note::Voted)?)?;
+    trace.push(event(alloc, &crashed(open, top), by_crash)?)?;
+    let marks = marks(alloc)?;
     Ok(RunRecord { trace, marks })
 }
 
+const REPORT: &str = "action 1.1.1 committed
+  created
+  asked 1.1.1/2.1.1
+  child 1.1.1/2.1.1 committed 9
+  asked 1.1.1/1.1.2
+  child 1.1.1/1.1.2 aborted
+  called 1 q take
+  got 1 gone
+  commit -3
+action 1.1.1/1.1.2 aborted
+  created
+  called 1 q take
+  abort
+action 1.1.1/2.1.1 committed
+  created
+  called 1 x swap 7
+  got 1 value 0
+  called 2 q put -4
+  got 2 ok
+  commit 9
+action 1.1.2 open
+  created
+  called 1 x write 8
+  got 1 busy 1.1.1
+  called 2 q put 6
+  got 2 empty
+  called 3 q size
+stop 1 1.1.1/1.1.2 abort 1.1.1
+stop 3 1.1.2 crash 1 1 2
+refused 3 L7
+cut 4 2 rest 17
+halted 5 2 taken
+halted 6 1 lost
+value x 7
+value q [2 -4]
+";
+
 #[test]
 fn each_kind_of_line_is_reported(rt: HostRuntime) -> Result<(), Fail> {
-    let script = declared(rt.alloc(), true)?;
+    let script = declared(rt.alloc())?;
     let run = each_kind(rt.alloc())?;
     let text = report_text(rt.alloc(), &script, &run)?;
-    let mut lines = text.lines();
-    for line in [
-        "action 1.1.1 committed",
-        "  created",
-        "  asked 1.1.1/2.1.1",
-        "  child 1.1.1/2.1.1 committed 9",
-        "  asked 1.1.1/1.1.2",
-        "  child 1.1.1/1.1.2 aborted",
-        "  called 1 q take",
-        "  got 1 gone",
-        "  commit -3",
-        "action 1.1.1/1.1.2 aborted",
-        "  created",
-        "  called 1 q take",
-        "  abort",
-        "action 1.1.1/2.1.1 committed",
-        "  created",
-        "  called 1 x swap 7",
-        "  got 1 value 0",
-        "  called 2 q put -4",
-        "  got 2 ok",
-        "  commit 9",
-        "action 1.1.2 open",
-        "  created",
-        "  called 1 x write 8",
-        "  called 2 q put 6",
-        "  got 2 empty",
-        "  called 3 q size",
-        "stop 1 1.1.1/1.1.2 abort 1.1.1",
-        "stop 3 1.1.2 crash 1 1 2",
-        "refused 3 L7",
-        "cut 4 2 rest 17",
-        "halted 5 2 taken",
-        "halted 6 1 lost",
-        "value x 7",
-        "value q [2 -4]",
-    ] {
-        assert_eq!(rt; lines.next(), Some(line));
-    }
-    assert_eq!(rt; lines.next(), None);
+    assert_eq!(rt; text.as_str(), REPORT);
     Ok(())
 }

@@ -5,7 +5,7 @@ use Rattle.cam_plain.proofs.arrivals.may_perform.Goals as goal
 
 pub returns-in_ok-may-in-Some : goal.returns-in_ok-may-in-Some
 returns-in_ok-may-in-Some c =
-    c.in_ok-may-in-Some.ensures ∙ sym (c.in-Some.ensures (is_performed c.args.objects.now (history c.args.before.now) c.args.action.now c.args.answer.now))
+    c.in_ok-may-in-Some.ensures (history c.args.before.now) c.requires ∙ sym (c.in-Some.ensures (is_performed c.args.objects.now (history c.args.before.now) c.args.action.now c.args.answer.now))
 
 pub returns-in-None : goal.returns-in-None
 returns-in-None c = sym (c.in-None.ensures (is_performed c.args.objects.now (history c.args.before.now) c.args.action.now c.args.answer.now))

@@ -2,7 +2,7 @@ use Rattle.std.proofs.Common.{◌≡◌, arith, ap, ◌∙◌}
 use Rattle.std.proofs.lemmas.Grind.{common_steps}
 use Rattle.cam_report.specs.Words.{state_text}
 use Rattle.cam_event.specs.Settled.{settled}
-use Rattle.cam_report.proofs.Settling.{settled_state}
+use Rattle.cam_live.proofs.Settling.{settled_state}
 use Rattle.cam_report.proofs.values.write_value.Goals as goal
 
 pub returns : goal.returns

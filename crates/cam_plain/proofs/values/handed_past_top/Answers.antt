@@ -1,7 +1,0 @@
-use Rattle.std.proofs.Common.{arith}
-use Rattle.std.proofs.lemmas.Grind.{common_steps}
-use Rattle.std.proofs.lemmas.List.Elements.{filter-append}
-use Rattle.cam_plain.proofs.values.handed_past_top.Goals as goal
-
-pub loop-operation-preserved : goal.loop-operation-preserved
-loop-operation-preserved c = grind (arith, common_steps, filter-append)
