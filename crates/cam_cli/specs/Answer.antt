@@ -7,15 +7,14 @@
 -- 5 a front of one of these texts, where the sink failed
 -- 7 nothing, where memory was wanting
 use Rattle.std.specs.Prelude.{ℕ, ◌≡◌, ◌≤◌, ◌⊎◌, List, [], ◌∷◌, ◌++◌, length, take, codes, Result, Ok, Err}
-use Rattle.cam_event.specs.Readings.{by_pasts}
 use Rattle.cam_script.specs.declared.Script.{Script}
 use Rattle.cam_words.specs.declared.fault.ScriptFault.{ScriptFault}
 use Rattle.cam_words.specs.declared.fault.ScriptFault.TheVariants.{Bad, NoMemory}
 use Rattle.cam_script.specs.Built.{first_path}
 use Rattle.cam_script.specs.Grammar.{read_script, as_unknown_line}
 use Rattle.cam_runs.specs.Running.{Running}
-use Rattle.cam_runs.specs.Run.{run}
 use Rattle.cam_report.specs.Report.{report}
+use Rattle.cam_headline.specs.Headline.{one_run}
 use Rattle.cam_cli.specs.Texts.{usage_text, read_fault_text, refused_text}
 
 -- the one form of the words
@@ -26,12 +25,12 @@ IsForm words = words ≡ codes "run" ∷ []
 abbrev pub script_of : List ℕ → Result Script ScriptFault
 script_of input = as_unknown_line (read_script first_path input)
 
--- the report of a script's run
+-- the report of a run of a script, and that of its one run
 abbrev pub report_of : Script → Running → List ℕ
 report_of script running = report script.objects script.labels running.trace running.marks
 
 abbrev pub script_report : Script → List ℕ
-script_report script = report_of script (run by_pasts script)
+script_report script = report_of script (one_run script)
 
 -- the answer to an input that was read, by what it spells: the report of the script's run, or the refusal
 abbrev pub IsOfScript : Result Script ScriptFault → ℕ → List ℕ → Type 0

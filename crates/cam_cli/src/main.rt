@@ -1,8 +1,9 @@
 //! The program `camelot`: it reads a script, runs it, and writes the report of the run.
 //!
-//! It stands on `cam_io` (the streams), `cam_script` (the parser), `cam_cluster` (the run) and `cam_report` (the report). Its main
-//! clause is that of `camelot`: the status and the bytes that are written are the answer to the words and the input, and each other
-//! status has its cause.
+//! It stands on `cam_io` (the streams), `cam_script` (the parser), `cam_cluster` (the run), `cam_report` (the report) and `cam_headline`
+//! (what each run owes). Its main clauses are those of `camelot`: the status and the bytes that are written are the answer to the words
+//! and the input, and each other status has its cause (`written`, `complete`); and of the run of each accepted script the headline holds
+//! (`headline`): what every action saw, orphan or not, is a legal execution in which it is no orphan.
 #![tactic(auto)]
 
 mod running;

@@ -41,7 +41,8 @@ pub fn camelot<S: Source, K: Sink>(
     ensures complete { IfTold (S.left source.old) (S.left source.new) (λ input _. IsForm (map string_bytes words.now) → ¬ (Rose (S.faults source.old) (S.faults source.new)) → ¬ (Rose (K.faults sink.old) (K.faults sink.new)) → (result ≡ status_of (script_of input)) ⊎ (result ≡ 7)) }
 
     // Of every script that is accepted: the run that is reported is the one run of the step rules; each action in it, orphan or not, has
-    // its view in a legal execution in which it is no orphan; and committed top actions replay serially in commit order.
+    // its view in a legal execution in which it is no orphan; committed top actions replay serially in commit order; and no two nodes
+    // hold different outcomes.
     ensures headline { (input : List ℕ) → IfOk (script_of input) HasOneRun }
 
     // The source: read to its end for a report, and not at all for the usage text.
