@@ -1,22 +1,25 @@
 // Replies: a tag, and what some of them have.
-ghost use Rattle.std.specs.Prelude.{◌≡◌, ◌<◌, ◌≤◌, length, IfOk};
+ghost use Rattle.std.specs.Prelude.{◌≡◌, ◌<◌, ◌≤◌, ◌++◌, length, IfOk, OnOk};
+ghost use Rattle.cam_wire.specs.Spelling.{reply as bytes_of_reply};
+ghost use Rattle.cam_wire.specs.Ranges.{IsReply};
 ghost use Rattle.cam_wire.specs.ReadingBodies.{reply_of, reply_at};
 
-use cam_bytes::{WireFault, byte_at, name_at, value_at};
+use cam_base::NoMemory;
+use cam_bytes::{WireFault, byte_at, name_at, value_at, write_byte, write_name, write_value};
 use cam_event::Reply;
 use cam_type::Answer;
 
-pub const OK: u8 = 1;
+const OK: u8 = 1;
 
-pub const VALUE: u8 = 2;
+const VALUE: u8 = 2;
 
-pub const EMPTY: u8 = 3;
+const EMPTY: u8 = 3;
 
-pub const BUSY: u8 = 4;
+const BUSY: u8 = 4;
 
-pub const MISSED: u8 = 5;
+const MISSED: u8 = 5;
 
-pub const REFUSED: u8 = 6;
+const REFUSED: u8 = 6;
 
 /// A reply whose tag, which stands at `at`, was read, and the place behind it.
 #[tactic(auto, unfolding(crate::specs::ReadingBodies::reply_of))]
@@ -51,4 +54,19 @@ pub fn reply_at(bytes: &[u8], at: usize) -> Result<(Reply, usize), WireFault>
 {
     let (tag, behind) = byte_at(bytes, at)?;
     reply_of(bytes, at, tag, behind)
+}
+
+/// A reply, written behind what was written.
+pub fn write_reply(out: Vec<u8>, reply: &Reply) -> Result<Vec<u8>, NoMemory>
+    ensures ok { IfOk result (λ text. text.items ≡ out.items ++ bytes_of_reply reply.now) }
+    ensures range { OnOk result (IsReply reply.now) }
+{
+    match reply {
+        Reply::Done(Answer::Ok) => write_byte(out, OK),
+        Reply::Done(Answer::Value(value)) => write_value(write_byte(out, VALUE)?, *value),
+        Reply::Done(Answer::Empty) => write_byte(out, EMPTY),
+        Reply::Busy(holder) => write_name(write_byte(out, BUSY)?, holder),
+        Reply::Missed => write_byte(out, MISSED),
+        Reply::Refused => write_byte(out, REFUSED),
+    }
 }

@@ -27,10 +27,8 @@ pub fn sorted_aborts(alloc: Global, outcomes: &[Outcome]) -> Result<BTreeSet<Nam
     ensures { IfOk result (λ aborts. aborts.keys ≡ sorted_names (flat_map aborted_name outcomes.now)) }
 {
     let mut aborts = BTreeSet::new(alloc);
-    let mut left = outcomes.len();
-    while left > 0 {
-        left -= 1;
-        note_abort(&mut aborts, &outcomes[left])?;
+    for place in (0..outcomes.len()).rev() {
+        note_abort(&mut aborts, &outcomes[place])?;
     }
     Ok(aborts)
 }
@@ -53,10 +51,8 @@ pub fn sorted_commits(alloc: Global, outcomes: &[Outcome]) -> Result<BTreeMap<Na
     ensures { IfOk result (λ commits. commits.entries ≡ sorted_commits (flat_map committed_pair outcomes.now)) }
 {
     let mut commits = BTreeMap::new(alloc);
-    let mut left = outcomes.len();
-    while left > 0 {
-        left -= 1;
-        note_commit(&mut commits, &outcomes[left])?;
+    for place in (0..outcomes.len()).rev() {
+        note_commit(&mut commits, &outcomes[place])?;
     }
     Ok(commits)
 }

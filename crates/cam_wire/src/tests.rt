@@ -28,8 +28,11 @@ const QUIT: [u8; 73] = [
 
 /// `NEWS` in another version, from no node, with a body of no kind, and with a byte behind it.
 const OTHER_VERSION: [u8; 17] = [3, 1, 0, 0, 0, 1, 2, 0, 0, 0, 0, 0, 0, 0, 0, 0, 9];
+
 const NO_NODE: [u8; 17] = [1, 9, 0, 0, 0, 1, 2, 0, 0, 0, 0, 0, 0, 0, 0, 0, 9];
+
 const NO_BODY: [u8; 17] = [1, 1, 0, 0, 0, 1, 2, 0, 0, 0, 0, 0, 0, 0, 0, 0, 10];
+
 const LONGER: [u8; 18] = [1, 1, 0, 0, 0, 1, 2, 0, 0, 0, 0, 0, 0, 0, 0, 0, 9, 0];
 
 /// `QUIT` where 2.3.1 is committed twice, the second time with no dependencies.

@@ -1,50 +1,24 @@
 // How the body of a letter is written: a tag, then its fields.
 ghost use Rattle.std.specs.Prelude.{◌≡◌, ◌++◌, ◌∷◌, IfOk, OnOk};
 ghost use Rattle.cam_bytes.specs.Fields.{name};
-ghost use Rattle.cam_wire.specs.Spelling.{reply as bytes_of_reply, body as bytes_of_body};
-ghost use Rattle.cam_wire.specs.Ranges.{IsReply, IsBody};
+ghost use Rattle.cam_wire.specs.Spelling.{body as bytes_of_body};
+ghost use Rattle.cam_wire.specs.Ranges.{IsBody};
 ghost use Rattle.cam_bytes.specs.Ranges.{IsName};
 ghost use Rattle.cam_wire.specs.Writable.{IsWritableBody};
 
 use crate::bodies::{ANSWER, CALL, FINISH, NEWS, PREPARE, QUERY, QUIT, START, VOTE};
-use crate::replies::{BUSY, EMPTY, MISSED, OK, REFUSED, VALUE};
+use crate::replies::write_reply;
 use cam_base::NoMemory;
 use cam_bytes::{write_byte, write_deps, write_name, write_number, write_op, write_value};
-use cam_event::{Body, Reply};
+use cam_event::Body;
 use cam_names::Name;
-use cam_type::Answer;
-
-/// A reply, written behind what was written.
-fn write_reply(out: Vec<u8>, reply: &Reply) -> Result<Vec<u8>, NoMemory>
-    ensures ok { IfOk result (λ text. text.items ≡ out.items ++ bytes_of_reply reply.now) }
-    ensures range { OnOk result (IsReply reply.now) }
-{
-    match reply {
-        Reply::Done(Answer::Ok) => write_byte(out, OK),
-        Reply::Done(Answer::Value(value)) => {
-            let out = write_byte(out, VALUE)?;
-            let out = write_value(out, *value)?;
-            Ok(out)
-        }
-        Reply::Done(Answer::Empty) => write_byte(out, EMPTY),
-        Reply::Busy(holder) => {
-            let out = write_byte(out, BUSY)?;
-            let out = write_name(out, holder)?;
-            Ok(out)
-        }
-        Reply::Missed => write_byte(out, MISSED),
-        Reply::Refused => write_byte(out, REFUSED),
-    }
-}
 
 /// A tag and the name behind it, written behind what was written.
 fn write_named(out: Vec<u8>, tag: u8, named: &Name) -> Result<Vec<u8>, NoMemory>
     ensures ok { IfOk result (λ text. text.items ≡ out.items ++ tag ∷ name named.now) }
     ensures range { OnOk result (IsName named.now) }
 {
-    let out = write_byte(out, tag)?;
-    let out = write_name(out, named)?;
-    Ok(out)
+    write_name(write_byte(out, tag)?, named)
 }
 
 /// A body, written behind what was written.

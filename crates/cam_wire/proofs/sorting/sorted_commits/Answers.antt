@@ -8,4 +8,4 @@ use Rattle.cam_wire.proofs.sorting.sorted_commits.Goals as goal
 
 pub note_commit-requires : goal.note_commit-requires
 note_commit-requires c =
-    subst (λ (cs : List (Name × List ℕ)). Rising (names_of cs)) (sym c.loop-left.invariant.sorted) (commits_rise (flat_map committed_pair (drop c.loop-left.left c.args.outcomes.now)))
+    subst (λ (cs : List (Name × List ℕ)). Rising (names_of cs)) (sym c.loop-place.invariant) (commits_rise (flat_map committed_pair (drop c.loop-place.place c.args.outcomes.now)))
