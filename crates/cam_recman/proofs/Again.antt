@@ -1,5 +1,5 @@
 -- Entries that were written are read again, and what they say is recovered.
-use Rattle.std.proofs.Common.{◌≡◌, ℕ, zero, suc, ◌+◌, ◌<◌, ◌≤◌, lt-ltb, le-ltb, List, [], ◌∷◌, ◌++◌, length, map, drop, flat_map, Ok, refl, sym, ap, ◌∙◌, arith, append_assoc, append-nil}
+use Rattle.std.proofs.Common.{◌≡◌, ℕ, zero, suc, ◌<◌, ◌≤◌, lt-ltb, le-ltb, List, [], ◌∷◌, ◌++◌, length, drop, flat_map, Ok, refl, sym, ap, ◌∙◌, arith, append_assoc, append-nil}
 use Rattle.std.specs.List.{AllByRecursion}
 use Rattle.std.proofs.lemmas.List.{length-drop, length-append}
 use Rattle.cam_type.specs.declared.HeldOp.{HeldOp}
@@ -8,7 +8,6 @@ use Rattle.cam_bytes.proofs.Again.{Reads, reads_ok, reads_then, reads_byte, read
 use Rattle.cam_bytes.proofs.AgainPairs.{reads_deps}
 use Rattle.cam_recman.specs.declared.Record.{Record}
 use Rattle.cam_recman.specs.declared.Record.TheVariants.{Count, Abort, Commit, Seen, Secure}
-use Rattle.cam_recman.specs.declared.Recovered.{Recovered}
 use Rattle.cam_recman.specs.Records.{held_op, record_bytes, entry_bytes}
 use Rattle.cam_recman.specs.Reading.{count_record, abort_record, commit_record, seen_record, held_op_at, held_ops_from, held_ops_at, secure_record, record_of, record_at, records_from, in_entry, read_entry}
 use Rattle.cam_recman.specs.Ranges.{IsHeldOp, IsRecord, AreRecords}
