@@ -65,15 +65,42 @@ fn trace(rt: &HostRuntime, events: u64, one: &Name, other: &Name) -> Result<Trac
     Ok(trace)
 }
 
-/// All deeds of the trace.
-fn copy(rt: &HostRuntime, trace: &Trace) -> Result<Deeds, Error> {
+/// How long it takes to copy all deeds of the trace, and how many they are.
+fn copy(rt: &HostRuntime, trace: &Trace) -> Result<(u128, usize), Error> {
+    let start = Instant::now(rt)?;
     let mut deeds = Deeds::new(rt.alloc());
     for event in trace.as_slice() {
         for deed in event.deeds.as_slice() {
             deeds.push_copy(deed)?;
         }
     }
-    Ok(deeds)
+    Ok((start.elapsed(rt)?.as_nanos(), deeds.len()))
+}
+
+/// How long the clocks of the trace take.
+fn clock(rt: &HostRuntime, trace: &Trace) -> Result<u128, Error> {
+    let start = Instant::now(rt)?;
+    let clocks = clocks(rt.alloc(), trace)?;
+    let time = start.elapsed(rt)?.as_nanos();
+    if !clocks.in_past(0, 0) {
+        println!(rt; "the first event is not in its past")?;
+    }
+    Ok(time)
+}
+
+/// How long a cut takes that keeps all events, and how many deeds it has.
+fn cut(rt: &HostRuntime, trace: &Trace) -> Result<(u128, usize), Error> {
+    let keep = vec![in rt.alloc(); true; trace.len()]?;
+    let start = Instant::now(rt)?;
+    let deeds = cut_deeds(rt.alloc(), trace, &keep)?;
+    Ok((start.elapsed(rt)?.as_nanos(), deeds.len()))
+}
+
+/// How long the witness of an action takes, and how many deeds it has.
+fn find(rt: &HostRuntime, trace: &Trace, name: &Name) -> Result<(u128, usize), Error> {
+    let start = Instant::now(rt)?;
+    let deeds = witness(rt.alloc(), trace, name)?;
+    Ok((start.elapsed(rt)?.as_nanos(), deeds.len()))
 }
 
 /// What was measured.
@@ -97,30 +124,18 @@ impl Times {
 }
 
 fn measure_once(rt: &HostRuntime, trace: &Trace, name: &Name) -> Result<Times, Error> {
-    let start = Instant::now(rt)?;
-    let copied = copy(rt, trace)?;
-    let copying = start.elapsed(rt)?.as_nanos();
-    let start = Instant::now(rt)?;
-    let all = clocks(rt.alloc(), trace)?;
-    let clocking = start.elapsed(rt)?.as_nanos();
-    if !all.in_past(0, 0) {
-        println!(rt; "the first event is not in its past")?;
-    }
-    let keep = vec![in rt.alloc(); true; trace.len()]?;
-    let start = Instant::now(rt)?;
-    let kept = cut_deeds(rt.alloc(), trace, &keep)?;
-    let cutting = start.elapsed(rt)?.as_nanos();
-    let start = Instant::now(rt)?;
-    let found = witness(rt.alloc(), trace, name)?;
-    let finding = start.elapsed(rt)?.as_nanos();
-    if kept.len() != copied.len() || found.len() < copied.len() / 10 * 9 {
-        println!(rt; "{} deeds of {}, and {} in the witness", kept.len(), copied.len(), found.len())?;
+    let clocks = clock(rt, trace)?;
+    let (copy, copied) = copy(rt, trace)?;
+    let (cut, kept) = cut(rt, trace)?;
+    let (witness, found) = find(rt, trace, name)?;
+    if kept != copied || found < copied / 10 * 9 {
+        println!(rt; "{kept} deeds of {copied} in the cut, and {found} in the witness")?;
     }
     Ok(Times {
-        copy: copying,
-        clocks: clocking,
-        cut: cutting,
-        witness: finding,
+        copy,
+        clocks,
+        cut,
+        witness,
     })
 }
 

@@ -4,8 +4,8 @@ use Rattle.cam_names.specs.declared.name.Name.{Name}
 use Rattle.cam_event.specs.declared.Event.{Event}
 use Rattle.cam_event.specs.History.{created}
 use Rattle.cam_event.specs.Pasts.{plain_all}
-use Rattle.cam_cut.specs.declared.action.CutFault.{CutFault}
-use Rattle.cam_cut.specs.declared.action.CutFault.TheVariants.{NoSuchAction, NoMemory}
+use Rattle.cam_cut.specs.declared.witnesses.CutFault.{CutFault}
+use Rattle.cam_cut.specs.declared.witnesses.CutFault.TheVariants.{NoSuchAction, NoMemory}
 
 -- The action was not created in the trace; want of memory has no stated cause.
 abbrev pub IsCause : List Event → Name → CutFault → Type 0

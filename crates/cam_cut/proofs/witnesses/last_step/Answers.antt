@@ -7,8 +7,8 @@ use Rattle.std.specs.Prelude.{MatchOption}
 use Rattle.cam_cut.specs.Watched.{Watches}
 use Rattle.cam_cut.specs.Witness.{last_step}
 use Rattle.cam_cut.proofs.Cutting.{stands, last_more, last_found}
-use Rattle.cam_cut.proofs.action.last_step.Goals.{then-branch, else-branch}
-use Rattle.cam_cut.proofs.action.last_step.Goals as goal
+use Rattle.cam_cut.proofs.witnesses.last_step.Goals.{then-branch, else-branch}
+use Rattle.cam_cut.proofs.witnesses.last_step.Goals as goal
 
 pub loop-number-preserved : goal.loop-number-preserved
 loop-number-preserved c =

@@ -5,7 +5,7 @@ ghost use Rattle.cam_event.specs.Pasts.{in_past, plain_all};
 ghost use Rattle.cam_event.specs.Runs.{IsRun};
 ghost use Rattle.cam_event.specs.Taken.{IsRunTaking};
 ghost use Rattle.cam_plain.specs.Legal.{history};
-ghost use Rattle.cam_cut.specs.declared.action.CutFault.TheVariants.{NoMemory as OutOfMemory};
+ghost use Rattle.cam_cut.specs.declared.witnesses.CutFault.TheVariants.{NoMemory as OutOfMemory};
 ghost use Rattle.cam_cut.specs.Faults.{IsCause};
 ghost use Rattle.cam_cut.specs.Kept.{is_kept};
 ghost use Rattle.cam_cut.specs.Law.{IsWitness};
@@ -41,8 +41,8 @@ impl From<NoMemory> for CutFault {
 /// The witness of an action: the deeds in the past of the last event that gives a step of its view, in
 /// the order of the trace. Where the trace is a run, also one in which nodes halt, these are a legal
 /// history of plain nested transactions in which the action is no orphan and has the view that it has
-/// in the whole run. The time is linear in the trace, times the logarithm of how many children the
-/// action has.
+/// in the whole run. `NoSuchAction` comes exactly where the action was not created in the trace. The
+/// time is linear in the trace, times the logarithm of how many children the action has.
 pub fn witness(alloc: Global, trace: &Trace, name: &Name) -> Result<Deeds, CutFault>
     ensures exact { IfOk result (λ deeds. history deeds ≡ witness (reverse trace.now) name.now) }
     ensures created { OnOk result (created (plain_all (reverse trace.now)) name.now ≡ true) }

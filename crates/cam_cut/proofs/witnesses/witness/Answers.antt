@@ -9,7 +9,7 @@ use Rattle.cam_cut.specs.Kept.{is_kept}
 use Rattle.cam_cut.specs.Law.{IsWitness}
 use Rattle.cam_cut.specs.Witness.{cut_at, last_step, witness}
 use Rattle.cam_cut.proofs.Laws.{each_view_is_legal, each_halted_view_is_legal}
-use Rattle.cam_cut.proofs.action.witness.Goals as goal
+use Rattle.cam_cut.proofs.witnesses.witness.Goals as goal
 
 pub returns : goal.returns
 returns c =

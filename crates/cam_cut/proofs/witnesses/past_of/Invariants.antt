@@ -1,7 +1,7 @@
 use Rattle.std.proofs.Common.{◌≡◌, ℕ, ◌<◌, length, reverse}
 use Rattle.cam_event.specs.Pasts.{in_past}
 use Rattle.cam_cut.specs.Kept.{is_kept}
-use Rattle.cam_cut.proofs.action.past_of.Given as goal
+use Rattle.cam_cut.proofs.witnesses.past_of.Given as goal
 
 abbrev pub invariant-loop-number : goal.invariant-loop-number
 invariant-loop-number l = record {

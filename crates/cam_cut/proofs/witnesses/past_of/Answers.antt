@@ -1,7 +1,7 @@
 use Rattle.std.proofs.Common.{reverse}
 use Rattle.cam_event.specs.Pasts.{in_past}
 use Rattle.cam_cut.proofs.Cutting.{kept_more}
-use Rattle.cam_cut.proofs.action.past_of.Goals as goal
+use Rattle.cam_cut.proofs.witnesses.past_of.Goals as goal
 
 pub loop-number-preserved : goal.loop-number-preserved
 loop-number-preserved c =
