@@ -4,7 +4,7 @@ use Rattle.std.specs.List.{list_any}
 use Rattle.std.proofs.lemmas.Bool.{or_cases, cases_Bool, true≢false, eqb-true}
 use Rattle.std.proofs.Math.Bool.{and-false}
 use Rattle.cam_names.specs.declared.name.Name.{Name}
-use Rattle.cam_names.specs.Names.{ancestors, family}
+use Rattle.cam_names.specs.Names.{is_ancestor, ancestors, family}
 use Rattle.cam_type.specs.declared.ObjectDecl.{ObjectDecl}
 use Rattle.cam_type.specs.declared.Answer.{Answer}
 use Rattle.cam_know.specs.Known.{knows_abort}
@@ -25,15 +25,18 @@ use Rattle.cam_event.proofs.RunLaws.{runs_crash_alone}
 use Rattle.cam_plain.specs.Legal.{Legal}
 use Rattle.cam_names.proofs.Ancestry.{every_ancestor}
 use Rattle.cam_names.proofs.Any.{any_weaker}
-use Rattle.cam_plain.proofs.Answered.{is_got}
+use Rattle.cam_plain.proofs.Answered.{is_got, got_done}
+use Rattle.cam_plain.proofs.Fates.{is_answer}
+use Rattle.cam_plain.proofs.Performed.{created_named, called_created}
 use Rattle.cam_cut.proofs.Holds.{every_part}
 use Rattle.cam_cut.proofs.Lists.{in_filter, all_in}
 use Rattle.cam_cut.proofs.Parts.{part_own_told}
 use Rattle.cam_cut.proofs.Step.{run_holds}
 use Rattle.cam_agree.proofs.LiveLists.{any_each}
-use Rattle.cam_serial.specs.Serial.{all_committed, is_operation}
+use Rattle.cam_serial.specs.Serial.{all_committed, is_operation, serial, Covers}
+use Rattle.cam_serial.proofs.Covering.{answer_committed, covers_each}
 use Rattle.cam_headline.specs.Outcomes.{held_by}
-use Rattle.cam_headline.specs.Recovery.{CrashKeepsSecured, CrashKeepsOthers, NoneIsAborted, is_answered, CommittedStays}
+use Rattle.cam_headline.specs.Recovery.{CrashKeepsSecured, CrashKeepsOthers, NoneIsAborted, is_answered, CommittedStays, CommittedIsCovered}
 use Rattle.cam_headline.proofs.Agreed.{whole_legal, holds_aborts}
 use Rattle.cam_headline.proofs.Stays.{answer_stays}
 
@@ -118,3 +121,16 @@ stays_in objects later t a n answer legal got all =
 
 pub committed_stays : CommittedStays
 committed_stays objects later t a n answer run got all = stays_in objects later t a n answer (whole_legal objects (later ++ t) run) got all
+
+-- What a committed action got is live, so it is in the committed list.
+covered_in : (objects : List ObjectDecl) (L : List Deed) (a : Name) → Legal objects L → all_committed L a ≡ true → Covers (serial objects L None) L a
+covered_in objects L a legal all = covers_each (serial objects L None) L a each
+  where
+    each : (n : ℕ) (answer : Answer) → list_any (is_got a n answer) L ≡ true → list_any (is_answer a n answer) (serial objects L None) ≡ true
+    each n answer h =
+        let got = got_done objects L a n answer legal h in
+        let named : is_ancestor a a ≡ true = created_named objects L a legal (called_created objects L a n got.1.0 legal got.1.1) in
+        answer_committed objects L a n answer named all (answer_stays objects L a n answer legal h (every_ancestor (committed L) a all))
+
+pub committed_is_covered : CommittedIsCovered
+committed_is_covered objects t a run all = covered_in objects (plain_all t) a (whole_legal objects t run) all

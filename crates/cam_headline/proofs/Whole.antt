@@ -38,6 +38,7 @@ use Rattle.cam_report.specs.Report.{report}
 use Rattle.cam_report.specs.Traces.{trace_text, witness_text}
 use Rattle.cam_headline.specs.Headline.{one_run, events, IsPlainFor, HasOneRun, Headline}
 use Rattle.cam_headline.proofs.Agreed.{whole_legal, no_two_nodes_differ}
+use Rattle.cam_headline.proofs.Recovered.{committed_is_covered}
 
 -- An action was created just where its view says so.
 abbrev is_created : ViewStep → Bool
@@ -101,6 +102,7 @@ one_run_holds script range =
       is_run = is;
       legal = legal;
       committed = replay script.objects (plain_all (events script)) None legal;
+      kept = λ a all. committed_is_covered script.objects (events script) a is all;
       views = λ a there. plain_by script.objects (events script) a (each_view_is_legal script.objects (events script) a is there) there;
       agree = λ s r a. no_two_nodes_differ script.objects (events script) s r a is;
       reported = texts_by (report script.objects script.labels) (run by_knowledge script) (one_run script) same;

@@ -17,7 +17,7 @@ use Rattle.cam_event.specs.Pasts.{plain_all}
 use Rattle.cam_event.specs.Readings.{by_pasts, by_knowledge}
 use Rattle.cam_event.specs.Runs.{IsRun}
 use Rattle.cam_plain.specs.Legal.{Legal}
-use Rattle.cam_serial.specs.Serial.{serial, Replays, Covers}
+use Rattle.cam_serial.specs.Serial.{serial, all_committed, Replays, Covers}
 use Rattle.cam_cut.specs.Witness.{witness}
 use Rattle.cam_script.specs.declared.Script.{Script}
 use Rattle.cam_script.specs.Built.{Built}
@@ -64,6 +64,8 @@ pub record HasOneRun (script : Script) : Type 0 where
   pub legal : Legal script.objects (plain_all (events script))
   -- The operations of committed top actions replay in order of the commits.
   pub committed : Replays script.objects (serial script.objects (plain_all (events script)) None)
+  -- Each answer that an action got which has committed with all its ancestors is that of its operation in this list.
+  pub kept : (a : Name) → all_committed (plain_all (events script)) a ≡ true → Covers (serial script.objects (plain_all (events script)) None) (plain_all (events script)) a
   -- Each action that was created in it, orphan or not, has its view in a legal history that replays.
   pub views : (a : Name) → created (plain_all (events script)) a ≡ true → IsPlainFor script.objects (events script) a (witness (events script) a)
   -- No two nodes hold different outcomes of an action.

@@ -15,7 +15,7 @@ ghost use Rattle.cam_headline.specs.Halted.{HaltedCommitNeeds, HaltedDecidedOnce
 ghost use Rattle.cam_headline.specs.Headline.{Headline};
 ghost use Rattle.cam_headline.specs.Outcomes.{CommitNeedsSecured, CommittedIsSecured, EachIsDecidedOnce, HeldWasDecided, NoTwoEventsDiffer, NoTwoNodesDiffer};
 ghost use Rattle.cam_headline.specs.Scene.{IsWorked};
-ghost use Rattle.cam_headline.specs.Recovery.{CommittedStays, CrashKeepsOthers, CrashKeepsSecured, NoneIsAborted, SecuredStays};
+ghost use Rattle.cam_headline.specs.Recovery.{CommittedIsCovered, CommittedStays, CrashKeepsOthers, CrashKeepsSecured, NoneIsAborted, SecuredStays};
 
 /// For all bytes that spell a script, at each stage of the grammar: the program's run is the one run of the step rules; for each action,
 /// orphan or not, the events before its last event are a legal execution in which it is no orphan and has the same view; committed top
@@ -36,14 +36,15 @@ pub fn agreement()
 {}
 
 /// After a crash the live operations at a site are those of families that were secured there, less the aborted ones, and such an operation
-/// stays live through all later crashes, unless an ancestor is aborted; and one whose answer an action got is live for good once all the
-/// action's ancestors have committed.
+/// stays live through all later crashes, unless an ancestor is aborted; and one whose answer an action got is live for good once the
+/// action has committed with all its ancestors: so the list of what has committed has each such answer.
 pub fn recovery_of_runs()
     ensures crash { CrashKeepsSecured }
     ensures others { CrashKeepsOthers }
     ensures secured { SecuredStays }
     ensures aborted { NoneIsAborted }
     ensures stays { CommittedStays }
+    ensures covered { CommittedIsCovered }
 {}
 
 /// Each delivery of the letter that waits lowers the weight of those that wait, so that a drain, which makes as many as their weight, leaves

@@ -19,7 +19,7 @@ use Rattle.cam_event.specs.declared.Deed.TheVariants.{Got}
 use Rattle.cam_event.specs.declared.Operation.{Operation}
 use Rattle.cam_event.specs.declared.Seen.TheVariants.{Done, Busy, Gone}
 use Rattle.cam_plain.specs.Legal.{Legal}
-use Rattle.cam_names.proofs.Ancestry.{all_ancestors}
+use Rattle.cam_names.proofs.Ancestry.{all_ancestors, every_ancestor, family_is_ancestor}
 use Rattle.cam_plain.proofs.Answered.{is_got, visits, got_done}
 use Rattle.cam_names.proofs.Any.{any_right, any_weaker, none_found, any_every, any_filter, any_flat, filter_none}
 use Rattle.cam_plain.proofs.Decided.{ancestors_committed}
@@ -80,6 +80,18 @@ answer_live objects L a n answer legal there none h =
 answer_action : (a : Name) (n : ℕ) (answer : Answer) (o : Operation) → is_answer a n answer o ≡ true → a ≡ o.action
 answer_action a n answer o is = name_eq_same a o.action (and_parts (name_eq a o.action) (eqb n o.number) (and_parts (name_eq a o.action && eqb n o.number) (answer_eq answer o.answer) is).0).0
 
+-- the operation of an answer is in the list of the committed families, where its action has committed with all its ancestors
+pub answer_committed : (objects : List ObjectDecl) (L : List Deed) (a : Name) (n : ℕ) (answer : Answer) → is_ancestor a a ≡ true → all_committed L a ≡ true → list_any (is_answer a n answer) (live objects L) ≡ true → list_any (is_answer a n answer) (serial_committed objects L) ≡ true
+answer_committed objects L a n answer named all h =
+    any_flat (is_answer a n answer) (group objects L) (λ g. name_eq g (family a)) (committed_tops L)
+    (λ g is. subst (λ f. list_any (is_answer a n answer) (group objects L f) ≡ true) (sym (name_eq_same g (family a) is)) (any_filter (is_answer a n answer) (λ o. name_eq (family a) (family o.action) && all_committed L o.action) (live objects L) of_group h))
+    (tops_have L (family a) (family_top a a named) (every_ancestor (committed L) a all (family a) (family_is_ancestor a a named)))
+  where
+    of_group : (o : Operation) → is_answer a n answer o ≡ true → (name_eq (family a) (family o.action) && all_committed L o.action) ≡ true
+    of_group o is =
+        subst (λ x. (name_eq (family a) (family x) && all_committed L x) ≡ true) (answer_action a n answer o is)
+        (and_from (name_eq (family a) (family a)) (all_committed L a) (name_eq_refl (family a)) all)
+
 -- so it is in the serial list for the action
 pub answer_serial : (objects : List ObjectDecl) (L : List Deed) (a : Name) (n : ℕ) (answer : Answer) → Legal objects L → created L a ≡ true → orphan objects L a ≡ None → list_any (is_answer a n answer) (live objects L) ≡ true → list_any (is_answer a n answer) (serial_for objects L a) ≡ true
 answer_serial objects L a n answer legal there none h = by (committed L (family a)) refl
@@ -89,20 +101,14 @@ answer_serial objects L a n answer legal there none h = by (committed L (family 
         subst (λ x. (name_eq (family a) (family x) && committed_up_to L a x) ≡ true) (answer_action a n answer o is)
         (and_from (name_eq (family a) (family a)) (committed_up_to L a a) (name_eq_refl (family a)) (all_ancestors (λ u. is_ancestor u a || committed L u) a (λ u above. or_left (is_ancestor u a) (committed L u) above)))
 
-    of_group : committed L (family a) ≡ true → (o : Operation) → is_answer a n answer o ≡ true → (name_eq (family a) (family o.action) && all_committed L o.action) ≡ true
-    of_group e o is =
-        subst (λ x. (name_eq (family a) (family x) && all_committed L x) ≡ true) (answer_action a n answer o is)
-        (and_from (name_eq (family a) (family a)) (all_committed L a) (name_eq_refl (family a)) (all_ancestors (committed L) a (ancestors_committed objects L a legal there e (unaborted objects L a none))))
-
     by : (b : Bool) → committed L (family a) ≡ b → list_any (is_answer a n answer) (if b then serial_committed objects L else serial_committed objects L ++ seen_by objects L a) ≡ true
     by true e =
-        any_flat (is_answer a n answer) (group objects L) (λ g. name_eq g (family a)) (committed_tops L)
-        (λ g is. subst (λ f. list_any (is_answer a n answer) (group objects L f) ≡ true) (sym (name_eq_same g (family a) is)) (any_filter (is_answer a n answer) (λ o. name_eq (family a) (family o.action) && all_committed L o.action) (live objects L) (of_group e) h))
-        (tops_have L (family a) (family_top a a (created_named objects L a legal there)) e)
+        answer_committed objects L a n answer (created_named objects L a legal there)
+        (all_ancestors (committed L) a (ancestors_committed objects L a legal there e (unaborted objects L a none))) h
     by false e = any_right (is_answer a n answer) (serial_committed objects L) (seen_by objects L a) (any_filter (is_answer a n answer) (λ o. name_eq (family a) (family o.action) && committed_up_to L a o.action) (live objects L) own h)
 
 -- a list covers where it has the operation of each answer that was got
-covers_each : (os : List Operation) (L : List Deed) (a : Name) → ((n : ℕ) (answer : Answer) → list_any (is_got a n answer) L ≡ true → list_any (is_answer a n answer) os ≡ true) → Covers os L a
+pub covers_each : (os : List Operation) (L : List Deed) (a : Name) → ((n : ℕ) (answer : Answer) → list_any (is_got a n answer) L ≡ true → list_any (is_answer a n answer) os ≡ true) → Covers os L a
 covers_each os [] a each = tt
 covers_each os (Got b m (Done answer) ∷ L) a each = (
   λ e. each m answer (or_left ((name_eq a b && eqb m m) && answer_eq answer answer) (list_any (is_got a m answer) L) (and_from (name_eq a b && eqb m m) (answer_eq answer answer) (and_from (name_eq a b) (eqb m m) e (eq-eqb m m refl)) (answer_eq_refl answer))),
