@@ -1,5 +1,5 @@
 -- The first conflict is the earlier of the first that stands in the way in each mode.
-use Rattle.std.proofs.Common.{◌≡◌, ◌⊎◌, ℕ, ◌≤◌, ◌<◌, Bool, true, false, not, ◌&&◌, if◌then◌else◌, cond, List, [], ◌∷◌, Option, Some, None, refl, sym, ap, ◌∙◌, arith}
+use Rattle.std.proofs.Common.{◌≡◌, ℕ, ◌≤◌, ◌<◌, Bool, true, false, not, ◌&&◌, cond, List, Option, Some, None, refl, sym, ap, ◌∙◌, arith}
 use Rattle.std.proofs.Math.Logic.{inl, inr}
 use Rattle.std.specs.Prelude.{find, nat_le}
 use Rattle.std.proofs.lemmas.Bool.{and_parts, and_from}
@@ -10,95 +10,83 @@ use Rattle.cam_type.specs.declared.Mode.TheVariants as modes
 use Rattle.cam_type.specs.Table.{mode_of, compatible}
 use Rattle.cam_locks.specs.declared.LiveOp.{LiveOp}
 use Rattle.cam_locks.specs.Members.{In}
-use Rattle.cam_locks.specs.Site.{Site, IndicesRise}
-use Rattle.cam_locks.specs.Moss.{is_on, is_conflict, first_conflict}
-use Rattle.cam_locks.specs.Holding.{mode_eq, is_lock, blocking, earlier}
-use Rattle.cam_locks.proofs.Members.{find_no, find_none_all, IsFirst, found_first, first_found}
+use Rattle.cam_locks.specs.Site.{IndicesRise}
+use Rattle.cam_locks.specs.Moss.{is_on}
+use Rattle.cam_locks.specs.Holding.{mode_eq, is_lock}
+use Rattle.cam_locks.specs.Changes.{blocking, earlier, first_over, conflicts}
+use Rattle.cam_locks.proofs.Tests.{and_no, le_from, lt_from}
+use Rattle.cam_locks.proofs.Modes.{same_mode, some_mode}
+use Rattle.cam_locks.proofs.Members.{find_no, find_none_all, found_first, first_found}
 use Rattle.cam_locks.proofs.Leading.{way}
-use Rattle.cam_locks.proofs.Values.{le_from, lt_from}
 
 -- of the conflicts whose operation has the mode, r is the first, or there is none
 abbrev Leads : Mode → (LiveOp → Bool) → List LiveOp → Option LiveOp → Type 0
 Leads m test os None = (p : LiveOp) → In p os → mode_eq (mode_of p.op) m ≡ true → test p ≡ false
 Leads m test os (Some o) = In o os × (test o ≡ true) × ((p : LiveOp) → In p os → mode_eq (mode_of p.op) m ≡ true → test p ≡ true → o.index ≤ p.index)
 
-same_mode : (m n : Mode) → mode_eq m n ≡ true → m ≡ n
-same_mode modes.Read modes.Read h = refl
-same_mode modes.Read modes.Write h = cc
-same_mode modes.Write modes.Read h = cc
-same_mode modes.Write modes.Write h = refl
-
-no_of : (b : Bool) → (b && false) ≡ false
-no_of true = refl
-no_of false = refl
-
-blocking_leads : (site : Site) (a : Name) (x : ℕ) (op : Op) (m : Mode) → IndicesRise 0 site.live site.next
-    → Leads m (is_conflict site a x op) site.live (blocking site.committed a x op m site.live)
-blocking_leads site a x op m rise = by_mode (compatible m (mode_of op)) refl
+blocking_leads : (x : ℕ) (ns : List Name) (os : List LiveOp) (next : ℕ) (a : Name) (op : Op) (m : Mode) → IndicesRise 0 os next
+    → Leads m (conflicts ns a x op) os (blocking ns a x op m os)
+blocking_leads x ns os next a op m rise = by_mode (compatible m (mode_of op)) refl
   where
     test : LiveOp → Bool
-    test = is_conflict site a x op
+    test = conflicts ns a x op
 
     stands : LiveOp → Bool
-    stands o = is_lock x m o && way a site.committed o
+    stands o = is_lock x m o && way a ns o
 
     to_stand : (p : LiveOp) → mode_eq (mode_of p.op) m ≡ true → test p ≡ true → stands p ≡ true
     to_stand p same passes =
-        let one = and_parts (is_on x p) (way a site.committed p && not (compatible (mode_of p.op) (mode_of op))) passes in
-        let two = and_parts (way a site.committed p) (not (compatible (mode_of p.op) (mode_of op))) one.1 in
-        and_from (is_lock x m p) (way a site.committed p) (and_from (is_on x p) (mode_eq (mode_of p.op) m) one.0 same) two.0
+        let one = and_parts (is_on x p) (way a ns p && not (compatible (mode_of p.op) (mode_of op))) passes in
+        let two = and_parts (way a ns p) (not (compatible (mode_of p.op) (mode_of op))) one.1 in
+        and_from (is_lock x m p) (way a ns p) (and_from (is_on x p) (mode_eq (mode_of p.op) m) one.0 same) two.0
 
     to_test : compatible m (mode_of op) ≡ false → (p : LiveOp) → stands p ≡ true → test p ≡ true
     to_test apart p passes =
-        let one = and_parts (is_lock x m p) (way a site.committed p) passes in
+        let one = and_parts (is_lock x m p) (way a ns p) passes in
         let two = and_parts (is_on x p) (mode_eq (mode_of p.op) m) one.0 in
-        and_from (is_on x p) (way a site.committed p && not (compatible (mode_of p.op) (mode_of op))) two.0
-        (and_from (way a site.committed p) (not (compatible (mode_of p.op) (mode_of op))) one.1
+        and_from (is_on x p) (way a ns p && not (compatible (mode_of p.op) (mode_of op))) two.0
+        (and_from (way a ns p) (not (compatible (mode_of p.op) (mode_of op))) one.1
         (ap not (ap (λ (k : Mode). compatible k (mode_of op)) (same_mode (mode_of p.op) m two.1) ∙ apart)))
 
     false_by : (p : LiveOp) → (b : Bool) → test p ≡ b → (b ≡ true → stands p ≡ true) → stands p ≡ false → b ≡ false
     false_by p false is so fails = refl
     false_by p true is so fails = let wrong : true ≡ false = sym (so refl) ∙ fails in cc
 
-    by_found : compatible m (mode_of op) ≡ false → (r : Option LiveOp) → find stands site.live ≡ r → Leads m test site.live r
-    by_found apart None none = λ p h same. false_by p (test p) refl (λ t. to_stand p same t) (find_none_all stands site.live none p h)
+    by_found : compatible m (mode_of op) ≡ false → (r : Option LiveOp) → find stands os ≡ r → Leads m test os r
+    by_found apart None none = λ p h same. false_by p (test p) refl (λ t. to_stand p same t) (find_none_all stands os none p h)
     by_found apart (Some o) found =
-        let f = found_first stands 0 site.live site.next o rise found in
+        let f = found_first stands 0 os next o rise found in
         (f.member, to_test apart o f.passes, λ p h same t. f.first p h (to_stand p same t))
 
-    by_mode : (b : Bool) → compatible m (mode_of op) ≡ b → Leads m test site.live (cond b None (find stands site.live))
+    by_mode : (b : Bool) → compatible m (mode_of op) ≡ b → Leads m test os (cond b None (find stands os))
     by_mode true joins = λ p h same.
-        ap (λ (k : Mode). is_on x p && (way a site.committed p && not (compatible k (mode_of op)))) (same_mode (mode_of p.op) m same)
-        ∙ ap (λ (c : Bool). is_on x p && (way a site.committed p && not c)) joins
-        ∙ ap (λ (c : Bool). is_on x p && c) (no_of (way a site.committed p)) ∙ no_of (is_on x p)
-    by_mode false apart = by_found apart (find stands site.live) refl
+        ap (λ (k : Mode). is_on x p && (way a ns p && not (compatible k (mode_of op)))) (same_mode (mode_of p.op) m same)
+        ∙ ap (λ (c : Bool). is_on x p && (way a ns p && not c)) joins
+        ∙ ap (λ (c : Bool). is_on x p && c) (and_no (way a ns p)) ∙ and_no (is_on x p)
+    by_mode false apart = by_found apart (find stands os) refl
 
-some_mode : (k : Mode) → (mode_eq k modes.Read ≡ true) ⊎ (mode_eq k modes.Write ≡ true)
-some_mode modes.Read = inl refl
-some_mode modes.Write = inr refl
-
-pub conflict_by_mode : (site : Site) (a : Name) (x : ℕ) (op : Op) → IndicesRise 0 site.live site.next
-    → first_conflict site a x op ≡ earlier (blocking site.committed a x op modes.Read site.live) (blocking site.committed a x op modes.Write site.live)
-conflict_by_mode site a x op rise =
-    by_leads (blocking site.committed a x op modes.Read site.live) (blocking site.committed a x op modes.Write site.live)
-    (blocking_leads site a x op modes.Read rise) (blocking_leads site a x op modes.Write rise)
+pub conflict_by_mode : (x : ℕ) (ns : List Name) (os : List LiveOp) (next : ℕ) (a : Name) (op : Op) → IndicesRise 0 os next
+    → find (conflicts ns a x op) os ≡ first_over (λ m. blocking ns a x op m os)
+conflict_by_mode x ns os next a op rise =
+    by_leads (blocking ns a x op modes.Read os) (blocking ns a x op modes.Write os)
+    (blocking_leads x ns os next a op modes.Read rise) (blocking_leads x ns os next a op modes.Write rise)
   where
     test : LiveOp → Bool
-    test = is_conflict site a x op
+    test = conflicts ns a x op
 
-    first : (o : LiveOp) → In o site.live → test o ≡ true → ((p : LiveOp) → In p site.live → test p ≡ true → o.index ≤ p.index) → first_conflict site a x op ≡ Some o
-    first o h t least = first_found test 0 site.live site.next o rise (record { member = h; passes = t; first = least })
+    first : (o : LiveOp) → In o os → test o ≡ true → ((p : LiveOp) → In p os → test p ≡ true → o.index ≤ p.index) → find (conflicts ns a x op) os ≡ Some o
+    first o h t least = first_found test 0 os next o rise (record { member = h; passes = t; first = least })
 
-    by_leads : (r w : Option LiveOp) → Leads modes.Read test site.live r → Leads modes.Write test site.live w → first_conflict site a x op ≡ earlier r w
+    by_leads : (r w : Option LiveOp) → Leads modes.Read test os r → Leads modes.Write test os w → find (conflicts ns a x op) os ≡ earlier r w
     by_leads None None no_read no_write =
-        find_no test site.live (λ p h. elim (some_mode (mode_of p.op)) [ inl m ↦ no_read p h m | inr m ↦ no_write p h m ])
+        find_no test os (λ p h. elim (some_mode (mode_of p.op)) [ inl m ↦ no_read p h m | inr m ↦ no_write p h m ])
     by_leads None (Some o) no_read lead =
         first o lead.0 lead.1 (λ p h t. elim (some_mode (mode_of p.op)) [ inl m ↦ let wrong : true ≡ false = sym t ∙ no_read p h m in cc | inr m ↦ lead.2 p h m t ])
     by_leads (Some o) None lead no_write =
         first o lead.0 lead.1 (λ p h t. elim (some_mode (mode_of p.op)) [ inl m ↦ lead.2 p h m t | inr m ↦ let wrong : true ≡ false = sym t ∙ no_write p h m in cc ])
     by_leads (Some o) (Some q) one other = by_order (nat_le o.index q.index) refl
       where
-        by_order : (b : Bool) → nat_le o.index q.index ≡ b → first_conflict site a x op ≡ cond b (Some o) (Some q)
+        by_order : (b : Bool) → nat_le o.index q.index ≡ b → find (conflicts ns a x op) os ≡ cond b (Some o) (Some q)
         by_order true le =
             let before : o.index ≤ q.index = le_from o.index q.index le in
             first o one.0 one.1 (λ p h t. elim (some_mode (mode_of p.op)) [

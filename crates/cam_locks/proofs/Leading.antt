@@ -1,21 +1,21 @@
 -- What is kept of the holders of one mode on an object, through each call.
-use Rattle.std.proofs.Common.{◌≡◌, ◌⊎◌, ℕ, ◌+◌, ◌≤◌, ◌<◌, eqb, Bool, true, false, not, ◌&&◌, ◌||◌, if◌then◌else◌, cond, List, [], ◌∷◌, ◌++◌, Option, Some, None, suc, refl, sym, ap, subst, ◌∙◌, arith}
+use Rattle.std.proofs.Common.{◌≡◌, ℕ, ◌+◌, ◌-◌, ◌≤◌, ◌<◌, eqb, Bool, true, false, ◌&&◌, ◌||◌, cond, List, [], ◌∷◌, ◌++◌, length, Option, Some, None, refl, sym, ap, ◌∙◌, arith}
 use Rattle.std.proofs.Math.Logic.{inl, inr}
-use Rattle.std.specs.Prelude.{filter, find, option_and_then}
+use Rattle.std.specs.Prelude.{find, option_and_then}
+use Rattle.std.specs.Option.{option_map_or}
 use Rattle.std.proofs.lemmas.Bool.{and_parts, and_from}
 use Rattle.cam_names.specs.declared.name.Name.{Name}
-use Rattle.cam_names.specs.Names.{is_ancestor}
 use Rattle.cam_type.specs.declared.Mode.{Mode}
 use Rattle.cam_locks.specs.declared.LiveOp.{LiveOp}
 use Rattle.cam_locks.specs.Members.{In}
-use Rattle.cam_locks.specs.Names.{has_name}
 use Rattle.cam_locks.specs.Site.{IndicesRise}
 use Rattle.cam_locks.specs.Moss.{is_in_the_way}
-use Rattle.cam_locks.specs.Calls.{is_below}
 use Rattle.cam_locks.specs.Holding.{lift_in, has_op, is_lock, IsLeader, KeepsLeaders}
+use Rattle.cam_locks.specs.Changes.{lift_eq, leads, last_of, with_leader}
 use Rattle.cam_locks.proofs.Rising.{rise_push, rise_later}
-use Rattle.cam_locks.proofs.Members.{in_left, in_right, in_either, in_last, in_filter, in_filtered, find_no, find_none_all, below, same_op, IsFirst, found_first, first_found, has_member, member_at}
-use Rattle.cam_locks.proofs.Lifting.{AtLeast, lift_ancestor, lift_below, lift_climbs, ancestor_through}
+use Rattle.cam_locks.proofs.Members.{in_left, in_right, in_either, in_last, find_no, find_none_all, below, found_first, first_found, has_member, in_got}
+use Rattle.cam_locks.proofs.Lifting.{lift_eq_same}
+use Rattle.cam_locks.proofs.Climbing.{AtLeast, lift_climbs}
 
 abbrev pub way : Name → List Name → LiveOp → Bool
 way a ns o = is_in_the_way a (lift_in ns o.action)
@@ -86,7 +86,7 @@ push_other x m ns os next ts n at other keeps = record {
     same_leaders o u lead = (lead.0, record { leads = lead.1.leads; is_live = in_left lead.0 os (n ∷ []) lead.1.is_live; is_first = lead.1.is_first; same_lift = lead.1.same_lift })
 
 -- a new operation that takes a lock of the mode leads for itself
-pub push_lock : (x : ℕ) (m : Mode) (ns : List Name) (os : List LiveOp) (next : ℕ) (ts : List LiveOp) (n : LiveOp)
+push_lock : (x : ℕ) (m : Mode) (ns : List Name) (os : List LiveOp) (next : ℕ) (ts : List LiveOp) (n : LiveOp)
     → n.index ≡ next → is_lock x m n ≡ true → KeepsLeaders x m ns os next ts → KeepsLeaders x m ns (os ++ n ∷ []) (next + 1) (ts ++ n ∷ [])
 push_lock x m ns os next ts n at lock keeps = record {
   rising = rise_push 0 ts next n keeps.rising at;
@@ -100,6 +100,49 @@ push_lock x m ns os next ts n at lock keeps = record {
     | inr k ↦ (o, record { leads = in_right o ts (n ∷ []) k; is_live = in_right o os (n ∷ []) k; is_first = omega arith; same_lift = is })
   ];
 }
+
+-- a new operation that takes a lock of the mode, led by an operation before it
+push_led : (x : ℕ) (m : Mode) (ns : List Name) (os : List LiveOp) (next : ℕ) (ts : List LiveOp) (n s : LiveOp)
+    → n.index ≡ next → In s ts → leads ns os (lift_in ns n.action) s ≡ true → KeepsLeaders x m ns os next ts → KeepsLeaders x m ns (os ++ n ∷ []) (next + 1) ts
+push_led x m ns os next ts n s at among led keeps = record {
+  rising = rise_later 0 ts next (next + 1) (omega arith) keeps.rising;
+  locks = keeps.locks;
+  sound = λ t h live. let lt : t.index < next = below 0 ts next t keeps.rising h in in_left t os (n ∷ []) (keeps.sound t h (has_push os n t.index (omega arith) live));
+  covers = λ o u h lock is. elim (in_either o os (n ∷ []) h) [
+    | inl k ↦ same_leaders o u (keeps.covers o u k lock is)
+    | inr k ↦ itself o u is (in_last o n k)
+  ];
+}
+  where
+    same_leaders : (o : LiveOp) (u : Name) → (t : LiveOp) × IsLeader ns os ts o u t → (t : LiveOp) × IsLeader ns (os ++ n ∷ []) ts o u t
+    same_leaders o u lead = (lead.0, record { leads = lead.1.leads; is_live = in_left lead.0 os (n ∷ []) lead.1.is_live; is_first = lead.1.is_first; same_lift = lead.1.same_lift })
+
+    itself : (o : LiveOp) (u : Name) → lift_in ns o.action ≡ Some u → o ≡ n → (t : LiveOp) × IsLeader ns (os ++ n ∷ []) ts o u t
+    itself o u is e =
+        let parts = and_parts (lift_eq (lift_in ns s.action) (lift_in ns n.action)) (has_op os s.index) led in
+        let lt : s.index < next = below 0 ts next s keeps.rising among in
+        let same : o.index ≡ n.index = ap (λ (p : LiveOp). p.index) e in (
+          s,
+          record {
+            leads = among;
+            is_live = in_left s os (n ∷ []) (keeps.sound s among parts.1);
+            is_first = omega (arith, lt, same, at);
+            same_lift = lift_eq_same (lift_in ns s.action) (lift_in ns n.action) parts.0 ∙ ap (λ (p : LiveOp). lift_in ns p.action) (sym e) ∙ is;
+          },
+        )
+
+-- so it leads for itself, or the last leader leads it
+pub push_leader : (x : ℕ) (m : Mode) (ns : List Name) (os : List LiveOp) (next : ℕ) (ts : List LiveOp) (n : LiveOp)
+    → n.index ≡ next → is_lock x m n ≡ true → KeepsLeaders x m ns os next ts → KeepsLeaders x m ns (os ++ n ∷ []) (next + 1) (with_leader ns os ts n)
+push_leader x m ns os next ts n at lock keeps = by_last (last_of ts) refl
+  where
+    by_led : (s : LiveOp) → last_of ts ≡ Some s → (b : Bool) → leads ns os (lift_in ns n.action) s ≡ b → KeepsLeaders x m ns (os ++ n ∷ []) (next + 1) (cond b ts (ts ++ n ∷ []))
+    by_led s is true led = push_led x m ns os next ts n s at (in_got ts (length ts - 1) s is) led keeps
+    by_led s is false led = push_lock x m ns os next ts n at lock keeps
+
+    by_last : (r : Option LiveOp) → last_of ts ≡ r → KeepsLeaders x m ns (os ++ n ∷ []) (next + 1) (cond (option_map_or (leads ns os (lift_in ns n.action)) r false) ts (ts ++ n ∷ []))
+    by_last None is = push_lock x m ns os next ts n at lock keeps
+    by_last (Some s) is = by_led s is (leads ns os (lift_in ns n.action) s) refl
 
 -- a commit lets lifts climb on, of a leader and of those that it leads alike
 pub leaders_commit : (x : ℕ) (m : Mode) (less more : List Name) (os : List LiveOp) (next : ℕ) (ts : List LiveOp)
@@ -119,48 +162,3 @@ leaders_commit x m less more os next ts at_least keeps = record {
         let same : lift_in more lead.0.action ≡ lift_in more o.action =
         lift_climbs less more lead.0.action at_least ∙ ap (option_and_then (lift_in more)) (lead.1.same_lift ∙ sym some) ∙ sym (lift_climbs less more o.action at_least) in
         (lead.0, record { leads = lead.1.leads; is_live = lead.1.is_live; is_first = lead.1.is_first; same_lift = same ∙ is })
-
--- an abort of an action that is not committed drops a leader together with those that it leads
-pub stays : Name → LiveOp → Bool
-stays n o = not (is_below n o)
-
-pub stays_with : (ns : List Name) (n : Name) (o t : LiveOp) (u : Name) → has_name ns n ≡ false → lift_in ns o.action ≡ Some u → lift_in ns t.action ≡ Some u
-    → is_below n o ≡ false → is_below n t ≡ false
-stays_with ns n o t u open_yet is same not_below = by_test (is_below n t) refl
-  where
-    by_test : (b : Bool) → is_below n t ≡ b → is_below n t ≡ false
-    by_test false e = e
-    by_test true e =
-        let b = lift_below ns n t.action open_yet e in
-        let one : Some b.0 ≡ Some u = sym b.1 ∙ same in
-        let equal : b.0 ≡ u = cc in
-        let over : is_ancestor n u ≡ true = subst (λ (v : Name). is_ancestor n v ≡ true) equal b.2 in
-        let wrong : true ≡ false = sym (ancestor_through n u o.action over (lift_ancestor ns o.action u is)) ∙ not_below in cc
-
-not_true : (b : Bool) → not b ≡ true → b ≡ false
-not_true true h = cc
-not_true false h = refl
-
-pub leaders_abort : (x : ℕ) (m : Mode) (ns : List Name) (os : List LiveOp) (next : ℕ) (ts : List LiveOp) (n : Name)
-    → has_name ns n ≡ false → IndicesRise 0 os next → KeepsLeaders x m ns os next ts → KeepsLeaders x m ns (filter (λ o. not (is_below n o)) os) next ts
-leaders_abort x m ns os next ts n open_yet rise keeps = record {
-  rising = keeps.rising;
-  locks = keeps.locks;
-  sound = λ t h live.
-      let p = member_at (filter (λ o. not (is_below n o)) os) t.index live in
-      let q = in_filter (λ o. not (is_below n o)) p.0 os p.1 in
-      let was : has_op os t.index ≡ true = subst (λ (i : ℕ). has_op os i ≡ true) p.2 (has_member os p.0 q.0) in
-      subst (λ (o : LiveOp). In o (filter (λ o. not (is_below n o)) os)) (same_op 0 os next p.0 t rise q.0 (keeps.sound t h was) p.2) p.1;
-  covers = λ o u h lock is.
-      let k = in_filter (λ o. not (is_below n o)) o os h in
-      let lead = keeps.covers o u k.0 lock is in
-      let over : is_below n lead.0 ≡ false = stays_with ns n o lead.0 u open_yet is lead.1.same_lift (not_true (is_below n o) k.1) in (
-        lead.0,
-        record {
-          leads = lead.1.leads;
-          is_live = in_filtered (λ o. not (is_below n o)) lead.0 os lead.1.is_live (ap not over);
-          is_first = lead.1.is_first;
-          same_lift = lead.1.same_lift;
-        },
-      );
-}

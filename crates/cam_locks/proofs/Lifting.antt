@@ -1,23 +1,23 @@
--- Laws of lifts: a lift is an ancestor that is not committed, and with more commits a lift climbs on from where it was.
-use Rattle.std.proofs.Common.{◌≡◌, ◌⊎◌, ℕ, ◌+◌, ◌≤◌, ◌<◌, Bool, true, false, not, ◌&&◌, ◌||◌, if◌then◌else◌, cond, List, [], ◌∷◌, ◌++◌, length, map, reverse, Option, Some, None, refl, sym, ap, subst, ◌∙◌, arith}
+-- Laws of lifts: a lift is an ancestor that is not committed, and where there is none all are committed.
+use Rattle.std.proofs.Common.{◌≡◌, ◌⊎◌, ◌+◌, ◌≤◌, Bool, true, false, not, ◌||◌, cond, List, [], ◌∷◌, ◌++◌, length, map, reverse, Option, Some, None, refl, sym, ap, subst, ◌∙◌, arith}
 use Rattle.std.proofs.Math.Logic.{inl, inr}
-use Rattle.std.specs.Prelude.{find, option_and_then}
+use Rattle.std.specs.Prelude.{find}
 use Rattle.std.specs.List.{list_any}
 use Rattle.std.specs.Option.{option_or}
 use Rattle.std.proofs.lemmas.List.{map-append, reverse-append}
 use Rattle.std.proofs.lemmas.List.Folds.{find-append}
 use Rattle.cam_names.specs.Part.{PartFields}
 use Rattle.cam_names.specs.Names.{name_eq, is_ancestor, is_prefix, ancestors}
-use Rattle.cam_names.proofs.Names.{name_eq_refl, name_eq_same, name_eq_sym, is_prefix_append, is_prefix_split, ancestors_any}
-use Rattle.cam_know.specs.Known.{lift_by}
+use Rattle.cam_names.proofs.Names.{name_eq_refl, name_eq_same, is_prefix_append, is_prefix_split, ancestors_any}
 use Rattle.cam_know.proofs.Climbs.{lift_here}
 use Rattle.cam_locks.specs.Members.{In}
-use Rattle.cam_locks.specs.Names.{has_name, with_name}
+use Rattle.cam_locks.specs.Names.{has_name}
 use Rattle.cam_locks.specs.Holding.{lift_in}
-use Rattle.cam_locks.specs.Moss.{is_in_the_way}
-use Rattle.cam_locks.proofs.Members.{in_left, in_right, in_either, in_last, find_no, find_none_all}
+use Rattle.cam_locks.specs.Changes.{lift_eq}
+use Rattle.cam_locks.proofs.Tests.{not_true, not_false}
+use Rattle.cam_locks.proofs.Members.{in_left, in_right, in_either, in_last, find_none_all}
 
-abbrev Name : Type 0
+abbrev pub Name : Type 0
 Name = List PartFields
 
 any_in : (a : Name) (us : List Name) → In a us → list_any (name_eq a) us ≡ true
@@ -43,26 +43,18 @@ in_reverse {X} x (y ∷ xs) h =
     subst (λ (zs : List X). In x zs) (sym (reverse-append (y ∷ []) xs))
     (elim h [ inl e ↦ in_right x (reverse xs) (y ∷ []) (inl e) | inr k ↦ in_left x (reverse xs) (y ∷ []) (in_reverse x xs k) ])
 
-of_reverse : {X : Type 0} (x : X) (xs : List X) → In x (reverse xs) → In x xs
+pub of_reverse : {X : Type 0} (x : X) (xs : List X) → In x (reverse xs) → In x xs
 of_reverse x [] h = absurd h
 of_reverse {X} x (y ∷ xs) h =
     elim (in_either x (reverse xs) (y ∷ []) (subst (λ (zs : List X). In x zs) (reverse-append (y ∷ []) xs) h)) [ inl k ↦ inr (of_reverse x xs k) | inr e ↦ inl (in_last x y e) ]
 
-found_in : {X : Type 0} (test : X → Bool) (xs : List X) (x : X) → find test xs ≡ Some x → In x xs × (test x ≡ true)
+pub found_in : {X : Type 0} (test : X → Bool) (xs : List X) (x : X) → find test xs ≡ Some x → In x xs × (test x ≡ true)
 found_in test [] x h = cc
 found_in {X} test (y ∷ xs) x h = by_test (test y) refl h (found_in test xs x)
   where
     by_test : (b : Bool) → test y ≡ b → cond b (Some y) (find test xs) ≡ Some x → (find test xs ≡ Some x → In x xs × (test x ≡ true)) → ((x ≡ y) ⊎ In x xs) × (test x ≡ true)
     by_test true is k rest = let e : y ≡ x = cc in (inl (sym e), ap test (sym e) ∙ is)
     by_test false is k rest = (inr (rest k).0, (rest k).1)
-
-not_true : (b : Bool) → not b ≡ true → b ≡ false
-not_true true h = cc
-not_true false h = refl
-
-not_false : (b : Bool) → not b ≡ false → b ≡ true
-not_false true h = refl
-not_false false h = cc
 
 -- a lift is an ancestor that is not committed
 pub lift_ancestor : (ns : List Name) (a u : Name) → lift_in ns a ≡ Some u → is_ancestor u a ≡ true
@@ -99,30 +91,30 @@ find_reverse : {X : Type 0} (test : X → Bool) (xs ys : List X) → find test (
 find_reverse test xs ys = ap (find test) (reverse-append xs ys) ∙ find-append test (reverse ys) (reverse xs)
 
 -- the lift of a name that goes on from u: that of the part behind, or else that of u
-abbrev behind : List Name → Name → Name → Option Name
+abbrev pub behind : List Name → Name → Name → Option Name
 behind ns u w = find (λ v. not (has_name ns v)) (reverse (map (λ v. u ++ v) (ancestors w)))
 
-lift_on : (ns : List Name) (u w : Name) → lift_in ns (u ++ w) ≡ option_or (behind ns u w) (lift_in ns u)
+pub lift_on : (ns : List Name) (u w : Name) → lift_in ns (u ++ w) ≡ option_or (behind ns u w) (lift_in ns u)
 lift_on ns u w =
     ap (λ (us : List Name). find (λ v. not (has_name ns v)) (reverse us)) (ancestors_on u w)
     ∙ find_reverse (λ v. not (has_name ns v)) (ancestors u) (map (λ v. u ++ v) (ancestors w))
 
 -- each name behind u goes on from u by a part or more
-in_map : (u v : Name) (ws : List Name) → In v (map (λ w. u ++ w) ws) → (w : Name) × In w ws × (v ≡ u ++ w)
+pub in_map : (u v : Name) (ws : List Name) → In v (map (λ w. u ++ w) ws) → (w : Name) × In w ws × (v ≡ u ++ w)
 in_map u v [] h = absurd h
 in_map u v (w ∷ ws) (inl e) = (w, inl refl, e)
 in_map u v (w ∷ ws) (inr h) = let r = in_map u v ws h in (r.0, inr r.1, r.2)
 
-ancestor_part : (w z : Name) → In w (ancestors z) → 1 ≤ length w
+pub ancestor_part : (w z : Name) → In w (ancestors z) → 1 ≤ length w
 ancestor_part w [] h = absurd h
 ancestor_part w (p ∷ z) (inl e) = subst (λ (v : Name). 1 ≤ length v) (sym e) (omega arith)
 ancestor_part w (p ∷ z) (inr h) = let r = in_map (p ∷ []) w (ancestors z) h in subst (λ (v : Name). 1 ≤ length v) (sym r.2) (omega arith)
 
-length_on : (u w : Name) → length (u ++ w) ≡ length u + length w
+pub length_on : (u w : Name) → length (u ++ w) ≡ length u + length w
 length_on [] w = omega arith
 length_on (p ∷ u) w = let rest : length (u ++ w) ≡ length u + length w = length_on u w in omega arith
 
-as_prefix : (u a : Name) → is_ancestor u a ≡ true → is_prefix u a ≡ true
+pub as_prefix : (u a : Name) → is_ancestor u a ≡ true → is_prefix u a ≡ true
 as_prefix [] a h = cc
 as_prefix (p ∷ u) a h = h
 
@@ -175,83 +167,8 @@ lift_below ns n a open_yet is = subst (λ (x : Name). (u : Name) × (lift_in ns 
         let m = in_map n v (ancestors w) (of_reverse v (map (λ x. n ++ x) (ancestors w)) f.0) in
         (v, lift_on ns n w ∙ ap (λ (r : Option Name). option_or r (lift_in ns n)) found, subst (λ (x : Name). is_ancestor n x ≡ true) (sym m.2) (ancestor_on n m.0 parts))
 
--- with more commits a lift climbs on from where it was
-abbrev pub AtLeast : List Name → List Name → Type 0
-AtLeast more less = (u : Name) → has_name less u ≡ true → has_name more u ≡ true
-
-pub lift_climbs : (less more : List Name) (a : Name) → AtLeast more less → lift_in more a ≡ option_and_then (lift_in more) (lift_in less a)
-lift_climbs less more a at_least = by_lift (lift_in less a) refl
-  where
-    by_lift : (r : Option Name) → lift_in less a ≡ r → lift_in more a ≡ option_and_then (lift_in more) r
-    by_lift None none =
-        find_no (λ v. not (has_name more v)) (reverse (ancestors a))
-        (λ v h. ap not (at_least v (not_false (has_name less v) (find_none_all (λ w. not (has_name less w)) (reverse (ancestors a)) none v h))))
-    by_lift (Some u) is = climbs split.0 split.1
-      where
-        split : (w : Name) × (a ≡ u ++ w)
-        split = is_prefix_split u a (as_prefix u a (lift_ancestor less a u is))
-
-        climbs : (w : Name) → a ≡ u ++ w → lift_in more a ≡ lift_in more u
-        climbs w e = ap (lift_in more) e ∙ lift_on more u w ∙ ap (λ (r : Option Name). option_or r (lift_in more u)) (nothing (behind less u w) refl)
-          where
-            is_on : option_or (behind less u w) (lift_in less u) ≡ Some u
-            is_on = sym (lift_on less u w) ∙ ap (lift_in less) (sym e) ∙ is
-
-            nothing : (r : Option Name) → behind less u w ≡ r → behind more u w ≡ None
-            nothing None none =
-                find_no (λ v. not (has_name more v)) (reverse (map (λ x. u ++ x) (ancestors w)))
-                (λ v h. ap not (at_least v (not_false (has_name less v) (find_none_all (λ x. not (has_name less x)) (reverse (map (λ x. u ++ x) (ancestors w))) none v h))))
-            nothing (Some v) found =
-                let f = found_in (λ x. not (has_name less x)) (reverse (map (λ x. u ++ x) (ancestors w))) v found in
-                let m = in_map u v (ancestors w) (of_reverse v (map (λ x. u ++ x) (ancestors w)) f.0) in
-                let same : Some v ≡ Some u = ap (λ (r : Option Name). option_or r (lift_in less u)) (sym found) ∙ is_on in
-                let equal : v ≡ u = cc in
-                let longer : length v ≡ length u + length m.0 = ap (λ (x : Name). length x) m.2 ∙ length_on u m.0 in
-                let part : 1 ≤ length m.0 = ancestor_part m.0 w m.1 in
-                let as_long : length v ≡ length u = ap (λ (x : Name). length x) equal in
-                absurd (omega arith)
-
--- one more name is among the names
-pub any_append : (a : Name) (us vs : List Name) → list_any (name_eq a) (us ++ vs) ≡ (list_any (name_eq a) us || list_any (name_eq a) vs)
-any_append a [] vs = refl
-any_append a (u ∷ us) vs = ap (λ (b : Bool). name_eq a u || b) (any_append a us vs) ∙ or_assoc (name_eq a u) (list_any (name_eq a) us) (list_any (name_eq a) vs)
-  where
-    or_assoc : (b c d : Bool) → (b || (c || d)) ≡ ((b || c) || d)
-    or_assoc true c d = refl
-    or_assoc false c d = refl
-
-pub with_name_more : (ns : List Name) (n : Name) → AtLeast (with_name ns n) ns
-with_name_more ns n u h = by_test (has_name ns n)
-  where
-    by_test : (b : Bool) → has_name (cond b ns (ns ++ n ∷ [])) u ≡ true
-    by_test true = h
-    by_test false = any_append u ns (n ∷ []) ∙ ap (λ (b : Bool). b || has_name (n ∷ []) u) h
-
--- what stands not in the way before a commit stands not in the way after it
-pub clear_stays : (less more : List Name) (a b : Name) → AtLeast more less → is_in_the_way b (lift_in less a) ≡ false → is_in_the_way b (lift_in more a) ≡ false
-clear_stays less more a b at_least h = by_lift (lift_in less a) refl
-  where
-    by_lift : (r : Option Name) → lift_in less a ≡ r → is_in_the_way b (lift_in more a) ≡ false
-    by_lift None none = ap (is_in_the_way b) (lift_climbs less more a at_least ∙ ap (option_and_then (lift_in more)) none)
-    by_lift (Some u) is = higher (lift_in more u) refl
-      where
-        above : is_ancestor u b ≡ true
-        above = not_false (is_ancestor u b) (ap (is_in_the_way b) (sym is) ∙ h)
-
-        climbed : lift_in more a ≡ lift_in more u
-        climbed = lift_climbs less more a at_least ∙ ap (option_and_then (lift_in more)) is
-
-        higher : (r : Option Name) → lift_in more u ≡ r → is_in_the_way b (lift_in more a) ≡ false
-        higher None none = ap (is_in_the_way b) (climbed ∙ none)
-        higher (Some v) found = ap (is_in_the_way b) (climbed ∙ found) ∙ ap not (ancestor_through v u b (lift_ancestor more u v found) above)
-
--- one name more, as a table of hashes tells it
-pub more_has : (ns : List Name) (n a : Name) → (if name_eq n a then true else has_name ns a) ≡ has_name (ns ++ n ∷ []) a
-more_has ns n a =
-    by_test (name_eq n a) (has_name ns a) ∙ ap (λ (b : Bool). has_name ns a || (b || false)) (name_eq_sym n a) ∙ sym (any_append a ns (n ∷ []))
-  where
-    by_test : (b h : Bool) → cond b true h ≡ (h || (b || false))
-    by_test true true = refl
-    by_test true false = refl
-    by_test false true = refl
-    by_test false false = refl
+pub lift_eq_same : (r s : Option Name) → lift_eq r s ≡ true → r ≡ s
+lift_eq_same None None h = refl
+lift_eq_same None (Some u) h = cc
+lift_eq_same (Some u) None h = cc
+lift_eq_same (Some u) (Some v) h = ap Some (name_eq_same u v h)

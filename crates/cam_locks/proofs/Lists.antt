@@ -1,5 +1,5 @@
 -- One more element of a list that is gone through.
-use Rattle.std.proofs.Common.{◌≡◌, ℕ, ◌+◌, ◌<◌, Bool, true, false, if◌then◌else◌, List, [], ◌∷◌, ◌++◌, length, take, drop, get_or, Option, Some, None, zero, suc, refl, sym, ap, ◌∙◌}
+use Rattle.std.proofs.Common.{◌≡◌, ℕ, ◌+◌, ◌<◌, Bool, true, false, ◌&&◌, cond, if◌then◌else◌, List, [], ◌∷◌, ◌++◌, length, take, drop, get_or, Option, Some, None, zero, suc, refl, sym, ap, ◌∙◌}
 use Rattle.std.specs.Prelude.{filter, find}
 use Rattle.std.specs.Option.{option_or}
 use Rattle.std.proofs.lemmas.List.{take_more}
@@ -31,3 +31,17 @@ find_front {X} test xs n x h =
 pub find_some : {X : Type 0} (test : X → Bool) (xs : List X) (i : ℕ) (x : X)
     → i < length xs → x ≡ get_or xs i x → None ≡ find test (take i xs) → test x ≡ true → Some x ≡ find test xs
 find_some test xs i x h is none passes = sym (find_front test xs (i + 1) x (find_one test xs i x true h is none passes))
+
+pub append_nil : {X : Type 0} (xs : List X) → xs ++ [] ≡ xs
+append_nil [] = refl
+append_nil {X} (x ∷ xs) = ap (λ (ys : List X). x ∷ ys) (append_nil xs)
+
+pub filter_twice : {X : Type 0} (p q : X → Bool) (xs : List X) → filter p (filter q xs) ≡ filter (λ x. q x && p x) xs
+filter_twice p q [] = refl
+filter_twice {X} p q (x ∷ xs) = by_test (q x) (p x) refl (filter_twice p q xs)
+  where
+    by_test : (b c : Bool) → p x ≡ c → filter p (filter q xs) ≡ filter (λ x. q x && p x) xs
+        → filter p (cond b (x ∷ filter q xs) (filter q xs)) ≡ cond (b && c) (x ∷ filter (λ x. q x && p x) xs) (filter (λ x. q x && p x) xs)
+    by_test true true is rest = ap (λ (d : Bool). cond d (x ∷ filter p (filter q xs)) (filter p (filter q xs))) is ∙ ap (λ (ys : List X). x ∷ ys) rest
+    by_test true false is rest = ap (λ (d : Bool). cond d (x ∷ filter p (filter q xs)) (filter p (filter q xs))) is ∙ rest
+    by_test false c is rest = rest

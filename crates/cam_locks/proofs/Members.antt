@@ -1,13 +1,12 @@
 -- Laws of members, of rising indices and of what is found first.
-use Rattle.std.proofs.Common.{eq-eqb, ◌≡◌, ◌⊎◌, ℕ, ◌+◌, ◌≤◌, ◌<◌, eqb, Bool, true, false, not, ◌&&◌, ◌||◌, if◌then◌else◌, cond, List, [], ◌∷◌, ◌++◌, length, get_or, Option, Some, None, zero, suc, refl, sym, ap, subst, ◌∙◌, arith}
+use Rattle.std.proofs.Common.{eq-eqb, ◌≡◌, ◌⊎◌, ℕ, ◌≤◌, ◌<◌, eqb, Bool, true, false, ◌||◌, cond, List, [], ◌∷◌, ◌++◌, Option, Some, None, zero, suc, refl, sym, ap, subst, ◌∙◌, arith}
 use Rattle.std.proofs.Math.Logic.{inl, inr}
-use Rattle.std.specs.Prelude.{filter, find}
+use Rattle.std.specs.Prelude.{filter, find, slice_get}
 use Rattle.std.specs.List.{list_any}
 use Rattle.cam_locks.specs.declared.LiveOp.{LiveOp}
 use Rattle.cam_locks.specs.Members.{In}
 use Rattle.cam_locks.specs.Site.{IndicesRise}
 use Rattle.cam_locks.specs.Holding.{has_op}
-use Rattle.cam_locks.proofs.Rising.{rise_from_lower}
 
 pub in_left : {X : Type 0} (x : X) (xs ys : List X) → In x xs → In x (xs ++ ys)
 in_left x [] ys h = absurd h
@@ -26,11 +25,6 @@ in_either x (z ∷ xs) ys (inr h) = elim (in_either x xs ys h) [ inl a ↦ inl (
 pub in_last : {X : Type 0} (x y : X) → In x (y ∷ []) → x ≡ y
 in_last x y (inl e) = e
 in_last x y (inr h) = absurd h
-
-pub in_at : {X : Type 0} (xs : List X) (i : ℕ) (x : X) → i < length xs → x ≡ get_or xs i x → In x xs
-in_at [] i x lt is = absurd (omega arith)
-in_at (y ∷ xs) zero x lt is = inl is
-in_at (y ∷ xs) (suc i) x lt is = inr (in_at xs i x (omega arith) is)
 
 pub in_filter : {X : Type 0} (test : X → Bool) (x : X) (xs : List X) → In x (filter test xs) → In x xs × (test x ≡ true)
 in_filter {X} test x [] h = absurd h
@@ -55,10 +49,6 @@ in_filtered {X} test x (y ∷ xs) h passes = by_test (test y) refl (in_filtered 
 pub filter_agree : {X : Type 0} (p q : X → Bool) (xs : List X) → ((x : X) → In x xs → p x ≡ q x) → filter p xs ≡ filter q xs
 filter_agree p q [] h = refl
 filter_agree {X} p q (x ∷ xs) h = λ i. cond (h x (inl refl) i) (x ∷ filter_agree p q xs (λ y k. h y (inr k)) i) (filter_agree p q xs (λ y k. h y (inr k)) i)
-
-pub find_agree : {X : Type 0} (p q : X → Bool) (xs : List X) → ((x : X) → In x xs → p x ≡ q x) → find p xs ≡ find q xs
-find_agree p q [] h = refl
-find_agree {X} p q (x ∷ xs) h = λ i. cond (h x (inl refl) i) (Some x) (find_agree p q xs (λ y k. h y (inr k)) i)
 
 pub find_no : {X : Type 0} (test : X → Bool) (xs : List X) → ((x : X) → In x xs → test x ≡ false) → find test xs ≡ None
 find_no test [] h = refl
@@ -166,3 +156,17 @@ found_passes {X} test (y ∷ xs) x h = by_test (test y) refl h (found_passes tes
     by_test : (b : Bool) → test y ≡ b → cond b (Some y) (find test xs) ≡ Some x → (find test xs ≡ Some x → test x ≡ true) → test x ≡ true
     by_test true is k rest = let e : y ≡ x = cc in ap test (sym e) ∙ is
     by_test false is k rest = rest k
+
+pub any_member : {X : Type 0} (test : X → Bool) (xs : List X) → list_any test xs ≡ true → (x : X) × In x xs × (test x ≡ true)
+any_member test [] h = cc
+any_member {X} test (y ∷ xs) h = by_test (test y) refl h (any_member test xs)
+  where
+    by_test : (b : Bool) → test y ≡ b → (b || list_any test xs) ≡ true → (list_any test xs ≡ true → (x : X) × In x xs × (test x ≡ true)) → (x : X) × In x (y ∷ xs) × (test x ≡ true)
+    by_test true is k rest = (y, inl refl, is)
+    by_test false is k rest = let r = rest k in (r.0, inr r.1, r.2)
+
+pub in_got : {X : Type 0} (xs : List X) (k : ℕ) (x : X) → slice_get xs k ≡ Some x → In x xs
+in_got [] zero x is = cc
+in_got [] (suc k) x is = cc
+in_got (y ∷ xs) zero x is = let same : y ≡ x = cc in inl (sym same)
+in_got (y ∷ xs) (suc k) x is = inr (in_got xs k x is)

@@ -1,5 +1,5 @@
 -- Indices rise on, whatever is left out or put at the end.
-use Rattle.std.proofs.Common.{◌≡◌, ℕ, ◌+◌, ◌≤◌, ◌<◌, Bool, true, false, if◌then◌else◌, List, [], ◌∷◌, ◌++◌, suc, arith, ap, subst, cond, refl}
+use Rattle.std.proofs.Common.{◌≡◌, ℕ, ◌+◌, ◌≤◌, ◌<◌, Bool, true, false, List, [], ◌∷◌, ◌++◌, length, drop, get_or, zero, suc, arith, ap, subst, cond, refl}
 use Rattle.std.specs.Prelude.{filter}
 use Rattle.cam_locks.specs.declared.LiveOp.{LiveOp}
 use Rattle.cam_locks.specs.Site.{IndicesRise}
@@ -26,3 +26,22 @@ rise_later low (o ∷ os) next later le h = (h.0, rise_later (suc o.index) os ne
 
 pub rise_above : (low : ℕ) (os : List LiveOp) (next : ℕ) (o : LiveOp) → next ≤ o.index → IndicesRise low os next → IndicesRise low (os ++ o ∷ []) (o.index + 1)
 rise_above low os next o le h = rise_push low os o.index o (rise_later low os next o.index le h) refl
+
+pub next_at_least : (low : ℕ) (os : List LiveOp) (next : ℕ) → IndicesRise low os next → low ≤ next
+next_at_least low [] next h = h
+next_at_least low (o ∷ os) next h = let from : low ≤ o.index = h.0 in let on : suc o.index ≤ next = next_at_least (suc o.index) os next h.1 in omega arith
+
+-- The operation at a place of a list whose indices rise, and the rest behind it.
+pub rise_at : (n : ℕ) (os : List LiveOp) (i bound : ℕ) (x : LiveOp) → i < length os → x ≡ get_or os i x → IndicesRise n (drop i os) bound
+    → (n ≤ x.index) × (x.index < bound) × IndicesRise (x.index + 1) (drop (i + 1) os) bound
+rise_at n [] i bound x lt is rise = absurd (omega arith)
+rise_at n (o ∷ os) zero bound x lt is rise =
+    let same : x.index ≡ o.index = ap (λ (p : LiveOp). p.index) is in
+    let from : n ≤ o.index = rise.0 in
+    let to : suc o.index ≤ bound = next_at_least (suc o.index) os bound rise.1 in
+    let at : suc o.index ≡ x.index + 1 = omega (arith, same) in
+    (omega (arith, same), omega (arith, same), subst (λ (k : ℕ). IndicesRise k os bound) at rise.1)
+rise_at n (o ∷ os) (suc i) bound x lt is rise =
+    let r = rise_at n os i bound x (omega arith) is rise in
+    let e : suc (i + 1) ≡ suc i + 1 = omega arith in
+    (r.0, r.1, subst (λ (k : ℕ). IndicesRise (x.index + 1) (drop k (o ∷ os)) bound) e r.2)

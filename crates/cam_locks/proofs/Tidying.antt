@@ -1,28 +1,24 @@
 -- What need not be kept can be left out.
-use Rattle.std.proofs.Common.{◌≡◌, ◌⊎◌, ℕ, ◌+◌, ◌≤◌, ◌<◌, Bool, true, false, not, ◌&&◌, ◌||◌, if◌then◌else◌, cond, List, [], ◌∷◌, ◌++◌, length, take, get_or, map, Option, Some, None, zero, suc, refl, sym, ap, subst, ◌∙◌, arith}
+use Rattle.std.proofs.Common.{◌≡◌, ◌⊎◌, ℕ, ◌≤◌, ◌<◌, Bool, true, false, not, ◌||◌, List, [], ◌∷◌, ◌++◌, map, Some, None, suc, refl, sym, ap, subst, ◌∙◌, arith}
 use Rattle.std.proofs.Math.Logic.{inl, inr}
-use Rattle.std.specs.Prelude.{is_none, slice_get}
+use Rattle.std.specs.Prelude.{is_none}
+use Rattle.std.specs.List.{list_any}
 use Rattle.std.proofs.lemmas.List.{map-append}
 use Rattle.std.proofs.lemmas.Bool.{and_parts}
 use Rattle.cam_names.specs.declared.name.Name.{Name}
-use Rattle.cam_names.proofs.Names.{name_eq_same}
 use Rattle.cam_type.specs.declared.State.{State}
 use Rattle.cam_type.specs.declared.Mode.{Mode}
 use Rattle.cam_locks.specs.declared.LiveOp.{LiveOp}
 use Rattle.cam_locks.specs.declared.versions.Version.{Version}
 use Rattle.cam_locks.specs.Members.{In}
 use Rattle.cam_locks.specs.Site.{IndicesRise}
-use Rattle.cam_locks.specs.Holding.{lift_in, has_op, IsLeader, KeepsLeaders, IsVersionOf, KeepsVersions, lift_eq, is_led, is_idle, is_outdated, last_current}
-use Rattle.std.specs.Option.{option_or}
-use Rattle.cam_locks.proofs.Lists.{taken}
-use Rattle.cam_locks.proofs.Rising.{rise_from_lower, rise_later}
-use Rattle.cam_locks.proofs.Members.{in_left, in_right, in_either, in_last, above, has_member}
-
-pub lift_eq_same : (r s : Option Name) → lift_eq r s ≡ true → r ≡ s
-lift_eq_same None None h = refl
-lift_eq_same None (Some u) h = cc
-lift_eq_same (Some u) None h = cc
-lift_eq_same (Some u) (Some v) h = ap Some (name_eq_same u v h)
+use Rattle.cam_locks.specs.Holding.{lift_in, has_op, IsLeader, KeepsLeaders, IsVersionOf, KeepsVersions}
+use Rattle.cam_locks.specs.Changes.{lift_eq, leads, is_idle, is_outdated}
+use Rattle.cam_locks.proofs.Lists.{append_nil}
+use Rattle.cam_locks.proofs.Rising.{rise_from_lower}
+use Rattle.cam_locks.proofs.Members.{in_left, in_right, in_either, above, has_member, any_member}
+use Rattle.cam_locks.proofs.Tests.{not_true, none_is}
+use Rattle.cam_locks.proofs.Lifting.{lift_eq_same}
 
 rise_without : (low : ℕ) (os : List LiveOp) (p : LiveOp) (qs : List LiveOp) (next : ℕ) → IndicesRise low (os ++ p ∷ qs) next → IndicesRise low (os ++ qs) next
 rise_without low [] p qs next h = let from : low ≤ p.index = h.0 in rise_from_lower (suc p.index) low qs next (omega arith) h.1
@@ -40,71 +36,62 @@ rise_behind : (low : ℕ) (os : List LiveOp) (p q : LiveOp) (next : ℕ) → Ind
 rise_behind low [] p q next h = let on : suc p.index ≤ q.index = h.1.0 in omega arith
 rise_behind low (o ∷ os) p q next h = rise_behind (suc o.index) os p q next h.1
 
-pub append_nil : {X : Type 0} (xs : List X) → xs ++ [] ≡ xs
-append_nil [] = refl
-append_nil {X} (x ∷ xs) = ap (λ (ys : List X). x ∷ ys) (append_nil xs)
-
 or_cases : (a b : Bool) → (a || b) ≡ true → (a ≡ true) ⊎ (b ≡ true)
 or_cases true b h = inl refl
 or_cases false b h = inr h
 
-not_true : (b : Bool) → not b ≡ true → b ≡ false
-not_true true h = cc
-not_true false h = refl
-
-none_is : (r : Option Name) → is_none r ≡ true → r ≡ None
-none_is None h = refl
-none_is (Some u) h = cc
-
--- the one before, where there is one, is among the rest
-abbrev pub IsAmong : Option LiveOp → List LiveOp → Type 0
-IsAmong None ts = Unit {0}
-IsAmong (Some s) ts = In s ts
-
-pub leaders_drop : (x : ℕ) (m : Mode) (ns : List Name) (os : List LiveOp) (next : ℕ) (ts : List LiveOp) (t : LiveOp) (before : Option LiveOp)
-    → IsAmong before ts → is_idle ns os before t ≡ true → KeepsLeaders x m ns os next (ts ++ t ∷ []) → KeepsLeaders x m ns os next ts
-leaders_drop x m ns os next ts t before among idle keeps = record {
-  rising = subst (λ (ps : List LiveOp). IndicesRise 0 ps next) (append_nil ts) (rise_without 0 ts t [] next keeps.rising);
-  locks = λ s h. keeps.locks s (in_left s ts (t ∷ []) h);
-  sound = λ s h live. keeps.sound s (in_left s ts (t ∷ []) h) live;
-  covers = λ o u h lock is. other o u is (keeps.covers o u h lock is);
+-- a leader can be left out where it is idle
+pub leaders_drop : (x : ℕ) (m : Mode) (ns : List Name) (os : List LiveOp) (next : ℕ) (ts : List LiveOp) (t : LiveOp) (us : List LiveOp)
+    → is_idle ns os ts t ≡ true → KeepsLeaders x m ns os next (ts ++ t ∷ us) → KeepsLeaders x m ns os next (ts ++ us)
+leaders_drop x m ns os next ts t us idle keeps = record {
+  rising = rise_without 0 ts t us next keeps.rising;
+  locks = λ s h. keeps.locks s (wider s h);
+  sound = λ s h live. keeps.sound s (wider s h) live;
+  covers = λ o u h lock is. other o u (keeps.covers o u h lock is);
 }
   where
-    by_leader : (before : Option LiveOp) → IsAmong before ts → is_led ns os before t ≡ true → (o : LiveOp) (u : Name) → t.index ≤ o.index → lift_in ns t.action ≡ Some u
-        → (s : LiveOp) × IsLeader ns os ts o u s
-    by_leader None among led o u le same = cc
-    by_leader (Some s) among led o u le same =
-        let parts = and_parts (has_op os s.index) (lift_eq (lift_in ns s.action) (lift_in ns t.action)) led in
-        let lt : s.index < t.index = rise_before 0 ts t [] next s keeps.rising among in (
+    wider : (s : LiveOp) → In s (ts ++ us) → In s (ts ++ t ∷ us)
+    wider s h = elim (in_either s ts us h) [ inl k ↦ in_left s ts (t ∷ us) k | inr k ↦ in_right s ts (t ∷ us) (inr k) ]
+
+    by_leader : list_any (leads ns os (lift_in ns t.action)) ts ≡ true → (o : LiveOp) (u : Name) → t.index ≤ o.index → lift_in ns t.action ≡ Some u
+        → (s : LiveOp) × IsLeader ns os (ts ++ us) o u s
+    by_leader led o u le same =
+        let found = any_member (leads ns os (lift_in ns t.action)) ts led in
+        let s = found.0 in
+        let parts = and_parts (lift_eq (lift_in ns s.action) (lift_in ns t.action)) (has_op os s.index) found.2 in
+        let lt : s.index < t.index = rise_before 0 ts t us next s keeps.rising found.1 in (
           s,
           record {
-            leads = among;
-            is_live = keeps.sound s (in_left s ts (t ∷ []) among) parts.0;
+            leads = in_left s ts us found.1;
+            is_live = keeps.sound s (in_left s ts (t ∷ us) found.1) parts.1;
             is_first = omega arith;
-            same_lift = lift_eq_same (lift_in ns s.action) (lift_in ns t.action) parts.1 ∙ same;
+            same_lift = lift_eq_same (lift_in ns s.action) (lift_in ns t.action) parts.0 ∙ same;
           },
         )
 
-    not_itself : (o s : LiveOp) (u : Name) → s ≡ t → IsLeader ns os (ts ++ t ∷ []) o u s → (r : LiveOp) × IsLeader ns os ts o u r
+    not_itself : (o s : LiveOp) (u : Name) → s ≡ t → IsLeader ns os (ts ++ t ∷ us) o u s → (r : LiveOp) × IsLeader ns os (ts ++ us) o u r
     not_itself o s u e lead =
         let same : lift_in ns t.action ≡ Some u = ap (λ (p : LiveOp). lift_in ns p.action) (sym e) ∙ lead.same_lift in
         let equal : s.index ≡ t.index = ap (λ (p : LiveOp). p.index) e in
         let first : s.index ≤ o.index = lead.is_first in
         let le : t.index ≤ o.index = omega arith in
         let alive : has_op os t.index ≡ true = has_member os t (subst (λ (p : LiveOp). In p os) e lead.is_live) in
-        elim (or_cases (not (has_op os t.index)) (is_none (lift_in ns t.action) || is_led ns os before t) idle) [
+        elim (or_cases (not (has_op os t.index)) (is_none (lift_in ns t.action) || list_any (leads ns os (lift_in ns t.action)) ts) idle) [
           | inl dead ↦ let wrong : true ≡ false = sym alive ∙ not_true (has_op os t.index) dead in cc
-          | inr rest ↦ elim (or_cases (is_none (lift_in ns t.action)) (is_led ns os before t) rest) [
+          | inr rest ↦ elim (or_cases (is_none (lift_in ns t.action)) (list_any (leads ns os (lift_in ns t.action)) ts) rest) [
             | inl past ↦ let wrong : Some u ≡ None = sym same ∙ none_is (lift_in ns t.action) past in cc
-            | inr led ↦ by_leader before among led o u le same
+            | inr led ↦ by_leader led o u le same
           ]
         ]
 
-    other : (o : LiveOp) (u : Name) → lift_in ns o.action ≡ Some u → (s : LiveOp) × IsLeader ns os (ts ++ t ∷ []) o u s → (s : LiveOp) × IsLeader ns os ts o u s
-    other o u is lead =
-        elim (in_either lead.0 ts (t ∷ []) lead.1.leads) [
-          | inl k ↦ (lead.0, record { leads = k; is_live = lead.1.is_live; is_first = lead.1.is_first; same_lift = lead.1.same_lift })
-          | inr k ↦ not_itself o lead.0 u (in_last lead.0 t k) lead.1
+    other : (o : LiveOp) (u : Name) → (s : LiveOp) × IsLeader ns os (ts ++ t ∷ us) o u s → (s : LiveOp) × IsLeader ns os (ts ++ us) o u s
+    other o u lead =
+        elim (in_either lead.0 ts (t ∷ us) lead.1.leads) [
+          | inl k ↦ (lead.0, record { leads = in_left lead.0 ts us k; is_live = lead.1.is_live; is_first = lead.1.is_first; same_lift = lead.1.same_lift })
+          | inr k ↦ elim k [
+            | inl e ↦ not_itself o lead.0 u e lead.1
+            | inr j ↦ (lead.0, record { leads = in_right lead.0 ts us j; is_live = lead.1.is_live; is_first = lead.1.is_first; same_lift = lead.1.same_lift })
+          ]
         ]
 
 abbrev ops : List Version → List LiveOp
@@ -168,13 +155,6 @@ versions_drop_older x start ns os next vs v later live old keeps =
           )
         ]
 
--- what stands at a place is among the rest
-pub last_among : (ts : List LiveOp) (r : Option LiveOp) (k : ℕ) → r ≡ slice_get ts k → IsAmong r ts
-last_among ts None k is = tt
-last_among [] (Some s) k is = cc
-last_among (t ∷ ts) (Some s) zero is = let same : s ≡ t = cc in inl same
-last_among (t ∷ ts) (Some s) (suc k) is = inr (last_among ts (Some s) k is)
-
 append_assoc : {X : Type 0} (xs ys zs : List X) → (xs ++ ys) ++ zs ≡ xs ++ (ys ++ zs)
 append_assoc [] ys zs = refl
 append_assoc {X} (x ∷ xs) ys zs = ap (λ (ws : List X). x ∷ ws) (append_assoc xs ys zs)
@@ -185,30 +165,3 @@ pub versions_drop_before : (x : ℕ) (start : State) (ns : List Name) (os : List
 versions_drop_before x start ns os next vs v later live old keeps =
     versions_drop_older x start ns os next vs v later live old
     (subst (λ (ws : List Version). KeepsVersions x start ns os next ws) (append_assoc vs (v ∷ []) (later ∷ [])) keeps)
-
--- the last that passes, with one more
-last_more : (test : Version → Bool) (vs : List Version) (v : Version) → last_current test (vs ++ v ∷ []) ≡ (if test v then Some v else last_current test vs)
-last_more test [] v = refl
-last_more test (w ∷ vs) v =
-    ap (λ (r : Option Version). option_or r (if test w then Some w else None)) (last_more test vs v) ∙ by_test (test v)
-  where
-    by_test : (b : Bool) → option_or (cond b (Some v) (last_current test vs)) (cond (test w) (Some w) None) ≡ cond b (Some v) (option_or (last_current test vs) (cond (test w) (Some w) None))
-    by_test true = refl
-    by_test false = refl
-
-get_at : (vs : List Version) (i : ℕ) (v : Version) → i < length vs → v ≡ get_or vs i v → slice_get vs i ≡ Some v
-get_at [] i v lt is = absurd (omega arith)
-get_at (w ∷ vs) zero v lt is = ap Some (sym is)
-get_at (w ∷ vs) (suc i) v lt is = get_at vs i v (omega arith) is
-
-pub place_found : (test : Version → Bool) (vs : List Version) (i : ℕ) (v : Version) → i < length vs → v ≡ get_or vs i v → test v ≡ true
-    → last_current test (take (i + 1) vs) ≡ slice_get vs i
-place_found test vs i v lt is passes =
-    ap (last_current test) (taken vs i v lt is) ∙ last_more test (take i vs) v
-    ∙ ap (λ (b : Bool). cond b (Some v) (last_current test (take i vs))) passes ∙ sym (get_at vs i v lt is)
-
-pub place_passed : (test : Version → Bool) (vs : List Version) (i : ℕ) (v : Version) → i < length vs → v ≡ get_or vs i v → test v ≡ false
-    → last_current test (take (i + 1) vs) ≡ last_current test (take i vs)
-place_passed test vs i v lt is fails =
-    ap (last_current test) (taken vs i v lt is) ∙ last_more test (take i vs) v
-    ∙ ap (λ (b : Bool). cond b (Some v) (last_current test (take i vs))) fails

@@ -1,8 +1,10 @@
 pub mod Names
 pub mod Site
 pub mod Members
+pub mod Families
 pub mod Live
 pub mod Moss
 pub mod Calls
 pub mod Restored
 pub mod Holding
+pub mod Changes

@@ -1,5 +1,5 @@
 -- Nested locks as Moss has them, said of the live operations in order: no holder and no version is named.
-use Rattle.std.specs.Prelude.{ℕ, eqb, Bool, true, false, not, ◌&&◌, List, [], ◌∷◌, filter, find, Option, Some, None, is_none, option_and_then}
+use Rattle.std.specs.Prelude.{ℕ, eqb, Bool, false, not, ◌&&◌, List, [], ◌∷◌, filter, find, Option, Some, None, is_none, option_and_then}
 use Rattle.cam_names.specs.declared.name.Name.{Name}
 use Rattle.cam_names.specs.Names.{is_ancestor}
 use Rattle.cam_type.specs.declared.State.{State}

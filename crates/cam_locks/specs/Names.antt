@@ -1,5 +1,5 @@
 -- Names of actions, none of them twice, in the order in which they came in.
-use Rattle.std.specs.Prelude.{◌≡◌, ℕ, Bool, false, if◌then◌else◌, List, [], ◌∷◌, ◌++◌}
+use Rattle.std.specs.Prelude.{ℕ, Bool, not, if◌then◌else◌, List, [], ◌∷◌, ◌++◌, filter}
 use Rattle.std.specs.List.{list_any}
 use Rattle.cam_names.specs.declared.name.Name.{Name}
 use Rattle.cam_names.specs.Names.{name_eq}
@@ -16,7 +16,7 @@ has_name names a = list_any (name_eq a) names
 abbrev pub with_name : List Name → Name → List Name
 with_name names a = if has_name names a then names else names ++ a ∷ []
 
--- these names in turn
-abbrev pub with_names : List Name → List Name → List Name
-with_names names [] = names
-with_names names (a ∷ more) = with_names (with_name names a) more
+-- each of these names once, at its first place
+abbrev pub once : List Name → List Name
+once [] = []
+once (a ∷ names) = a ∷ filter (λ b. not (name_eq a b)) (once names)

@@ -8,7 +8,8 @@ use Rattle.cam_type.specs.declared.Held.{Held}
 use Rattle.cam_know.specs.Knowledge.{Knowledge}
 use Rattle.cam_know.specs.Known.{knows_abort, committed_name, aborted_name}
 use Rattle.cam_locks.specs.declared.LiveOp.{LiveOp}
-use Rattle.cam_locks.specs.Names.{with_names}
+use Rattle.cam_locks.specs.Names.{once}
+use Rattle.cam_locks.specs.Holding.{has_op}
 use Rattle.cam_locks.specs.Site.{Site, is_fit}
 
 -- a held operation, with its family as its action
@@ -24,15 +25,20 @@ abbrev pub put_in_order : LiveOp → List LiveOp → List LiveOp
 put_in_order o [] = o ∷ []
 put_in_order o (p ∷ ps) = if nat_lt p.index o.index then p ∷ put_in_order o ps else o ∷ p ∷ ps
 
--- these operations in the order of their indices, among others that are
-abbrev pub put_all : List LiveOp → List LiveOp → List LiveOp
-put_all [] ps = ps
-put_all (o ∷ os) ps = put_all os (put_in_order o ps)
+-- these operations in the order of their indices
+abbrev pub in_order : List LiveOp → List LiveOp
+in_order [] = []
+in_order (o ∷ os) = put_in_order o (in_order os)
+
+-- each index stands once
+abbrev pub EachOnce : List LiveOp → Type 0
+EachOnce [] = Unit {0}
+EachOnce (o ∷ os) = (has_op os o.index ≡ false) × EachOnce os
 
 -- one above the greatest index of the held operations, and 0 where there is none
-abbrev pub next_after : List HeldOp → ℕ → ℕ
-next_after [] next = next
-next_after (h ∷ hs) next = next_after hs (max next (h.index + 1))
+abbrev pub next_of : List HeldOp → ℕ
+next_of [] = 0
+next_of (h ∷ hs) = max (h.index + 1) (next_of hs)
 
 abbrev pub all_held : List Held → List HeldOp
 all_held held = flat_map (λ h. h.ops) held
@@ -42,10 +48,10 @@ restored objects node held know =
     record {
       objects = objects;
       node = node;
-      live = put_all (flat_map (ops_of know) held) [];
-      committed = with_names [] (flat_map committed_name know.outcomes);
-      aborted = with_names [] (flat_map aborted_name know.outcomes);
-      next = next_after (all_held held) 0;
+      live = in_order (flat_map (ops_of know) held);
+      committed = once (flat_map committed_name know.outcomes);
+      aborted = once (flat_map aborted_name know.outcomes);
+      next = next_of (all_held held);
     }
 
 -- whether one of the held operations has the index

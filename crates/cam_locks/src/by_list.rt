@@ -1,11 +1,11 @@
 //! What the definitions say, read off the list of live operations: for objects of which nothing else is kept.
-ghost use Rattle.std.specs.Prelude.{◌≡◌, ◌&&◌, not, filter, find, is_none, map, IfOk};
+ghost use Rattle.std.specs.Prelude.{◌≡◌, ◌&&◌, filter, find, is_none, map, option_and_then, IfOk};
 ghost use Rattle.std.specs.List.{list_any};
-ghost use Rattle.cam_type.specs.Table.{mode_of, compatible};
 ghost use Rattle.cam_locks.specs.Site.{start_of};
-ghost use Rattle.cam_locks.specs.Moss.{is_on, is_in_the_way, replay};
+ghost use Rattle.cam_locks.specs.Moss.{is_on, replay};
 ghost use Rattle.cam_locks.specs.Calls.{is_of, held_op};
 ghost use Rattle.cam_locks.specs.Holding.{lift_in};
+ghost use Rattle.cam_locks.specs.Changes.{conflicts, holder_of};
 
 use crate::leaders::is_in_the_way;
 use crate::names::Names;
@@ -16,15 +16,41 @@ use cam_names::Name;
 use cam_type::{HeldOp, HeldOps, Objects, Op, State, compatible, mode_of};
 use std::alloc::Global;
 
+/// The lift of the first live operation that conflicts.
+pub(crate) fn holder(
+    live: &[LiveOp],
+    committed: &Names,
+    name: &Name,
+    object: u8,
+    op: &Op,
+) -> Option<Name>
+    ensures { result ≡ holder_of committed.now.names live.now name.now object op.now }
+{
+    lift_of(
+        committed,
+        &first_conflict(live, committed, name, object, op),
+    )
+}
+
+/// The lift of an operation, where there is one.
+pub(crate) fn lift_of(committed: &Names, operation: &Option<LiveOp>) -> Option<Name>
+    ensures { result ≡ option_and_then (λ o. lift_in committed.now.names o.action) operation.now }
+{
+    match operation {
+        Some(operation) => committed.lift(&operation.action),
+        None => None,
+    }
+}
+
 /// The first live operation that conflicts.
-pub(crate) fn first_conflict(
+fn first_conflict(
     live: &[LiveOp],
     committed: &Names,
     name: &Name,
     object: u8,
     op: &Op,
 ) -> Option<LiveOp>
-    ensures { result ≡ find (λ o. is_on object o && (is_in_the_way name.now (lift_in committed.now.names o.action) && not (compatible (mode_of o.op) (mode_of op.now)))) live.now }
+    ensures { result ≡ find (conflicts committed.now.names name.now object op.now) live.now }
 {
     for operation in live {
         if is_conflict(committed, name, object, op, operation) {
@@ -36,7 +62,7 @@ pub(crate) fn first_conflict(
 
 /// Whether a live operation conflicts.
 fn is_conflict(committed: &Names, name: &Name, object: u8, op: &Op, operation: &LiveOp) -> bool
-    ensures { result ≡ (is_on object operation.now && (is_in_the_way name.now (lift_in committed.now.names operation.now.action) && not (compatible (mode_of operation.now.op) (mode_of op.now)))) }
+    ensures { result ≡ conflicts committed.now.names name.now object op.now operation.now }
 {
     operation.object == object
         && is_in_the_way(name, &committed.lift(&operation.action))

@@ -1,84 +1,17 @@
-//! Conflicts and values, by what is kept of an object where anything is, and else by the list.
-ghost use Rattle.std.specs.Prelude.{◌≡◌, ◌+◌, ◌≤◌, [], ◌∷◌, ◌++◌, ◌&&◌, not, filter, find, is_none, None, IfOk, OnOk, OnErr, option_and_then};
-ghost use Rattle.cam_type.specs.Table.{mode_of, compatible, state_after, answer_of};
-ghost use Rattle.cam_locks.specs.Site.{start_of};
-ghost use Rattle.cam_locks.specs.Moss.{is_on, is_in_the_way, replay};
+//! Grants, aborts and values, by what is kept of an object where anything is, and else by the list.
+ghost use Rattle.std.specs.Prelude.{◌≡◌, ◌+◌, ◌≤◌, ◌<◌, [], ◌∷◌, ◌++◌, not, false, filter, length, get_or, vec_len, IfOk, OnOk, OnErr};
+ghost use Rattle.cam_type.specs.Table.{answer_of};
 ghost use Rattle.cam_locks.specs.Calls.{grant_by, is_below};
-ghost use Rattle.cam_locks.specs.Holding.{AllLocks, lift_in, holder_of, value_of, by_holder};
+ghost use Rattle.cam_locks.specs.Holding.{AllLocks, LocksView};
+ghost use Rattle.cam_locks.specs.Changes.{EachTo, TidiedTo, SpoiledBy, holder_of, value_of, settled_of, by_holder};
 
 use crate::live::Live;
 use crate::locks::{self, Locks};
 use crate::names::Names;
-use crate::operations::start_of;
 use crate::{Grant, LiveOp, by_list};
 use cam_base::NoMemory;
 use cam_names::Name;
-use cam_type::{Objects, Op, State, apply};
-
-/// The first live operation that conflicts.
-fn first_conflict(
-    locks: &[Locks],
-    live: &Live,
-    committed: &Names,
-    objects: &Objects,
-    name: &Name,
-    object: u8,
-    op: &Op,
-) -> Option<LiveOp>
-    requires { AllLocks objects.now committed.now.names live.now.ops live.now.next locks.now }
-    ensures { result ≡ find (λ o. is_on object o && (is_in_the_way name.now (lift_in committed.now.names o.action) && not (compatible (mode_of o.op) (mode_of op.now)))) live.now.ops }
-{
-    let operations = live.as_slice();
-    let at = object as usize;
-    if at < locks.len() {
-        let one = &locks[at];
-        if !one.is_stale() {
-            return one.first_conflict(live, committed, name, op);
-        }
-    }
-    by_list::first_conflict(operations, committed, name, object, op)
-}
-
-/// The lift of the first live operation that conflicts.
-fn holder(
-    locks: &[Locks],
-    live: &Live,
-    committed: &Names,
-    objects: &Objects,
-    name: &Name,
-    object: u8,
-    op: &Op,
-) -> Option<Name>
-    requires { AllLocks objects.now committed.now.names live.now.ops live.now.next locks.now }
-    ensures { result ≡ holder_of committed.now.names live.now.ops name.now object op.now }
-{
-    match first_conflict(locks, live, committed, objects, name, object, op) {
-        Some(operation) => committed.lift(&operation.action),
-        None => None,
-    }
-}
-
-/// The value that an operation on the object meets.
-fn value(
-    locks: &[Locks],
-    live: &Live,
-    committed: &Names,
-    objects: &Objects,
-    object: u8,
-) -> Result<State, NoMemory>
-    requires { AllLocks objects.now committed.now.names live.now.ops live.now.next locks.now }
-    ensures { IfOk result (λ state. state ≡ value_of objects.now live.now.ops object) }
-{
-    let operations = live.as_slice();
-    let at = object as usize;
-    if at < locks.len() {
-        let one = &locks[at];
-        if !one.is_stale() {
-            return one.state(live, committed, false, start_of(objects, object)?);
-        }
-    }
-    by_list::value(live.allocator(), operations, objects, object)
-}
+use cam_type::{Objects, State, apply};
 
 /// The value of the object that is handed up past the top.
 pub(crate) fn settled(
@@ -89,17 +22,14 @@ pub(crate) fn settled(
     object: u8,
 ) -> Result<State, NoMemory>
     requires { AllLocks objects.now committed.now.names live.now.ops live.now.next locks.now }
-    ensures { IfOk result (λ state. state ≡ replay (start_of objects.now object) (filter (λ o. is_on object o && is_none (lift_in committed.now.names o.action)) live.now.ops)) }
+    ensures { IfOk result (λ state. state ≡ settled_of objects.now committed.now.names live.now.ops object) }
 {
-    let operations = live.as_slice();
-    let at = object as usize;
-    if at < locks.len() {
-        let one = &locks[at];
-        if !one.is_stale() {
-            return one.state(live, committed, true, start_of(objects, object)?);
-        }
+    let _next = live.next();
+    if locks::is_kept(locks, object) {
+        return locks[object as usize].settled(live, committed);
     }
-    by_list::settled(live.allocator(), operations, committed, objects, object)
+    let all = live.to_vec()?;
+    by_list::settled(live.allocator(), all.as_slice(), committed, objects, object)
 }
 
 /// Does an operation, unless a live one conflicts. What is kept stays so at every answer.
@@ -120,51 +50,101 @@ pub(crate) fn grant(
     ensures err_ops { OnErr result (live.new.ops ≡ live.old.ops) }
     ensures err_next { OnErr result (live.new.next ≡ live.old.next) }
 {
-    let object = operation.object;
-    locks::tidy_at(locks, object, live, committed);
-    let holder = holder(
-        locks.as_slice(),
-        live,
-        committed,
-        objects,
-        &operation.action,
-        object,
-        &operation.op,
-    );
-    if let Some(holder) = holder {
-        return Ok(Grant::Conflict(holder));
+    if locks::is_kept(locks.as_slice(), operation.object) {
+        grant_kept(locks, live, committed, objects, operation)
+    } else {
+        grant_replayed(locks, live, committed, objects, operation)
     }
-    let mut state = value(locks.as_slice(), live, committed, objects, object)?;
-    let answer = apply(&mut state, &operation.op)?;
-    perform(locks, live, committed, objects, operation, state)?;
-    Ok(Grant::Done(answer))
 }
 
-/// Appends an operation with which none conflicts, and behind which its object has this state.
-fn perform(
+/// Does an operation on an object of which all is kept, unless a live one conflicts.
+fn grant_kept(
     locks: &mut Vec<Locks>,
     live: &mut Live,
     committed: &Names,
     objects: &Objects,
     operation: &LiveOp,
-    state: State,
-) -> Result<(), NoMemory>
+) -> Result<Grant, NoMemory>
     requires all { AllLocks objects.now committed.now.names live.old.ops live.old.next locks.old.items }
     requires index { live.old.next ≤ operation.now.index }
     requires range { operation.now.index ≤ 999999999 }
-    requires free { holder_of committed.now.names live.old.ops operation.now.action operation.now.object operation.now.op ≡ None }
-    requires state { state ≡ state_after (value_of objects.now live.old.ops operation.now.object) operation.now.op }
+    requires within { operation.now.object < vec_len locks.old }
+    requires fresh { (l : LocksView) → (get_or locks.old.items operation.now.object l).stale ≡ false }
     ensures kept { AllLocks objects.now committed.now.names live.new.ops live.new.next locks.new.items }
-    ensures ops { OnOk result (live.new.ops ≡ live.old.ops ++ operation.now ∷ []) }
-    ensures next { OnOk result (live.new.next ≡ operation.now.index + 1) }
+    ensures grant { IfOk result (λ granted. granted ≡ grant_by (holder_of committed.now.names live.old.ops operation.now.action operation.now.object operation.now.op) (answer_of (value_of objects.now live.old.ops operation.now.object) operation.now.op)) }
+    ensures ops { OnOk result (live.new.ops ≡ by_holder (holder_of committed.now.names live.old.ops operation.now.action operation.now.object operation.now.op) live.old.ops (live.old.ops ++ operation.now ∷ [])) }
+    ensures next { OnOk result (live.new.next ≡ by_holder (holder_of committed.now.names live.old.ops operation.now.action operation.now.object operation.now.op) live.old.next (operation.now.index + 1)) }
     ensures err_ops { OnErr result (live.new.ops ≡ live.old.ops) }
     ensures err_next { OnErr result (live.new.next ≡ live.old.next) }
 {
     let _next = live.next();
-    live.make_room()?;
-    locks::add_at(locks, operation, state)?;
+    if let Some(holder) = holder(locks, live, committed, objects, operation) {
+        return Ok(Grant::Conflict(holder));
+    }
+    live.make_room(&operation.action.family())?;
+    let answer = locks::perform(locks, operation, live, committed)?;
     live.push(operation);
-    Ok(())
+    Ok(Grant::Done(answer))
+}
+
+/// Who stands in the way of an operation on an object of which all is kept.
+fn holder(
+    locks: &mut Vec<Locks>,
+    live: &Live,
+    committed: &Names,
+    objects: &Objects,
+    operation: &LiveOp,
+) -> Option<Name>
+    requires all { AllLocks objects.now committed.now.names live.now.ops live.now.next locks.old.items }
+    requires within { operation.now.object < vec_len locks.old }
+    requires fresh { (l : LocksView) → (get_or locks.old.items operation.now.object l).stale ≡ false }
+    ensures tidied { EachTo (TidiedTo committed.now.names live.now.ops) locks.old.items locks.new.items }
+    ensures value { result ≡ holder_of committed.now.names live.now.ops operation.now.action operation.now.object operation.now.op }
+{
+    let _next = live.next();
+    let LiveOp {
+        action,
+        object,
+        op,
+        ..
+    } = operation;
+    let first = locks::first_conflict(locks, live, committed, action, *object, op);
+    by_list::lift_of(committed, &first)
+}
+
+/// Does an operation, unless a live one conflicts, by the list. Nothing is kept of its object from now on.
+fn grant_replayed(
+    locks: &mut Vec<Locks>,
+    live: &mut Live,
+    committed: &Names,
+    objects: &Objects,
+    operation: &LiveOp,
+) -> Result<Grant, NoMemory>
+    requires all { AllLocks objects.now committed.now.names live.old.ops live.old.next locks.old.items }
+    requires index { live.old.next ≤ operation.now.index }
+    requires range { operation.now.index ≤ 999999999 }
+    ensures kept { AllLocks objects.now committed.now.names live.new.ops live.new.next locks.new.items }
+    ensures grant { IfOk result (λ granted. granted ≡ grant_by (holder_of committed.now.names live.old.ops operation.now.action operation.now.object operation.now.op) (answer_of (value_of objects.now live.old.ops operation.now.object) operation.now.op)) }
+    ensures ops { OnOk result (live.new.ops ≡ by_holder (holder_of committed.now.names live.old.ops operation.now.action operation.now.object operation.now.op) live.old.ops (live.old.ops ++ operation.now ∷ [])) }
+    ensures next { OnOk result (live.new.next ≡ by_holder (holder_of committed.now.names live.old.ops operation.now.action operation.now.object operation.now.op) live.old.next (operation.now.index + 1)) }
+    ensures err_ops { OnErr result (live.new.ops ≡ live.old.ops) }
+    ensures err_next { OnErr result (live.new.next ≡ live.old.next) }
+{
+    let all = live.to_vec()?;
+    let LiveOp {
+        action,
+        object,
+        op,
+        ..
+    } = operation;
+    let holder = by_list::holder(all.as_slice(), committed, action, *object, op);
+    if let Some(holder) = holder {
+        return Ok(Grant::Conflict(holder));
+    }
+    let mut state = by_list::value(live.allocator(), all.as_slice(), objects, *object)?;
+    let answer = apply(&mut state, op)?;
+    append_spoiled(locks, live, committed, objects, operation)?;
+    Ok(Grant::Done(answer))
 }
 
 /// Appends an operation, of whose object nothing is kept from now on.
@@ -181,16 +161,18 @@ pub(crate) fn append_spoiled(
     ensures kept { AllLocks objects.now committed.now.names live.new.ops live.new.next locks.new.items }
     ensures ops { OnOk result (live.new.ops ≡ live.old.ops ++ operation.now ∷ []) }
     ensures next { OnOk result (live.new.next ≡ operation.now.index + 1) }
+    ensures err_ops { OnErr result (live.new.ops ≡ live.old.ops) }
+    ensures err_next { OnErr result (live.new.next ≡ live.old.next) }
 {
     let _next = live.next();
-    live.make_room()?;
+    live.make_room(&operation.action.family())?;
     locks::spoil_at(locks, operation.object);
     live.push(operation);
     Ok(())
 }
 
 /// Leaves out the operations of an action and of all below it. What is kept of versions would not follow where the action is known
-/// committed too: then nothing is kept from now on.
+/// committed too: then nothing is kept of their objects from now on.
 pub(crate) fn abort(
     locks: &mut Vec<Locks>,
     live: &mut Live,
@@ -205,9 +187,18 @@ pub(crate) fn abort(
 {
     let _next = live.next();
     if committed.contains(name) {
-        locks::spoil_all(locks);
-        live.drop_below(name);
-        return;
+        spoil_below(locks, live.of_family(&name.family()), name);
     }
     live.drop_below(name);
+}
+
+/// Keeps nothing from now on of the objects of those of the operations that are of the action or below it.
+fn spoil_below(locks: &mut Vec<Locks>, operations: &[LiveOp], name: &Name)
+    ensures { EachTo (SpoiledBy (filter (is_below name.now) operations.now)) locks.old.items locks.new.items }
+{
+    for operation in operations {
+        if name.is_ancestor(&operation.action) {
+            locks::spoil_at(locks, operation.object);
+        }
+    }
 }

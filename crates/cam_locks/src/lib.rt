@@ -5,6 +5,7 @@
 #![tactic(auto)]
 
 mod by_list;
+mod families;
 mod keeping;
 mod leaders;
 mod live;

@@ -1,8 +1,8 @@
-ghost use Rattle.std.specs.Prelude.{◌≡◌, ℕ, [], true, false, ◌&&◌, if◌then◌else◌, find, All, IfOk, OnOk, OnErr};
-ghost use Rattle.cam_type.specs.declared.State.{State as StateValue};
-ghost use Rattle.cam_type.specs.declared.Mode.TheVariants.{Read as ReadMode, Write as WriteMode};
+ghost use Rattle.std.specs.Prelude.{◌≡◌, ℕ, ◌<◌, [], true, false, ◌&&◌, if◌then◌else◌, find, map, length, get_or, vec_len, IfOk, OnOk, OnErr};
+ghost use Rattle.cam_type.specs.declared.Mode.{Mode as ModeValue};
 ghost use Rattle.cam_locks.specs.Moss.{is_in_the_way};
-ghost use Rattle.cam_locks.specs.Holding.{EachTo, TidiedTo, AddedTo, SameTo, SpoiledAt, SpoiledTo, fresh, has_op, lift_in, added, standing, earlier, state_of, is_current, last_current, KeepsLocks};
+ghost use Rattle.cam_locks.specs.Holding.{has_op, lift_in, fresh, leaders_of, LocksView, KeepsLeaders};
+ghost use Rattle.cam_locks.specs.Changes.{standing, earlier, first_over, state_of, is_current, last_current, Tidied, IsDone, EachTo, TidiedTo, DoneTo, SpoiledAt};
 
 use crate::live::Live;
 use crate::names::Names;
@@ -10,16 +10,18 @@ use crate::versions::{self, Version};
 use crate::{LiveOp, leaders};
 use cam_base::NoMemory;
 use cam_names::Name;
-use cam_type::{Mode, Op, State, compatible, mode_of};
+use cam_type::{Answer, Mode, Objects, Op, State, compatible, mode_of};
 use std::alloc::Global;
+use std::collections::VecDeque;
 use std::marker::Model;
 
 /// The locks on one object: of each holder the first operation of each mode, and versions. Holders are told by the lifts of actions, so a
 /// commit hands locks and versions up by being noted, and an abort drops them with their operations.
 #[derive(Drop)]
 pub(crate) struct Locks {
-    readers: Vec<LiveOp>,
-    writers: Vec<LiveOp>,
+    start: State,
+    readers: VecDeque<LiveOp>,
+    writers: VecDeque<LiveOp>,
     versions: Vec<Version>,
     /// Nothing is kept any more: the object is replayed from the list.
     stale: bool,
@@ -30,16 +32,18 @@ impl Model for Locks {
 
     ghost Value = { LocksView };
 
-    ghost view = { λ l. record { readers = l.readers.items; writers = l.writers.items; versions = l.versions.items; stale = l.stale } };
+    ghost view = { λ l. record { start = l.start; readers = l.readers.items; writers = l.writers.items; versions = l.versions.items; stale = l.stale } };
 }
 
 impl Locks {
-    pub(crate) fn new(alloc: Global) -> Locks
-        ensures { result ≡ record { readers = []; writers = []; versions = []; stale = false } }
+    /// What is kept of an object without operations.
+    pub(crate) fn new(alloc: Global, start: State) -> Locks
+        ensures { result ≡ fresh start }
     {
         Locks {
-            readers: Vec::new(alloc),
-            writers: Vec::new(alloc),
+            start,
+            readers: VecDeque::new(alloc),
+            writers: VecDeque::new(alloc),
             versions: Vec::new(alloc),
             stale: false,
         }
@@ -61,84 +65,70 @@ impl Locks {
         self.stale = true;
     }
 
-    /// Leaves out what need not be kept, at the ends of the lists.
-    pub(crate) fn tidy(&mut self, live: &Live, committed: &Names)
-        ensures kept { (x : ℕ) (start : StateValue) (next : ℕ) → KeepsLocks x start committed.now.names live.now.ops next self.old
-            → KeepsLocks x start committed.now.names live.now.ops next self.new }
-        ensures stale { self.new.stale ≡ self.old.stale }
-    {
-        leaders::tidy(&mut self.readers, live, committed);
-        leaders::tidy(&mut self.writers, live, committed);
-        versions::tidy(&mut self.versions, live, committed);
-    }
-
     /// The first live operation that stands in the way of an op of an action, of those whose modes are not compatible with the op's.
     pub(crate) fn first_conflict(
-        &self,
+        &mut self,
         live: &Live,
         committed: &Names,
         name: &Name,
         op: &Op,
     ) -> Option<LiveOp>
-        ensures { result ≡ earlier (standing committed.now.names live.now.ops name.now op.now ReadMode self.now.readers) (standing committed.now.names live.now.ops name.now op.now WriteMode self.now.writers) }
+        ensures tidied { Tidied committed.now.names live.now.ops self.old self.new }
+        ensures value { result ≡ first_over (λ m. standing committed.now.names live.now.ops name.now op.now m (leaders_of self.new m)) }
     {
-        let mode = mode_of(op);
-        earlier(
-            standing(
-                &self.readers,
-                live,
-                committed,
-                name,
-                compatible(Mode::Read, mode),
-            ),
-            standing(
-                &self.writers,
-                live,
-                committed,
-                name,
-                compatible(Mode::Write, mode),
-            ),
-        )
+        let joins_readers = compatible(Mode::Read, mode_of(op));
+        let joins_writers = compatible(Mode::Write, mode_of(op));
+        let reader = standing(&mut self.readers, live, committed, name, joins_readers);
+        let writer = standing(&mut self.writers, live, committed, name, joins_writers);
+        earlier(reader, writer)
     }
 
-    /// The state behind the last live write, or behind the last one that is past the top; else the start state.
-    pub(crate) fn state(
-        &self,
+    /// Does an operation that stands in no one's way.
+    pub(crate) fn perform(
+        &mut self,
+        operation: &LiveOp,
         live: &Live,
         committed: &Names,
-        settled: bool,
-        start: State,
-    ) -> Result<State, NoMemory>
-        ensures { IfOk result (λ state. state ≡ state_of start (last_current (is_current committed.now.names live.now.ops settled) self.now.versions)) }
+    ) -> Result<Answer, NoMemory>
+        ensures done { IfOk result (λ answer. IsDone committed.now.names live.now.ops operation.now answer self.old self.new) }
+        ensures err { OnErr result (Tidied committed.now.names live.now.ops self.old self.new) }
     {
-        versions::current(self.versions.as_slice(), live, committed, settled, start)
-    }
-
-    /// Adds an operation, behind which the object has this state.
-    pub(crate) fn add(&mut self, operation: &LiveOp, state: State) -> Result<(), NoMemory>
-        ensures ok { OnOk result (self.new ≡ added self.old operation.now state) }
-        ensures err { OnErr result (self.new ≡ self.old) }
-    {
+        versions::tidy(&mut self.versions, live, committed);
         match mode_of(&operation.op) {
-            Mode::Read => self.readers.push(*operation)?,
+            Mode::Read => {
+                self.readers.reserve(1)?;
+                let answer = versions::look(&mut self.versions, &mut self.start, &operation.op)?;
+                leaders::add(&mut self.readers, operation, live, committed);
+                Ok(answer)
+            }
             Mode::Write => {
                 self.writers.reserve(1)?;
-                self.versions.push(Version {
-                    last: *operation,
-                    state,
-                })?;
-                self.writers.push_reserved(*operation);
+                let answer = versions::write(
+                    &mut self.versions,
+                    &self.start,
+                    operation,
+                    committed,
+                )?;
+                leaders::add(&mut self.writers, operation, live, committed);
+                Ok(answer)
             }
         }
-        Ok(())
+    }
+
+    /// The state behind the last live write that is past the top; else the start state.
+    pub(crate) fn settled(&self, live: &Live, committed: &Names) -> Result<State, NoMemory>
+        ensures { IfOk result (λ state. state ≡ state_of self.now.start (last_current (is_current committed.now.names live.now.ops true) self.now.versions)) }
+    {
+        versions::settled(self.versions.as_slice(), live, committed, &self.start)
     }
 
     /// The same.
     pub(crate) fn copy(&self) -> Result<Locks, NoMemory>
         ensures { IfOk result (λ copy. copy ≡ self.now) }
     {
-        let alloc = *self.readers.allocator();
+        let alloc = *self.versions.allocator();
         Ok(Locks {
+            start: self.start.copy()?,
             readers: self.readers.iter().copied().collect(alloc)?,
             writers: self.writers.iter().copied().collect(alloc)?,
             versions: versions::copy(&self.versions)?,
@@ -149,13 +139,15 @@ impl Locks {
 
 /// The first that stands in the way, unless the modes are compatible.
 fn standing(
-    leaders: &[LiveOp],
+    leaders: &mut VecDeque<LiveOp>,
     live: &Live,
     committed: &Names,
     name: &Name,
     compatible: bool,
 ) -> Option<LiveOp>
-    ensures { result ≡ (if compatible then None else find (λ t. has_op live.now.ops t.index && is_in_the_way name.now (lift_in committed.now.names t.action)) leaders.now) }
+    ensures kept { (x : ℕ) (m : ModeValue) (next : ℕ) → KeepsLeaders x m committed.now.names live.now.ops next leaders.old.items
+        → KeepsLeaders x m committed.now.names live.now.ops next leaders.new.items }
+    ensures value { result ≡ (if compatible then None else find (λ t. has_op live.now.ops t.index && is_in_the_way name.now (lift_in committed.now.names t.action)) leaders.new.items) }
 {
     if compatible {
         return None;
@@ -180,41 +172,56 @@ fn earlier(one: Option<LiveOp>, other: Option<LiveOp>) -> Option<LiveOp>
     }
 }
 
-/// What is kept of this many objects without operations.
-pub(crate) fn for_objects(alloc: Global, count: usize) -> Result<Vec<Locks>, NoMemory>
-    ensures { IfOk result (λ locks. All (λ l. l ≡ fresh) locks.items) }
+/// What is kept of objects without operations.
+pub(crate) fn for_objects(alloc: Global, objects: &Objects) -> Result<Vec<Locks>, NoMemory>
+    ensures { IfOk result (λ locks. locks.items ≡ map (λ d. fresh d.start) objects.now) }
 {
     let mut locks = Vec::new(alloc);
-    for _ in 0..count {
-        locks.push(Locks::new(alloc))?;
+    for declared in objects.as_slice() {
+        locks.push(Locks::new(alloc, declared.start.copy()?))?;
     }
     Ok(locks)
 }
 
-/// Leaves out what need not be kept of an object.
-pub(crate) fn tidy_at(locks: &mut Vec<Locks>, object: u8, live: &Live, committed: &Names)
-    ensures { EachTo (TidiedTo committed.now.names live.now.ops) locks.old.items locks.new.items }
+/// Whether what is kept of the object can be gone by.
+pub(crate) fn is_kept(locks: &[Locks], object: u8) -> bool
+    ensures within { result ≡ true → object < length locks.now }
+    ensures fresh { (l : LocksView) → result ≡ true → (get_or locks.now object l).stale ≡ false }
 {
-    let at = object as usize;
-    if at < locks.len() {
-        locks[at].tidy(live, committed);
+    match locks.get(object as usize) {
+        Some(one) => !one.is_stale(),
+        None => false,
     }
 }
 
-/// Adds an operation at its object, behind which the object has this state.
-pub(crate) fn add_at(
+/// The first live operation that stands in the way of an op of an action on an object.
+pub(crate) fn first_conflict(
+    locks: &mut Vec<Locks>,
+    live: &Live,
+    committed: &Names,
+    name: &Name,
+    object: u8,
+    op: &Op,
+) -> Option<LiveOp>
+    requires { object < vec_len locks.old }
+    ensures tidied { EachTo (TidiedTo committed.now.names live.now.ops) locks.old.items locks.new.items }
+    ensures value { (l : LocksView) → result ≡ first_over (λ m. standing committed.now.names live.now.ops name.now op.now m (leaders_of (get_or locks.new.items object l) m)) }
+{
+    locks[object as usize].first_conflict(live, committed, name, op)
+}
+
+/// Does an operation that stands in no one's way.
+pub(crate) fn perform(
     locks: &mut Vec<Locks>,
     operation: &LiveOp,
-    state: State,
-) -> Result<(), NoMemory>
-    ensures ok { OnOk result (EachTo (AddedTo operation.now state) locks.old.items locks.new.items) }
-    ensures err { OnErr result (EachTo SameTo locks.old.items locks.new.items) }
+    live: &Live,
+    committed: &Names,
+) -> Result<Answer, NoMemory>
+    requires { operation.now.object < vec_len locks.old }
+    ensures done { IfOk result (λ answer. EachTo (DoneTo committed.now.names live.now.ops operation.now answer) locks.old.items locks.new.items) }
+    ensures err { OnErr result (EachTo (TidiedTo committed.now.names live.now.ops) locks.old.items locks.new.items) }
 {
-    let at = operation.object as usize;
-    if at < locks.len() {
-        locks[at].add(operation, state)?;
-    }
-    Ok(())
+    locks[operation.object as usize].perform(operation, live, committed)
 }
 
 /// Keeps nothing of an object from now on.
@@ -223,15 +230,6 @@ pub(crate) fn spoil_at(locks: &mut Vec<Locks>, object: u8)
 {
     let at = object as usize;
     if at < locks.len() {
-        locks[at].spoil();
-    }
-}
-
-/// Keeps nothing of any object from now on.
-pub(crate) fn spoil_all(locks: &mut Vec<Locks>)
-    ensures { EachTo SpoiledTo locks.old.items locks.new.items }
-{
-    for at in 0..locks.len() {
         locks[at].spoil();
     }
 }

@@ -1,26 +1,58 @@
 ghost use Rattle.std.specs.Prelude.{◌≡◌, ◌+◌, ◌≤◌, [], OnOk, IfOk};
 ghost use Rattle.cam_know.specs.Known.{lift_by};
+ghost use Rattle.std.proofs.Common.{ap};
+ghost use Rattle.std.specs.Hash as fed;
+ghost use Rattle.std.specs.List.{list_any};
+ghost use Rattle.cam_names.proofs.Names.{name_eq_same};
+ghost use Rattle.cam_names.specs.declared.name.Name.{Name as NameValue};
+ghost use Rattle.cam_names.specs.Names.{name_eq};
 ghost use Rattle.cam_locks.specs.Names.{has_name, with_name};
 
 use cam_base::NoMemory;
-use cam_names::Name;
+use cam_names::{Name, Part};
 use std::alloc::Global;
+use std::collections::HashSet;
+use std::hash::{Hash, Hasher};
 use std::marker::Model;
 
-/// Names of actions, none of them twice, in the order in which they came in. Room for more can be reserved.
+/// A name, as it is looked up.
+#[derive(Clone, Copy, PartialEq, Eq)]
+pub(crate) struct Key {
+    pub(crate) name: Name,
+}
+
+impl Hash for Key {
+    ghost hash_input = { λ k. fed.slice (⟦<Part as Hash>⟧.hash_input) k.name };
+
+    ghost respects_eq = { λ x y h. ap (fed.slice (⟦<Part as Hash>⟧.hash_input)) (name_eq_same x.name y.name h) };
+
+    fn hash<H: Hasher>(&self, state: &mut H) {
+        self.name.parts().hash(state);
+    }
+}
+
+/// Names of actions, none of them twice, in the order in which they came in. Room for more can be reserved. A table of hashes stands
+/// beside the list, so that a question costs no more where there are many.
 #[derive(Drop)]
 pub(crate) struct Names {
     names: Vec<Name>,
+    keys: HashSet<Key>,
 }
 
 impl Model for Names {
-    ghost use Rattle.std.specs.Prelude.{◌-◌, vec_len};
+    ghost use Rattle.std.specs.Prelude.{◌≡◌, ◌-◌, min, vec_len};
     ghost use Rattle.std.specs.Vec.{vec_capacity};
-    ghost use Rattle.cam_locks.specs.Names.{NamesView};
+    ghost use Rattle.std.specs.HashSet.{spare};
+    ghost use Rattle.std.specs.List.{list_any};
+    ghost use Rattle.cam_names.specs.declared.name.Name.{Name as NameValue};
+    ghost use Rattle.cam_names.specs.Names.{name_eq};
+    ghost use Rattle.cam_locks.specs.Names.{NamesView, has_name};
 
     ghost Value = { NamesView };
 
-    ghost view = { λ n. record { names = n.names.items; spare = vec_capacity n.names - vec_len n.names } };
+    ghost view = { λ n. record { names = n.names.items; spare = min (vec_capacity n.names - vec_len n.names) (spare n.keys) } };
+
+    ghost invariant = { λ n. (a : NameValue) → list_any (λ k. name_eq a k.name) n.keys.keys ≡ has_name n.names.items a };
 }
 
 impl Names {
@@ -29,6 +61,7 @@ impl Names {
     {
         Names {
             names: Vec::new(alloc),
+            keys: HashSet::new(alloc),
         }
     }
 
@@ -36,12 +69,7 @@ impl Names {
     pub(crate) fn contains(&self, name: &Name) -> bool
         ensures { result ≡ has_name self.now.names name.now }
     {
-        for other in self.names.as_slice() {
-            if name == other {
-                return true;
-            }
-        }
-        false
+        self.keys.contains(&Key { name: *name })
     }
 
     /// Makes room for this many more.
@@ -51,6 +79,7 @@ impl Names {
         ensures kept { self.old.spare ≤ self.new.spare }
     {
         self.names.reserve(count)?;
+        self.keys.reserve(count)?;
         Ok(())
     }
 
@@ -61,6 +90,7 @@ impl Names {
         ensures spare { self.old.spare ≤ self.new.spare + 1 }
     {
         if !self.contains(name) {
+            let _ = self.keys.insert(Key { name: *name });
             self.names.push_reserved(*name);
         }
     }
@@ -78,8 +108,11 @@ impl Names {
     pub(crate) fn copy(&self) -> Result<Names, NoMemory>
         ensures { IfOk result (λ copy. copy.names ≡ self.now.names) }
     {
-        let names = self.names.iter().copied().collect(*self.names.allocator())?;
-        Ok(Names { names })
+        let alloc = *self.names.allocator();
+        Ok(Names {
+            names: self.names.iter().copied().collect(alloc)?,
+            keys: keys_of(alloc, self.names.as_slice())?,
+        })
     }
 
     /// Climbs from the name to the parent while the present one is among the names. None where that goes past the top.
@@ -96,4 +129,15 @@ impl Names {
             None => None,
         }
     }
+}
+
+/// The table of hashes of these names.
+fn keys_of(alloc: Global, names: &[Name]) -> Result<HashSet<Key>, NoMemory>
+    ensures { IfOk result (λ keys. (a : NameValue) → list_any (λ k. name_eq a k.name) keys.keys ≡ has_name names.now a) }
+{
+    let mut keys = HashSet::new(alloc);
+    for name in names {
+        keys.insert(Key { name: *name })?;
+    }
+    Ok(keys)
 }

@@ -6,7 +6,7 @@ ghost use Rattle.cam_locks.specs.Restored.{restored, CanRestore};
 
 use crate::names::Names;
 use crate::operations::{copy_objects, drop_below};
-use crate::restore::{aborted_names, committed_names, in_order, kept_operations, next_after};
+use crate::restore::{aborted_names, committed_names, in_order, kept_operations, next_of};
 use crate::{Grant, LiveOp, by_list};
 use cam_base::NoMemory;
 use cam_know::Know;
@@ -202,7 +202,7 @@ impl PlainTable {
             live: in_order(alloc, kept.as_slice())?,
             committed: committed_names(alloc, know.outcomes())?,
             aborted: aborted_names(alloc, know.outcomes())?,
-            next: next_after(held.as_slice()),
+            next: next_of(held.as_slice()),
         })
     }
 }
@@ -212,10 +212,7 @@ impl PlainTable {
     fn holder(&self, name: &Name, object: u8, op: &Op) -> Option<Name>
         ensures { result ≡ holder self.now.site name.now object op.now }
     {
-        match by_list::first_conflict(self.live.as_slice(), &self.committed, name, object, op) {
-            Some(operation) => self.committed.lift(&operation.action),
-            None => None,
-        }
+        by_list::holder(self.live.as_slice(), &self.committed, name, object, op)
     }
 
     /// The value that an operation on the object meets.

@@ -1,8 +1,9 @@
 //! What a restart reads off the held operations and the known outcomes.
-ghost use Rattle.std.specs.Prelude.{◌≡◌, ◌≤◌, ◌++◌, [], length, insert, OnOk, IfOk, flat_map, map};
+ghost use Rattle.std.specs.Prelude.{◌≡◌, ◌+◌, ◌≤◌, ◌++◌, List, max, OnOk, IfOk, flat_map, map};
+ghost use Rattle.cam_names.specs.declared.name.Name.{Name as NameValue};
 ghost use Rattle.cam_know.specs.Known.{committed_name, aborted_name};
-ghost use Rattle.cam_locks.specs.Names.{with_names};
-ghost use Rattle.cam_locks.specs.Restored.{of_family, ops_of, put_in_order, put_all, next_after, all_held, InRange};
+ghost use Rattle.cam_locks.specs.Names.{once};
+ghost use Rattle.cam_locks.specs.Restored.{of_family, ops_of, in_order, next_of, all_held, EachOnce, InRange};
 
 use crate::names::Names;
 use crate::{LiveOp, LiveOps};
@@ -59,34 +60,20 @@ fn of_family(family: &Name, op: &HeldOp) -> LiveOp
     }
 }
 
-/// The operations in order of their indices.
+/// The operations in order of their indices, of which each stands once.
 pub(crate) fn in_order(alloc: Global, operations: &[LiveOp]) -> Result<Vec<LiveOp>, NoMemory>
-    ensures { IfOk result (λ ordered. ordered.items ≡ put_all operations.now []) }
+    requires { EachOnce operations.now }
+    ensures { IfOk result (λ ordered. ordered.items ≡ in_order operations.now) }
 {
     let mut ordered = Vec::new(alloc);
-    for operation in operations {
-        let place = place_of(ordered.as_slice(), operation);
-        ordered.insert(place, *operation)?;
-    }
+    ordered.extend_from_slice(operations)?;
+    ordered.sort_unstable_by_key(|operation| operation.index);
     Ok(ordered)
-}
-
-/// The first place at which the index is not less.
-fn place_of(ordered: &[LiveOp], operation: &LiveOp) -> usize
-    ensures value { put_in_order operation.now ordered.now ≡ insert ordered.now result operation.now }
-    ensures within { result ≤ length ordered.now }
-{
-    for (place, other) in ordered.iter().enumerate() {
-        if operation.index <= other.index {
-            return place;
-        }
-    }
-    ordered.len()
 }
 
 /// The actions whose commit is among the outcomes.
 pub(crate) fn committed_names(alloc: Global, outcomes: &[Outcome]) -> Result<Names, NoMemory>
-    ensures { IfOk result (λ names. names.names ≡ with_names [] (flat_map committed_name outcomes.now)) }
+    ensures { IfOk result (λ names. names.names ≡ once (flat_map committed_name outcomes.now)) }
 {
     let mut names = Names::new(alloc);
     for outcome in outcomes {
@@ -97,7 +84,7 @@ pub(crate) fn committed_names(alloc: Global, outcomes: &[Outcome]) -> Result<Nam
 
 /// Adds the action of which the outcome is a commit.
 fn add_if_committed(names: &mut Names, outcome: &Outcome) -> Result<(), NoMemory>
-    ensures { OnOk result (names.new.names ≡ with_names names.old.names (committed_name outcome.now)) }
+    ensures { OnOk result ((before : List NameValue) → names.old.names ≡ once before → names.new.names ≡ once (before ++ committed_name outcome.now)) }
 {
     match outcome {
         Outcome::Committed(name, _) => names.add(name),
@@ -107,7 +94,7 @@ fn add_if_committed(names: &mut Names, outcome: &Outcome) -> Result<(), NoMemory
 
 /// The actions whose abort is among the outcomes.
 pub(crate) fn aborted_names(alloc: Global, outcomes: &[Outcome]) -> Result<Names, NoMemory>
-    ensures { IfOk result (λ names. names.names ≡ with_names [] (flat_map aborted_name outcomes.now)) }
+    ensures { IfOk result (λ names. names.names ≡ once (flat_map aborted_name outcomes.now)) }
 {
     let mut names = Names::new(alloc);
     for outcome in outcomes {
@@ -118,7 +105,7 @@ pub(crate) fn aborted_names(alloc: Global, outcomes: &[Outcome]) -> Result<Names
 
 /// Adds the action of which the outcome is an abort.
 fn add_if_aborted(names: &mut Names, outcome: &Outcome) -> Result<(), NoMemory>
-    ensures { OnOk result (names.new.names ≡ with_names names.old.names (aborted_name outcome.now)) }
+    ensures { OnOk result ((before : List NameValue) → names.old.names ≡ once before → names.new.names ≡ once (before ++ aborted_name outcome.now)) }
 {
     match outcome {
         Outcome::Aborted(name) => names.add(name),
@@ -127,9 +114,9 @@ fn add_if_aborted(names: &mut Names, outcome: &Outcome) -> Result<(), NoMemory>
 }
 
 /// One above the greatest index of the held operations, and 0 where there is none.
-pub(crate) fn next_after(held: &[Held]) -> u32
+pub(crate) fn next_of(held: &[Held]) -> u32
     requires { InRange (all_held held.now) }
-    ensures value { result ≡ next_after (all_held held.now) 0 }
+    ensures value { result ≡ next_of (all_held held.now) }
     ensures range { result ≤ 1000000000 }
 {
     let mut next = 0;
@@ -143,12 +130,21 @@ pub(crate) fn next_after(held: &[Held]) -> u32
 fn next_over(ops: &[HeldOp], first: u32) -> u32
     requires ops { InRange ops.now }
     requires first { first ≤ 1000000000 }
-    ensures value { result ≡ next_after ops.now first }
+    ensures value { result ≡ max first (next_of ops.now) }
     ensures range { result ≤ 1000000000 }
 {
     let mut next = first;
     for op in ops {
-        next = next.max(op.index + 1);
+        next = next.max(after(op));
     }
     next
+}
+
+/// The index behind that of an operation.
+fn after(op: &HeldOp) -> u32
+    requires { op.now.index ≤ 999999999 }
+    ensures value { result ≡ op.now.index + 1 }
+    ensures range { result ≤ 1000000000 }
+{
+    op.index + 1
 }

@@ -1,4 +1,6 @@
-ghost use Rattle.std.specs.Prelude.{◌≡◌, ◌≤◌, ◌+◌, [], ◌++◌, IsTrue, IfOk, OnOk, OnErr};
+ghost use Rattle.std.specs.Prelude.{◌≡◌, ◌≤◌, ◌+◌, [], ◌++◌, flat_map, IsTrue, IfOk, OnOk, OnErr};
+ghost use Rattle.cam_know.specs.Known.{committed_name, aborted_name};
+ghost use Rattle.cam_locks.specs.Names.{once};
 ghost use Rattle.cam_locks.specs.Site.{is_here, is_fit, IndicesRise};
 ghost use Rattle.cam_locks.specs.Moss.{settled};
 ghost use Rattle.cam_locks.specs.Calls.{new_site, grant, after_grant, with_commit, with_abort, held, has_family};
@@ -8,10 +10,10 @@ use crate::live::Live;
 use crate::locks::{self, Locks};
 use crate::names::Names;
 use crate::operations::copy_objects;
-use crate::restore::{aborted_names, committed_names, in_order, kept_operations, next_after};
+use crate::restore::{aborted_names, committed_names, in_order, kept_operations, next_of};
 use crate::{Grant, LiveOp, by_list, keeping};
 use cam_base::NoMemory;
-use cam_know::Know;
+use cam_know::{Know, Outcome};
 use cam_names::Name;
 use cam_type::{Held, HeldList, Objects, Op, State, fits};
 use std::alloc::Global;
@@ -47,7 +49,7 @@ impl LockTable {
     pub fn new(alloc: Global, objects: &Objects, node: u8) -> Result<LockTable, NoMemory>
         ensures { IfOk result (λ table. table.site ≡ new_site objects.now node) }
     {
-        LockTable::informed(alloc, objects, node, Names::new(alloc), Names::new(alloc))
+        LockTable::informed(alloc, objects, node, &[])
     }
 
     /// Does an operation of an action on an object, unless a live operation conflicts: then the lift of the first one is named, and
@@ -144,7 +146,7 @@ impl LockTable {
     pub fn secure(&self, family: &Name, count: u32) -> Result<Held, NoMemory>
         ensures { IfOk result (λ secured. secured ≡ held self.now.site family.now count) }
     {
-        let ops = by_list::held(self.live.allocator(), self.live.as_slice(), family)?;
+        let ops = by_list::held(self.live.allocator(), self.live.of_family(family), family)?;
         Ok(Held {
             family: *family,
             count,
@@ -156,7 +158,7 @@ impl LockTable {
     pub fn has_family(&self, family: &Name) -> bool
         ensures { result ≡ has_family self.now.site family.now }
     {
-        by_list::has_family(self.live.as_slice(), family)
+        !self.live.of_family(family).is_empty()
     }
 
     /// The value of an object that is handed up past the top.
@@ -196,10 +198,8 @@ impl LockTable {
     {
         let kept = kept_operations(alloc, held.as_slice(), know)?;
         let ordered = in_order(alloc, kept.as_slice())?;
-        let committed = committed_names(alloc, know.outcomes())?;
-        let aborted = aborted_names(alloc, know.outcomes())?;
-        let mut table = LockTable::informed(alloc, objects, node, committed, aborted)?;
-        table.take_over_all(ordered.as_slice(), next_after(held.as_slice()))?;
+        let mut table = LockTable::informed(alloc, objects, node, know.outcomes())?;
+        table.take_over_all(ordered.as_slice(), next_of(held.as_slice()))?;
         Ok(table)
     }
 }
@@ -210,18 +210,17 @@ impl LockTable {
         alloc: Global,
         objects: &Objects,
         node: u8,
-        committed: Names,
-        aborted: Names,
+        outcomes: &[Outcome],
     ) -> Result<LockTable, NoMemory>
-        ensures { IfOk result (λ table. table.site ≡ record { objects = objects.now; node = node; live = []; committed = committed.names; aborted = aborted.names; next = 0 }) }
+        ensures { IfOk result (λ table. table.site ≡ record { objects = objects.now; node = node; live = []; committed = once (flat_map committed_name outcomes.now); aborted = once (flat_map aborted_name outcomes.now); next = 0 }) }
     {
         Ok(LockTable {
             objects: copy_objects(alloc, objects)?,
             node,
             live: Live::new(alloc),
-            committed,
-            aborted,
-            locks: locks::for_objects(alloc, objects.len())?,
+            committed: committed_names(alloc, outcomes)?,
+            aborted: aborted_names(alloc, outcomes)?,
+            locks: locks::for_objects(alloc, objects)?,
         })
     }
 
@@ -240,7 +239,8 @@ impl LockTable {
 
     /// Lets the next index be this one.
     fn raise(&mut self, next: u32)
-        requires { self.old.site.next ≤ next }
+        requires order { self.old.site.next ≤ next }
+        requires range { next ≤ 1000000000 }
         ensures { self.new.site ≡ record self.old.site { next = next } }
     {
         self.live.raise(next);

@@ -93,20 +93,25 @@ impl Both {
         Ok(self.plain.next_index() == self.locks.next_index())
     }
 
-    /// Goes on with what a restart makes of what is secured of these families.
+    /// Adds what is secured of a family.
+    pub(super) fn secure(&self, held: &mut HeldList, family: &Name) -> Result<(), NoMemory> {
+        let one = self.locks.secure(family, 1)?;
+        held.push(one)
+    }
+
+    /// Goes on with what a restart makes of what was secured.
     pub(super) fn restart(
         &mut self,
         alloc: Global,
         objects: &Objects,
-        families: &[Name],
+        held: &HeldList,
         know: &Know,
     ) -> Result<bool, NoMemory> {
-        let held = secured(alloc, &self.locks, families)?;
-        if !may_be_restored(alloc, objects, &held)? {
+        if !may_be_restored(alloc, objects, held)? {
             return Ok(false);
         }
-        self.plain = PlainTable::restore(alloc, objects, 1, &held, know)?;
-        self.locks = LockTable::restore(alloc, objects, 1, &held, know)?;
+        self.plain = PlainTable::restore(alloc, objects, 1, held, know)?;
+        self.locks = LockTable::restore(alloc, objects, 1, held, know)?;
         Ok(self.plain.next_index() == self.locks.next_index())
     }
 }
@@ -158,19 +163,6 @@ fn are_same_ops(ones: &[HeldOp], others: &[HeldOp]) -> bool {
         }
     }
     true
-}
-
-fn secured(alloc: Global, table: &LockTable, families: &[Name]) -> Result<HeldList, NoMemory> {
-    let mut held = HeldList::new(alloc);
-    for family in families {
-        add_secured(&mut held, table, family)?;
-    }
-    Ok(held)
-}
-
-fn add_secured(held: &mut HeldList, table: &LockTable, family: &Name) -> Result<(), NoMemory> {
-    let one = table.secure(family, 1)?;
-    held.push(one)
 }
 
 /// Whether all of these may be restored at node 1.

@@ -6,7 +6,7 @@ use super::objects;
 use cam_base::NoMemory;
 use cam_know::{Know, Outcome};
 use cam_names::{Deps, Name, Part};
-use cam_type::{Objects, Op};
+use cam_type::{HeldList, Objects, Op};
 use std::alloc::Global;
 use std::test::Fail;
 
@@ -185,18 +185,21 @@ impl History {
 
     /// All but what is secured of the families that run is lost.
     fn restart(&mut self, alloc: Global) -> Result<bool, NoMemory> {
-        let first = action(self.family, 1);
-        let second = action(self.family.wrapping_add(1), 1);
-        let third = action(self.family.wrapping_add(2), 1);
-        let (Some(first), Some(second), Some(third)) = (first, second, third) else {
-            return Ok(false);
-        };
+        let mut held = HeldList::new(alloc);
+        for turn in [2u32, 0, 1] {
+            self.secure(&mut held, turn)?;
+        }
         if self.careless {
             self.know = Know::new(alloc);
         }
-        let families = [third, first, second];
-        self.both
-            .restart(alloc, &self.objects, &families, &self.know)
+        self.both.restart(alloc, &self.objects, &held, &self.know)
+    }
+
+    fn secure(&self, held: &mut HeldList, turn: u32) -> Result<(), NoMemory> {
+        match action(self.family.wrapping_add(turn), 1) {
+            Some(family) => self.both.secure(held, &family),
+            None => Ok(()),
+        }
     }
 }
 

@@ -1,4 +1,4 @@
-use Rattle.std.proofs.Common.{◌≡◌, take, ◌&&◌}
+use Rattle.std.proofs.Common.{◌≡◌, take}
 use Rattle.std.specs.Prelude.{filter}
 use Rattle.cam_locks.specs.Moss.{is_on}
 use Rattle.cam_locks.proofs.by_list.value.Given as goal

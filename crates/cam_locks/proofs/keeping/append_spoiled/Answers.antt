@@ -1,7 +1,7 @@
-use Rattle.std.proofs.Common.{◌≡◌, List, ℕ, [], ◌∷◌, ◌++◌, ◌+◌, ap, sym, ◌∙◌, subst}
+use Rattle.std.proofs.Common.{◌≡◌, List, ℕ, [], ◌∷◌, ◌++◌, ap, sym, ◌∙◌, subst}
 use Rattle.cam_locks.specs.declared.LiveOp.{LiveOp}
 use Rattle.cam_locks.specs.Holding.{AllLocks}
-use Rattle.cam_locks.proofs.Standing.{all_spoiled_at}
+use Rattle.cam_locks.proofs.AllKept.{all_spoiled_at}
 use Rattle.cam_locks.proofs.keeping.append_spoiled.Goals as goal
 
 pub returns-clause-kept : goal.returns-clause-kept

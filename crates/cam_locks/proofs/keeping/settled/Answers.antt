@@ -1,22 +1,22 @@
-use Rattle.std.proofs.Common.{◌≡◌, true, false, ◌&&◌, ◌∙◌, ap, subst, arith}
-use Rattle.std.specs.Prelude.{filter, is_none, IfOk}
+use Rattle.std.proofs.Common.{◌≡◌, true, false, ap, ◌∙◌}
+use Rattle.std.proofs.lemmas.Result.{IfOk-weaker}
 use Rattle.cam_type.specs.declared.State.{State}
 use Rattle.cam_locks.specs.Site.{start_of}
-use Rattle.cam_locks.specs.Moss.{is_on, replay}
-use Rattle.cam_locks.specs.Holding.{lift_in, state_of, is_current, last_current}
-use Rattle.cam_locks.proofs.Standing.{at_place, settled_kept}
+use Rattle.cam_locks.specs.Holding.{LocksView, KeepsLocks}
+use Rattle.cam_locks.specs.Changes.{state_of, is_current, last_current, settled_of}
+use Rattle.cam_locks.proofs.Standing.{settled_kept}
+use Rattle.cam_locks.proofs.AllKept.{at_place}
 use Rattle.cam_locks.proofs.keeping.settled.Goals as goal
 
-pub returns-then-not-is_stale : goal.returns-then-not-is_stale
-returns-then-not-is_stale c =
-    let kept : c.index-locks-at.result.stale ≡ false = grind arith in
+pub returns-then-is_kept : goal.returns-then-is_kept
+returns-then-is_kept c =
     let x = c.args.object in
+    let start = start_of c.args.objects.now x in
     let ns = c.args.committed.now.names in
     let os = c.args.live.now.ops in
     let next = c.args.live.now.next in
-    let l = c.index-locks-at.result in
-    let is : state_of c.in_ok-start_of.field-0 (last_current (is_current ns os true) l.versions) ≡ replay (start_of c.args.objects.now x) (filter (λ o. is_on x o && is_none (lift_in ns o.action)) os) =
-    ap (λ (s : State). state_of s (last_current (is_current ns os true) l.versions)) c.in_ok-start_of.ensures
-    ∙ settled_kept x (start_of c.args.objects.now x) ns os next l c.as_slice-operations.ensures.order
-    (at_place c.args.objects.now ns os next c.args.locks.now x l c.if-at-locks.true c.index-locks-at.is c.requires kept) in
-    subst (λ (t : State). IfOk c.state.result (λ s. s ≡ t)) is c.state.ensures
+    let l = c.index-locks-object.result in
+    let fresh : l.stale ≡ false = ap (λ (k : LocksView). k.stale) c.index-locks-object.is ∙ c.is_kept.ensures.fresh l c.if-is_kept.true in
+    let keeps : KeepsLocks x start ns os next l = at_place c.args.objects.now ns os next c.args.locks.now x l (c.is_kept.ensures.within c.if-is_kept.true) c.index-locks-object.is c.requires fresh in
+    IfOk-weaker c.settled.result (λ s. s ≡ state_of l.start (last_current (is_current ns os true) l.versions)) (λ s. s ≡ settled_of c.args.objects.now ns os x)
+    (λ s h. h ∙ ap (λ (t : State). state_of t (last_current (is_current ns os true) l.versions)) keeps.start_is ∙ settled_kept x start ns os next l c.next-next.ensures.order keeps) c.settled.ensures

@@ -1,7 +1,9 @@
-use Rattle.std.proofs.Common.{List, ℕ, ◌≡◌, ◌++◌, ◌∷◌, [], true, subst, sym, ap, ◌∙◌, arith}
+use Rattle.std.proofs.Common.{List, ◌≡◌, ◌++◌, ◌∷◌, [], true, subst, sym, ◌∙◌, arith}
 use Rattle.cam_locks.specs.declared.versions.Version.{Version}
-use Rattle.cam_locks.specs.Holding.{KeepsVersions, is_outdated}
-use Rattle.cam_locks.proofs.Tidying.{append_nil, versions_drop_before}
+use Rattle.cam_locks.specs.Holding.{KeepsVersions}
+use Rattle.cam_locks.specs.Changes.{is_outdated}
+use Rattle.cam_locks.proofs.Lists.{append_nil}
+use Rattle.cam_locks.proofs.Tidying.{versions_drop_before}
 use Rattle.cam_locks.proofs.versions.drop_older.Goals as goal
 
 pub returns-then-not-is_outdated-clause-kept : goal.returns-then-not-is_outdated-clause-kept

@@ -1,11 +1,13 @@
-use Rattle.std.proofs.Common.{List, ℕ, ◌≡◌, ◌++◌, ◌∷◌, [], false, subst, sym, ap, ◌∙◌, arith}
+use Rattle.std.proofs.Common.{List, ◌≡◌, false, subst, sym, ◌∙◌, arith}
 use Rattle.cam_locks.specs.declared.versions.Version.{Version}
 use Rattle.cam_locks.specs.Holding.{KeepsVersions, has_op}
-use Rattle.cam_locks.proofs.Tidying.{append_nil, versions_drop_last}
+use Rattle.cam_locks.proofs.Lists.{append_nil}
+use Rattle.cam_locks.proofs.Tidying.{versions_drop_last}
+use Rattle.cam_locks.proofs.Writing.{last_live, last_live_none}
 use Rattle.cam_locks.proofs.versions.tidy.Goals as goal
 
-pub returns-then-has : goal.returns-then-has
-returns-then-has c = λ x start next h.
+pub returns-then-has-clause-kept : goal.returns-then-has-clause-kept
+returns-then-has-clause-kept c = λ x start next h.
     subst (λ (vs : List Version). KeepsVersions x start c.args.committed.now.names c.args.live.now.ops next vs) (sym c.push_reserved.ensures.items)
     (c.drop_older.ensures.kept x start next
     (subst (λ (vs : List Version). KeepsVersions x start c.args.committed.now.names c.args.live.now.ops next vs) c.in-Some.ensures.items (c.loop-last.invariant x start next h)))
@@ -22,7 +24,14 @@ loop-last-preserved c = λ x start next h.
     versions_drop_last x start c.args.committed.now.names c.args.live.now.ops next c.pop.new.self.items c.in-Some.last dead
     (subst (λ (vs : List Version). KeepsVersions x start c.args.committed.now.names c.args.live.now.ops next vs) c.in-Some.ensures.items (c.loop-last.invariant x start next h))
 
-pub returns : goal.returns
-returns c = λ x start next h.
+pub returns-clause-kept : goal.returns-clause-kept
+returns-clause-kept c = λ x start next h.
     subst (λ (vs : List Version). KeepsVersions x start c.args.committed.now.names c.args.live.now.ops next vs)
     (c.in_default.ensures.items ∙ append_nil c.pop.new.self.items) (c.loop-last.invariant x start next h)
+
+pub returns-then-has-clause-last : goal.returns-then-has-clause-last
+returns-then-has-clause-last c =
+    last_live c.args.live.now.ops c.push_reserved.new.self.items c.drop_older.new.versions.items c.in-Some.last c.push_reserved.ensures.items (sym c.has.ensures ∙ c.if-has.true)
+
+pub returns-clause-last : goal.returns-clause-last
+returns-clause-last c = last_live_none c.args.live.now.ops c.pop.new.self.items (omega (arith, c.in_default.ensures.cases.1, c.pop.new.self.ok))

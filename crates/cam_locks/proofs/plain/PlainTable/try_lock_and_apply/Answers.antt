@@ -1,4 +1,4 @@
-use Rattle.std.proofs.Common.{◌≡◌, List, subst, sym, refl, ◌+◌}
+use Rattle.std.proofs.Common.{List, subst, sym, refl, ◌+◌}
 use Rattle.cam_locks.specs.declared.LiveOp.{LiveOp}
 use Rattle.cam_locks.specs.Site.{IndicesRise}
 use Rattle.cam_locks.proofs.Rising.{rise_push}

@@ -2,8 +2,8 @@ use Rattle.std.proofs.Common.{List, subst, sym}
 use Rattle.cam_names.specs.declared.name.Name.{Name}
 use Rattle.cam_locks.specs.Names.{with_name}
 use Rattle.cam_locks.specs.Holding.{AllLocks}
-use Rattle.cam_locks.proofs.Lifting.{with_name_more}
-use Rattle.cam_locks.proofs.Standing.{all_commit}
+use Rattle.cam_locks.proofs.Climbing.{with_name_more}
+use Rattle.cam_locks.proofs.AllKept.{all_commit}
 use Rattle.cam_locks.proofs.table.LockTable.commit.Goals as goal
 
 pub invariant_of-self : goal.invariant_of-self

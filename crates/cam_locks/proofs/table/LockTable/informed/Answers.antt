@@ -1,13 +1,11 @@
-use Rattle.std.proofs.Common.{List, ℕ, [], sym, subst}
-use Rattle.cam_locks.specs.declared.LiveOp.{LiveOp}
-use Rattle.cam_locks.specs.Holding.{AllLocks}
-use Rattle.cam_locks.proofs.Standing.{all_fresh}
+use Rattle.std.proofs.Common.{List, map, ap, sym, ◌∙◌}
+use Rattle.cam_type.specs.declared.ObjectDecl.{ObjectDecl}
+use Rattle.cam_locks.specs.Holding.{fresh}
+use Rattle.cam_locks.proofs.AllKept.{all_fresh}
 use Rattle.cam_locks.proofs.table.LockTable.informed.Goals as goal
 
 pub invariant_of-result : goal.invariant_of-result
 invariant_of-result c =
-    let ls = c.in_ok-for_objects.field-0.items in
-    let objects = c.in_ok-copy_objects.field-0 in
-    let ns = c.committed.inside.names.items in
-    subst (λ (os : List LiveOp). AllLocks objects ns os c.new.result.next ls) (sym c.new.ensures.ops)
-    (subst (λ (n : ℕ). AllLocks objects ns [] n ls) (sym c.new.ensures.next) (all_fresh objects ns ls c.in_ok-for_objects.ensures))
+    all_fresh c.in_ok-copy_objects.field-0 c.in_ok-committed_names.field-0.names c.new.result.ops c.new.result.next c.in_ok-for_objects.field-0.items
+    c.new.ensures.ops c.new.ensures.next
+    (c.in_ok-for_objects.ensures ∙ ap (λ (ds : List ObjectDecl). map (λ d. fresh d.start) ds) (sym c.in_ok-copy_objects.ensures))

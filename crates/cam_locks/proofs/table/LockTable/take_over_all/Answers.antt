@@ -1,6 +1,5 @@
-use Rattle.std.proofs.Common.{arith, ℕ, sym, ap, subst, drop, ◌∙◌}
-use Rattle.cam_locks.specs.Site.{IndicesRise}
-use Rattle.cam_locks.proofs.Halving.{rise_at}
+use Rattle.std.proofs.Common.{arith}
+use Rattle.cam_locks.proofs.Rising.{rise_at}
 use Rattle.cam_locks.proofs.table.LockTable.take_over_all.Goals as goal
 
 pub take_over-requires-clause-index : goal.take_over-requires-clause-index

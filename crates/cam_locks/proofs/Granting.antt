@@ -1,0 +1,63 @@
+-- A grant, by what is kept: who stands in the way, what is answered, and what is kept behind it.
+use Rattle.std.proofs.Common.{◌≡◌, ℕ, ◌+◌, ◌≤◌, ◌<◌, false, List, [], ◌∷◌, ◌++◌, length, get_or, Option, None, sym, ap, subst, ◌∙◌}
+use Rattle.std.specs.Prelude.{option_and_then}
+use Rattle.cam_names.specs.declared.name.Name.{Name}
+use Rattle.cam_type.specs.declared.ObjectDecl.{ObjectDecl}
+use Rattle.cam_type.specs.declared.Op.{Op}
+use Rattle.cam_type.specs.declared.Answer.{Answer}
+use Rattle.cam_type.specs.Table.{answer_of}
+use Rattle.cam_locks.specs.declared.LiveOp.{LiveOp}
+use Rattle.cam_locks.specs.Site.{IndicesRise, start_of}
+use Rattle.cam_locks.specs.Holding.{lift_in, LocksView, leaders_of, AllLocks, fresh}
+use Rattle.cam_locks.specs.Changes.{EachTo, TidiedTo, DoneTo, standing, first_over, holder_of, value_of}
+use Rattle.cam_locks.proofs.Standing.{conflict_kept}
+use Rattle.cam_locks.proofs.AllKept.{all_tidied, all_done, answer_all}
+
+-- what is not stale is not stale once it is tidied
+fresh_tidied : (ns : List Name) (os : List LiveOp) (old new : List LocksView) (x : ℕ) → x < length old → ((l : LocksView) → (get_or old x l).stale ≡ false)
+    → EachTo (TidiedTo ns os) old new → (l : LocksView) → (get_or new x l).stale ≡ false
+fresh_tidied ns os old new x within not_stale tidy l = (tidy.each x l within).stale ∙ not_stale l
+
+-- the lift of what leads a holder in the way is the holder
+pub holder_kept : (objects : List ObjectDecl) (ns : List Name) (os : List LiveOp) (next : ℕ) (old new : List LocksView) (a : Name) (x : ℕ) (op : Op) (r : Option LiveOp)
+    → IndicesRise 0 os next → x < length old → ((l : LocksView) → (get_or old x l).stale ≡ false) → EachTo (TidiedTo ns os) old new → AllLocks objects ns os next old
+    → ((l : LocksView) → r ≡ first_over (λ m. standing ns os a op m (leaders_of (get_or new x l) m)))
+    → option_and_then (λ o. lift_in ns o.action) r ≡ holder_of ns os a x op
+holder_kept objects ns os next old new a x op r rise within not_stale tidy all found =
+    ap (option_and_then (λ (o : LiveOp). lift_in ns o.action))
+    (found any ∙ conflict_kept x (start_of objects x) ns os next (get_or new x any) a op rise (all_tidied objects ns os next old new tidy all x any still (fresh_tidied ns os old new x within not_stale tidy any)))
+  where
+    any : LocksView
+    any = fresh (start_of objects x)
+
+    still : x < length new
+    still = subst (λ (n : ℕ). x < n) (sym tidy.len) within
+
+-- at a refusal, with room made or not
+pub kept_refused : (objects : List ObjectDecl) (ns : List Name) (os roomy : List LiveOp) (next later : ℕ) (old new : List LocksView) → roomy ≡ os → later ≡ next
+    → EachTo (TidiedTo ns os) old new → AllLocks objects ns os next old → AllLocks objects ns roomy later new
+kept_refused objects ns os roomy next later old new same_ops same_next tidy all =
+    subst (λ (ps : List LiveOp). AllLocks objects ns ps later new) (sym same_ops)
+    (subst (λ (n : ℕ). AllLocks objects ns os n new) (sym same_next) (all_tidied objects ns os next old new tidy all))
+
+-- behind an operation that was done
+pub kept_done : (objects : List ObjectDecl) (ns : List Name) (os roomy ops : List LiveOp) (next later end : ℕ) (old mid new : List LocksView) (n : LiveOp) (answer : Answer) → roomy ≡ os → later ≡ next
+    → IndicesRise 0 os next → next ≤ n.index → holder_of ns os n.action n.object n.op ≡ None
+    → EachTo (TidiedTo ns os) old mid → EachTo (DoneTo ns roomy n answer) mid new → AllLocks objects ns os next old
+    → ops ≡ roomy ++ n ∷ [] → end ≡ n.index + 1 → AllLocks objects ns ops end new
+kept_done objects ns os roomy ops next later end old mid new n answer same_ops same_next rise le none tidy done all ops_is end_is =
+    subst (λ (ps : List LiveOp). AllLocks objects ns ps end new) (sym (ops_is ∙ ap (λ (ps : List LiveOp). ps ++ n ∷ []) same_ops))
+    (subst (λ (k : ℕ). AllLocks objects ns (os ++ n ∷ []) k new) (sym end_is)
+    (all_done objects ns os next mid new n answer rise le none (subst (λ (ps : List LiveOp). EachTo (DoneTo ns ps n answer) mid new) same_ops done)
+    (all_tidied objects ns os next old mid tidy all)))
+
+pub answer_kept : (objects : List ObjectDecl) (ns : List Name) (os roomy : List LiveOp) (next : ℕ) (old mid new : List LocksView) (n : LiveOp) (answer : Answer) → roomy ≡ os
+    → n.object < length old → ((l : LocksView) → (get_or old n.object l).stale ≡ false)
+    → EachTo (TidiedTo ns os) old mid → EachTo (DoneTo ns roomy n answer) mid new → AllLocks objects ns os next old
+    → answer ≡ answer_of (value_of objects os n.object) n.op
+answer_kept objects ns os roomy next old mid new n answer same_ops within not_stale tidy done all =
+    answer_all objects ns os next mid new n answer any (subst (λ (k : ℕ). n.object < k) (sym tidy.len) within) (fresh_tidied ns os old mid n.object within not_stale tidy any)
+    (subst (λ (ps : List LiveOp). EachTo (DoneTo ns ps n answer) mid new) same_ops done) (all_tidied objects ns os next old mid tidy all)
+  where
+    any : LocksView
+    any = fresh (start_of objects n.object)

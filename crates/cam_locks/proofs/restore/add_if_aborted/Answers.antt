@@ -1,0 +1,15 @@
+use Rattle.std.proofs.Common.{List, ◌++◌, ap, sym, ◌∙◌}
+use Rattle.std.proofs.lemmas.Result.{on_ok_weaker}
+use Rattle.cam_names.specs.declared.name.Name.{Name}
+use Rattle.cam_know.specs.declared.Outcome.{Outcome}
+use Rattle.cam_know.specs.Known.{aborted_name}
+use Rattle.cam_locks.specs.Names.{with_name, once}
+use Rattle.cam_locks.proofs.Restoring.{once_more}
+use Rattle.cam_locks.proofs.restore.add_if_aborted.Goals as goal
+
+pub returns-in-Aborted : goal.returns-in-Aborted
+returns-in-Aborted c =
+    on_ok_weaker c.add.result
+    (λ h before is.
+    h ∙ ap (λ (ns : List Name). with_name ns c.in-Aborted.name) is ∙ once_more before c.in-Aborted.name
+    ∙ ap (λ (o : Outcome). once (before ++ aborted_name o)) (sym c.in-Aborted.is)) c.add.ensures.ok

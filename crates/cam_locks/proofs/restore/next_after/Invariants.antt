@@ -1,6 +1,0 @@
-use Rattle.std.proofs.Common.{◌≡◌, ◌≤◌, take}
-use Rattle.cam_locks.specs.Restored.{next_after, all_held}
-use Rattle.cam_locks.proofs.restore.next_after.Given as goal
-
-abbrev pub invariant-loop-family : goal.invariant-loop-family
-invariant-loop-family l = (l.next ≡ next_after (all_held (take l.family-index l.held)) 0) × (l.next ≤ 1000000000)
