@@ -8,7 +8,7 @@ use Rattle.cam_names.proofs.Names.{name_eq_sym, is_prefix_split}
 use Rattle.cam_locks.specs.Names.{has_name, with_name}
 use Rattle.cam_locks.specs.Holding.{lift_in}
 use Rattle.cam_locks.specs.Moss.{is_in_the_way}
-use Rattle.cam_locks.proofs.Tests.{not_false}
+use Rattle.cam_locks.proofs.Passing.{not_false}
 use Rattle.cam_locks.proofs.Members.{find_no, find_none_all}
 use Rattle.cam_locks.proofs.Lifting.{Name, found_in, of_reverse, as_prefix, behind, lift_on, in_map, ancestor_part, length_on, lift_ancestor, ancestor_through}
 

@@ -10,7 +10,7 @@ use Rattle.cam_locks.specs.Site.{IndicesRise}
 use Rattle.cam_locks.specs.Calls.{is_below}
 use Rattle.cam_locks.specs.Holding.{has_op}
 use Rattle.cam_locks.specs.Live.{all_of, live_of}
-use Rattle.cam_locks.proofs.Tests.{eqb_sym}
+use Rattle.cam_locks.proofs.Passing.{eqb_sym}
 use Rattle.cam_locks.proofs.Lists.{taken, append_nil, filter_twice}
 use Rattle.cam_locks.proofs.Members.{filter_agree}
 use Rattle.cam_locks.proofs.Slots.{kept, ops, slots_rise, at_least}

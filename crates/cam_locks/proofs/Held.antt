@@ -12,7 +12,7 @@ use Rattle.cam_locks.specs.declared.LiveOp.{LiveOp}
 use Rattle.cam_locks.specs.Site.{IndicesRise}
 use Rattle.cam_locks.specs.Holding.{has_op}
 use Rattle.cam_locks.specs.Restored.{of_family, ops_of, in_order, next_of, all_held, has_index, EachOnce, MayBeHeld}
-use Rattle.cam_locks.proofs.Tests.{or_parts, or_false}
+use Rattle.cam_locks.proofs.Passing.{or_parts, or_false}
 use Rattle.cam_locks.proofs.Ordering.{AllBelow, in_order_rises}
 
 -- what is absent of the held operations is absent of those that are kept

@@ -1,4 +1,4 @@
-pub mod Tests
+pub mod Passing
 pub mod Lists
 pub mod Ends
 pub mod Replaying

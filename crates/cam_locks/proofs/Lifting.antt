@@ -14,7 +14,7 @@ use Rattle.cam_locks.specs.Members.{In}
 use Rattle.cam_locks.specs.Names.{has_name}
 use Rattle.cam_locks.specs.Holding.{lift_in}
 use Rattle.cam_locks.specs.Changes.{lift_eq}
-use Rattle.cam_locks.proofs.Tests.{not_true, not_false}
+use Rattle.cam_locks.proofs.Passing.{not_true, not_false}
 use Rattle.cam_locks.proofs.Members.{in_left, in_right, in_either, in_last, find_none_all}
 
 abbrev pub Name : Type 0

@@ -11,7 +11,7 @@ use Rattle.cam_locks.specs.Site.{IndicesRise}
 use Rattle.cam_locks.specs.Holding.{has_op}
 use Rattle.cam_locks.specs.Restored.{put_in_order, in_order, EachOnce}
 use Rattle.cam_locks.proofs.Members.{above}
-use Rattle.cam_locks.proofs.Tests.{or_parts, or_false, eqb_sym}
+use Rattle.cam_locks.proofs.Passing.{or_parts, or_false, eqb_sym}
 
 -- what is put in order is a member, with those that were
 in_put : (o : LiveOp) (os : List LiveOp) (p : LiveOp) → In p (put_in_order o os) → (p ≡ o) ⊎ In p os

@@ -6,7 +6,7 @@ use Rattle.cam_locks.specs.declared.live.Slot.{Slot}
 use Rattle.cam_locks.specs.Site.{IndicesRise}
 use Rattle.cam_locks.specs.Holding.{has_op}
 use Rattle.cam_locks.specs.Live.{all_of, live_of, is_live_at, AreInOrder, IsPlaceOf}
-use Rattle.cam_locks.proofs.Tests.{and_no}
+use Rattle.cam_locks.proofs.Passing.{and_no}
 use Rattle.cam_locks.proofs.Rising.{rise_from_lower}
 
 -- the slots, and of them those that are not dropped

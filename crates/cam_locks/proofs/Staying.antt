@@ -16,7 +16,7 @@ use Rattle.cam_locks.specs.Site.{IndicesRise}
 use Rattle.cam_locks.specs.Moss.{is_on, replay}
 use Rattle.cam_locks.specs.Holding.{lift_in, has_op, writes, is_write, is_written, IsVersionOf, KeepsVersions}
 use Rattle.cam_locks.specs.Changes.{lift_eq, last_state, LastIsLive, written, with_write, has_holder}
-use Rattle.cam_locks.proofs.Tests.{and_no, le_yes, le_no}
+use Rattle.cam_locks.proofs.Passing.{and_no, le_yes, le_no}
 use Rattle.cam_locks.proofs.Lists.{append_nil}
 use Rattle.cam_locks.proofs.Ends.{split_last, last_snoc, set_snoc}
 use Rattle.cam_locks.proofs.Rising.{rise_push, rise_later}

@@ -17,7 +17,7 @@ use Rattle.cam_locks.specs.Changes.{lift_eq, leads, is_idle, is_outdated}
 use Rattle.cam_locks.proofs.Lists.{append_nil}
 use Rattle.cam_locks.proofs.Rising.{rise_from_lower}
 use Rattle.cam_locks.proofs.Members.{in_left, in_right, in_either, above, has_member, any_member}
-use Rattle.cam_locks.proofs.Tests.{not_true, none_is}
+use Rattle.cam_locks.proofs.Passing.{not_true, none_is}
 use Rattle.cam_locks.proofs.Lifting.{lift_eq_same}
 
 rise_without : (low : ℕ) (os : List LiveOp) (p : LiveOp) (qs : List LiveOp) (next : ℕ) → IndicesRise low (os ++ p ∷ qs) next → IndicesRise low (os ++ qs) next

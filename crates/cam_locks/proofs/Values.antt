@@ -11,7 +11,7 @@ use Rattle.cam_locks.specs.Members.{In}
 use Rattle.cam_locks.specs.Moss.{is_on, replay}
 use Rattle.cam_locks.specs.Holding.{has_op, writes, is_write, is_written, KeepsVersions}
 use Rattle.cam_locks.specs.Changes.{is_current, last_current, last_of, state_of, last_state, LastIsLive}
-use Rattle.cam_locks.proofs.Tests.{le_yes}
+use Rattle.cam_locks.proofs.Passing.{le_yes}
 use Rattle.cam_locks.proofs.Modes.{no_write}
 use Rattle.cam_locks.proofs.Members.{filter_agree, has_member}
 use Rattle.cam_locks.proofs.Current.{IsLast, no_current, current_last, current_last_of, current_none_of}

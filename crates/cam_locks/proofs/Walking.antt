@@ -9,7 +9,7 @@ use Rattle.cam_locks.specs.declared.LiveOp.{LiveOp}
 use Rattle.cam_locks.specs.Moss.{is_in_the_way}
 use Rattle.cam_locks.specs.Holding.{lift_in, has_op, KeepsLeaders}
 use Rattle.cam_locks.specs.Changes.{leads, is_idle}
-use Rattle.cam_locks.proofs.Tests.{and_no, not_false, or_parts}
+use Rattle.cam_locks.proofs.Passing.{and_no, not_false, or_parts}
 use Rattle.cam_locks.proofs.Lists.{find_none, find_some}
 use Rattle.cam_locks.proofs.Ends.{split_at, take_removed}
 use Rattle.cam_locks.proofs.Tidying.{leaders_drop}

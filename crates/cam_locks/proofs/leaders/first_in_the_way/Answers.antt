@@ -3,7 +3,7 @@ use Rattle.std.specs.Prelude.{find}
 use Rattle.cam_locks.specs.declared.LiveOp.{LiveOp}
 use Rattle.cam_locks.specs.Moss.{is_in_the_way}
 use Rattle.cam_locks.specs.Holding.{KeepsLeaders}
-use Rattle.cam_locks.proofs.Tests.{on_some}
+use Rattle.cam_locks.proofs.Passing.{on_some}
 use Rattle.cam_locks.proofs.Walking.{stands, walk_kept, walk_none, walk_within, walk_found, walk_passed}
 use Rattle.cam_locks.proofs.leaders.first_in_the_way.Goals as goal
 

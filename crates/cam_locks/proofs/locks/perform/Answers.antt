@@ -1,6 +1,6 @@
 use Rattle.std.proofs.Common.{refl, arith}
 use Rattle.cam_locks.specs.Changes.{Tidied, TidiedTo}
-use Rattle.cam_locks.proofs.Tests.{on_err}
+use Rattle.cam_locks.proofs.Passing.{on_err}
 use Rattle.cam_locks.proofs.Each.{each_set}
 use Rattle.cam_locks.proofs.locks.perform.Goals as goal
 

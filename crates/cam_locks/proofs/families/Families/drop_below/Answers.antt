@@ -6,7 +6,7 @@ use Rattle.cam_names.specs.declared.name.Name.{Name}
 use Rattle.cam_names.specs.Names.{name_eq}
 use Rattle.cam_locks.specs.Calls.{is_below}
 use Rattle.cam_locks.specs.Families.{list_of}
-use Rattle.cam_locks.proofs.Tests.{empty_list}
+use Rattle.cam_locks.proofs.Passing.{empty_list}
 use Rattle.cam_locks.proofs.Listing.{list_there, is_there, list_changed, list_removed}
 use Rattle.cam_locks.proofs.families.Families.drop_below.Goals as goal
 

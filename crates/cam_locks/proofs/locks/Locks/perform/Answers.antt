@@ -2,7 +2,7 @@ use Rattle.std.proofs.Common.{List, refl, sym, ap, subst, ◌∙◌}
 use Rattle.cam_locks.specs.declared.LiveOp.{LiveOp}
 use Rattle.cam_locks.specs.Holding.{LocksView}
 use Rattle.cam_locks.specs.Changes.{with_leader, Tidied, IsDone}
-use Rattle.cam_locks.proofs.Tests.{any_err}
+use Rattle.cam_locks.proofs.Passing.{any_err}
 use Rattle.cam_locks.proofs.Doing.{not_done, done_read, done_write}
 use Rattle.cam_locks.proofs.locks.Locks.perform.Goals as goal
 

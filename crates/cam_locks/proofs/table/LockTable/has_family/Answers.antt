@@ -3,7 +3,7 @@ use Rattle.std.specs.Bool.{◌==◌}
 use Rattle.std.specs.List.{list_any}
 use Rattle.cam_locks.specs.declared.LiveOp.{LiveOp}
 use Rattle.cam_locks.specs.Calls.{is_of}
-use Rattle.cam_locks.proofs.Tests.{any_kept}
+use Rattle.cam_locks.proofs.Passing.{any_kept}
 use Rattle.cam_locks.proofs.table.LockTable.has_family.Goals as goal
 
 pub returns : goal.returns

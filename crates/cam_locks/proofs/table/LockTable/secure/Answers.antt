@@ -2,7 +2,7 @@ use Rattle.std.proofs.Common.{List, map, ap, ◌∙◌}
 use Rattle.std.specs.Prelude.{filter}
 use Rattle.cam_type.specs.declared.HeldOp.{HeldOp}
 use Rattle.cam_locks.specs.Calls.{is_of, held_op}
-use Rattle.cam_locks.proofs.Tests.{kept_once}
+use Rattle.cam_locks.proofs.Passing.{kept_once}
 use Rattle.cam_locks.proofs.table.LockTable.secure.Goals as goal
 
 pub returns : goal.returns
