@@ -94,7 +94,8 @@ WrittenEntryAdds =
     (entries : List (List ℕ)) (records : List Record) → AreRecords records
     → recover (entries ++ entry_bytes records ∷ []) ≡ with_entry (recover entries) records
 
--- A log that was stopped while an entry was appended opens, and recovers what it would without the entry or with it, and nothing between.
+-- Where a log opens as it was or with one entry more, as one does that was stopped while the entry was appended, it recovers what it would
+-- without the entry or with it, and nothing between.
 pub record IsRecoveredBeforeOrAfter (entries : List (List ℕ)) (records : List Record) (opened : Opened) : Type 0 where
   pub found : List (List ℕ)
   pub opens : opened ≡ Ok found

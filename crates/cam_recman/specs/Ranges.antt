@@ -1,4 +1,4 @@
--- The ranges of what a record holds. A count of 1 is written nowhere but in a Secure.
+-- The ranges of what a record holds. A count of its own and a count that was seen are 2 at least: 1 is the count that a node begins with.
 use Rattle.std.specs.Prelude.{◌≡◌, ℕ, ◌<◌, ◌≤◌, List, length}
 use Rattle.std.specs.List.{AllByRecursion}
 use Rattle.cam_type.specs.declared.Held.{Held}

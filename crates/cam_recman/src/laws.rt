@@ -7,8 +7,9 @@ pub fn entries()
 {}
 
 /// Recovered is what the records of all entries say, and nothing else: the last count, just the outcomes that a record says, of each node
-/// the greatest count that a record has seen, and what was secured, in order. One more entry adds what its records say, so a log that was
-/// stopped while it appended one recovers as before or with it. A fault is that of the first entry that is no list of records.
+/// the greatest count that a record has seen, and what was secured, in order. One more entry adds what its records say, so a log that opens
+/// as it was or with that entry (as `cam_log` says of one that was stopped while it appended) recovers as before or with it. A fault is that
+/// of the first entry that is no list of records.
 pub fn recovery()
     ensures recovered { RecoveryIsOfTheRecords }
     ensures outcomes { OutcomesAreThoseSaid }

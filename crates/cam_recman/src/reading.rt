@@ -1,14 +1,9 @@
 // How an entry is read: its records, from the left.
-ghost use Rattle.std.specs.Prelude.{◌≡◌, ◌+◌, ◌<◌, ◌≤◌, ℕ, List, suc, length, IfOk, IfErr, MatchResult};
+ghost use Rattle.std.specs.Prelude.{◌≡◌, ◌+◌, ◌<◌, ◌≤◌, ℕ, suc, length, IfOk, IfErr};
 ghost use Rattle.cam_bytes.specs.Refuses.{Refuses as RefusesField};
-ghost use Rattle.cam_recman.specs.declared.Record.{Record as RecordFields};
-ghost use Rattle.cam_recman.specs.declared.RecFault.TheVariants.{NoMemory as OutOfMemory};
-ghost use Rattle.cam_recman.specs.Records.{entry_bytes};
-ghost use Rattle.cam_recman.specs.Ranges.{AreRecords};
-ghost use Rattle.cam_recman.specs.Reading.{count_record, abort_record, commit_record, seen_record, held_op_at, held_ops_from, held_ops_at, secure_record, record_of, record_at, records_from, fault_in, read_entry};
-ghost use Rattle.cam_recman.specs.Refuses.{Refuses};
+ghost use Rattle.cam_recman.specs.Reading.{count_record, abort_record, commit_record, seen_record, held_op_at, held_ops_from, held_ops_at, secure_record, record_of, record_at, records_from};
 
-use crate::{RecFault, Record, Records};
+use crate::{Record, Records};
 use cam_bytes::{
     WireFault, byte_at, byte_in, deps_at, family_at, name_at, number_at, number_in, op_at,
 };
