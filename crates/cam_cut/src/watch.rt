@@ -1,6 +1,5 @@
 ghost use Rattle.std.specs.Prelude.{◌≡◌, ◌∷◌, [], List, IfOk, OnOk};
 ghost use Rattle.cam_names.specs.declared.name.Name.{Name};
-ghost use Rattle.cam_names.specs.Names.{is_child};
 ghost use Rattle.cam_event.specs.declared.Deed.{Deed};
 ghost use Rattle.cam_event.specs.History.{after};
 ghost use Rattle.cam_event.specs.Views.{step_of};
@@ -20,14 +19,6 @@ pub(crate) struct Watch {
     pub(crate) created: bool,
     /// Its children that have asked to commit.
     pub(crate) finished: BTreeSet<Name>,
-}
-
-#[tactic(auto, using(cam_names::proofs::Names::is_ancestor_prefix))]
-fn is_child(parent: &Name, child: &Name) -> bool
-    ensures { result ≡ is_child parent.now child.now }
-{
-    let depth = parent.depth();
-    parent.is_ancestor(child) && child.depth() == depth + 1
 }
 
 impl Watch {
@@ -54,7 +45,7 @@ impl Watch {
             | Deed::AskCommit { action, .. }
             | Deed::AskAbort { action } => self.action == *action,
             Deed::Commit { action } => self.finished.contains(action),
-            Deed::Abort { action } => is_child(&self.action, action),
+            Deed::Abort { action } => self.action.is_parent(action),
             Deed::Perform { .. }
             | Deed::Bounce { .. }
             | Deed::Secure { .. }
@@ -73,7 +64,7 @@ impl Watch {
                 self.created = self.created || same;
             }
             Deed::AskCommit { action, .. } => {
-                if is_child(&self.action, action) {
+                if self.action.is_parent(action) {
                     self.finished.insert(*action)?;
                 }
             }

@@ -1,32 +1,24 @@
 -- What each deed adds to the table of what actions depend on.
-use Rattle.std.proofs.Common.{◌≡◌, inl, inr, ℕ, ◌+◌, ◌<◌, ◌≤◌, eqb, Bool, true, false, ◌&&◌, ◌||◌, if◌then◌else◌, cond, List, [], ◌∷◌, ◌++◌, length, take, get_or, Some, None, unwrap_or, refl, sym, ap, ◌∙◌}
+use Rattle.std.proofs.Common.{◌≡◌, inl, inr, ℕ, ◌+◌, ◌<◌, ◌≤◌, eqb, Bool, true, false, ◌&&◌, ◌||◌, if◌then◌else◌, cond, List, [], ◌∷◌, ◌++◌, length, take, get_or, Some, unwrap_or, refl, sym, ap, ◌∙◌}
 use Rattle.std.specs.Ordering.{is_eq}
 use Rattle.std.specs.BTreeMap.{BTreeMap, get}
 use borrow.Author.Tests.{eqb-true}
 use Rattle.std.proofs.lemmas.Bool.{cases_Bool, and_parts}
 use Rattle.std.proofs.lemmas.List.{take_more}
 use Rattle.cam_names.specs.declared.name.Name.{Name}
-use Rattle.cam_names.specs.Names.{name_cmp, name_eq, is_top, parent, home_node, home_count}
+use Rattle.cam_names.specs.Names.{name_cmp, name_eq, parent, home_node, home_count}
 use Rattle.cam_names.specs.Dependencies.{has_pair}
 use Rattle.cam_names.proofs.Names.{name_eq_same, name_eq_sym, name_ties}
 use Rattle.cam_type.specs.declared.ObjectDecl.{ObjectDecl}
-use Rattle.cam_type.specs.declared.Answer.{Answer}
 use Rattle.cam_event.specs.declared.Deed.{Deed}
-use Rattle.cam_event.specs.declared.Deed.TheVariants.{Create, Ask, Got, Commit}
-use Rattle.cam_event.specs.declared.Seen.TheVariants.{Done}
-use Rattle.cam_event.specs.History.{call_of}
-use Rattle.cam_event.specs.Gained.{deps, home, visited}
+use Rattle.cam_event.specs.declared.Deed.TheVariants.{Ask, Commit}
+use Rattle.cam_event.specs.Gained.{deps, home}
 use Rattle.cam_plain.specs.Depending.{pairs_in, AddsPairs, DependsOn}
 use Rattle.cam_names.proofs.Children.{is_some_name, child_of}
 
 or_grouped : (x y z : Bool) → (x || (y || z)) ≡ ((x || y) || z)
 or_grouped true y z = refl
 or_grouped false y z = refl
-
-or_swapped : (x y z : Bool) → (x || (y || z)) ≡ (y || (x || z))
-or_swapped true true z = refl
-or_swapped true false z = refl
-or_swapped false y z = refl
 
 or_nothing : (x : Bool) → (x || false) ≡ x
 or_nothing true = refl
@@ -94,26 +86,6 @@ in_front : (t : Bool) (more new old : List (ℕ × ℕ)) (s c : ℕ) (x : Bool) 
 in_front true more new old s c x is same = ap (λ (b : Bool). has_pair more s c || b) is ∙ ap (λ (b : Bool). b || has_pair old s c) same ∙ sym (has_pair_append new old s c)
 in_front false more new old s c x is same = is
 
-pub create_step : (old new : BTreeMap Name (List (ℕ × ℕ))) (b : Name) (pairs : List (ℕ × ℕ)) → is_top b ≡ true
-    → ((s c : ℕ) → has_pair pairs s c ≡ ((eqb (home_node b) s && eqb (home_count b) c) || false)) → AddsPairs old b pairs new
-    → (objects : List ObjectDecl) (L : List Deed) → DependsOn objects L old → DependsOn objects (Create b ∷ L) new
-create_step old new b pairs top holds adds objects L depends a s c named =
-    adds a s c ∙ in_front (name_eq a b) pairs (home b ∷ []) (deps objects L a) s c (has_pair (pairs_in old a) s c) (depends a s c named) (holds s c)
-    ∙ ap (λ (t : Bool). has_pair (if t then home b ∷ deps objects L a else deps objects L a) s c) (whole (name_eq a b))
-  where
-    whole : (x : Bool) → x ≡ (x && is_top b)
-    whole true = sym top
-    whole false = refl
-
-pub create_child : (old : BTreeMap Name (List (ℕ × ℕ))) (b : Name) → is_top b ≡ false
-    → (objects : List ObjectDecl) (L : List Deed) → DependsOn objects L old → DependsOn objects (Create b ∷ L) old
-create_child old b child objects L depends a s c named =
-    depends a s c named ∙ ap (λ (t : Bool). has_pair (if t then home b ∷ deps objects L a else deps objects L a) s c) (none (name_eq a b))
-  where
-    none : (x : Bool) → false ≡ (x && is_top b)
-    none true = sym child
-    none false = refl
-
 pub ask_step : (old new : BTreeMap Name (List (ℕ × ℕ))) (p b : Name) (pairs : List (ℕ × ℕ)) → 1 ≤ length p
     → ((s c : ℕ) → has_pair pairs s c ≡ ((eqb (home_node b) s && eqb (home_count b) c) || has_pair (pairs_in old p) s c)) → AddsPairs old b pairs new
     → (objects : List ObjectDecl) (L : List Deed) → DependsOn objects L old → DependsOn objects (Ask p b ∷ L) new
@@ -121,18 +93,8 @@ ask_step old new p b pairs parent_named holds adds objects L depends a s c named
     adds a s c ∙ in_front (name_eq a b) pairs (home b ∷ deps objects L p) (deps objects L a) s c (has_pair (pairs_in old a) s c) (depends a s c named)
     (holds s c ∙ ap (λ (t : Bool). (eqb (home_node b) s && eqb (home_count b) c) || t) (depends p s c parent_named))
 
-pub done_step : (old new : BTreeMap Name (List (ℕ × ℕ))) (b : Name) (n : ℕ) (answer : Answer) (objects : List ObjectDecl) (L : List Deed)
-    → AddsPairs old b (visited objects (call_of L b n)) new → DependsOn objects L old → DependsOn objects (Got b n (Done answer) ∷ L) new
-done_step old new b n answer objects L adds depends a s c named =
-    adds a s c ∙ in_front (name_eq a b) (visited objects (call_of L b n)) (visited objects (call_of L b n)) (deps objects L a) s c (has_pair (pairs_in old a) s c) (depends a s c named) refl
-
 pub commit_step : (old new : BTreeMap Name (List (ℕ × ℕ))) (b p : Name) → 1 ≤ length b → Some p ≡ parent b → AddsPairs old p (pairs_in old b) new
     → (objects : List ObjectDecl) (L : List Deed) → DependsOn objects L old → DependsOn objects (Commit b ∷ L) new
 commit_step old new b p child_named is adds objects L depends a s c named =
     adds a s c ∙ in_front (name_eq a p) (pairs_in old b) (deps objects L b) (deps objects L a) s c (has_pair (pairs_in old a) s c) (depends a s c named) (depends b s c child_named)
     ∙ ap (λ (t : Bool). has_pair (if t then deps objects L b ++ deps objects L a else deps objects L a) s c) (ap (is_some_name a) is ∙ sym (child_of a b named))
-
-pub commit_top : (old : BTreeMap Name (List (ℕ × ℕ))) (b : Name) → None ≡ parent b
-    → (objects : List ObjectDecl) (L : List Deed) → DependsOn objects L old → DependsOn objects (Commit b ∷ L) old
-commit_top old b is objects L depends a s c named =
-    depends a s c named ∙ ap (λ (t : Bool). has_pair (if t then deps objects L b ++ deps objects L a else deps objects L a) s c) (ap (is_some_name a) is ∙ sym (child_of a b named))

@@ -1,23 +1,17 @@
 -- Histories of lists of deeds, and of their beginnings.
-use Rattle.std.proofs.Common.{◌≡◌, ℕ, ◌+◌, Bool, true, false, if◌then◌else◌, List, [], ◌∷◌, ◌++◌, refl, ap}
+use Rattle.std.proofs.Common.{◌≡◌, ℕ, ◌+◌, Bool, true, false, if◌then◌else◌, List, [], ◌∷◌, refl, ap}
 use Rattle.cam_event.specs.History.{count, is_crash}
 use Rattle.cam_plain.specs.declared.tally.Tally.TheVariants.{Crashes}
 use Rattle.cam_plain.specs.Facts.{tally}
 use Rattle.cam_type.specs.declared.ObjectDecl.{ObjectDecl}
 use Rattle.cam_event.specs.declared.Deed.{Deed}
 use Rattle.cam_event.specs.History.{after}
-use Rattle.cam_event.proofs.Snoc.{after_more}
-use Rattle.cam_plain.specs.Lines.{Line}
-use Rattle.cam_plain.specs.Legal.{Legal, history}
+use Rattle.cam_plain.specs.Legal.{Legal}
 
 -- what is legal has been legal all along
 pub legal_before : (objects : List ObjectDecl) (ds L : List Deed) → Legal objects (after L ds) → Legal objects L
 legal_before objects [] L h = h
 legal_before objects (d ∷ ds) L h = (legal_before objects ds (d ∷ L) h).1
-
--- a list goes on legally by a deed that meets its line
-pub legal_more : (objects : List ObjectDecl) (ds : List Deed) (d : Deed) → Legal objects (history ds) → Line objects (history ds) d → Legal objects (history (ds ++ d ∷ []))
-legal_more objects ds d legal meets = rw after_more (meets, legal)
 
 -- the count of a node is 1 more than its crashes
 one_more : (b : Bool) (m n : ℕ) → m ≡ n + 1 → (if b then m + 1 else m) ≡ (if b then n + 1 else n) + 1

@@ -1,7 +1,7 @@
 //! Whether a deed of an action or of its parent, or an Inform, meets its line.
 
 ghost use Rattle.std.specs.Prelude.{◌≡◌, ◌+◌, IfOk, eqb, if◌then◌else◌};
-ghost use Rattle.cam_names.specs.Names.{is_top, is_child, last_part, home_node, home_count};
+ghost use Rattle.cam_names.specs.Names.{is_top, last_part, home_node, home_count};
 ghost use Rattle.cam_event.specs.History.{tops, decided};
 ghost use Rattle.cam_event.specs.Live.{is_fit};
 ghost use Rattle.cam_plain.specs.Legal.{history};
@@ -49,20 +49,12 @@ pub(crate) fn may_create(before: &[Deed], action: &Name) -> bool
     !created && at_home && placed
 }
 
-#[tactic(auto, using(cam_names::proofs::Names::is_ancestor_prefix))]
-fn is_child(parent: &Name, child: &Name) -> bool
-    ensures { result ≡ is_child parent.now child.now }
-{
-    let depth = parent.depth();
-    parent.is_ancestor(child) && child.depth() == depth + 1
-}
-
 pub(crate) fn may_ask(before: &[Deed], action: &Name, child: &Name) -> bool
     ensures { result ≡ ask_test (history before.now) action.now child.now }
 {
     let running = runs(before, action);
     let open = open_call(before, action);
-    let below = is_child(action, child);
+    let below = action.is_parent(child);
     let (node, home_count) = child.home();
     let counted = home_count as usize <= count(before, node);
     let next = number_of(child) as usize == Tally::AsksOf(*action).of(before) + 1;

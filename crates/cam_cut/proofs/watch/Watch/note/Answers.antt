@@ -9,18 +9,18 @@ pub returns-in_ok-insert-in-AskCommit : goal.returns-in_ok-insert-in-AskCommit
 returns-in_ok-insert-in-AskCommit c = λ L a has.
     let arm = c.in-AskCommit in
     let w = c.args.self.now in
-    let child : is_child a arm.action ≡ true = ap (λ p. is_child p arm.action) (sym has.action) ∙ sym c.is_child.ensures ∙ c.if-is_child.true in
+    let child : is_child a arm.action ≡ true = ap (λ p. is_child p arm.action) (sym has.action) ∙ sym c.is_parent.ensures ∙ c.if-is_parent.true in
     subst (λ (d : Deed). Watches (d ∷ L) a (record { action = w.action; created = w.created; finished = c.insert.new.self })) (sym arm.is) (record {
       action = has.action;
       created = has.created;
       finished = finished_put L a arm.action arm.value w c.insert.new.self has child c.in_ok-insert-in-AskCommit.ensures.updates.0;
     })
 
-pub returns-else-is_child : goal.returns-else-is_child
-returns-else-is_child c = λ L a has.
+pub returns-else-is_parent : goal.returns-else-is_parent
+returns-else-is_parent c = λ L a has.
     let arm = c.in-AskCommit in
     let w = c.args.self.now in
-    let other : is_child a arm.action ≡ false = ap (λ p. is_child p arm.action) (sym has.action) ∙ sym c.is_child.ensures ∙ c.if-is_child.false in
+    let other : is_child a arm.action ≡ false = ap (λ p. is_child p arm.action) (sym has.action) ∙ sym c.is_parent.ensures ∙ c.if-is_parent.false in
     subst (λ (d : Deed). Watches (d ∷ L) a w) (sym arm.is) (record {
       action = has.action;
       created = has.created;
