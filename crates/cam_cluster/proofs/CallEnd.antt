@@ -62,10 +62,6 @@ kept_within parts a at F = omega (arith, slice_get_within (map node_state parts.
 pub kept_place : (kept : Kept) (a : Name) (at : Found) → IsKept kept a at → IsActionPlace at.place at.at kept
 kept_place kept a at F = subst (λ o. IfSome o (λ n. at.at < length n.actions)) (sym F.there) (slice_get_within F.node.actions at.at at.action F.is.there)
 
--- A call is refused where its variable stands for no action.
-pub call_unbound : (old : ClusterState) (line v x : ℕ) (op : Op) → variable old.running v ≡ None → taken by_knowledge old (record { line = line; act = acts.Call v x op }) ≡ Refused refusals.Unbound
-call_unbound old line v x op none = ap (λ o. of_variable o (λ a. take_request (by_knowledge old.script.objects) old.running a (wants.Call x op))) none
-
 refused_so : (script : Script) (events : List Event) (left : List Mark) (kept : Kept) (line v x : ℕ) (op : Op) (a : Name) (n : NodeState) (place : ℕ) (why : LineRefusal) → Keeps script (reverse events) kept → unwrap_or (slice_get kept.bound v) None ≡ Some a
     → slice_get kept.nodes place ≡ Some n → home_node a ≡ 1 + place → call_refusal (found (1 + place) n.actions a) ≡ Some why
     → taken by_knowledge (seen script events left kept) (record { line = line; act = acts.Call v x op }) ≡ Refused why

@@ -52,14 +52,6 @@ same_weight e t letter h = by (letter_at t letter) refl h
     by None at g = cc
     by (Some mail) at g = ap (λ o. option_map_or (λ (m : Mail). weight m.body) o 0) (letter_older e t letter mail at ∙ sym at)
 
--- and is some
-has_weight : (t : List Event) (letter : LetterId) → is_some (letter_at t letter) ≡ true → 1 ≤ weight_of t letter
-has_weight t letter h = by (letter_at t letter) h
-  where
-    by : (o : Option Mail) → is_some o ≡ true → 1 ≤ option_map_or (λ (m : Mail). weight m.body) o 0
-    by None g = cc
-    by (Some mail) g = some_weight mail.body
-
 -- the letters of two parts, where those of the second weigh so much at most
 parts_weigh : (r : Running) (k n : ℕ) (xs ys : List LetterId) → ((j : ℕ) → weight_from r j ys ≤ n) → weight_from r k (xs ++ ys) ≤ weight_from r k xs + n
 parts_weigh r k n [] ys most = let m = most k in omega (arith, m)

@@ -11,11 +11,6 @@ use Rattle.cam_journal.specs.Gathered.{AreSeats}
 use Rattle.cam_journal.proofs.Lists.{slice_get-longer, slice_get-end}
 use Rattle.cam_journal.proofs.Histories.{if_here}
 
--- the last seat of a new journal is its own
-pub last_own : {E L : Type 0} (journal : TableId) (nodes : ℕ) (seats front : List (Sitting E L)) (last : Sitting E L) → AreNew journal nodes seats → seats ≡ front ++ last ∷ [] → last.journal ≡ journal
-last_own journal nodes seats front last new is =
-    (new.each (length front) last (ap (λ (s : List (Sitting _ _)). slice_get s (length front)) is ∙ slice_get-end front last)).0
-
 -- the seats of a new journal of two nodes, from the last on
 pub last_two : {E L : Type 0} (journal : TableId) (seats front rest : List (Sitting E L)) (one two : Sitting E L) → AreNew journal 2 seats → seats ≡ front ++ two ∷ [] → front ≡ rest ++ one ∷ []
     → (one.journal ≡ journal) × (one.node ≡ 1) × (one.history ≡ []) × (two.journal ≡ journal) × (two.node ≡ 2)

@@ -1,7 +1,7 @@
 -- The least stale pair stands at the first node whose least count is stale.
-use Rattle.std.proofs.Common.{inl, inr, ◌≡◌, ℕ, ◌+◌, ◌-◌, ◌≤◌, ◌<◌, suc, eqb, Bool, true, false, ◌&&◌, if◌then◌else◌, List, [], ◌∷◌, ◌++◌, length, filter, drop, get_or, Option, Some, None, arith, sym, ap, subst, ◌∙◌, refl, drop-cons}
+use Rattle.std.proofs.Common.{inl, inr, ◌≡◌, ℕ, ◌+◌, ◌≤◌, ◌<◌, eqb, Bool, true, false, ◌&&◌, if◌then◌else◌, List, [], ◌∷◌, ◌++◌, length, filter, Option, Some, None, arith, sym, ap, subst, ◌∙◌, refl}
 use Rattle.std.specs.Prelude.{nat_lt, flat_map}
-use Rattle.std.proofs.lemmas.Bool.{cases_Bool, and_parts, and_from, ltb-true, lt-ltb, eqb-true, eqb-false, cases_lt}
+use Rattle.std.proofs.lemmas.Bool.{cases_Bool, and_parts, ltb-true, eqb-true, eqb-false, cases_lt}
 use Rattle.cam_names.specs.declared.name.Name.{Name}
 use Rattle.cam_names.specs.Names.{is_child}
 use Rattle.cam_names.specs.Dependencies.{pairs_of, pairs_from}
@@ -56,9 +56,6 @@ least_cons p (q ∷ ps) = refl
 abbrev put : ℕ × ℕ → ℕ → List ℕ → List ℕ
 put p first [] = []
 put p first (c ∷ cs) = (if eqb p.0 first then lesser_count p.1 c else c) ∷ put p (first + 1) cs
-
-least_counts_put : (p : ℕ × ℕ) (ps : List (ℕ × ℕ)) → least_counts (p ∷ ps) ≡ put p 1 (least_counts ps)
-least_counts_put p ps = refl
 
 -- whether a count, where there is one, is below the known one
 abbrev pub is_old : ℕ → ℕ → Bool
@@ -170,18 +167,3 @@ least_is_first known (p ∷ ps) valid past =
       | inl below ↦ below
       | inr beyond ↦ let nothing : known p.0 ≡ 0 = past p.0 (omega arith) in let less : p.1 < known p.0 = ltb-true p.1 (known p.0) stale in absurd (omega arith)
     ]
-
--- the steps of the search
-pub stale_found : (known : ℕ → ℕ) (cs : List ℕ) (node : ℕ) → 1 ≤ node → node ≤ 8 → length cs ≡ 8 → 0 < get_or cs (node - 1) 0 → get_or cs (node - 1) 0 < known node →
-    first_stale known node (drop (node - 1) cs) ≡ Some (node, get_or cs (node - 1) 0)
-stale_found known cs node from to long some old =
-    let below : node - 1 < length cs = omega arith in
-    ap (first_stale known node) (drop-cons cs (node - 1) 0 below)
-    ∙ (let is : is_old (known node) (get_or cs (node - 1) 0) ≡ true = and_from _ _ (lt-ltb 0 (get_or cs (node - 1) 0) some) (lt-ltb (get_or cs (node - 1) 0) (known node) old) in rw is refl)
-
-pub stale_step : (known : ℕ → ℕ) (cs : List ℕ) (node : ℕ) → 1 ≤ node → node ≤ 8 → length cs ≡ 8 → is_old (known node) (get_or cs (node - 1) 0) ≡ false →
-    first_stale known node (drop (node - 1) cs) ≡ first_stale known (node + 1) (drop (node + 1 - 1) cs)
-stale_step known cs node from to long fresh =
-    let below : node - 1 < length cs = omega arith in
-    ap (first_stale known node) (drop-cons cs (node - 1) 0 below)
-    ∙ rw fresh (ap (λ n. first_stale known (node + 1) (drop n cs)) (let e : suc (node - 1) ≡ node + 1 - 1 = omega arith in e))

@@ -1,6 +1,5 @@
 pub mod Spaced
 pub mod Gathering
 pub mod Viewing
-pub mod Stopping
 pub mod States
 pub mod Settling

@@ -42,11 +42,3 @@ has_committed L names keys a = has_reached milestones.Committed L names keys a �
 
 pub has_aborted : (L : List Deed) (names : BTreeSet Name) → names.keys ≡ sorted_names (flat_map (reached milestones.Aborted) L) → (a : Name) → contains name_cmp names a ≡ aborted L a
 has_aborted L names keys a = has_reached milestones.Aborted L names keys a ∙ ap (λ t. list_any t L) (λ i d. abort_is a d i)
-
--- the names that were created are the actions of the report
-created_is : (d : Deed) → reached milestones.Created d ≡ create_in d
-created_is (Create a) = refl
-created_is _ = refl
-
-pub all_created : (L : List Deed) → flat_map (reached milestones.Created) L ≡ flat_map create_in L
-all_created L = ap (λ f. flat_map f L) (λ i d. created_is d i)
