@@ -1,9 +1,8 @@
 -- No outcome comes twice where only what is not known is learnt.
-use Rattle.std.proofs.Common.{inl, inr, ◌≡◌, ℕ, ◌≤◌, max, Bool, true, false, not, ◌&&◌, ◌||◌, List, [], ◌∷◌, ◌++◌, get_or, arith, sym, ap, subst, ◌∙◌, refl}
+use Rattle.std.proofs.Common.{inl, inr, ◌≡◌, ℕ, ◌≤◌, max, Bool, true, false, true≢false, not, ◌&&◌, ◌||◌, List, [], ◌∷◌, ◌++◌, get_or, arith, sym, ap, subst, ◌∙◌, refl}
 use Rattle.std.specs.List.{list_any}
 use Rattle.std.proofs.lemmas.List.Folds.{list_any-append}
 use Rattle.std.proofs.lemmas.Bool.{cases_Bool, and_left, or_left, or_right}
-use Rattle.cam_names.specs.Part.{PartFields}
 use Rattle.cam_names.specs.Dependencies.{greater_counts}
 use Rattle.cam_names.proofs.Dependencies.{greater_counts_at, greater_counts_length}
 use Rattle.cam_know.specs.declared.Outcome.{Outcome}
@@ -12,12 +11,12 @@ use Rattle.cam_know.specs.declared.commits.Commits.{Commits}
 use Rattle.cam_know.specs.declared.index.Index.{Index}
 use Rattle.cam_know.specs.Knowledge.{Knowledge}
 use Rattle.cam_know.specs.Known.{outcome_eq, knows, unknown}
-use Rattle.cam_know.specs.Commits.{has_commit, is_commit}
-use Rattle.cam_know.specs.Index.{blank, entry_at, noted_all}
+use Rattle.cam_know.specs.Commits.{has_commit, is_commit, HasSame}
+use Rattle.cam_know.specs.Index.{SaysSame, IsIndexOf}
 use Rattle.cam_know.specs.Invariant.{NoTwice, IsEightCounts, IsKnown}
 use Rattle.cam_know.proofs.Union.{knows_unknown}
-use Rattle.cam_know.proofs.Outcomes.{outcome_eq_refl}
-use Rattle.cam_know.proofs.Entries.{noted_all_append}
+use Rattle.cam_know.proofs.Outcomes.{outcome_eq_refl, outcome_eq_same}
+use Rattle.cam_know.proofs.Noting.{index_same}
 
 pub distinct_unknown : (k : Knowledge) (ys : List Outcome) → NoTwice ys → NoTwice (unknown k ys)
 distinct_unknown k [] h = tt
@@ -50,30 +49,34 @@ pub distinct_behind : (xs ys : List Outcome) → NoTwice (xs ++ ys) → NoTwice 
 distinct_behind [] ys h = h
 distinct_behind (x ∷ xs) ys h = distinct_behind xs ys h.1
 
--- both say the same
-abbrev pub SaysSame : Index → Index → Type 0
-SaysSame m n = (a : List PartFields) → entry_at n a ≡ entry_at m a
+-- one outcome more, which is not known
+pub distinct_more : (os : List Outcome) (o : Outcome) → list_any (outcome_eq o) os ≡ false → NoTwice os → NoTwice (os ++ o ∷ [])
+distinct_more os o none h = distinct_append os (o ∷ []) h (refl, tt) (λ p known. other p known (outcome_eq p o) refl)
+  where
+    other : (p : Outcome) → list_any (outcome_eq p) os ≡ true → (t : Bool) → outcome_eq p o ≡ t → (outcome_eq p o || false) ≡ false
+    other p known true e = absurd (true≢false (sym known ∙ ap (λ (q : Outcome). list_any (outcome_eq q) os) (outcome_eq_same p o e) ∙ none))
+    other p known false e = ap (λ t. t || false) e
 
-abbrev pub HasSame : Commits → Commits → Type 0
-HasSame m n = (c : Commit) → has_commit n c ≡ has_commit m c
+pub distinct_learnt : (j k : Knowledge) (o : Outcome) (t : Bool) → j ≡ k → NoTwice j.outcomes → t ≡ knows k o → t ≡ false → NoTwice (k.outcomes ++ o ∷ [])
+distinct_learnt j k o t is h known none = distinct_more k.outcomes o (sym known ∙ none) (subst (λ (l : Knowledge). NoTwice l.outcomes) is h)
 
 -- where nothing was noted
 pub known_same : (os ps : List Outcome) (m n : Index) (r s : Commits) (cs : List ℕ) → ps ≡ os → SaysSame m n → HasSame r s → IsKnown os m r cs → IsKnown ps n s cs
 known_same os ps m n r s cs is says has h =
     subst (λ (xs : List Outcome). IsKnown xs n s cs) (sym is)
-    (record { distinct = h.distinct; indexed = λ a. says a ∙ h.indexed a; committed = λ c. has c ∙ h.committed c; counted = h.counted })
+    (record { distinct = h.distinct; indexed = index_same os m n says h.indexed; committed = λ c. has c ∙ h.committed c; counted = h.counted })
 
--- where all that is fresh was noted
-pub known_more : (os fresh ps : List Outcome) (m n : Index) (r s : Commits) (cs : List ℕ) → ps ≡ os ++ fresh
-    → ((a : List PartFields) → entry_at n a ≡ noted_all a fresh (entry_at m a))
-    → ((c : Commit) → has_commit s c ≡ (has_commit r c || list_any (is_commit c) fresh))
-    → NoTwice (os ++ fresh) → IsKnown os m r cs → IsKnown ps n s cs
-known_more os fresh ps m n r s cs is noted has distinct h =
+-- where all that is fresh was noted, after room was made for it
+pub known_more : (os fresh ps : List Outcome) (l m n : Index) (q r s : Commits) (cs : List ℕ) → ps ≡ os ++ fresh
+    → SaysSame l m → ((xs : List Outcome) → IsIndexOf xs m → IsIndexOf (xs ++ fresh) n)
+    → HasSame q r → ((c : Commit) → has_commit s c ≡ (has_commit r c || list_any (is_commit c) fresh))
+    → NoTwice (os ++ fresh) → IsKnown os l q cs → IsKnown ps n s cs
+known_more os fresh ps l m n q r s cs is says noted alike has distinct h =
     subst (λ (xs : List Outcome). IsKnown xs n s cs) (sym is)
     (record {
       distinct = distinct;
-      indexed = λ a. noted a ∙ ap (noted_all a fresh) (h.indexed a) ∙ sym (noted_all_append a os fresh blank);
-      committed = λ c. has c ∙ ap (λ t. t || list_any (is_commit c) fresh) (h.committed c) ∙ sym (list_any-append (is_commit c) os fresh);
+      indexed = noted os (index_same os l m says h.indexed);
+      committed = λ c. has c ∙ ap (λ t. t || list_any (is_commit c) fresh) (alike c ∙ h.committed c) ∙ sym (list_any-append (is_commit c) os fresh);
       counted = h.counted;
     })
 

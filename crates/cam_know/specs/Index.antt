@@ -1,14 +1,16 @@
--- What the index has of an action: all that the outcomes, in order, say of it.
-use Rattle.std.specs.Prelude.{◌≡◌, ℕ, true, false, if◌then◌else◌, List, [], ◌∷◌, Option, Some, None, IsSome, replicate}
+-- What the index has of an action: all that the outcomes say of it.
+use Rattle.std.specs.Prelude.{◌≡◌, ℕ, ◌≤◌, true, false, List, length, flat_map, replicate}
+use Rattle.std.specs.List.{list_any}
 use Rattle.std.specs.Option.{unwrap_or}
-use Rattle.std.specs.BTreeMap.{get}
-use Rattle.cam_names.specs.Part.{PartFields}
-use Rattle.cam_names.specs.Names.{name_eq, name_cmp, parent}
+use Rattle.std.specs.HashMap.{get, spare}
+use Rattle.cam_names.specs.declared.name.Name.{Name}
+use Rattle.cam_names.specs.Names.{name_eq}
 use Rattle.cam_names.specs.Dependencies.{pairs_of}
 use Rattle.cam_know.specs.declared.Outcome.{Outcome}
-use Rattle.cam_know.specs.declared.Outcome.TheVariants.{Aborted, Committed}
 use Rattle.cam_know.specs.declared.index.Entry.{Entry}
 use Rattle.cam_know.specs.declared.index.Index.{Index}
+use Rattle.cam_know.specs.Known.{is_abort_of, is_commit_of}
+use Rattle.cam_know.specs.Orphans.{commit_pairs}
 use Rattle.cam_know.specs.LeastCounts.{least_counts, lesser_counts}
 
 -- nothing is known of the action
@@ -26,43 +28,21 @@ with_abort e = record { aborted = true; committed = e.committed; oldest = e.olde
 abbrev pub with_child : List ℕ → Entry → Entry
 with_child d e = record { aborted = e.aborted; committed = e.committed; oldest = lesser_counts e.oldest (least_counts (pairs_of d)) }
 
--- the entry of a, where an entry is changed
-abbrev pub changed_at : (Entry → Entry) → List PartFields → List PartFields → Entry → Entry
-changed_at f b a e = if name_eq b a then f e else e
-
-abbrev pub changed_at_parent : (Entry → Entry) → Option (List PartFields) → List PartFields → Entry → Entry
-changed_at_parent f None a e = e
-changed_at_parent f (Some p) a e = changed_at f p a e
-
--- what one more outcome says of the action a
-abbrev pub noted : List PartFields → Outcome → Entry → Entry
-noted a (Aborted b) e = changed_at with_abort b a e
-noted a (Committed b d) e = changed_at_parent (with_child d) (parent b) a (changed_at with_commit b a e)
-
-abbrev pub noted_all : List PartFields → List Outcome → Entry → Entry
-noted_all a [] e = e
-noted_all a (o ∷ os) e = noted_all a os (noted a o e)
-
 -- the entry that the index has
-abbrev pub entry_at : Index → List PartFields → Entry
-entry_at m a = unwrap_or (get name_cmp m.entries a) blank
+abbrev pub entry_at : Index → Name → Entry
+entry_at m a = unwrap_or (get name_eq m.entries a) blank
 
--- The index says what the outcomes say.
-abbrev pub IsIndexOf : List Outcome → Index → Type 0
-IsIndexOf os m = (a : List PartFields) → entry_at m a ≡ noted_all a os blank
+-- how many more entries it can take without memory
+abbrev pub index_room : Index → ℕ
+index_room m = spare m.entries
 
--- The index has an entry of the action, so that to change it takes no memory.
-abbrev pub HasEntry : Index → List PartFields → Type 0
-HasEntry m a = IsSome (get name_cmp m.entries a)
+-- both say the same
+abbrev pub SaysSame : Index → Index → Type 0
+SaysSame m n = (a : Name) → entry_at n a ≡ entry_at m a
 
-abbrev pub HasEntryIfSome : Index → Option (List PartFields) → Type 0
-HasEntryIfSome m None = Unit {0}
-HasEntryIfSome m (Some a) = HasEntry m a
-
-abbrev pub HasRoom : Index → Outcome → Type 0
-HasRoom m (Aborted b) = HasEntry m b
-HasRoom m (Committed b d) = HasEntry m b × HasEntryIfSome m (parent b)
-
--- No entry is lost.
-abbrev pub KeepsEntries : Index → Index → Type 0
-KeepsEntries m n = (a : List PartFields) → HasEntry m a → HasEntry n a
+-- The index says what the outcomes say: of each action whether it aborted and whether it committed, and the least counts of the
+-- commits of its children.
+pub record IsIndexOf (os : List Outcome) (m : Index) : Type 0 where
+  pub aborted : (a : Name) → (entry_at m a).aborted ≡ list_any (is_abort_of a) os
+  pub committed : (a : Name) → (entry_at m a).committed ≡ list_any (is_commit_of a) os
+  pub oldest : (a : Name) → 1 ≤ length a → (entry_at m a).oldest ≡ least_counts (flat_map (commit_pairs a) os)

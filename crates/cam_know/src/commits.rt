@@ -1,43 +1,54 @@
-ghost use Rattle.std.specs.Prelude.{◌≡◌, ◌||◌, false, IfOk, OnOk, All};
+ghost use Rattle.std.specs.Prelude.{◌≡◌, ◌+◌, ◌≤◌, ◌||◌, [], length, IfOk, OnOk};
 ghost use Rattle.std.specs.List.{list_any};
-ghost use Rattle.cam_know.specs.declared.commits.Commit.{Commit as Key};
-ghost use Rattle.cam_know.specs.Commits.{has_commit, is_commit, HasPlace, KeepsPlaces};
+ghost use Rattle.cam_know.specs.declared.commits.Commit.{Commit as CommitValue};
+ghost use Rattle.cam_know.specs.Commits.{has_commit, is_commit, commits_room, HasSame, HasCommitsOf};
 
 use crate::Outcome;
 use cam_base::NoMemory;
 use cam_names::{Deps, Name};
 use std::alloc::Global;
-use std::collections::BTreeMap;
+use std::collections::HashSet;
 
-/// A commit with its dependencies, in the order of names, then of counts.
-#[derive(Clone, Copy, PartialEq, Eq, PartialOrd, Ord)]
+/// A commit with its dependencies, as it is looked up.
+#[derive(Clone, Copy, PartialEq, Eq, Hash)]
 pub(crate) struct Commit {
     pub(crate) name: Name,
     pub(crate) deps: Deps,
 }
 
-/// The known commits, each with its dependencies: one name may have several.
+impl Commit {
+    fn of(name: &Name, deps: &Deps) -> Commit
+        ensures { result ≡ record { name = name.now; deps = deps.now } }
+    {
+        Commit {
+            name: *name,
+            deps: *deps,
+        }
+    }
+}
+
+/// The known commits, each with its dependencies, found by their hashes: one name may have several.
 #[derive(Drop)]
 pub(crate) struct Commits {
-    /// True at what is known, false where there is no more than a place for it.
-    places: BTreeMap<Commit, bool>,
+    commits: HashSet<Commit>,
 }
 
 impl Commits {
+    /// No commit.
     pub(crate) fn new(alloc: Global) -> Commits
-        ensures { (c : Key) → has_commit result c ≡ false }
+        ensures { HasCommitsOf [] result }
     {
         Commits {
-            places: BTreeMap::new(alloc),
+            commits: HashSet::new(alloc),
         }
     }
 
     /// The same commits, in a time that grows with what it holds.
     pub(crate) fn copy(&self) -> Result<Commits, NoMemory>
-        ensures { IfOk result (λ copy. (c : Key) → has_commit copy c ≡ has_commit self.now c) }
+        ensures { IfOk result (λ copy. HasSame self.now copy) }
     {
         Ok(Commits {
-            places: self.places.clone()?,
+            commits: self.commits.clone()?,
         })
     }
 
@@ -45,64 +56,33 @@ impl Commits {
     pub(crate) fn has(&self, name: &Name, deps: &Deps) -> bool
         ensures { result ≡ has_commit self.now (record { name = name.now; deps = deps.now }) }
     {
-        let commit = Commit {
-            name: *name,
-            deps: *deps,
-        };
-        match self.places.get(&commit) {
-            Some(known) => *known,
-            None => false,
-        }
+        self.commits.contains(&Commit::of(name, deps))
     }
 
-    /// Makes a place for the outcome, where it is a commit that has none.
-    fn make_place(&mut self, outcome: &Outcome) -> Result<(), NoMemory>
-        ensures same { (c : Key) → has_commit self.new c ≡ has_commit self.old c }
-        ensures kept { KeepsPlaces self.old self.new }
-        ensures made { OnOk result (HasPlace self.new outcome.now) }
+    /// Makes room for this many more commits. What is known stays the same.
+    pub(crate) fn reserve(&mut self, count: usize) -> Result<(), NoMemory>
+        ensures same { HasSame self.old self.new }
+        ensures ok { OnOk result (count ≤ commits_room self.new) }
     {
-        if let Outcome::Committed(name, deps) = outcome {
-            let commit = Commit {
-                name: *name,
-                deps: *deps,
-            };
-            if !self.places.contains_key(&commit) {
-                self.places.insert(commit, false)?;
-            }
-        }
+        self.commits.reserve(count)?;
         Ok(())
     }
 
-    /// Makes a place for each commit among the outcomes. What is known stays the same.
-    pub(crate) fn make_places(&mut self, outcomes: &[Outcome]) -> Result<(), NoMemory>
-        ensures same { (c : Key) → has_commit self.new c ≡ has_commit self.old c }
-        ensures made { OnOk result (All (HasPlace self.new) outcomes.now) }
-    {
-        for outcome in outcomes {
-            self.make_place(outcome)?;
-        }
-        Ok(())
-    }
-
-    /// One more outcome, for which there is a place, so that no memory is wanted.
+    /// One more outcome, for which there is room, so that no memory is wanted.
     fn note(&mut self, outcome: &Outcome)
-        requires { HasPlace self.old outcome.now }
-        ensures value { (c : Key) → has_commit self.new c ≡ (has_commit self.old c || is_commit c outcome.now) }
-        ensures kept { KeepsPlaces self.old self.new }
+        requires { 1 ≤ commits_room self.old }
+        ensures value { (c : CommitValue) → has_commit self.new c ≡ (has_commit self.old c || is_commit c outcome.now) }
+        ensures room { commits_room self.old ≤ commits_room self.new + 1 }
     {
         if let Outcome::Committed(name, deps) = outcome {
-            let commit = Commit {
-                name: *name,
-                deps: *deps,
-            };
-            let _ = self.places.insert(commit, true);
+            let _ = self.commits.insert(Commit::of(name, deps));
         }
     }
 
-    /// These outcomes, for which there are places.
+    /// These outcomes, for which there is room.
     pub(crate) fn note_all(&mut self, outcomes: &[Outcome])
-        requires { All (HasPlace self.old) outcomes.now }
-        ensures { (c : Key) → has_commit self.new c ≡ (has_commit self.old c || list_any (is_commit c) outcomes.now) }
+        requires { length outcomes.now ≤ commits_room self.old }
+        ensures { (c : CommitValue) → has_commit self.new c ≡ (has_commit self.old c || list_any (is_commit c) outcomes.now) }
     {
         for outcome in outcomes {
             self.note(outcome);

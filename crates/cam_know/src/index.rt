@@ -1,13 +1,15 @@
-ghost use Rattle.std.specs.Prelude.{◌≡◌, List, ◌∷◌, IfOk, OnOk, All};
-ghost use Rattle.cam_names.specs.Part.{PartFields};
-ghost use Rattle.cam_know.specs.Index.{blank, with_abort, with_commit, with_child, changed_at, noted, noted_all, entry_at, HasEntry, HasRoom, KeepsEntries};
+ghost use Rattle.std.specs.Prelude.{◌≡◌, ◌+◌, ◌*◌, ◌≤◌, if◌then◌else◌, List, [], ◌∷◌, ◌++◌, length, IfOk, OnOk};
+ghost use Rattle.cam_names.specs.declared.name.Name.{Name as NameValue};
+ghost use Rattle.cam_names.specs.Names.{name_eq};
+ghost use Rattle.cam_know.specs.declared.Outcome.{Outcome as OutcomeValue};
+ghost use Rattle.cam_know.specs.Index.{blank, with_abort, with_commit, with_child, entry_at, index_room, SaysSame, IsIndexOf};
 
 use crate::Outcome;
 use crate::oldest::Oldest;
 use cam_base::NoMemory;
 use cam_names::{Deps, Name};
 use std::alloc::Global;
-use std::collections::BTreeMap;
+use std::collections::HashMap;
 
 /// What is known of one action: how it ended, and on what the commits of its children depend.
 #[derive(Clone, Copy)]
@@ -54,24 +56,25 @@ impl Entry {
     }
 }
 
-/// The entries of actions by name.
+/// The entries of actions, found by the hash of the name.
 #[derive(Drop)]
 pub(crate) struct Index {
-    entries: BTreeMap<Name, Entry>,
+    entries: HashMap<Name, Entry>,
 }
 
 impl Index {
+    /// The index of no outcome.
     pub(crate) fn new(alloc: Global) -> Index
-        ensures { (a : List PartFields) → entry_at result a ≡ blank }
+        ensures { IsIndexOf [] result }
     {
         Index {
-            entries: BTreeMap::new(alloc),
+            entries: HashMap::new(alloc),
         }
     }
 
     /// An index that says the same, in a time that grows with what it holds.
     pub(crate) fn copy(&self) -> Result<Index, NoMemory>
-        ensures { IfOk result (λ copy. (a : List PartFields) → entry_at copy a ≡ entry_at self.now a) }
+        ensures { IfOk result (λ copy. SaysSame self.now copy) }
     {
         Ok(Index {
             entries: self.entries.clone()?,
@@ -88,63 +91,29 @@ impl Index {
         }
     }
 
-    /// Makes an entry for this action, where there is none.
-    fn make_entry(&mut self, name: &Name) -> Result<(), NoMemory>
-        ensures same { (a : List PartFields) → entry_at self.new a ≡ entry_at self.old a }
-        ensures kept { KeepsEntries self.old self.new }
-        ensures made { OnOk result (HasEntry self.new name.now) }
+    /// Makes room for the entries of this many more actions. What the index says stays the same.
+    pub(crate) fn reserve(&mut self, count: usize) -> Result<(), NoMemory>
+        ensures same { SaysSame self.old self.new }
+        ensures ok { OnOk result (count ≤ index_room self.new) }
     {
-        if !self.entries.contains_key(name) {
-            self.entries.insert(*name, Entry::blank())?;
-        }
+        self.entries.reserve(count)?;
         Ok(())
     }
 
-    /// Changes the entry of an action, which is there, so that no memory is wanted.
+    /// Changes the entry of an action. There is room for it, so that no memory is wanted.
     fn set(&mut self, name: &Name, entry: &Entry)
-        requires { HasEntry self.old name.now }
-        ensures value { (a : List PartFields) → entry_at self.new a ≡ changed_at (λ _. entry.now) name.now a (entry_at self.old a) }
-        ensures kept { KeepsEntries self.old self.new }
+        requires { 1 ≤ index_room self.old }
+        ensures value { (a : NameValue) → entry_at self.new a ≡ (if name_eq name.now a then entry.now else entry_at self.old a) }
+        ensures room { index_room self.old ≤ index_room self.new + 1 }
     {
         let _ = self.entries.insert(*name, *entry);
     }
-}
 
-impl Index {
-    /// Makes entries for all that this outcome changes.
-    fn make_room(&mut self, outcome: &Outcome) -> Result<(), NoMemory>
-        ensures same { (a : List PartFields) → entry_at self.new a ≡ entry_at self.old a }
-        ensures kept { KeepsEntries self.old self.new }
-        ensures made { OnOk result (HasRoom self.new outcome.now) }
-    {
-        match outcome {
-            Outcome::Aborted(name) => self.make_entry(name),
-            Outcome::Committed(name, _) => {
-                self.make_entry(name)?;
-                match name.parent() {
-                    Some(parent) => self.make_entry(&parent),
-                    None => Ok(()),
-                }
-            }
-        }
-    }
-
-    /// Makes entries for all that these outcomes change. What the index says stays the same.
-    pub(crate) fn make_rooms(&mut self, outcomes: &[Outcome]) -> Result<(), NoMemory>
-        ensures same { (a : List PartFields) → entry_at self.new a ≡ entry_at self.old a }
-        ensures made { OnOk result (All (HasRoom self.new) outcomes.now) }
-    {
-        for outcome in outcomes {
-            self.make_room(outcome)?;
-        }
-        Ok(())
-    }
-
-    /// One more outcome, for which there is room.
+    /// One more outcome. It changes at most two entries, for which there is room.
     fn note(&mut self, outcome: &Outcome)
-        requires { HasRoom self.old outcome.now }
-        ensures value { (a : List PartFields) → entry_at self.new a ≡ noted a outcome.now (entry_at self.old a) }
-        ensures kept { KeepsEntries self.old self.new }
+        requires { 2 ≤ index_room self.old }
+        ensures value { (os : List OutcomeValue) → IsIndexOf os self.old → IsIndexOf (os ++ outcome.now ∷ []) self.new }
+        ensures room { index_room self.old ≤ index_room self.new + 2 }
     {
         match outcome {
             Outcome::Aborted(name) => self.set(name, &self.entry(name).with_abort()),
@@ -159,8 +128,8 @@ impl Index {
 
     /// These outcomes in turn, for which there is room.
     pub(crate) fn note_all(&mut self, outcomes: &[Outcome])
-        requires { All (HasRoom self.old) outcomes.now }
-        ensures { (a : List PartFields) → entry_at self.new a ≡ noted_all a outcomes.now (entry_at self.old a) }
+        requires { 2 * length outcomes.now ≤ index_room self.old }
+        ensures { (os : List OutcomeValue) → IsIndexOf os self.old → IsIndexOf (os ++ outcomes.now) self.new }
     {
         for outcome in outcomes {
             self.note(outcome);

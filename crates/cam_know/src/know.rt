@@ -1,8 +1,10 @@
-ghost use Rattle.std.specs.Prelude.{◌≡◌, ◌≤◌, ◌++◌, List, length, IsTrue, IfOk, OnOk, OnErr, if◌then◌else◌};
+ghost use Rattle.std.specs.Prelude.{◌≡◌, ◌*◌, ◌≤◌, ◌++◌, [], ◌∷◌, List, length, IsFalse, IfOk, OnOk, OnErr, if◌then◌else◌};
 ghost use Rattle.cam_know.specs.Known.{nothing, knows, unknown, both, news, with_outcome, with_count, aborted_by, knows_abort, knows_commit, known_count, known_lift};
 ghost use Rattle.cam_know.specs.Orphans.{children_pairs};
 ghost use Rattle.cam_know.specs.LeastCounts.{least_counts};
 ghost use Rattle.cam_know.specs.Invariant.{NoTwice, IsEightCounts};
+ghost use Rattle.cam_know.specs.Index.{index_room, SaysSame};
+ghost use Rattle.cam_know.specs.Commits.{commits_room, HasSame};
 ghost use Rattle.cam_names.specs.Dependencies.{greater_counts};
 
 use crate::Outcome;
@@ -18,8 +20,8 @@ use std::slice;
 /// Known outcomes, and for each node the greatest known count. Seen as the list of the outcomes in
 /// the order in which they were learnt, none of them twice, and eight counts.
 ///
-/// An index by name and the set of commits stand beside the list, so that a question costs a few
-/// look-ups, and what is learnt costs what is new.
+/// Tables of hashes stand beside the list, an index by name and the set of commits, so that a
+/// question costs a few look-ups, and what is learnt costs what is new.
 #[derive(Drop)]
 pub struct Know {
     outcomes: Vec<Outcome>,
@@ -53,9 +55,35 @@ impl Know {
         }
     }
 
+    /// The knowledge of these outcomes, none of them twice, and of these counts, each 1 to
+    /// 1,000,000,000, in a time that grows with their number.
+    pub fn of(
+        alloc: Global,
+        outcomes: Sequence<Outcome>,
+        counts: [u32; 8],
+    ) -> Result<Know, NoMemory>
+        requires distinct { NoTwice outcomes }
+        requires counts { IsEightCounts counts }
+        ensures { IfOk result (λ know. know ≡ record { outcomes = outcomes; counts = counts }) }
+    {
+        let mut index = Index::new(alloc);
+        let mut commits = Commits::new(alloc);
+        let all = outcomes.as_slice();
+        reserve(&mut index, &mut commits, all.len())?;
+        index.note_all(all);
+        commits.note_all(all);
+        Ok(Know {
+            outcomes: outcomes.into_vec(),
+            index,
+            commits,
+            counts,
+        })
+    }
+
     /// This outcome is known.
     fn knows(&self, outcome: &Outcome) -> bool
-        ensures { result ≡ knows self.now outcome.now }
+        ensures value { result ≡ knows self.now outcome.now }
+        ensures distinct { IsFalse result → NoTwice (self.now.outcomes ++ outcome.now ∷ []) }
     {
         match outcome {
             Outcome::Aborted(name) => self.index.entry(name).aborted,
@@ -157,8 +185,10 @@ impl Know {
         ensures ok { OnOk result (self.new ≡ with_outcome outcome.now self.old) }
         ensures err { OnErr result (self.new ≡ self.old) }
     {
-        let fresh = self.unknown(slice::from_ref(outcome))?;
-        self.learn(fresh.as_slice())
+        if self.knows(outcome) {
+            return Ok(());
+        }
+        self.learn(slice::from_ref(outcome))
     }
 
     /// What is known here and was not known before, with all counts.
@@ -166,19 +196,7 @@ impl Know {
         ensures { IfOk result (λ fresh. fresh ≡ news self.now before.now) }
     {
         let fresh = before.unknown(self.outcomes.as_slice())?;
-        Know::of(*self.outcomes.allocator(), fresh.as_slice(), &self.counts)
-    }
-
-    /// These outcomes and these counts.
-    fn of(alloc: Global, outcomes: &[Outcome], counts: &[u32; 8]) -> Result<Know, NoMemory>
-        requires distinct { NoTwice outcomes.now }
-        requires counts { IsEightCounts counts.now }
-        ensures { IfOk result (λ know. know ≡ record { outcomes = outcomes.now; counts = counts.now }) }
-    {
-        let mut know = Know::new(alloc);
-        know.learn(outcomes)?;
-        know.counts = *counts;
-        Ok(know)
+        Know::of(*self.outcomes.allocator(), fresh, self.counts)
     }
 
     /// Those of the outcomes that are not known.
@@ -201,8 +219,7 @@ impl Know {
         ensures ok { OnOk result (self.new ≡ record { outcomes = self.old.outcomes ++ fresh.now; counts = self.old.counts }) }
         ensures err { OnErr result (self.new ≡ self.old) }
     {
-        self.index.make_rooms(fresh)?;
-        self.commits.make_places(fresh)?;
+        reserve(&mut self.index, &mut self.commits, fresh.len())?;
         self.outcomes.extend_from_slice(fresh)?;
         self.index.note_all(fresh);
         self.commits.note_all(fresh);
@@ -251,6 +268,18 @@ impl Know {
             None => None,
         }
     }
+}
+
+/// Makes room for what this many more outcomes say. What is said stays the same.
+fn reserve(index: &mut Index, commits: &mut Commits, outcomes: usize) -> Result<(), NoMemory>
+    ensures index { SaysSame index.old index.new }
+    ensures commits { HasSame commits.old commits.new }
+    ensures entries { OnOk result (2 * outcomes ≤ index_room index.new) }
+    ensures places { OnOk result (outcomes ≤ commits_room commits.new) }
+{
+    // A commit changes two entries: that of its action, and that of the parent.
+    index.reserve(outcomes.checked_mul(2).ok_or(NoMemory)?)?;
+    commits.reserve(outcomes)
 }
 
 /// Of each node the greater count.

@@ -1,4 +1,5 @@
 use crate::{Know, Outcome};
+use cam_base::Sequence;
 use cam_names::{Deps, Name, Part};
 use std::test::Fail;
 
@@ -66,5 +67,21 @@ fn many_outcomes_are_joined_and_copied(rt: HostRuntime) -> Result<(), Fail> {
     let (last, odd) = (Name::parse("1.1.1/2.1.50")?, Name::parse("1.1.1/2.1.49")?);
     assert!(rt; copy.is_committed(&odd) && copy.is_aborted(&last) && !copy.is_aborted(&odd));
     assert_eq!(rt; copy.oldest(&top).count_of(2), 1);
+    Ok(())
+}
+
+/// One name is known aborted, and committed with two dependency sets. All is learnt at once.
+#[test]
+fn outcomes_are_known_at_once(rt: HostRuntime) -> Result<(), Fail> {
+    let top = Name::parse("1.1.1")?;
+    let child = Name::parse("1.1.1/2.1.1")?;
+    let mut outcomes = Sequence::new(rt.alloc());
+    outcomes.push_copy(&Outcome::Aborted(child))?;
+    outcomes.push_copy(&Outcome::Committed(child, Deps::none().with(2, 7)))?;
+    outcomes.push_copy(&Outcome::Committed(child, Deps::none().with(2, 5)))?;
+    let know = Know::of(rt.alloc(), outcomes, [1, 9, 1, 1, 1, 1, 1, 1])?;
+    assert_eq!(rt; (know.len(), know.count(2)), (3, 9));
+    assert!(rt; know.is_aborted(&child) && know.is_committed(&child));
+    assert_eq!(rt; know.oldest(&top).count_of(2), 5);
     Ok(())
 }

@@ -1,9 +1,9 @@
-use Rattle.std.proofs.Common.{◌≡◌, List, take, All}
-use Rattle.cam_names.specs.Part.{PartFields}
-use Rattle.cam_know.specs.Index.{entry_at, noted_all, HasRoom}
+use Rattle.std.proofs.Common.{◌*◌, ◌+◌, ◌≤◌, List, ◌++◌, length, take}
+use Rattle.cam_know.specs.declared.Outcome.{Outcome}
+use Rattle.cam_know.specs.Index.{index_room, IsIndexOf}
 use Rattle.cam_know.proofs.index.Index.note_all.Given as goal
 
 abbrev pub invariant-loop-outcome : goal.invariant-loop-outcome
 invariant-loop-outcome l =
-    ((a : List PartFields) → entry_at l.self a ≡ noted_all a (take l.outcome-index l.outcomes) (entry_at l.initial.self a))
-    × All (HasRoom l.self) l.outcomes
+    ((os : List Outcome) → IsIndexOf os l.initial.self → IsIndexOf (os ++ take l.outcome-index l.outcomes) l.self)
+    × (2 * length l.outcomes ≤ index_room l.self + 2 * l.outcome-index)

@@ -1,9 +1,8 @@
 use Rattle.std.proofs.Common.{ap, ◌∙◌}
 use Rattle.cam_know.specs.Known.{knows_abort}
-use Rattle.cam_know.proofs.Meaning.{abort_known}
 use Rattle.cam_know.proofs.know.Know.is_aborted.Goals as goal
 
 pub returns : goal.returns
 returns c =
-    abort_known c.args.name.now c.self.inside.outcomes.items c.entry.result (c.entry.ensures ∙ c.self.invariant.indexed c.args.name.now)
+    ap (λ e. e.aborted) c.entry.ensures ∙ c.self.invariant.indexed.aborted c.args.name.now
     ∙ ap (λ k. knows_abort k c.args.name.now) c.self.view_is

@@ -5,6 +5,5 @@ use Rattle.cam_know.proofs.know.Know.news_since.Goals as goal
 
 pub of-requires-clause-distinct : goal.of-requires-clause-distinct
 of-requires-clause-distinct c =
-    subst NoTwice (sym c.as_slice-2.ensures)
-    (distinct_behind c.args.before.now.outcomes c.in_ok-fresh.fresh
-    (c.in_ok-fresh.ensures.distinct (subst NoTwice (sym c.as_slice.ensures.value) c.self.invariant.distinct)))
+    distinct_behind c.args.before.now.outcomes c.in_ok-fresh.fresh
+    (c.in_ok-fresh.ensures.distinct (subst NoTwice (sym c.as_slice.ensures.value) c.self.invariant.distinct))
