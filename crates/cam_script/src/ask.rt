@@ -4,8 +4,9 @@ ghost use Rattle.cam_words.specs.Numbers.{is_name};
 ghost use Rattle.cam_script.specs.SoFar.{step_cost};
 ghost use Rattle.cam_script.specs.Steps.{ask_line};
 
+use crate::name_table::new_name_at;
 use crate::so_far::SoFar;
-use crate::variables::{new_variable_at, variable_at};
+use crate::variables::variable_at;
 use crate::{Act, Use};
 use cam_words::{Line, ScriptFault, Word};
 
@@ -20,7 +21,7 @@ impl SoFar {
         ensures cost { IfOk result (λ said. step_cost self.now.sizes said.1 ≡ 1) }
     {
         let (parent, at) = variable_at(line, at, &self.variables, Use::Request, true)?;
-        let name = new_variable_at(line, at, &self.variables)?;
+        let name = new_name_at(line, at, self.variables.names())?;
         let (node, at) = line.node_at(name.1, self.nodes)?;
         line.end_at(at)?;
         Ok((name, Act::Ask { parent, node }))

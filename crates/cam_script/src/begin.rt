@@ -5,8 +5,8 @@ ghost use Rattle.cam_script.specs.SoFar.{step_cost};
 ghost use Rattle.cam_script.specs.Steps.{begin_line};
 
 use crate::Act;
+use crate::name_table::new_name_at;
 use crate::so_far::SoFar;
-use crate::variables::new_variable_at;
 use cam_words::{Line, ScriptFault, Word};
 
 impl SoFar {
@@ -19,7 +19,7 @@ impl SoFar {
         ensures name { IfOk result (λ said. IsTrue (is_name (text_of said.0 line.now.bytes.now))) }
         ensures cost { IfOk result (λ said. step_cost self.now.sizes said.1 ≡ 1) }
     {
-        let name = new_variable_at(line, at, &self.variables)?;
+        let name = new_name_at(line, at, self.variables.names())?;
         let (node, at) = line.node_at(name.1, self.nodes)?;
         line.end_at(at)?;
         Ok((name, Act::Begin { node }))

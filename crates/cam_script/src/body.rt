@@ -5,6 +5,7 @@ ghost use Rattle.cam_script.specs.SoFar.{Writing as AnyWriting, with_body, with_
 ghost use Rattle.cam_script.specs.Declarations.{body_line};
 
 use crate::body_table::Writing;
+use crate::name_table::new_name_at;
 use crate::so_far::SoFar;
 use crate::{BodyText, Statement};
 use cam_base::NoMemory;
@@ -19,7 +20,7 @@ impl SoFar {
         ensures word { IfOk result (λ name. (name.0 ≤ name.1) × (name.1 ≤ length line.now.bytes.now)) }
         ensures name { IfOk result (λ name. IsTrue (is_name (text_of name line.now.bytes.now))) }
     {
-        let name = line.new_name_at(at, self.bodies.names())?;
+        let name = new_name_at(line, at, self.bodies.names())?;
         line.end_at(name.1)?;
         Ok(name)
     }
@@ -29,7 +30,7 @@ impl SoFar {
         requires { IsTrue (is_name name.now) }
         ensures { OnOk result (self.new ≡ with_body self.old name.now) }
     {
-        let alloc = *self.variables.allocator();
+        let alloc = self.labels.allocator();
         self.writing = Some(Writing {
             name: Label::of_word(alloc, name)?,
             statements: BodyText::new(alloc),

@@ -3,9 +3,10 @@ ghost use Rattle.cam_script.specs.SoFar.{Size as AnySize};
 ghost use Rattle.cam_script.specs.Order.{closes, is_closed};
 ghost use Rattle.cam_script.specs.BodyTable.{capped, size_of, size_with, size_at, size_named, with_body_written};
 
+use crate::name_table::NameTable;
 use crate::{Bodies, BodyText, Statement};
 use cam_base::NoMemory;
-use cam_words::{Label, Labels, place_of};
+use cam_words::Label;
 use std::alloc::Global;
 use std::marker::Model;
 
@@ -50,7 +51,7 @@ impl Model for Writing {
 /// The bodies whose `end` was read, with their names and sizes.
 #[derive(Drop)]
 pub(crate) struct BodyTable {
-    names: Labels,
+    names: NameTable,
     bodies: Bodies,
     sizes: Vec<Size>,
 }
@@ -73,7 +74,7 @@ impl BodyTable {
         ensures { (result.names ≡ []) × ((result.bodies ≡ []) × (result.sizes ≡ [])) }
     {
         BodyTable {
-            names: Labels::new(alloc),
+            names: NameTable::new(alloc),
             bodies: Bodies::new(alloc),
             sizes: Vec::new(alloc),
         }
@@ -87,10 +88,10 @@ impl BodyTable {
     }
 
     /// Their names.
-    pub fn names(&self) -> &[Label]
+    pub fn names(&self) -> &NameTable
         ensures { result.now ≡ self.now.names }
     {
-        self.names.as_slice()
+        &self.names
     }
 
     /// The bodies themselves.
@@ -116,7 +117,7 @@ impl BodyTable {
     pub fn size_named(&self, name: &[u8]) -> Size
         ensures { result ≡ capped (size_named self.now name.now) }
     {
-        match place_of(self.names(), name) {
+        match self.names.place_of(name) {
             Some(body) => self.size_at(body),
             None => Size {
                 cost: 0,

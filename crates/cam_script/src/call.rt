@@ -4,6 +4,7 @@ ghost use Rattle.cam_script.specs.Steps.{call_line};
 ghost use Rattle.cam_script.specs.Statements.{call_statement};
 ghost use Rattle.cam_script.specs.Parse.{IsWithin};
 
+use crate::name_table::declared_at;
 use crate::operations::{body_op_at, kind_at, op_at};
 use crate::so_far::SoFar;
 use crate::variables::variable_at;
@@ -20,7 +21,7 @@ impl SoFar {
         ensures cost { IfOk result (λ act. step_cost self.now.sizes act ≡ 1) }
     {
         let (action, at) = variable_at(line, at, &self.variables, Use::Request, true)?;
-        let (object, at) = line.declared_at(at, self.labels.as_slice())?;
+        let (object, at) = declared_at(line, at, &self.labels)?;
         let (op, at) = op_at(line, at, kind_at(&self.objects, object))?;
         line.end_at(at)?;
         let object = object as u8;
@@ -40,7 +41,7 @@ impl SoFar {
         ensures { result ≡ call_statement self.now.script.labels self.now.script.objects earlier line.now.number at line.now.bytes.now }
     {
         let (tries, at) = line.number_at(at, 1, 9)?;
-        let (object, at) = line.declared_at(at, self.labels.as_slice())?;
+        let (object, at) = declared_at(line, at, &self.labels)?;
         let (op, at) = body_op_at(line, at, kind_at(&self.objects, object), earlier)?;
         line.end_at(at)?;
         let tries = tries as u8;

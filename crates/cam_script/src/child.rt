@@ -3,6 +3,7 @@ ghost use Rattle.cam_script.specs.Statements.{child_statement};
 ghost use Rattle.cam_script.specs.Parse.{IsWithin};
 
 use crate::Statement;
+use crate::name_table::declared_at;
 use crate::so_far::SoFar;
 use cam_words::{Line, ScriptFault};
 
@@ -16,7 +17,7 @@ impl SoFar {
     {
         let (tries, at) = line.number_at(at, 1, 9)?;
         let (node, at) = line.node_at(at, self.nodes)?;
-        let (body, at) = line.declared_at(at, self.bodies.names())?;
+        let (body, at) = declared_at(line, at, self.bodies.names())?;
         line.end_at(at)?;
         let tries = tries as u8;
         let body = body as u8;

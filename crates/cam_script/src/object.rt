@@ -5,6 +5,7 @@ ghost use Rattle.cam_script.specs.Built.{built_of};
 ghost use Rattle.cam_script.specs.Declarations.{kind_word_at, start_at, object_line};
 
 use crate::Stage;
+use crate::name_table::new_name_at;
 use crate::so_far::SoFar;
 use cam_type::{Items, Kind, ObjectDecl, State};
 use cam_words::{Line, ScriptFault, Word, causes};
@@ -24,10 +25,10 @@ impl SoFar {
         ensures word { IfOk result (λ said. (said.0.0 ≤ said.0.1) × (said.0.1 ≤ length line.now.bytes.now)) }
         ensures name { IfOk result (λ said. IsTrue (is_name (text_of said.0 line.now.bytes.now))) }
     {
-        let name = line.new_name_at(at, self.labels.as_slice())?;
+        let name = new_name_at(line, at, &self.labels)?;
         let (node, at) = line.node_at(name.1, self.nodes)?;
         let (kind, at) = kind_word_at(line, at, stage)?;
-        let (start, at) = start_at(*self.variables.allocator(), line, at, kind)?;
+        let (start, at) = start_at(self.labels.allocator(), line, at, kind)?;
         line.end_at(at)?;
         Ok((name, ObjectDecl { node, start }))
     }

@@ -4,11 +4,12 @@ ghost use Rattle.cam_script.specs.SoFar.{nothing, step_cost, with_nodes, with_ob
 ghost use Rattle.cam_script.specs.Grammar.{read_end};
 
 use crate::body_table::{BodyTable, Writing};
-use crate::variables::Variable;
+use crate::name_table::NameTable;
+use crate::variables::{Bound, Variables};
 use crate::{Act, Binding, Script, Step, Steps};
 use cam_base::NoMemory;
 use cam_type::{ObjectDecl, Objects};
-use cam_words::{Label, Labels, ScriptFault, causes};
+use cam_words::{Label, ScriptFault, causes};
 use std::alloc::Global;
 use std::marker::Model;
 
@@ -18,10 +19,10 @@ pub(crate) struct SoFar {
     /// 0 until `nodes` was read.
     pub nodes: u8,
     pub objects: Objects,
-    pub labels: Labels,
+    pub labels: NameTable,
     pub bodies: BodyTable,
     pub steps: Steps,
-    pub variables: Vec<Variable>,
+    pub variables: Variables,
     /// The steps spent, with the costs of bodies.
     pub spent: u32,
     pub writing: Option<Writing>,
@@ -32,7 +33,7 @@ impl Model for SoFar {
 
     ghost Value = { Seen };
 
-    ghost view = { λ d. record { script = record { nodes = d.nodes; objects = d.objects; labels = d.labels; bodies = d.bodies.bodies; steps = d.steps }; body_names = d.bodies.names; sizes = d.bodies.sizes; variables = d.variables.items; spent = d.spent; writing = d.writing } };
+    ghost view = { λ d. record { script = record { nodes = d.nodes; objects = d.objects; labels = d.labels; bodies = d.bodies.bodies; steps = d.steps }; body_names = d.bodies.names; sizes = d.bodies.sizes; variables = d.variables; spent = d.spent; writing = d.writing } };
 }
 
 impl SoFar {
@@ -43,10 +44,10 @@ impl SoFar {
         SoFar {
             nodes: 0,
             objects: Objects::new(alloc),
-            labels: Labels::new(alloc),
+            labels: NameTable::new(alloc),
             bodies: BodyTable::new(alloc),
             steps: Steps::new(alloc),
-            variables: Vec::new(alloc),
+            variables: Variables::new(alloc),
             spent: 0,
             writing: None,
         }
@@ -64,7 +65,7 @@ impl SoFar {
         requires { IsTrue (is_name name.now) }
         ensures { OnOk result (self.new ≡ with_object self.old name.now object) }
     {
-        let label = Label::of_word(*self.variables.allocator(), name)?;
+        let label = Label::of_word(self.labels.allocator(), name)?;
         self.objects.push(object)?;
         self.labels.push(label)?;
         Ok(())
@@ -76,14 +77,9 @@ impl SoFar {
         requires room { length self.old.script.steps ≤ 512 }
         ensures { OnOk result (self.new ≡ with_variable self.old name.now binding) }
     {
-        let name = Label::of_word(*self.variables.allocator(), name)?;
+        let name = Label::of_word(self.labels.allocator(), name)?;
         let step = self.steps.len() as u32;
-        self.variables.push(Variable {
-            name,
-            step,
-            binding,
-        })?;
-        Ok(())
+        self.variables.push(name, Bound { step, binding })
     }
 
     /// After a step that binds the variable of this name, in the line of this number.
@@ -145,6 +141,7 @@ impl SoFar {
                 cause: causes::MISPLACED,
             });
         }
+        let labels = labels.into_labels();
         let bodies = bodies.into_bodies();
         Ok(Script {
             nodes,

@@ -5,8 +5,8 @@ ghost use Rattle.cam_script.specs.Steps.{start_line};
 ghost use Rattle.cam_script.specs.Parse.{IsWithin};
 
 use crate::Act;
+use crate::name_table::{declared_at, new_name_at};
 use crate::so_far::SoFar;
-use crate::variables::new_variable_at;
 use cam_words::{Line, ScriptFault, Word};
 
 impl SoFar {
@@ -19,9 +19,9 @@ impl SoFar {
         ensures word { IfOk result (λ said. (said.0.0 ≤ said.0.1) × (said.0.1 ≤ length line.now.bytes.now)) }
         ensures name { IfOk result (λ said. IsTrue (is_name (text_of said.0 line.now.bytes.now))) }
     {
-        let name = new_variable_at(line, at, &self.variables)?;
+        let name = new_name_at(line, at, self.variables.names())?;
         let (node, at) = line.node_at(name.1, self.nodes)?;
-        let (body, at) = line.declared_at(at, self.bodies.names())?;
+        let (body, at) = declared_at(line, at, self.bodies.names())?;
         line.end_at(at)?;
         let body = body as u8;
         Ok((name, Act::Start { node, body }))

@@ -3,6 +3,7 @@ use crate::test_tables::{
 };
 use crate::{Label, Script, ScriptFault, Stage, parse};
 use cam_type::State;
+use std::alloc::Global;
 use std::fmt::Write;
 use std::test::Fail;
 
@@ -25,6 +26,15 @@ fn is_at(fault: Option<ScriptFault>, place: &str) -> Result<bool, Fail> {
             cause: 0,
         }) == expected,
     )
+}
+
+/// The fault of these bytes, if they have one.
+fn fault_of(alloc: Global, stage: Stage, bytes: &[u8]) -> Result<Option<ScriptFault>, Fail> {
+    match parse(alloc, stage, bytes) {
+        Ok(_) => Ok(None),
+        Err(ScriptFault::NoMemory) => Err(ScriptFault::NoMemory.into()),
+        Err(fault) => Ok(Some(fault)),
+    }
 }
 
 /// Adds a piece to a text, so often.
@@ -60,7 +70,7 @@ fn first_wrong<'a>(
                 None => push(&mut text, 1, piece)?,
             }
         }
-        if !is_at(parse(rt.alloc(), stage, text.as_bytes()).err(), place)? {
+        if !is_at(fault_of(rt.alloc(), stage, text.as_bytes())?, place)? {
             return Ok(Some(row));
         }
     }
@@ -114,7 +124,7 @@ fn what_a_stage_has_not_is_unknown(rt: HostRuntime) -> Result<(), Fail> {
 
 #[test]
 fn a_fault_says_where_and_why(rt: HostRuntime) -> Result<(), Fail> {
-    let Err(fault) = parse(rt.alloc(), Stage::FirstPath, b"nodes 1\nbegin A 2") else {
+    let Some(fault) = fault_of(rt.alloc(), Stage::FirstPath, b"nodes 1\nbegin A 2")? else {
         return Err(Fail::new("accepted"));
     };
     let said = format!(in rt.alloc(); "{fault}")?;

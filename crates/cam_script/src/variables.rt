@@ -1,49 +1,77 @@
-ghost use Rattle.std.specs.Prelude.{◌≡◌, ◌≤◌, ◌<◌, length, Ok, Err, IfOk, IfSome, IsTrue};
-ghost use Rattle.cam_words.specs.Words.{text_of, place_of};
-ghost use Rattle.cam_words.specs.Numbers.{is_name, new_name_at};
+ghost use Rattle.std.specs.Prelude.{◌≡◌, ◌≤◌, [], ◌∷◌, ◌++◌, length, option_map, Ok, Err, IfOk, OnOk, OnErr};
 ghost use Rattle.cam_script.specs.SoFar.{variable_names};
-ghost use Rattle.cam_script.specs.Variables.{against, variable_at};
+ghost use Rattle.cam_script.specs.Variables.{against, variable_of, variable_at};
+ghost use Rattle.cam_script.specs.VariableTable.{bound_of, named};
 
+use crate::name_table::NameTable;
 use crate::{Binding, Use};
-use cam_words::{Label, Line, ScriptFault, Word, causes, is_name};
+use cam_base::NoMemory;
+use cam_words::{Label, Line, ScriptFault, causes};
+use std::alloc::Global;
 use std::marker::Model;
 
-/// A variable, with the place of the step that binds it.
-#[derive(Drop)]
-pub(crate) struct Variable {
-    pub name: Label,
+/// What a variable stands for: the place of the step that binds it, and the kind of that line.
+#[derive(Clone, Copy)]
+pub(crate) struct Bound {
     pub step: u32,
     pub binding: Binding,
 }
 
-impl Model for Variable {
-    ghost use Rattle.cam_script.specs.SoFar.{Variable as Seen};
-
-    ghost Value = { Seen };
-
-    ghost view = { λ v. record { name = v.name; step = v.step; binding = v.binding } };
+/// The variables, in order of the steps that bind them.
+#[derive(Drop)]
+pub(crate) struct Variables {
+    names: NameTable,
+    bound: Vec<Bound>,
 }
 
-/// A variable that is none of these: the word of its name.
-#[tactic(auto, unfolding(cam_words::specs::Numbers::new_name_at))]
-pub(crate) fn new_variable_at(
-    line: &Line,
-    at: usize,
-    variables: &[Variable],
-) -> Result<Word, ScriptFault>
-    requires { at ≤ length line.now.bytes.now }
-    ensures value { result ≡ new_name_at (variable_names variables.now) line.now.number at line.now.bytes.now }
-    ensures word { IfOk result (λ word. (at ≤ word.0) × ((word.0 ≤ word.1) × (word.1 ≤ length line.now.bytes.now))) }
-    ensures name { IfOk result (λ word. IsTrue (is_name (text_of word line.now.bytes.now))) }
-{
-    let word = line.word_at(at)?;
-    if !is_name(line.text(word)) {
-        return Err(line.fault(word.0, causes::INVALID_NAME));
+impl Model for Variables {
+    ghost use Rattle.std.specs.Prelude.{◌≡◌, List, length};
+    ghost use Rattle.cam_script.specs.SoFar.{Variable};
+    ghost use Rattle.cam_script.specs.VariableTable.{all_named};
+
+    ghost Value = { List Variable };
+
+    ghost view = { λ v. all_named v.names v.bound.items };
+
+    ghost invariant = { λ v. length v.names ≡ length v.bound.items };
+}
+
+impl Variables {
+    /// No variable. It takes no memory.
+    pub fn new(alloc: Global) -> Variables
+        ensures { result ≡ [] }
+    {
+        Variables {
+            names: NameTable::new(alloc),
+            bound: Vec::new(alloc),
+        }
     }
-    if place_of(variables, line.text(word)).is_some() {
-        return Err(line.fault(word.0, causes::DECLARED_AGAIN));
+
+    /// Their names.
+    pub fn names(&self) -> &NameTable
+        ensures { result.now ≡ variable_names self.now }
+    {
+        &self.names
     }
-    Ok(word)
+
+    /// What the variable of this name stands for.
+    fn find(&self, name: &[u8]) -> Option<Bound>
+        ensures { result ≡ option_map bound_of (variable_of self.now name.now) }
+    {
+        let place = self.names.place_of(name)?;
+        self.bound.get(place).copied()
+    }
+
+    /// Adds a variable of this name.
+    pub fn push(&mut self, name: Label, bound: Bound) -> Result<(), NoMemory>
+        ensures ok { OnOk result (self.new ≡ self.old ++ named name bound ∷ []) }
+        ensures err { OnErr result (self.new ≡ self.old) }
+    {
+        self.bound.reserve(1)?;
+        self.names.push(name)?;
+        self.bound.push_reserved(bound);
+        Ok(())
+    }
 }
 
 /// The step of a variable that may be used so, and the place behind its word.
@@ -51,7 +79,7 @@ pub(crate) fn new_variable_at(
 pub(crate) fn variable_at(
     line: &Line,
     at: usize,
-    variables: &[Variable],
+    variables: &Variables,
     used: Use,
     top_commit: bool,
 ) -> Result<(u32, usize), ScriptFault>
@@ -60,15 +88,12 @@ pub(crate) fn variable_at(
     ensures end { IfOk result (λ read. (at ≤ read.1) × (read.1 ≤ length line.now.bytes.now)) }
 {
     let word = line.word_at(at)?;
-    match place_of(variables, line.text(word)) {
+    match variables.find(line.text(word)) {
         None => Err(line.fault(word.0, causes::UNDECLARED)),
-        Some(place) => {
-            let variable = &variables[place];
-            match against(used, variable.binding, top_commit) {
-                None => Ok((variable.step, word.1)),
-                Some(cause) => Err(line.fault(word.0, cause)),
-            }
-        }
+        Some(bound) => match against(used, bound.binding, top_commit) {
+            None => Ok((bound.step, word.1)),
+            Some(cause) => Err(line.fault(word.0, cause)),
+        },
     }
 }
 
@@ -90,17 +115,4 @@ fn against(used: Use, binding: Binding, top_commit: bool) -> Option<u8>
         (Use::Go, _) => Some(causes::MISPLACED),
         (Use::Query, _) => None,
     }
-}
-
-/// The place of a variable among these.
-fn place_of(variables: &[Variable], word: &[u8]) -> Option<usize>
-    ensures value { result ≡ place_of (variable_names variables.now) word.now }
-    ensures within { IfSome result (λ place. place < length variables.now) }
-{
-    for (i, variable) in variables.iter().enumerate() {
-        if variable.name.as_str().as_bytes() == word {
-            return Some(i);
-        }
-    }
-    None
 }
