@@ -1,11 +1,9 @@
 -- Counts that were written as pairs are read again.
-use Rattle.std.proofs.Common.{◌≡◌, inl, inr, ℕ, suc, ◌+◌, ◌-◌, ◌≤◌, true, false, cond, List, [], ◌∷◌, ◌++◌, length, drop, replicate, flat_map, filter, Ok, refl, sym, ap, ◌∙◌, arith, leb, le-leb, lt-ltb, append_assoc, pos_of_ne-zero, slice_set}
+use Rattle.std.proofs.Common.{◌≡◌, inl, inr, ℕ, suc, ◌+◌, ◌-◌, ◌≤◌, true, false, cond, List, [], ◌∷◌, ◌++◌, length, drop, replicate, flat_map, Ok, refl, sym, ap, ◌∙◌, arith, leb, lt-ltb, append_assoc, slice_set}
 use Rattle.std.specs.List.{AllByRecursion}
-use Rattle.std.proofs.lemmas.Bool.{lt-leb}
 use Rattle.std.proofs.lemmas.List.{length-append}
-use Rattle.std.proofs.lemmas.Bool.Decides.{leb_tells, eqb_tells}
-use Rattle.cam_names.specs.Dependencies.{pairs_from as pairs_of_counts}
-use Rattle.cam_bytes.specs.Fields.{number, pair, pairs, pairs_above, deps}
+use Rattle.std.proofs.lemmas.Bool.Decides.{leb_tells}
+use Rattle.cam_bytes.specs.Fields.{number, pair, pairs_above, counts_above, deps}
 use Rattle.cam_bytes.specs.Ranges.{IsFrom, AreCounts, IsDeps}
 use Rattle.cam_bytes.specs.Reading.{pairs_from, pairs_in}
 use Rattle.cam_bytes.proofs.Again.{Reads, reads_then, reads_byte_in, reads_number_in}
@@ -55,31 +53,11 @@ reads_pairs bytes (c ∷ cs) done found out base before node at rest n f o low r
           are.1 stands))))
     ]
 
-pub reads_counts : (bytes cs : List ℕ) (base at : ℕ) (rest : List ℕ) → AreCounts base cs → drop at bytes ≡ pairs (pairs_above base 1 cs) ++ rest → Reads bytes (pairs_in (base + 1) (replicate 8 base) at bytes) cs rest
+pub reads_counts : (bytes cs : List ℕ) (base at : ℕ) (rest : List ℕ) → AreCounts base cs → drop at bytes ≡ counts_above base cs ++ rest → Reads bytes (pairs_in (base + 1) (replicate 8 base) at bytes) cs rest
 unfolding pairs_in
 reads_counts bytes cs base at rest are stands =
     reads_then bytes _ _ _ _ cs rest (reads_byte_in bytes 0 8 at (length (pairs_above base 1 cs)) (flat_map pair (pairs_above base 1 cs) ++ rest) (omega arith, omega (arith, few base 1 cs, are.nodes)) stands) (λ behind stands.
     reads_pairs bytes cs [] (replicate 8 base) cs base 0 1 behind rest refl (ap (λ (n : ℕ). replicate n base) (sym are.nodes)) refl (omega arith) (omega (arith, are.nodes)) are.each stands)
 
--- dependencies are the pairs above 0, the counts of a letter those above 1
-pub deps_written : (node : ℕ) (cs : List ℕ) → pairs_of_counts node cs ≡ pairs_above 0 node cs
-deps_written node [] = refl
-deps_written node (c ∷ cs) =
-    elim (eqb_tells c 0) [
-      | inl y ↦ rw (y.0, le-leb c 0 (omega (arith, y.1))) (deps_written (node + 1) cs)
-      | inr y ↦ rw (y.0, lt-leb c 0 (pos_of_ne-zero y.1)) (ap (λ (ps : List (ℕ × ℕ)). (node, c) ∷ ps) (deps_written (node + 1) cs))
-    ]
-
-pub counts_written : (node : ℕ) (cs : List ℕ) → filter (λ p. leb 2 p.1) (pairs_of_counts node cs) ≡ pairs_above 1 node cs
-counts_written node [] = refl
-counts_written node (c ∷ cs) =
-    elim (eqb_tells c 0) [
-      | inl y ↦ rw (y.0, le-leb c 1 (omega (arith, y.1))) (counts_written (node + 1) cs)
-      | inr y ↦ elim (leb_tells c 1) [
-        | inl z ↦ rw (y.0, z.0, lt-leb 2 c (omega (arith, z.1))) (counts_written (node + 1) cs)
-        | inr z ↦ rw (y.0, z.0, le-leb 2 c (omega (arith, z.1))) (ap (λ (ps : List (ℕ × ℕ)). (node, c) ∷ ps) (counts_written (node + 1) cs))
-      ]
-    ]
-
 pub reads_deps : (bytes cs : List ℕ) (at : ℕ) (rest : List ℕ) → IsDeps cs → drop at bytes ≡ deps cs ++ rest → Reads bytes (pairs_in 1 (replicate 8 0) at bytes) cs rest
-reads_deps bytes cs at rest are stands = reads_counts bytes cs 0 at rest are (stands ∙ ap (λ (ps : List (ℕ × ℕ)). pairs ps ++ rest) (deps_written 1 cs))
+reads_deps bytes cs at rest is stands = reads_counts bytes cs 0 at rest is stands

@@ -1,19 +1,19 @@
 -- Each kind of field is read as it was written.
-use Rattle.std.proofs.Common.{◌≡◌, ℕ, ℤ, ◌+◌, ◌<◌, ◌≤◌, List, [], ◌∷◌, ◌++◌, length, drop, Result, Ok, ap, ◌∙◌, arith, subst, lit<}
+use Rattle.std.proofs.Common.{◌≡◌, ℕ, ℤ, ◌+◌, ◌<◌, ◌≤◌, List, ◌++◌, length, drop, replicate, Result, Ok, ap, ◌∙◌, arith, subst, lit<}
 use Rattle.std.proofs.lemmas.List.{length-drop, length-append}
 use Rattle.cam_names.specs.declared.name.Name.{Name}
 use Rattle.cam_type.specs.declared.Op.{Op}
 use Rattle.cam_type.specs.declared.Op.TheVariants as ops
 use Rattle.cam_bytes.specs.declared.WireFault.{WireFault}
-use Rattle.cam_bytes.specs.Fields.{number, value, name, deps, op}
-use Rattle.cam_bytes.specs.Ranges.{IsBytes, IsNumber, IsValue, IsName, IsDeps, IsOp}
-use Rattle.cam_bytes.specs.Reading.{number_in, value_at, name_at, deps_at, op_at}
-use Rattle.cam_bytes.specs.Laws.{IsField, NumbersAreFields, ValuesAreFields, NamesAreFields, DependenciesAreFields, OperationsAreFields}
-use Rattle.cam_bytes.proofs.Steady.{Within, IsSteady, steady_number_in, steady_value, steady_name_in, steady_pairs_in, steady_op}
-use Rattle.cam_bytes.proofs.Again.{Reads, reads_number_in, reads_value, reads_name, reads_op}
-use Rattle.cam_bytes.proofs.AgainPairs.{reads_deps}
-use Rattle.cam_bytes.proofs.Taken.{took_number_in, took_value, took_name}
-use Rattle.cam_bytes.proofs.TakenPairs.{took_deps}
+use Rattle.cam_bytes.specs.Fields.{number, value, name, counts_above, object, op}
+use Rattle.cam_bytes.specs.Ranges.{IsBytes, IsNumber, IsValue, IsName, IsFamily, AreCounts, IsObject, IsOp}
+use Rattle.cam_bytes.specs.Reading.{counts_above_at, number_in, value_at, name_at, family_at, object_at, op_at}
+use Rattle.cam_bytes.specs.Laws.{IsField, NumbersAreFields, ValuesAreFields, NamesAreFields, FamiliesAreFields, CountsAreFields, DependenciesAreFields, ObjectsAreFields, OperationsAreFields}
+use Rattle.cam_bytes.proofs.Steady.{Within, IsSteady, steady_number_in, steady_value, steady_name_in, steady_pairs_in, steady_object, steady_op}
+use Rattle.cam_bytes.proofs.Again.{Reads, reads_number_in, reads_value, reads_name, reads_family, reads_object, reads_op}
+use Rattle.cam_bytes.proofs.AgainPairs.{reads_counts}
+use Rattle.cam_bytes.proofs.Taken.{took_number_in, took_value, took_name, took_family, took_object}
+use Rattle.cam_bytes.proofs.TakenPairs.{took_counts}
 use Rattle.cam_bytes.proofs.TakenOps.{took_op}
 
 module _ (A : Type 0) (range : A → Type 0) (spelled : A → List ℕ) (read : ℕ → List ℕ → Result (A × ℕ) WireFault) where
@@ -50,11 +50,26 @@ names_are_fields =
     (λ bytes at a rest r stands. reads_name bytes 8 at a rest r r.depth.1 stands)
     (λ bytes at a behind are e. let t = took_name bytes 8 at (a, behind) (omega arith) are e in (t.1, t.0))
 
+pub families_are_fields : FamiliesAreFields
+families_are_fields =
+    is_field Name IsFamily name family_at (steady_name_in 1) (λ f. omega arith)
+    (λ bytes at f rest r stands. reads_family bytes at f rest r stands)
+    (λ bytes at f behind are e. let t = took_family bytes at (f, behind) are e in (t.1, t.0))
+
+pub counts_are_fields : CountsAreFields
+counts_are_fields base low =
+    is_field (List ℕ) (AreCounts base) (counts_above base) (counts_above_at base) (steady_pairs_in (base + 1) (replicate 8 base)) (λ cs. omega arith)
+    (λ bytes at cs rest r stands. reads_counts bytes cs base at rest r stands)
+    (λ bytes at cs behind are e. let t = took_counts bytes base at (cs, behind) low are e in (t.1, t.0))
+
 pub dependencies_are_fields : DependenciesAreFields
-dependencies_are_fields =
-    is_field (List ℕ) IsDeps deps deps_at (steady_pairs_in 1 (0 ∷ 0 ∷ 0 ∷ 0 ∷ 0 ∷ 0 ∷ 0 ∷ 0 ∷ [])) (λ cs. omega arith)
-    (λ bytes at cs rest r stands. reads_deps bytes cs at rest r stands)
-    (λ bytes at cs behind are e. let t = took_deps bytes at (cs, behind) are e in (t.1, t.0))
+dependencies_are_fields = counts_are_fields 0 (omega arith)
+
+pub objects_are_fields : ObjectsAreFields
+objects_are_fields =
+    is_field ℕ IsObject object object_at steady_object (λ x. lit< tt)
+    (λ bytes at x rest r stands. reads_object bytes at x rest r stands)
+    (λ bytes at x behind are e. let t = took_object bytes at (x, behind) e in (t.1, t.0))
 
 some_op : (o : Op) → 0 < length (op o)
 some_op ops.Read = lit< tt

@@ -4,10 +4,10 @@ use Rattle.std.specs.List.{AllByRecursion}
 use Rattle.std.proofs.lemmas.Bool.{lt-leb}
 use Rattle.std.proofs.lemmas.List.{length-append}
 use Rattle.cam_bytes.specs.declared.WireFault.TheVariants.{Order}
-use Rattle.cam_bytes.specs.Fields.{number, pair, pairs, pairs_above, deps}
+use Rattle.cam_bytes.specs.Fields.{number, pair, pairs_above, counts_above, deps}
 use Rattle.cam_bytes.specs.Ranges.{IsBytes, IsFrom, AreCounts, IsDeps}
 use Rattle.cam_bytes.specs.Reading.{byte_in, number_in, pairs_from, pairs_in}
-use Rattle.cam_bytes.proofs.AgainPairs.{put_in, deps_written}
+use Rattle.cam_bytes.proofs.AgainPairs.{put_in}
 use Rattle.cam_bytes.proofs.Taken.{Stands, stands_then, bind_in, ok_is, test_ok, took_byte_in, took_number_in}
 
 split_room : (base gap room n : ℕ) → n ≡ gap + suc room → replicate n base ≡ replicate gap base ++ base ∷ replicate room base
@@ -93,18 +93,16 @@ took_pairs bytes (suc left) base node room before found at x low are place eight
           (stands_then bytes at (pair (m.0, c.0)) c.1 (flat_map pair (pairs_above base (length (passed ++ c.0 ∷ []) + 1) r.counts)) x.1 (stands_then bytes at (m.0 ∷ []) m.1 (number c.0) c.1 a.0 b.0) r.stands);
     }))
 
-pub took_counts : (bytes : List ℕ) (base at : ℕ) (x : List ℕ × ℕ) → base ≤ 1 → IsBytes bytes → pairs_in (base + 1) (replicate 8 base) at bytes ≡ Ok x → Stands bytes at (pairs (pairs_above base 1 x.0)) x.1 × AreCounts base x.0
+pub took_counts : (bytes : List ℕ) (base at : ℕ) (x : List ℕ × ℕ) → base ≤ 1 → IsBytes bytes → pairs_in (base + 1) (replicate 8 base) at bytes ≡ Ok x → Stands bytes at (counts_above base x.0) x.1 × AreCounts base x.0
 unfolding pairs_in
 took_counts bytes base at x low are e =
     bind_in (byte_in 0 8 at bytes) _ x e (λ n found e1.
     let a = took_byte_in bytes 0 8 at n found in
     let r = took_pairs bytes n.0 base 0 8 [] (replicate 8 base) n.1 x low are refl refl refl e1 in
-    subst (λ (cs : List ℕ). Stands bytes at (pairs (pairs_above base 1 cs)) x.1 × AreCounts base cs) (sym r.is) (
+    subst (λ (cs : List ℕ). Stands bytes at (counts_above base cs) x.1 × AreCounts base cs) (sym r.is) (
       stands_then bytes at (length (pairs_above base 1 r.counts) ∷ []) n.1 (flat_map pair (pairs_above base 1 r.counts)) x.1 (subst (λ (k : ℕ). Stands bytes at (k ∷ []) n.1) (sym r.number) a.0) r.stands,
       record { nodes = r.many; each = r.each },
     ))
 
 pub took_deps : (bytes : List ℕ) (at : ℕ) (x : List ℕ × ℕ) → IsBytes bytes → pairs_in 1 (replicate 8 0) at bytes ≡ Ok x → Stands bytes at (deps x.0) x.1 × IsDeps x.0
-took_deps bytes at x are e =
-    let t = took_counts bytes 0 at x (omega arith) are e in
-    (subst (λ (ps : List (ℕ × ℕ)). Stands bytes at (pairs ps) x.1) (sym (deps_written 1 x.0)) t.0, t.1)
+took_deps bytes at x are e = took_counts bytes 0 at x (omega arith) are e

@@ -4,9 +4,9 @@ use Rattle.cam_names.specs.declared.name.Name.{Name}
 use Rattle.cam_type.specs.declared.Op.{Op}
 use Rattle.cam_bytes.specs.declared.WireFault.{WireFault}
 use Rattle.cam_bytes.specs.declared.WireFault.TheVariants.{Short}
-use Rattle.cam_bytes.specs.Fields.{number, value, name, deps, op}
-use Rattle.cam_bytes.specs.Ranges.{IsBytes, IsNumber, IsValue, IsName, IsDeps, IsOp}
-use Rattle.cam_bytes.specs.Reading.{number_in, value_at, name_at, deps_at, op_at}
+use Rattle.cam_bytes.specs.Fields.{number, value, name, counts_above, deps, object, op}
+use Rattle.cam_bytes.specs.Ranges.{IsBytes, IsNumber, IsValue, IsName, IsFamily, AreCounts, IsDeps, IsObject, IsOp}
+use Rattle.cam_bytes.specs.Reading.{number_in, value_at, name_at, family_at, counts_above_at, deps_at, object_at, op_at}
 
 -- a kind of field: its values in their ranges, how one is spelled, how one is read at a place
 pub record IsField (A : Type 0) (range : A → Type 0) (spelled : A → List ℕ) (read : ℕ → List ℕ → Result (A × ℕ) WireFault) : Type 0 where
@@ -26,8 +26,18 @@ ValuesAreFields = IsField ℤ IsValue value value_at
 abbrev pub NamesAreFields : Type 0
 NamesAreFields = IsField Name IsName name name_at
 
+abbrev pub FamiliesAreFields : Type 0
+FamiliesAreFields = IsField Name IsFamily name family_at
+
+-- counts of which those at a base, 0 or 1, are not written
+abbrev pub CountsAreFields : Type 0
+CountsAreFields = (base : ℕ) → base ≤ 1 → IsField (List ℕ) (AreCounts base) (counts_above base) (counts_above_at base)
+
 abbrev pub DependenciesAreFields : Type 0
 DependenciesAreFields = IsField (List ℕ) IsDeps deps deps_at
+
+abbrev pub ObjectsAreFields : Type 0
+ObjectsAreFields = IsField ℕ IsObject object object_at
 
 abbrev pub OperationsAreFields : Type 0
 OperationsAreFields = IsField Op IsOp op op_at

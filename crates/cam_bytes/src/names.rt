@@ -1,7 +1,7 @@
 // Names of actions: the number of parts, then each part.
 ghost use Rattle.std.specs.Prelude.{◌≡◌, ◌+◌, ◌<◌, ◌≤◌, ◌++◌, length, IfOk, OnOk};
 ghost use Rattle.cam_bytes.specs.Fields.{part as bytes_of_part, name as bytes_of_name};
-ghost use Rattle.cam_bytes.specs.Ranges.{IsPartInRange, IsName};
+ghost use Rattle.cam_bytes.specs.Ranges.{IsPartInRange, IsName, IsFamily};
 ghost use Rattle.cam_bytes.specs.Reading.{part_at, parts_from, name_in, name_at, family_at};
 
 use crate::WireFault;
@@ -92,4 +92,13 @@ pub fn write_name(out: Vec<u8>, name: &Name) -> Result<Vec<u8>, NoMemory>
         out = write_part(out, part)?;
     }
     Ok(out)
+}
+
+/// The name of a family, written behind what was written. It requires that the name has one part. Fails only where memory runs out.
+pub fn write_family(out: Vec<u8>, family: &Name) -> Result<Vec<u8>, NoMemory>
+    requires { length family.now ≡ 1 }
+    ensures ok { IfOk result (λ text. text.items ≡ out.items ++ bytes_of_name family.now) }
+    ensures range { OnOk result (IsFamily family.now) }
+{
+    write_name(out, family)
 }

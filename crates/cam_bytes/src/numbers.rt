@@ -3,7 +3,7 @@ ghost use Rattle.std.specs.Prelude.{◌≡◌, ◌<◌, ◌≤◌, ◌++◌, ◌
 ghost use Rattle.std.specs.Int.{w32, w64, from_be_bytes, cast_signed};
 ghost use Rattle.cam_bytes.specs.Fields.{number, value};
 ghost use Rattle.cam_bytes.specs.Ranges.{IsFrom};
-ghost use Rattle.cam_bytes.specs.Reading.{byte_at, number_at, long_at, value_at, byte_in, number_in};
+ghost use Rattle.cam_bytes.specs.Reading.{byte_at, number_at, value_at, byte_in, number_in};
 
 use crate::WireFault;
 use cam_base::NoMemory;
@@ -49,19 +49,6 @@ pub fn number_at(bytes: &[u8], at: usize) -> Result<(u32, usize), WireFault>
         return Err(WireFault::Short(bytes.len() as u64));
     }
     Ok((four(&bytes[at..]), at + 4))
-}
-
-/// The number of eight bytes at a place, and the place behind it. `Short` where fewer are there.
-#[tactic(auto, unfolding(crate::specs::Reading::long_at))]
-pub fn long_at(bytes: &[u8], at: usize) -> Result<(u64, usize), WireFault>
-    requires { at ≤ length bytes.now }
-    ensures value { result ≡ long_at at bytes.now }
-    ensures end { IfOk result (λ read. (at < read.1) × (read.1 ≤ length bytes.now)) }
-{
-    if bytes.len() - at < 8 {
-        return Err(WireFault::Short(bytes.len() as u64));
-    }
-    Ok((eight(&bytes[at..]), at + 8))
 }
 
 /// The value of eight bytes, in two's complement, at a place, and the place behind it. `Short` where fewer are there.

@@ -1,8 +1,8 @@
 // Counts of nodes as pairs: the number of pairs, then each node with its count, the nodes rising.
 ghost use Rattle.std.specs.Prelude.{◌≡◌, ◌+◌, ◌<◌, ◌≤◌, ◌++◌, length, replicate, IfOk};
-ghost use Rattle.cam_bytes.specs.Fields.{pair, pairs, pairs_above, deps as bytes_of_deps};
+ghost use Rattle.cam_bytes.specs.Fields.{pair, pairs_above, counts_above, deps as bytes_of_deps};
 ghost use Rattle.cam_bytes.specs.Ranges.{IsDeps};
-ghost use Rattle.cam_bytes.specs.Reading.{pairs_from, pairs_in, deps_at};
+ghost use Rattle.cam_bytes.specs.Reading.{pairs_from, pairs_in, counts_above_at, deps_at};
 
 use crate::WireFault;
 use crate::numbers::{byte_in, number_in, write_byte, write_number};
@@ -37,11 +37,8 @@ fn pairs_from(
 }
 
 /// The counts with the pairs that stand at a place put in, each count at least `least`, and the place behind them.
-///
-/// `Short` where a field is not whole; `BadNumber` at the first byte of a number of pairs, a node or a count out of its range; `Order` at a
-/// node that is not above the one before.
 #[tactic(auto, unfolding(crate::specs::Reading::pairs_in))]
-pub fn pairs_in(
+fn pairs_in(
     bytes: &[u8],
     at: usize,
     least: u32,
@@ -55,13 +52,26 @@ pub fn pairs_in(
     pairs_from(bytes, at, number, least, 0, counts)
 }
 
-/// Dependencies at a place, and the place behind them. `Short`, `BadNumber` and `Order` as `pairs_in`, with counts of at least 1.
+/// The counts above `base`, 0 or 1, that stand at a place, with `base` for each that is not written, and the place behind them.
+///
+/// `Short` where a field is not whole; `BadNumber` at the first byte of a number of pairs, a node or a count out of its range; `Order` at a
+/// node that is not above the one before.
+pub fn counts_above_at(bytes: &[u8], at: usize, base: u32) -> Result<([u32; 8], usize), WireFault>
+    requires place { at ≤ length bytes.now }
+    requires base { base ≤ 1 }
+    ensures value { result ≡ counts_above_at base at bytes.now }
+    ensures end { IfOk result (λ read. (at < read.1) × (read.1 ≤ length bytes.now)) }
+{
+    pairs_in(bytes, at, base + 1, [base; 8])
+}
+
+/// Dependencies at a place, and the place behind them. `Short`, `BadNumber` and `Order` as `counts_above_at`.
 pub fn deps_at(bytes: &[u8], at: usize) -> Result<(Deps, usize), WireFault>
     requires { at ≤ length bytes.now }
     ensures value { result ≡ deps_at at bytes.now }
     ensures end { IfOk result (λ read. (at < read.1) × (read.1 ≤ length bytes.now)) }
 {
-    let (counts, at) = pairs_in(bytes, at, 1, [0; 8])?;
+    let (counts, at) = counts_above_at(bytes, at, 0)?;
     Ok((Deps::of(&counts), at))
 }
 
@@ -85,9 +95,9 @@ fn number_above(counts: &[u32; 8], base: u32) -> u8
     number
 }
 
-/// The counts above `base` as pairs, written behind what was written. Fails only where memory runs out.
-pub fn write_pairs(out: Vec<u8>, counts: &[u32; 8], base: u32) -> Result<Vec<u8>, NoMemory>
-    ensures { IfOk result (λ text. text.items ≡ out.items ++ pairs (pairs_above base 1 counts.now)) }
+/// The counts above `base`, written behind what was written. Fails only where memory runs out.
+pub fn write_counts_above(out: Vec<u8>, counts: &[u32; 8], base: u32) -> Result<Vec<u8>, NoMemory>
+    ensures { IfOk result (λ text. text.items ≡ out.items ++ counts_above base counts.now) }
 {
     let mut out = write_byte(out, number_above(counts, base))?;
     for node in 0..8 {
@@ -103,5 +113,5 @@ pub fn write_deps(out: Vec<u8>, deps: &Deps) -> Result<Vec<u8>, NoMemory>
     ensures ok { IfOk result (λ text. text.items ≡ out.items ++ bytes_of_deps deps.now) }
     ensures range { IsDeps deps.now }
 {
-    write_pairs(out, &deps.counts(), 0)
+    write_counts_above(out, &deps.counts(), 0)
 }

@@ -1,5 +1,8 @@
-use crate::{WireFault, deps_at, family_at, name_at, op_at, write_deps, write_name, write_op};
-use cam_names::{Deps, Name};
+use crate::{
+    WireFault, counts_above_at, deps_at, family_at, name_at, object_at, op_at, write_counts_above,
+    write_deps, write_family, write_name, write_object, write_op,
+};
+use cam_names::{Deps, Name, Part};
 use cam_type::Op;
 use std::test::Fail;
 
@@ -23,6 +26,23 @@ fn fields_are_written_as_they_are_read(rt: HostRuntime) -> Result<(), Fail> {
     let swap = [3, 0xFF, 0xFF, 0xFF, 0xFF, 0xFF, 0xFF, 0xFF, 0xFE];
     assert_eq!(rt; &out[21..], swap.as_slice());
     assert_eq!(rt; op_at(&out, 21), Ok((Op::Swap(-2), 30)));
+    Ok(())
+}
+
+#[test]
+fn families_objects_and_counts_are_written_as_they_are_read(rt: HostRuntime) -> Result<(), Fail> {
+    let family = Name::top(Part::new(1, 2, 3).ok_or("no part")?);
+    let out = write_family(Vec::new(rt.alloc()), &family)?;
+    assert_eq!(rt; out.as_slice(), NAME.as_slice());
+    assert_eq!(rt; family_at(&out, 0), Ok((family, 10)));
+    let out = write_object(out, 63)?;
+    assert_eq!(rt; &out[10..], [63].as_slice());
+    assert_eq!(rt; object_at(&out, 10), Ok((63, 11)));
+    let counts = [1, 3, 1, 1, 1, 1, 1, 2];
+    let out = write_counts_above(out, &counts, 1)?;
+    let pairs = [2, 2, 0, 0, 0, 3, 8, 0, 0, 0, 2];
+    assert_eq!(rt; &out[11..], pairs.as_slice());
+    assert_eq!(rt; counts_above_at(&out, 11, 1), Ok((counts, 22)));
     Ok(())
 }
 
@@ -56,6 +76,8 @@ fn the_first_fault_counts(rt: HostRuntime) {
     assert_eq!(rt; family_at(&[2, 1], 0), Err(WireFault::BadNumber(0)));
     assert_eq!(rt; name_at(&NAME[..8], 0), Err(WireFault::Short(8)));
     assert_eq!(rt; op_at(&[7], 0), Err(WireFault::BadTag(0)));
+    assert_eq!(rt; object_at(&[64], 0), Err(WireFault::BadNumber(0)));
+    assert_eq!(rt; object_at(&[], 0), Err(WireFault::Short(0)));
     let same = [2, 3, 0, 0, 0, 1, 3, 0, 0, 0, 2];
     assert_eq!(rt; deps_at(&same, 0), Err(WireFault::Order(6)));
     assert_eq!(rt;

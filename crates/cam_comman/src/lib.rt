@@ -30,8 +30,7 @@ pub fn send(know: &Know, from: u8, count: u32, to: u8, body: Body) -> Result<Let
 }
 
 /// Joins what the letter knows to what is known, and answers the news: what is known now and was not
-/// before, with all counts. At want of memory nothing changes. Each outcome of the letter is looked up in a
-/// tree.
+/// before, with all counts. At want of memory nothing changes. Each outcome of the letter is looked up once.
 pub fn arrive(know: &mut Know, letter: &Letter) -> Result<Know, NoMemory>
     ensures known { OnOk result (know.new ≡ both know.old letter.now.know) }
     ensures news { IfOk result (λ fresh. fresh ≡ news know.new know.old) }

@@ -3,8 +3,8 @@ use Rattle.std.proofs.Common.{◌≡◌, ℕ, zero, suc, ◌<◌, ◌≤◌, lt-
 use Rattle.std.specs.List.{AllByRecursion}
 use Rattle.std.proofs.lemmas.List.{length-drop, length-append}
 use Rattle.cam_type.specs.declared.HeldOp.{HeldOp}
-use Rattle.cam_bytes.specs.Fields.{number, name, deps, op}
-use Rattle.cam_bytes.proofs.Again.{Reads, reads_ok, reads_then, reads_byte, reads_byte_in, reads_number, reads_number_in, reads_name, reads_op}
+use Rattle.cam_bytes.specs.Fields.{number, name, deps, object, op}
+use Rattle.cam_bytes.proofs.Again.{Reads, reads_ok, reads_then, reads_byte, reads_byte_in, reads_number, reads_number_in, reads_name, reads_family, reads_object, reads_op}
 use Rattle.cam_bytes.proofs.AgainPairs.{reads_deps}
 use Rattle.cam_recman.specs.declared.Record.{Record}
 use Rattle.cam_recman.specs.declared.Record.TheVariants.{Count, Abort, Commit, Seen, Secure}
@@ -15,8 +15,8 @@ use Rattle.cam_recman.specs.Ranges.{IsHeldOp, IsRecord, AreRecords}
 reads_held_op : (bytes : List ℕ) (at : ℕ) (o : HeldOp) (rest : List ℕ) → IsHeldOp o → drop at bytes ≡ held_op o ++ rest → Reads bytes (held_op_at at bytes) o rest
 unfolding held_op_at
 reads_held_op bytes at o rest is stands =
-    reads_then bytes _ _ _ _ o rest (reads_number_in bytes 0 999999999 at o.index (o.object ∷ (op o.op ++ rest)) (omega arith, is.index) (omega arith) stands) (λ behind stands.
-    reads_then bytes _ _ _ _ o rest (reads_byte_in bytes 0 63 behind o.object (op o.op ++ rest) (omega arith, is.object) stands) (λ behind stands.
+    reads_then bytes _ _ _ _ o rest (reads_number_in bytes 0 999999999 at o.index (object o.object ++ (op o.op ++ rest)) (omega arith, is.index) (omega arith) stands) (λ behind stands.
+    reads_then bytes _ _ _ _ o rest (reads_object bytes behind o.object (op o.op ++ rest) is.object stands) (λ behind stands.
     reads_then bytes _ _ _ _ o rest (reads_op bytes behind o.op rest is.op stands) (λ behind stands.
     reads_ok bytes rest o behind stands)))
 
@@ -57,7 +57,7 @@ reads_record bytes at (Secure held) rest is stands =
     let ops = flat_map held_op held.ops in
     let split : drop at bytes ≡ 5 ∷ (name held.family ++ (number held.count ++ (number (length held.ops) ++ (ops ++ rest)))) = stands ∙ simp append_assoc in
     reads_then bytes _ _ _ _ (Secure held) rest (reads_byte bytes at 5 _ split) (λ behind stands.
-    reads_then bytes _ _ _ _ (Secure held) rest (reads_name bytes 1 behind held.family (number held.count ++ (number (length held.ops) ++ (ops ++ rest))) is.family.name (omega (arith, is.family.top)) stands) (λ behind stands.
+    reads_then bytes _ _ _ _ (Secure held) rest (reads_family bytes behind held.family (number held.count ++ (number (length held.ops) ++ (ops ++ rest))) is.family stands) (λ behind stands.
     reads_then bytes _ _ _ _ (Secure held) rest (reads_number_in bytes 1 1000000000 behind held.count (number (length held.ops) ++ (ops ++ rest)) is.count (omega arith) stands) (λ behind stands.
     reads_then bytes _ _ _ _ (Secure held) rest (reads_all_held_ops bytes behind held.ops rest is.number is.ops stands) (λ behind stands.
     reads_ok bytes rest (Secure held) behind stands))))

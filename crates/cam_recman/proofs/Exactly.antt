@@ -6,10 +6,10 @@ use Rattle.std.proofs.lemmas.List.{length-append}
 use Rattle.cam_type.specs.declared.HeldOp.{HeldOp}
 use Rattle.cam_bytes.specs.declared.WireFault.{WireFault}
 use Rattle.cam_bytes.specs.declared.WireFault.TheVariants.{BadTag}
-use Rattle.cam_bytes.specs.Fields.{number, name, deps, op}
+use Rattle.cam_bytes.specs.Fields.{number, name, deps, object, op}
 use Rattle.cam_bytes.specs.Ranges.{IsBytes}
-use Rattle.cam_bytes.specs.Reading.{◌>>=◌, byte_at, number_at, byte_in, number_in, name_in, pairs_in, op_at}
-use Rattle.cam_bytes.proofs.Taken.{Stands, stands_then, bind_in, done, ok_is, took_byte, took_number, took_byte_in, took_number_in, took_name}
+use Rattle.cam_bytes.specs.Reading.{◌>>=◌, byte_at, number_at, byte_in, number_in, name_in, family_at, pairs_in, object_at, op_at}
+use Rattle.cam_bytes.proofs.Taken.{Stands, stands_then, bind_in, done, ok_is, took_byte, took_number, took_byte_in, took_number_in, took_name, took_family, took_object}
 use Rattle.cam_bytes.proofs.TakenPairs.{took_deps}
 use Rattle.cam_bytes.proofs.TakenOps.{took_op}
 use Rattle.cam_recman.specs.declared.Record.{Record}
@@ -59,15 +59,15 @@ took_held_op : (bytes : List ℕ) (at : ℕ) (x : HeldOp × ℕ) → IsBytes byt
 unfolding held_op_at
 took_held_op bytes at x are e =
     bind_in (number_in 0 999999999 at bytes) _ x e (λ i f e1.
-    bind_in (byte_in 0 63 i.1 bytes) _ x e1 (λ o f1 e2.
+    bind_in (object_at i.1 bytes) _ x e1 (λ o f1 e2.
     bind_in (op_at o.1 bytes) _ x e2 (λ p f2 e3.
     let t = took_number_in bytes 0 999999999 at i are f in
-    let t1 = took_byte_in bytes 0 63 i.1 o f1 in
+    let t1 = took_object bytes i.1 o f1 in
     let t2 = took_op bytes o.1 p are f2 in
     let one : HeldOp = record { index = i.0; object = o.0; op = p.0 } in
     subst (λ (q : HeldOp × ℕ). Stands bytes at (held_op q.0) q.1 × IsHeldOp q.0) (ok_is (one, p.1) x e3) (
-      stands_then bytes at (number i.0) i.1 (o.0 ∷ op p.0) p.1 t.0 (stands_then bytes i.1 (o.0 ∷ []) o.1 (op p.0) p.1 t1.0 t2.0),
-      record { index = t.1.1; object = t1.1.1; op = t2.1 },
+      stands_then bytes at (number i.0) i.1 (object o.0 ++ op p.0) p.1 t.0 (stands_then bytes i.1 (object o.0) o.1 (op p.0) p.1 t1.0 t2.0),
+      record { index = t.1.1; object = t1.1; op = t2.1 },
     ))))
 
 record TookOps (bytes : List ℕ) (at left : ℕ) (found : List HeldOp) (x : List HeldOp × ℕ) : Type 0 where
@@ -96,11 +96,11 @@ took_ops bytes (suc left) found at x are e =
 took_secure : (bytes : List ℕ) (at behind : ℕ) (x : Record × ℕ) → IsBytes bytes → Stands bytes at (5 ∷ []) behind → secure_record behind bytes ≡ Ok x → TookRecord bytes at x
 unfolding secure_record held_ops_at
 took_secure bytes at behind x are s e =
-    bind_in (name_in 1 behind bytes) _ x e (λ a f e1.
+    bind_in (family_at behind bytes) _ x e (λ a f e1.
     bind_in (number_in 1 1000000000 a.1 bytes) _ x e1 (λ c f1 e2.
     bind_in (held_ops_at c.1 bytes) _ x e2 (λ os g e4.
     bind_in (number_at c.1 bytes) _ os g (λ n f2 f3.
-    let t = took_name bytes 1 behind a (omega arith) are f in
+    let t = took_family bytes behind a are f in
     let t1 = took_number_in bytes 1 1000000000 a.1 c are f1 in
     let t2 = took_number bytes c.1 n are f2 in
     let r = took_ops bytes n.0 [] n.1 os are f3 in
@@ -112,7 +112,7 @@ took_secure bytes at behind x are s e =
     subst (λ (p : Record × ℕ). TookRecord bytes at p) (ok_is (Secure (record { family = a.0; count = c.0; ops = os.0 }), os.1) x e4) (
       s4,
       record {
-        family = record { name = t.1; top = omega (arith, t.1.depth.0, t.2) };
+        family = t.1;
         count = t1.1;
         number = omega (arith, many, t2.1);
         ops = subst (λ (xs : List HeldOp). AllByRecursion IsHeldOp xs) (sym r.is) r.range;

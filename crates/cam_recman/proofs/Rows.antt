@@ -14,7 +14,7 @@ use Rattle.cam_recman.specs.Records.{entry_bytes}
 use Rattle.cam_recman.specs.Reading.{count_record, abort_record, commit_record, seen_record, held_op_at, held_ops_from, held_ops_at, secure_record, record_of, record_at, records_from, read_entry}
 use Rattle.cam_recman.specs.Recovery.{recover_from, recover}
 use Rattle.cam_recman.specs.Inspect.{inspect_from, inspect_text}
-use Rattle.cam_bytes.specs.Reading.{number_at, long_at, value_at, byte_in, number_in, part_at, parts_from, name_in, pairs_from, pairs_in, op_of, op_at}
+use Rattle.cam_bytes.specs.Reading.{number_at, value_at, byte_in, number_in, part_at, parts_from, name_in, pairs_from, pairs_in, op_of, op_at}
 
 abbrev count : List ℕ
 count = 1 ∷ 0 ∷ 0 ∷ 0 ∷ 2 ∷ []
@@ -55,7 +55,7 @@ pub record Rows : Type 0 where
 
 -- each by computing
 pub rows : Rows
-unfolding number_at long_at value_at byte_in number_in part_at parts_from name_in pairs_from pairs_in op_of op_at count_record abort_record commit_record seen_record held_op_at held_ops_from held_ops_at secure_record record_of record_at records_from recover_from inspect_from digits
+unfolding number_at value_at byte_in number_in part_at parts_from name_in pairs_from pairs_in op_of op_at count_record abort_record commit_record seen_record held_op_at held_ops_from held_ops_at secure_record record_of record_at records_from recover_from inspect_from digits
 rows = record {
   count_is_written = refl;
   count_is_read = refl;

@@ -3,14 +3,14 @@ use Rattle.std.specs.Prelude.{◌≡◌, ℕ, ◌<◌, ◌≤◌, List, length}
 use Rattle.std.specs.List.{AllByRecursion}
 use Rattle.cam_type.specs.declared.Held.{Held}
 use Rattle.cam_type.specs.declared.HeldOp.{HeldOp}
-use Rattle.cam_bytes.specs.Ranges.{IsFrom, IsNumber, IsName, IsFamily, IsDeps, IsOp}
+use Rattle.cam_bytes.specs.Ranges.{IsFrom, IsNumber, IsName, IsFamily, IsDeps, IsObject, IsOp}
 use Rattle.cam_recman.specs.declared.Record.{Record}
 use Rattle.cam_recman.specs.declared.Record.TheVariants.{Count, Abort, Commit, Seen, Secure}
 use Rattle.cam_recman.specs.Records.{entry_bytes}
 
 pub record IsHeldOp (o : HeldOp) : Type 0 where
   pub index : o.index ≤ 999999999
-  pub object : o.object ≤ 63
+  pub object : IsObject o.object
   pub op : IsOp o.op
 
 pub record IsHeld (held : Held) : Type 0 where

@@ -6,7 +6,7 @@ use Rattle.std.specs.Prelude.{ℕ, ◌==◌, nat_lt, zero, suc, List, [], ◌∷
 use Rattle.cam_type.specs.declared.HeldOp.{HeldOp}
 use Rattle.cam_bytes.specs.declared.WireFault.{WireFault}
 use Rattle.cam_bytes.specs.declared.WireFault.TheVariants.{Short, BadTag, BadNumber, Order, Rest, NoMemory as OutOfMemory}
-use Rattle.cam_bytes.specs.Reading.{◌>>=◌, byte_at, number_at, byte_in, number_in, name_at, family_at, deps_at, op_at}
+use Rattle.cam_bytes.specs.Reading.{◌>>=◌, byte_at, number_at, byte_in, number_in, name_at, family_at, deps_at, object_at, op_at}
 use Rattle.cam_recman.specs.declared.Record.{Record}
 use Rattle.cam_recman.specs.declared.Record.TheVariants.{Count, Abort, Commit, Seen, Secure}
 use Rattle.cam_recman.specs.declared.RecFault.{RecFault}
@@ -39,7 +39,7 @@ seen_record at bytes = do
 unfoldable pub held_op_at : ℕ → List ℕ → Result (HeldOp × ℕ) WireFault
 held_op_at at bytes = do
   index ← number_in 0 999999999 at bytes
-  object ← byte_in 0 63 index.1 bytes
+  object ← object_at index.1 bytes
   op ← op_at object.1 bytes
   Ok (record { index = index.0; object = object.0; op = op.0 }, op.1)
 

@@ -2,12 +2,12 @@
 use Rattle.std.specs.Prelude.{◌≡◌, ◌≤◌, length, All}
 use Rattle.cam_type.specs.declared.Held.{Held}
 use Rattle.cam_type.specs.declared.HeldOp.{HeldOp}
-use Rattle.cam_bytes.specs.Ranges.{IsFrom, IsNumber}
+use Rattle.cam_bytes.specs.Ranges.{IsFrom, IsNumber, IsObject}
 use Rattle.cam_recman.specs.declared.Record.{Record}
 use Rattle.cam_recman.specs.declared.Record.TheVariants.{Count, Abort, Commit, Seen, Secure}
 
 abbrev pub IsWritableOp : HeldOp → Type 0
-IsWritableOp o = (o.index ≤ 999999999) × (o.object ≤ 63)
+IsWritableOp o = (o.index ≤ 999999999) × IsObject o.object
 
 pub record IsWritableHeld (held : Held) : Type 0 where
   pub top : length held.family ≡ 1

@@ -1,7 +1,7 @@
 //! What a node forces to its log, as records, and what it knows again after a restart.
 //!
-//! An entry of the log is a list of records, one behind another. All numbers are big-endian; number, name, dependencies and operation
-//! are the fields of `cam_bytes`.
+//! An entry of the log is a list of records, one behind another. All numbers are big-endian; number, name, family, dependencies,
+//! object and operation are the fields of `cam_bytes`.
 //!
 //! | Tag | Record | Fields |
 //! |---|---|---|
@@ -9,7 +9,7 @@
 //! | 2 | Abort | name |
 //! | 3 | Commit | name, dependencies |
 //! | 4 | Seen | node (one byte), its count (number, 2 or more) |
-//! | 5 | Secure | family (name of one part), count (number), how many operations (four bytes), then of each its index (four bytes, 0 to 999,999,999), object (one byte, 0 to 63) and operation |
+//! | 5 | Secure | family, count (number), how many operations (four bytes), then of each its index (four bytes, 0 to 999,999,999), object and operation |
 //!
 //! Recovered are the last count, every outcome, of each node the greatest count, and what each secured family holds, and nothing else.
 //! One more entry adds what its records say, and nothing else.

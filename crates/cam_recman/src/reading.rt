@@ -5,27 +5,25 @@ ghost use Rattle.cam_recman.specs.Reading.{count_record, abort_record, commit_re
 
 use crate::{Record, Records};
 use cam_bytes::{
-    WireFault, byte_at, byte_in, deps_at, family_at, name_at, number_at, number_in, op_at,
+    WireFault, byte_at, byte_in, deps_at, family_at, name_at, number_at, number_in, object_at,
+    op_at,
 };
 use cam_names::Part;
 use cam_type::{Held, HeldOp, HeldOps};
 use std::alloc::Global;
 
-pub const COUNT: u8 = 1;
+pub(crate) const COUNT: u8 = 1;
 
-pub const ABORT: u8 = 2;
+pub(crate) const ABORT: u8 = 2;
 
-pub const COMMIT: u8 = 3;
+pub(crate) const COMMIT: u8 = 3;
 
-pub const SEEN: u8 = 4;
+pub(crate) const SEEN: u8 = 4;
 
-pub const SECURE: u8 = 5;
+pub(crate) const SECURE: u8 = 5;
 
 /// The greatest index of an operation.
 const LAST_INDEX: u32 = 999_999_999;
-
-/// The greatest place of an object.
-const LAST_OBJECT: u8 = 63;
 
 /// The field of a Count, and the place behind it.
 #[tactic(auto, unfolding(crate::specs::Reading::count_record))]
@@ -85,7 +83,7 @@ fn held_op_at(bytes: &[u8], at: usize) -> Result<(HeldOp, usize), WireFault>
     ensures end { IfOk result (λ read. (at ≤ read.1) × (read.1 ≤ length bytes.now)) }
 {
     let (index, at) = number_in(bytes, at, 0, LAST_INDEX)?;
-    let (object, at) = byte_in(bytes, at, 0, LAST_OBJECT)?;
+    let (object, at) = object_at(bytes, at)?;
     let (op, at) = op_at(bytes, at)?;
     let held = HeldOp { index, object, op };
     Ok((held, at))

@@ -10,7 +10,10 @@ ghost use Rattle.cam_recman.specs.Reading.{read_entry};
 use crate::reading::{ABORT, COMMIT, COUNT, SECURE, SEEN};
 use crate::{Record, Records};
 use cam_base::NoMemory;
-use cam_bytes::{write_byte, write_deps, write_length, write_name, write_number, write_op};
+use cam_bytes::{
+    write_byte, write_deps, write_family, write_length, write_name, write_number, write_object,
+    write_op,
+};
 use cam_type::{HeldOp, HeldOps};
 use std::alloc::Global;
 
@@ -21,7 +24,7 @@ fn write_held_op(out: Vec<u8>, held: &HeldOp) -> Result<Vec<u8>, NoMemory>
     ensures range { OnOk result (IsHeldOp held.now) }
 {
     let out = write_number(out, held.index)?;
-    let out = write_byte(out, held.object)?;
+    let out = write_object(out, held.object)?;
     write_op(out, &held.op)
 }
 
@@ -75,7 +78,7 @@ fn write_record(out: Vec<u8>, record: &Record) -> Result<Vec<u8>, NoMemory>
         }
         Record::Secure(held) => {
             let out = write_byte(out, SECURE)?;
-            let out = write_name(out, &held.family)?;
+            let out = write_family(out, &held.family)?;
             let out = write_number(out, held.count)?;
             write_held_ops(out, &held.ops)
         }

@@ -8,7 +8,7 @@ use Rattle.cam_know.specs.declared.Outcome.{Outcome}
 use Rattle.cam_know.specs.declared.Outcome.TheVariants.{Aborted, Committed}
 use Rattle.cam_know.specs.Known.{outcome_eq, is_commit_of, aborted_name}
 use Rattle.cam_wire.specs.Reading.{outcomes_of}
-use Rattle.cam_wire.specs.OfTrace.{committed_pair, put_commit, sorted_commits}
+use Rattle.cam_wire.specs.Spelling.{committed_pair, put_commit, sorted_commits}
 use Rattle.cam_wire.proofs.Again.{names_of}
 use Rattle.cam_wire.proofs.Unique.{commit_eq}
 

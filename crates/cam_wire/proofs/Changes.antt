@@ -5,7 +5,7 @@ use Rattle.cam_event.specs.declared.Letter.{Letter}
 use Rattle.cam_bytes.specs.declared.WireFault.{WireFault}
 use Rattle.cam_bytes.specs.declared.WireFault.TheVariants.{Short, BadTag, BadNumber, Order}
 use Rattle.cam_wire.specs.Reading.{version_at, aborts_from, aborts_at, commits_from, commits_at, letter_at, read_letter}
-use Rattle.cam_bytes.specs.Reading.{number_at, long_at, value_at, byte_in, number_in, part_at, parts_from, name_in, pairs_from, pairs_in, op_of, op_at}
+use Rattle.cam_bytes.specs.Reading.{number_at, value_at, byte_in, number_in, part_at, parts_from, name_in, pairs_from, pairs_in, op_of, op_at}
 use Rattle.cam_wire.specs.ReadingBodies.{start_at, call_at, reply_of, reply_at, answer_at, finish_at, quit_at, prepare_at, vote_at, query_at, body_of, body_at}
 
 -- a Quit of 1.1.2 from node 2 at count 3 to node 1; node 4 is known at count 2, 1.1.1 and 1.1.2 aborted, 2.3.1 committed
@@ -25,7 +25,7 @@ abbrev changed : ℕ → Option WireFault
 changed i = fault_of (read_letter (slice_set quit i (get_or quit i 0 + 64)))
 
 pub beginnings_are_short : map beginning (range_with_len 0 73) ≡ map (λ n. Some (Short n)) (range_with_len 0 73)
-unfolding number_at long_at value_at byte_in number_in part_at parts_from name_in pairs_from pairs_in op_of op_at start_at call_at reply_of reply_at answer_at finish_at quit_at prepare_at vote_at query_at body_of body_at version_at aborts_from aborts_at commits_from commits_at letter_at read_letter
+unfolding number_at value_at byte_in number_in part_at parts_from name_in pairs_from pairs_in op_of op_at start_at call_at reply_of reply_at answer_at finish_at quit_at prepare_at vote_at query_at body_of body_at version_at aborts_from aborts_at commits_from commits_at letter_at read_letter
 beginnings_are_short = refl
 
 pub changed_bytes : map changed (range_with_len 0 73) ≡
@@ -42,5 +42,5 @@ pub changed_bytes : map changed (range_with_len 0 73) ≡
     None ∷ None ∷ Some (BadTag 62) ∷ Some (BadNumber 63) ∷ Some (BadNumber 64) ∷ Some (BadNumber 65) ∷
     None ∷ None ∷ None ∷ Some (BadNumber 69) ∷ None ∷ None ∷
     None ∷ []
-unfolding number_at long_at value_at byte_in number_in part_at parts_from name_in pairs_from pairs_in op_of op_at start_at call_at reply_of reply_at answer_at finish_at quit_at prepare_at vote_at query_at body_of body_at version_at aborts_from aborts_at commits_from commits_at letter_at read_letter
+unfolding number_at value_at byte_in number_in part_at parts_from name_in pairs_from pairs_in op_of op_at start_at call_at reply_of reply_at answer_at finish_at quit_at prepare_at vote_at query_at body_of body_at version_at aborts_from aborts_at commits_from commits_at letter_at read_letter
 changed_bytes = refl

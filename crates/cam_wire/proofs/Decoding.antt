@@ -1,5 +1,5 @@
 -- What a fault, or a letter, that was read says of spellings.
-use Rattle.std.proofs.Common.{◌≡◌, ◌⊎◌, inl, inr, ℕ, zero, suc, ◌<◌, ◌≤◌, eqb, false, eq-eqb, List, [], ◌++◌, length, Result, Ok, Err, refl, sym, ◌∙◌, arith, subst}
+use Rattle.std.proofs.Common.{◌≡◌, ◌⊎◌, inl, inr, ℕ, zero, ◌<◌, eqb, false, eq-eqb, List, [], ◌++◌, length, Result, Ok, Err, refl, sym, ◌∙◌, subst}
 use Rattle.std.proofs.lemmas.Bool.{cases_Bool, eqb-true}
 use Rattle.cam_names.specs.declared.name.Name.{Name}
 use Rattle.cam_event.specs.declared.Letter.{Letter}

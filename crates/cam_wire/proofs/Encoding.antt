@@ -1,12 +1,11 @@
 -- What `encode` writes, field behind field, is the spelling of the letter with one dependency set of each committed name.
-use Rattle.std.proofs.Common.{◌≡◌, ℕ, ◌<◌, List, [], ◌∷◌, ◌++◌, length, Result, Ok, Err, IfOk, OnOk, sym, ap, ◌∙◌, subst, append_assoc}
+use Rattle.std.proofs.Common.{◌≡◌, ℕ, ◌<◌, List, [], ◌∷◌, ◌++◌, length, Result, Ok, Err, IfOk, OnOk, ap, ◌∙◌, subst, append_assoc}
 use Rattle.std.specs.List.{AllByRecursion}
 use Rattle.cam_names.specs.declared.name.Name.{Name}
 use Rattle.cam_know.specs.declared.Outcome.{Outcome}
 use Rattle.cam_event.specs.declared.Letter.{Letter}
-use Rattle.cam_bytes.specs.Fields.{number, pairs, pairs_above}
+use Rattle.cam_bytes.specs.Fields.{number}
 use Rattle.cam_bytes.specs.Ranges.{IsName, AreCounts}
-use Rattle.cam_bytes.proofs.AgainPairs.{counts_written}
 use Rattle.cam_wire.specs.Spelling.{body, counts, aborts, commits}
 use Rattle.cam_wire.specs.Ranges.{IsBody}
 use Rattle.cam_wire.specs.Writable.{IsWritable}
@@ -36,11 +35,11 @@ encoded items (Ok x) letter os names cs head two three writable known o n c are 
 
 -- the first bytes of a letter, one field behind another
 pub head_is : (from count to : ℕ) (known cs o0 o1 o2 o3 o4 : List ℕ) → o0 ≡ [] → o1 ≡ o0 ++ 1 ∷ [] → o2 ≡ o1 ++ from ∷ [] → o3 ≡ o2 ++ number count → o4 ≡ o3 ++ to ∷ [] → cs ≡ known
-    → o4 ++ pairs (pairs_above 1 1 cs) ≡ (1 ∷ from ∷ number count) ++ (to ∷ counts known)
+    → o4 ++ counts cs ≡ (1 ∷ from ∷ number count) ++ (to ∷ counts known)
 head_is from count to known cs o0 o1 o2 o3 o4 h0 h1 h2 h3 h4 k =
     let e1 : o1 ≡ 1 ∷ [] = h1 ∙ ap (λ (xs : List ℕ). xs ++ 1 ∷ []) h0 in
     let e2 : o2 ≡ 1 ∷ from ∷ [] = h2 ∙ ap (λ (xs : List ℕ). xs ++ from ∷ []) e1 in
     let e3 : o3 ≡ 1 ∷ from ∷ number count = h3 ∙ ap (λ (xs : List ℕ). xs ++ number count) e2 in
     let e4 : o4 ≡ (1 ∷ from ∷ number count) ++ to ∷ [] = h4 ∙ ap (λ (xs : List ℕ). xs ++ to ∷ []) e3 in
-    ap (λ (xs : List ℕ). xs ++ pairs (pairs_above 1 1 cs)) e4 ∙ append_assoc (1 ∷ from ∷ number count) (to ∷ []) (pairs (pairs_above 1 1 cs))
-    ∙ ap (λ (ps : List (ℕ × ℕ)). (1 ∷ from ∷ number count) ++ to ∷ pairs ps) (ap (λ (xs : List ℕ). pairs_above 1 1 xs) k ∙ sym (counts_written 1 known))
+    ap (λ (xs : List ℕ). xs ++ counts cs) e4 ∙ append_assoc (1 ∷ from ∷ number count) (to ∷ []) (counts cs)
+    ∙ ap (λ (xs : List ℕ). (1 ∷ from ∷ number count) ++ to ∷ counts xs) k

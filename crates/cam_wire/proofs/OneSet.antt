@@ -13,13 +13,12 @@ use Rattle.cam_event.specs.declared.Body.{Body}
 use Rattle.cam_event.specs.Rules.{sorted_names}
 use Rattle.cam_event.proofs.SortedNames.{sorted_any}
 use Rattle.cam_bytes.specs.Ranges.{IsFrom, IsNumber, IsName, AreCounts}
-use Rattle.cam_wire.specs.Spelling.{bytes_of, body, counts, commits}
+use Rattle.cam_wire.specs.Spelling.{bytes_of, body, counts, commits, committed_pair, sorted_commits, spelled}
 use Rattle.cam_wire.specs.Ranges.{IsOutcome, IsBody}
 use Rattle.cam_wire.specs.Reading.{outcomes_of}
-use Rattle.cam_wire.specs.OfTrace.{committed_pair, sorted_commits, spelled}
 use Rattle.cam_wire.specs.Writable.{IsWritable}
 use Rattle.cam_wire.specs.Laws.{IsSpelled}
-use Rattle.cam_wire.specs.OneSet.{IsWithOneSet, IsSpelledWithOneSet, HasOneSetEach}
+use Rattle.cam_wire.specs.OneSet.{IsWithOneSet, IsSpelledWithOneSet, HasOneSetEach, HasSpelling}
 use Rattle.cam_wire.proofs.Again.{names_of, IsCommit}
 use Rattle.cam_wire.proofs.Unique.{commit_eq, aborted_any, committed_any}
 use Rattle.cam_wire.proofs.Among.{Commits, aborts_among, commits_among, named_among, no_commit_of, sorted_among}
@@ -75,13 +74,16 @@ outcome_in_range (a ∷ names) cs o are also h =
       | inr rest ↦ outcome_in_range names cs o are.1 also rest
     ]
 
+sorted_with_one_set : (letter : Letter) → IsWithOneSet (sorted_letter letter) letter
+sorted_with_one_set letter = record { from = refl; count = refl; to = refl; counts = refl; body = refl; known = known letter; aborted = aborted_same letter; committed = committed_same letter }
+
 pub spelled_with_one_set : (letter : Letter) (bytes : List ℕ) → IsWritable letter → AreCounts 1 letter.know.counts → IsBody letter.body
     → AllByRecursion IsName (aborts_in letter.know.outcomes) → length (aborts_in letter.know.outcomes) < 4294967296
     → AllByRecursion IsCommit (commits_in letter.know.outcomes) → length (commits_in letter.know.outcomes) < 4294967296
     → bytes ≡ spelled letter → IsSpelledWithOneSet letter bytes
 spelled_with_one_set letter bytes writable counts body names few commits few' is = record {
   one = sorted_letter letter;
-  of = record { from = refl; count = refl; to = refl; counts = refl; body = refl; known = known letter; aborted = aborted_same letter; committed = committed_same letter };
+  of = sorted_with_one_set letter;
   spelled = record {
     range = record { from = writable.from; count = writable.count; to = writable.to; counts = counts; outcomes = λ o h. outcome_in_range (aborts_in letter.know.outcomes) (commits_in letter.know.outcomes) o names commits h; body = body };
     spelling = record {
@@ -157,3 +159,19 @@ spelled_whole letter bytes each s =
       aborts = s.spelled.aborts;
       commits = s.spelled.commits;
     }
+
+-- a letter in its ranges has a spelling where each name has one set
+pub has_spelling : HasSpelling
+has_spelling letter range each few few' = record {
+  range = range;
+  spelling = record {
+    aborted = aborts_in letter.know.outcomes;
+    committed = commits_in letter.know.outcomes;
+    aborts_rise = names_rise (flat_map aborted_name letter.know.outcomes);
+    commits_rise = commits_rise (flat_map committed_pair letter.know.outcomes);
+    outcomes = same_known (sorted_letter letter) letter (sorted_with_one_set letter) each;
+    spelled = refl;
+  };
+  aborts = few;
+  commits = few';
+}

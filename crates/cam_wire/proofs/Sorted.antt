@@ -17,8 +17,7 @@ use Rattle.cam_know.specs.declared.Outcome.TheVariants.{Aborted, Committed}
 use Rattle.cam_know.specs.Known.{aborted_name}
 use Rattle.cam_event.specs.Rules.{put_name, sorted_names}
 use Rattle.cam_event.proofs.SortedNames.{Rises, sorted_rises}
-use Rattle.cam_wire.specs.Spelling.{Rising}
-use Rattle.cam_wire.specs.OfTrace.{committed_pair, put_commit, sorted_commits}
+use Rattle.cam_wire.specs.Spelling.{Rising, committed_pair, put_commit, sorted_commits}
 use Rattle.cam_wire.specs.Sorting.{with_abort, with_commit}
 use Rattle.cam_wire.proofs.Again.{names_of}
 

@@ -12,6 +12,7 @@ use Rattle.cam_know.specs.declared.Outcome.{Outcome}
 use Rattle.cam_know.specs.declared.Outcome.TheVariants.{Aborted, Committed}
 use Rattle.cam_know.specs.Knowledge.{Knowledge}
 use Rattle.cam_know.specs.Known.{outcome_eq, knows, with_outcome}
+use Rattle.cam_know.specs.Invariant.{IsEightCounts}
 use Rattle.cam_bytes.specs.declared.WireFault.{WireFault}
 use Rattle.cam_bytes.specs.Ranges.{IsBytes, AreCounts}
 use Rattle.cam_bytes.specs.Reading.{pairs_in}
@@ -138,3 +139,11 @@ commit_more names cs i c counts k new r within is known e =
     let none = sym (committed_any c names (take i cs)) ∙ not_there c.0 c.1 (take i cs) (fresh_name (names_of (take i cs)) c.0 rises) in
     e ∙ ap (with_outcome (Committed c.0 c.1)) known ∙ learnt (record { outcomes = outcomes_of names (take i cs); counts = counts }) (Committed c.0 c.1) none
     ∙ (λ j. record { outcomes = (sym (commit_last names (take i cs) c) ∙ ap (λ (xs : List (Name × List ℕ)). outcomes_of names xs) (sym more)) j; counts = counts })
+
+-- counts in their range are what knowledge is made of
+pub eight_counts : (counts : List ℕ) → AreCounts 1 counts → IsEightCounts counts
+eight_counts counts are = record {
+  eight = are.nodes;
+  from = λ k below. (each_at 1 counts are.each k (omega (arith, are.nodes, below))).0;
+  to = λ k below. (each_at 1 counts are.each k (omega (arith, are.nodes, below))).1;
+}

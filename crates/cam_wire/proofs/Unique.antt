@@ -9,6 +9,7 @@ use Rattle.cam_names.proofs.Order.{name_lt_itself, name_lt_trans}
 use Rattle.cam_know.specs.declared.Outcome.{Outcome}
 use Rattle.cam_know.specs.declared.Outcome.TheVariants.{Aborted, Committed}
 use Rattle.cam_know.specs.Known.{outcome_eq, counts_eq}
+use Rattle.cam_know.specs.Invariant.{NoTwice}
 use Rattle.cam_know.proofs.Outcomes.{counts_eq_refl, counts_eq_same}
 use Rattle.cam_event.specs.declared.Letter.{Letter}
 use Rattle.cam_wire.specs.Spelling.{bytes_of, Rising, Spelling}
@@ -104,3 +105,22 @@ one_spelling letter one other s t =
     rising_same (λ (c : Name × List ℕ). c.0) commit_eq commit_same commit_own s.committed t.committed s.commits_rise t.commits_rise
     (λ c. committed_any c s.aborted s.committed ∙ alike (Committed c.0 c.1) ∙ sym (committed_any c t.aborted t.committed)) in
     s.spelled ∙ ap₂ (λ (ns : List Name) (cs : List (Name × List ℕ)). bytes_of letter.from letter.count letter.to letter.know.counts ns cs letter.body) names commits ∙ sym t.spelled
+
+-- rising names stand once each, so no outcome stands twice
+commits_once : (cs : List (Name × List ℕ)) → Rising (map (λ c. c.0) cs) → NoTwice (map (λ c. Committed c.0 c.1) cs)
+commits_once [] r = tt
+commits_once (c ∷ cs) r = (
+  sym (committed_there c cs) ∙ not_later (λ (d : Name × List ℕ). d.0) commit_eq commit_same commit_own c cs r,
+  commits_once cs (tail_rises (λ (d : Name × List ℕ). d.0) commit_eq commit_same commit_own c cs r),
+)
+
+pub none_twice : (names : List Name) (cs : List (Name × List ℕ)) → Rising names → Rising (map (λ c. c.0) cs) → NoTwice (outcomes_of names cs)
+none_twice [] cs r s = commits_once cs s
+none_twice (a ∷ names) cs r s = (
+  sym (aborted_any a names cs) ∙ not_later (λ (b : Name). b) name_eq name_eq_same name_eq_refl a names (subst Rising (sym (map_own (a ∷ names))) r),
+  none_twice names cs (behind names r) s,
+)
+  where
+    behind : (bs : List Name) → Rising (a ∷ bs) → Rising bs
+    behind [] h = tt
+    behind (b ∷ bs) h = h.1

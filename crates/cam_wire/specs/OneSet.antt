@@ -1,10 +1,13 @@
 -- The spelling of a letter whose knowledge may have a name as committed with several dependency sets: that of the letter with one of them.
-use Rattle.std.specs.Prelude.{◌≡◌, ℕ, true, List}
+use Rattle.std.specs.Prelude.{◌≡◌, ℕ, ◌<◌, true, List, length, flat_map}
 use Rattle.cam_names.specs.declared.name.Name.{Name}
 use Rattle.cam_know.specs.declared.Outcome.{Outcome}
 use Rattle.cam_know.specs.declared.Outcome.TheVariants.{Aborted, Committed}
-use Rattle.cam_know.specs.Known.{knows, knows_commit}
+use Rattle.cam_know.specs.Known.{knows, knows_commit, aborted_name}
 use Rattle.cam_event.specs.declared.Letter.{Letter}
+use Rattle.cam_event.specs.Rules.{sorted_names}
+use Rattle.cam_wire.specs.Spelling.{committed_pair, sorted_commits, spelled}
+use Rattle.cam_wire.specs.Ranges.{IsInRange}
 use Rattle.cam_wire.specs.Laws.{IsSpelled}
 
 -- the letter with one dependency set of each name that is committed
@@ -29,3 +32,12 @@ pub record IsSpelledWithOneSet (letter : Letter) (bytes : List ℕ) : Type 0 whe
 -- no name is known as committed with two dependency sets
 abbrev pub HasOneSetEach : Letter → Type 0
 HasOneSetEach letter = (a : Name) (d e : List ℕ) → knows letter.know (Committed a d) ≡ true → knows letter.know (Committed a e) ≡ true → d ≡ e
+
+-- Each letter in its ranges has a spelling where each name has one dependency set, and its aborts and commits are not more than four bytes
+-- can tell.
+abbrev pub HasSpelling : Type 0
+HasSpelling =
+    (letter : Letter) → IsInRange letter → HasOneSetEach letter
+    → length (sorted_names (flat_map aborted_name letter.know.outcomes)) < 4294967296
+    → length (sorted_commits (flat_map committed_pair letter.know.outcomes)) < 4294967296
+    → IsSpelled letter (spelled letter)

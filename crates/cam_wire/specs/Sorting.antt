@@ -4,7 +4,7 @@ use Rattle.cam_names.specs.declared.name.Name.{Name}
 use Rattle.cam_know.specs.declared.Outcome.{Outcome}
 use Rattle.cam_know.specs.declared.Outcome.TheVariants.{Aborted, Committed}
 use Rattle.cam_event.specs.Rules.{put_name}
-use Rattle.cam_wire.specs.OfTrace.{put_commit}
+use Rattle.cam_wire.specs.Spelling.{put_commit}
 
 -- one more outcome beside the aborts, and beside the commits
 abbrev pub with_abort : Outcome → List Name → List Name

@@ -1,14 +1,14 @@
 -- The numbers of a letter that its types do not keep in their ranges.
-use Rattle.std.specs.Prelude.{◌≡◌, ◌≤◌, length}
+use Rattle.std.specs.Prelude.{◌≡◌, length}
 use Rattle.cam_event.specs.declared.Letter.{Letter}
 use Rattle.cam_event.specs.declared.Body.{Body}
 use Rattle.cam_event.specs.declared.Body.TheVariants as bodies
-use Rattle.cam_bytes.specs.Ranges.{IsFrom, IsNumber}
+use Rattle.cam_bytes.specs.Ranges.{IsFrom, IsNumber, IsObject}
 
 -- A call's number, object and count, the number of an answer, the count of a Prepare or a Vote; a family has one part.
 abbrev pub IsWritableBody : Body → Type 0
 IsWritableBody (bodies.Start b d) = Unit {0}
-IsWritableBody (bodies.Call a n x o c d) = IsNumber n × (x ≤ 63) × IsNumber c
+IsWritableBody (bodies.Call a n x o c d) = IsNumber n × IsObject x × IsNumber c
 IsWritableBody (bodies.Answer a n r) = IsNumber n
 IsWritableBody (bodies.Finish a v d) = Unit {0}
 IsWritableBody (bodies.Quit a) = Unit {0}

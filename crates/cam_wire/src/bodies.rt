@@ -4,31 +4,28 @@ ghost use Rattle.cam_wire.specs.ReadingBodies.{start_at, call_at, answer_at, fin
 
 use crate::replies::reply_at;
 use cam_bytes::{
-    WireFault, byte_at, byte_in, deps_at, family_at, name_at, number_in, op_at, value_at,
+    WireFault, byte_at, byte_in, deps_at, family_at, name_at, number_in, object_at, op_at, value_at,
 };
 use cam_event::Body;
 use cam_names::Part;
 
-pub const START: u8 = 1;
+pub(crate) const START: u8 = 1;
 
-pub const CALL: u8 = 2;
+pub(crate) const CALL: u8 = 2;
 
-pub const ANSWER: u8 = 3;
+pub(crate) const ANSWER: u8 = 3;
 
-pub const FINISH: u8 = 4;
+pub(crate) const FINISH: u8 = 4;
 
-pub const QUIT: u8 = 5;
+pub(crate) const QUIT: u8 = 5;
 
-pub const PREPARE: u8 = 6;
+pub(crate) const PREPARE: u8 = 6;
 
-pub const VOTE: u8 = 7;
+pub(crate) const VOTE: u8 = 7;
 
-pub const QUERY: u8 = 8;
+pub(crate) const QUERY: u8 = 8;
 
-pub const NEWS: u8 = 9;
-
-/// The greatest place of an object.
-const LAST_OBJECT: u8 = 63;
+pub(crate) const NEWS: u8 = 9;
 
 /// The fields of a Start, and the place behind them.
 #[tactic(auto, unfolding(crate::specs::ReadingBodies::start_at))]
@@ -52,7 +49,7 @@ fn call_at(bytes: &[u8], at: usize) -> Result<(Body, usize), WireFault>
 {
     let (action, at) = name_at(bytes, at)?;
     let (number, at) = number_in(bytes, at, 1, Part::LAST)?;
-    let (object, at) = byte_in(bytes, at, 0, LAST_OBJECT)?;
+    let (object, at) = object_at(bytes, at)?;
     let (op, at) = op_at(bytes, at)?;
     let (count, at) = number_in(bytes, at, 1, Part::LAST)?;
     let (deps, at) = deps_at(bytes, at)?;

@@ -1,27 +1,33 @@
 // What a letter brings, as knowledge.
-ghost use Rattle.std.specs.Prelude.{◌≡◌, [], map, IfOk};
+ghost use Rattle.std.specs.Prelude.{◌≡◌, map, IfOk};
 ghost use Rattle.cam_bytes.specs.Ranges.{AreCounts};
 ghost use Rattle.cam_wire.specs.Spelling.{Rising};
 ghost use Rattle.cam_wire.specs.Reading.{outcomes_of};
 
 use crate::outcomes::{Aborts, Commits};
-use cam_base::NoMemory;
+use cam_base::{NoMemory, Sequence};
 use cam_know::{Know, Outcome};
 use std::alloc::Global;
 
-/// Knowledge of these counts, and of no outcome.
-fn counts_alone(alloc: Global, counts: &[u32; 8]) -> Know
-    requires { AreCounts 1 counts.now }
-    ensures { result ≡ record { outcomes = []; counts = counts.now } }
+/// The outcomes that were read: the aborts, then the commits.
+fn outcomes_of(
+    alloc: Global,
+    aborts: &Aborts,
+    commits: &Commits,
+) -> Result<Sequence<Outcome>, NoMemory>
+    ensures { IfOk result (λ outcomes. outcomes ≡ outcomes_of aborts.now commits.now) }
 {
-    let mut know = Know::new(alloc);
-    for node in 1..9 {
-        know.raise(node, counts[node as usize - 1]);
+    let mut outcomes = Sequence::new(alloc);
+    for name in aborts.as_slice() {
+        outcomes.push_copy(&Outcome::Aborted(*name))?;
     }
-    know
+    for (name, deps) in commits.as_slice() {
+        outcomes.push_copy(&Outcome::Committed(*name, *deps))?;
+    }
+    Ok(outcomes)
 }
 
-/// Knowledge of these counts and outcomes.
+/// Knowledge of these counts and outcomes. All outcomes are learnt at once.
 pub fn know_of(
     alloc: Global,
     counts: &[u32; 8],
@@ -33,12 +39,5 @@ pub fn know_of(
     requires commits { Rising (map (λ c. c.0) commits.now) }
     ensures { IfOk result (λ know. know ≡ record { outcomes = outcomes_of aborts.now commits.now; counts = counts.now }) }
 {
-    let mut know = counts_alone(alloc, counts);
-    for name in aborts.as_slice() {
-        know.add(&Outcome::Aborted(*name))?;
-    }
-    for (name, deps) in commits.as_slice() {
-        know.add(&Outcome::Committed(*name, *deps))?;
-    }
-    Ok(know)
+    Know::of(alloc, outcomes_of(alloc, aborts, commits)?, *counts)
 }

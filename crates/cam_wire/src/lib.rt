@@ -1,14 +1,16 @@
 //! Letters as bytes.
 //!
-//! Each letter has exactly one spelling, and any bytes are read as the letter that they spell or answered with the first fault and its
-//! place. All numbers are big-endian; number, value, name, dependencies and operation are the fields of `cam_bytes`.
+//! Each letter whose names have one dependency set each has exactly one spelling, and any bytes are read as the letter that they spell or
+//! answered with the first fault and its place. All numbers are big-endian; number, value, name, family, counts, dependencies, object and
+//! operation are the fields of `cam_bytes`. Names rise in the order of their lists of parts, a prefix first; parts in the order of node, count,
+//! number.
 //!
 //! | Part of a letter | Bytes |
 //! |---|---|
 //! | version | 1 (one byte) |
 //! | sender | its node (one byte), its count (number) |
 //! | addressee | its node (one byte) |
-//! | counts | the number of pairs, 0 to 8 (one byte), then of each pair its node (one byte) and count (number, 2 or more), the nodes rising; count 1 is not written |
+//! | counts | counts above 1 |
 //! | aborts | how many (four bytes), then their names, rising |
 //! | commits | how many (four bytes), then of each its name and its dependencies, the names rising |
 //! | body | a tag (one byte), then its fields in this order |
@@ -16,13 +18,13 @@
 //! | Tag | Body | Fields |
 //! |---|---|---|
 //! | 1 | Start | child (name), dependencies |
-//! | 2 | Call | action (name), number, object (one byte, 0 to 63), operation, count (number), dependencies |
+//! | 2 | Call | action (name), number, object, operation, count (number), dependencies |
 //! | 3 | Answer | action (name), number, reply |
 //! | 4 | Finish | action (name), value, dependencies |
 //! | 5 | Quit | action (name) |
-//! | 6 | Prepare | family (name of one part), count (number) |
-//! | 7 | Vote | family (name of one part), count (number), 0 for no or 1 for yes (one byte) |
-//! | 8 | Query | family (name of one part) |
+//! | 6 | Prepare | family, count (number) |
+//! | 7 | Vote | family, count (number), 0 for no or 1 for yes (one byte) |
+//! | 8 | Query | family |
 //! | 9 | News | none |
 //!
 //! A reply is 1 Ok, 2 Value and a value, 3 Empty, 4 Busy and a name, 5 Missed, 6 Refused.

@@ -12,13 +12,13 @@ use crate::WireFault;
 use crate::bodies::body_at;
 use crate::knowledge::know_of;
 use crate::outcomes::{aborts_at, commits_at};
-use cam_bytes::{byte_at, byte_in, number_in, pairs_in};
+use cam_bytes::{byte_at, byte_in, counts_above_at, number_in};
 use cam_event::Letter;
 use cam_names::Part;
 use std::alloc::Global;
 
 /// The version of the format.
-pub const VERSION: u8 = 1;
+pub(crate) const VERSION: u8 = 1;
 
 /// The place behind the version, which stands at a place.
 #[tactic(auto, unfolding(crate::specs::Reading::version_at))]
@@ -35,14 +35,14 @@ fn version_at(bytes: &[u8], at: usize) -> Result<(u8, usize), WireFault>
     }
 }
 
-/// The counts at a place, 1 where none is written, and the place behind them.
+/// The counts at a place, and the place behind them.
 fn counts_at(bytes: &[u8], at: usize) -> Result<([u32; 8], usize), WireFault>
     requires { at ≤ length bytes.now }
     ensures value { result ≡ counts_at at bytes.now }
     ensures range { IfOk result (λ read. AreCounts 1 read.0) }
     ensures end { IfOk result (λ read. (at < read.1) × (read.1 ≤ length bytes.now)) }
 {
-    pairs_in(bytes, at, 2, [1; 8])
+    counts_above_at(bytes, at, 1)
 }
 
 /// A letter, whatever stands behind it, and the place behind it.

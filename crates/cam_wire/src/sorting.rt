@@ -2,8 +2,7 @@
 ghost use Rattle.std.specs.Prelude.{◌≡◌, map, flat_map, IfOk, OnOk};
 ghost use Rattle.cam_know.specs.Known.{aborted_name};
 ghost use Rattle.cam_event.specs.Rules.{sorted_names};
-ghost use Rattle.cam_wire.specs.OfTrace.{committed_pair, sorted_commits};
-ghost use Rattle.cam_wire.specs.Spelling.{Rising};
+ghost use Rattle.cam_wire.specs.Spelling.{Rising, committed_pair, sorted_commits};
 ghost use Rattle.cam_wire.specs.Sorting.{with_abort, with_commit};
 
 use cam_base::NoMemory;

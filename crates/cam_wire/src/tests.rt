@@ -1,5 +1,7 @@
+mod changes;
+
 ghost use Rattle.std.specs.Prelude.{◌<◌};
-ghost use Rattle.cam_wire.specs.Writable.{IsWritableBody};
+ghost use Rattle.cam_wire.specs.Writable.{IsWritable, IsWritableBody};
 
 use crate::{WireFault, decode, encode};
 use cam_base::NoMemory;
@@ -26,21 +28,28 @@ const QUIT: [u8; 73] = [
     1, 0, 0, 0, 1, 0, 0, 0, 2,
 ];
 
-/// `NEWS` in another version, from no node, with a body of no kind, and with a byte behind it.
-const OTHER_VERSION: [u8; 17] = [3, 1, 0, 0, 0, 1, 2, 0, 0, 0, 0, 0, 0, 0, 0, 0, 9];
+/// A letter of node 1 at count 1 to node 2, with nothing known.
+fn letter_of(alloc: Global, body: Body) -> Letter
+    requires { IsWritableBody body }
+    ensures { IsWritable result }
+{
+    Letter {
+        from: 1,
+        count: 1,
+        to: 2,
+        know: Know::new(alloc),
+        body,
+    }
+}
 
-const NO_NODE: [u8; 17] = [1, 9, 0, 0, 0, 1, 2, 0, 0, 0, 0, 0, 0, 0, 0, 0, 9];
-
-const NO_BODY: [u8; 17] = [1, 1, 0, 0, 0, 1, 2, 0, 0, 0, 0, 0, 0, 0, 0, 0, 10];
-
-const LONGER: [u8; 18] = [1, 1, 0, 0, 0, 1, 2, 0, 0, 0, 0, 0, 0, 0, 0, 0, 9, 0];
-
-/// `QUIT` where 2.3.1 is committed twice, the second time with no dependencies.
-const TWICE: [u8; 84] = [
-    1, 2, 0, 0, 0, 3, 1, 2, 2, 0, 0, 0, 3, 4, 0, 0, 0, 2, 0, 0, 0, 2, 1, 1, 0, 0, 0, 1, 0, 0, 0, 1,
-    1, 1, 0, 0, 0, 1, 0, 0, 0, 2, 0, 0, 0, 2, 1, 2, 0, 0, 0, 3, 0, 0, 0, 1, 1, 2, 0, 0, 0, 3, 1, 2,
-    0, 0, 0, 3, 0, 0, 0, 1, 0, 5, 1, 1, 0, 0, 0, 1, 0, 0, 0, 2,
-];
+/// These bytes, one part behind another.
+fn join(alloc: Global, parts: &[&[u8]]) -> Result<Vec<u8>, NoMemory> {
+    let mut bytes = Vec::new(alloc);
+    for part in parts {
+        bytes.extend_from_slice(part)?;
+    }
+    Ok(bytes)
+}
 
 #[test]
 fn letters_are_spelled_as_the_format_says(rt: HostRuntime) -> Result<(), Fail> {
@@ -54,15 +63,9 @@ fn letters_are_spelled_as_the_format_says(rt: HostRuntime) -> Result<(), Fail> {
         count: 1,
         deps: Deps::none().with(1, 1),
     };
-    let mut letter = Letter {
-        from: 1,
-        count: 1,
-        to: 2,
-        know: Know::new(rt.alloc()),
-        body: Body::News,
-    };
+    let letter = letter_of(rt.alloc(), Body::News);
     assert_eq!(rt; encode(rt.alloc(), &letter)?.as_slice(), NEWS.as_slice());
-    letter.body = call;
+    let letter = letter_of(rt.alloc(), call);
     assert_eq!(rt; encode(rt.alloc(), &letter)?.as_slice(), CALL.as_slice());
 
     let committed = Name::parse("2.3.1")?;
@@ -91,17 +94,9 @@ fn letters_are_spelled_as_the_format_says(rt: HostRuntime) -> Result<(), Fail> {
 fn is_spelled(alloc: Global, body: Body, tag: u8, fields: &[u8]) -> Result<bool, NoMemory>
     requires { IsWritableBody body }
 {
-    let mut bytes = NEWS[..16].to_vec(alloc)?;
-    bytes.push(tag)?;
-    bytes.extend_from_slice(&[1, 1, 0, 0, 0, 1, 0, 0, 0, 1])?;
-    bytes.extend_from_slice(fields)?;
-    let letter = Letter {
-        from: 1,
-        count: 1,
-        to: 2,
-        know: Know::new(alloc),
-        body,
-    };
+    let name = [1, 1, 0, 0, 0, 1, 0, 0, 0, 1];
+    let bytes = join(alloc, &[&NEWS[..16], &[tag], &name, fields])?;
+    let letter = letter_of(alloc, body);
     Ok(encode(alloc, &letter)?.as_slice() == bytes.as_slice())
 }
 
@@ -146,8 +141,7 @@ fn each_body_is_spelled_as_the_format_says(rt: HostRuntime) -> Result<(), Fail> 
 /// Whether an Answer of 1.1.1 to its call 1 has these bytes as its reply.
 fn is_answered(alloc: Global, reply: Reply, fields: &[u8]) -> Result<bool, Fail> {
     let action = Name::top(Part::new(1, 1, 1).ok_or("no part")?);
-    let mut bytes = [0, 0, 0, 1].to_vec(alloc)?;
-    bytes.extend_from_slice(fields)?;
+    let bytes = join(alloc, &[&[0, 0, 0, 1], fields])?;
     let body = Body::Answer {
         action,
         number: 1,
@@ -184,58 +178,39 @@ fn fault_of(alloc: Global, bytes: &[u8]) -> Result<Option<WireFault>, Fail> {
     }
 }
 
+/// `NEWS` with another byte at a place.
+fn news_with(place: usize, byte: u8) -> [u8; 17]
+    requires { place < 17 }
+{
+    let mut bytes = NEWS;
+    bytes[place] = byte;
+    bytes
+}
+
 #[test]
 fn letters_are_read_and_other_bytes_refused(rt: HostRuntime) -> Result<(), Fail> {
+    let longer = join(rt.alloc(), &[&NEWS, &[0]])?;
+    // 2.3.1 is committed twice, the second time with no dependencies.
+    let twice = [
+        &QUIT[..42],
+        &[0, 0, 0, 2],
+        &QUIT[46..62],
+        &QUIT[46..56],
+        &[0],
+        &QUIT[62..],
+    ];
+    let twice = join(rt.alloc(), &twice)?;
     for (bytes, fault) in [
         (NEWS.as_slice(), None),
         (CALL.as_slice(), None),
         (QUIT.as_slice(), None),
-        (OTHER_VERSION.as_slice(), Some(WireFault::BadTag(0))),
-        (NO_NODE.as_slice(), Some(WireFault::BadNumber(1))),
-        (NO_BODY.as_slice(), Some(WireFault::BadTag(16))),
-        (LONGER.as_slice(), Some(WireFault::Rest(17))),
-        (&[], Some(WireFault::Short(0))),
-        (TWICE.as_slice(), Some(WireFault::Order(62))),
+        (news_with(0, 3).as_slice(), Some(WireFault::BadTag(0))),
+        (news_with(1, 9).as_slice(), Some(WireFault::BadNumber(1))),
+        (news_with(16, 10).as_slice(), Some(WireFault::BadTag(16))),
+        (longer.as_slice(), Some(WireFault::Rest(17))),
+        (twice.as_slice(), Some(WireFault::Order(62))),
     ] {
         assert_eq!(rt; fault_of(rt.alloc(), bytes)?, fault);
     }
-    for end in 0..QUIT.len() {
-        let short = Some(WireFault::Short(end as u64));
-        assert_eq!(rt; fault_of(rt.alloc(), &QUIT[..end])?, short);
-    }
-    Ok(())
-}
-
-/// Which kind of answer it is, a letter first, and its place.
-fn kind_of(fault: Option<WireFault>) -> (usize, u64)
-    ensures { result.0 < 7 }
-{
-    match fault {
-        None => (0, 0),
-        Some(WireFault::Short(at)) => (1, at),
-        Some(WireFault::BadTag(at)) => (2, at),
-        Some(WireFault::BadNumber(at)) => (3, at),
-        Some(WireFault::Order(at)) => (4, at),
-        Some(WireFault::Rest(at)) => (5, at),
-        Some(WireFault::NoMemory) => (6, 0),
-    }
-}
-
-// The numbers are those of a reader in another language that was written from the format's text.
-#[test]
-fn each_changed_byte_is_read_or_refused(rt: HostRuntime) -> Result<(), Fail> {
-    let mut kinds = [0u64; 7];
-    let mut places = [0u64; 7];
-    for place in 0..QUIT.len() {
-        for change in 1..=255 {
-            let mut bytes = QUIT;
-            bytes[place] ^= change;
-            let (kind, at) = kind_of(fault_of(rt.alloc(), &bytes)?);
-            kinds[kind] = kinds[kind].wrapping_add(1);
-            places[kind] = places[kind].wrapping_add(at);
-        }
-    }
-    assert_eq!(rt; kinds, [8277, 1032, 504, 7140, 1661, 1, 0]);
-    assert_eq!(rt; places, [0, 75336, 15447, 249899, 53019, 63, 0]);
     Ok(())
 }

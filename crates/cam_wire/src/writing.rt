@@ -3,8 +3,7 @@ ghost use Rattle.std.specs.Prelude.{◌≡◌, ◌<◌, ◌++◌, ◌∷◌, Lis
 ghost use Rattle.std.specs.List.{AllByRecursion};
 ghost use Rattle.cam_bytes.specs.Fields.{number};
 ghost use Rattle.cam_bytes.specs.Ranges.{IsName, IsDeps, AreCounts};
-ghost use Rattle.cam_wire.specs.Spelling.{counts, aborts as bytes_of_aborts, commits as bytes_of_commits};
-ghost use Rattle.cam_wire.specs.OfTrace.{spelled};
+ghost use Rattle.cam_wire.specs.Spelling.{counts, aborts as bytes_of_aborts, commits as bytes_of_commits, spelled};
 ghost use Rattle.cam_wire.specs.Writable.{IsWritable};
 ghost use Rattle.cam_wire.specs.Laws.{IsSpelled};
 ghost use Rattle.cam_wire.specs.OneSet.{HasOneSetEach, IsSpelledWithOneSet};
@@ -13,7 +12,9 @@ use crate::reading::VERSION;
 use crate::sorting::{sorted_aborts, sorted_commits};
 use crate::write_body::write_body;
 use cam_base::NoMemory;
-use cam_bytes::{write_byte, write_deps, write_length, write_name, write_number, write_pairs};
+use cam_bytes::{
+    write_byte, write_counts_above, write_deps, write_length, write_name, write_number,
+};
 use cam_event::Letter;
 use cam_know::Know;
 use cam_names::{Deps, Name};
@@ -74,10 +75,10 @@ fn write_head(alloc: Global, letter: &Letter) -> Result<Vec<u8>, NoMemory>
     let out = write_byte(out, letter.from)?;
     let out = write_number(out, letter.count)?;
     let out = write_byte(out, letter.to)?;
-    write_pairs(out, &counts, 1)
+    write_counts_above(out, &counts, 1)
 }
 
-/// The spelling of a letter. Of a name that is known as committed with several dependency sets the one that was
+/// The spelling of a letter. Its aborts and its commits are sorted by name, in the time of n log n for n of them. Of a name that is known as committed with several dependency sets the one that was
 /// learnt last is written.
 ///
 /// It requires the ranges that the letter's types do not keep: sender and addressee from 1 to 8; the sender's count, and the numbers and

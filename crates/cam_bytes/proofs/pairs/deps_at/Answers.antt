@@ -7,4 +7,4 @@ use Rattle.cam_bytes.proofs.pairs.deps_at.Goals as goal
 pub of-requires : goal.of-requires
 of-requires c =
     counts_of_deps c.in_ok-counts.counts
-    (took_deps c.args.bytes.now c.args.at (c.in_ok-counts.counts, c.in_ok-counts.at) (λ i. omega (arith, c.type_inv.bytes i)) (sym c.pairs_in.ensures.value ∙ c.in_ok-counts.was)).1
+    (took_deps c.args.bytes.now c.args.at (c.in_ok-counts.counts, c.in_ok-counts.at) (λ i. omega (arith, c.type_inv.bytes i)) (sym c.counts_above_at.ensures.value ∙ c.in_ok-counts.was)).1

@@ -2,6 +2,7 @@
 use Rattle.cam_wire.proofs.Letters.{spellings_are_read, no_spelling_begins_another}
 use Rattle.cam_wire.proofs.Prefixes.{bytes_behind_are_rest, faults_stay, proper_beginnings_are_short, none_begins_another}
 use Rattle.cam_wire.proofs.Exactly.{read_is_spelled}
+use Rattle.cam_wire.proofs.OneSet.{has_spelling}
 use Rattle.cam_wire.proofs.Unique.{one_spelling}
 use Rattle.cam_wire.proofs.laws.spellings.Goals as goal
 
@@ -28,3 +29,6 @@ returns-clause-exactly c = read_is_spelled
 
 pub returns-clause-one : goal.returns-clause-one
 returns-clause-one c = one_spelling
+
+pub returns-clause-has : goal.returns-clause-has
+returns-clause-has c = has_spelling

@@ -1,7 +1,7 @@
 use Rattle.std.proofs.Common.{ℕ, List, drop, flat_map, sym, subst}
 use Rattle.cam_names.specs.declared.name.Name.{Name}
 use Rattle.cam_wire.specs.Spelling.{Rising}
-use Rattle.cam_wire.specs.OfTrace.{committed_pair}
+use Rattle.cam_wire.specs.Spelling.{committed_pair}
 use Rattle.cam_wire.proofs.Again.{names_of}
 use Rattle.cam_wire.proofs.Sorted.{commits_rise}
 use Rattle.cam_wire.proofs.sorting.sorted_commits.Goals as goal

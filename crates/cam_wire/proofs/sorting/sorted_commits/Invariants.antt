@@ -1,5 +1,5 @@
 use Rattle.std.proofs.Common.{◌≡◌, drop, flat_map}
-use Rattle.cam_wire.specs.OfTrace.{committed_pair, sorted_commits}
+use Rattle.cam_wire.specs.Spelling.{committed_pair, sorted_commits}
 use Rattle.cam_wire.proofs.sorting.sorted_commits.Given as goal
 
 -- what stands behind is put in

@@ -1,7 +1,0 @@
-use Rattle.std.proofs.Common.{◌≡◌, ◌+◌, ◌++◌, drop, flat_map}
-use Rattle.cam_bytes.specs.Fields.{pair, pairs, pairs_above}
-use Rattle.cam_bytes.proofs.pairs.write_pairs.Given as goal
-
-abbrev pub invariant-loop-node : goal.invariant-loop-node
-invariant-loop-node l =
-    l.out.items ++ flat_map pair (pairs_above l.base (l.node + 1) (drop l.node l.counts)) ≡ l.fn.out.items ++ pairs (pairs_above l.base 1 l.counts)
