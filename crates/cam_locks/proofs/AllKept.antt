@@ -4,7 +4,6 @@ use Rattle.std.proofs.Math.Logic.{inl, inr}
 use Rattle.std.proofs.Common.{map}
 use Rattle.std.specs.Prelude.{filter, find, option_and_then}
 use Rattle.cam_names.specs.declared.name.Name.{Name}
-use Rattle.cam_names.specs.Names.{family}
 use Rattle.cam_type.specs.declared.ObjectDecl.{ObjectDecl}
 use Rattle.cam_type.specs.declared.State.{State}
 use Rattle.cam_type.specs.declared.Answer.{Answer}
@@ -15,15 +14,13 @@ use Rattle.cam_locks.specs.Members.{In}
 use Rattle.cam_locks.specs.Names.{has_name}
 use Rattle.cam_locks.specs.Site.{IndicesRise, start_of}
 use Rattle.cam_locks.specs.Moss.{is_on, replay}
-use Rattle.cam_locks.specs.Calls.{is_below, is_of}
+use Rattle.cam_locks.specs.Calls.{is_below}
 use Rattle.cam_locks.specs.Holding.{lift_in, KeepsLeaders, LocksView, leaders_of, KeepsLocks, AreLocks, AllLocks, fresh}
-use Rattle.cam_locks.specs.Changes.{EachTo, TidiedTo, DoneTo, SpoiledAt, SpoiledBy, conflicts}
+use Rattle.cam_locks.specs.Changes.{EachTo, TidiedTo, DoneTo, SpoiledAt, conflicts}
 use Rattle.cam_locks.proofs.Modes.{added_stale, no_leaders_of}
 use Rattle.cam_locks.proofs.Rising.{rise_later}
-use Rattle.cam_locks.proofs.Members.{in_filtered}
 use Rattle.cam_locks.proofs.Climbing.{AtLeast}
-use Rattle.cam_locks.proofs.Each.{off_object, on_object, by_eq}
-use Rattle.cam_locks.proofs.Kin.{below_family}
+use Rattle.cam_locks.proofs.Each.{off_object, on_object, by_eq, SpoiledBelow, SpoiledWhere}
 use Rattle.cam_locks.proofs.Aborting.{keeps_abort}
 use Rattle.cam_locks.proofs.Untouched.{keeps_untouched}
 use Rattle.cam_locks.proofs.Standing.{IsClear, keeps_later, keeps_commit, keeps_other, keeps_done, answer_done, no_conflict}
@@ -143,18 +140,15 @@ all_abort objects ns os next ls n open_yet rise all x l lt is =
     keeps_abort x (start_of objects x) ns os next (get_or ls x l) n open_yet rise (all x l lt is)
 
 -- an abort of an action that is committed too, with nothing kept from now on of the objects of what is below it
-pub all_spoiled_by : (objects : List ObjectDecl) (ns : List Name) (os : List LiveOp) (next : ℕ) (old new : List LocksView) (n : Name)
-    → EachTo (SpoiledBy (filter (is_below n) (filter (is_of (family n)) os))) old new
+pub all_spoiled_below : (objects : List ObjectDecl) (ns : List Name) (os rest : List LiveOp) (next : ℕ) (old new : List LocksView) (n : Name)
+    → EachTo (SpoiledBelow n os rest) old new → ((o : LiveOp) → In o rest → is_below n o ≡ false)
     → AllLocks objects ns os next old → AllLocks objects ns (filter (λ o. not (is_below n o)) os) next new
-all_spoiled_by objects ns os next old new n each all x l lt stale = by_change (each.each x l within)
+all_spoiled_below objects ns os rest next old new n each gone all x l lt stale = by_change (each.each x l within)
   where
-    under : List LiveOp
-    under = filter (is_below n) (filter (is_of (family n)) os)
-
     within : x < length old
     within = subst (λ (k : ℕ). x < k) each.len lt
 
-    by_change : SpoiledBy under x (get_or old x l) (get_or new x l) → KeepsLocks x (start_of objects x) ns (filter (λ o. not (is_below n o)) os) next (get_or new x l)
+    by_change : SpoiledBelow n os rest x (get_or old x l) (get_or new x l) → KeepsLocks x (start_of objects x) ns (filter (λ o. not (is_below n o)) os) next (get_or new x l)
     by_change (inl spoiled) = let wrong : true ≡ false = sym spoiled ∙ stale in cc
     by_change (inr same) =
         subst (λ (k : LocksView). KeepsLocks x (start_of objects x) ns (filter (λ o. not (is_below n o)) os) next k) (sym same.0)
@@ -163,6 +157,25 @@ all_spoiled_by objects ns os next old new n each all x l lt stale = by_change (e
       where
         by_test : (o : LiveOp) → In o os → is_on x o ≡ true → (b : Bool) → is_below n o ≡ b → not b ≡ true
         by_test o h on false e = refl
-        by_test o h on true e =
-            let member : In o under = in_filtered (is_below n) o (filter (is_of (family n)) os) (in_filtered (is_of (family n)) o os h (below_family n o.action e)) e in
-            sym (same.1 o member) ∙ on
+        by_test o h on true e = let no : true ≡ false = sym e ∙ gone o (same.1 o h on e) in cc
+
+pub all_gone : (b : Bool) (objects : List ObjectDecl) (ns : List Name) (os rest : List LiveOp) (next : ℕ) (old new : List LocksView) (n : Name) → b ≡ has_name ns n
+    → SpoiledWhere b n os rest old new → ((o : LiveOp) → In o rest → is_below n o ≡ false) → IndicesRise 0 os next
+    → AllLocks objects ns os next old → AllLocks objects ns (filter (λ o. not (is_below n o)) os) next new
+all_gone true objects ns os rest next old new n is each gone rise all = all_spoiled_below objects ns os rest next old new n each gone all
+all_gone false objects ns os rest next old new n is same gone rise all =
+    subst (λ (ls : List LocksView). AllLocks objects ns (filter (λ o. not (is_below n o)) os) next ls) (sym same) (all_abort objects ns os next old n (sym is) rise all)
+
+-- an operation was done but not added, with nothing kept from now on of its object
+pub all_undone : (objects : List ObjectDecl) (ns : List Name) (os : List LiveOp) (next : ℕ) (old mid new : List LocksView) (n : LiveOp) (answer : Answer)
+    → EachTo (DoneTo ns os n answer) old mid → EachTo (SpoiledAt n.object) mid new → AllLocks objects ns os next old → AllLocks objects ns os next new
+all_undone objects ns os next old mid new n answer done spoiled all x l lt stale =
+    let inside : x < length mid = subst (λ (k : ℕ). x < k) spoiled.len lt in
+    let within : x < length old = subst (λ (k : ℕ). x < k) done.len inside in
+    elim (by_eq x n.object) [
+      | inl same ↦ let wrong : true ≡ false = sym ((spoiled.each x l inside).here same) ∙ stale in cc
+      | inr apart ↦
+          let change = (spoiled.each x l inside).elsewhere apart ∙ (done.each x l within).elsewhere apart in
+          subst (λ (k : LocksView). KeepsLocks x (start_of objects x) ns os next k) (sym change)
+          (all x l within (sym (ap (λ (k : LocksView). k.stale) change) ∙ stale))
+    ]

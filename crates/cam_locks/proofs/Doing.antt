@@ -38,47 +38,42 @@ tidied ns os l readers writers versions read write version = record {
     by_mode x next Read h = read x Read next h
     by_mode x next Write h = write x Write next h
 
-same : (ns : List Name) (os ts : List LiveOp) → LeadersStay ns os ts ts
+pub same : (ns : List Name) (os ts : List LiveOp) → LeadersStay ns os ts ts
 same ns os ts = λ x m next h. h
-
--- only versions are left out
-pub tidied_versions : (ns : List Name) (os : List LiveOp) (l : LocksView) (versions : List Version) → VersionsStay ns os l.versions versions
-    → Tidied ns os l (record l { versions = versions })
-tidied_versions ns os l versions stay = tidied ns os l l.readers l.writers versions (same ns os l.readers) (same ns os l.writers) stay
 
 -- an operation was not done
 pub not_done : (ns : List Name) (os : List LiveOp) (l : LocksView) (start : State) (readers writers : List LiveOp) (tidy versions : List Version) → VersionsStay ns os l.versions tidy
-    → start ≡ l.start → readers ≡ l.readers → writers ≡ l.writers → versions ≡ tidy
+    → LeadersStay ns os l.readers readers → LeadersStay ns os l.writers writers → start ≡ l.start → versions ≡ tidy
     → Tidied ns os l (record { start = start; readers = readers; writers = writers; versions = versions; stale = l.stale })
-not_done ns os l start readers writers tidy versions stay same_start same_readers same_writers same_versions =
+not_done ns os l start readers writers tidy versions stay read write same_start same_versions =
     subst (λ (k : LocksView). Tidied ns os l k)
-    (λ i. record { start = sym same_start i; readers = sym same_readers i; writers = sym same_writers i; versions = sym same_versions i; stale = l.stale })
-    (tidied_versions ns os l tidy stay)
+    (λ i. record { start = sym same_start i; readers = readers; writers = writers; versions = sym same_versions i; stale = l.stale })
+    (tidied ns os l readers writers tidy read write stay)
 
-pub done_read : (ns : List Name) (os : List LiveOp) (o : LiveOp) (answer : Answer) (l : LocksView) (start : State) (readers : List LiveOp) (tidy versions : List Version)
-    → mode_of o.op ≡ Read → VersionsStay ns os l.versions tidy → LastIsLive os tidy → answer ≡ answer_of (last_state l.start tidy) o.op
-    → start ≡ l.start → versions ≡ tidy → readers ≡ with_leader ns os l.readers o
+pub done_read : (ns : List Name) (os : List LiveOp) (o : LiveOp) (answer : Answer) (l : LocksView) (start : State) (room readers : List LiveOp) (tidy versions : List Version)
+    → mode_of o.op ≡ Read → LeadersStay ns os l.readers room → VersionsStay ns os l.versions tidy → LastIsLive os tidy → answer ≡ answer_of (last_state l.start tidy) o.op
+    → start ≡ l.start → versions ≡ tidy → readers ≡ with_leader ns os room o
     → IsDone ns os o answer l (record { start = start; readers = readers; writers = l.writers; versions = versions; stale = l.stale })
-done_read ns os o answer l start readers tidy versions mode stay last answered same_start same_versions led = record {
-  before = record l { versions = tidy };
-  tidied = tidied_versions ns os l tidy stay;
+done_read ns os o answer l start room readers tidy versions mode read stay last answered same_start same_versions led = record {
+  before = record l { readers = room; versions = tidy };
+  tidied = tidied ns os l room l.writers tidy read (same ns os l.writers) stay;
   last = last;
   answer_is = answered;
   new_is =
       (λ i. record { start = same_start i; readers = led i; writers = l.writers; versions = same_versions i; stale = l.stale })
-      ∙ sym (ap (λ (m : Mode). added_by m ns os (record l { versions = tidy }) o) mode);
+      ∙ sym (ap (λ (m : Mode). added_by m ns os (record l { readers = room; versions = tidy }) o) mode);
 }
 
-pub done_write : (ns : List Name) (os : List LiveOp) (o : LiveOp) (answer : Answer) (l : LocksView) (writers : List LiveOp) (tidy versions : List Version)
-    → mode_of o.op ≡ Write → VersionsStay ns os l.versions tidy → LastIsLive os tidy → answer ≡ answer_of (last_state l.start tidy) o.op
-    → versions ≡ with_write ns l.start tidy o → writers ≡ with_leader ns os l.writers o
+pub done_write : (ns : List Name) (os : List LiveOp) (o : LiveOp) (answer : Answer) (l : LocksView) (room writers : List LiveOp) (tidy versions : List Version)
+    → mode_of o.op ≡ Write → LeadersStay ns os l.writers room → VersionsStay ns os l.versions tidy → LastIsLive os tidy → answer ≡ answer_of (last_state l.start tidy) o.op
+    → versions ≡ with_write ns l.start tidy o → writers ≡ with_leader ns os room o
     → IsDone ns os o answer l (record { start = l.start; readers = l.readers; writers = writers; versions = versions; stale = l.stale })
-done_write ns os o answer l writers tidy versions mode stay last answered wrote led = record {
-  before = record l { versions = tidy };
-  tidied = tidied_versions ns os l tidy stay;
+done_write ns os o answer l room writers tidy versions mode write stay last answered wrote led = record {
+  before = record l { writers = room; versions = tidy };
+  tidied = tidied ns os l l.readers room tidy (same ns os l.readers) write stay;
   last = last;
   answer_is = answered;
   new_is =
       (λ i. record { start = l.start; readers = l.readers; writers = led i; versions = wrote i; stale = l.stale })
-      ∙ sym (ap (λ (m : Mode). added_by m ns os (record l { versions = tidy }) o) mode);
+      ∙ sym (ap (λ (m : Mode). added_by m ns os (record l { writers = room; versions = tidy }) o) mode);
 }

@@ -1,23 +1,19 @@
--- What is live, and which family's it is, once the slots of some operations are dropped.
-use Rattle.std.proofs.Common.{◌≡◌, ℕ, ◌+◌, ◌≤◌, ◌<◌, eqb, Bool, true, false, not, ◌&&◌, ◌||◌, cond, List, [], ◌∷◌, ◌++◌, length, map, get_or, set, take, zero, suc, refl, sym, ap, subst, ◌∙◌, arith}
+-- What is live once the slots of some operations are dropped.
+use Rattle.std.proofs.Common.{◌≡◌, ℕ, ◌≤◌, ◌<◌, eqb, Bool, true, false, not, ◌&&◌, ◌||◌, cond, List, [], ◌∷◌, length, map, get_or, set, zero, suc, refl, sym, ap, subst, ◌∙◌, arith}
 use Rattle.std.specs.Prelude.{filter}
-use Rattle.std.proofs.lemmas.List.{take_all}
-use Rattle.std.proofs.lemmas.List.Elements.{filter-append}
+use Rattle.std.proofs.Math.Logic.{inl, inr}
 use Rattle.cam_names.specs.declared.name.Name.{Name}
 use Rattle.cam_locks.specs.declared.LiveOp.{LiveOp}
 use Rattle.cam_locks.specs.declared.live.Slot.{Slot}
 use Rattle.cam_locks.specs.Site.{IndicesRise}
 use Rattle.cam_locks.specs.Calls.{is_below}
 use Rattle.cam_locks.specs.Holding.{has_op}
-use Rattle.cam_locks.specs.Live.{all_of, live_of}
+use Rattle.cam_locks.specs.Members.{In}
+use Rattle.cam_locks.specs.Live.{all_of, live_of, other}
 use Rattle.cam_locks.proofs.Passing.{eqb_sym}
-use Rattle.cam_locks.proofs.Lists.{taken, append_nil, filter_twice}
-use Rattle.cam_locks.proofs.Members.{filter_agree}
+use Rattle.cam_locks.proofs.Lists.{filter_twice}
+use Rattle.cam_locks.proofs.Members.{filter_agree, same_op}
 use Rattle.cam_locks.proofs.Slots.{kept, ops, slots_rise, at_least}
-
--- all operations but the one with the index
-abbrev pub other : ℕ → LiveOp → Bool
-other i o = not (eqb i o.index)
 
 -- an index that is not there takes nothing away
 pub without_none : (os : List LiveOp) (i : ℕ) → has_op os i ≡ false → filter (other i) os ≡ os
@@ -81,51 +77,6 @@ all_dropped [] place s lt is = absurd (omega arith)
 all_dropped (t ∷ ss) zero s lt is = ap (λ (r : Slot). r.operation ∷ all_of ss) is
 all_dropped (t ∷ ss) (suc k) s lt is = ap (λ (os : List LiveOp). t.operation ∷ os) (all_dropped ss k s (omega arith) is)
 
--- the slots of some operations are dropped one after another
-abbrev pub others : List LiveOp → LiveOp → Bool
-others hs o = not (has_op hs o.index)
-
-has_snoc : (hs : List LiveOp) (h : LiveOp) (i : ℕ) → has_op (hs ++ h ∷ []) i ≡ (has_op hs i || eqb h.index i)
-has_snoc [] h i = by_test (eqb h.index i)
-  where
-    by_test : (b : Bool) → (b || false) ≡ b
-    by_test true = refl
-    by_test false = refl
-has_snoc (k ∷ hs) h i = ap (λ (b : Bool). eqb k.index i || b) (has_snoc hs h i) ∙ by_test (eqb k.index i)
-  where
-    by_test : (b : Bool) → (b || (has_op hs i || eqb h.index i)) ≡ ((b || has_op hs i) || eqb h.index i)
-    by_test true = refl
-    by_test false = refl
-
-others_more : (hs os : List LiveOp) (h : LiveOp) → filter (other h.index) (filter (others hs) os) ≡ filter (others (hs ++ h ∷ [])) os
-others_more hs os h =
-    filter_twice (other h.index) (others hs) os
-    ∙ filter_agree (λ o. others hs o && other h.index o) (others (hs ++ h ∷ [])) os
-    (λ o k. by_test (has_op hs o.index) (eqb h.index o.index) ∙ ap not (sym (has_snoc hs h o.index)))
-  where
-    by_test : (b c : Bool) → (not b && not c) ≡ not (b || c)
-    by_test true c = refl
-    by_test false c = refl
-
--- one more operation, of which the slot is dropped where it is below the action
-abbrev pub below_taken : Name → List LiveOp → ℕ → List LiveOp
-below_taken n fs i = filter (is_below n) (take i fs)
-
-pub dropped_more : (n : Name) (fs os old new : List LiveOp) (i : ℕ) (f : LiveOp) → i < length fs → f ≡ get_or fs i f → is_below n f ≡ true
-    → old ≡ filter (others (below_taken n fs i)) os → new ≡ filter (other f.index) old → new ≡ filter (others (below_taken n fs (i + 1))) os
-dropped_more n fs os old new i f lt is under so_far step =
-    step ∙ ap (filter (other f.index)) so_far ∙ others_more (below_taken n fs i) os f
-    ∙ ap (λ (hs : List LiveOp). filter (others hs) os)
-    (sym (ap (filter (is_below n)) (taken fs i f lt is) ∙ filter-append (is_below n) (take i fs) (f ∷ [])
-    ∙ ap (λ (b : Bool). below_taken n fs i ++ cond b (f ∷ []) []) under))
-
-pub dropped_same : (n : Name) (fs os old : List LiveOp) (i : ℕ) (f : LiveOp) → i < length fs → f ≡ get_or fs i f → is_below n f ≡ false
-    → old ≡ filter (others (below_taken n fs i)) os → old ≡ filter (others (below_taken n fs (i + 1))) os
-dropped_same n fs os old i f lt is over so_far =
-    so_far ∙ ap (λ (hs : List LiveOp). filter (others hs) os)
-    (sym (ap (filter (is_below n)) (taken fs i f lt is) ∙ filter-append (is_below n) (take i fs) (f ∷ [])
-    ∙ ap (λ (b : Bool). below_taken n fs i ++ cond b (f ∷ []) []) over ∙ append_nil (below_taken n fs i)))
-
 -- what a sweep leaves is live as before
 pub live_swept : (ss : List Slot) → live_of (filter (λ s. not s.is_dropped) ss) ≡ live_of ss
 live_swept ss = ap (map (λ (s : Slot). s.operation)) (filter_twice (λ (s : Slot). not s.is_dropped) (λ (s : Slot). not s.is_dropped) ss ∙ filter_agree (λ (s : Slot). not s.is_dropped && not s.is_dropped) (λ (s : Slot). not s.is_dropped) ss (λ s h. once (not s.is_dropped)))
@@ -134,11 +85,23 @@ live_swept ss = ap (map (λ (s : Slot). s.operation)) (filter_twice (λ (s : Slo
     once true = refl
     once false = refl
 
--- at the start nothing is dropped, and at the end all that are below the action are
-pub dropped_start : (n : Name) (fs os : List LiveOp) → os ≡ filter (others (below_taken n fs 0)) os
-dropped_start n fs [] = refl
-dropped_start n fs (o ∷ os) = ap (λ (ps : List LiveOp). o ∷ ps) (dropped_start n fs os)
+-- An operation below an action is dropped, of some that are left of others: what is not below it is as it was.
+pub dropped_below : (n : Name) (os ops : List LiveOp) (next : ℕ) (f : LiveOp) → IndicesRise 0 os next → ((o : LiveOp) → In o ops → In o os) → In f ops → is_below n f ≡ true
+    → filter (λ o. not (is_below n o)) (filter (other f.index) ops) ≡ filter (λ o. not (is_below n o)) ops
+dropped_below n os ops next f rise among there under =
+    filter_twice (λ o. not (is_below n o)) (other f.index) ops
+    ∙ filter_agree (λ o. other f.index o && not (is_below n o)) (λ o. not (is_below n o)) ops (λ o h. by_test o h (eqb f.index o.index) refl)
+  where
+    by_test : (o : LiveOp) → In o ops → (b : Bool) → eqb f.index o.index ≡ b → (not b && not (is_below n o)) ≡ not (is_below n o)
+    by_test o h false e = refl
+    by_test o h true e =
+        let same : f.index ≡ o.index = grind (arith, e) in
+        let one : f ≡ o = same_op 0 os next f o rise (among f there) (among o h) same in
+        sym (ap not (ap (is_below n) (sym one) ∙ under))
 
-pub dropped_all : (n : Name) (fs : List LiveOp) (i : ℕ) (os new : List LiveOp) → length fs ≤ i
-    → new ≡ filter (others (below_taken n fs i)) os → new ≡ filter (others (filter (is_below n) fs)) os
-dropped_all n fs i os new past is = is ∙ ap (λ (hs : List LiveOp). filter (others (filter (is_below n) hs)) os) (take_all i fs past)
+-- where nothing below the action is left, only that is left
+pub none_below : (n : Name) (ops : List LiveOp) → ((o : LiveOp) → In o ops → is_below n o ≡ false) → filter (λ o. not (is_below n o)) ops ≡ ops
+none_below n [] h = refl
+none_below n (o ∷ ops) h =
+    ap (λ (b : Bool). cond (not b) (o ∷ filter (λ o. not (is_below n o)) ops) (filter (λ o. not (is_below n o)) ops)) (h o (inl refl))
+    ∙ ap (λ (ps : List LiveOp). o ∷ ps) (none_below n ops (λ p k. h p (inr k)))

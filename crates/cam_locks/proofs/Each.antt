@@ -1,17 +1,17 @@
 -- A change of what is kept of each object.
-use Rattle.std.proofs.Common.{◌≡◌, ◌≢◌, ◌⊎◌, ℕ, ◌+◌, ◌≤◌, ◌<◌, eqb, Bool, true, false, cond, List, [], ◌∷◌, ◌++◌, length, take, get_or, set, zero, suc, refl, sym, ap, subst, ◌∙◌, arith, eq-eqb, get_or-set_other, get_or-set_same, length-set}
+use Rattle.std.proofs.Common.{◌≡◌, ◌≢◌, ◌⊎◌, ℕ, ◌<◌, eqb, Bool, true, false, not, List, [], ◌∷◌, length, get_or, set, zero, suc, refl, sym, ap, subst, ◌∙◌, arith, eq-eqb, get_or-set_other, get_or-set_same, length-set}
 use Rattle.std.proofs.Math.Logic.{inl, inr}
 use Rattle.std.specs.Prelude.{filter}
-use Rattle.std.proofs.lemmas.List.{take_all}
-use Rattle.std.proofs.lemmas.List.Elements.{filter-append}
 use Rattle.cam_names.specs.declared.name.Name.{Name}
 use Rattle.cam_locks.specs.declared.LiveOp.{LiveOp}
 use Rattle.cam_locks.specs.Moss.{is_on}
 use Rattle.cam_locks.specs.Calls.{is_below}
 use Rattle.cam_locks.specs.Holding.{LocksView}
-use Rattle.cam_locks.specs.Changes.{EachTo, SpoiledAt, SpoiledBy}
-use Rattle.cam_locks.proofs.Lists.{taken, append_nil}
-use Rattle.cam_locks.proofs.Members.{in_either, in_last}
+use Rattle.cam_locks.specs.Changes.{EachTo, SpoiledAt}
+use Rattle.cam_locks.specs.Members.{In}
+use Rattle.cam_locks.specs.Site.{IndicesRise}
+use Rattle.cam_locks.specs.Live.{other}
+use Rattle.cam_locks.proofs.Members.{in_filtered, same_op}
 
 pub off_object : (x : ℕ) (n : LiveOp) → x ≢ n.object → is_on x n ≡ false
 off_object x n apart = grind (arith, apart)
@@ -48,24 +48,27 @@ each_set change ls at was now lt is changed others = record {
         (subst (λ (k : LocksView). change at (get_or ls at l) k) (sym (get_or-set_same ls at now l lt))
         (subst (λ (k : LocksView). change at k now) (sym (get_any ls at was l lt is)) changed))
 
--- what is kept of some objects is spoiled, one after another
-pub none_spoiled : (ls : List LocksView) → EachTo (SpoiledBy []) ls ls
-none_spoiled ls = record { len = refl; each = λ x l lt. inr (refl, λ o h. absurd h) }
+-- What is kept of the objects of what is below an action is spoiled, while it is dropped: stale, or as it was where nothing on the object
+-- that is below the action is dropped yet.
+abbrev pub SpoiledBelow : Name → List LiveOp → List LiveOp → ℕ → LocksView → LocksView → Type 0
+SpoiledBelow n os rest x old new =
+    (new.stale ≡ true) ⊎ ((new ≡ old) × ((o : LiveOp) → In o os → is_on x o ≡ true → is_below n o ≡ true → In o rest))
 
-pub spoiled_more : (n : Name) (fs : List LiveOp) (i : ℕ) (f : LiveOp) (old mid new : List LocksView) → i < length fs → f ≡ get_or fs i f → is_below n f ≡ true
-    → EachTo (SpoiledBy (filter (is_below n) (take i fs))) old mid → EachTo (SpoiledAt f.object) mid new → EachTo (SpoiledBy (filter (is_below n) (take (i + 1) fs))) old new
-spoiled_more n fs i f old mid new lt is under so_far step =
-    subst (λ (os : List LiveOp). EachTo (SpoiledBy os) old new) (sym grown) (record { len = step.len ∙ so_far.len; each = both })
+-- it need not be where the action isn't committed
+abbrev pub SpoiledWhere : Bool → Name → List LiveOp → List LiveOp → List LocksView → List LocksView → Type 0
+SpoiledWhere true n os rest old new = EachTo (SpoiledBelow n os rest) old new
+SpoiledWhere false n os rest old new = new ≡ old
+
+pub none_spoiled : (b : Bool) (n : Name) (os : List LiveOp) (ls : List LocksView) → SpoiledWhere b n os os ls ls
+none_spoiled true n os ls = record { len = refl; each = λ x l lt. inr (refl, λ o h on under. h) }
+none_spoiled false n os ls = refl
+
+pub spoiled_more : (n : Name) (os ops : List LiveOp) (next : ℕ) (f : LiveOp) (old mid new : List LocksView) → IndicesRise 0 os next
+    → ((o : LiveOp) → In o ops → In o os) → In f ops → EachTo (SpoiledBelow n os ops) old mid → EachTo (SpoiledAt f.object) mid new
+    → EachTo (SpoiledBelow n os (filter (other f.index) ops)) old new
+spoiled_more n os ops next f old mid new rise among there so_far step = record { len = step.len ∙ so_far.len; each = both }
   where
-    before : List LiveOp
-    before = filter (is_below n) (take i fs)
-
-    grown : filter (is_below n) (take (i + 1) fs) ≡ before ++ f ∷ []
-    grown =
-        ap (filter (is_below n)) (taken fs i f lt is) ∙ filter-append (is_below n) (take i fs) (f ∷ [])
-        ∙ ap (λ (b : Bool). before ++ cond b (f ∷ []) []) under
-
-    both : (x : ℕ) (l : LocksView) → x < length old → SpoiledBy (before ++ f ∷ []) x (get_or old x l) (get_or new x l)
+    both : (x : ℕ) (l : LocksView) → x < length old → SpoiledBelow n os (filter (other f.index) ops) x (get_or old x l) (get_or new x l)
     both x l within = elim (by_eq x f.object) [
       | inl same ↦ inl (second.here same)
       | inr apart ↦ elsewhere apart (so_far.each x l within)
@@ -74,23 +77,23 @@ spoiled_more n fs i f old mid new lt is under so_far step =
         second : SpoiledAt f.object x (get_or mid x l) (get_or new x l)
         second = step.each x l (subst (λ (k : ℕ). x < k) (sym so_far.len) within)
 
-        elsewhere : x ≢ f.object → SpoiledBy before x (get_or old x l) (get_or mid x l) → SpoiledBy (before ++ f ∷ []) x (get_or old x l) (get_or new x l)
+        still : x ≢ f.object → (o : LiveOp) → In o ops → is_on x o ≡ true → (b : Bool) → eqb f.index o.index ≡ b → In o (filter (other f.index) ops)
+        still apart o h on false e = in_filtered (other f.index) o ops h (ap not e)
+        still apart o h on true e =
+            let same : f.index ≡ o.index = grind (arith, e) in
+            let one : f ≡ o = same_op 0 os next f o rise (among f there) (among o h) same in
+            let no : true ≡ false = sym on ∙ ap (is_on x) (sym one) ∙ off_object x f apart in cc
+
+        elsewhere : x ≢ f.object → SpoiledBelow n os ops x (get_or old x l) (get_or mid x l) → SpoiledBelow n os (filter (other f.index) ops) x (get_or old x l) (get_or new x l)
         elsewhere apart (inl spoiled) = inl (ap (λ (k : LocksView). k.stale) (second.elsewhere apart) ∙ spoiled)
-        elsewhere apart (inr same) = inr (
-          second.elsewhere apart ∙ same.0,
-          λ o h. elim (in_either o before (f ∷ []) h) [
-            | inl k ↦ same.1 o k
-            | inr k ↦ ap (is_on x) (in_last o f k) ∙ off_object x f apart
-          ],
-        )
+        elsewhere apart (inr same) = inr (second.elsewhere apart ∙ same.0, λ o h on under. still apart o (same.1 o h on under) on (eqb f.index o.index) refl)
 
-pub spoiled_same : (n : Name) (fs : List LiveOp) (i : ℕ) (f : LiveOp) (old new : List LocksView) → i < length fs → f ≡ get_or fs i f → is_below n f ≡ false
-    → EachTo (SpoiledBy (filter (is_below n) (take i fs))) old new → EachTo (SpoiledBy (filter (is_below n) (take (i + 1) fs))) old new
-spoiled_same n fs i f old new lt is over so_far =
-    subst (λ (os : List LiveOp). EachTo (SpoiledBy os) old new)
-    (sym (ap (filter (is_below n)) (taken fs i f lt is) ∙ filter-append (is_below n) (take i fs) (f ∷ [])
-    ∙ ap (λ (b : Bool). filter (is_below n) (take i fs) ++ cond b (f ∷ []) []) over ∙ append_nil (filter (is_below n) (take i fs)))) so_far
+pub spoiled_on : (b : Bool) (n : Name) (os ops : List LiveOp) (next : ℕ) (f : LiveOp) (old mid new : List LocksView) → b ≡ true → IndicesRise 0 os next
+    → ((o : LiveOp) → In o ops → In o os) → In f ops → SpoiledWhere b n os ops old mid → EachTo (SpoiledAt f.object) mid new
+    → SpoiledWhere b n os (filter (other f.index) ops) old new
+spoiled_on true n os ops next f old mid new is rise among there so_far step = spoiled_more n os ops next f old mid new rise among there so_far step
+spoiled_on false n os ops next f old mid new is rise among there so_far step = cc
 
-pub spoiled_all : (n : Name) (fs : List LiveOp) (i : ℕ) (old new : List LocksView) → length fs ≤ i
-    → EachTo (SpoiledBy (filter (is_below n) (take i fs))) old new → EachTo (SpoiledBy (filter (is_below n) fs)) old new
-spoiled_all n fs i old new past = subst (λ (os : List LiveOp). EachTo (SpoiledBy (filter (is_below n) os)) old new) (take_all i fs past)
+pub spoiled_off : (b : Bool) (n : Name) (os ops rest : List LiveOp) (old new : List LocksView) → b ≡ false → SpoiledWhere b n os ops old new → SpoiledWhere b n os rest old new
+spoiled_off true n os ops rest old new is so_far = cc
+spoiled_off false n os ops rest old new is so_far = so_far

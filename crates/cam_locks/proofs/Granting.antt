@@ -9,9 +9,9 @@ use Rattle.cam_type.specs.Table.{answer_of}
 use Rattle.cam_locks.specs.declared.LiveOp.{LiveOp}
 use Rattle.cam_locks.specs.Site.{IndicesRise, start_of}
 use Rattle.cam_locks.specs.Holding.{lift_in, LocksView, leaders_of, AllLocks, fresh}
-use Rattle.cam_locks.specs.Changes.{EachTo, TidiedTo, DoneTo, standing, first_over, holder_of, value_of}
+use Rattle.cam_locks.specs.Changes.{EachTo, TidiedTo, DoneTo, SpoiledAt, standing, first_over, holder_of, value_of}
 use Rattle.cam_locks.proofs.Standing.{conflict_kept}
-use Rattle.cam_locks.proofs.AllKept.{all_tidied, all_done, answer_all}
+use Rattle.cam_locks.proofs.AllKept.{all_tidied, all_done, all_undone, answer_all}
 
 -- what is not stale is not stale once it is tidied
 fresh_tidied : (ns : List Name) (os : List LiveOp) (old new : List LocksView) (x : ℕ) → x < length old → ((l : LocksView) → (get_or old x l).stale ≡ false)
@@ -33,31 +33,32 @@ holder_kept objects ns os next old new a x op r rise within not_stale tidy all f
     still : x < length new
     still = subst (λ (n : ℕ). x < n) (sym tidy.len) within
 
--- at a refusal, with room made or not
-pub kept_refused : (objects : List ObjectDecl) (ns : List Name) (os roomy : List LiveOp) (next later : ℕ) (old new : List LocksView) → roomy ≡ os → later ≡ next
-    → EachTo (TidiedTo ns os) old new → AllLocks objects ns os next old → AllLocks objects ns roomy later new
-kept_refused objects ns os roomy next later old new same_ops same_next tidy all =
-    subst (λ (ps : List LiveOp). AllLocks objects ns ps later new) (sym same_ops)
-    (subst (λ (n : ℕ). AllLocks objects ns os n new) (sym same_next) (all_tidied objects ns os next old new tidy all))
-
 -- behind an operation that was done
-pub kept_done : (objects : List ObjectDecl) (ns : List Name) (os roomy ops : List LiveOp) (next later end : ℕ) (old mid new : List LocksView) (n : LiveOp) (answer : Answer) → roomy ≡ os → later ≡ next
+pub kept_done : (objects : List ObjectDecl) (ns : List Name) (os ops : List LiveOp) (next end : ℕ) (old mid new : List LocksView) (n : LiveOp) (answer : Answer)
     → IndicesRise 0 os next → next ≤ n.index → holder_of ns os n.action n.object n.op ≡ None
-    → EachTo (TidiedTo ns os) old mid → EachTo (DoneTo ns roomy n answer) mid new → AllLocks objects ns os next old
-    → ops ≡ roomy ++ n ∷ [] → end ≡ n.index + 1 → AllLocks objects ns ops end new
-kept_done objects ns os roomy ops next later end old mid new n answer same_ops same_next rise le none tidy done all ops_is end_is =
-    subst (λ (ps : List LiveOp). AllLocks objects ns ps end new) (sym (ops_is ∙ ap (λ (ps : List LiveOp). ps ++ n ∷ []) same_ops))
+    → EachTo (TidiedTo ns os) old mid → EachTo (DoneTo ns os n answer) mid new → AllLocks objects ns os next old
+    → ops ≡ os ++ n ∷ [] → end ≡ n.index + 1 → AllLocks objects ns ops end new
+kept_done objects ns os ops next end old mid new n answer rise le none tidy done all ops_is end_is =
+    subst (λ (ps : List LiveOp). AllLocks objects ns ps end new) (sym ops_is)
     (subst (λ (k : ℕ). AllLocks objects ns (os ++ n ∷ []) k new) (sym end_is)
-    (all_done objects ns os next mid new n answer rise le none (subst (λ (ps : List LiveOp). EachTo (DoneTo ns ps n answer) mid new) same_ops done)
-    (all_tidied objects ns os next old mid tidy all)))
+    (all_done objects ns os next mid new n answer rise le none done (all_tidied objects ns os next old mid tidy all)))
 
-pub answer_kept : (objects : List ObjectDecl) (ns : List Name) (os roomy : List LiveOp) (next : ℕ) (old mid new : List LocksView) (n : LiveOp) (answer : Answer) → roomy ≡ os
+-- or one that was done but not added
+pub kept_undone : (objects : List ObjectDecl) (ns : List Name) (os ops : List LiveOp) (next end : ℕ) (old mid done_to new : List LocksView) (n : LiveOp) (answer : Answer)
+    → EachTo (TidiedTo ns os) old mid → EachTo (DoneTo ns os n answer) mid done_to → EachTo (SpoiledAt n.object) done_to new → AllLocks objects ns os next old
+    → ops ≡ os → end ≡ next → AllLocks objects ns ops end new
+kept_undone objects ns os ops next end old mid done_to new n answer tidy done spoiled all ops_is end_is =
+    subst (λ (ps : List LiveOp). AllLocks objects ns ps end new) (sym ops_is)
+    (subst (λ (k : ℕ). AllLocks objects ns os k new) (sym end_is)
+    (all_undone objects ns os next mid done_to new n answer done spoiled (all_tidied objects ns os next old mid tidy all)))
+
+pub answer_kept : (objects : List ObjectDecl) (ns : List Name) (os : List LiveOp) (next : ℕ) (old mid new : List LocksView) (n : LiveOp) (answer : Answer)
     → n.object < length old → ((l : LocksView) → (get_or old n.object l).stale ≡ false)
-    → EachTo (TidiedTo ns os) old mid → EachTo (DoneTo ns roomy n answer) mid new → AllLocks objects ns os next old
+    → EachTo (TidiedTo ns os) old mid → EachTo (DoneTo ns os n answer) mid new → AllLocks objects ns os next old
     → answer ≡ answer_of (value_of objects os n.object) n.op
-answer_kept objects ns os roomy next old mid new n answer same_ops within not_stale tidy done all =
+answer_kept objects ns os next old mid new n answer within not_stale tidy done all =
     answer_all objects ns os next mid new n answer any (subst (λ (k : ℕ). n.object < k) (sym tidy.len) within) (fresh_tidied ns os old mid n.object within not_stale tidy any)
-    (subst (λ (ps : List LiveOp). EachTo (DoneTo ns ps n answer) mid new) same_ops done) (all_tidied objects ns os next old mid tidy all)
+    done (all_tidied objects ns os next old mid tidy all)
   where
     any : LocksView
     any = fresh (start_of objects n.object)

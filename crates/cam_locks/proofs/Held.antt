@@ -38,7 +38,7 @@ absent_kept know (f ∷ held) i h = by_test (knows_abort know f.family) (absent_
     by_test true rest = rest (absent_back f.ops (all_held held) i h)
     by_test false rest = absent_map f.family f.ops (all_held held) (kept know held) i rest h
 
-may_back : (objects : List ObjectDecl) (node : ℕ) (hs gs : List HeldOp) → MayBeHeld objects node (hs ++ gs) → MayBeHeld objects node gs
+pub may_back : (objects : List ObjectDecl) (node : ℕ) (hs gs : List HeldOp) → MayBeHeld objects node (hs ++ gs) → MayBeHeld objects node gs
 may_back objects node [] gs may = may
 may_back objects node (h ∷ hs) gs may = may_back objects node hs gs may.3
 

@@ -1,86 +1,58 @@
--- The operations of a family, and of those what is below an action.
-use Rattle.std.proofs.Common.{◌≡◌, ℕ, Bool, true, false, not, ◌&&◌, if◌then◌else◌, cond, List, [], ◌∷◌, ◌++◌, refl, sym, ap, ◌∙◌}
-use Rattle.std.specs.Prelude.{filter}
-use Rattle.std.proofs.lemmas.List.Elements.{filter-append}
+-- The operations of a family are those below its top action.
+use Rattle.std.proofs.Common.{◌≡◌, ◌<◌, Bool, true, false, ◌||◌, cond, List, [], ◌∷◌, length, Option, Some, None, is_some, refl, sym, ap, ◌∙◌, arith}
+use Rattle.std.proofs.Math.Logic.{inl, inr}
+use Rattle.std.specs.Prelude.{filter, IfSome, IfNone}
+use Rattle.std.specs.List.{list_any}
 use Rattle.cam_names.specs.declared.name.Name.{Name}
 use Rattle.cam_names.specs.Part.{part_eq}
-use Rattle.cam_names.specs.Names.{name_eq, is_prefix, is_ancestor, family}
-use Rattle.cam_names.proofs.Names.{name_eq_same, name_eq_sym, name_eq_refl}
+use Rattle.cam_names.specs.Names.{name_eq, is_ancestor, family}
 use Rattle.cam_locks.specs.declared.LiveOp.{LiveOp}
 use Rattle.cam_locks.specs.Members.{In}
-use Rattle.cam_locks.specs.Site.{IndicesRise}
 use Rattle.cam_locks.specs.Calls.{is_below, is_of}
-use Rattle.cam_locks.specs.Holding.{has_op}
-use Rattle.cam_locks.proofs.Lists.{append_nil, filter_twice}
-use Rattle.cam_locks.proofs.Members.{in_filter, in_filtered, filter_agree, same_op, has_member, member_at}
-use Rattle.cam_locks.proofs.Dropping.{others}
+use Rattle.cam_locks.proofs.Passing.{and_no}
+use Rattle.cam_locks.proofs.Members.{filter_agree, any_member}
 
--- an action below another is of its family
-pub below_family : (n a : Name) → is_ancestor n a ≡ true → name_eq (family n) (family a) ≡ true
-below_family [] a h = cc
-below_family (p ∷ n) [] h = cc
-below_family (p ∷ n) (q ∷ a) h = by_test (part_eq p q) h
+-- a name of one part is a family's, and no other is
+pub top_of : (f a : Name) → length f ≡ 1 → name_eq f (family a) ≡ is_ancestor f a
+top_of [] a one = absurd (omega (arith, one))
+top_of (p ∷ []) [] one = refl
+top_of (p ∷ []) (q ∷ a) one = refl
+top_of (p ∷ r ∷ f) a one = absurd (omega (arith, one))
+
+pub deep_of : (f a : Name) → 1 < length f → name_eq f (family a) ≡ false
+deep_of [] a deep = absurd (omega (arith, deep))
+deep_of (p ∷ []) a deep = absurd (omega (arith, deep))
+deep_of (p ∷ r ∷ f) [] deep = refl
+deep_of (p ∷ r ∷ f) (q ∷ a) deep = and_no (part_eq p q)
+
+pub family_below : (f : Name) (os : List LiveOp) → length f ≡ 1 → filter (is_below f) os ≡ filter (is_of f) os
+family_below f os one = filter_agree (is_below f) (is_of f) os (λ o h. sym (top_of f o.action one))
+
+pub no_family : (f : Name) (os : List LiveOp) → 1 < length f → [] ≡ filter (is_of f) os
+no_family f [] deep = refl
+no_family f (o ∷ os) deep = no_family f os deep ∙ sym (ap (λ (b : Bool). cond b (o ∷ filter (is_of f) os) (filter (is_of f) os)) (deep_of f o.action deep))
+
+pub none_of : (f : Name) (os : List LiveOp) → 1 < length f → list_any (is_of f) os ≡ false
+none_of f [] deep = refl
+none_of f (o ∷ os) deep = ap (λ (b : Bool). b || list_any (is_of f) os) (deep_of f o.action deep) ∙ none_of f os deep
+
+-- so one below it tells whether there is one
+pub some_of : (f : Name) (os : List LiveOp) (r : Option LiveOp) → length f ≡ 1
+    → IfSome r (λ o. In o os × (is_below f o ≡ true)) → IfNone r ((o : LiveOp) → In o os → is_below f o ≡ false) → is_some r ≡ list_any (is_of f) os
+some_of f os None one some none = by_test (list_any (is_of f) os) refl
   where
-    by_test : (b : Bool) → (b && is_prefix n a) ≡ true → (b && true) ≡ true
-    by_test true k = refl
-    by_test false k = cc
-
--- so the family's operations below it are all that are below it
-pub all_below : (n : Name) (os : List LiveOp) (next : ℕ) → IndicesRise 0 os next
-    → filter (others (filter (is_below n) (filter (is_of (family n)) os))) os ≡ filter (λ o. not (is_below n o)) os
-all_below n os next rise = filter_agree (others under) (λ o. not (is_below n o)) os (λ o h. ap not (by_test o h (is_below n o) refl))
-  where
-    under : List LiveOp
-    under = filter (is_below n) (filter (is_of (family n)) os)
-
-    by_has : (o : LiveOp) → In o os → is_below n o ≡ false → (b : Bool) → has_op under o.index ≡ b → b ≡ false
-    by_has o h over false e = refl
-    by_has o h over true e =
-        let p = member_at under o.index e in
-        let q = in_filter (is_below n) p.0 (filter (is_of (family n)) os) p.1 in
-        let r = in_filter (is_of (family n)) p.0 os q.0 in
-        let same : p.0 ≡ o = same_op 0 os next p.0 o rise r.0 h p.2 in
-        sym q.1 ∙ ap (is_below n) same ∙ over
-
-    by_test : (o : LiveOp) → In o os → (b : Bool) → is_below n o ≡ b → has_op under o.index ≡ b
-    by_test o h true e =
-        has_member under o
-        (in_filtered (is_below n) o (filter (is_of (family n)) os) (in_filtered (is_of (family n)) o os h (below_family n o.action e)) e)
-    by_test o h false e = by_has o h e (has_op under o.index) refl
-
--- the lists of the families follow
-pub family_pushed : (f : Name) (os : List LiveOp) (o : LiveOp)
-    → (if name_eq (family o.action) f then filter (is_of f) os ++ o ∷ [] else filter (is_of f) os) ≡ filter (is_of f) (os ++ o ∷ [])
-family_pushed f os o =
-    by_test (name_eq (family o.action) f) ∙ ap (λ (b : Bool). filter (is_of f) os ++ cond b (o ∷ []) []) (name_eq_sym (family o.action) f)
-    ∙ sym (filter-append (is_of f) os (o ∷ []))
-  where
-    by_test : (b : Bool) → cond b (filter (is_of f) os ++ o ∷ []) (filter (is_of f) os) ≡ filter (is_of f) os ++ cond b (o ∷ []) []
-    by_test true = refl
-    by_test false = sym (append_nil (filter (is_of f) os))
-
-pub family_dropped : (n f : Name) (os : List LiveOp)
-    → (if name_eq (family n) f then filter (λ o. not (is_below n o)) (filter (is_of f) os) else filter (is_of f) os) ≡ filter (is_of f) (filter (λ o. not (is_below n o)) os)
-family_dropped n f os = by_test (name_eq (family n) f) refl ∙ sym (filter_twice (is_of f) (λ o. not (is_below n o)) os)
-  where
-    swap : (b c : Bool) → (b && c) ≡ (c && b)
-    swap true true = refl
-    swap true false = refl
-    swap false true = refl
-    swap false false = refl
-
-    apart : name_eq (family n) f ≡ false → (o : LiveOp) → (a b : Bool) → is_of f o ≡ a → is_below n o ≡ b → a ≡ (not b && a)
-    apart other_family o false true of under = refl
-    apart other_family o false false of under = refl
-    apart other_family o true false of under = refl
-    apart other_family o true true of under =
-        let same : family n ≡ family o.action = name_eq_same (family n) (family o.action) (below_family n o.action under) in
-        let one : f ≡ family o.action = name_eq_same f (family o.action) of in
-        sym (ap (λ (g : Name). name_eq g f) (same ∙ sym one) ∙ name_eq_refl f) ∙ other_family
-
-    by_test : (b : Bool) → name_eq (family n) f ≡ b
-        → cond b (filter (λ o. not (is_below n o)) (filter (is_of f) os)) (filter (is_of f) os) ≡ filter (λ o. not (is_below n o) && is_of f o) os
+    by_test : (b : Bool) → list_any (is_of f) os ≡ b → false ≡ b
+    by_test false e = refl
     by_test true e =
-        filter_twice (λ o. not (is_below n o)) (is_of f) os
-        ∙ filter_agree (λ o. is_of f o && not (is_below n o)) (λ o. not (is_below n o) && is_of f o) os (λ o h. swap (is_of f o) (not (is_below n o)))
-    by_test false e = filter_agree (is_of f) (λ o. not (is_below n o) && is_of f o) os (λ o h. apart e o (is_of f o) (is_below n o) refl refl)
+        let found = any_member (is_of f) os e in
+        let no : true ≡ false = sym found.2 ∙ top_of f found.0.action one ∙ none found.0 found.1 in cc
+some_of f os (Some o) one some none = sym (any_in os o some.0 (top_of f o.action one ∙ some.1))
+  where
+    any_in : (os : List LiveOp) (o : LiveOp) → In o os → is_of f o ≡ true → list_any (is_of f) os ≡ true
+    any_in [] o h of = absurd h
+    any_in (p ∷ os) o (inl e) of = ap (λ (b : Bool). b || list_any (is_of f) os) (ap (is_of f) (sym e) ∙ of)
+    any_in (p ∷ os) o (inr h) of = or_true (is_of f p) (any_in os o h of)
+      where
+        or_true : (a : Bool) → list_any (is_of f) os ≡ true → (a || list_any (is_of f) os) ≡ true
+        or_true true h = refl
+        or_true false h = h

@@ -1,21 +1,20 @@
 -- The live operations as they are kept, through each call.
-use Rattle.std.proofs.Common.{◌≡◌, ℕ, ◌+◌, ◌≤◌, Bool, true, false, not, if◌then◌else◌, cond, List, [], ◌∷◌, ◌++◌, map, Option, None, suc, sym, ap, subst, ◌∙◌, arith}
+use Rattle.std.proofs.Common.{◌≡◌, ℕ, ◌+◌, ◌≤◌, Bool, true, false, not, cond, List, [], ◌∷◌, ◌++◌, map, suc, sym, ap, subst, ◌∙◌, arith}
 use Rattle.std.specs.Prelude.{filter}
+use Rattle.std.specs.Ordering.{is_eq}
+use Rattle.std.specs.BTreeSet.{BTreeSet, contains}
 use Rattle.std.proofs.lemmas.List.{map-append}
 use Rattle.std.proofs.lemmas.List.Elements.{filter-append}
-use Rattle.cam_names.specs.declared.name.Name.{Name}
-use Rattle.cam_names.specs.Names.{name_eq, family}
 use Rattle.cam_locks.specs.declared.LiveOp.{LiveOp}
 use Rattle.cam_locks.specs.declared.live.Slot.{Slot}
-use Rattle.cam_locks.specs.declared.families.Families.{Families}
+use Rattle.cam_locks.specs.declared.placed.Placed.{Placed}
+use Rattle.cam_locks.specs.Members.{In}
 use Rattle.cam_locks.specs.Site.{IndicesRise}
-use Rattle.cam_locks.specs.Calls.{is_below, is_of}
-use Rattle.cam_locks.specs.Families.{list_of}
-use Rattle.cam_locks.specs.Live.{all_of, live_of, IsLive}
+use Rattle.cam_locks.specs.Placed.{placed_cmp, placed_of, has_placed}
+use Rattle.cam_locks.specs.Live.{all_of, live_of, IsLive, other}
 use Rattle.cam_locks.proofs.Rising.{rise_from_lower, rise_above, rise_later}
 use Rattle.cam_locks.proofs.Slots.{kept, slots_rise}
-use Rattle.cam_locks.proofs.Dropping.{others}
-use Rattle.cam_locks.proofs.Kin.{all_below, family_pushed, family_dropped}
+use Rattle.cam_locks.proofs.Naming.{named_pushed, named_dropped}
 
 abbrev slot : LiveOp → Slot
 slot o = record { operation = o; is_dropped = false }
@@ -25,41 +24,35 @@ live_pushed ss o =
     ap (map (λ (s : Slot). s.operation)) (filter-append (λ (s : Slot). not s.is_dropped) ss (slot o ∷ []))
     ∙ map-append (λ (s : Slot). s.operation) (kept ss) (slot o ∷ [])
 
+-- the set has one place more, or one less
+abbrev pub IsSet : BTreeSet Placed → BTreeSet Placed → LiveOp → Bool → Type 0
+IsSet old new o b = (q : Placed) → contains placed_cmp new q ≡ cond (is_eq (placed_cmp (placed_of o) q)) b (contains placed_cmp old q)
+
 -- one more operation
-pub is_live_pushed : (ss : List Slot) (old new : Families) (ready : Option Name) (next : ℕ) (o : LiveOp) → IsLive ss old ready next → next ≤ o.index → o.index ≤ 999999999
-    → ((f : Name) → list_of new f ≡ (if name_eq (family o.action) f then list_of old f ++ o ∷ [] else list_of old f)) → IsLive (ss ++ slot o ∷ []) new None (o.index + 1)
-is_live_pushed ss old new ready next o live le range pushed = record {
+pub is_live_pushed : (ss : List Slot) (old new : BTreeSet Placed) (next : ℕ) (o : LiveOp) → IsLive ss old next → next ≤ o.index → o.index ≤ 999999999
+    → IsSet old new o true → IsLive (ss ++ slot o ∷ []) new (o.index + 1)
+is_live_pushed ss old new next o live le range put = record {
   rising = subst (λ (os : List LiveOp). IndicesRise 0 os (o.index + 1)) (sym (map-append (λ (s : Slot). s.operation) ss (slot o ∷ []))) (rise_above 0 (all_of ss) next o le live.rising);
   bound = omega (arith, range);
-  ready_for = tt;
-  lists = λ f.
-      pushed f ∙ ap (λ (os : List LiveOp). if name_eq (family o.action) f then os ++ o ∷ [] else os) (live.lists f)
-      ∙ family_pushed f (live_of ss) o ∙ ap (filter (is_of f)) (sym (live_pushed ss o));
+  named = λ q.
+      put q ∙ ap (cond (is_eq (placed_cmp (placed_of o) q)) true) (live.named q)
+      ∙ named_pushed (live_of ss) o q ∙ ap (λ (os : List LiveOp). has_placed os q) (sym (live_pushed ss o));
 }
 
 -- a later next index
-pub is_live_raised : (ss : List Slot) (families : Families) (ready : Option Name) (next later : ℕ) → IsLive ss families ready next → next ≤ later → later ≤ 1000000000
-    → IsLive ss families ready later
-is_live_raised ss families ready next later live le range =
-    record { rising = rise_later 0 (all_of ss) next later le live.rising; bound = range; ready_for = live.ready_for; lists = live.lists }
+pub is_live_raised : (ss : List Slot) (by_name : BTreeSet Placed) (next later : ℕ) → IsLive ss by_name next → next ≤ later → later ≤ 1000000000 → IsLive ss by_name later
+is_live_raised ss by_name next later live le range =
+    record { rising = rise_later 0 (all_of ss) next later le live.rising; bound = range; named = live.named }
 
--- the slots of what is below an action are dropped
-pub ops_dropped : (ss rest : List Slot) (families : Families) (ready : Option Name) (next : ℕ) (n : Name) (ops : List LiveOp) → IsLive ss families ready next
-    → ops ≡ list_of families (family n) → live_of rest ≡ filter (others (filter (is_below n) ops)) (live_of ss) → live_of rest ≡ filter (λ o. not (is_below n o)) (live_of ss)
-ops_dropped ss rest families ready next n ops live of is =
-    is ∙ ap (λ (os : List LiveOp). filter (others (filter (is_below n) os)) (live_of ss)) (of ∙ live.lists (family n))
-    ∙ all_below n (live_of ss) next (slots_rise 0 ss next live.rising)
-
-pub is_live_dropped : (ss rest : List Slot) (old new : Families) (ready : Option Name) (next : ℕ) (n : Name) → IsLive ss old ready next
-    → live_of rest ≡ filter (λ o. not (is_below n o)) (live_of ss) → IndicesRise 0 (all_of rest) next
-    → ((f : Name) → list_of new f ≡ (if name_eq (family n) f then filter (λ o. not (is_below n o)) (list_of old f) else list_of old f)) → IsLive rest new None next
-is_live_dropped ss rest old new ready next n live is rise dropped = record {
+-- one operation less
+pub is_live_dropped : (ss rest : List Slot) (old new : BTreeSet Placed) (next : ℕ) (o : LiveOp) → IsLive ss old next → In o (live_of ss)
+    → live_of rest ≡ filter (other o.index) (live_of ss) → IndicesRise 0 (all_of rest) next → IsSet old new o false → IsLive rest new next
+is_live_dropped ss rest old new next o live there is rise taken = record {
   rising = rise;
   bound = live.bound;
-  ready_for = tt;
-  lists = λ f.
-      dropped f ∙ ap (λ (os : List LiveOp). if name_eq (family n) f then filter (λ o. not (is_below n o)) os else os) (live.lists f)
-      ∙ family_dropped n f (live_of ss) ∙ ap (filter (is_of f)) (sym is);
+  named = λ q.
+      taken q ∙ ap (cond (is_eq (placed_cmp (placed_of o) q)) false) (live.named q)
+      ∙ named_dropped (live_of ss) next o q (slots_rise 0 ss next live.rising) there ∙ ap (λ (os : List LiveOp). has_placed os q) (sym is);
 }
 
 -- a sweep takes slots out

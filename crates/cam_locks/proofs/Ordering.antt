@@ -33,11 +33,11 @@ put_in o (q ∷ os) p h = by_test (nat_lt q.index o.index) h (put_in o os p)
     by_test true (inr (inr k)) rest = inr (rest (inr k))
     by_test false k rest = k
 
-in_ordered : (os : List LiveOp) (p : LiveOp) → In p (in_order os) → In p os
+pub in_ordered : (os : List LiveOp) (p : LiveOp) → In p (in_order os) → In p os
 in_ordered [] p h = h
 in_ordered (o ∷ os) p h = elim (in_put o (in_order os) p h) [ inl e ↦ inl e | inr k ↦ inr (in_ordered os p k) ]
 
-ordered_in : (os : List LiveOp) (p : LiveOp) → In p os → In p (in_order os)
+pub ordered_in : (os : List LiveOp) (p : LiveOp) → In p os → In p (in_order os)
 ordered_in [] p h = h
 ordered_in (o ∷ os) p (inl e) = put_in o (in_order os) p (inl e)
 ordered_in (o ∷ os) p (inr k) = put_in o (in_order os) p (inr (ordered_in os p k))
@@ -84,7 +84,7 @@ in_order_rises (o ∷ os) next once below =
     put_rises o (in_order os) 0 next (omega arith) (below o (inl refl)) (absent_ordered os o.index once.0) (in_order_rises os next once.1 (λ p h. below p (inr h)))
 
 -- two lists with the same members whose indices rise are the same
-rise_same : (low lower : ℕ) (os ps : List LiveOp) (next later : ℕ) → IndicesRise low os next → IndicesRise lower ps later
+pub rise_same : (low lower : ℕ) (os ps : List LiveOp) (next later : ℕ) → IndicesRise low os next → IndicesRise lower ps later
     → ((o : LiveOp) → In o os → In o ps) → ((o : LiveOp) → In o ps → In o os) → os ≡ ps
 rise_same low lower [] [] next later rise rise' there back = refl
 rise_same low lower [] (p ∷ ps) next later rise rise' there back = absurd (back p (inl refl))

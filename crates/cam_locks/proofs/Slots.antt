@@ -1,8 +1,11 @@
 -- Where an index stands among slots in order, and what is live once a slot is dropped.
 use Rattle.std.proofs.Common.{◌≡◌, ℕ, ◌+◌, ◌≤◌, ◌<◌, eqb, Bool, true, false, not, ◌&&◌, ◌||◌, cond, List, [], ◌∷◌, length, map, get_or, zero, suc, refl, sym, ap, ◌∙◌, arith}
+use Rattle.std.proofs.Math.Logic.{inl, inr}
 use Rattle.std.specs.Prelude.{filter}
+use Rattle.std.proofs.lemmas.Bool.{and_parts}
 use Rattle.cam_locks.specs.declared.LiveOp.{LiveOp}
 use Rattle.cam_locks.specs.declared.live.Slot.{Slot}
+use Rattle.cam_locks.specs.Members.{In}
 use Rattle.cam_locks.specs.Site.{IndicesRise}
 use Rattle.cam_locks.specs.Holding.{has_op}
 use Rattle.cam_locks.specs.Live.{all_of, live_of, is_live_at, AreInOrder, IsPlaceOf}
@@ -99,6 +102,23 @@ not_past [] zero i past = refl
 not_past [] (suc k) i past = refl
 not_past (s ∷ ss) zero i past = absurd (omega arith)
 not_past (s ∷ ss) (suc k) i past = not_past ss k i (omega arith)
+
+-- what is live at a place
+pub live_there : (ss : List Slot) (place i : ℕ) (d : Slot) → is_live_at ss place i ≡ true → In (get_or ss place d).operation (live_of ss) × ((get_or ss place d).operation.index ≡ i)
+live_there [] zero i d h = cc
+live_there [] (suc k) i d h = cc
+live_there (s ∷ ss) zero i d h =
+    let parts = and_parts (eqb s.operation.index i) (not s.is_dropped) h in
+    (by_drop s.is_dropped parts.1, grind (arith, parts.0))
+  where
+    by_drop : (b : Bool) → not b ≡ true → In s.operation (ops (cond (not b) (s ∷ kept ss) (kept ss)))
+    by_drop false k = inl refl
+    by_drop true k = cc
+live_there (s ∷ ss) (suc k) i d h = let rest = live_there ss k i d h in (by_drop s.is_dropped rest.0, rest.1)
+  where
+    by_drop : (b : Bool) → In (get_or ss k d).operation (live_of ss) → In (get_or ss k d).operation (ops (cond (not b) (s ∷ kept ss) (kept ss)))
+    by_drop true there = there
+    by_drop false there = inr there
 
 -- One step of the halving, by the slot at a middle.
 pub get_any : (ss : List Slot) (m : ℕ) (x d : Slot) → m < length ss → x ≡ get_or ss m x → get_or ss m d ≡ x

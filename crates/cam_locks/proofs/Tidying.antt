@@ -1,7 +1,7 @@
 -- What need not be kept can be left out.
-use Rattle.std.proofs.Common.{◌≡◌, ◌⊎◌, ℕ, ◌≤◌, ◌<◌, Bool, true, false, not, ◌||◌, List, [], ◌∷◌, ◌++◌, map, Some, None, suc, refl, sym, ap, subst, ◌∙◌, arith}
+use Rattle.std.proofs.Common.{◌≡◌, ◌⊎◌, ℕ, ◌≤◌, ◌<◌, Bool, true, false, not, ◌||◌, if◌then◌else◌, List, [], ◌∷◌, ◌++◌, map, Option, Some, None, suc, refl, sym, ap, subst, ◌∙◌, arith}
 use Rattle.std.proofs.Math.Logic.{inl, inr}
-use Rattle.std.specs.Prelude.{is_none}
+use Rattle.std.specs.Prelude.{is_none, filter}
 use Rattle.std.specs.List.{list_any}
 use Rattle.std.proofs.lemmas.List.{map-append}
 use Rattle.std.proofs.lemmas.Bool.{and_parts}
@@ -13,10 +13,10 @@ use Rattle.cam_locks.specs.declared.versions.Version.{Version}
 use Rattle.cam_locks.specs.Members.{In}
 use Rattle.cam_locks.specs.Site.{IndicesRise}
 use Rattle.cam_locks.specs.Holding.{lift_in, has_op, IsLeader, KeepsLeaders, IsVersionOf, KeepsVersions}
-use Rattle.cam_locks.specs.Changes.{lift_eq, leads, is_idle, is_outdated}
+use Rattle.cam_locks.specs.Changes.{lift_eq, leads, holder_in, has_ended, is_outdated}
 use Rattle.cam_locks.proofs.Lists.{append_nil}
-use Rattle.cam_locks.proofs.Rising.{rise_from_lower}
-use Rattle.cam_locks.proofs.Members.{in_left, in_right, in_either, above, has_member, any_member}
+use Rattle.cam_locks.proofs.Rising.{rise_from_lower, rise_filter}
+use Rattle.cam_locks.proofs.Members.{in_left, in_right, in_either, in_filter, in_filtered, above, has_member, any_member}
 use Rattle.cam_locks.proofs.Passing.{not_true, none_is}
 use Rattle.cam_locks.proofs.Lifting.{lift_eq_same}
 
@@ -40,6 +40,13 @@ or_cases : (a b : Bool) → (a || b) ≡ true → (a ≡ true) ⊎ (b ≡ true)
 or_cases true b h = inl refl
 or_cases false b h = inr h
 
+holder_of_live : (ns : List Name) (os : List LiveOp) (t : LiveOp) (u : Name) → In t os → lift_in ns t.action ≡ Some u → holder_in ns os t ≡ Some u
+holder_of_live ns os t u h same = ap (λ (b : Bool). if b then lift_in ns t.action else None) (has_member os t h) ∙ same
+
+-- A lock need not be kept where it has ended, or one before it leads it.
+abbrev pub is_idle : List Name → List LiveOp → List LiveOp → LiveOp → Bool
+is_idle ns os before t = has_ended ns os t || list_any (leads ns os (holder_in ns os t)) before
+
 -- a leader can be left out where it is idle
 pub leaders_drop : (x : ℕ) (m : Mode) (ns : List Name) (os : List LiveOp) (next : ℕ) (ts : List LiveOp) (t : LiveOp) (us : List LiveOp)
     → is_idle ns os ts t ≡ true → KeepsLeaders x m ns os next (ts ++ t ∷ us) → KeepsLeaders x m ns os next (ts ++ us)
@@ -53,19 +60,18 @@ leaders_drop x m ns os next ts t us idle keeps = record {
     wider : (s : LiveOp) → In s (ts ++ us) → In s (ts ++ t ∷ us)
     wider s h = elim (in_either s ts us h) [ inl k ↦ in_left s ts (t ∷ us) k | inr k ↦ in_right s ts (t ∷ us) (inr k) ]
 
-    by_leader : list_any (leads ns os (lift_in ns t.action)) ts ≡ true → (o : LiveOp) (u : Name) → t.index ≤ o.index → lift_in ns t.action ≡ Some u
-        → (s : LiveOp) × IsLeader ns os (ts ++ us) o u s
-    by_leader led o u le same =
-        let found = any_member (leads ns os (lift_in ns t.action)) ts led in
+    by_leader : (o : LiveOp) (u : Name) → list_any (leads ns os (Some u)) ts ≡ true → t.index ≤ o.index → (s : LiveOp) × IsLeader ns os (ts ++ us) o u s
+    by_leader o u led le =
+        let found = any_member (leads ns os (Some u)) ts led in
         let s = found.0 in
-        let parts = and_parts (lift_eq (lift_in ns s.action) (lift_in ns t.action)) (has_op os s.index) found.2 in
+        let parts = and_parts (lift_eq (lift_in ns s.action) (Some u)) (has_op os s.index) found.2 in
         let lt : s.index < t.index = rise_before 0 ts t us next s keeps.rising found.1 in (
           s,
           record {
             leads = in_left s ts us found.1;
             is_live = keeps.sound s (in_left s ts (t ∷ us) found.1) parts.1;
             is_first = omega arith;
-            same_lift = lift_eq_same (lift_in ns s.action) (lift_in ns t.action) parts.0 ∙ same;
+            same_lift = lift_eq_same (lift_in ns s.action) (Some u) parts.0;
           },
         )
 
@@ -75,13 +81,10 @@ leaders_drop x m ns os next ts t us idle keeps = record {
         let equal : s.index ≡ t.index = ap (λ (p : LiveOp). p.index) e in
         let first : s.index ≤ o.index = lead.is_first in
         let le : t.index ≤ o.index = omega arith in
-        let alive : has_op os t.index ≡ true = has_member os t (subst (λ (p : LiveOp). In p os) e lead.is_live) in
-        elim (or_cases (not (has_op os t.index)) (is_none (lift_in ns t.action) || list_any (leads ns os (lift_in ns t.action)) ts) idle) [
-          | inl dead ↦ let wrong : true ≡ false = sym alive ∙ not_true (has_op os t.index) dead in cc
-          | inr rest ↦ elim (or_cases (is_none (lift_in ns t.action)) (list_any (leads ns os (lift_in ns t.action)) ts) rest) [
-            | inl past ↦ let wrong : Some u ≡ None = sym same ∙ none_is (lift_in ns t.action) past in cc
-            | inr led ↦ by_leader led o u le same
-          ]
+        let holds = holder_of_live ns os t u (subst (λ (p : LiveOp). In p os) e lead.is_live) same in
+        elim (or_cases (has_ended ns os t) (list_any (leads ns os (holder_in ns os t)) ts) idle) [
+          | inl past ↦ let wrong : Some u ≡ None = sym holds ∙ none_is (holder_in ns os t) past in cc
+          | inr led ↦ by_leader o u (subst (λ (r : Option Name). list_any (leads ns os r) ts ≡ true) holds led) le
         ]
 
     other : (o : LiveOp) (u : Name) → (s : LiveOp) × IsLeader ns os (ts ++ t ∷ us) o u s → (s : LiveOp) × IsLeader ns os (ts ++ us) o u s
@@ -165,3 +168,29 @@ pub versions_drop_before : (x : ℕ) (start : State) (ns : List Name) (os : List
 versions_drop_before x start ns os next vs v later live old keeps =
     versions_drop_older x start ns os next vs v later live old
     (subst (λ (ws : List Version). KeepsVersions x start ns os next ws) (append_assoc vs (v ∷ []) (later ∷ [])) keeps)
+
+-- those that have ended can all be left out
+pub leaders_running : (x : ℕ) (m : Mode) (ns : List Name) (os : List LiveOp) (next : ℕ) (ts : List LiveOp)
+    → KeepsLeaders x m ns os next ts → KeepsLeaders x m ns os next (filter (λ t. not (has_ended ns os t)) ts)
+leaders_running x m ns os next ts keeps = record {
+  rising = rise_filter runs 0 ts next keeps.rising;
+  locks = λ s h. keeps.locks s (in_filter runs s ts h).0;
+  sound = λ s h live. keeps.sound s (in_filter runs s ts h).0 live;
+  covers = λ o u h lock is.
+      let found = keeps.covers o u h lock is in
+      let lead = found.1 in (
+        found.0,
+        record {
+          leads = in_filtered runs found.0 ts lead.leads (still found.0 u lead.is_live lead.same_lift);
+          is_live = lead.is_live;
+          is_first = lead.is_first;
+          same_lift = lead.same_lift;
+        },
+      );
+}
+  where
+    runs : LiveOp → Bool
+    runs t = not (has_ended ns os t)
+
+    still : (t : LiveOp) (u : Name) → In t os → lift_in ns t.action ≡ Some u → runs t ≡ true
+    still t u h same = ap (λ (r : Option Name). not (is_none r)) (holder_of_live ns os t u h same)

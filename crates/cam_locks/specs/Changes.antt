@@ -1,5 +1,5 @@
 -- What each step makes of what is kept of an object.
-use Rattle.std.specs.Prelude.{◌≡◌, ◌≢◌, ◌⊎◌, ℕ, ◌-◌, ◌<◌, nat_le, Bool, true, false, not, ◌&&◌, ◌||◌, if◌then◌else◌, List, [], ◌∷◌, ◌++◌, find, length, get_or, set, slice_get, Option, Some, None, is_none, option_and_then, IfSome, filter}
+use Rattle.std.specs.Prelude.{◌≡◌, ◌≢◌, ℕ, ◌-◌, ◌<◌, nat_le, Bool, true, false, not, ◌&&◌, ◌||◌, if◌then◌else◌, List, [], ◌∷◌, ◌++◌, find, length, get_or, set, slice_get, Option, Some, None, is_none, option_and_then, IfSome, filter}
 use Rattle.std.specs.Option.{option_or, option_map_or}
 use Rattle.std.specs.List.{list_any}
 use Rattle.cam_names.specs.declared.name.Name.{Name}
@@ -13,7 +13,6 @@ use Rattle.cam_type.specs.declared.Mode.TheVariants as modes
 use Rattle.cam_type.specs.Table.{state_after, answer_of, mode_of, compatible}
 use Rattle.cam_locks.specs.declared.LiveOp.{LiveOp}
 use Rattle.cam_locks.specs.declared.versions.Version.{Version}
-use Rattle.cam_locks.specs.Members.{In}
 use Rattle.cam_locks.specs.Site.{start_of}
 use Rattle.cam_locks.specs.Moss.{is_on, is_in_the_way, replay}
 use Rattle.cam_locks.specs.Holding.{lift_in, has_op, is_lock, LocksView, KeepsLocks}
@@ -33,10 +32,17 @@ last_of xs = slice_get xs (length xs - 1)
 abbrev pub leads : List Name → List LiveOp → Option Name → LiveOp → Bool
 leads committed live lift t = lift_eq (lift_in committed t.action) lift && has_op live t.index
 
--- A lock need not be kept where it is dead, past the top, or led by one before it.
-abbrev pub is_idle : List Name → List LiveOp → List LiveOp → LiveOp → Bool
-is_idle committed live before t =
-    not (has_op live t.index) || (is_none (lift_in committed t.action) || list_any (leads committed live (lift_in committed t.action)) before)
+-- The holder of a lock: there is none where the lock has ended, since it is dead or past the top.
+abbrev pub holder_in : List Name → List LiveOp → LiveOp → Option Name
+holder_in committed live t = if has_op live t.index then lift_in committed t.action else None
+
+abbrev pub has_ended : List Name → List LiveOp → LiveOp → Bool
+has_ended committed live t = is_none (holder_in committed live t)
+
+-- the depth of a holder, and 0 where there is none
+abbrev pub depth_of : Option Name → ℕ
+depth_of None = 0
+depth_of (Some u) = length u
 
 -- one more lock; the last one may lead it already
 abbrev pub with_leader : List Name → List LiveOp → List LiveOp → LiveOp → List LiveOp
@@ -138,10 +144,6 @@ pub record DoneTo (committed : List Name) (live : List LiveOp) (o : LiveOp) (ans
 pub record SpoiledAt (object : ℕ) (x : ℕ) (old new : LocksView) : Type 0 where
   pub here : x ≡ object → new.stale ≡ true
   pub elsewhere : x ≢ object → new ≡ old
-
--- stale, or as it was where none of the operations is on the object
-abbrev pub SpoiledBy : List LiveOp → ℕ → LocksView → LocksView → Type 0
-SpoiledBy os x old new = (new.stale ≡ true) ⊎ ((new ≡ old) × ((o : LiveOp) → In o os → is_on x o ≡ false))
 
 -- The definitions of the first conflict's lift and of the value, by the lists.
 abbrev pub conflicts : List Name → Name → ℕ → Op → LiveOp → Bool

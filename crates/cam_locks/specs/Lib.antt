@@ -1,10 +1,11 @@
 pub mod Names
 pub mod Site
 pub mod Members
-pub mod Families
+pub mod Placed
 pub mod Live
 pub mod Moss
 pub mod Calls
 pub mod Restored
+pub mod Secured
 pub mod Holding
 pub mod Changes

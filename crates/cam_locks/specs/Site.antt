@@ -41,3 +41,8 @@ start_of objects x = option_map_or (λ o. o.start) (slice_get objects x) (Regist
 abbrev pub IndicesRise : ℕ → List LiveOp → ℕ → Type 0
 IndicesRise low [] next = low ≤ next
 IndicesRise low (o ∷ os) next = (low ≤ o.index) × IndicesRise (Rattle.std.specs.Prelude.suc o.index) os next
+
+-- each operation is on an object of the node, and fits it
+abbrev pub AreFit : List ObjectDecl → ℕ → List LiveOp → Type 0
+AreFit objects node [] = Unit {0}
+AreFit objects node (o ∷ os) = (is_fit objects node o.object o.op ≡ true) × AreFit objects node os

@@ -3,7 +3,7 @@ ghost use Rattle.std.specs.Prelude.{◌≡◌, ◌+◌, ◌≤◌, ◌<◌, [], 
 ghost use Rattle.cam_type.specs.Table.{answer_of};
 ghost use Rattle.cam_locks.specs.Calls.{grant_by, is_below};
 ghost use Rattle.cam_locks.specs.Holding.{AllLocks, LocksView};
-ghost use Rattle.cam_locks.specs.Changes.{EachTo, TidiedTo, SpoiledBy, holder_of, value_of, settled_of, by_holder};
+ghost use Rattle.cam_locks.specs.Changes.{EachTo, TidiedTo, holder_of, value_of, settled_of, by_holder};
 
 use crate::live::Live;
 use crate::locks::{self, Locks};
@@ -81,9 +81,12 @@ fn grant_kept(
     if let Some(holder) = holder(locks, live, committed, objects, operation) {
         return Ok(Grant::Conflict(holder));
     }
-    live.make_room(&operation.action.family())?;
     let answer = locks::perform(locks, operation, live, committed)?;
-    live.push(operation);
+    if let Err(fault) = live.push(operation) {
+        // What is kept has the operation already.
+        locks::spoil_at(locks, operation.object);
+        return Err(fault);
+    }
     Ok(Grant::Done(answer))
 }
 
@@ -165,9 +168,8 @@ pub(crate) fn append_spoiled(
     ensures err_next { OnErr result (live.new.next ≡ live.old.next) }
 {
     let _next = live.next();
-    live.make_room(&operation.action.family())?;
+    live.push(operation)?;
     locks::spoil_at(locks, operation.object);
-    live.push(operation);
     Ok(())
 }
 
@@ -186,19 +188,11 @@ pub(crate) fn abort(
     ensures next { live.new.next ≡ live.old.next }
 {
     let _next = live.next();
-    if committed.contains(name) {
-        spoil_below(locks, live.of_family(&name.family()), name);
-    }
-    live.drop_below(name);
-}
-
-/// Keeps nothing from now on of the objects of those of the operations that are of the action or below it.
-fn spoil_below(locks: &mut Vec<Locks>, operations: &[LiveOp], name: &Name)
-    ensures { EachTo (SpoiledBy (filter (is_below name.now) operations.now)) locks.old.items locks.new.items }
-{
-    for operation in operations {
-        if name.is_ancestor(&operation.action) {
+    let spoils = committed.contains(name);
+    while let Some(operation) = live.one_below(name) {
+        if spoils {
             locks::spoil_at(locks, operation.object);
         }
+        live.drop_one(&operation);
     }
 }

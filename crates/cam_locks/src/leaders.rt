@@ -1,15 +1,15 @@
 //! The locks of one mode on one object: of each holder its first operation, in order.
-ghost use Rattle.std.specs.Prelude.{◌≡◌, ℕ, ◌≤◌, ◌<◌, find, take, length, ◌&&◌};
-ghost use Rattle.std.specs.List.{list_any};
+ghost use Rattle.std.specs.Prelude.{◌≡◌, ℕ, ◌≤◌, ◌<◌, filter, find, not, ◌&&◌, OnOk};
 ghost use Rattle.std.specs.VecDeque.{deque_len, deque_capacity};
 ghost use Rattle.cam_type.specs.declared.Mode.{Mode};
 ghost use Rattle.cam_locks.specs.Moss.{is_in_the_way};
 ghost use Rattle.cam_locks.specs.Holding.{has_op, lift_in, KeepsLeaders};
-ghost use Rattle.cam_locks.specs.Changes.{lift_eq, leads, is_idle, with_leader};
+ghost use Rattle.cam_locks.specs.Changes.{lift_eq, leads, holder_in, has_ended, depth_of, with_leader};
 
 use crate::LiveOp;
 use crate::live::Live;
 use crate::names::Names;
+use cam_base::NoMemory;
 use cam_names::Name;
 use std::collections::VecDeque;
 
@@ -41,42 +41,30 @@ fn leads(live: &Live, committed: &Names, leader: &LiveOp, lift: &Option<Name>) -
     is_same_lift(&committed.lift(&leader.action), lift) && live.has(leader.index)
 }
 
-/// Whether one of the leaders before the place is live and has this lift.
-fn is_led(
-    leaders: &VecDeque<LiveOp>,
-    place: usize,
-    live: &Live,
-    committed: &Names,
-    lift: &Option<Name>,
-) -> bool
-    requires { place ≤ deque_len leaders.now }
-    ensures { result ≡ list_any (leads committed.now.names live.now.ops lift.now) (take place leaders.now.items) }
+/// The holder of a lock. There is none where the lock has ended: it is dead or past the top.
+fn holder(live: &Live, committed: &Names, leader: &LiveOp) -> Option<Name>
+    ensures { result ≡ holder_in committed.now.names live.now.ops leader.now }
 {
-    for at in 0..place {
-        if leads(live, committed, &leaders[at], lift) {
-            return true;
-        }
+    if live.has(leader.index) {
+        committed.lift(&leader.action)
+    } else {
+        None
     }
-    false
 }
 
-/// Whether the lock at the place need not be kept: it is dead, past the top, or led by one before it.
-fn is_idle(
-    leaders: &VecDeque<LiveOp>,
-    place: usize,
-    live: &Live,
-    committed: &Names,
-    leader: &LiveOp,
-) -> bool
-    requires { place ≤ deque_len leaders.now }
-    ensures { result ≡ is_idle committed.now.names live.now.ops (take place leaders.now.items) leader.now }
+/// The depth of a holder, and 0 where there is none.
+fn depth_of(holder: &Option<Name>) -> usize
+    ensures value { result ≡ depth_of holder.now }
+    ensures range { result ≤ 8 }
 {
-    let lift = committed.lift(&leader.action);
-    !live.has(leader.index) || lift.is_none() || is_led(leaders, place, live, committed, &lift)
+    match holder {
+        Some(holder) => holder.depth(),
+        None => 0,
+    }
 }
 
-/// The first that is live and stands in the way of the action. Those before it that need not be kept are left out: then what is gone
-/// through the next time are ancestors of the action, each once.
+/// The first that is live and stands in the way of the action. Of those before it, whose holders are ancestors of the action, the first
+/// of each holder is kept.
 pub(crate) fn first_in_the_way(
     leaders: &mut VecDeque<LiveOp>,
     live: &Live,
@@ -87,18 +75,58 @@ pub(crate) fn first_in_the_way(
         → KeepsLeaders x m committed.now.names live.now.ops next leaders.new.items }
     ensures value { result ≡ find (λ t. has_op live.now.ops t.index && is_in_the_way name.now (lift_in committed.now.names t.action)) leaders.new.items }
 {
+    // By depth, whether a lock of the holder there was gone past. A lock that has ended has depth 0, and is left out.
+    let mut is_past = [false; 9];
+    is_past[0] = true;
     let mut place = 0;
     while place < leaders.len() {
         let leader = leaders[place];
-        if is_idle(leaders, place, live, committed, &leader) {
-            leaders.remove(place);
-        } else if is_in_the_way(name, &committed.lift(&leader.action)) {
+        let holder = holder(live, committed, &leader);
+        if is_in_the_way(name, &holder) {
             return Some(leader);
+        }
+        let depth = depth_of(&holder);
+        if is_past[depth] {
+            leaders.remove(place);
         } else {
+            is_past[depth] = true;
             place += 1;
         }
     }
     None
+}
+
+/// Whether a lock has ended.
+fn has_ended(live: &Live, committed: &Names, leader: &LiveOp) -> bool
+    ensures { result ≡ has_ended committed.now.names live.now.ops leader.now }
+{
+    holder(live, committed, leader).is_none()
+}
+
+/// Leaves out the locks that have ended.
+fn drop_ended(leaders: &mut VecDeque<LiveOp>, live: &Live, committed: &Names)
+    ensures { leaders.new.items ≡ filter (λ t. not (has_ended committed.now.names live.now.ops t)) leaders.old.items }
+{
+    leaders.retain(|leader| !has_ended(live, committed, leader));
+}
+
+/// Makes room for one more lock. Where there is none, the locks that have ended are left out, and then room is made for as many as are
+/// left: the next time comes only after as many more.
+pub(crate) fn make_room(
+    leaders: &mut VecDeque<LiveOp>,
+    live: &Live,
+    committed: &Names,
+) -> Result<(), NoMemory>
+    ensures kept { (x : ℕ) (m : Mode) (next : ℕ) → KeepsLeaders x m committed.now.names live.now.ops next leaders.old.items
+        → KeepsLeaders x m committed.now.names live.now.ops next leaders.new.items }
+    ensures ok { OnOk result (deque_len leaders.new < deque_capacity leaders.new) }
+{
+    if leaders.len() < leaders.capacity() {
+        return Ok(());
+    }
+    drop_ended(leaders, live, committed);
+    leaders.reserve(leaders.len().max(1))?;
+    Ok(())
 }
 
 /// Adds a lock, for which there is room, unless the last one leads it.

@@ -5,19 +5,23 @@
 #![tactic(auto)]
 
 mod by_list;
-mod families;
 mod keeping;
+mod laws;
 mod leaders;
 mod live;
 mod locks;
 mod names;
 mod operations;
+mod placed;
 mod plain;
+mod restorable;
 mod restore;
 mod table;
 mod versions;
 
+pub use laws::secured_along_a_run;
 pub use plain::PlainTable;
+pub use restorable::may_restore;
 pub use table::LockTable;
 
 #[cfg(test)]

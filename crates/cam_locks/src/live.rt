@@ -1,15 +1,20 @@
-ghost use Rattle.std.specs.Prelude.{◌≡◌, ℕ, ◌+◌, ◌≤◌, ◌<◌, [], ◌∷◌, ◌++◌, IfOk, OnOk, Some, filter, not, eqb};
-ghost use Rattle.cam_names.specs.Names.{family as family_of};
+ghost use Rattle.std.specs.Prelude.{◌≡◌, ℕ, ◌+◌, ◌≤◌, ◌<◌, true, false, [], ◌∷◌, ◌++◌, IfOk, OnOk, OnErr, IfSome, IfNone, filter};
+ghost use Rattle.std.specs.List.{list_any};
 ghost use Rattle.cam_locks.specs.Site.{IndicesRise};
+ghost use Rattle.cam_locks.specs.declared.LiveOp.{LiveOp as LiveOpValue};
+ghost use Rattle.cam_locks.specs.Members.{In};
 ghost use Rattle.cam_locks.specs.Calls.{is_below, is_of};
 ghost use Rattle.cam_locks.specs.Holding.{has_op};
-ghost use Rattle.cam_locks.specs.Live.{all_of, live_of, AreInOrder, IsPlaceOf, is_live_at};
+ghost use Rattle.cam_locks.specs.Placed.{is_before, IsNextBelow};
+ghost use Rattle.cam_locks.specs.Live.{all_of, live_of, AreInOrder, IsPlaceOf, is_live_at, other};
 
 use crate::LiveOp;
-use crate::families::Families;
+use crate::placed::{Placed, first_from};
+use crate::restore::in_order;
 use cam_base::NoMemory;
 use cam_names::Name;
 use std::alloc::Global;
+use std::collections::BTreeSet;
 use std::marker::Model;
 
 /// An operation with its place in the order. One that was dropped keeps its slot until the next sweep.
@@ -19,28 +24,24 @@ pub(crate) struct Slot {
     pub(crate) is_dropped: bool,
 }
 
-/// The live operations of a site in order, and family by family. Their indices rise, and stay below the next one.
+/// The live operations of a site in order, and by the names of their actions. Their indices rise, and stay below the next one.
 #[derive(Drop)]
 pub(crate) struct Live {
     slots: Vec<Slot>,
-    /// How many operations the aborts since the last sweep went through. No more slots than that are dropped ones.
+    /// How many operations were dropped since the last sweep.
     unswept: usize,
-    families: Families,
-    /// The family for whose next operation room was made.
-    ready: Option<Name>,
+    by_name: BTreeSet<Placed>,
     next: u32,
 }
 
 impl Model for Live {
-    ghost use Rattle.std.specs.Prelude.{◌-◌, vec_len};
-    ghost use Rattle.std.specs.Vec.{vec_capacity};
     ghost use Rattle.cam_locks.specs.Live.{LiveView, IsLive, live_of};
 
     ghost Value = { LiveView };
 
-    ghost view = { λ l. record { ops = live_of l.slots.items; next = l.next; spare = vec_capacity l.slots - vec_len l.slots; ready = l.ready } };
+    ghost view = { λ l. record { ops = live_of l.slots.items; next = l.next } };
 
-    ghost invariant = { λ l. IsLive l.slots.items l.families l.ready l.next };
+    ghost invariant = { λ l. IsLive l.slots.items l.by_name l.next };
 }
 
 impl Live {
@@ -51,8 +52,7 @@ impl Live {
         Live {
             slots: Vec::new(alloc),
             unswept: 0,
-            families: Families::new(alloc),
-            ready: None,
+            by_name: BTreeSet::new(alloc),
             next: 0,
         }
     }
@@ -79,13 +79,6 @@ impl Live {
         is_live_at(slots, place_of(slots, index), index)
     }
 
-    /// The operations of a family in order.
-    pub(crate) fn of_family(&self, family: &Name) -> &[LiveOp]
-        ensures value { result.now ≡ filter (is_of family.now) self.now.ops }
-    {
-        self.families.of(family)
-    }
-
     /// All operations in order.
     pub(crate) fn to_vec(&self) -> Result<Vec<LiveOp>, NoMemory>
         ensures { IfOk result (λ all. all.items ≡ self.now.ops) }
@@ -100,37 +93,99 @@ impl Live {
     }
 }
 
+/// What is of an action or below it: found in a time that goes by what is found, and not by how many operations are live.
 impl Live {
-    /// Makes room for one more operation of the family.
-    pub(crate) fn make_room(&mut self, family: &Name) -> Result<(), NoMemory>
-        ensures ops { self.new.ops ≡ self.old.ops }
-        ensures next { self.new.next ≡ self.old.next }
-        ensures ok { OnOk result (1 ≤ self.new.spare) }
-        ensures family { OnOk result (self.new.ready ≡ Some family.now) }
+    /// A live operation of an action or below it.
+    pub(crate) fn one_below(&self, name: &Name) -> Option<LiveOp>
+        ensures found { IfSome result (λ o. In o self.now.ops × (is_below name.now o ≡ true)) }
+        ensures none { IfNone result ((o : LiveOpValue) → In o self.now.ops → is_below name.now o ≡ false) }
     {
-        self.ready = None;
-        self.slots.reserve(1)?;
-        self.families.make_room(*self.slots.allocator(), family)?;
-        self.ready = Some(*family);
-        Ok(())
+        self.next_below(
+            name,
+            Placed {
+                name: *name,
+                index: 0,
+            },
+        )
     }
 
-    /// Adds an operation at the end, for which there is room. Its index is the next one or above.
-    pub(crate) fn push(&mut self, operation: &LiveOp)
-        requires room { 1 ≤ self.old.spare }
-        requires family { self.old.ready ≡ Some (family_of operation.now.action) }
+    /// The operations of an action and of all below it, in order.
+    pub(crate) fn below(&self, name: &Name) -> Result<Vec<LiveOp>, NoMemory>
+        ensures { IfOk result (λ found. found.items ≡ filter (is_below name.now) self.now.ops) }
+    {
+        let _next = self.next();
+        let mut found = Vec::new(self.allocator());
+        let mut start = Placed {
+            name: *name,
+            index: 0,
+        };
+        while let Some(operation) = self.next_below(name, start) {
+            start = Placed::behind(&operation);
+            found.push(operation)?;
+        }
+        in_order(self.allocator(), found.as_slice())
+    }
+
+    /// Whether an operation of the family is live.
+    pub(crate) fn has_family(&self, family: &Name) -> bool
+        ensures { result ≡ list_any (is_of family.now) self.now.ops }
+    {
+        family.depth() == 1 && self.one_below(family).is_some()
+    }
+
+    /// The operations of a family in order.
+    pub(crate) fn of_family(&self, family: &Name) -> Result<Vec<LiveOp>, NoMemory>
+        ensures { IfOk result (λ found. found.items ≡ filter (is_of family.now) self.now.ops) }
+    {
+        if family.depth() > 1 {
+            return Ok(Vec::new(self.allocator()));
+        }
+        self.below(family)
+    }
+
+    /// The first operation of an action and of those below it that is not before a place.
+    fn next_below(&self, name: &Name, start: Placed) -> Option<LiveOp>
+        requires { is_before start (record { name = name.now; index = 0 }) ≡ false }
+        ensures { IsNextBelow self.now.ops name.now start result }
+    {
+        match first_from(&self.by_name, start) {
+            Some(placed) if name.is_ancestor(&placed.name) => self.at(placed.index),
+            _ => None,
+        }
+    }
+
+    /// The live operation with an index.
+    fn at(&self, index: u32) -> Option<LiveOp>
+        ensures found { IfSome result (λ o. In o self.now.ops × (o.index ≡ index)) }
+        ensures none { IfNone result (has_op self.now.ops index ≡ false) }
+    {
+        let slots = self.slots.as_slice();
+        let place = place_of(slots, index);
+        if is_live_at(slots, place, index) {
+            return Some(slots[place].operation);
+        }
+        None
+    }
+}
+
+impl Live {
+    /// Adds an operation at the end. Its index is the next one or above.
+    pub(crate) fn push(&mut self, operation: &LiveOp) -> Result<(), NoMemory>
         requires index { self.old.next ≤ operation.now.index }
         requires range { operation.now.index ≤ 999999999 }
-        ensures ops { self.new.ops ≡ self.old.ops ++ operation.now ∷ [] }
-        ensures next { self.new.next ≡ operation.now.index + 1 }
+        ensures ops { OnOk result (self.new.ops ≡ self.old.ops ++ operation.now ∷ []) }
+        ensures next { OnOk result (self.new.next ≡ operation.now.index + 1) }
+        ensures err_ops { OnErr result (self.new.ops ≡ self.old.ops) }
+        ensures err_next { OnErr result (self.new.next ≡ self.old.next) }
     {
+        self.slots.reserve(1)?;
+        self.by_name.insert(Placed::of(operation))?;
         self.slots.push_reserved(Slot {
             operation: *operation,
             is_dropped: false,
         });
-        self.families.push(&operation.action.family(), operation);
-        self.ready = None;
         self.next = operation.index + 1;
+        Ok(())
     }
 
     /// Lets the next index be at least this one.
@@ -143,17 +198,15 @@ impl Live {
         self.next = next;
     }
 
-    /// Leaves out the operations of an action and of all below it, in a time that goes by the live operations of its family. It takes
-    /// no memory.
-    pub(crate) fn drop_below(&mut self, name: &Name)
-        ensures ops { self.new.ops ≡ filter (λ o. not (is_below name.now o)) self.old.ops }
+    /// Leaves a live operation out. It takes no memory.
+    pub(crate) fn drop_one(&mut self, operation: &LiveOp)
+        requires { In operation.now self.old.ops }
+        ensures ops { self.new.ops ≡ filter (other operation.now.index) self.old.ops }
         ensures next { self.new.next ≡ self.old.next }
     {
-        self.ready = None;
-        let operations = self.families.of(&name.family());
-        self.unswept = self.unswept.saturating_add(operations.len());
-        drop_slots(&mut self.slots, operations, name);
-        self.families.drop_below(name);
+        self.by_name.remove(&Placed::of(operation));
+        drop_slot(&mut self.slots, operation.index);
+        self.unswept = self.unswept.saturating_add(1);
         if self.unswept > self.slots.len() / 2 {
             sweep(&mut self.slots);
             self.unswept = 0;
@@ -169,31 +222,17 @@ impl Live {
         let mut copy = Live::new(self.allocator());
         let all = self.to_vec()?;
         for operation in all.as_slice() {
-            copy.make_room(&operation.action.family())?;
-            copy.push(operation);
+            copy.push(operation)?;
         }
         copy.raise(next);
         Ok(copy)
     }
 }
 
-/// Marks the slots of those of the operations that are of the action or below it as dropped.
-fn drop_slots(slots: &mut Vec<Slot>, operations: &[LiveOp], name: &Name)
-    requires { AreInOrder slots.old.items }
-    ensures live { live_of slots.new.items ≡ filter (λ o. not (has_op (filter (is_below name.now) operations.now) o.index)) (live_of slots.old.items) }
-    ensures all { all_of slots.new.items ≡ all_of slots.old.items }
-{
-    for operation in operations {
-        if name.is_ancestor(&operation.action) {
-            drop_slot(slots, operation.index);
-        }
-    }
-}
-
 /// Marks the slot of an operation as dropped.
 fn drop_slot(slots: &mut Vec<Slot>, index: u32)
     requires { AreInOrder slots.old.items }
-    ensures live { live_of slots.new.items ≡ filter (λ o. not (eqb index o.index)) (live_of slots.old.items) }
+    ensures live { live_of slots.new.items ≡ filter (other index) (live_of slots.old.items) }
     ensures all { all_of slots.new.items ≡ all_of slots.old.items }
 {
     let place = place_of(slots.as_slice(), index);

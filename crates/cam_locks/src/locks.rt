@@ -96,13 +96,13 @@ impl Locks {
         versions::tidy(&mut self.versions, live, committed);
         match mode_of(&operation.op) {
             Mode::Read => {
-                self.readers.reserve(1)?;
+                leaders::make_room(&mut self.readers, live, committed)?;
                 let answer = versions::look(&mut self.versions, &mut self.start, &operation.op)?;
                 leaders::add(&mut self.readers, operation, live, committed);
                 Ok(answer)
             }
             Mode::Write => {
-                self.writers.reserve(1)?;
+                leaders::make_room(&mut self.writers, live, committed)?;
                 let answer = versions::write(
                     &mut self.versions,
                     &self.start,

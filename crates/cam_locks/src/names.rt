@@ -1,42 +1,22 @@
 ghost use Rattle.std.specs.Prelude.{◌≡◌, ◌+◌, ◌≤◌, [], OnOk, IfOk};
 ghost use Rattle.cam_know.specs.Known.{lift_by};
-ghost use Rattle.std.proofs.Common.{ap};
-ghost use Rattle.std.specs.Hash as fed;
 ghost use Rattle.std.specs.List.{list_any};
-ghost use Rattle.cam_names.proofs.Names.{name_eq_same};
 ghost use Rattle.cam_names.specs.declared.name.Name.{Name as NameValue};
 ghost use Rattle.cam_names.specs.Names.{name_eq};
 ghost use Rattle.cam_locks.specs.Names.{has_name, with_name};
 
 use cam_base::NoMemory;
-use cam_names::{Name, Part};
+use cam_names::Name;
 use std::alloc::Global;
 use std::collections::HashSet;
-use std::hash::{Hash, Hasher};
 use std::marker::Model;
-
-/// A name, as it is looked up.
-#[derive(Clone, Copy, PartialEq, Eq)]
-pub(crate) struct Key {
-    pub(crate) name: Name,
-}
-
-impl Hash for Key {
-    ghost hash_input = { λ k. fed.slice (⟦<Part as Hash>⟧.hash_input) k.name };
-
-    ghost respects_eq = { λ x y h. ap (fed.slice (⟦<Part as Hash>⟧.hash_input)) (name_eq_same x.name y.name h) };
-
-    fn hash<H: Hasher>(&self, state: &mut H) {
-        self.name.parts().hash(state);
-    }
-}
 
 /// Names of actions, none of them twice, in the order in which they came in. Room for more can be reserved. A table of hashes stands
 /// beside the list, so that a question costs no more where there are many.
 #[derive(Drop)]
 pub(crate) struct Names {
     names: Vec<Name>,
-    keys: HashSet<Key>,
+    keys: HashSet<Name>,
 }
 
 impl Model for Names {
@@ -52,7 +32,7 @@ impl Model for Names {
 
     ghost view = { λ n. record { names = n.names.items; spare = min (vec_capacity n.names - vec_len n.names) (spare n.keys) } };
 
-    ghost invariant = { λ n. (a : NameValue) → list_any (λ k. name_eq a k.name) n.keys.keys ≡ has_name n.names.items a };
+    ghost invariant = { λ n. (a : NameValue) → list_any (name_eq a) n.keys.keys ≡ has_name n.names.items a };
 }
 
 impl Names {
@@ -69,7 +49,7 @@ impl Names {
     pub(crate) fn contains(&self, name: &Name) -> bool
         ensures { result ≡ has_name self.now.names name.now }
     {
-        self.keys.contains(&Key { name: *name })
+        self.keys.contains(name)
     }
 
     /// Makes room for this many more.
@@ -90,7 +70,7 @@ impl Names {
         ensures spare { self.old.spare ≤ self.new.spare + 1 }
     {
         if !self.contains(name) {
-            let _ = self.keys.insert(Key { name: *name });
+            let _ = self.keys.insert(*name);
             self.names.push_reserved(*name);
         }
     }
@@ -132,12 +112,12 @@ impl Names {
 }
 
 /// The table of hashes of these names.
-fn keys_of(alloc: Global, names: &[Name]) -> Result<HashSet<Key>, NoMemory>
-    ensures { IfOk result (λ keys. (a : NameValue) → list_any (λ k. name_eq a k.name) keys.keys ≡ has_name names.now a) }
+fn keys_of(alloc: Global, names: &[Name]) -> Result<HashSet<Name>, NoMemory>
+    ensures { IfOk result (λ keys. (a : NameValue) → list_any (name_eq a) keys.keys ≡ has_name names.now a) }
 {
     let mut keys = HashSet::new(alloc);
     for name in names {
-        keys.insert(Key { name: *name })?;
+        keys.insert(*name)?;
     }
     Ok(keys)
 }

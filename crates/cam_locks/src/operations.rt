@@ -1,12 +1,12 @@
 ghost use Rattle.std.specs.Prelude.{◌≡◌, IfOk, filter, not};
-ghost use Rattle.cam_locks.specs.Site.{start_of};
+ghost use Rattle.cam_locks.specs.Site.{start_of, is_fit};
 ghost use Rattle.cam_locks.specs.Moss.{replay};
 ghost use Rattle.cam_locks.specs.Calls.{is_below, is_of};
 
 use crate::LiveOp;
 use cam_base::NoMemory;
 use cam_names::Name;
-use cam_type::{Objects, State, apply};
+use cam_type::{Objects, Op, State, apply, fits};
 use std::alloc::Global;
 
 /// An equal list of declarations.
@@ -18,6 +18,16 @@ pub(crate) fn copy_objects(alloc: Global, objects: &Objects) -> Result<Objects, 
         copy.push(declared.copy()?)?;
     }
     Ok(copy)
+}
+
+/// Whether the object stands at the node and the op fits it.
+pub(crate) fn is_fit(objects: &Objects, node: u8, object: u8, op: &Op) -> bool
+    ensures { result ≡ is_fit objects.now node object op.now }
+{
+    match objects.get(object as usize) {
+        Some(declared) => declared.node == node && fits(declared.start.kind(), op),
+        None => false,
+    }
 }
 
 /// The start state of an object.

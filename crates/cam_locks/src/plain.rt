@@ -3,15 +3,16 @@ ghost use Rattle.cam_locks.specs.Site.{is_here, is_fit, IndicesRise};
 ghost use Rattle.cam_locks.specs.Moss.{holder, value, settled};
 ghost use Rattle.cam_locks.specs.Calls.{new_site, grant, after_grant, with_commit, with_abort, held, has_family};
 ghost use Rattle.cam_locks.specs.Restored.{restored, CanRestore};
+ghost use Rattle.cam_locks.specs.Secured.{Stands, SecuredCanBeRestored};
 
 use crate::names::Names;
-use crate::operations::{copy_objects, drop_below};
+use crate::operations::{copy_objects, drop_below, is_fit};
 use crate::restore::{aborted_names, committed_names, in_order, kept_operations, next_of};
 use crate::{Grant, LiveOp, by_list};
 use cam_base::NoMemory;
 use cam_know::Know;
 use cam_names::Name;
-use cam_type::{Held, HeldList, Objects, Op, State, apply, fits};
+use cam_type::{Held, HeldList, Objects, Op, State, apply};
 use std::alloc::Global;
 use std::marker::Model;
 
@@ -29,13 +30,13 @@ pub struct PlainTable {
 
 impl Model for PlainTable {
     ghost use Rattle.std.specs.Prelude.{min, ◌≤◌};
-    ghost use Rattle.cam_locks.specs.Site.{TableView, IndicesRise};
+    ghost use Rattle.cam_locks.specs.Site.{TableView, IndicesRise, AreFit};
 
     ghost Value = { TableView };
 
     ghost view = { λ t. record { site = record { objects = t.objects; node = t.node; live = t.live.items; committed = t.committed.names; aborted = t.aborted.names; next = t.next }; spare = min t.committed.spare t.aborted.spare } };
 
-    ghost invariant = { λ t. IndicesRise 0 t.live.items t.next };
+    ghost invariant = { λ t. IndicesRise 0 t.live.items t.next × (t.next ≤ 1000000000) × AreFit t.objects t.node t.live.items };
 }
 
 impl PlainTable {
@@ -87,10 +88,7 @@ impl PlainTable {
     pub fn takes(&self, object: u8, op: &Op) -> bool
         ensures { result ≡ is_fit self.now.site.objects self.now.site.node object op.now }
     {
-        match self.objects.get(object as usize) {
-            Some(declared) => declared.node == self.node && fits(declared.start.kind(), op),
-            None => false,
-        }
+        is_fit(&self.objects, self.node, object, op)
     }
 
     /// Makes room for this many more outcomes. Nothing else changes.
@@ -141,9 +139,12 @@ impl PlainTable {
         })
     }
 
-    /// What is to be secured of a family: all its live operations in order, reads included. The locks stay.
+    /// What is to be secured of a family: all its live operations in order, reads included. The locks stay. What is secured of several
+    /// families can be restored together; [`crate::secured_along_a_run`] says so of several moments.
     pub fn secure(&self, family: &Name, count: u32) -> Result<Held, NoMemory>
-        ensures { IfOk result (λ secured. secured ≡ held self.now.site family.now count) }
+        ensures held { IfOk result (λ secured. secured ≡ held self.now.site family.now count) }
+        ensures stands { Stands self.now.site }
+        ensures restorable { SecuredCanBeRestored self.now.site }
     {
         let ops = by_list::held(*self.live.allocator(), self.live.as_slice(), family)?;
         Ok(Held {

@@ -1,21 +1,22 @@
 ghost use Rattle.std.specs.Prelude.{◌≡◌, ◌≤◌, ◌+◌, [], ◌++◌, flat_map, IsTrue, IfOk, OnOk, OnErr};
 ghost use Rattle.cam_know.specs.Known.{committed_name, aborted_name};
 ghost use Rattle.cam_locks.specs.Names.{once};
-ghost use Rattle.cam_locks.specs.Site.{is_here, is_fit, IndicesRise};
+ghost use Rattle.cam_locks.specs.Site.{is_here, is_fit, AreFit, IndicesRise};
 ghost use Rattle.cam_locks.specs.Moss.{settled};
 ghost use Rattle.cam_locks.specs.Calls.{new_site, grant, after_grant, with_commit, with_abort, held, has_family};
 ghost use Rattle.cam_locks.specs.Restored.{restored, taken_over, CanRestore};
+ghost use Rattle.cam_locks.specs.Secured.{Stands, SecuredCanBeRestored};
 
 use crate::live::Live;
 use crate::locks::{self, Locks};
 use crate::names::Names;
-use crate::operations::copy_objects;
+use crate::operations::{copy_objects, is_fit};
 use crate::restore::{aborted_names, committed_names, in_order, kept_operations, next_of};
 use crate::{Grant, LiveOp, by_list, keeping};
 use cam_base::NoMemory;
 use cam_know::{Know, Outcome};
 use cam_names::Name;
-use cam_type::{Held, HeldList, Objects, Op, State, fits};
+use cam_type::{Held, HeldList, Objects, Op, State};
 use std::alloc::Global;
 use std::marker::Model;
 
@@ -34,14 +35,14 @@ pub struct LockTable {
 
 impl Model for LockTable {
     ghost use Rattle.std.specs.Prelude.{min};
-    ghost use Rattle.cam_locks.specs.Site.{TableView};
+    ghost use Rattle.cam_locks.specs.Site.{TableView, AreFit};
     ghost use Rattle.cam_locks.specs.Holding.{AllLocks};
 
     ghost Value = { TableView };
 
     ghost view = { λ t. record { site = record { objects = t.objects; node = t.node; live = t.live.ops; committed = t.committed.names; aborted = t.aborted.names; next = t.live.next }; spare = min t.committed.spare t.aborted.spare } };
 
-    ghost invariant = { λ t. AllLocks t.objects t.committed.names t.live.ops t.live.next t.locks.items };
+    ghost invariant = { λ t. AllLocks t.objects t.committed.names t.live.ops t.live.next t.locks.items × AreFit t.objects t.node t.live.ops };
 }
 
 impl LockTable {
@@ -86,10 +87,7 @@ impl LockTable {
     pub fn takes(&self, object: u8, op: &Op) -> bool
         ensures { result ≡ is_fit self.now.site.objects self.now.site.node object op.now }
     {
-        match self.objects.get(object as usize) {
-            Some(declared) => declared.node == self.node && fits(declared.start.kind(), op),
-            None => false,
-        }
+        is_fit(&self.objects, self.node, object, op)
     }
 
     /// Makes room for this many more outcomes. Nothing else changes.
@@ -142,11 +140,16 @@ impl LockTable {
         })
     }
 
-    /// What is to be secured of a family: all its live operations in order, reads included. The locks stay.
+    /// What is to be secured of a family: all its live operations in order, reads included. The locks stay. What is secured of several
+    /// families can be restored together; [`crate::secured_along_a_run`] says so of several moments.
     pub fn secure(&self, family: &Name, count: u32) -> Result<Held, NoMemory>
-        ensures { IfOk result (λ secured. secured ≡ held self.now.site family.now count) }
+        ensures held { IfOk result (λ secured. secured ≡ held self.now.site family.now count) }
+        ensures stands { Stands self.now.site }
+        ensures restorable { SecuredCanBeRestored self.now.site }
     {
-        let ops = by_list::held(self.live.allocator(), self.live.of_family(family), family)?;
+        let _next = self.live.next();
+        let live = self.live.of_family(family)?;
+        let ops = by_list::held(self.live.allocator(), live.as_slice(), family)?;
         Ok(Held {
             family: *family,
             count,
@@ -158,7 +161,7 @@ impl LockTable {
     pub fn has_family(&self, family: &Name) -> bool
         ensures { result ≡ has_family self.now.site family.now }
     {
-        !self.live.of_family(family).is_empty()
+        self.live.has_family(family)
     }
 
     /// The value of an object that is handed up past the top.
@@ -227,6 +230,7 @@ impl LockTable {
     /// Takes restored operations over, in order, and lets the next index be this one.
     fn take_over_all(&mut self, operations: &[LiveOp], next: u32) -> Result<(), NoMemory>
         requires order { IndicesRise self.old.site.next operations.now next }
+        requires fits { AreFit self.old.site.objects self.old.site.node operations.now }
         requires range { next ≤ 1000000000 }
         ensures ok { OnOk result (self.new.site ≡ record self.old.site { live = self.old.site.live ++ operations.now; next = next }) }
     {
@@ -248,6 +252,7 @@ impl LockTable {
 
     /// Takes a restored operation over. Where it conflicts with one before it nothing is kept of its object.
     fn take_over(&mut self, operation: &LiveOp) -> Result<(), NoMemory>
+        requires fits { IsTrue (is_fit self.old.site.objects self.old.site.node operation.now.object operation.now.op) }
         requires index { self.old.site.next ≤ operation.now.index }
         requires range { operation.now.index ≤ 999999999 }
         ensures ok { OnOk result (self.new.site ≡ taken_over self.old.site operation.now) }

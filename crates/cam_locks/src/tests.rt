@@ -2,6 +2,7 @@ mod both;
 mod histories;
 mod restarts;
 mod scenes;
+mod steps;
 
 ghost use Rattle.std.specs.Prelude.{◌≡◌, [], ◌∷◌, pos, IfOk};
 ghost use Rattle.cam_type.specs.declared.State.TheVariants.{Register, Queue};

@@ -1,12 +1,9 @@
 //! The plain table and the lock table under the same calls.
-ghost use Rattle.std.specs.Prelude.{◌≡◌, ◌++◌, flat_map, IsTrue, IfOk, OnOk};
-ghost use Rattle.cam_locks.specs.Restored.{all_held, has_index, MayBeHeld, CanRestore};
-
-use crate::{Grant, LockTable, PlainTable};
+use crate::{Grant, LockTable, PlainTable, may_restore};
 use cam_base::NoMemory;
 use cam_know::Know;
 use cam_names::Name;
-use cam_type::{Answer, Held, HeldList, HeldOp, HeldOps, Objects, Op, State};
+use cam_type::{Answer, Held, HeldList, HeldOp, Objects, Op, State};
 use std::alloc::Global;
 
 /// What a table answers: what the operation answered, or who stands in the way.
@@ -107,7 +104,7 @@ impl Both {
         held: &HeldList,
         know: &Know,
     ) -> Result<bool, NoMemory> {
-        if !may_be_restored(alloc, objects, held)? {
+        if !may_restore(alloc, objects, 1, held)? {
             return Ok(false);
         }
         self.plain = PlainTable::restore(alloc, objects, 1, held, know)?;
@@ -163,57 +160,4 @@ fn are_same_ops(ones: &[HeldOp], others: &[HeldOp]) -> bool {
         }
     }
     true
-}
-
-/// Whether all of these may be restored at node 1.
-fn may_be_restored(alloc: Global, objects: &Objects, held: &HeldList) -> Result<bool, NoMemory>
-    ensures { IfOk result (λ may. IsTrue may → CanRestore objects.now 1 held.now) }
-{
-    let ops = all_held(alloc, held.as_slice())?;
-    let fresh = PlainTable::new(alloc, objects, 1)?;
-    Ok(may_be_held(&fresh, ops.as_slice()))
-}
-
-/// The operations of all of them.
-fn all_held(alloc: Global, held: &[Held]) -> Result<HeldOps, NoMemory>
-    ensures { IfOk result (λ ops. ops ≡ all_held held.now) }
-{
-    let mut ops = HeldOps::new(alloc);
-    for one in held {
-        add_ops(&mut ops, one.ops.as_slice())?;
-    }
-    Ok(ops)
-}
-
-fn add_ops(ops: &mut HeldOps, more: &[HeldOp]) -> Result<(), NoMemory>
-    ensures { OnOk result (ops.new ≡ ops.old ++ more.now) }
-{
-    for op in more {
-        ops.push_copy(op)?;
-    }
-    Ok(())
-}
-
-/// Whether each may be restored: it fits an object of the node, and its index is in its range and stands once.
-fn may_be_held(fresh: &PlainTable, ops: &[HeldOp]) -> bool
-    ensures { IsTrue result → MayBeHeld fresh.now.site.objects fresh.now.site.node ops.now }
-{
-    let Some((op, others)) = ops.split_first() else {
-        return true;
-    };
-    fresh.takes(op.object, &op.op)
-        && op.index <= 999_999_999
-        && !has_index(others, op.index)
-        && may_be_held(fresh, others)
-}
-
-fn has_index(ops: &[HeldOp], index: u32) -> bool
-    ensures { result ≡ has_index ops.now index }
-{
-    for op in ops {
-        if op.index == index {
-            return true;
-        }
-    }
-    false
 }

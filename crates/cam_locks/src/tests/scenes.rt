@@ -1,85 +1,56 @@
-//! What a lock table answers in scenes whose answers are worked out by hand.
+//! Scenes with a lock table, whose answers are worked out by hand.
 
-use super::both::{Told, ask_locks, value_of_locks};
 use super::objects;
+use super::steps::{Step, first_unlike};
 use crate::LockTable;
-use cam_names::Name;
-use cam_type::{Answer, Op, State};
+use cam_base::NoMemory;
+use cam_type::{Answer, Op};
+use std::alloc::Global;
 use std::test::Fail;
 
-/// One step with a table, and what it has to answer.
 #[derive(Clone, Copy)]
-pub(super) enum Step {
-    /// An operation of an action is done, with this answer.
-    Done(&'static str, u8, Op, Answer),
-    /// An operation of an action is refused, since this one stands in the way.
-    Busy(&'static str, u8, Op, &'static str),
-    Commit(&'static str),
-    Abort(&'static str),
-    /// What the register holds past the top.
-    Register(i64),
-    /// How many operations of a family are secured.
-    Secured(&'static str, usize),
+pub(super) enum Scene {
+    /// Holders stand in the way, commits hand up, and aborts drop.
+    HandUp,
+    /// A writer keeps readers out.
+    Writer,
+    /// A child commits before its parent.
+    ChildFirst,
+    /// A parent commits before its child.
+    ParentFirst,
+    /// A child aborts, and then its parent commits; a parent aborts, and then its child commits.
+    Aborts,
+    /// Both outcomes of an action come in, in either order.
+    BothOutcomes,
+    /// What a restart keeps of three families, of which the first aborted and the third committed.
+    Restarted,
+    /// Two restored families that both wrote the register.
+    TwoWriters,
+    /// Two families work.
+    Before,
+    /// They go on.
+    After,
 }
 
-/// Whether the table answers the step as it has to.
-pub(super) fn answers(table: &mut LockTable, step: &Step) -> Result<bool, Fail> {
-    match step {
-        Step::Done(name, object, op, answer) => {
-            asks(table, name, *object, op, &(Some(*answer), None))
+impl Scene {
+    /// Its step at a place.
+    pub(super) fn step(self, place: u8) -> Option<Step> {
+        match self {
+            Scene::HandUp => hand_up(place),
+            Scene::Writer => writer(place),
+            Scene::ChildFirst => child_first(place),
+            Scene::ParentFirst => parent_first(place),
+            Scene::Aborts => aborts(place),
+            Scene::BothOutcomes => both_outcomes(place),
+            Scene::Restarted => restarted(place),
+            Scene::TwoWriters => two_writers(place),
+            Scene::Before => before(place),
+            Scene::After => after(place),
         }
-        Step::Busy(name, object, op, holder) => {
-            let holder = Name::parse(holder)?;
-            asks(table, name, *object, op, &(None, Some(holder)))
-        }
-        Step::Commit(name) => commits(table, name),
-        Step::Abort(name) => aborts(table, name),
-        Step::Register(value) => holds(table, *value),
-        Step::Secured(name, count) => secures(table, name, *count),
     }
 }
 
-fn asks(
-    table: &mut LockTable,
-    name: &str,
-    object: u8,
-    op: &Op,
-    expected: &Told,
-) -> Result<bool, Fail> {
-    let name = Name::parse(name)?;
-    Ok(ask_locks(table, &name, object, op)? == *expected)
-}
-
-fn commits(table: &mut LockTable, name: &str) -> Result<bool, Fail> {
-    let name = Name::parse(name)?;
-    table.reserve(1)?;
-    table.commit(&name);
-    Ok(true)
-}
-
-fn aborts(table: &mut LockTable, name: &str) -> Result<bool, Fail> {
-    let name = Name::parse(name)?;
-    table.reserve(1)?;
-    table.abort(&name);
-    Ok(true)
-}
-
-fn holds(table: &LockTable, value: i64) -> Result<bool, Fail> {
-    match value_of_locks(table, 0)? {
-        State::Register(held) => Ok(held == value),
-        State::Queue(_) => Ok(false),
-    }
-}
-
-fn secures(table: &LockTable, name: &str, count: usize) -> Result<bool, Fail> {
-    let family = Name::parse(name)?;
-    let held = table.secure(&family, 4)?;
-    let is_all = held.count == 4 && held.ops.len() == count;
-    Ok(is_all && table.has_family(&family) == (count > 0))
-}
-
-/// Holders stand in the way, commits hand up, and aborts drop.
-fn scene(place: u8) -> Option<Step> {
+fn hand_up(place: u8) -> Option<Step> {
     Some(match place {
         0 => Step::Done("1.1.1", 0, Op::Read, Answer::Value(0)),
         1 => Step::Done("1.1.2", 0, Op::Read, Answer::Value(0)),
@@ -104,14 +75,180 @@ fn scene(place: u8) -> Option<Step> {
     })
 }
 
+fn writer(place: u8) -> Option<Step> {
+    Some(match place {
+        0 => Step::Done("1.1.1", 0, Op::Write(4), Answer::Ok),
+        1 => Step::Busy("1.1.2", 0, Op::Read, "1.1.1"),
+        2 => Step::Done("1.1.1/1.1.1", 0, Op::Read, Answer::Value(4)),
+        3 => Step::Copy,
+        4 => Step::Commit("1.1.1/1.1.1"),
+        5 => Step::Busy("1.1.2", 0, Op::Read, "1.1.1"),
+        6 => Step::Commit("1.1.1"),
+        7 => Step::Done("1.1.2", 0, Op::Read, Answer::Value(4)),
+        8 => Step::Busy("1.1.3", 0, Op::Write(1), "1.1.2"),
+        9 => Step::Secured("1.1.2", 1),
+        _ => return None,
+    })
+}
+
+fn child_first(place: u8) -> Option<Step> {
+    Some(match place {
+        0 => Step::Done("1.1.1", 0, Op::Write(1), Answer::Ok),
+        1 => Step::Done("1.1.1/1.1.1", 0, Op::Swap(2), Answer::Value(1)),
+        2 => Step::Busy("1.1.1/1.1.2", 0, Op::Read, "1.1.1/1.1.1"),
+        3 => Step::Commit("1.1.1/1.1.1"),
+        4 => Step::Done("1.1.1/1.1.2", 0, Op::Read, Answer::Value(2)),
+        5 => Step::Busy("1.1.2", 0, Op::Read, "1.1.1"),
+        6 => Step::Register(0),
+        7 => Step::Commit("1.1.1"),
+        8 => Step::Register(2),
+        9 => Step::Done("1.1.2", 0, Op::Read, Answer::Value(2)),
+        10 => Step::Busy("1.1.2", 0, Op::Write(3), "1.1.1/1.1.2"),
+        _ => return None,
+    })
+}
+
+fn parent_first(place: u8) -> Option<Step> {
+    Some(match place {
+        0 => Step::Done("1.1.1", 0, Op::Write(1), Answer::Ok),
+        1 => Step::Done("1.1.1/1.1.1", 0, Op::Swap(2), Answer::Value(1)),
+        2 => Step::Commit("1.1.1"),
+        3 => Step::Register(1),
+        4 => Step::Busy("1.1.2", 0, Op::Read, "1.1.1/1.1.1"),
+        5 => Step::Commit("1.1.1/1.1.1"),
+        6 => Step::Register(2),
+        7 => Step::Done("1.1.2", 0, Op::Read, Answer::Value(2)),
+        _ => return None,
+    })
+}
+
+fn aborts(place: u8) -> Option<Step> {
+    Some(match place {
+        0 => Step::Done("1.1.1", 0, Op::Write(1), Answer::Ok),
+        1 => Step::Done("1.1.1/1.1.1", 0, Op::Swap(2), Answer::Value(1)),
+        2 => Step::Abort("1.1.1/1.1.1"),
+        3 => Step::Done("1.1.1", 0, Op::Read, Answer::Value(1)),
+        4 => Step::Commit("1.1.1"),
+        5 => Step::Register(1),
+        6 => Step::Done("1.1.2", 0, Op::Write(3), Answer::Ok),
+        7 => Step::Done("1.1.2/1.1.1", 0, Op::Swap(4), Answer::Value(3)),
+        8 => Step::Abort("1.1.2"),
+        9 => Step::Secured("1.1.2", 0),
+        10 => Step::Commit("1.1.2/1.1.1"),
+        11 => Step::Register(1),
+        12 => Step::Done("1.1.3", 0, Op::Swap(5), Answer::Value(1)),
+        _ => return None,
+    })
+}
+
+fn both_outcomes(place: u8) -> Option<Step> {
+    Some(match place {
+        0 => Step::Done("1.1.1", 0, Op::Write(3), Answer::Ok),
+        1 => Step::Commit("1.1.1"),
+        2 => Step::Register(3),
+        3 => Step::Abort("1.1.1"),
+        4 => Step::Register(0),
+        5 => Step::Secured("1.1.1", 0),
+        6 => Step::Done("1.1.2", 0, Op::Read, Answer::Value(0)),
+        7 => Step::Abort("1.1.3"),
+        8 => Step::Commit("1.1.3"),
+        9 => Step::Busy("1.1.3", 0, Op::Write(8), "1.1.2"),
+        10 => Step::Done("1.1.3", 1, Op::Put(7), Answer::Ok),
+        11 => Step::Done("1.1.2", 1, Op::Take, Answer::Value(7)),
+        _ => return None,
+    })
+}
+
+fn restarted(place: u8) -> Option<Step> {
+    Some(match place {
+        0 => Step::Register(3),
+        1 => Step::Secured("1.1.1", 0),
+        2 => Step::Busy("1.1.3", 0, Op::Read, "1.1.2"),
+        3 => Step::Done("1.1.2", 0, Op::Read, Answer::Value(5)),
+        _ => return None,
+    })
+}
+
+fn two_writers(place: u8) -> Option<Step> {
+    Some(match place {
+        0 => Step::Busy("1.1.1", 0, Op::Read, "1.1.2"),
+        1 => Step::Busy("1.1.2", 0, Op::Read, "1.1.1"),
+        2 => Step::Busy("1.1.3", 0, Op::Read, "1.1.2"),
+        3 => Step::Copy,
+        4 => Step::Abort("1.1.2"),
+        5 => Step::Done("1.1.1", 0, Op::Read, Answer::Value(4)),
+        6 => Step::Register(0),
+        7 => Step::Commit("1.1.1"),
+        8 => Step::Register(4),
+        9 => Step::Done("1.1.3", 0, Op::Swap(6), Answer::Value(4)),
+        _ => return None,
+    })
+}
+
+fn before(place: u8) -> Option<Step> {
+    Some(match place {
+        0 => Step::Done("1.1.1", 0, Op::Read, Answer::Value(0)),
+        1 => Step::Done("1.1.2", 1, Op::Put(6), Answer::Ok),
+        2 => Step::Done("1.1.1/1.1.1", 0, Op::Write(5), Answer::Ok),
+        3 => Step::Commit("1.1.1/1.1.1"),
+        _ => return None,
+    })
+}
+
+fn after(place: u8) -> Option<Step> {
+    Some(match place {
+        0 => Step::Busy("1.1.2", 0, Op::Read, "1.1.1"),
+        1 => Step::Done("1.1.1", 0, Op::Swap(7), Answer::Value(5)),
+        2 => Step::Busy("1.1.1", 1, Op::Take, "1.1.2"),
+        3 => Step::Register(0),
+        4 => Step::Secured("1.1.1", 3),
+        5 => Step::Secured("1.1.2", 1),
+        6 => Step::Done("1.1.2", 1, Op::Take, Answer::Value(6)),
+        7 => Step::Commit("1.1.1"),
+        8 => Step::Register(7),
+        _ => return None,
+    })
+}
+
+/// The first step of a scene that a new table does not answer as it has to.
+fn unlike(alloc: Global, scene: Scene) -> Result<Option<u8>, NoMemory> {
+    let objects = objects(alloc)?;
+    let mut table = LockTable::new(alloc, &objects, 1)?;
+    first_unlike(&mut table, scene)
+}
+
 #[test]
 fn holders_stand_in_the_way_and_commits_hand_up(rt: HostRuntime) -> Result<(), Fail> {
-    let objects = objects(rt.alloc())?;
-    let mut table = LockTable::new(rt.alloc(), &objects, 1)?;
-    for place in 0..20 {
-        if let Some(step) = scene(place) {
-            assert!(rt; answers(&mut table, &step)?, "step {place}");
-        }
-    }
+    assert_eq!(rt; unlike(rt.alloc(), Scene::HandUp)?, None);
+    Ok(())
+}
+
+#[test]
+fn a_writer_keeps_readers_out_until_it_ends(rt: HostRuntime) -> Result<(), Fail> {
+    assert_eq!(rt; unlike(rt.alloc(), Scene::Writer)?, None);
+    Ok(())
+}
+
+#[test]
+fn a_child_commits_before_its_parent(rt: HostRuntime) -> Result<(), Fail> {
+    assert_eq!(rt; unlike(rt.alloc(), Scene::ChildFirst)?, None);
+    Ok(())
+}
+
+#[test]
+fn a_parent_commits_before_its_child(rt: HostRuntime) -> Result<(), Fail> {
+    assert_eq!(rt; unlike(rt.alloc(), Scene::ParentFirst)?, None);
+    Ok(())
+}
+
+#[test]
+fn an_abort_of_the_parent_or_of_the_child_comes_first(rt: HostRuntime) -> Result<(), Fail> {
+    assert_eq!(rt; unlike(rt.alloc(), Scene::Aborts)?, None);
+    Ok(())
+}
+
+#[test]
+fn both_outcomes_of_an_action_come_in(rt: HostRuntime) -> Result<(), Fail> {
+    assert_eq!(rt; unlike(rt.alloc(), Scene::BothOutcomes)?, None);
     Ok(())
 }

@@ -1,30 +1,72 @@
-use Rattle.std.proofs.Common.{List, ℕ, not, ap, sym, ◌∙◌, subst}
-use Rattle.std.specs.Prelude.{filter}
-use Rattle.cam_names.specs.declared.name.Name.{Name}
+use Rattle.std.proofs.Common.{◌≡◌, List, ℕ, ◌<◌, not, false, length, ap, sym, ◌∙◌, subst}
+use Rattle.std.specs.Prelude.{filter, IfNone}
 use Rattle.cam_locks.specs.declared.LiveOp.{LiveOp}
-use Rattle.cam_locks.specs.Calls.{is_below, is_of}
+use Rattle.cam_locks.specs.Members.{In}
+use Rattle.cam_locks.specs.Calls.{is_below}
 use Rattle.cam_locks.specs.Holding.{AllLocks}
-use Rattle.cam_locks.specs.Changes.{EachTo, SpoiledBy}
-use Rattle.cam_locks.proofs.AllKept.{all_spoiled_by, all_abort}
+use Rattle.cam_locks.specs.Live.{other}
+use Rattle.cam_locks.proofs.Members.{in_filter}
+use Rattle.cam_locks.proofs.Fewer.{fewer}
+use Rattle.cam_locks.proofs.Dropping.{dropped_below, none_below}
+use Rattle.cam_locks.proofs.Each.{SpoiledWhere, none_spoiled, spoiled_on, spoiled_off}
+use Rattle.cam_locks.proofs.AllKept.{all_gone}
 use Rattle.cam_locks.proofs.keeping.abort.Goals as goal
-use Rattle.cam_locks.proofs.keeping.abort.Goals.{then-contains, else-contains}
+use Rattle.cam_locks.proofs.keeping.abort.Goals.{then-spoils, else-spoils}
+
+pub loop-operation-init : goal.loop-operation-init
+loop-operation-init c = record {
+  among = λ o h. h;
+  above = λ i. filter (λ o. not (is_below c.args.name.now o)) c.args.live.now.ops;
+  next = λ i. c.args.live.now.next;
+  spoiled = none_spoiled c.contains-spoils.result c.args.name.now c.args.live.now.ops c.args.locks.now.items;
+}
+
+pub loop-operation-smaller : goal.loop-operation-smaller
+loop-operation-smaller c =
+    subst (λ (ps : List LiveOp). length ps < length c.loop-operation.live.ops) (sym c.drop_one.ensures.ops) (fewer c.loop-operation.live.ops c.in-Some.operation c.in-Some.ensures.found.0)
+
+pub loop-operation-preserved : goal.loop-operation-preserved
+loop-operation-preserved c =
+    let inv = c.loop-operation.invariant in
+    let n = c.args.name.now in
+    let os = c.args.live.now.ops in
+    let ops = c.loop-operation.live.ops in
+    let f = c.in-Some.operation in
+    let there = c.in-Some.ensures.found.0 in
+    let rise = c.next-next.ensures.order in
+    let b = c.contains-spoils.result in
+    let old = c.args.locks.now.items in
+    let mid = c.loop-operation.locks.items in
+    record {
+      among = λ o h. inv.among o (in_filter (other f.index) o ops (subst (λ (ps : List LiveOp). In o ps) c.drop_one.ensures.ops h)).0;
+      above = ap (filter (λ o. not (is_below n o))) c.drop_one.ensures.ops ∙ dropped_below n os ops c.args.live.now.next f rise inv.among there c.in-Some.ensures.found.1 ∙ inv.above;
+      next = c.drop_one.ensures.next ∙ inv.next;
+      spoiled = subst (λ (ps : List LiveOp). SpoiledWhere b n os ps old c.if-spoils.locks.items) (sym c.drop_one.ensures.ops) (elim c.if-spoils.branch [
+        | then-spoils w ↦
+            subst (λ v. SpoiledWhere b n os (filter (other f.index) ops) old v.items) (sym w.locks-is)
+            (spoiled_on b n os ops c.args.live.now.next f old mid w.spoil_at.new.locks.items w.if-spoils.true rise inv.among there inv.spoiled w.spoil_at.ensures)
+        | else-spoils w ↦
+            subst (λ v. SpoiledWhere b n os (filter (other f.index) ops) old v.items) (sym w.locks-is)
+            (spoiled_off b n os ops (filter (other f.index) ops) old mid w.if-spoils.false inv.spoiled)
+      ]);
+    }
+
+pub returns-clause-ops : goal.returns-clause-ops
+returns-clause-ops c =
+    let n = c.args.name.now in
+    let ops = c.loop-operation.live.ops in
+    sym (none_below n ops (subst (λ r. IfNone r ((o : LiveOp) → In o ops → is_below n o ≡ false)) c.in_default.is c.one_below.ensures.none)) ∙ c.loop-operation.invariant.above
 
 pub returns-clause-kept : goal.returns-clause-kept
 returns-clause-kept c =
+    let inv = c.loop-operation.invariant in
     let objects = c.args.objects.now in
     let ns = c.args.committed.now.names in
     let os = c.args.live.now.ops in
-    let next = c.args.live.now.next in
+    let ops = c.loop-operation.live.ops in
     let n = c.args.name.now in
-    subst (λ (ps : List LiveOp). AllLocks objects ns ps c.drop_below.new.self.next c.if-contains.locks.items) (sym c.drop_below.ensures.ops)
-    (subst (λ (m : ℕ). AllLocks objects ns (filter (λ o. not (is_below n o)) os) m c.if-contains.locks.items) (sym c.drop_below.ensures.next)
-    (elim c.if-contains.branch [
-      | then-contains w ↦
-          subst (λ v. AllLocks objects ns (filter (λ o. not (is_below n o)) os) next v.items) (sym w.locks-is)
-          (all_spoiled_by objects ns os next c.args.locks.now.items w.spoil_below.new.locks.items n
-          (subst (λ (ps : List LiveOp). EachTo (SpoiledBy (filter (is_below n) ps)) c.args.locks.now.items w.spoil_below.new.locks.items)
-          (w.of_family.ensures.value ∙ ap (λ (g : Name). filter (is_of g) os) w.family.ensures) w.spoil_below.ensures) c.requires)
-      | else-contains w ↦
-          subst (λ v. AllLocks objects ns (filter (λ o. not (is_below n o)) os) next v.items) (sym w.locks-is)
-          (all_abort objects ns os next c.args.locks.now.items n (sym c.contains.ensures ∙ w.if-contains.false) c.next-next.ensures.order c.requires)
-    ]))
+    let new = c.loop-operation.locks.items in
+    let none = subst (λ r. IfNone r ((o : LiveOp) → In o ops → is_below n o ≡ false)) c.in_default.is c.one_below.ensures.none in
+    subst (λ (ps : List LiveOp). AllLocks objects ns ps c.loop-operation.live.next new) (sym (sym (none_below n ops none) ∙ inv.above))
+    (subst (λ (m : ℕ). AllLocks objects ns (filter (λ o. not (is_below n o)) os) m new) (sym inv.next)
+    (all_gone c.contains-spoils.result objects ns os ops c.args.live.now.next c.args.locks.now.items new n c.contains-spoils.ensures inv.spoiled none c.next-next.ensures.order c.requires))

@@ -1,4 +1,4 @@
-use Rattle.std.proofs.Common.{◌≡◌, List, ℕ, [], ◌∷◌, ◌++◌, ap, sym, ◌∙◌, subst}
+use Rattle.std.proofs.Common.{List, ℕ, [], ◌∷◌, ◌++◌, sym, subst}
 use Rattle.cam_locks.specs.declared.LiveOp.{LiveOp}
 use Rattle.cam_locks.specs.Holding.{AllLocks}
 use Rattle.cam_locks.proofs.AllKept.{all_spoiled_at}
@@ -10,7 +10,6 @@ returns-clause-kept c =
     let ns = c.args.committed.now.names in
     let os = c.args.live.now.ops in
     let o = c.args.operation.now in
-    let ops_is : c.push.new.self.ops ≡ os ++ o ∷ [] = c.push.ensures.ops ∙ ap (λ (ps : List LiveOp). ps ++ o ∷ []) c.make_room.ensures.ops in
-    subst (λ (ps : List LiveOp). AllLocks objects ns ps c.push.new.self.next c.spoil_at.new.locks.items) (sym ops_is)
-    (subst (λ (n : ℕ). AllLocks objects ns (os ++ o ∷ []) n c.spoil_at.new.locks.items) (sym c.push.ensures.next)
+    subst (λ (ps : List LiveOp). AllLocks objects ns ps c.push.new.self.next c.spoil_at.new.locks.items) (sym c.in_ok-push.ensures.ops)
+    (subst (λ (n : ℕ). AllLocks objects ns (os ++ o ∷ []) n c.spoil_at.new.locks.items) (sym c.in_ok-push.ensures.next)
     (all_spoiled_at objects ns os c.args.live.now.next c.args.locks.now.items c.spoil_at.new.locks.items o c.next-next.ensures.order c.requires.index c.spoil_at.ensures c.requires.all))

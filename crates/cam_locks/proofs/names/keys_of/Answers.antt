@@ -8,7 +8,7 @@ use Rattle.cam_locks.proofs.names.keys_of.Goals as goal
 
 pub loop-name-preserved : goal.loop-name-preserved
 loop-name-preserved c = λ a.
-    c.in_ok-insert.ensures.updates.0 (record { name = a })
+    c.in_ok-insert.ensures.updates.0 a
     ∙ ap (λ (b : Bool). if name_eq c.name-item.result a then true else b) (c.loop-name.invariant a)
     ∙ more_has (take c.loop-name.name-index c.args.names.now) c.name-item.result a
     ∙ ap (λ (ns : List Name). has_name ns a) (sym (taken c.args.names.now c.loop-name.name-index c.name-item.result c.loop-name-test.true c.name-item.is))

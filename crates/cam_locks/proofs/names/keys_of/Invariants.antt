@@ -6,4 +6,4 @@ use Rattle.cam_locks.specs.Names.{has_name}
 use Rattle.cam_locks.proofs.names.keys_of.Given as goal
 
 abbrev pub invariant-loop-name : goal.invariant-loop-name
-invariant-loop-name l = (a : Name) → list_any (λ k. name_eq a k.name) l.keys.keys ≡ has_name (take l.name-index l.names) a
+invariant-loop-name l = (a : Name) → list_any (name_eq a) l.keys.keys ≡ has_name (take l.name-index l.names) a

@@ -16,6 +16,6 @@ invariant_of-self c = λ a.
     let room = subst (λ (v : NamesView). 1 ≤ v.spare) (sym c.self.view_is) c.requires in
     let free : 0 < spare c.self.inside.keys = omega (arith, room) in
     let updates = on_ok c.insert.result _ (c.insert.ensures.succeeds free) c.insert.ensures.updates in
-    updates.0 (record { name = a })
+    updates.0 a
     ∙ ap (λ (b : Bool). if name_eq c.args.name.now a then true else b) (c.self.invariant a)
     ∙ more_has c.self.inside.names.items c.args.name.now a ∙ ap (λ (ns : List Name). has_name ns a) (sym c.push_reserved.ensures.items)

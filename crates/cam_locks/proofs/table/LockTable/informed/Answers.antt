@@ -1,11 +1,14 @@
-use Rattle.std.proofs.Common.{List, map, ap, sym, ◌∙◌}
+use Rattle.std.proofs.Common.{List, map, ap, sym, subst, ◌∙◌}
 use Rattle.cam_type.specs.declared.ObjectDecl.{ObjectDecl}
+use Rattle.cam_locks.specs.Site.{AreFit}
 use Rattle.cam_locks.specs.Holding.{fresh}
 use Rattle.cam_locks.proofs.AllKept.{all_fresh}
 use Rattle.cam_locks.proofs.table.LockTable.informed.Goals as goal
 
 pub invariant_of-result : goal.invariant_of-result
-invariant_of-result c =
-    all_fresh c.in_ok-copy_objects.field-0 c.in_ok-committed_names.field-0.names c.new.result.ops c.new.result.next c.in_ok-for_objects.field-0.items
-    c.new.ensures.ops c.new.ensures.next
-    (c.in_ok-for_objects.ensures ∙ ap (λ (ds : List ObjectDecl). map (λ d. fresh d.start) ds) (sym c.in_ok-copy_objects.ensures))
+invariant_of-result c = (
+  all_fresh c.in_ok-copy_objects.field-0 c.in_ok-committed_names.field-0.names c.new.result.ops c.new.result.next c.in_ok-for_objects.field-0.items
+      c.new.ensures.ops c.new.ensures.next
+      (c.in_ok-for_objects.ensures ∙ ap (λ (ds : List ObjectDecl). map (λ d. fresh d.start) ds) (sym c.in_ok-copy_objects.ensures)),
+  subst (AreFit c.in_ok-copy_objects.field-0 c.args.node) (sym c.new.ensures.ops) tt,
+)

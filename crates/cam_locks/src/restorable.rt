@@ -1,0 +1,68 @@
+//! Whether a restart takes what is held.
+ghost use Rattle.std.specs.Prelude.{◌≡◌, ◌≤◌, ◌++◌, ◌&&◌, ◌↔◌, nat_le, IsTrue, IfOk, OnOk};
+ghost use Rattle.cam_locks.specs.Site.{is_fit};
+ghost use Rattle.cam_locks.specs.Restored.{all_held, MayBeHeld, CanRestore};
+
+use crate::operations::is_fit;
+use cam_base::NoMemory;
+use cam_type::{Held, HeldList, HeldOp, HeldOps, Objects};
+use std::alloc::Global;
+use std::collections::HashSet;
+
+/// Whether these can be restored at the node: each operation is on an object of the node and fits it, and each index is in its range and
+/// stands once.
+pub fn may_restore(
+    alloc: Global,
+    objects: &Objects,
+    node: u8,
+    held: &HeldList,
+) -> Result<bool, NoMemory>
+    ensures { IfOk result (λ may. IsTrue may ↔ CanRestore objects.now node held.now) }
+{
+    let ops = all_held(alloc, held.as_slice())?;
+    may_be_held(alloc, objects, node, ops.as_slice())
+}
+
+/// The operations of all of these, one after another.
+fn all_held(alloc: Global, held: &[Held]) -> Result<HeldOps, NoMemory>
+    ensures { IfOk result (λ ops. ops ≡ all_held held.now) }
+{
+    let mut ops = HeldOps::new(alloc);
+    for one in held {
+        add_ops(&mut ops, one.ops.as_slice())?;
+    }
+    Ok(ops)
+}
+
+/// Adds these at the end.
+fn add_ops(ops: &mut HeldOps, more: &[HeldOp]) -> Result<(), NoMemory>
+    ensures { OnOk result (ops.new ≡ ops.old ++ more.now) }
+{
+    for op in more {
+        ops.push_copy(op)?;
+    }
+    Ok(())
+}
+
+/// Whether these operations can be held at the node.
+fn may_be_held(alloc: Global, objects: &Objects, node: u8, ops: &[HeldOp]) -> Result<bool, NoMemory>
+    ensures { IfOk result (λ may. IsTrue may ↔ MayBeHeld objects.now node ops.now) }
+{
+    let mut indices = HashSet::new(alloc);
+    for op in ops {
+        if !is_right(objects, node, op) {
+            return Ok(false);
+        }
+        if !indices.insert(op.index)? {
+            return Ok(false);
+        }
+    }
+    Ok(true)
+}
+
+/// Whether an operation is on an object of the node and fits it, under an index in its range.
+fn is_right(objects: &Objects, node: u8, op: &HeldOp) -> bool
+    ensures { result ≡ (is_fit objects.now node op.now.object op.now.op && nat_le op.now.index 999999999) }
+{
+    is_fit(objects, node, op.object, &op.op) && op.index <= 999_999_999
+}

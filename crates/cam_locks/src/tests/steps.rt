@@ -1,0 +1,125 @@
+//! Steps with a lock table, and whether it answers them as it has to.
+
+use super::both::{Told, ask_locks, value_of_locks};
+use super::scenes::Scene;
+use crate::LockTable;
+use cam_base::NoMemory;
+use cam_names::Name;
+use cam_type::{Answer, Op, State};
+
+/// One step with a table, and what it has to answer.
+#[derive(Clone, Copy)]
+pub(super) enum Step {
+    /// An operation of an action is done, with this answer.
+    Done(&'static str, u8, Op, Answer),
+    /// An operation of an action is refused, since this one stands in the way.
+    Busy(&'static str, u8, Op, &'static str),
+    Commit(&'static str),
+    Abort(&'static str),
+    /// From here on a copy goes on.
+    Copy,
+    /// What the register holds past the top.
+    Register(i64),
+    /// How many operations of a family are secured.
+    Secured(&'static str, usize),
+}
+
+/// The first step of a scene that the table does not answer as it has to.
+pub(super) fn first_unlike(table: &mut LockTable, scene: Scene) -> Result<Option<u8>, NoMemory> {
+    for place in 0..20u8 {
+        let Some(step) = scene.step(place) else {
+            return Ok(None);
+        };
+        if !answers(table, &step)? {
+            return Ok(Some(place));
+        }
+    }
+    Ok(None)
+}
+
+/// Whether the table answers the step as it has to. Where memory runs out the step is done once more: the table is as it was.
+fn answers(table: &mut LockTable, step: &Step) -> Result<bool, NoMemory> {
+    match answers_at_once(table, step) {
+        Ok(is_right) => Ok(is_right),
+        Err(NoMemory) => answers_at_once(table, step),
+    }
+}
+
+fn answers_at_once(table: &mut LockTable, step: &Step) -> Result<bool, NoMemory> {
+    match step {
+        Step::Done(name, object, op, answer) => {
+            asks(table, name, *object, op, &(Some(*answer), None))
+        }
+        Step::Busy(name, object, op, holder) => is_refused(table, name, *object, op, holder),
+        Step::Commit(name) => commits(table, name),
+        Step::Abort(name) => aborts(table, name),
+        Step::Copy => goes_on_with_a_copy(table),
+        Step::Register(value) => holds(table, *value),
+        Step::Secured(name, count) => secures(table, name, *count),
+    }
+}
+
+fn is_refused(
+    table: &mut LockTable,
+    name: &str,
+    object: u8,
+    op: &Op,
+    holder: &str,
+) -> Result<bool, NoMemory> {
+    match Name::parse(holder) {
+        Ok(holder) => asks(table, name, object, op, &(None, Some(holder))),
+        Err(_) => Ok(false),
+    }
+}
+
+fn asks(
+    table: &mut LockTable,
+    name: &str,
+    object: u8,
+    op: &Op,
+    expected: &Told,
+) -> Result<bool, NoMemory> {
+    match Name::parse(name) {
+        Ok(name) => Ok(ask_locks(table, &name, object, op)? == *expected),
+        Err(_) => Ok(false),
+    }
+}
+
+fn commits(table: &mut LockTable, name: &str) -> Result<bool, NoMemory> {
+    let Ok(name) = Name::parse(name) else {
+        return Ok(false);
+    };
+    table.reserve(1)?;
+    table.commit(&name);
+    Ok(true)
+}
+
+fn aborts(table: &mut LockTable, name: &str) -> Result<bool, NoMemory> {
+    let Ok(name) = Name::parse(name) else {
+        return Ok(false);
+    };
+    table.reserve(1)?;
+    table.abort(&name);
+    Ok(true)
+}
+
+fn goes_on_with_a_copy(table: &mut LockTable) -> Result<bool, NoMemory> {
+    *table = table.copy()?;
+    Ok(true)
+}
+
+fn holds(table: &LockTable, value: i64) -> Result<bool, NoMemory> {
+    match value_of_locks(table, 0)? {
+        State::Register(held) => Ok(held == value),
+        State::Queue(_) => Ok(false),
+    }
+}
+
+fn secures(table: &LockTable, name: &str, count: usize) -> Result<bool, NoMemory> {
+    let Ok(family) = Name::parse(name) else {
+        return Ok(false);
+    };
+    let held = table.secure(&family, 4)?;
+    let is_all = held.count == 4 && held.ops.len() == count;
+    Ok(is_all && table.has_family(&family) == (count > 0))
+}
