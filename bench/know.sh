@@ -1,5 +1,6 @@
 #!/bin/sh
-# How long an orphan test, joins and copies take where 10, 100 and 500 outcomes are known, and how much of the first run's time that is.
+# How long an orphan test, joins, additions and copies take where 10, 100, 500 and 1,000 outcomes are known, and how much of the first
+# run's time that is.
 # In the last line of each run all of them are commits of one name, with as many dependency sets.
 # A figure is such a ratio: the nanoseconds are those of one machine on one day. Each time is the least of several rounds.
 # bench/know.sh           proves the crates and the program, and runs it
@@ -8,7 +9,7 @@
 . "$(dirname "$0")/common.sh"
 make_program know_times anyhow cam_base cam_names cam_know cam_orphan
 cat > src/main.rt <<'PROGRAM'
-//! How long an orphan test, joins and copies take.
+//! How long an orphan test, joins, additions and copies take.
 #![tactic(auto)]
 
 use anyhow::Error;
@@ -99,6 +100,34 @@ fn join_new(rt: &HostRuntime, top: &Name, children: u32) -> Result<u128, Error> 
     Ok(start.elapsed(rt)?.as_nanos() / NODES as u128)
 }
 
+/// The time of adding a letter's ten outcomes one by one, where all are known.
+fn add_again(rt: &HostRuntime, know: &mut Know, letter: &Know) -> Result<u128, Error> {
+    let start = Instant::now(rt)?;
+    for _ in 0..JOINS {
+        for outcome in letter.outcomes() {
+            know.add(outcome)?;
+        }
+    }
+    Ok(start.elapsed(rt)?.as_nanos() / JOINS as u128)
+}
+
+/// The time of adding ten new outcomes one by one.
+fn add_new(rt: &HostRuntime, top: &Name, children: u32) -> Result<u128, Error> {
+    let first = children.saturating_add(1);
+    let letter = family(rt, top, first, children.saturating_add(LETTER))?;
+    let mut nodes = Vec::new(rt.alloc());
+    for _ in 0..NODES {
+        nodes.push(family(rt, top, 1, children)?)?;
+    }
+    let start = Instant::now(rt)?;
+    for know in nodes.iter_mut() {
+        for outcome in letter.outcomes() {
+            know.add(outcome)?;
+        }
+    }
+    Ok(start.elapsed(rt)?.as_nanos() / NODES as u128)
+}
+
 /// The time for each outcome of a join into nothing.
 fn join_all(rt: &HostRuntime, know: &Know) -> Result<u128, Error> {
     let start = Instant::now(rt)?;
@@ -126,6 +155,8 @@ struct Times {
     orphan_test: u128,
     join_new: u128,
     join_again: u128,
+    add_new: u128,
+    add_again: u128,
     join_all: u128,
     copy_all: u128,
     one_name: u128,
@@ -137,6 +168,8 @@ impl Times {
             orphan_test: self.orphan_test.min(other.orphan_test),
             join_new: self.join_new.min(other.join_new),
             join_again: self.join_again.min(other.join_again),
+            add_new: self.add_new.min(other.add_new),
+            add_again: self.add_again.min(other.add_again),
             join_all: self.join_all.min(other.join_all),
             copy_all: self.copy_all.min(other.copy_all),
             one_name: self.one_name.min(other.one_name),
@@ -155,6 +188,8 @@ fn measure_once(rt: &HostRuntime, children: u32) -> Result<Times, Error> {
         orphan_test: orphan_test(rt, &know)?,
         join_new: join_new(rt, &top, children)?,
         join_again: join_again(rt, &mut know, &letter)?,
+        add_new: add_new(rt, &top, children)?,
+        add_again: add_again(rt, &mut know, &letter)?,
         join_all: join_all(rt, &know)?,
         copy_all: copy_all(rt, &know)?,
         one_name: join_again(rt, &mut one, &again)?,
@@ -178,12 +213,14 @@ fn show(rt: &HostRuntime, what: &str, time: u128, first: u128) -> Result<(), Err
 
 fn main(rt: HostRuntime) -> Result<(), Error> {
     let first = measure(&rt, 10)?;
-    for children in [10, 100, 500] {
+    for children in [10, 100, 500, 1_000] {
         let times = if children == 10 { first } else { measure(&rt, children)? };
         println!(rt; "{children} outcomes")?;
         show(&rt, "orphan test", times.orphan_test, first.orphan_test)?;
         show(&rt, "join of 10 new outcomes", times.join_new, first.join_new)?;
         show(&rt, "join of 10 known outcomes", times.join_again, first.join_again)?;
+        show(&rt, "addition of 10 new outcomes", times.add_new, first.add_new)?;
+        show(&rt, "addition of 10 known outcomes", times.add_again, first.add_again)?;
         show(&rt, "join into nothing, for each outcome", times.join_all, first.join_all)?;
         show(&rt, "copy, for each outcome", times.copy_all, first.copy_all)?;
         show(&rt, "join of 10 known dependency sets of one name", times.one_name, first.one_name)?;

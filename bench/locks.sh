@@ -1,7 +1,8 @@
 #!/bin/sh
 # How long calls of the lock table take where 100, 1,000 and 10,000 live operations stand on one object, and how much of the first
-# number's time that is: under readers, under the writes of one action, under children of one action that wrote and committed, and under
-# such writes of an action two levels further down, each of which was handed up to the top action.
+# number's time that is: under readers, under readers of which all but the last have ended, under the writes of one action, under
+# children of one action that wrote and committed, and under such writes of an action two levels further down, each of which was handed
+# up to the top action.
 # A figure is such a ratio: the nanoseconds are those of one machine on one day. Each time is the least of several rounds.
 # Where one round took more than a second, greater numbers are left out, and a line says so.
 # bench/locks.sh           proves the crates and the program, and runs it
@@ -13,16 +14,14 @@ cat > src/main.rt <<'PROGRAM'
 //! How long calls of the lock table take.
 #![tactic(auto)]
 
-ghost use Rattle.std.specs.Prelude.{◌≡◌, List, IsTrue, IfOk};
-ghost use Rattle.cam_type.specs.declared.ObjectDecl.{ObjectDecl};
-ghost use Rattle.cam_locks.specs.Restored.{has_index, MayBeHeld, CanRestore};
+ghost use Rattle.cam_locks.specs.Restored.{CanRestore};
 
 use anyhow::Error;
 use cam_base::NoMemory;
 use cam_know::Know;
-use cam_locks::{Grant, LockTable};
+use cam_locks::{Grant, LockTable, may_restore};
 use cam_names::{Name, Part};
-use cam_type::{Held, HeldList, HeldOp, ObjectDecl, Objects, Op, State};
+use cam_type::{HeldList, ObjectDecl, Objects, Op, State};
 use std::alloc::Global;
 use std::time::{Duration, Instant};
 
@@ -79,20 +78,38 @@ fn abort(table: &mut LockTable, name: &Name) -> Result<(), NoMemory> {
 #[derive(Clone, Copy, PartialEq, Eq)]
 enum Way {
     Readers,
+    EndedReaders,
     Writer,
     HandUp,
     DeepHandUp,
 }
 
+/// Whose the operation of a number is: a top action's where there are readers, and else a child's of the writer.
+fn actor(way: Way, number: u32) -> Option<Name> {
+    match way {
+        Way::Readers | Way::EndedReaders => top(number),
+        _ => child(number),
+    }
+}
+
+/// A top action reads, and then the one before it commits.
+fn read_behind(table: &mut LockTable, name: &Name, number: u32) -> Result<bool, NoMemory> {
+    let done = ask(table, name, &Op::Read)?;
+    if let Some(before) = top(number.saturating_sub(1)) {
+        commit(table, &before)?;
+    }
+    Ok(done)
+}
+
 /// One more operation of a way.
 fn one_more(table: &mut LockTable, way: Way, number: u32) -> Result<bool, NoMemory> {
-    let name = if way == Way::Readers { top(number) } else { child(number) };
-    let Some(name) = name else {
+    let Some(name) = actor(way, number) else {
         return Ok(false);
     };
     let write = Op::Write(number as i64);
     match way {
         Way::Readers => ask(table, &name, &Op::Read),
+        Way::EndedReaders => read_behind(table, &name, number),
         Way::Writer => ask(table, &name.family(), &write),
         Way::HandUp => hand_up(table, &name, &write),
         Way::DeepHandUp => deep_hand_up(table, &name, &write),
@@ -196,14 +213,13 @@ fn time_refused(rt: &HostRuntime, table: &mut LockTable, other: &Name) -> Result
     Ok(each(time))
 }
 
-/// An action that reads and aborts: another family's where readers stand, and else a child of the writer.
+/// An action that reads and aborts: another family's where there are readers, and else a child of the writer.
 fn time_dropped(rt: &HostRuntime, table: &mut LockTable, way: Way) -> Result<u128, Error> {
     let start = Instant::now(rt)?;
     let mut refused = 0u32;
     for call in 1..=CALLS {
         let number = call.saturating_add(900_000);
-        let name = if way == Way::Readers { top(number) } else { child(number) };
-        if !read_and_abort(table, name)? {
+        if !read_and_abort(table, actor(way, number))? {
             refused = refused.saturating_add(1);
         }
     }
@@ -254,42 +270,17 @@ fn secure(table: &LockTable, family: &Name) -> Result<usize, NoMemory> {
     Ok(held.ops.len())
 }
 
-/// Whether each operation may be restored: it fits an object of the node, and its index is in its range and stands once.
-fn may_be_held(table: &LockTable, ops: &[HeldOp]) -> bool
-    ensures { IsTrue result → MayBeHeld table.now.site.objects table.now.site.node ops.now }
-{
-    let Some((op, others)) = ops.split_first() else {
-        return true;
-    };
-    table.takes(op.object, &op.op)
-        && op.index <= 999_999_999
-        && !has_index(others, op.index)
-        && may_be_held(table, others)
-}
-
-fn has_index(ops: &[HeldOp], index: u32) -> bool
-    ensures { result ≡ has_index ops.now index }
-{
-    match ops.split_first() {
-        Some((op, others)) => op.index == index || has_index(others, index),
-        None => false,
-    }
-}
-
-/// A restart from what is secured of the first top action, for each operation of it. It is 0 where that may not be restored.
+/// A restart from what is secured of the first top action, for each operation of it. It is 0 where that cannot be restored.
 fn time_restore(rt: &HostRuntime, table: &LockTable, family: &Name) -> Result<u128, Error> {
     let objects = objects(rt.alloc())?;
     let held = table.secure(family, 1)?;
     let operations = held.ops.len().max(1) as u128;
-    Ok(time_restore_of(rt, &objects, held)? / operations)
-}
-
-fn time_restore_of(rt: &HostRuntime, objects: &Objects, held: Held) -> Result<u128, Error> {
-    if !may_be_restored(rt.alloc(), objects, &held)? {
+    let mut all = HeldList::new(rt.alloc());
+    all.push(held)?;
+    if !may_restore(rt.alloc(), &objects, 1, &all)? {
         return Ok(0);
     }
-    let all = one_held(rt.alloc(), held)?;
-    time_restart(rt, objects, &all)
+    Ok(time_restart(rt, &objects, &all)? / operations)
 }
 
 fn time_restart(rt: &HostRuntime, objects: &Objects, all: &HeldList) -> Result<u128, Error>
@@ -298,21 +289,6 @@ fn time_restart(rt: &HostRuntime, objects: &Objects, all: &HeldList) -> Result<u
     let start = Instant::now(rt)?;
     restore(rt.alloc(), objects, all)?;
     Ok(start.elapsed(rt)?.as_nanos())
-}
-
-fn may_be_restored(alloc: Global, objects: &Objects, held: &Held) -> Result<bool, NoMemory>
-    ensures { IfOk result (λ may. IsTrue may → MayBeHeld objects.now 1 held.now.ops) }
-{
-    let fresh = LockTable::new(alloc, objects, 1)?;
-    Ok(may_be_held(&fresh, held.ops.as_slice()))
-}
-
-fn one_held(alloc: Global, held: Held) -> Result<HeldList, NoMemory>
-    ensures { IfOk result (λ all. (objects : List ObjectDecl) → MayBeHeld objects 1 held.ops → CanRestore objects 1 all) }
-{
-    let mut all = HeldList::new(alloc);
-    all.push(held)?;
-    Ok(all)
 }
 
 fn restore(alloc: Global, objects: &Objects, all: &HeldList) -> Result<(), NoMemory>
@@ -393,6 +369,7 @@ fn show_way(rt: &HostRuntime, what: &str, way: Way) -> Result<(), Error> {
 
 fn main(rt: HostRuntime) -> Result<(), Error> {
     show_way(&rt, "each the read of a top action", Way::Readers)?;
+    show_way(&rt, "each the read of a top action, of which all but the last committed", Way::EndedReaders)?;
     show_way(&rt, "writes of one top action", Way::Writer)?;
     show_way(&rt, "each the write of a child that committed", Way::HandUp)?;
     show_way(&rt, "each the write of a child of a child of a child, which all committed", Way::DeepHandUp)

@@ -10,6 +10,9 @@ cat > src/main.rt <<'PROGRAM'
 //! How long letters take to be written and read.
 #![tactic(auto)]
 
+ghost use Rattle.std.specs.Prelude.{IfOk};
+ghost use Rattle.cam_wire.specs.Writable.{IsWritable};
+
 use anyhow::Error;
 use cam_event::{Body, Letter};
 use cam_know::{Know, Outcome};
@@ -18,7 +21,9 @@ use cam_wire::{decode, encode};
 use std::time::Instant;
 
 /// A letter whose sender knows so many outcomes, learnt in no order of names.
-fn a_letter(rt: &HostRuntime, outcomes: u32) -> Result<Letter, Error> {
+fn a_letter(rt: &HostRuntime, outcomes: u32) -> Result<Letter, Error>
+    ensures { IfOk result (λ letter. IsWritable letter) }
+{
     let mut know = Know::new(rt.alloc());
     for i in 0..outcomes {
         let number = 1 + i.wrapping_mul(7919) % 1_000_000;
@@ -42,7 +47,9 @@ fn a_letter(rt: &HostRuntime, outcomes: u32) -> Result<Letter, Error> {
 }
 
 /// The nanoseconds of a hundred copies, of a hundred times encode and of a hundred times decode.
-fn round(rt: &HostRuntime, letter: &Letter, bytes: &[u8]) -> Result<[u128; 3], Error> {
+fn round(rt: &HostRuntime, letter: &Letter, bytes: &[u8]) -> Result<[u128; 3], Error>
+    requires { IsWritable letter.now }
+{
     let start = Instant::now(rt)?;
     for _ in 0..100 {
         let _ = bytes.to_vec(rt.alloc())?;
@@ -61,7 +68,9 @@ fn round(rt: &HostRuntime, letter: &Letter, bytes: &[u8]) -> Result<[u128; 3], E
 }
 
 /// The least times of some rounds.
-fn measure(rt: &HostRuntime, letter: &Letter, bytes: &[u8]) -> Result<[u128; 3], Error> {
+fn measure(rt: &HostRuntime, letter: &Letter, bytes: &[u8]) -> Result<[u128; 3], Error>
+    requires { IsWritable letter.now }
+{
     let mut least = round(rt, letter, bytes)?;
     for _ in 0..4 {
         let times = round(rt, letter, bytes)?;
