@@ -1,18 +1,18 @@
 -- Each kind of field is read as it was written.
-use Rattle.std.proofs.Common.{◌≡◌, ℕ, ℤ, ◌+◌, ◌<◌, ◌≤◌, List, ◌++◌, length, drop, replicate, Result, Ok, ap, ◌∙◌, arith, subst, lit<}
+use Rattle.std.proofs.Common.{◌≡◌, ℕ, ℤ, ◌+◌, ◌<◌, ◌≤◌, List, [], ◌∷◌, ◌++◌, length, drop, replicate, Result, Ok, ap, ◌∙◌, arith, subst, lit<}
 use Rattle.std.proofs.lemmas.List.{length-drop, length-append}
 use Rattle.cam_names.specs.declared.name.Name.{Name}
 use Rattle.cam_type.specs.declared.Op.{Op}
 use Rattle.cam_type.specs.declared.Op.TheVariants as ops
 use Rattle.cam_bytes.specs.declared.WireFault.{WireFault}
 use Rattle.cam_bytes.specs.Fields.{number, value, name, counts_above, object, op}
-use Rattle.cam_bytes.specs.Ranges.{IsBytes, IsNumber, IsValue, IsName, IsFamily, AreCounts, IsObject, IsOp}
-use Rattle.cam_bytes.specs.Reading.{counts_above_at, number_in, value_at, name_at, family_at, object_at, op_at}
-use Rattle.cam_bytes.specs.Laws.{IsField, NumbersAreFields, ValuesAreFields, NamesAreFields, FamiliesAreFields, CountsAreFields, DependenciesAreFields, ObjectsAreFields, OperationsAreFields}
-use Rattle.cam_bytes.proofs.Steady.{Within, IsSteady, steady_number_in, steady_value, steady_name_in, steady_pairs_in, steady_object, steady_op}
-use Rattle.cam_bytes.proofs.Again.{Reads, reads_number_in, reads_value, reads_name, reads_family, reads_object, reads_op}
+use Rattle.cam_bytes.specs.Ranges.{IsBytes, IsFrom, IsValue, IsName, IsFamily, AreCounts, IsObject, IsOp}
+use Rattle.cam_bytes.specs.Reading.{byte_in, counts_above_at, number_in, value_at, name_at, family_at, object_at, op_at}
+use Rattle.cam_bytes.specs.Laws.{IsField, BytesAreFields, NumbersAreFields, ValuesAreFields, NamesAreFields, FamiliesAreFields, CountsAreFields, DependenciesAreFields, ObjectsAreFields, OperationsAreFields}
+use Rattle.cam_bytes.proofs.Steady.{Within, IsSteady, steady_byte_in, steady_number_in, steady_value, steady_name_in, steady_pairs_in, steady_object, steady_op}
+use Rattle.cam_bytes.proofs.Again.{Reads, reads_byte_in, reads_number_in, reads_value, reads_name, reads_family, reads_object, reads_op}
 use Rattle.cam_bytes.proofs.AgainPairs.{reads_counts}
-use Rattle.cam_bytes.proofs.Taken.{took_number_in, took_value, took_name, took_family, took_object}
+use Rattle.cam_bytes.proofs.Taken.{took_byte_in, took_number_in, took_value, took_name, took_family, took_object}
 use Rattle.cam_bytes.proofs.TakenPairs.{took_counts}
 use Rattle.cam_bytes.proofs.TakenOps.{took_op}
 
@@ -32,11 +32,17 @@ module _ (A : Type 0) (range : A → Type 0) (spelled : A → List ℕ) (read : 
     steady = λ bytes at more within. (steady at bytes more within).1;
   }
 
+pub bytes_are_fields : BytesAreFields
+bytes_are_fields least most =
+    is_field ℕ (IsFrom least most) (λ b. b ∷ []) (byte_in least most) (steady_byte_in least most) (λ b. lit< tt)
+    (λ bytes at b rest r stands. reads_byte_in bytes least most at b rest r stands)
+    (λ bytes at b behind are e. let t = took_byte_in bytes least most at (b, behind) e in (t.1, t.0))
+
 pub numbers_are_fields : NumbersAreFields
-numbers_are_fields =
-    is_field ℕ IsNumber number (number_in 1 1000000000) (steady_number_in 1 1000000000) (λ n. lit< tt)
-    (λ bytes at n rest r stands. reads_number_in bytes 1 1000000000 at n rest r (omega arith) stands)
-    (λ bytes at n behind are e. let t = took_number_in bytes 1 1000000000 at (n, behind) are e in (t.1, t.0))
+numbers_are_fields least most top =
+    is_field ℕ (IsFrom least most) number (number_in least most) (steady_number_in least most) (λ n. lit< tt)
+    (λ bytes at n rest r stands. reads_number_in bytes least most at n rest r top stands)
+    (λ bytes at n behind are e. let t = took_number_in bytes least most at (n, behind) are e in (t.1, t.0))
 
 pub values_are_fields : ValuesAreFields
 values_are_fields =

@@ -1,21 +1,12 @@
--- One step of the loops over counts, and of the reading of a name.
-use Rattle.std.proofs.Common.{◌≡◌, ℕ, zero, suc, ◌+◌, ◌-◌, ◌<◌, ◌≤◌, le-leb, List, [], ◌∷◌, ◌++◌, length, get_or, drop, refl, sym, ap, ◌∙◌, arith, Result, Ok, Err}
-use Rattle.std.proofs.lemmas.Bool.{lt-leb}
+-- The reading of a name, its first part at once; counts in their ranges, by their places.
+use Rattle.std.proofs.Common.{◌≡◌, ℕ, zero, suc, ◌-◌, ◌<◌, ◌≤◌, List, [], ◌∷◌, length, get_or, refl, sym, ap, ◌∙◌, arith, Result, Ok, Err}
 use Rattle.std.specs.List.{AllByRecursion}
-use Rattle.std.proofs.lemmas.List.{at_drop_more}
 use Rattle.cam_names.specs.Part.{PartFields}
 use Rattle.cam_names.specs.declared.name.Name.{Name}
 use Rattle.cam_names.specs.Dependencies.{IsCounts}
 use Rattle.cam_bytes.specs.declared.WireFault.{WireFault}
-use Rattle.cam_bytes.specs.Fields.{pairs_above}
-use Rattle.cam_bytes.specs.Ranges.{IsPartInRange, IsFrom, IsDeps}
+use Rattle.cam_bytes.specs.Ranges.{IsFrom, IsDeps}
 use Rattle.cam_bytes.specs.Reading.{◌>>=◌, byte_in, part_at, parts_from, name_in}
-
-pub next_above : (base n : ℕ) (cs : List ℕ) → n < length cs → base < get_or cs n 0 → pairs_above base (n + 1) (drop n cs) ≡ (n + 1, get_or cs n 0) ∷ pairs_above base (n + 1 + 1) (drop (n + 1) cs)
-next_above base n cs within above = at_drop_more (pairs_above base (n + 1)) cs n 0 within ∙ rw (lt-leb (get_or cs n 0) base above) refl
-
-pub next_not_above : (base n : ℕ) (cs : List ℕ) → n < length cs → get_or cs n 0 ≤ base → pairs_above base (n + 1) (drop n cs) ≡ pairs_above base (n + 1 + 1) (drop (n + 1) cs)
-next_not_above base n cs within low = at_drop_more (pairs_above base (n + 1)) cs n 0 within ∙ rw (le-leb (get_or cs n 0) base low) refl
 
 -- a name of at least one part begins with a part
 first_part : (n at : ℕ) (bytes : List ℕ) → 1 ≤ n → parts_from n [] at bytes ≡ (part_at at bytes >>= (λ part. parts_from (n - 1) (part.0 ∷ []) part.1 bytes))
@@ -51,8 +42,3 @@ each_of_counts (c ∷ cs) to = ((omega arith, to 0 (omega arith)), each_of_count
 
 pub deps_of_counts : (cs : List ℕ) → IsCounts cs → IsDeps cs
 deps_of_counts cs is = record { nodes = is.eight; each = each_of_counts cs (λ k below. is.to k (omega (arith, is.eight, below))) }
-
--- one more part
-pub parts_more : (ps : Name) (p : PartFields) → AllByRecursion IsPartInRange ps → IsPartInRange p → AllByRecursion IsPartInRange (ps ++ p ∷ [])
-parts_more [] p are is = (is, tt)
-parts_more (q ∷ ps) p are is = (are.0, parts_more ps p are.1 is)

@@ -1,4 +1,4 @@
-// Bytes, and numbers of four and of eight bytes, the greatest place first.
+// Bytes, and numbers of four and of eight bytes, big-endian.
 ghost use Rattle.std.specs.Prelude.{◌≡◌, ◌<◌, ◌≤◌, ◌++◌, ◌∷◌, [], length, take, IfOk, OnOk};
 ghost use Rattle.std.specs.Int.{w32, w64, from_be_bytes, cast_signed};
 ghost use Rattle.cam_bytes.specs.Fields.{number, value};

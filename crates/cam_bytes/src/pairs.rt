@@ -1,8 +1,8 @@
 // Counts of nodes as pairs: the number of pairs, then each node with its count, the nodes rising.
-ghost use Rattle.std.specs.Prelude.{◌≡◌, ◌+◌, ◌<◌, ◌≤◌, ◌++◌, length, replicate, IfOk};
+ghost use Rattle.std.specs.Prelude.{◌≡◌, ◌+◌, ◌<◌, ◌≤◌, ◌++◌, length, IfOk};
 ghost use Rattle.cam_bytes.specs.Fields.{pair, pairs_above, counts_above, deps as bytes_of_deps};
 ghost use Rattle.cam_bytes.specs.Ranges.{IsDeps};
-ghost use Rattle.cam_bytes.specs.Reading.{pairs_from, pairs_in, counts_above_at, deps_at};
+ghost use Rattle.cam_bytes.specs.Reading.{pairs_from, counts_above_at, deps_at};
 
 use crate::WireFault;
 use crate::numbers::{byte_in, number_in, write_byte, write_number};
@@ -36,33 +36,19 @@ fn pairs_from(
     pairs_from(bytes, end, left - 1, least, node, counts)
 }
 
-/// The counts with the pairs that stand at a place put in, each count at least `least`, and the place behind them.
-#[tactic(auto, unfolding(crate::specs::Reading::pairs_in))]
-fn pairs_in(
-    bytes: &[u8],
-    at: usize,
-    least: u32,
-    counts: [u32; 8],
-) -> Result<([u32; 8], usize), WireFault>
-    requires { at ≤ length bytes.now }
-    ensures value { result ≡ pairs_in least counts at bytes.now }
-    ensures end { IfOk result (λ read. (at < read.1) × (read.1 ≤ length bytes.now)) }
-{
-    let (number, at) = byte_in(bytes, at, 0, 8)?;
-    pairs_from(bytes, at, number, least, 0, counts)
-}
-
 /// The counts above `base`, 0 or 1, that stand at a place, with `base` for each that is not written, and the place behind them.
 ///
 /// `Short` where a field is not whole; `BadNumber` at the first byte of a number of pairs, a node or a count out of its range; `Order` at a
 /// node that is not above the one before.
+#[tactic(auto, unfolding(crate::specs::Reading::pairs_in))]
 pub fn counts_above_at(bytes: &[u8], at: usize, base: u32) -> Result<([u32; 8], usize), WireFault>
     requires place { at ≤ length bytes.now }
     requires base { base ≤ 1 }
     ensures value { result ≡ counts_above_at base at bytes.now }
     ensures end { IfOk result (λ read. (at < read.1) × (read.1 ≤ length bytes.now)) }
 {
-    pairs_in(bytes, at, base + 1, [base; 8])
+    let (number, at) = byte_in(bytes, at, 0, 8)?;
+    pairs_from(bytes, at, number, base + 1, 0, [base; 8])
 }
 
 /// Dependencies at a place, and the place behind them. `Short`, `BadNumber` and `Order` as `counts_above_at`.

@@ -16,7 +16,8 @@ use cam_know::Know;
 #[cfg(test)]
 mod tests;
 
-/// A letter with all that is known, from a node at its count, to a node.
+/// A letter with all that is known, from a node at its count, to a node. A node is 1 to 8, a count 1 to 1,000,000,000; neither is tested.
+/// Fails only where memory runs out.
 pub fn send(know: &Know, from: u8, count: u32, to: u8, body: Body) -> Result<Letter, NoMemory>
     ensures { IfOk result (λ letter. letter ≡ record { from = from; count = count; to = to; know = know.now; body = body }) }
 {
@@ -30,7 +31,7 @@ pub fn send(know: &Know, from: u8, count: u32, to: u8, body: Body) -> Result<Let
 }
 
 /// Joins what the letter knows to what is known, and answers the news: what is known now and was not
-/// before, with all counts. At want of memory nothing changes. Each outcome of the letter is looked up once.
+/// before, with all counts. At want of memory nothing changes. Each outcome of the letter is looked up once, and each that is news once more.
 pub fn arrive(know: &mut Know, letter: &Letter) -> Result<Know, NoMemory>
     ensures known { OnOk result (know.new ≡ both know.old letter.now.know) }
     ensures news { IfOk result (λ fresh. fresh ≡ news know.new know.old) }

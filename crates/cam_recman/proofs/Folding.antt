@@ -27,11 +27,6 @@ recovers (records ∷ entries) number r are =
 pub recovery_is_of_the_records : (entries : List (List Record)) → AllByRecursion AreRecords entries → recover (map entry_bytes entries) ≡ Ok (with_records fresh (all_records entries))
 recovery_is_of_the_records entries are = recovers entries 0 fresh are
 
--- one step behind another, and a third behind both
-then_then : {A B C : Type 0} (one : Result A RecFault) (next : A → Result B RecFault) (last : B → Result C RecFault) → (one >>= (λ x. next x >>= last)) ≡ ((one >>= next) >>= last)
-then_then (Ok x) next last = refl
-then_then (Err e) next last = refl
-
 abbrev one_entry : ℕ → Recovered → List ℕ → Result Recovered RecFault
 one_entry number r entry = read_entry number entry >>= (λ records. Ok (with_records r records))
 

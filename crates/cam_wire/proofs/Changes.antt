@@ -1,4 +1,4 @@
--- A letter with counts, aborts, a commit and a body: each beginning of it, and each letter with one byte changed, read by the definitions.
+-- A letter with counts, aborts, a commit and a body: each beginning of it, and each letter with 64 added to one of its bytes, read by the definitions.
 use Rattle.std.proofs.Common.{◌≡◌, ℕ, ◌+◌, List, [], ◌∷◌, map, take, get_or, slice_set, Option, Some, None, Result, Ok, Err, refl}
 use Rattle.std.specs.List.{range_with_len}
 use Rattle.cam_event.specs.declared.Letter.{Letter}

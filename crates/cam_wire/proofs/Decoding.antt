@@ -1,6 +1,6 @@
 -- What a fault, or a letter, that was read says of spellings.
-use Rattle.std.proofs.Common.{◌≡◌, ◌⊎◌, inl, inr, ℕ, zero, ◌<◌, eqb, false, eq-eqb, List, [], ◌++◌, length, Result, Ok, Err, refl, sym, ◌∙◌, subst}
-use Rattle.std.proofs.lemmas.Bool.{cases_Bool, eqb-true}
+use Rattle.std.proofs.Common.{◌≡◌, ◌⊎◌, inl, inr, ℕ, zero, ◌<◌, eq-eqb, List, [], ◌++◌, length, Result, Ok, Err, refl, sym, ◌∙◌, subst}
+use Rattle.std.proofs.lemmas.Bool.{ne_eqb}
 use Rattle.cam_names.specs.declared.name.Name.{Name}
 use Rattle.cam_event.specs.declared.Letter.{Letter}
 use Rattle.cam_event.specs.declared.Body.{Body}
@@ -50,16 +50,9 @@ pub whole_letter : (bytes : List ℕ) (letter : Letter) (end : ℕ) → letter_a
 unfolding read_letter
 whole_letter bytes letter end e is = rw (e, eq-eqb end (length bytes) is) refl
 
-not_equal : (m n : ℕ) → ¬ (m ≡ n) → eqb m n ≡ false
-not_equal m n other =
-    elim (cases_Bool (eqb m n)) [
-      | inl same ↦ absurd (other (eqb-true m n same))
-      | inr differs ↦ differs
-    ]
-
 pub rest_of_letter : (bytes : List ℕ) (letter : Letter) (end : ℕ) → letter_at bytes ≡ Ok (letter, end) → ¬ (end ≡ length bytes) → read_letter bytes ≡ Err (Rest end)
 unfolding read_letter
-rest_of_letter bytes letter end e other = rw (e, not_equal end (length bytes) other) refl
+rest_of_letter bytes letter end e other = rw (e, ne_eqb end (length bytes) other) refl
 
 -- bytes that are a spelling are refused for want of memory alone
 refused_ok : (A : Type 0) (reading : Result A WireFault) (x : A) (fault : WireFault) → Refuses fault reading → reading ≡ Ok x → fault ≡ NoMemory

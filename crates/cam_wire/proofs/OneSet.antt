@@ -7,14 +7,14 @@ use Rattle.cam_names.specs.Names.{name_eq}
 use Rattle.cam_know.specs.declared.Outcome.{Outcome}
 use Rattle.cam_know.specs.declared.Outcome.TheVariants.{Aborted, Committed}
 use Rattle.cam_know.specs.Known.{outcome_eq, counts_eq, knows, knows_commit, is_commit_of, aborted_name}
-use Rattle.cam_know.proofs.Outcomes.{outcome_eq_same, counts_eq_refl}
+use Rattle.cam_know.proofs.Outcomes.{counts_eq_refl}
 use Rattle.cam_event.specs.declared.Letter.{Letter}
 use Rattle.cam_event.specs.declared.Body.{Body}
 use Rattle.cam_event.specs.Rules.{sorted_names}
 use Rattle.cam_event.proofs.SortedNames.{sorted_any}
 use Rattle.cam_bytes.specs.Ranges.{IsFrom, IsNumber, IsName, AreCounts}
 use Rattle.cam_wire.specs.Spelling.{bytes_of, body, counts, commits, committed_pair, sorted_commits, spelled}
-use Rattle.cam_wire.specs.Ranges.{IsOutcome, IsBody}
+use Rattle.cam_wire.specs.Ranges.{IsBody}
 use Rattle.cam_wire.specs.Reading.{outcomes_of}
 use Rattle.cam_wire.specs.Writable.{IsWritable}
 use Rattle.cam_wire.specs.Laws.{IsSpelled}
@@ -22,6 +22,7 @@ use Rattle.cam_wire.specs.OneSet.{IsWithOneSet, IsSpelledWithOneSet, HasOneSetEa
 use Rattle.cam_wire.proofs.Again.{names_of, IsCommit}
 use Rattle.cam_wire.proofs.Unique.{commit_eq, aborted_any, committed_any}
 use Rattle.cam_wire.proofs.Among.{Commits, aborts_among, commits_among, named_among, no_commit_of, sorted_among}
+use Rattle.cam_wire.proofs.Exactly.{known_outcome}
 use Rattle.cam_wire.proofs.Sorted.{names_rise, names_sorted, commits_rise}
 
 abbrev pub aborts_in : List Outcome → List Name
@@ -60,20 +61,6 @@ known : (letter : Letter) (o : Outcome) → knows (sorted_letter letter).know o 
 known letter (Aborted a) h = sym (aborted_same letter a) ∙ h
 known letter (Committed a d) h = commit_known letter a d h
 
--- what holds of each of the lists holds of each outcome
-outcome_in_range : (names : List Name) (cs : Commits) (o : Outcome) → AllByRecursion IsName names → AllByRecursion IsCommit cs → list_any (outcome_eq o) (outcomes_of names cs) ≡ true → IsOutcome o
-outcome_in_range [] [] o are also h = absurd cc
-outcome_in_range [] (c ∷ cs) o are also h =
-    elim (or_cases (outcome_eq o (Committed c.0 c.1)) (list_any (outcome_eq o) (outcomes_of [] cs)) h) [
-      | inl it ↦ subst IsOutcome (sym (outcome_eq_same o (Committed c.0 c.1) it)) also.0
-      | inr rest ↦ outcome_in_range [] cs o are also.1 rest
-    ]
-outcome_in_range (a ∷ names) cs o are also h =
-    elim (or_cases (outcome_eq o (Aborted a)) (list_any (outcome_eq o) (outcomes_of names cs)) h) [
-      | inl it ↦ subst IsOutcome (sym (outcome_eq_same o (Aborted a) it)) are.0
-      | inr rest ↦ outcome_in_range names cs o are.1 also rest
-    ]
-
 sorted_with_one_set : (letter : Letter) → IsWithOneSet (sorted_letter letter) letter
 sorted_with_one_set letter = record { from = refl; count = refl; to = refl; counts = refl; body = refl; known = known letter; aborted = aborted_same letter; committed = committed_same letter }
 
@@ -85,7 +72,7 @@ spelled_with_one_set letter bytes writable counts body names few commits few' is
   one = sorted_letter letter;
   of = sorted_with_one_set letter;
   spelled = record {
-    range = record { from = writable.from; count = writable.count; to = writable.to; counts = counts; outcomes = λ o h. outcome_in_range (aborts_in letter.know.outcomes) (commits_in letter.know.outcomes) o names commits h; body = body };
+    range = record { from = writable.from; count = writable.count; to = writable.to; counts = counts; outcomes = λ o h. known_outcome (aborts_in letter.know.outcomes) (commits_in letter.know.outcomes) o names commits h; body = body };
     spelling = record {
       aborted = aborts_in letter.know.outcomes;
       committed = commits_in letter.know.outcomes;

@@ -1,5 +1,5 @@
 -- What a tree of names has after an insertion is what putting in at the place gives.
-use Rattle.std.proofs.Common.{◌≡◌, inl, inr, ℕ, true, false, cond, List, [], ◌∷◌, flat_map, Some, refl, sym, ap, ◌∙◌, subst}
+use Rattle.std.proofs.Common.{◌≡◌, inl, inr, ℕ, true, false, cond, List, [], ◌∷◌, Some, refl, sym, ap, ◌∙◌, subst}
 use Rattle.std.specs.Ordering.{is_lt, is_eq, match_ordering}
 use Rattle.std.specs.declared.cmp.Ordering.{Ordering}
 use Rattle.std.specs.declared.cmp.Ordering.TheVariants.{Less, Equal, Greater}
@@ -12,14 +12,11 @@ use Rattle.cam_names.specs.declared.name.Name.{Name}
 use Rattle.cam_names.specs.Names.{name_cmp, name_eq, name_lt}
 use Rattle.cam_names.proofs.Names.{name_eq_same, name_eq_refl}
 use Rattle.cam_names.proofs.Order.{name_lt_trans, name_tied, name_cmp_itself}
-use Rattle.cam_know.specs.declared.Outcome.{Outcome}
-use Rattle.cam_know.specs.declared.Outcome.TheVariants.{Aborted, Committed}
-use Rattle.cam_know.specs.Known.{aborted_name}
 use Rattle.cam_event.specs.Rules.{put_name, sorted_names}
 use Rattle.cam_event.proofs.SortedNames.{Rises, sorted_rises}
-use Rattle.cam_wire.specs.Spelling.{Rising, committed_pair, put_commit, sorted_commits}
-use Rattle.cam_wire.specs.Sorting.{with_abort, with_commit}
+use Rattle.cam_wire.specs.Spelling.{Rising, put_commit, sorted_commits}
 use Rattle.cam_wire.proofs.Again.{names_of}
+use Rattle.cam_wire.proofs.Unique.{rising_tail}
 
 same_name : (a b : Name) → name_cmp a b ≡ Equal → name_eq a b ≡ true
 same_name a b h = subst (λ (c : Name). name_eq a c ≡ true) (name_tied a b h) (name_eq_refl a)
@@ -72,14 +69,10 @@ none_below : (a : Name) (es : List (Name × List ℕ)) → IsBelow a es → is_s
 none_below a [] all = refl
 none_below a (e ∷ es) all = rw (not_equal (name_cmp a e.0) all.0) (none_below a es all.1)
 
-pub rising_tail : (e : Name × List ℕ) (es : List (Name × List ℕ)) → Rising (names_of (e ∷ es)) → Rising (names_of es)
-rising_tail e [] r = tt
-rising_tail e (f ∷ es) r = r.1
-
 -- a commit whose name is there changes nothing
 pub put_again : (a : Name) (d : List ℕ) (es : List (Name × List ℕ)) → Rising (names_of es) → is_some (lookup (is_at (name_cmp a)) es) ≡ true → put_commit (a, d) es ≡ es
 put_again a d [] r some = cc
-put_again a d (e ∷ es) r some = by (put_again a d es (rising_tail e es r)) (name_cmp a e.0) refl some
+put_again a d (e ∷ es) r some = by (put_again a d es (rising_tail e.0 (names_of es) r)) (name_cmp a e.0) refl some
   where
     by : (is_some (lookup (is_at (name_cmp a)) es) ≡ true → put_commit (a, d) es ≡ es) → (o : Ordering) → name_cmp a e.0 ≡ o
         → is_some (cond (is_eq o) (Some e.1) (lookup (is_at (name_cmp a)) es)) ≡ true → put_commit (a, d) (e ∷ es) ≡ e ∷ es
@@ -88,15 +81,6 @@ put_again a d (e ∷ es) r some = by (put_again a d es (rising_tail e es r)) (na
         absurd (true≢false (sym some ∙ none_below a es all.1))
     by ih Equal h some = let no_less : name_lt a e.0 ≡ false = ap is_lt h in rw (no_less, same_name a e.0 h) refl
     by ih Greater h some = let no_less : name_lt a e.0 ≡ false = ap is_lt h in rw (no_less, other_name a e.0 h) (ap (λ (xs : List (Name × List ℕ)). e ∷ xs) (ih some))
-
--- one more outcome before the others
-pub abort_step : (o : Outcome) (os : List Outcome) → with_abort o (sorted_names (flat_map aborted_name os)) ≡ sorted_names (flat_map aborted_name (o ∷ os))
-abort_step (Aborted a) os = refl
-abort_step (Committed a d) os = refl
-
-pub commit_step : (o : Outcome) (os : List Outcome) → with_commit o (sorted_commits (flat_map committed_pair os)) ≡ sorted_commits (flat_map committed_pair (o ∷ os))
-commit_step (Aborted a) os = refl
-commit_step (Committed a d) os = refl
 
 -- sorted names rise, also those of sorted commits
 rising_from : (xs : List Name) → Rises xs → Rising xs

@@ -1,23 +1,26 @@
 -- A letter has one spelling: rising lists with the same members are the same.
 use Rattle.std.proofs.Common.{◌≡◌, inl, inr, ℕ, Bool, true, false, ◌||◌, ◌&&◌, true≢false, List, [], ◌∷◌, map, refl, sym, ap, ap₂, ◌∙◌, subst}
 use Rattle.std.specs.List.{list_any}
-use Rattle.std.proofs.lemmas.Bool.{or_left, or_cases, and_parts, and_from}
+use Rattle.std.proofs.lemmas.Bool.{or_left, or_cases, and_parts, and_from, false_from_ne_true}
+use Rattle.std.proofs.lemmas.List.{map-id}
 use Rattle.cam_names.specs.declared.name.Name.{Name}
 use Rattle.cam_names.specs.Names.{name_eq, name_lt}
 use Rattle.cam_names.proofs.Names.{name_eq_same, name_eq_refl}
 use Rattle.cam_names.proofs.Order.{name_lt_itself, name_lt_trans}
 use Rattle.cam_know.specs.declared.Outcome.{Outcome}
 use Rattle.cam_know.specs.declared.Outcome.TheVariants.{Aborted, Committed}
-use Rattle.cam_know.specs.Known.{outcome_eq, counts_eq}
+use Rattle.cam_know.specs.Known.{outcome_eq, counts_eq, knows}
 use Rattle.cam_know.specs.Invariant.{NoTwice}
 use Rattle.cam_know.proofs.Outcomes.{counts_eq_refl, counts_eq_same}
 use Rattle.cam_event.specs.declared.Letter.{Letter}
 use Rattle.cam_wire.specs.Spelling.{bytes_of, Rising, Spelling}
 use Rattle.cam_wire.specs.Reading.{outcomes_of}
+use Rattle.cam_wire.specs.OneSet.{HasOneSetEach}
 
-false_of : (b : Bool) → (b ≡ true → ⊥) → b ≡ false
-false_of true no_more = absurd (no_more refl)
-false_of false no_more = refl
+-- without the first they rise still
+pub rising_tail : (a : Name) (names : List Name) → Rising (a ∷ names) → Rising names
+rising_tail a [] r = tt
+rising_tail a (b ∷ names) r = r.1
 
 module _ {X : Type 0} (key : X → Name) (eq : X → X → Bool) (same : (x y : X) → eq x y ≡ true → x ≡ y) (own : (x : X) → eq x x ≡ true) where
   -- what comes later is above
@@ -30,11 +33,7 @@ module _ {X : Type 0} (key : X → Name) (eq : X → X → Bool) (same : (x y : 
       ]
 
   not_later : (x : X) (xs : List X) → Rising (map key (x ∷ xs)) → list_any (eq x) xs ≡ false
-  not_later x xs r = false_of (list_any (eq x) xs) (λ h. true≢false (sym (above x xs x r h) ∙ name_lt_itself (key x)))
-
-  tail_rises : (x : X) (xs : List X) → Rising (map key (x ∷ xs)) → Rising (map key xs)
-  tail_rises x [] r = tt
-  tail_rises x (y ∷ ys) r = r.1
+  not_later x xs r = false_from_ne_true (list_any (eq x) xs) (λ h. true≢false (sym (above x xs x r h) ∙ name_lt_itself (key x)))
 
   first_same : (x y : X) (xs ys : List X) → Rising (map key (x ∷ xs)) → Rising (map key (y ∷ ys)) → ((z : X) → list_any (eq z) (x ∷ xs) ≡ list_any (eq z) (y ∷ ys)) → x ≡ y
   first_same x y xs ys r s m =
@@ -61,7 +60,7 @@ module _ {X : Type 0} (key : X → Name) (eq : X → X → Bool) (same : (x y : 
       let first = first_same x y xs ys r s m in
       let s' = subst (λ (w : X). Rising (map key (w ∷ ys))) (sym first) s in
       let m' = λ (z : X). subst (λ (w : X). list_any (eq z) (x ∷ xs) ≡ list_any (eq z) (w ∷ ys)) (sym first) (m z) in
-      ap₂ (λ (w : X) (ws : List X). w ∷ ws) first (rising_same xs ys (tail_rises x xs r) (tail_rises x ys s') (λ z. others_same x z xs ys r s' (m' z)))
+      ap₂ (λ (w : X) (ws : List X). w ∷ ws) first (rising_same xs ys (rising_tail (key x) (map key xs) r) (rising_tail (key x) (map key ys) s') (λ z. others_same x z xs ys r s' (m' z)))
 
 abbrev pub commit_eq : Name × List ℕ → Name × List ℕ → Bool
 commit_eq c d = name_eq c.0 d.0 && counts_eq c.1 d.1
@@ -91,15 +90,11 @@ pub committed_any : (c : Name × List ℕ) (names : List Name) (cs : List (Name 
 committed_any c [] cs = committed_there c cs
 committed_any c (b ∷ names) cs = committed_any c names cs
 
-map_own : (names : List Name) → map (λ (a : Name). a) names ≡ names
-map_own [] = refl
-map_own (a ∷ names) = ap (λ (ns : List Name). a ∷ ns) (map_own names)
-
 pub one_spelling : (letter : Letter) (one other : List ℕ) → Spelling letter one → Spelling letter other → one ≡ other
 one_spelling letter one other s t =
     let alike = λ (o : Outcome). s.outcomes o ∙ sym (t.outcomes o) in
     let names : s.aborted ≡ t.aborted =
-    rising_same (λ (a : Name). a) name_eq name_eq_same name_eq_refl s.aborted t.aborted (subst Rising (sym (map_own s.aborted)) s.aborts_rise) (subst Rising (sym (map_own t.aborted)) t.aborts_rise)
+    rising_same (λ (a : Name). a) name_eq name_eq_same name_eq_refl s.aborted t.aborted (subst Rising (sym (map-id s.aborted)) s.aborts_rise) (subst Rising (sym (map-id t.aborted)) t.aborts_rise)
     (λ a. aborted_any a s.aborted s.committed ∙ alike (Aborted a) ∙ sym (aborted_any a t.aborted t.committed)) in
     let commits : s.committed ≡ t.committed =
     rising_same (λ (c : Name × List ℕ). c.0) commit_eq commit_same commit_own s.committed t.committed s.commits_rise t.commits_rise
@@ -111,16 +106,36 @@ commits_once : (cs : List (Name × List ℕ)) → Rising (map (λ c. c.0) cs) �
 commits_once [] r = tt
 commits_once (c ∷ cs) r = (
   sym (committed_there c cs) ∙ not_later (λ (d : Name × List ℕ). d.0) commit_eq commit_same commit_own c cs r,
-  commits_once cs (tail_rises (λ (d : Name × List ℕ). d.0) commit_eq commit_same commit_own c cs r),
+  commits_once cs (rising_tail c.0 (map (λ c. c.0) cs) r),
 )
 
 pub none_twice : (names : List Name) (cs : List (Name × List ℕ)) → Rising names → Rising (map (λ c. c.0) cs) → NoTwice (outcomes_of names cs)
 none_twice [] cs r s = commits_once cs s
 none_twice (a ∷ names) cs r s = (
-  sym (aborted_any a names cs) ∙ not_later (λ (b : Name). b) name_eq name_eq_same name_eq_refl a names (subst Rising (sym (map_own (a ∷ names))) r),
-  none_twice names cs (behind names r) s,
+  sym (aborted_any a names cs) ∙ not_later (λ (b : Name). b) name_eq name_eq_same name_eq_refl a names (subst Rising (sym (map-id (a ∷ names))) r),
+  none_twice names cs (rising_tail a names r) s,
 )
-  where
-    behind : (bs : List Name) → Rising (a ∷ bs) → Rising bs
-    behind [] h = tt
-    behind (b ∷ bs) h = h.1
+
+-- so a letter that is spelled has one dependency set of each name
+set_is_one : (a : Name) (d e : List ℕ) (cs : List (Name × List ℕ)) → Rising (map (λ c. c.0) cs) → list_any (commit_eq (a, d)) cs ≡ true → list_any (commit_eq (a, e)) cs ≡ true → d ≡ e
+set_is_one a d e [] r h i = cc
+set_is_one a d e (c ∷ cs) r h i =
+    let later = above (λ (p : Name × List ℕ). p.0) commit_eq commit_same commit_own c cs in
+    let apart = λ (one other : List ℕ) (it : commit_eq (a, one) c ≡ true) (rest : list_any (commit_eq (a, other)) cs ≡ true).
+    let named : a ≡ c.0 = ap (λ (p : Name × List ℕ). p.0) (commit_same (a, one) c it) in
+    true≢false (sym (subst (λ (n : Name). name_lt n a ≡ true) (sym named) (later (a, other) r rest)) ∙ name_lt_itself a) in
+    elim (or_cases (commit_eq (a, d) c) (list_any (commit_eq (a, d)) cs) h) [
+      | inl one ↦ elim (or_cases (commit_eq (a, e) c) (list_any (commit_eq (a, e)) cs) i) [
+        | inl other ↦ ap (λ (p : Name × List ℕ). p.1) (commit_same (a, d) c one ∙ sym (commit_same (a, e) c other))
+        | inr rest ↦ absurd (apart d e one rest)
+      ]
+      | inr rest ↦ elim (or_cases (commit_eq (a, e) c) (list_any (commit_eq (a, e)) cs) i) [
+        | inl other ↦ absurd (apart e d other rest)
+        | inr more ↦ set_is_one a d e cs (rising_tail c.0 (map (λ p. p.0) cs) r) rest more
+      ]
+    ]
+
+pub spelled_has_one_set : (letter : Letter) (bytes : List ℕ) → Spelling letter bytes → HasOneSetEach letter
+spelled_has_one_set letter bytes s a d e has has' =
+    let known = λ (k : List ℕ) (h : knows letter.know (Committed a k) ≡ true). committed_any (a, k) s.aborted s.committed ∙ s.outcomes (Committed a k) ∙ h in
+    set_is_one a d e s.committed s.commits_rise (known d has) (known e has')

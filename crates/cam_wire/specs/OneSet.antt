@@ -6,7 +6,7 @@ use Rattle.cam_know.specs.declared.Outcome.TheVariants.{Aborted, Committed}
 use Rattle.cam_know.specs.Known.{knows, knows_commit, aborted_name}
 use Rattle.cam_event.specs.declared.Letter.{Letter}
 use Rattle.cam_event.specs.Rules.{sorted_names}
-use Rattle.cam_wire.specs.Spelling.{committed_pair, sorted_commits, spelled}
+use Rattle.cam_wire.specs.Spelling.{Spelling, committed_pair, sorted_commits, spelled}
 use Rattle.cam_wire.specs.Ranges.{IsInRange}
 use Rattle.cam_wire.specs.Laws.{IsSpelled}
 
@@ -41,3 +41,7 @@ HasSpelling =
     → length (sorted_names (flat_map aborted_name letter.know.outcomes)) < 4294967296
     → length (sorted_commits (flat_map committed_pair letter.know.outcomes)) < 4294967296
     → IsSpelled letter (spelled letter)
+
+-- No letter that has a spelling has two dependency sets of one name.
+abbrev pub SpelledHasOneSet : Type 0
+SpelledHasOneSet = (letter : Letter) (bytes : List ℕ) → Spelling letter bytes → HasOneSetEach letter

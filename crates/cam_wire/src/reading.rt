@@ -1,5 +1,5 @@
 // How a letter is read, from the left.
-ghost use Rattle.std.specs.Prelude.{◌≡◌, ◌≤◌, ◌<◌, ◌⊎◌, ◌++◌, ℕ, List, Ok, length, replicate, IfOk, IfErr, MatchResult};
+ghost use Rattle.std.specs.Prelude.{◌≡◌, ◌≤◌, ◌<◌, ◌⊎◌, ◌++◌, ℕ, List, Ok, length, IfOk, IfErr, MatchResult};
 ghost use Rattle.cam_bytes.specs.declared.WireFault.TheVariants.{Short, NoMemory as OutOfMemory};
 ghost use Rattle.cam_bytes.specs.Refuses.{Refuses};
 ghost use Rattle.cam_bytes.specs.Ranges.{AreCounts};
@@ -20,7 +20,7 @@ use std::alloc::Global;
 /// The version of the format.
 pub(crate) const VERSION: u8 = 1;
 
-/// The place behind the version, which stands at a place.
+/// The version at a place, which must be 1, and the place behind it.
 #[tactic(auto, unfolding(crate::specs::Reading::version_at))]
 fn version_at(bytes: &[u8], at: usize) -> Result<(u8, usize), WireFault>
     requires { at ≤ length bytes.now }
@@ -76,6 +76,8 @@ fn letter_at(alloc: Global, bytes: &[u8]) -> Result<(Letter, usize), WireFault>
 /// known. `BadNumber`: a number is out of its range, or a family has not one part; the place is the field's first byte. `Order`:
 /// a pair's node, or a name of the aborts or of the commits, is not above the one before; the place is the pair's or the name's
 /// first byte. `Rest`: bytes follow the body; the place is the first of them. `NoMemory`: memory ran out, which says nothing of the bytes.
+///
+/// Time grows linearly with the bytes: each is read once, and the outcomes are found by hash.
 #[tactic(auto, unfolding(crate::specs::Reading::read_letter))]
 pub fn decode(alloc: Global, bytes: &[u8]) -> Result<Letter, WireFault>
     ensures read { IfOk result (λ letter. read_letter bytes.now ≡ Ok letter) }

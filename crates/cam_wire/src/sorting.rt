@@ -1,9 +1,9 @@
 // The outcomes of a letter in rising order of names, each name once.
-ghost use Rattle.std.specs.Prelude.{◌≡◌, map, flat_map, IfOk, OnOk};
+ghost use Rattle.std.specs.Prelude.{◌≡◌, ◌∷◌, List, flat_map, IfOk, OnOk};
 ghost use Rattle.cam_know.specs.Known.{aborted_name};
 ghost use Rattle.cam_event.specs.Rules.{sorted_names};
-ghost use Rattle.cam_wire.specs.Spelling.{Rising, committed_pair, sorted_commits};
-ghost use Rattle.cam_wire.specs.Sorting.{with_abort, with_commit};
+ghost use Rattle.cam_know.specs.declared.Outcome.{Outcome as KnownOutcome};
+ghost use Rattle.cam_wire.specs.Spelling.{committed_pair, sorted_commits};
 
 use cam_base::NoMemory;
 use cam_know::Outcome;
@@ -11,9 +11,10 @@ use cam_names::{Deps, Name};
 use std::alloc::Global;
 use std::collections::{BTreeMap, BTreeSet};
 
-/// One more outcome beside the aborts.
+/// One more outcome, which was learnt before those whose aborts are in it.
 fn note_abort(aborts: &mut BTreeSet<Name>, outcome: &Outcome) -> Result<(), NoMemory>
-    ensures { OnOk result (aborts.new.keys ≡ with_abort outcome.now aborts.old.keys) }
+    ensures { (outcomes : List KnownOutcome) → aborts.old.keys ≡ sorted_names (flat_map aborted_name outcomes)
+        → OnOk result (aborts.new.keys ≡ sorted_names (flat_map aborted_name (outcome.now ∷ outcomes))) }
 {
     if let Outcome::Aborted(name) = outcome {
         aborts.insert(*name)?;
@@ -32,10 +33,10 @@ pub fn sorted_aborts(alloc: Global, outcomes: &[Outcome]) -> Result<BTreeSet<Nam
     Ok(aborts)
 }
 
-/// One more outcome beside the commits, of which a name keeps the dependencies that it has.
+/// One more outcome, which was learnt before those whose commits are in it: a name keeps the dependencies that it has.
 fn note_commit(commits: &mut BTreeMap<Name, Deps>, outcome: &Outcome) -> Result<(), NoMemory>
-    requires { Rising (map (λ c. c.0) commits.old.entries) }
-    ensures { OnOk result (commits.new.entries ≡ with_commit outcome.now commits.old.entries) }
+    ensures { (outcomes : List KnownOutcome) → commits.old.entries ≡ sorted_commits (flat_map committed_pair outcomes)
+        → OnOk result (commits.new.entries ≡ sorted_commits (flat_map committed_pair (outcome.now ∷ outcomes))) }
 {
     if let Outcome::Committed(name, deps) = outcome {
         if !commits.contains_key(name) {

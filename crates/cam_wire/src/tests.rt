@@ -208,6 +208,7 @@ fn letters_are_read_and_other_bytes_refused(rt: HostRuntime) -> Result<(), Fail>
         (news_with(1, 9).as_slice(), Some(WireFault::BadNumber(1))),
         (news_with(16, 10).as_slice(), Some(WireFault::BadTag(16))),
         (longer.as_slice(), Some(WireFault::Rest(17))),
+        (&NEWS[..0], Some(WireFault::Short(0))),
         (twice.as_slice(), Some(WireFault::Order(62))),
     ] {
         assert_eq!(rt; fault_of(rt.alloc(), bytes)?, fault);

@@ -19,7 +19,7 @@ use cam_names::{Deps, Name};
 use cam_type::Op;
 
 /// A tag and the name behind it, written behind what was written.
-fn write_named(out: Vec<u8>, tag: u8, named: &Name) -> Result<Vec<u8>, NoMemory>
+fn write_tagged_name(out: Vec<u8>, tag: u8, named: &Name) -> Result<Vec<u8>, NoMemory>
     ensures ok { IfOk result (λ text. text.items ≡ out.items ++ tag ∷ name named.now) }
     ensures range { OnOk result (IsName named.now) }
 {
@@ -27,7 +27,7 @@ fn write_named(out: Vec<u8>, tag: u8, named: &Name) -> Result<Vec<u8>, NoMemory>
 }
 
 /// A tag and the name of the family behind it, written behind what was written.
-fn write_of_family(out: Vec<u8>, tag: u8, family: &Name) -> Result<Vec<u8>, NoMemory>
+fn write_tagged_family(out: Vec<u8>, tag: u8, family: &Name) -> Result<Vec<u8>, NoMemory>
     requires { length family.now ≡ 1 }
     ensures ok { IfOk result (λ text. text.items ≡ out.items ++ tag ∷ name family.now) }
     ensures range { OnOk result (IsFamily family.now) }
@@ -40,7 +40,7 @@ fn write_start(out: Vec<u8>, child: &Name, deps: &Deps) -> Result<Vec<u8>, NoMem
     ensures ok { IfOk result (λ text. text.items ≡ out.items ++ bytes_of_body (bodies.Start child.now deps.now)) }
     ensures range { OnOk result (IsBody (bodies.Start child.now deps.now)) }
 {
-    let out = write_named(out, START, child)?;
+    let out = write_tagged_name(out, START, child)?;
     write_deps(out, deps)
 }
 
@@ -58,7 +58,7 @@ fn write_call(
     ensures ok { IfOk result (λ text. text.items ≡ out.items ++ bytes_of_body (bodies.Call action.now number object op.now count deps.now)) }
     ensures range { OnOk result (IsBody (bodies.Call action.now number object op.now count deps.now)) }
 {
-    let out = write_named(out, CALL, action)?;
+    let out = write_tagged_name(out, CALL, action)?;
     let out = write_number(out, number)?;
     let out = write_object(out, object)?;
     let out = write_op(out, op)?;
@@ -77,7 +77,7 @@ fn write_answer(
     ensures ok { IfOk result (λ text. text.items ≡ out.items ++ bytes_of_body (bodies.Answer action.now number reply.now)) }
     ensures range { OnOk result (IsBody (bodies.Answer action.now number reply.now)) }
 {
-    let out = write_named(out, ANSWER, action)?;
+    let out = write_tagged_name(out, ANSWER, action)?;
     let out = write_number(out, number)?;
     write_reply(out, reply)
 }
@@ -87,7 +87,7 @@ fn write_finish(out: Vec<u8>, action: &Name, value: i64, deps: &Deps) -> Result<
     ensures ok { IfOk result (λ text. text.items ≡ out.items ++ bytes_of_body (bodies.Finish action.now value deps.now)) }
     ensures range { OnOk result (IsBody (bodies.Finish action.now value deps.now)) }
 {
-    let out = write_named(out, FINISH, action)?;
+    let out = write_tagged_name(out, FINISH, action)?;
     let out = write_value(out, value)?;
     write_deps(out, deps)
 }
@@ -98,7 +98,7 @@ fn write_prepare(out: Vec<u8>, family: &Name, count: u32) -> Result<Vec<u8>, NoM
     ensures ok { IfOk result (λ text. text.items ≡ out.items ++ bytes_of_body (bodies.Prepare family.now count)) }
     ensures range { OnOk result (IsBody (bodies.Prepare family.now count)) }
 {
-    let out = write_of_family(out, PREPARE, family)?;
+    let out = write_tagged_family(out, PREPARE, family)?;
     write_number(out, count)
 }
 
@@ -108,7 +108,7 @@ fn write_vote(out: Vec<u8>, family: &Name, count: u32, yes: bool) -> Result<Vec<
     ensures ok { IfOk result (λ text. text.items ≡ out.items ++ bytes_of_body (bodies.Vote family.now count yes)) }
     ensures range { OnOk result (IsBody (bodies.Vote family.now count yes)) }
 {
-    let out = write_of_family(out, VOTE, family)?;
+    let out = write_tagged_family(out, VOTE, family)?;
     let out = write_number(out, count)?;
     write_byte(out, if yes { 1 } else { 0 })
 }
@@ -139,10 +139,10 @@ pub fn write_body(out: Vec<u8>, body: &Body) -> Result<Vec<u8>, NoMemory>
             value,
             deps,
         } => write_finish(out, action, *value, deps),
-        Body::Quit { action } => write_named(out, QUIT, action),
+        Body::Quit { action } => write_tagged_name(out, QUIT, action),
         Body::Prepare { family, count } => write_prepare(out, family, *count),
         Body::Vote { family, count, yes } => write_vote(out, family, *count, *yes),
-        Body::Query { family } => write_of_family(out, QUERY, family),
+        Body::Query { family } => write_tagged_family(out, QUERY, family),
         Body::News => write_byte(out, NEWS),
     }
 }

@@ -78,8 +78,8 @@ fn write_head(alloc: Global, letter: &Letter) -> Result<Vec<u8>, NoMemory>
     write_counts_above(out, &counts, 1)
 }
 
-/// The spelling of a letter. Its aborts and its commits are sorted by name, in the time of n log n for n of them. Of a name that is known as committed with several dependency sets the one that was
-/// learnt last is written.
+/// The spelling of a letter. Of a name that is known as committed with several dependency sets the one that was learnt last is written. The
+/// outcomes are sorted by name: n of them take the time of n log n.
 ///
 /// It requires the ranges that the letter's types do not keep: sender and addressee from 1 to 8; the sender's count, and the numbers and
 /// counts of the body, from 1 to 1,000,000,000; a call's object at most 63; a family's one part. `NoMemory`: memory ran out. More than

@@ -1,6 +1,9 @@
 -- The laws of fields.
-use Rattle.cam_bytes.proofs.FieldLaws.{numbers_are_fields, values_are_fields, names_are_fields, families_are_fields, counts_are_fields, dependencies_are_fields, objects_are_fields, operations_are_fields}
+use Rattle.cam_bytes.proofs.FieldLaws.{bytes_are_fields, numbers_are_fields, values_are_fields, names_are_fields, families_are_fields, counts_are_fields, dependencies_are_fields, objects_are_fields, operations_are_fields}
 use Rattle.cam_bytes.proofs.laws.fields.Goals as goal
+
+pub returns-clause-bytes : goal.returns-clause-bytes
+returns-clause-bytes c = bytes_are_fields
 
 pub returns-clause-numbers : goal.returns-clause-numbers
 returns-clause-numbers c = numbers_are_fields
