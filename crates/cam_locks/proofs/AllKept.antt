@@ -13,10 +13,10 @@ use Rattle.cam_locks.specs.declared.LiveOp.{LiveOp}
 use Rattle.cam_locks.specs.Members.{In}
 use Rattle.cam_locks.specs.Names.{has_name}
 use Rattle.cam_locks.specs.Site.{IndicesRise, start_of}
-use Rattle.cam_locks.specs.Moss.{is_on, replay}
+use Rattle.cam_locks.specs.Moss.{is_on, replay, conflicts, lift_in}
 use Rattle.cam_locks.specs.Calls.{is_below}
-use Rattle.cam_locks.specs.Holding.{lift_in, KeepsLeaders, LocksView, leaders_of, KeepsLocks, AreLocks, AllLocks, fresh}
-use Rattle.cam_locks.specs.Changes.{EachTo, TidiedTo, DoneTo, SpoiledAt, conflicts}
+use Rattle.cam_locks.specs.Holding.{KeepsLeaders, LocksView, leaders_of, KeepsLocks, AreLocks, AllLocks, fresh}
+use Rattle.cam_locks.specs.Changes.{EachTo, TidiedTo, DoneTo, SpoiledAt}
 use Rattle.cam_locks.proofs.Modes.{added_stale, no_leaders_of}
 use Rattle.cam_locks.proofs.Rising.{rise_later}
 use Rattle.cam_locks.proofs.Climbing.{AtLeast}

@@ -1,16 +1,15 @@
 -- With more commits a lift climbs on from where it was.
 use Rattle.std.proofs.Common.{◌≡◌, ◌+◌, ◌≤◌, Bool, true, false, not, ◌||◌, if◌then◌else◌, cond, List, [], ◌∷◌, ◌++◌, length, map, reverse, Option, Some, None, refl, sym, ap, ◌∙◌, arith}
 use Rattle.std.specs.Prelude.{option_and_then}
-use Rattle.std.specs.List.{list_any}
 use Rattle.std.specs.Option.{option_or}
+use Rattle.std.proofs.lemmas.List.Folds.{list_any-append}
 use Rattle.cam_names.specs.Names.{name_eq, is_ancestor, ancestors}
 use Rattle.cam_names.proofs.Names.{name_eq_sym, is_prefix_split}
 use Rattle.cam_locks.specs.Names.{has_name, with_name}
-use Rattle.cam_locks.specs.Holding.{lift_in}
-use Rattle.cam_locks.specs.Moss.{is_in_the_way}
+use Rattle.cam_locks.specs.Moss.{is_in_the_way, lift_in}
 use Rattle.cam_locks.proofs.Passing.{not_false}
-use Rattle.cam_locks.proofs.Members.{find_no, find_none_all}
-use Rattle.cam_locks.proofs.Lifting.{Name, found_in, of_reverse, as_prefix, behind, lift_on, in_map, ancestor_part, length_on, lift_ancestor, ancestor_through}
+use Rattle.cam_locks.proofs.Members.{find_no, find_none_all, found_in}
+use Rattle.cam_locks.proofs.Lifting.{Name, of_reverse, as_prefix, behind, lift_on, in_map, ancestor_part, length_on, lift_ancestor, ancestor_through}
 
 -- with more commits a lift climbs on from where it was
 abbrev pub AtLeast : List Name → List Name → Type 0
@@ -49,20 +48,12 @@ lift_climbs less more a at_least = by_lift (lift_in less a) refl
                 absurd (omega arith)
 
 -- one more name is among the names
-pub any_append : (a : Name) (us vs : List Name) → list_any (name_eq a) (us ++ vs) ≡ (list_any (name_eq a) us || list_any (name_eq a) vs)
-any_append a [] vs = refl
-any_append a (u ∷ us) vs = ap (λ (b : Bool). name_eq a u || b) (any_append a us vs) ∙ or_assoc (name_eq a u) (list_any (name_eq a) us) (list_any (name_eq a) vs)
-  where
-    or_assoc : (b c d : Bool) → (b || (c || d)) ≡ ((b || c) || d)
-    or_assoc true c d = refl
-    or_assoc false c d = refl
-
 pub with_name_more : (ns : List Name) (n : Name) → AtLeast (with_name ns n) ns
 with_name_more ns n u h = by_test (has_name ns n)
   where
     by_test : (b : Bool) → has_name (cond b ns (ns ++ n ∷ [])) u ≡ true
     by_test true = h
-    by_test false = any_append u ns (n ∷ []) ∙ ap (λ (b : Bool). b || has_name (n ∷ []) u) h
+    by_test false = list_any-append (name_eq u) ns (n ∷ []) ∙ ap (λ (b : Bool). b || has_name (n ∷ []) u) h
 
 -- what stands not in the way before a commit stands not in the way after it
 pub clear_stays : (less more : List Name) (a b : Name) → AtLeast more less → is_in_the_way b (lift_in less a) ≡ false → is_in_the_way b (lift_in more a) ≡ false
@@ -85,7 +76,7 @@ clear_stays less more a b at_least h = by_lift (lift_in less a) refl
 -- one name more, as a table of hashes tells it
 pub more_has : (ns : List Name) (n a : Name) → (if name_eq n a then true else has_name ns a) ≡ has_name (ns ++ n ∷ []) a
 more_has ns n a =
-    by_test (name_eq n a) (has_name ns a) ∙ ap (λ (b : Bool). has_name ns a || (b || false)) (name_eq_sym n a) ∙ sym (any_append a ns (n ∷ []))
+    by_test (name_eq n a) (has_name ns a) ∙ ap (λ (b : Bool). has_name ns a || (b || false)) (name_eq_sym n a) ∙ sym (list_any-append (name_eq a) ns (n ∷ []))
   where
     by_test : (b h : Bool) → cond b true h ≡ (h || (b || false))
     by_test true true = refl

@@ -10,7 +10,7 @@ use Rattle.cam_locks.specs.Calls.{is_below}
 use Rattle.cam_locks.specs.Holding.{has_op}
 use Rattle.cam_locks.specs.Members.{In}
 use Rattle.cam_locks.specs.Live.{all_of, live_of, other}
-use Rattle.cam_locks.proofs.Passing.{eqb_sym}
+use Rattle.cam_locks.proofs.Passing.{eqb_sym, kept_once}
 use Rattle.cam_locks.proofs.Lists.{filter_twice}
 use Rattle.cam_locks.proofs.Members.{filter_agree, same_op}
 use Rattle.cam_locks.proofs.Slots.{kept, ops, slots_rise, at_least}
@@ -79,11 +79,7 @@ all_dropped (t ∷ ss) (suc k) s lt is = ap (λ (os : List LiveOp). t.operation 
 
 -- what a sweep leaves is live as before
 pub live_swept : (ss : List Slot) → live_of (filter (λ s. not s.is_dropped) ss) ≡ live_of ss
-live_swept ss = ap (map (λ (s : Slot). s.operation)) (filter_twice (λ (s : Slot). not s.is_dropped) (λ (s : Slot). not s.is_dropped) ss ∙ filter_agree (λ (s : Slot). not s.is_dropped && not s.is_dropped) (λ (s : Slot). not s.is_dropped) ss (λ s h. once (not s.is_dropped)))
-  where
-    once : (b : Bool) → (b && b) ≡ b
-    once true = refl
-    once false = refl
+live_swept ss = ap (map (λ (s : Slot). s.operation)) (kept_once (λ (s : Slot). not s.is_dropped) ss)
 
 -- An operation below an action is dropped, of some that are left of others: what is not below it is as it was.
 pub dropped_below : (n : Name) (os ops : List LiveOp) (next : ℕ) (f : LiveOp) → IndicesRise 0 os next → ((o : LiveOp) → In o ops → In o os) → In f ops → is_below n f ≡ true

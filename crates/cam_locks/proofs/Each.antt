@@ -1,7 +1,8 @@
 -- A change of what is kept of each object.
-use Rattle.std.proofs.Common.{◌≡◌, ◌≢◌, ◌⊎◌, ℕ, ◌<◌, eqb, Bool, true, false, not, List, [], ◌∷◌, length, get_or, set, zero, suc, refl, sym, ap, subst, ◌∙◌, arith, eq-eqb, get_or-set_other, get_or-set_same, length-set}
+use Rattle.std.proofs.Common.{◌≡◌, ◌≢◌, ◌⊎◌, ℕ, ◌<◌, eqb, Bool, true, false, not, List, length, get_or, set, refl, sym, ap, subst, ◌∙◌, arith, eq-eqb, get_or-set_other, get_or-set_same, length-set}
 use Rattle.std.proofs.Math.Logic.{inl, inr}
 use Rattle.std.specs.Prelude.{filter}
+use Rattle.std.proofs.lemmas.List.{get_or_default}
 use Rattle.cam_names.specs.declared.name.Name.{Name}
 use Rattle.cam_locks.specs.declared.LiveOp.{LiveOp}
 use Rattle.cam_locks.specs.Moss.{is_on}
@@ -37,16 +38,11 @@ each_set change ls at was now lt is changed others = record {
   ];
 }
   where
-    get_any : (ks : List LocksView) (m : ℕ) (k d : LocksView) → m < length ks → k ≡ get_or ks m k → get_or ks m d ≡ k
-    get_any [] m k d short e = absurd (omega arith)
-    get_any (j ∷ ks) zero k d short e = sym e
-    get_any (j ∷ ks) (suc m) k d short e = get_any ks m k d (omega arith) e
-
     here : (x : ℕ) (l : LocksView) → x ≡ at → change x (get_or ls x l) (get_or (set ls at now) x l)
     here x l same =
         subst (λ (y : ℕ). change y (get_or ls y l) (get_or (set ls at now) y l)) (sym same)
         (subst (λ (k : LocksView). change at (get_or ls at l) k) (sym (get_or-set_same ls at now l lt))
-        (subst (λ (k : LocksView). change at k now) (sym (get_any ls at was l lt is)) changed))
+        (subst (λ (k : LocksView). change at k now) (is ∙ get_or_default ls at was l lt) changed))
 
 -- What is kept of the objects of what is below an action is spoiled, while it is dropped: stale, or as it was where nothing on the object
 -- that is below the action is dropped yet.

@@ -11,9 +11,9 @@ use Rattle.cam_type.specs.Table.{mode_of, compatible}
 use Rattle.cam_locks.specs.declared.LiveOp.{LiveOp}
 use Rattle.cam_locks.specs.Members.{In}
 use Rattle.cam_locks.specs.Site.{IndicesRise}
-use Rattle.cam_locks.specs.Moss.{is_on}
+use Rattle.cam_locks.specs.Moss.{is_on, conflicts}
 use Rattle.cam_locks.specs.Holding.{mode_eq, is_lock}
-use Rattle.cam_locks.specs.Changes.{blocking, earlier, first_over, conflicts}
+use Rattle.cam_locks.specs.Changes.{blocking, earlier, first_over}
 use Rattle.cam_locks.proofs.Passing.{and_no, le_from, lt_from}
 use Rattle.cam_locks.proofs.Modes.{same_mode, some_mode}
 use Rattle.cam_locks.proofs.Members.{find_no, find_none_all, found_first, first_found}

@@ -8,8 +8,9 @@ use Rattle.cam_type.specs.declared.Answer.{Answer}
 use Rattle.cam_type.specs.Table.{answer_of}
 use Rattle.cam_locks.specs.declared.LiveOp.{LiveOp}
 use Rattle.cam_locks.specs.Site.{IndicesRise, start_of}
-use Rattle.cam_locks.specs.Holding.{lift_in, LocksView, leaders_of, AllLocks, fresh}
-use Rattle.cam_locks.specs.Changes.{EachTo, TidiedTo, DoneTo, SpoiledAt, standing, first_over, holder_of, value_of}
+use Rattle.cam_locks.specs.Holding.{LocksView, leaders_of, AllLocks, fresh}
+use Rattle.cam_locks.specs.Changes.{EachTo, TidiedTo, DoneTo, SpoiledAt, standing, first_over}
+use Rattle.cam_locks.specs.Moss.{holder_of, value_of, lift_in}
 use Rattle.cam_locks.proofs.Standing.{conflict_kept}
 use Rattle.cam_locks.proofs.AllKept.{all_tidied, all_done, all_undone, answer_all}
 

@@ -1,6 +1,5 @@
 -- The operations of a family are those below its top action.
 use Rattle.std.proofs.Common.{◌≡◌, ◌<◌, Bool, true, false, ◌||◌, cond, List, [], ◌∷◌, length, Option, Some, None, is_some, refl, sym, ap, ◌∙◌, arith}
-use Rattle.std.proofs.Math.Logic.{inl, inr}
 use Rattle.std.specs.Prelude.{filter, IfSome, IfNone}
 use Rattle.std.specs.List.{list_any}
 use Rattle.cam_names.specs.declared.name.Name.{Name}
@@ -10,7 +9,7 @@ use Rattle.cam_locks.specs.declared.LiveOp.{LiveOp}
 use Rattle.cam_locks.specs.Members.{In}
 use Rattle.cam_locks.specs.Calls.{is_below, is_of}
 use Rattle.cam_locks.proofs.Passing.{and_no}
-use Rattle.cam_locks.proofs.Members.{filter_agree, any_member}
+use Rattle.cam_locks.proofs.Members.{any_member, any_passes}
 
 -- a name of one part is a family's, and no other is
 pub top_of : (f a : Name) → length f ≡ 1 → name_eq f (family a) ≡ is_ancestor f a
@@ -24,9 +23,6 @@ deep_of [] a deep = absurd (omega (arith, deep))
 deep_of (p ∷ []) a deep = absurd (omega (arith, deep))
 deep_of (p ∷ r ∷ f) [] deep = refl
 deep_of (p ∷ r ∷ f) (q ∷ a) deep = and_no (part_eq p q)
-
-pub family_below : (f : Name) (os : List LiveOp) → length f ≡ 1 → filter (is_below f) os ≡ filter (is_of f) os
-family_below f os one = filter_agree (is_below f) (is_of f) os (λ o h. sym (top_of f o.action one))
 
 pub no_family : (f : Name) (os : List LiveOp) → 1 < length f → [] ≡ filter (is_of f) os
 no_family f [] deep = refl
@@ -46,13 +42,4 @@ some_of f os None one some none = by_test (list_any (is_of f) os) refl
     by_test true e =
         let found = any_member (is_of f) os e in
         let no : true ≡ false = sym found.2 ∙ top_of f found.0.action one ∙ none found.0 found.1 in cc
-some_of f os (Some o) one some none = sym (any_in os o some.0 (top_of f o.action one ∙ some.1))
-  where
-    any_in : (os : List LiveOp) (o : LiveOp) → In o os → is_of f o ≡ true → list_any (is_of f) os ≡ true
-    any_in [] o h of = absurd h
-    any_in (p ∷ os) o (inl e) of = ap (λ (b : Bool). b || list_any (is_of f) os) (ap (is_of f) (sym e) ∙ of)
-    any_in (p ∷ os) o (inr h) of = or_true (is_of f p) (any_in os o h of)
-      where
-        or_true : (a : Bool) → list_any (is_of f) os ≡ true → (a || list_any (is_of f) os) ≡ true
-        or_true true h = refl
-        or_true false h = h
+some_of f os (Some o) one some none = sym (any_passes (is_of f) o os some.0 (top_of f o.action one ∙ some.1))

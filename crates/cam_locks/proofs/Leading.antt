@@ -9,8 +9,8 @@ use Rattle.cam_type.specs.declared.Mode.{Mode}
 use Rattle.cam_locks.specs.declared.LiveOp.{LiveOp}
 use Rattle.cam_locks.specs.Members.{In}
 use Rattle.cam_locks.specs.Site.{IndicesRise}
-use Rattle.cam_locks.specs.Moss.{is_in_the_way}
-use Rattle.cam_locks.specs.Holding.{lift_in, has_op, is_lock, IsLeader, KeepsLeaders}
+use Rattle.cam_locks.specs.Moss.{is_in_the_way, lift_in}
+use Rattle.cam_locks.specs.Holding.{has_op, is_lock, IsLeader, KeepsLeaders}
 use Rattle.cam_locks.specs.Changes.{lift_eq, leads, last_of, with_leader}
 use Rattle.cam_locks.proofs.Rising.{rise_push, rise_later}
 use Rattle.cam_locks.proofs.Members.{in_left, in_right, in_either, in_last, find_no, find_none_all, below, found_first, first_found, has_member, in_got}

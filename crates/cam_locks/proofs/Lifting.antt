@@ -1,10 +1,10 @@
 -- Laws of lifts: a lift is an ancestor that is not committed, and where there is none all are committed.
-use Rattle.std.proofs.Common.{◌≡◌, ◌⊎◌, ◌+◌, ◌≤◌, Bool, true, false, not, ◌||◌, cond, List, [], ◌∷◌, ◌++◌, length, map, reverse, Option, Some, None, refl, sym, ap, subst, ◌∙◌, arith}
+use Rattle.std.proofs.Common.{◌≡◌, ◌+◌, ◌≤◌, Bool, true, false, not, ◌||◌, List, [], ◌∷◌, ◌++◌, length, map, reverse, Option, Some, None, refl, sym, ap, subst, ◌∙◌, arith}
 use Rattle.std.proofs.Math.Logic.{inl, inr}
 use Rattle.std.specs.Prelude.{find}
 use Rattle.std.specs.List.{list_any}
 use Rattle.std.specs.Option.{option_or}
-use Rattle.std.proofs.lemmas.List.{map-append, reverse-append}
+use Rattle.std.proofs.lemmas.List.{map-append, reverse-append, append_assoc}
 use Rattle.std.proofs.lemmas.List.Folds.{find-append}
 use Rattle.cam_names.specs.Part.{PartFields}
 use Rattle.cam_names.specs.Names.{name_eq, is_ancestor, is_prefix, ancestors}
@@ -12,22 +12,13 @@ use Rattle.cam_names.proofs.Names.{name_eq_refl, name_eq_same, is_prefix_append,
 use Rattle.cam_know.proofs.Climbs.{lift_here}
 use Rattle.cam_locks.specs.Members.{In}
 use Rattle.cam_locks.specs.Names.{has_name}
-use Rattle.cam_locks.specs.Holding.{lift_in}
+use Rattle.cam_locks.specs.Moss.{lift_in}
 use Rattle.cam_locks.specs.Changes.{lift_eq}
 use Rattle.cam_locks.proofs.Passing.{not_true, not_false}
-use Rattle.cam_locks.proofs.Members.{in_left, in_right, in_either, in_last, find_none_all}
+use Rattle.cam_locks.proofs.Members.{in_left, in_right, in_either, in_last, find_none_all, found_in, any_passes}
 
 abbrev pub Name : Type 0
 Name = List PartFields
-
-any_in : (a : Name) (us : List Name) → In a us → list_any (name_eq a) us ≡ true
-any_in a [] h = absurd h
-any_in a (u ∷ us) (inl e) = ap (λ (b : Bool). b || list_any (name_eq a) us) (ap (name_eq a) (sym e) ∙ name_eq_refl a)
-any_in a (u ∷ us) (inr h) = or_true (name_eq a u) (list_any (name_eq a) us) (any_in a us h)
-  where
-    or_true : (b c : Bool) → c ≡ true → (b || c) ≡ true
-    or_true true c k = refl
-    or_true false c k = k
 
 in_any : (a : Name) (us : List Name) → list_any (name_eq a) us ≡ true → In a us
 in_any a [] h = cc
@@ -48,19 +39,11 @@ of_reverse x [] h = absurd h
 of_reverse {X} x (y ∷ xs) h =
     elim (in_either x (reverse xs) (y ∷ []) (subst (λ (zs : List X). In x zs) (reverse-append (y ∷ []) xs) h)) [ inl k ↦ inr (of_reverse x xs k) | inr e ↦ inl (in_last x y e) ]
 
-pub found_in : {X : Type 0} (test : X → Bool) (xs : List X) (x : X) → find test xs ≡ Some x → In x xs × (test x ≡ true)
-found_in test [] x h = cc
-found_in {X} test (y ∷ xs) x h = by_test (test y) refl h (found_in test xs x)
-  where
-    by_test : (b : Bool) → test y ≡ b → cond b (Some y) (find test xs) ≡ Some x → (find test xs ≡ Some x → In x xs × (test x ≡ true)) → ((x ≡ y) ⊎ In x xs) × (test x ≡ true)
-    by_test true is k rest = let e : y ≡ x = cc in (inl (sym e), ap test (sym e) ∙ is)
-    by_test false is k rest = (inr (rest k).0, (rest k).1)
-
 -- a lift is an ancestor that is not committed
 pub lift_ancestor : (ns : List Name) (a u : Name) → lift_in ns a ≡ Some u → is_ancestor u a ≡ true
 lift_ancestor ns a u h =
     let f = found_in (λ v. not (has_name ns v)) (reverse (ancestors a)) u h in
-    sym (ancestors_any u a) ∙ any_in u (ancestors a) (of_reverse u (ancestors a) f.0)
+    sym (ancestors_any u a) ∙ any_passes (name_eq u) u (ancestors a) (of_reverse u (ancestors a) f.0) (name_eq_refl u)
 
 pub lift_open : (ns : List Name) (a u : Name) → lift_in ns a ≡ Some u → has_name ns u ≡ false
 lift_open ns a u h = not_true (has_name ns u) (found_in (λ v. not (has_name ns v)) (reverse (ancestors a)) u h).1
@@ -127,10 +110,6 @@ ancestor_on [] w h = absurd (omega arith)
 ancestor_on (p ∷ u) w h = is_prefix_append (p ∷ u) w
 
 -- what goes on from an ancestor's descendant
-append_assoc : (u v w : Name) → (u ++ v) ++ w ≡ u ++ (v ++ w)
-append_assoc [] v w = refl
-append_assoc (p ∷ u) v w = ap (λ (x : Name). p ∷ x) (append_assoc u v w)
-
 pub ancestor_through : (u v a : Name) → is_ancestor u v ≡ true → is_ancestor v a ≡ true → is_ancestor u a ≡ true
 ancestor_through u v a h k =
     let one = is_prefix_split u v (as_prefix u v h) in

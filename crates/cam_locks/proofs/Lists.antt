@@ -32,10 +32,6 @@ pub find_some : {X : Type 0} (test : X → Bool) (xs : List X) (i : ℕ) (x : X)
     → i < length xs → x ≡ get_or xs i x → None ≡ find test (take i xs) → test x ≡ true → Some x ≡ find test xs
 find_some test xs i x h is none passes = sym (find_front test xs (i + 1) x (find_one test xs i x true h is none passes))
 
-pub append_nil : {X : Type 0} (xs : List X) → xs ++ [] ≡ xs
-append_nil [] = refl
-append_nil {X} (x ∷ xs) = ap (λ (ys : List X). x ∷ ys) (append_nil xs)
-
 pub filter_twice : {X : Type 0} (p q : X → Bool) (xs : List X) → filter p (filter q xs) ≡ filter (λ x. q x && p x) xs
 filter_twice p q [] = refl
 filter_twice {X} p q (x ∷ xs) = by_test (q x) (p x) refl (filter_twice p q xs)

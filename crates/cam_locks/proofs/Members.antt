@@ -7,6 +7,7 @@ use Rattle.cam_locks.specs.declared.LiveOp.{LiveOp}
 use Rattle.cam_locks.specs.Members.{In}
 use Rattle.cam_locks.specs.Site.{IndicesRise}
 use Rattle.cam_locks.specs.Holding.{has_op}
+use Rattle.cam_locks.proofs.Rising.{next_at_least}
 
 pub in_left : {X : Type 0} (x : X) (xs ys : List X) → In x xs → In x (xs ++ ys)
 in_left x [] ys h = absurd h
@@ -71,11 +72,7 @@ above low (p ∷ os) next o rise (inr h) = let from : low ≤ p.index = rise.0 i
 
 pub below : (low : ℕ) (os : List LiveOp) (next : ℕ) (o : LiveOp) → IndicesRise low os next → In o os → o.index < next
 below low [] next o rise h = absurd h
-below low (p ∷ os) next o rise (inl e) = subst (λ (i : ℕ). i < next) (sym (ap (λ (q : LiveOp). q.index) e)) (reaches (suc p.index) os next rise.1)
-  where
-    reaches : (low : ℕ) (os : List LiveOp) (next : ℕ) → IndicesRise low os next → low ≤ next
-    reaches low [] next rise = rise
-    reaches low (p ∷ os) next rise = let from : low ≤ p.index = rise.0 in let on : suc p.index ≤ next = reaches (suc p.index) os next rise.1 in omega arith
+below low (p ∷ os) next o rise (inl e) = subst (λ (i : ℕ). i < next) (sym (ap (λ (q : LiveOp). q.index) e)) (next_at_least (suc p.index) os next rise.1)
 below low (p ∷ os) next o rise (inr h) = below (suc p.index) os next o rise.1 h
 
 pub same_op : (low : ℕ) (os : List LiveOp) (next : ℕ) (o p : LiveOp) → IndicesRise low os next → In o os → In p os → o.index ≡ p.index → o ≡ p
@@ -129,17 +126,19 @@ first_found test low os next o rise is = by_found (find test os) refl
         let other : o.index ≤ p.index = is.first p f.member f.passes in
         ap Some (same_op low os next p o rise f.member is.member (omega arith))
 
+-- a member that passes
+pub any_passes : {X : Type 0} (test : X → Bool) (x : X) (xs : List X) → In x xs → test x ≡ true → list_any test xs ≡ true
+any_passes test x [] h passes = absurd h
+any_passes {X} test x (y ∷ xs) (inl e) passes = ap (λ (b : Bool). b || list_any test xs) (ap test (sym e) ∙ passes)
+any_passes {X} test x (y ∷ xs) (inr h) passes = or_true (test y) (any_passes test x xs h passes)
+  where
+    or_true : (b : Bool) → list_any test xs ≡ true → (b || list_any test xs) ≡ true
+    or_true true k = refl
+    or_true false k = k
+
 -- an index is live just where a member has it
 pub has_member : (os : List LiveOp) (o : LiveOp) → In o os → has_op os o.index ≡ true
-has_member [] o h = absurd h
-has_member (p ∷ os) o (inl e) =
-    let at : o.index ≡ p.index = ap (λ (r : LiveOp). r.index) e in
-    ap (λ (b : Bool). b || has_op os o.index) (eq-eqb p.index o.index (sym at))
-has_member (p ∷ os) o (inr h) = or_true (eqb p.index o.index) (has_op os o.index) (has_member os o h)
-  where
-    or_true : (a b : Bool) → b ≡ true → (a || b) ≡ true
-    or_true true b h = refl
-    or_true false b h = h
+has_member os o h = any_passes (λ p. eqb p.index o.index) o os h (eq-eqb o.index o.index refl)
 
 pub member_at : (os : List LiveOp) (i : ℕ) → has_op os i ≡ true → (o : LiveOp) × In o os × (o.index ≡ i)
 member_at [] i h = cc
@@ -149,13 +148,13 @@ member_at (p ∷ os) i h = by_test (eqb p.index i) refl h (member_at os i)
     by_test true is k rest = (p, inl refl, grind (arith, is))
     by_test false is k rest = let r = rest k in (r.0, inr r.1, r.2)
 
-pub found_passes : {X : Type 0} (test : X → Bool) (xs : List X) (x : X) → find test xs ≡ Some x → test x ≡ true
-found_passes test [] x h = cc
-found_passes {X} test (y ∷ xs) x h = by_test (test y) refl h (found_passes test xs x)
+pub found_in : {X : Type 0} (test : X → Bool) (xs : List X) (x : X) → find test xs ≡ Some x → In x xs × (test x ≡ true)
+found_in test [] x h = cc
+found_in {X} test (y ∷ xs) x h = by_test (test y) refl h (found_in test xs x)
   where
-    by_test : (b : Bool) → test y ≡ b → cond b (Some y) (find test xs) ≡ Some x → (find test xs ≡ Some x → test x ≡ true) → test x ≡ true
-    by_test true is k rest = let e : y ≡ x = cc in ap test (sym e) ∙ is
-    by_test false is k rest = rest k
+    by_test : (b : Bool) → test y ≡ b → cond b (Some y) (find test xs) ≡ Some x → (find test xs ≡ Some x → In x xs × (test x ≡ true)) → ((x ≡ y) ⊎ In x xs) × (test x ≡ true)
+    by_test true is k rest = let e : y ≡ x = cc in (inl (sym e), ap test (sym e) ∙ is)
+    by_test false is k rest = (inr (rest k).0, (rest k).1)
 
 pub any_member : {X : Type 0} (test : X → Bool) (xs : List X) → list_any test xs ≡ true → (x : X) × In x xs × (test x ≡ true)
 any_member test [] h = cc

@@ -1,5 +1,5 @@
 -- The live operations as they are found by name.
-use Rattle.std.proofs.Common.{◌≡◌, ◌⊎◌, ℕ, eqb, Bool, true, false, not, ◌||◌, cond, List, [], ◌∷◌, ◌++◌, refl, sym, ap, subst, ◌∙◌, arith}
+use Rattle.std.proofs.Common.{◌≡◌, ◌⊎◌, ℕ, eqb, Bool, true, false, not, cond, List, [], ◌∷◌, ◌++◌, refl, sym, ap, subst, ◌∙◌, arith}
 use Rattle.std.proofs.Math.Logic.{inl, inr}
 use Rattle.std.specs.Prelude.{filter}
 use Rattle.std.specs.Cmp.{both_ways}
@@ -10,19 +10,12 @@ use Rattle.cam_locks.specs.Members.{In}
 use Rattle.cam_locks.specs.Site.{IndicesRise}
 use Rattle.cam_locks.specs.Live.{other}
 use Rattle.cam_locks.specs.Placed.{placed_eq, placed_cmp, placed_of, has_placed}
-use Rattle.cam_locks.proofs.Members.{in_left, in_right, in_either, in_last, in_filter, in_filtered, same_op, any_member}
+use Rattle.cam_locks.proofs.Members.{in_left, in_right, in_either, in_last, in_filter, in_filtered, same_op, any_member, any_passes}
 use Rattle.cam_locks.proofs.Placing.{placed_eq_same, placed_eq_refl, placed_is, placed_itself}
 
 -- an operation stands at its place
 pub placed_in : (os : List LiveOp) (o : LiveOp) → In o os → has_placed os (placed_of o) ≡ true
-placed_in [] o h = absurd h
-placed_in (p ∷ os) o (inl e) =
-    ap (λ (b : Bool). b || has_placed os (placed_of o)) (ap (λ (q : LiveOp). placed_eq (placed_of o) (placed_of q)) (sym e) ∙ placed_eq_refl (placed_of o))
-placed_in (p ∷ os) o (inr h) = or_true (placed_eq (placed_of o) (placed_of p)) (has_placed os (placed_of o)) (placed_in os o h)
-  where
-    or_true : (a b : Bool) → b ≡ true → (a || b) ≡ true
-    or_true true b h = refl
-    or_true false b h = h
+placed_in os o h = any_passes (λ p. placed_eq (placed_of o) (placed_of p)) o os h (placed_eq_refl (placed_of o))
 
 pub in_placed : (os : List LiveOp) (p : Placed) → has_placed os p ≡ true → (o : LiveOp) × In o os × (p ≡ placed_of o)
 in_placed os p h =

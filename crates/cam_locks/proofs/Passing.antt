@@ -1,5 +1,5 @@
 -- Tests that answer true or false, and what may be there.
-use Rattle.std.proofs.Common.{◌≡◌, ◌≤◌, ◌<◌, ℕ, eqb, Bool, true, false, not, ◌&&◌, ◌||◌, cond, List, [], ◌∷◌, length, Option, Some, None, Result, Ok, Err, refl, sym, ap, ◌∙◌, arith}
+use Rattle.std.proofs.Common.{◌≡◌, ◌≤◌, ◌<◌, ℕ, eqb, Bool, true, false, not, ◌&&◌, ◌||◌, cond, List, [], ◌∷◌, length, Option, Some, None, Result, Ok, Err, refl, ap, ◌∙◌, arith}
 use Rattle.std.specs.Prelude.{is_none, nat_le, filter, OnErr, OnSome, IsSome}
 use Rattle.std.specs.Bool.{◌==◌}
 use Rattle.std.specs.List.{list_any}
@@ -31,10 +31,6 @@ lt_from i j h = grind arith
 
 pub le_from : (i j : ℕ) → nat_le i j ≡ true → i ≤ j
 le_from i j h = grind arith
-
-pub empty_list : {X : Type 0} (xs : List X) (b : Bool) → b ≡ (length xs == 0) → b ≡ true → xs ≡ []
-empty_list [] b is h = refl
-empty_list (x ∷ xs) b is h = let wrong : true ≡ false = sym h ∙ is ∙ (grind arith) in cc
 
 pub any_kept : {X : Type 0} (test : X → Bool) (xs : List X) → not (length (filter test xs) == 0) ≡ list_any test xs
 any_kept test [] = refl

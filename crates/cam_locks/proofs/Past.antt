@@ -1,5 +1,5 @@
 -- The holders whose locks a walk has gone past, noted by their depths: they are ancestors of one action, so each depth has one.
-use Rattle.std.proofs.Common.{◌≡◌, ◌≢◌, ◌⊎◌, ℕ, ◌+◌, ◌<◌, Bool, true, false, not, ◌&&◌, ◌||◌, if◌then◌else◌, List, [], ◌∷◌, ◌++◌, length, take, get_or, set, replicate, Option, Some, None, zero, suc, refl, sym, ap, subst, ◌∙◌, arith}
+use Rattle.std.proofs.Common.{◌≡◌, ℕ, ◌+◌, ◌<◌, Bool, true, false, ◌&&◌, ◌||◌, if◌then◌else◌, List, [], ◌∷◌, ◌++◌, length, take, get_or, set, Option, Some, None, suc, refl, sym, ap, subst, ◌∙◌, arith}
 use Rattle.std.proofs.Math.Logic.{inl, inr}
 use Rattle.std.specs.Prelude.{is_none}
 use Rattle.std.specs.List.{list_any}
@@ -10,8 +10,8 @@ use Rattle.cam_names.specs.declared.name.Name.{Name}
 use Rattle.cam_names.specs.Names.{name_eq, is_prefix}
 use Rattle.cam_names.proofs.Names.{part_eq_same, name_eq_refl}
 use Rattle.cam_locks.specs.declared.LiveOp.{LiveOp}
-use Rattle.cam_locks.specs.Moss.{is_in_the_way}
-use Rattle.cam_locks.specs.Holding.{lift_in, has_op}
+use Rattle.cam_locks.specs.Moss.{is_in_the_way, lift_in}
+use Rattle.cam_locks.specs.Holding.{has_op}
 use Rattle.cam_locks.specs.Changes.{lift_eq, leads, holder_in, depth_of}
 use Rattle.cam_locks.proofs.Passing.{not_false}
 use Rattle.cam_locks.proofs.Lists.{taken}
@@ -90,12 +90,3 @@ past_more ns os a past ts p t lt is clear are = λ n noted.
       | inr other ↦
           any_old (leads ns os (Some (take (suc n) a))) (take p ts) (t ∷ []) (are n (sym (get_or-set_other past depth (suc n) true false other) ∙ noted))
     ]
-
--- at the start nothing is
-pub none_past : (ns : List Name) (os : List LiveOp) (a : Name) → ArePast ns os a (set (replicate 9 false) 0 true) []
-none_past ns os a = λ n noted. let wrong : false ≡ true = sym (none 8 n) ∙ noted in cc
-  where
-    none : (k n : ℕ) → get_or (replicate k false) n false ≡ false
-    none zero n = refl
-    none (suc k) zero = refl
-    none (suc k) (suc n) = none k n

@@ -1,7 +1,7 @@
 -- What one more held operation, and one more known outcome, adds to what is restored.
 use Rattle.std.proofs.Common.{◌≡◌, ℕ, ◌+◌, ◌≤◌, ◌<◌, max, Bool, true, false, not, ◌||◌, cond, List, [], ◌∷◌, ◌++◌, length, take, get_or, zero, suc, refl, sym, ap, subst, ◌∙◌, arith}
 use Rattle.std.specs.Prelude.{flat_map, filter}
-use Rattle.std.proofs.lemmas.List.{take_more}
+use Rattle.std.proofs.lemmas.List.{take_more, append-nil}
 use Rattle.std.proofs.lemmas.Grind.{flat_map-append}
 use Rattle.std.proofs.lemmas.List.Elements.{filter-append}
 use Rattle.cam_names.specs.declared.name.Name.{Name}
@@ -15,12 +15,12 @@ use Rattle.cam_know.specs.Knowledge.{Knowledge}
 use Rattle.cam_locks.specs.declared.LiveOp.{LiveOp}
 use Rattle.cam_locks.specs.Names.{has_name, with_name, once}
 use Rattle.cam_locks.specs.Restored.{ops_of, next_of, all_held, InRange, MayBeHeld}
-use Rattle.cam_locks.proofs.Lists.{taken, append_nil}
+use Rattle.cam_locks.proofs.Lists.{taken}
 
 pub flat_further : {X A : Type 0} (f : X → List A) (xs : List X) (i : ℕ) (x : X) → i < length xs → x ≡ get_or xs i x
     → flat_map f (take (i + 1) xs) ≡ flat_map f (take i xs) ++ f x
 flat_further {X} {A} f xs i x lt is =
-    ap (flat_map f) (taken xs i x lt is) ∙ flat_map-append f (take i xs) (x ∷ []) ∙ ap (λ (ys : List A). flat_map f (take i xs) ++ ys) (append_nil (f x))
+    ap (flat_map f) (taken xs i x lt is) ∙ flat_map-append f (take i xs) (x ∷ []) ∙ ap (λ (ys : List A). flat_map f (take i xs) ++ ys) (append-nil (f x))
 
 pub kept_further : (know : Knowledge) (held : List Held) (i : ℕ) (f : Held) (old new : List LiveOp) → i < length held → f ≡ get_or held i f
     → old ≡ flat_map (ops_of know) (take i held) → new ≡ old ++ ops_of know f → new ≡ flat_map (ops_of know) (take (i + 1) held)
@@ -60,7 +60,7 @@ once_more (b ∷ names) a =
       where
         same : (t : Bool) → cond t rest (rest ++ []) ≡ rest
         same true = refl
-        same false = append_nil rest
+        same false = append-nil rest
     by_test false is =
         let back : name_eq b a ≡ false = name_eq_sym b a ∙ is in
         ap (λ (d : Bool). cond (d || has_name rest a) (b ∷ rest) (b ∷ (rest ++ a ∷ []))) is

@@ -11,8 +11,8 @@ use Rattle.cam_locks.specs.declared.versions.Version.{Version}
 use Rattle.cam_locks.specs.Members.{In}
 use Rattle.cam_locks.specs.Names.{has_name}
 use Rattle.cam_locks.specs.Site.{IndicesRise}
-use Rattle.cam_locks.specs.Moss.{is_on, is_in_the_way, replay}
-use Rattle.cam_locks.specs.Holding.{lift_in, has_op, writes, is_write, is_written, IsNested, KeepsVersions}
+use Rattle.cam_locks.specs.Moss.{is_on, is_in_the_way, replay, lift_in}
+use Rattle.cam_locks.specs.Holding.{has_op, writes, is_write, is_written, IsNested, KeepsVersions}
 use Rattle.cam_locks.specs.Changes.{is_current, last_current}
 use Rattle.cam_locks.proofs.Passing.{not_false, none_is, le_yes, le_from, lt_from}
 use Rattle.cam_locks.proofs.Modes.{writes_apart}

@@ -3,6 +3,7 @@ use Rattle.std.proofs.Common.{◌≡◌, ℕ, ◌+◌, ◌≤◌, ◌<◌, eqb, 
 use Rattle.std.proofs.Math.Logic.{inl, inr}
 use Rattle.std.specs.Prelude.{filter}
 use Rattle.std.proofs.lemmas.Bool.{and_parts}
+use Rattle.std.proofs.lemmas.List.{get_or_default}
 use Rattle.cam_locks.specs.declared.LiveOp.{LiveOp}
 use Rattle.cam_locks.specs.declared.live.Slot.{Slot}
 use Rattle.cam_locks.specs.Members.{In}
@@ -121,17 +122,12 @@ live_there (s ∷ ss) (suc k) i d h = let rest = live_there ss k i d h in (by_dr
     by_drop false there = inr there
 
 -- One step of the halving, by the slot at a middle.
-pub get_any : (ss : List Slot) (m : ℕ) (x d : Slot) → m < length ss → x ≡ get_or ss m x → get_or ss m d ≡ x
-get_any [] m x d lt is = absurd (omega arith)
-get_any (s ∷ ss) zero x d lt is = sym is
-get_any (s ∷ ss) (suc m) x d lt is = get_any ss m x d (omega arith) is
-
 pub middle_below : (ss : List Slot) (m i : ℕ) (x : Slot) → AreInOrder ss → m < length ss → x ≡ get_or ss m x
     → x.operation.index < i → (k : ℕ) (d : Slot) → k < m + 1 → (get_or ss k d).operation.index < i
 middle_below ss m i x order within is lt k d km = by_order (eqb k m) refl
   where
     at : (get_or ss m d).operation.index ≡ x.operation.index
-    at = ap (λ (s : Slot). s.operation.index) (get_any ss m x d within is)
+    at = ap (λ (s : Slot). s.operation.index) (get_or_default ss m d x within ∙ sym is)
 
     by_order : (b : Bool) → eqb k m ≡ b → (get_or ss k d).operation.index < i
     by_order true e =
@@ -146,7 +142,7 @@ pub middle_above : (ss : List Slot) (m i : ℕ) (x : Slot) → AreInOrder ss →
 middle_above ss m i x order within is le k d mk short = by_order (eqb k m) refl
   where
     at : (get_or ss m d).operation.index ≡ x.operation.index
-    at = ap (λ (s : Slot). s.operation.index) (get_any ss m x d within is)
+    at = ap (λ (s : Slot). s.operation.index) (get_or_default ss m d x within ∙ sym is)
 
     by_order : (b : Bool) → eqb k m ≡ b → i ≤ (get_or ss k d).operation.index
     by_order true e =

@@ -1,5 +1,5 @@
 -- What is kept of an object: what it answers, and how it stays.
-use Rattle.std.proofs.Common.{◌≡◌, ◌≢◌, ◌⊎◌, ℕ, ◌+◌, ◌≤◌, ◌<◌, eqb, Bool, true, false, not, ◌&&◌, if◌then◌else◌, cond, List, [], ◌∷◌, ◌++◌, length, get_or, Option, Some, None, zero, suc, refl, sym, ap, subst, ◌∙◌, arith}
+use Rattle.std.proofs.Common.{◌≡◌, ℕ, ◌+◌, ◌≤◌, Bool, true, false, not, ◌&&◌, if◌then◌else◌, cond, List, [], ◌∷◌, ◌++◌, Option, Some, None, refl, sym, ap, subst, ◌∙◌}
 use Rattle.std.specs.Prelude.{filter, find, option_and_then, is_none}
 use Rattle.std.proofs.lemmas.Bool.{and_parts, and_from}
 use Rattle.cam_names.specs.declared.name.Name.{Name}
@@ -12,12 +12,12 @@ use Rattle.cam_locks.specs.declared.LiveOp.{LiveOp}
 use Rattle.cam_locks.specs.declared.versions.Version.{Version}
 use Rattle.cam_locks.specs.Members.{In}
 use Rattle.cam_locks.specs.Site.{IndicesRise}
-use Rattle.cam_locks.specs.Moss.{is_on, is_in_the_way, replay}
-use Rattle.cam_locks.specs.Holding.{lift_in, mode_eq, writes, is_lock, KeepsLeaders, KeepsVersions, LocksView, leaders_of, KeepsLocks}
-use Rattle.cam_locks.specs.Changes.{is_current, last_current, state_of, last_state, LastIsLive, conflicts, standing, blocking, first_over, with_leader, with_write, added, IsDone}
+use Rattle.cam_locks.specs.Moss.{is_on, is_in_the_way, replay, conflicts, lift_in}
+use Rattle.cam_locks.specs.Holding.{mode_eq, writes, is_lock, KeepsLeaders, KeepsVersions, LocksView, leaders_of, KeepsLocks}
+use Rattle.cam_locks.specs.Changes.{is_current, last_current, state_of, last_state, LastIsLive, standing, blocking, first_over, with_leader, with_write, added, IsDone}
 use Rattle.cam_locks.proofs.Modes.{added_start, added_leaders, added_versions}
 use Rattle.cam_locks.proofs.Rising.{rise_later}
-use Rattle.cam_locks.proofs.Members.{find_none_all, found_passes}
+use Rattle.cam_locks.proofs.Members.{find_none_all, found_in}
 use Rattle.cam_locks.proofs.Climbing.{AtLeast}
 use Rattle.cam_locks.proofs.Leading.{way, first_of_mode, push_other, push_leader, leaders_commit}
 use Rattle.cam_locks.proofs.Values.{value_last}
@@ -85,7 +85,7 @@ keeps_other x start ns os l n rise off keeps = record {
   nested = nested_push x ns os n.index n refl rise (λ o h on also. let wrong : true ≡ false = sym also ∙ off in cc) keeps.nested;
 }
 
--- an operation stands in no one's way
+-- no one stands in the way of an operation
 abbrev pub IsClear : ℕ → List Name → List LiveOp → LiveOp → Type 0
 IsClear x ns os n =
     (o : LiveOp) → In o os → is_on x o ≡ true → is_on x n ≡ true → compatible (mode_of o.op) (mode_of n.op) ≡ false → is_in_the_way n.action (lift_in ns o.action) ≡ false
@@ -155,7 +155,7 @@ no_conflict ns os a x op none o h on apart = by_found (find (conflicts ns a x op
     by_found : (r : Option LiveOp) → find (conflicts ns a x op) os ≡ r → option_and_then (λ o. lift_in ns o.action) r ≡ None → is_in_the_way a (lift_in ns o.action) ≡ false
     by_found None is e = clear (find_none_all (conflicts ns a x op) os is o h) (way a ns o) refl
     by_found (Some p) is e =
-        let f = found_passes (conflicts ns a x op) os p is in
+        let f = (found_in (conflicts ns a x op) os p is).1 in
         let one = and_parts (is_on x p) (way a ns p && not (compatible (mode_of p.op) (mode_of op))) f in
         let two = and_parts (way a ns p) (not (compatible (mode_of p.op) (mode_of op))) one.1 in
         let wrong : true ≡ false = open_way (lift_in ns p.action) two.0 e in cc

@@ -3,7 +3,7 @@ use Rattle.std.proofs.Common.{◌≡◌, ◌⊎◌, ℕ, ◌+◌, ◌-◌, ◌<�
 use Rattle.std.proofs.Math.Logic.{inl, inr}
 use Rattle.std.specs.Prelude.{filter, option_and_then, nat_le}
 use Rattle.std.specs.Option.{option_map_or}
-use Rattle.std.proofs.lemmas.List.{map-append}
+use Rattle.std.proofs.lemmas.List.{map-append, append-nil}
 use Rattle.std.proofs.lemmas.List.Elements.{filter-append}
 use Rattle.std.proofs.lemmas.Bool.{and_from, or_right}
 use Rattle.cam_names.specs.declared.name.Name.{Name}
@@ -13,11 +13,10 @@ use Rattle.cam_locks.specs.declared.LiveOp.{LiveOp}
 use Rattle.cam_locks.specs.declared.versions.Version.{Version}
 use Rattle.cam_locks.specs.Members.{In}
 use Rattle.cam_locks.specs.Site.{IndicesRise}
-use Rattle.cam_locks.specs.Moss.{is_on, replay}
-use Rattle.cam_locks.specs.Holding.{lift_in, has_op, writes, is_write, is_written, IsVersionOf, KeepsVersions}
+use Rattle.cam_locks.specs.Moss.{is_on, replay, lift_in}
+use Rattle.cam_locks.specs.Holding.{has_op, writes, is_write, is_written, IsVersionOf, KeepsVersions}
 use Rattle.cam_locks.specs.Changes.{lift_eq, last_state, LastIsLive, written, with_write, has_holder}
 use Rattle.cam_locks.proofs.Passing.{and_no, le_yes, le_no}
-use Rattle.cam_locks.proofs.Lists.{append_nil}
 use Rattle.cam_locks.proofs.Ends.{split_last, last_snoc, set_snoc}
 use Rattle.cam_locks.proofs.Rising.{rise_push, rise_later}
 use Rattle.cam_locks.proofs.Members.{in_left, in_right, in_either, in_last, filter_agree, below, has_member}
@@ -31,7 +30,7 @@ use Rattle.cam_locks.proofs.Tidying.{versions_drop_before}
 -- an operation that is not counted adds nothing
 filter_more : (test : LiveOp → Bool) (os : List LiveOp) (n : LiveOp) → test n ≡ false → filter test (os ++ n ∷ []) ≡ filter test os
 filter_more test os n fails =
-    filter-append test os (n ∷ []) ∙ ap (λ (b : Bool). filter test os ++ cond b (n ∷ []) []) fails ∙ append_nil (filter test os)
+    filter-append test os (n ∷ []) ∙ ap (λ (b : Bool). filter test os ++ cond b (n ∷ []) []) fails ∙ append-nil (filter test os)
 
 cover_more : (ns : List Name) (os : List LiveOp) (vs more : List Version) (n o : LiveOp) → (v : Version) × IsVersionOf ns os vs o v → (v : Version) × IsVersionOf ns (os ++ n ∷ []) (vs ++ more) o v
 cover_more ns os vs more n o c =

@@ -3,7 +3,7 @@ use Rattle.std.proofs.Common.{◌≡◌, ◌⊎◌, ℕ, ◌≤◌, ◌<◌, Boo
 use Rattle.std.proofs.Math.Logic.{inl, inr}
 use Rattle.std.specs.Prelude.{is_none, filter}
 use Rattle.std.specs.List.{list_any}
-use Rattle.std.proofs.lemmas.List.{map-append}
+use Rattle.std.proofs.lemmas.List.{map-append, append_assoc, append-nil}
 use Rattle.std.proofs.lemmas.Bool.{and_parts}
 use Rattle.cam_names.specs.declared.name.Name.{Name}
 use Rattle.cam_type.specs.declared.State.{State}
@@ -12,9 +12,9 @@ use Rattle.cam_locks.specs.declared.LiveOp.{LiveOp}
 use Rattle.cam_locks.specs.declared.versions.Version.{Version}
 use Rattle.cam_locks.specs.Members.{In}
 use Rattle.cam_locks.specs.Site.{IndicesRise}
-use Rattle.cam_locks.specs.Holding.{lift_in, has_op, IsLeader, KeepsLeaders, IsVersionOf, KeepsVersions}
+use Rattle.cam_locks.specs.Holding.{has_op, IsLeader, KeepsLeaders, IsVersionOf, KeepsVersions}
+use Rattle.cam_locks.specs.Moss.{lift_in}
 use Rattle.cam_locks.specs.Changes.{lift_eq, leads, holder_in, has_ended, is_outdated}
-use Rattle.cam_locks.proofs.Lists.{append_nil}
 use Rattle.cam_locks.proofs.Rising.{rise_from_lower, rise_filter}
 use Rattle.cam_locks.proofs.Members.{in_left, in_right, in_either, in_filter, in_filtered, above, has_member, any_member}
 use Rattle.cam_locks.proofs.Passing.{not_true, none_is}
@@ -129,7 +129,7 @@ versions_without x start ns os next vs v ws instead keeps = record {
 pub versions_drop_last : (x : ℕ) (start : State) (ns : List Name) (os : List LiveOp) (next : ℕ) (vs : List Version) (v : Version)
     → has_op os v.last.index ≡ false → KeepsVersions x start ns os next (vs ++ v ∷ []) → KeepsVersions x start ns os next vs
 versions_drop_last x start ns os next vs v dead keeps =
-    subst (λ (ws : List Version). KeepsVersions x start ns os next ws) (append_nil vs)
+    subst (λ (ws : List Version). KeepsVersions x start ns os next ws) (append-nil vs)
     (versions_without x start ns os next vs v []
     (λ o c. let wrong : true ≡ false = sym (has_member os v.last c.is_live) ∙ dead in cc) keeps)
 
@@ -157,10 +157,6 @@ versions_drop_older x start ns os next vs v later live old keeps =
             },
           )
         ]
-
-append_assoc : {X : Type 0} (xs ys zs : List X) → (xs ++ ys) ++ zs ≡ xs ++ (ys ++ zs)
-append_assoc [] ys zs = refl
-append_assoc {X} (x ∷ xs) ys zs = ap (λ (ws : List X). x ∷ ws) (append_assoc xs ys zs)
 
 pub versions_drop_before : (x : ℕ) (start : State) (ns : List Name) (os : List LiveOp) (next : ℕ) (vs : List Version) (v later : Version)
     → has_op os later.last.index ≡ true → is_outdated ns os v later ≡ true

@@ -1,5 +1,5 @@
 -- Where a write puts its version.
-use Rattle.std.proofs.Common.{◌≡◌, ℕ, ◌+◌, ◌-◌, ◌<◌, zero, suc, get_or-set_same, Bool, true, false, cond, List, [], ◌∷◌, ◌++◌, length, get_or, set, Option, refl, sym, ap, subst, ◌∙◌, arith}
+use Rattle.std.proofs.Common.{◌≡◌, ℕ, ◌+◌, ◌-◌, zero, suc, get_or-set_same, Bool, true, false, cond, List, [], ◌∷◌, ◌++◌, length, get_or, set, Option, refl, sym, ap, subst, ◌∙◌, arith}
 use Rattle.std.specs.Prelude.{IfSome}
 use Rattle.std.specs.Option.{option_map_or}
 use Rattle.cam_names.specs.declared.name.Name.{Name}
@@ -7,15 +7,13 @@ use Rattle.cam_type.specs.declared.State.{State}
 use Rattle.cam_type.specs.Table.{state_after}
 use Rattle.cam_locks.specs.declared.LiveOp.{LiveOp}
 use Rattle.cam_locks.specs.declared.versions.Version.{Version}
-use Rattle.cam_locks.specs.Holding.{lift_in, has_op}
+use Rattle.cam_locks.specs.Holding.{has_op}
+use Rattle.cam_locks.specs.Moss.{lift_in}
 use Rattle.cam_locks.specs.Changes.{lift_eq, last_of, state_of, last_state, written, with_write, LastIsLive}
 use Rattle.cam_locks.proofs.Ends.{last_at, last_none, last_snoc}
 
 pub state_at : (start : State) (vs : List Version) (k : ℕ) (v : Version) → length vs ≡ k + 1 → v ≡ get_or vs k v → last_state start vs ≡ v.state
 state_at start vs k v len is = ap (state_of start) (last_at vs k v len is)
-
-pub state_none : (start : State) (vs : List Version) → length vs ≡ 0 → last_state start vs ≡ start
-state_none start vs none = ap (state_of start) (last_none vs none)
 
 abbrev holds : List Name → LiveOp → Option Version → Bool
 holds ns o r = option_map_or (λ (v : Version). lift_eq (lift_in ns v.last.action) (lift_in ns o.action)) r false
@@ -59,8 +57,3 @@ write_in_place ns start vs o k v w new len is same after placed =
     set_twice vs k (record { last = v.last; state = new }) (record { last = o; state = w.state })
     ∙ ap (λ (s : State). set vs k (record { last = o; state = s })) (ap (λ (u : Version). u.state) (placed ∙ get_or-set_same vs k (record { last = v.last; state = new }) w (omega (arith, len))) ∙ after)
     ∙ sym (write_here ns start vs o k v len is same)
-
-pub get_any : (vs : List Version) (m : ℕ) (x d : Version) → m < length vs → x ≡ get_or vs m x → get_or vs m d ≡ x
-get_any [] m x d lt is = absurd (omega arith)
-get_any (s ∷ vs) zero x d lt is = sym is
-get_any (s ∷ vs) (suc m) x d lt is = get_any vs m x d (omega arith) is

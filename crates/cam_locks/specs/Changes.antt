@@ -1,10 +1,8 @@
 -- What each step makes of what is kept of an object.
-use Rattle.std.specs.Prelude.{◌≡◌, ◌≢◌, ℕ, ◌-◌, ◌<◌, nat_le, Bool, true, false, not, ◌&&◌, ◌||◌, if◌then◌else◌, List, [], ◌∷◌, ◌++◌, find, length, get_or, set, slice_get, Option, Some, None, is_none, option_and_then, IfSome, filter}
+use Rattle.std.specs.Prelude.{◌≡◌, ◌≢◌, ℕ, ◌-◌, ◌<◌, nat_le, Bool, true, false, not, ◌&&◌, ◌||◌, if◌then◌else◌, List, [], ◌∷◌, ◌++◌, find, length, get_or, set, slice_get, Option, Some, None, is_none, IfSome}
 use Rattle.std.specs.Option.{option_or, option_map_or}
-use Rattle.std.specs.List.{list_any}
 use Rattle.cam_names.specs.declared.name.Name.{Name}
 use Rattle.cam_names.specs.Names.{name_eq}
-use Rattle.cam_type.specs.declared.ObjectDecl.{ObjectDecl}
 use Rattle.cam_type.specs.declared.State.{State}
 use Rattle.cam_type.specs.declared.Op.{Op}
 use Rattle.cam_type.specs.declared.Answer.{Answer}
@@ -13,9 +11,8 @@ use Rattle.cam_type.specs.declared.Mode.TheVariants as modes
 use Rattle.cam_type.specs.Table.{state_after, answer_of, mode_of, compatible}
 use Rattle.cam_locks.specs.declared.LiveOp.{LiveOp}
 use Rattle.cam_locks.specs.declared.versions.Version.{Version}
-use Rattle.cam_locks.specs.Site.{start_of}
-use Rattle.cam_locks.specs.Moss.{is_on, is_in_the_way, replay}
-use Rattle.cam_locks.specs.Holding.{lift_in, has_op, is_lock, LocksView, KeepsLocks}
+use Rattle.cam_locks.specs.Moss.{is_in_the_way, lift_in}
+use Rattle.cam_locks.specs.Holding.{has_op, is_lock, LocksView, KeepsLocks}
 
 -- whether two lifts are the same
 abbrev pub lift_eq : Option Name → Option Name → Bool
@@ -144,19 +141,6 @@ pub record DoneTo (committed : List Name) (live : List LiveOp) (o : LiveOp) (ans
 pub record SpoiledAt (object : ℕ) (x : ℕ) (old new : LocksView) : Type 0 where
   pub here : x ≡ object → new.stale ≡ true
   pub elsewhere : x ≢ object → new ≡ old
-
--- The definitions of the first conflict's lift and of the value, by the lists.
-abbrev pub conflicts : List Name → Name → ℕ → Op → LiveOp → Bool
-conflicts committed a x op o = is_on x o && (is_in_the_way a (lift_in committed o.action) && not (compatible (mode_of o.op) (mode_of op)))
-
-abbrev pub holder_of : List Name → List LiveOp → Name → ℕ → Op → Option Name
-holder_of committed live a x op = option_and_then (λ o. lift_in committed o.action) (find (conflicts committed a x op) live)
-
-abbrev pub value_of : List ObjectDecl → List LiveOp → ℕ → State
-value_of objects live x = replay (start_of objects x) (filter (is_on x) live)
-
-abbrev pub settled_of : List ObjectDecl → List Name → List LiveOp → ℕ → State
-settled_of objects committed live x = replay (start_of objects x) (filter (λ o. is_on x o && is_none (lift_in committed o.action)) live)
 
 -- the old value where someone stands in the way, else the new one
 abbrev pub by_holder : {X : Type 0} → Option Name → X → X → X

@@ -1,6 +1,6 @@
 -- What the lock table keeps of an object so that it need not replay: for each mode the operations that lead the holders, and versions.
 -- It is told by the live operations `live` in order and the committed actions. Nothing of it is seen in a clause of a public call.
-use Rattle.std.specs.Prelude.{◌≡◌, ℕ, ◌≤◌, ◌<◌, nat_le, eqb, Bool, true, false, ◌&&◌, List, [], filter, map, length, get_or, Option, Some}
+use Rattle.std.specs.Prelude.{◌≡◌, ℕ, ◌≤◌, ◌<◌, nat_le, eqb, Bool, true, false, ◌&&◌, List, [], filter, map, length, get_or, Some}
 use Rattle.std.specs.List.{list_any}
 use Rattle.cam_names.specs.declared.name.Name.{Name}
 use Rattle.cam_type.specs.declared.ObjectDecl.{ObjectDecl}
@@ -8,17 +8,11 @@ use Rattle.cam_type.specs.declared.State.{State}
 use Rattle.cam_type.specs.declared.Mode.{Mode}
 use Rattle.cam_type.specs.declared.Mode.TheVariants as modes
 use Rattle.cam_type.specs.Table.{mode_of, compatible}
-use Rattle.cam_know.specs.Known.{lift_by}
 use Rattle.cam_locks.specs.declared.LiveOp.{LiveOp}
 use Rattle.cam_locks.specs.declared.versions.Version.{Version}
-use Rattle.cam_locks.specs.Names.{has_name}
 use Rattle.cam_locks.specs.Members.{In}
 use Rattle.cam_locks.specs.Site.{IndicesRise, start_of}
-use Rattle.cam_locks.specs.Moss.{is_on, is_in_the_way, replay}
-
--- the lift of an action, by the committed ones
-abbrev pub lift_in : List Name → Name → Option Name
-lift_in committed a = lift_by (has_name committed) a
+use Rattle.cam_locks.specs.Moss.{lift_in, is_on, is_in_the_way, replay}
 
 -- whether an operation with the index is live
 abbrev pub has_op : List LiveOp → ℕ → Bool

@@ -6,6 +6,7 @@ use Rattle.cam_type.specs.declared.ObjectDecl.{ObjectDecl}
 use Rattle.cam_type.specs.declared.HeldOp.{HeldOp}
 use Rattle.cam_type.specs.declared.Held.{Held}
 use Rattle.cam_know.specs.Knowledge.{Knowledge}
+use Rattle.cam_know.specs.declared.Outcome.{Outcome}
 use Rattle.cam_know.specs.Known.{knows_abort, committed_name, aborted_name}
 use Rattle.cam_locks.specs.declared.LiveOp.{LiveOp}
 use Rattle.cam_locks.specs.Names.{once}
@@ -43,16 +44,22 @@ next_of (h ∷ hs) = max (h.index + 1) (next_of hs)
 abbrev pub all_held : List Held → List HeldOp
 all_held held = flat_map (λ h. h.ops) held
 
-abbrev pub restored : List ObjectDecl → ℕ → List Held → Knowledge → Site
-restored objects node held know =
+-- no operations, and the site was informed of these outcomes
+abbrev pub informed : List ObjectDecl → ℕ → List Outcome → Site
+informed objects node outcomes =
     record {
       objects = objects;
       node = node;
-      live = in_order (flat_map (ops_of know) held);
-      committed = once (flat_map committed_name know.outcomes);
-      aborted = once (flat_map aborted_name know.outcomes);
-      next = next_of (all_held held);
+      live = [];
+      committed = once (flat_map committed_name outcomes);
+      aborted = once (flat_map aborted_name outcomes);
+      next = 0;
     }
+
+-- The operations of the families whose abort is not known, in order, and what is known; the next index is above all that was held.
+abbrev pub restored : List ObjectDecl → ℕ → List Held → Knowledge → Site
+restored objects node held know =
+    record (informed objects node know.outcomes) { live = in_order (flat_map (ops_of know) held); next = next_of (all_held held) }
 
 -- whether one of the held operations has the index
 abbrev pub has_index : List HeldOp → ℕ → Bool

@@ -25,7 +25,7 @@ abbrev pub SecuredCanBeRestored : Site → Type 0
 SecuredCanBeRestored site = (hs : List Held) → AreSecured site hs → CanRestore site.objects site.node hs
 
 -- Indices rise, up to a limit, and each operation fits its object.
-pub record Stands (site : Site) : Type 0 where
+pub record IsWellFormed (site : Site) : Type 0 where
   pub rising : IndicesRise 0 site.live site.next
   pub range : site.next ≤ 1000000000
   pub fits : AreFit site.objects site.node site.live
@@ -37,12 +37,15 @@ pub record IsLater (before after : Site) : Type 0 where
   pub next : before.next ≤ after.next
   pub live : (o : LiveOp) → In o after.live → In o before.live ⊎ (before.next ≤ o.index)
 
+-- a grant leads to a later moment
 abbrev pub GrantsLeadOn : Type 0
 GrantsLeadOn = (site : Site) (a : Name) (x : ℕ) (op : Op) → IsLater site (after_grant site a x op)
 
+-- so do a commit and an abort of which the site is informed
 abbrev pub OutcomesLeadOn : Type 0
 OutcomesLeadOn = (site : Site) (a : Name) → IsLater site (with_commit site a) × IsLater site (with_abort site a)
 
+-- and what is later than a later moment is later
 abbrev pub LaterLeadsOn : Type 0
 LaterLeadsOn = (site mid end : Site) → IsLater site mid → IsLater mid end → IsLater site end
 
@@ -63,7 +66,7 @@ AreOfRun site (m ∷ ms) = (IsLater site m.site ⊎ IsLater m.site site) × AreO
 abbrev pub WereSecured : List Secured → Type 0
 WereSecured [] = Unit {0}
 WereSecured (m ∷ ms) =
-    Stands m.site × (m.held ≡ held m.site m.held.family m.held.count) × (has_held (all_secured ms) m.held.family ≡ false) × AreOfRun m.site ms × WereSecured ms
+    IsWellFormed m.site × (m.held ≡ held m.site m.held.family m.held.count) × (has_held (all_secured ms) m.held.family ≡ false) × AreOfRun m.site ms × WereSecured ms
 
 -- such a list can be restored at the node of the run
 abbrev pub SecuredAlongCanBeRestored : Type 0

@@ -2,10 +2,8 @@
 ghost use Rattle.std.specs.Prelude.{◌≡◌, ◌&&◌, filter, find, is_none, map, option_and_then, IfOk};
 ghost use Rattle.std.specs.List.{list_any};
 ghost use Rattle.cam_locks.specs.Site.{start_of};
-ghost use Rattle.cam_locks.specs.Moss.{is_on, replay};
+ghost use Rattle.cam_locks.specs.Moss.{is_on, replay, conflicts, holder_of, lift_in};
 ghost use Rattle.cam_locks.specs.Calls.{is_of, held_op};
-ghost use Rattle.cam_locks.specs.Holding.{lift_in};
-ghost use Rattle.cam_locks.specs.Changes.{conflicts, holder_of};
 
 use crate::leaders::is_in_the_way;
 use crate::names::Names;

@@ -1,9 +1,10 @@
 //! Grants, aborts and values, by what is kept of an object where anything is, and else by the list.
-ghost use Rattle.std.specs.Prelude.{◌≡◌, ◌+◌, ◌≤◌, ◌<◌, [], ◌∷◌, ◌++◌, not, false, filter, length, get_or, vec_len, IfOk, OnOk, OnErr};
+ghost use Rattle.std.specs.Prelude.{◌≡◌, ◌+◌, ◌≤◌, ◌<◌, [], ◌∷◌, ◌++◌, not, false, filter, get_or, vec_len, IfOk, OnOk, OnErr};
 ghost use Rattle.cam_type.specs.Table.{answer_of};
 ghost use Rattle.cam_locks.specs.Calls.{grant_by, is_below};
 ghost use Rattle.cam_locks.specs.Holding.{AllLocks, LocksView};
-ghost use Rattle.cam_locks.specs.Changes.{EachTo, TidiedTo, holder_of, value_of, settled_of, by_holder};
+ghost use Rattle.cam_locks.specs.Changes.{EachTo, TidiedTo, by_holder};
+ghost use Rattle.cam_locks.specs.Moss.{holder_of, value_of, settled_of};
 
 use crate::live::Live;
 use crate::locks::{self, Locks};
@@ -24,6 +25,7 @@ pub(crate) fn settled(
     requires { AllLocks objects.now committed.now.names live.now.ops live.now.next locks.now }
     ensures { IfOk result (λ state. state ≡ settled_of objects.now committed.now.names live.now.ops object) }
 {
+    // Indices rise, and stay in their range.
     let _next = live.next();
     if locks::is_kept(locks, object) {
         return locks[object as usize].settled(live, committed);
@@ -77,6 +79,7 @@ fn grant_kept(
     ensures err_ops { OnErr result (live.new.ops ≡ live.old.ops) }
     ensures err_next { OnErr result (live.new.next ≡ live.old.next) }
 {
+    // Indices rise, and stay in their range.
     let _next = live.next();
     if let Some(holder) = holder(locks, live, committed, objects, operation) {
         return Ok(Grant::Conflict(holder));
@@ -104,6 +107,7 @@ fn holder(
     ensures tidied { EachTo (TidiedTo committed.now.names live.now.ops) locks.old.items locks.new.items }
     ensures value { result ≡ holder_of committed.now.names live.now.ops operation.now.action operation.now.object operation.now.op }
 {
+    // Indices rise, and stay in their range.
     let _next = live.next();
     let LiveOp {
         action,
@@ -167,6 +171,7 @@ pub(crate) fn append_spoiled(
     ensures err_ops { OnErr result (live.new.ops ≡ live.old.ops) }
     ensures err_next { OnErr result (live.new.next ≡ live.old.next) }
 {
+    // Indices rise, and stay in their range.
     let _next = live.next();
     live.push(operation)?;
     locks::spoil_at(locks, operation.object);
@@ -187,6 +192,7 @@ pub(crate) fn abort(
     ensures ops { live.new.ops ≡ filter (λ o. not (is_below name.now o)) live.old.ops }
     ensures next { live.new.next ≡ live.old.next }
 {
+    // Indices rise, and stay in their range.
     let _next = live.next();
     let spoils = committed.contains(name);
     while let Some(operation) = live.one_below(name) {

@@ -1,7 +1,7 @@
 ghost use Rattle.cam_locks.specs.Secured.{GrantsLeadOn, OutcomesLeadOn, LaterLeadsOn, SecuredAlongCanBeRestored};
 
 /// A grant, a commit and an abort lead to a later moment of a site's run, and from there on to later ones. What was secured of several
-/// families along a run, of each once, can be restored together.
+/// families between two restarts, of each once, can be restored together.
 pub fn secured_along_a_run()
     ensures grants { GrantsLeadOn }
     ensures outcomes { OutcomesLeadOn }

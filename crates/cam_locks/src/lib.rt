@@ -1,6 +1,6 @@
 //! Moss's lock table: nested locks on the objects of one site.
 //!
-//! Stands on `cam_base` (lists), `cam_names`, `cam_type` (objects and the table of operations) and `cam_know` (what a restart knows).
+//! IsWellFormed on `cam_base` (lists), `cam_names`, `cam_type` (objects and the table of operations) and `cam_know` (what a restart knows).
 //! Its main clause is that of [`LockTable::try_lock_and_apply`].
 #![tactic(auto)]
 
@@ -38,12 +38,13 @@ pub struct LiveOp {
     pub index: u32,
     /// The action that it was performed for; after a restart its family.
     pub action: Name,
+    /// The place of the object among the declared ones, 0 to 63.
     pub object: u8,
     pub op: Op,
 }
 
 /// Live operations, in the site's order.
-pub type LiveOps = Sequence<LiveOp>;
+pub(crate) type LiveOps = Sequence<LiveOp>;
 
 /// The answer of [`LockTable::try_lock_and_apply`].
 #[derive(Clone, Copy, Debug)]

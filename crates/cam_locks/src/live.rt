@@ -113,6 +113,7 @@ impl Live {
     pub(crate) fn below(&self, name: &Name) -> Result<Vec<LiveOp>, NoMemory>
         ensures { IfOk result (λ found. found.items ≡ filter (is_below name.now) self.now.ops) }
     {
+        // Indices rise, and stay in their range.
         let _next = self.next();
         let mut found = Vec::new(self.allocator());
         let mut start = Placed {
@@ -188,7 +189,7 @@ impl Live {
         Ok(())
     }
 
-    /// Lets the next index be at least this one.
+    /// Lets the next index be this one, which is no less.
     pub(crate) fn raise(&mut self, next: u32)
         requires order { self.old.next ≤ next }
         requires range { next ≤ 1000000000 }

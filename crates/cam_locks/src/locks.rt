@@ -1,7 +1,7 @@
-ghost use Rattle.std.specs.Prelude.{◌≡◌, ℕ, ◌<◌, [], true, false, ◌&&◌, if◌then◌else◌, find, map, length, get_or, vec_len, IfOk, OnOk, OnErr};
+ghost use Rattle.std.specs.Prelude.{◌≡◌, ℕ, ◌<◌, true, false, ◌&&◌, if◌then◌else◌, find, map, length, get_or, vec_len, IfOk, OnErr};
 ghost use Rattle.cam_type.specs.declared.Mode.{Mode as ModeValue};
-ghost use Rattle.cam_locks.specs.Moss.{is_in_the_way};
-ghost use Rattle.cam_locks.specs.Holding.{has_op, lift_in, fresh, leaders_of, LocksView, KeepsLeaders};
+ghost use Rattle.cam_locks.specs.Moss.{is_in_the_way, lift_in};
+ghost use Rattle.cam_locks.specs.Holding.{has_op, fresh, leaders_of, LocksView, KeepsLeaders};
 ghost use Rattle.cam_locks.specs.Changes.{standing, earlier, first_over, state_of, is_current, last_current, Tidied, IsDone, EachTo, TidiedTo, DoneTo, SpoiledAt};
 
 use crate::live::Live;
@@ -83,7 +83,7 @@ impl Locks {
         earlier(reader, writer)
     }
 
-    /// Does an operation that stands in no one's way.
+    /// Does an operation in whose way no one stands.
     pub(crate) fn perform(
         &mut self,
         operation: &LiveOp,
@@ -210,7 +210,7 @@ pub(crate) fn first_conflict(
     locks[object as usize].first_conflict(live, committed, name, op)
 }
 
-/// Does an operation that stands in no one's way.
+/// Does an operation in whose way no one stands.
 pub(crate) fn perform(
     locks: &mut Vec<Locks>,
     operation: &LiveOp,

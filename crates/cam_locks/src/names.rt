@@ -70,6 +70,7 @@ impl Names {
         ensures spare { self.old.spare ≤ self.new.spare + 1 }
     {
         if !self.contains(name) {
+            // There is room, so this succeeds.
             let _ = self.keys.insert(*name);
             self.names.push_reserved(*name);
         }

@@ -1,5 +1,5 @@
 ghost use Rattle.std.specs.Prelude.{◌≡◌, IfOk, filter, not};
-ghost use Rattle.cam_locks.specs.Site.{start_of, is_fit};
+ghost use Rattle.cam_locks.specs.Site.{start_of, is_here, is_fit};
 ghost use Rattle.cam_locks.specs.Moss.{replay};
 ghost use Rattle.cam_locks.specs.Calls.{is_below, is_of};
 
@@ -26,6 +26,16 @@ pub(crate) fn is_fit(objects: &Objects, node: u8, object: u8, op: &Op) -> bool
 {
     match objects.get(object as usize) {
         Some(declared) => declared.node == node && fits(declared.start.kind(), op),
+        None => false,
+    }
+}
+
+/// Whether the object stands at the node.
+pub(crate) fn is_here(objects: &Objects, node: u8, object: u8) -> bool
+    ensures { result ≡ is_here objects.now node object }
+{
+    match objects.get(object as usize) {
+        Some(declared) => declared.node == node,
         None => false,
     }
 }

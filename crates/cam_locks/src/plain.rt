@@ -3,10 +3,10 @@ ghost use Rattle.cam_locks.specs.Site.{is_here, is_fit, IndicesRise};
 ghost use Rattle.cam_locks.specs.Moss.{holder, value, settled};
 ghost use Rattle.cam_locks.specs.Calls.{new_site, grant, after_grant, with_commit, with_abort, held, has_family};
 ghost use Rattle.cam_locks.specs.Restored.{restored, CanRestore};
-ghost use Rattle.cam_locks.specs.Secured.{Stands, SecuredCanBeRestored};
+ghost use Rattle.cam_locks.specs.Secured.{IsWellFormed, SecuredCanBeRestored};
 
 use crate::names::Names;
-use crate::operations::{copy_objects, drop_below, is_fit};
+use crate::operations::{copy_objects, drop_below, is_fit, is_here};
 use crate::restore::{aborted_names, committed_names, in_order, kept_operations, next_of};
 use crate::{Grant, LiveOp, by_list};
 use cam_base::NoMemory;
@@ -20,12 +20,12 @@ use std::marker::Model;
 /// be believed, and to test against.
 #[derive(Drop)]
 pub struct PlainTable {
-    pub(crate) objects: Objects,
-    pub(crate) node: u8,
-    pub(crate) live: Vec<LiveOp>,
-    pub(crate) committed: Names,
-    pub(crate) aborted: Names,
-    pub(crate) next: u32,
+    objects: Objects,
+    node: u8,
+    live: Vec<LiveOp>,
+    committed: Names,
+    aborted: Names,
+    next: u32,
 }
 
 impl Model for PlainTable {
@@ -91,6 +91,13 @@ impl PlainTable {
         is_fit(&self.objects, self.node, object, op)
     }
 
+    /// Whether the object stands at the table's node.
+    pub fn has_object(&self, object: u8) -> bool
+        ensures { result ≡ is_here self.now.site.objects self.now.site.node object }
+    {
+        is_here(&self.objects, self.node, object)
+    }
+
     /// Makes room for this many more outcomes. Nothing else changes.
     pub fn reserve(&mut self, outcomes: u64) -> Result<(), NoMemory>
         ensures site { self.new.site ≡ self.old.site }
@@ -140,10 +147,10 @@ impl PlainTable {
     }
 
     /// What is to be secured of a family: all its live operations in order, reads included. The locks stay. What is secured of several
-    /// families can be restored together; [`crate::secured_along_a_run`] says so of several moments.
+    /// families at one moment can be restored together; [`crate::secured_along_a_run`] says so of the moments between two restarts.
     pub fn secure(&self, family: &Name, count: u32) -> Result<Held, NoMemory>
         ensures held { IfOk result (λ secured. secured ≡ held self.now.site family.now count) }
-        ensures stands { Stands self.now.site }
+        ensures well_formed { IsWellFormed self.now.site }
         ensures restorable { SecuredCanBeRestored self.now.site }
     {
         let ops = by_list::held(*self.live.allocator(), self.live.as_slice(), family)?;

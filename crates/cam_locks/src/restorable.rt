@@ -1,5 +1,5 @@
 //! Whether a restart takes what is held.
-ghost use Rattle.std.specs.Prelude.{◌≡◌, ◌≤◌, ◌++◌, ◌&&◌, ◌↔◌, nat_le, IsTrue, IfOk, OnOk};
+ghost use Rattle.std.specs.Prelude.{◌≡◌, ◌++◌, ◌&&◌, ◌↔◌, nat_le, IsTrue, IfOk, OnOk};
 ghost use Rattle.cam_locks.specs.Site.{is_fit};
 ghost use Rattle.cam_locks.specs.Restored.{all_held, MayBeHeld, CanRestore};
 

@@ -1,16 +1,14 @@
-ghost use Rattle.std.specs.Prelude.{◌≡◌, ◌≤◌, ◌+◌, [], ◌++◌, flat_map, IsTrue, IfOk, OnOk, OnErr};
-ghost use Rattle.cam_know.specs.Known.{committed_name, aborted_name};
-ghost use Rattle.cam_locks.specs.Names.{once};
+ghost use Rattle.std.specs.Prelude.{◌≡◌, ◌≤◌, ◌+◌, [], ◌++◌, IsTrue, IfOk, OnOk, OnErr};
 ghost use Rattle.cam_locks.specs.Site.{is_here, is_fit, AreFit, IndicesRise};
 ghost use Rattle.cam_locks.specs.Moss.{settled};
 ghost use Rattle.cam_locks.specs.Calls.{new_site, grant, after_grant, with_commit, with_abort, held, has_family};
-ghost use Rattle.cam_locks.specs.Restored.{restored, taken_over, CanRestore};
-ghost use Rattle.cam_locks.specs.Secured.{Stands, SecuredCanBeRestored};
+ghost use Rattle.cam_locks.specs.Restored.{informed, restored, taken_over, CanRestore};
+ghost use Rattle.cam_locks.specs.Secured.{IsWellFormed, SecuredCanBeRestored};
 
 use crate::live::Live;
 use crate::locks::{self, Locks};
 use crate::names::Names;
-use crate::operations::{copy_objects, is_fit};
+use crate::operations::{copy_objects, is_fit, is_here};
 use crate::restore::{aborted_names, committed_names, in_order, kept_operations, next_of};
 use crate::{Grant, LiveOp, by_list, keeping};
 use cam_base::NoMemory;
@@ -54,7 +52,8 @@ impl LockTable {
     }
 
     /// Does an operation of an action on an object, unless a live operation conflicts: then the lift of the first one is named, and
-    /// nothing changes.
+    /// nothing changes. It wants what [`LockTable::takes`] accepts, and a next index of at most 999,999,999. The rule stands in
+    /// `specs/Moss.antt`: Moss, *Nested Transactions*, 1985.
     pub fn try_lock_and_apply(
         &mut self,
         name: &Name,
@@ -90,6 +89,13 @@ impl LockTable {
         is_fit(&self.objects, self.node, object, op)
     }
 
+    /// Whether the object stands at the table's node.
+    pub fn has_object(&self, object: u8) -> bool
+        ensures { result ≡ is_here self.now.site.objects self.now.site.node object }
+    {
+        is_here(&self.objects, self.node, object)
+    }
+
     /// Makes room for this many more outcomes. Nothing else changes.
     pub fn reserve(&mut self, outcomes: u64) -> Result<(), NoMemory>
         ensures site { self.new.site ≡ self.old.site }
@@ -100,7 +106,7 @@ impl LockTable {
         self.aborted.reserve(outcomes as usize)
     }
 
-    /// The site was informed of the commit of an action. It takes no memory.
+    /// The site was informed of the commit of an action. It wants a spare of 1 ([`LockTable::reserve`]), and takes no memory.
     pub fn commit(&mut self, name: &Name)
         requires { 1 ≤ self.old.spare }
         ensures site { self.new.site ≡ with_commit self.old.site name.now }
@@ -109,8 +115,8 @@ impl LockTable {
         self.committed.put(name);
     }
 
-    /// The site was informed of the abort of an action: the operations of the action and of all below it are dropped. It takes no
-    /// memory.
+    /// The site was informed of the abort of an action: the operations of the action and of all below it are dropped. It wants a spare
+    /// of 1 ([`LockTable::reserve`]), and takes no memory.
     pub fn abort(&mut self, name: &Name)
         requires { 1 ≤ self.old.spare }
         ensures site { self.new.site ≡ with_abort self.old.site name.now }
@@ -141,12 +147,14 @@ impl LockTable {
     }
 
     /// What is to be secured of a family: all its live operations in order, reads included. The locks stay. What is secured of several
-    /// families can be restored together; [`crate::secured_along_a_run`] says so of several moments.
+    /// families at one moment can be restored together; [`crate::secured_along_a_run`] says so of the moments between two restarts. `count`
+    /// is the node's count that is put beside them.
     pub fn secure(&self, family: &Name, count: u32) -> Result<Held, NoMemory>
         ensures held { IfOk result (λ secured. secured ≡ held self.now.site family.now count) }
-        ensures stands { Stands self.now.site }
+        ensures well_formed { IsWellFormed self.now.site }
         ensures restorable { SecuredCanBeRestored self.now.site }
     {
+        // Indices rise, and stay in their range.
         let _next = self.live.next();
         let live = self.live.of_family(family)?;
         let ops = by_list::held(self.live.allocator(), live.as_slice(), family)?;
@@ -164,7 +172,7 @@ impl LockTable {
         self.live.has_family(family)
     }
 
-    /// The value of an object that is handed up past the top.
+    /// The value of an object that is handed up past the top. It wants what [`LockTable::has_object`] accepts.
     pub fn value(&self, object: u8) -> Result<State, NoMemory>
         requires { IsTrue (is_here self.now.site.objects self.now.site.node object) }
         ensures { IfOk result (λ state. state ≡ settled self.now.site object) }
@@ -188,7 +196,7 @@ impl LockTable {
 }
 
 impl LockTable {
-    /// The table that a restart makes of what was secured, by what is known.
+    /// The table that a restart makes of what was secured, by what is known. It wants what [`crate::may_restore`] accepts.
     pub fn restore(
         alloc: Global,
         objects: &Objects,
@@ -215,7 +223,7 @@ impl LockTable {
         node: u8,
         outcomes: &[Outcome],
     ) -> Result<LockTable, NoMemory>
-        ensures { IfOk result (λ table. table.site ≡ record { objects = objects.now; node = node; live = []; committed = once (flat_map committed_name outcomes.now); aborted = once (flat_map aborted_name outcomes.now); next = 0 }) }
+        ensures { IfOk result (λ table. table.site ≡ informed objects.now node outcomes.now) }
     {
         Ok(LockTable {
             objects: copy_objects(alloc, objects)?,
@@ -250,13 +258,22 @@ impl LockTable {
         self.live.raise(next);
     }
 
-    /// Takes a restored operation over. Where it conflicts with one before it nothing is kept of its object.
+    /// Takes a restored operation over. Where it conflicts with one before it nothing is kept of its object any more.
     fn take_over(&mut self, operation: &LiveOp) -> Result<(), NoMemory>
         requires fits { IsTrue (is_fit self.old.site.objects self.old.site.node operation.now.object operation.now.op) }
         requires index { self.old.site.next ≤ operation.now.index }
         requires range { operation.now.index ≤ 999999999 }
         ensures ok { OnOk result (self.new.site ≡ taken_over self.old.site operation.now) }
     {
+        if !locks::is_kept(self.locks.as_slice(), operation.object) {
+            return keeping::append_spoiled(
+                &mut self.locks,
+                &mut self.live,
+                &self.committed,
+                &self.objects,
+                operation,
+            );
+        }
         let granted = keeping::grant(
             &mut self.locks,
             &mut self.live,

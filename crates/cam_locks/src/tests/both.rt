@@ -133,14 +133,14 @@ pub(super) fn ask_locks(
 }
 
 fn value_of_plain(table: &PlainTable, object: u8) -> Result<State, NoMemory> {
-    if !table.takes(object, &Op::Read) && !table.takes(object, &Op::Size) {
+    if !table.has_object(object) {
         return Ok(State::Register(-1));
     }
     table.value(object)
 }
 
 pub(super) fn value_of_locks(table: &LockTable, object: u8) -> Result<State, NoMemory> {
-    if !table.takes(object, &Op::Read) && !table.takes(object, &Op::Size) {
+    if !table.has_object(object) {
         return Ok(State::Register(-2));
     }
     table.value(object)

@@ -26,7 +26,7 @@ pub(super) enum Step {
 
 /// The first step of a scene that the table does not answer as it has to.
 pub(super) fn first_unlike(table: &mut LockTable, scene: Scene) -> Result<Option<u8>, NoMemory> {
-    for place in 0..20u8 {
+    for place in 0..=u8::MAX {
         let Some(step) = scene.step(place) else {
             return Ok(None);
         };

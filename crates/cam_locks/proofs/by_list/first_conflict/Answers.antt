@@ -1,5 +1,5 @@
 use Rattle.std.proofs.Common.{◌∙◌, sym}
-use Rattle.cam_locks.specs.Changes.{conflicts}
+use Rattle.cam_locks.specs.Moss.{conflicts}
 use Rattle.cam_locks.proofs.Lists.{find_none, find_some}
 use Rattle.cam_locks.proofs.by_list.first_conflict.Goals as goal
 

@@ -1,6 +1,6 @@
 use Rattle.std.proofs.Common.{◌≡◌, take, None}
 use Rattle.std.specs.Prelude.{find}
-use Rattle.cam_locks.specs.Changes.{conflicts}
+use Rattle.cam_locks.specs.Moss.{conflicts}
 use Rattle.cam_locks.proofs.by_list.first_conflict.Given as goal
 
 abbrev pub invariant-loop-operation : goal.invariant-loop-operation

@@ -1,8 +1,7 @@
 use Rattle.std.proofs.Common.{◌≡◌, take, ◌&&◌}
 use Rattle.std.specs.Prelude.{filter}
 use Rattle.std.specs.Prelude.{is_none}
-use Rattle.cam_locks.specs.Moss.{is_on}
-use Rattle.cam_locks.specs.Holding.{lift_in}
+use Rattle.cam_locks.specs.Moss.{is_on, lift_in}
 use Rattle.cam_locks.proofs.by_list.settled.Given as goal
 
 abbrev pub invariant-loop-operation : goal.invariant-loop-operation

@@ -3,7 +3,8 @@ use Rattle.cam_names.specs.declared.name.Name.{Name}
 use Rattle.cam_type.specs.Table.{answer_of}
 use Rattle.cam_locks.specs.declared.Grant.TheVariants.{Done}
 use Rattle.cam_locks.specs.Calls.{grant_by}
-use Rattle.cam_locks.specs.Changes.{value_of, by_holder}
+use Rattle.cam_locks.specs.Changes.{by_holder}
+use Rattle.cam_locks.specs.Moss.{value_of}
 use Rattle.cam_locks.proofs.AllKept.{all_tidied}
 use Rattle.cam_locks.proofs.Granting.{kept_done, kept_undone, answer_kept}
 use Rattle.cam_locks.proofs.keeping.grant_kept.Goals as goal

@@ -3,7 +3,8 @@ use Rattle.std.proofs.lemmas.Result.{IfOk-weaker}
 use Rattle.cam_type.specs.declared.State.{State}
 use Rattle.cam_locks.specs.Site.{start_of}
 use Rattle.cam_locks.specs.Holding.{LocksView, KeepsLocks}
-use Rattle.cam_locks.specs.Changes.{state_of, is_current, last_current, settled_of}
+use Rattle.cam_locks.specs.Changes.{state_of, is_current, last_current}
+use Rattle.cam_locks.specs.Moss.{settled_of}
 use Rattle.cam_locks.proofs.Standing.{settled_kept}
 use Rattle.cam_locks.proofs.AllKept.{at_place}
 use Rattle.cam_locks.proofs.keeping.settled.Goals as goal

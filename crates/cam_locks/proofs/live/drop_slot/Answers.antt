@@ -1,8 +1,9 @@
 use Rattle.std.proofs.Common.{◌≡◌, ℕ, eqb, false, List, ap, sym, subst, ◌∙◌, arith, ◌<◌, length}
 use Rattle.std.specs.Prelude.{filter}
+use Rattle.std.proofs.lemmas.List.{get_or_default}
 use Rattle.cam_locks.specs.declared.live.Slot.{Slot}
 use Rattle.cam_locks.specs.Live.{live_of, is_live_at, IsPlaceOf, other}
-use Rattle.cam_locks.proofs.Slots.{get_any, has_at, not_here, not_past}
+use Rattle.cam_locks.proofs.Slots.{has_at, not_here, not_past}
 use Rattle.cam_locks.proofs.Dropping.{live_dropped, all_dropped, without_none}
 use Rattle.cam_locks.proofs.live.drop_slot.Goals as goal
 use Rattle.cam_locks.proofs.live.drop_slot.Goals.{else-place-len-via-then-place-len+else-index, else-place-len-via-else-place-len}
@@ -13,7 +14,7 @@ returns-then-index-clause-live c =
     let place = c.place_of-place.result in
     let s = c.index_mut.result.now in
     let within : place < length ss = omega (arith, c.if-place-len.true, c.len.ensures) in
-    let one : c.index.result.now ≡ s = sym (get_any ss place c.index.result.now s within c.index.ensures) ∙ sym c.index_mut.ensures.value in
+    let one : c.index.result.now ≡ s = c.index.ensures ∙ get_or_default ss place c.index.result.now s within ∙ sym c.index_mut.ensures.value in
     live_dropped 0 ss c.requires.0 place s c.requires.1 within c.index_mut.ensures.value
     ∙ ap (λ (i : ℕ). filter (other i) (live_of ss)) (sym (ap (λ (t : Slot). t.operation.index) one) ∙ c.if-index.true)
 

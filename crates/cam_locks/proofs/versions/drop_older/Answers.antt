@@ -2,7 +2,7 @@ use Rattle.std.proofs.Common.{List, ◌≡◌, ◌++◌, ◌∷◌, [], true, su
 use Rattle.cam_locks.specs.declared.versions.Version.{Version}
 use Rattle.cam_locks.specs.Holding.{KeepsVersions}
 use Rattle.cam_locks.specs.Changes.{is_outdated}
-use Rattle.cam_locks.proofs.Lists.{append_nil}
+use Rattle.std.proofs.lemmas.List.{append-nil}
 use Rattle.cam_locks.proofs.Tidying.{versions_drop_before}
 use Rattle.cam_locks.proofs.versions.drop_older.Goals as goal
 
@@ -36,4 +36,4 @@ loop-version-preserved c =
 pub returns-clause-kept : goal.returns-clause-kept
 returns-clause-kept c = λ x start next h.
     subst (λ (vs : List Version). KeepsVersions x start c.args.committed.now.names c.args.live.now.ops next (vs ++ c.args.later.now ∷ []))
-    (c.in_default.ensures.items ∙ append_nil c.pop.new.self.items) (c.loop-version.invariant.0 x start next h)
+    (c.in_default.ensures.items ∙ append-nil c.pop.new.self.items) (c.loop-version.invariant.0 x start next h)

@@ -1,7 +1,7 @@
 use Rattle.std.proofs.Common.{List, ◌≡◌, false, subst, sym, ◌∙◌, arith}
 use Rattle.cam_locks.specs.declared.versions.Version.{Version}
 use Rattle.cam_locks.specs.Holding.{KeepsVersions, has_op}
-use Rattle.cam_locks.proofs.Lists.{append_nil}
+use Rattle.std.proofs.lemmas.List.{append-nil}
 use Rattle.cam_locks.proofs.Tidying.{versions_drop_last}
 use Rattle.cam_locks.proofs.Writing.{last_live, last_live_none}
 use Rattle.cam_locks.proofs.versions.tidy.Goals as goal
@@ -27,7 +27,7 @@ loop-last-preserved c = λ x start next h.
 pub returns-clause-kept : goal.returns-clause-kept
 returns-clause-kept c = λ x start next h.
     subst (λ (vs : List Version). KeepsVersions x start c.args.committed.now.names c.args.live.now.ops next vs)
-    (c.in_default.ensures.items ∙ append_nil c.pop.new.self.items) (c.loop-last.invariant x start next h)
+    (c.in_default.ensures.items ∙ append-nil c.pop.new.self.items) (c.loop-last.invariant x start next h)
 
 pub returns-then-has-clause-last : goal.returns-then-has-clause-last
 returns-then-has-clause-last c =

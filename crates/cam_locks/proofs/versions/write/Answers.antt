@@ -1,11 +1,12 @@
 use Rattle.std.proofs.Common.{◌≡◌, ◌+◌, [], ◌∷◌, ◌++◌, length, ap, sym, ◌∙◌, arith}
 use Rattle.std.proofs.lemmas.Result.{IfOk-equal, IfOk-weaker}
+use Rattle.std.proofs.lemmas.List.{get_or_default}
 use Rattle.cam_type.specs.declared.State.{State}
 use Rattle.cam_type.specs.Table.{state_after, answer_of}
 use Rattle.cam_locks.specs.declared.versions.Version.{Version}
-use Rattle.cam_locks.specs.Holding.{lift_in}
+use Rattle.cam_locks.specs.Moss.{lift_in}
 use Rattle.cam_locks.specs.Changes.{lift_eq, last_state, with_write}
-use Rattle.cam_locks.proofs.Writing.{state_at, write_new, write_in_place, get_any}
+use Rattle.cam_locks.proofs.Writing.{state_at, write_new, write_in_place}
 use Rattle.cam_locks.proofs.versions.write.Goals as goal
 
 pub returns-then-is_same_lift-clause-ok : goal.returns-then-is_same_lift-clause-ok
@@ -16,7 +17,7 @@ returns-then-is_same_lift-clause-ok c =
     let v = c.index_mut.result.now in
     let o = c.args.operation.now in
     let len : length vs ≡ k + 1 = omega (arith, c.in-Some.ensures, c.len.ensures, c.args.versions.now.ok) in
-    let one : c.index.result.now ≡ v = sym (get_any vs k c.index.result.now v (omega (arith, len)) c.index.ensures) ∙ sym c.index_mut.ensures.value in
+    let one : c.index.result.now ≡ v = c.index.ensures ∙ get_or_default vs k c.index.result.now v (omega (arith, len)) ∙ sym c.index_mut.ensures.value in
     write_in_place ns c.args.start.now vs o k v c.index_mut-then-is_same_lift.result.now c.apply.new.state len c.index_mut.ensures.value
     (ap (λ (u : Version). lift_eq (lift_in ns u.last.action) (lift_in ns o.action)) (sym one)
     ∙ sym (c.is_same_lift.ensures ∙ ap (λ r. lift_eq r c.lift-lift.result) c.lift.ensures ∙ ap (lift_eq (lift_in ns c.index.result.now.last.action)) c.lift-lift.ensures) ∙ c.if-is_same_lift.true)
@@ -37,7 +38,7 @@ returns-clause-ok c =
     let v = c.index-2.result.now in
     let o = c.args.operation.now in
     let len : length vs ≡ k + 1 = omega (arith, c.in-Some.ensures, c.len.ensures, c.args.versions.now.ok) in
-    let one : c.index.result.now ≡ v = sym (get_any vs k c.index.result.now v (omega (arith, len)) c.index.ensures) ∙ sym c.index-2.ensures in
+    let one : c.index.result.now ≡ v = c.index.ensures ∙ get_or_default vs k c.index.result.now v (omega (arith, len)) ∙ sym c.index-2.ensures in
     IfOk-equal c.begin-2.result c.begin-2.new.versions.items (vs ++ record { last = o; state = state_after c.in_ok-state.state o.op } ∷ []) (with_write ns c.args.start.now vs o) c.begin-2.ensures.ok
     (ap (λ (s : State). vs ++ record { last = o; state = state_after s o.op } ∷ []) c.in_ok-state.ensures
     ∙ sym (write_new ns c.args.start.now vs o k v len c.index-2.ensures

@@ -1,4 +1,4 @@
-use Rattle.std.proofs.Common.{◌≡◌, ◌≤◌, ℕ, List, true, ap, subst, sym, refl, ◌+◌, arith}
+use Rattle.std.proofs.Common.{◌≡◌, ◌≤◌, List, true, subst, sym, refl, ◌+◌, arith}
 use Rattle.cam_locks.specs.declared.LiveOp.{LiveOp}
 use Rattle.cam_locks.specs.Site.{TableView, IndicesRise, AreFit, is_fit}
 use Rattle.cam_locks.proofs.Rising.{rise_push}

@@ -4,7 +4,7 @@ use Rattle.cam_type.specs.declared.HeldOp.{HeldOp}
 use Rattle.cam_locks.specs.declared.LiveOp.{LiveOp}
 use Rattle.cam_locks.specs.Site.{Site, TableView, IndicesRise, AreFit}
 use Rattle.cam_locks.specs.Calls.{is_of, held_op}
-use Rattle.cam_locks.specs.Secured.{Stands}
+use Rattle.cam_locks.specs.Secured.{IsWellFormed}
 use Rattle.cam_locks.proofs.Passing.{kept_once}
 use Rattle.cam_locks.proofs.Securing.{can_restore}
 use Rattle.cam_locks.proofs.table.LockTable.secure.Goals as goal
@@ -17,26 +17,26 @@ returns-clause-held c =
     ∙ ap (λ (os : List LiveOp). map held_op (filter (is_of f) os)) (c.as_slice.ensures.value ∙ c.in_ok-live.ensures)
     ∙ ap (map held_op) (kept_once (is_of f) c.self.inside.live.ops ∙ ap (λ v. filter (is_of f) v.site.live) c.self.view_is))
 
--- whatever the call answers, what is seen of the table stands
-seen_stands : (site : Site) (spare n : ℕ) (seen : TableView) → record { site = site; spare = spare } ≡ seen
-    → IndicesRise 0 site.live site.next → n ≡ site.next → n ≤ 1000000000 → AreFit site.objects site.node site.live → Stands seen.site
-seen_stands site spare n seen is order same range fit =
-    subst (λ (v : TableView). Stands v.site) is (record { rising = order; range = subst (λ (m : ℕ). m ≤ 1000000000) same range; fits = fit })
+-- whatever the call answers, what is seen of the table is well formed
+seen_well_formed : (site : Site) (spare n : ℕ) (seen : TableView) → record { site = site; spare = spare } ≡ seen
+    → IndicesRise 0 site.live site.next → n ≡ site.next → n ≤ 1000000000 → AreFit site.objects site.node site.live → IsWellFormed seen.site
+seen_well_formed site spare n seen is order same range fit =
+    subst (λ (v : TableView). IsWellFormed v.site) is (record { rising = order; range = subst (λ (m : ℕ). m ≤ 1000000000) same range; fits = fit })
 
-pub returns-in_err-live-clause-stands : goal.returns-in_err-live-clause-stands
-returns-in_err-live-clause-stands c = seen_stands _ _ _ _ c.self.view_is c.next-next.ensures.order c.next-next.ensures.value c.next-next.ensures.range c.self.invariant.1
+pub returns-in_err-live-clause-well_formed : goal.returns-in_err-live-clause-well_formed
+returns-in_err-live-clause-well_formed c = seen_well_formed _ _ _ _ c.self.view_is c.next-next.ensures.order c.next-next.ensures.value c.next-next.ensures.range c.self.invariant.1
 
 pub returns-in_err-live-clause-restorable : goal.returns-in_err-live-clause-restorable
-returns-in_err-live-clause-restorable c = can_restore _ (seen_stands _ _ _ _ c.self.view_is c.next-next.ensures.order c.next-next.ensures.value c.next-next.ensures.range c.self.invariant.1)
+returns-in_err-live-clause-restorable c = can_restore _ (seen_well_formed _ _ _ _ c.self.view_is c.next-next.ensures.order c.next-next.ensures.value c.next-next.ensures.range c.self.invariant.1)
 
-pub returns-in_err-ops-clause-stands : goal.returns-in_err-ops-clause-stands
-returns-in_err-ops-clause-stands c = seen_stands _ _ _ _ c.self.view_is c.next-next.ensures.order c.next-next.ensures.value c.next-next.ensures.range c.self.invariant.1
+pub returns-in_err-ops-clause-well_formed : goal.returns-in_err-ops-clause-well_formed
+returns-in_err-ops-clause-well_formed c = seen_well_formed _ _ _ _ c.self.view_is c.next-next.ensures.order c.next-next.ensures.value c.next-next.ensures.range c.self.invariant.1
 
 pub returns-in_err-ops-clause-restorable : goal.returns-in_err-ops-clause-restorable
-returns-in_err-ops-clause-restorable c = can_restore _ (seen_stands _ _ _ _ c.self.view_is c.next-next.ensures.order c.next-next.ensures.value c.next-next.ensures.range c.self.invariant.1)
+returns-in_err-ops-clause-restorable c = can_restore _ (seen_well_formed _ _ _ _ c.self.view_is c.next-next.ensures.order c.next-next.ensures.value c.next-next.ensures.range c.self.invariant.1)
 
-pub returns-clause-stands : goal.returns-clause-stands
-returns-clause-stands c = seen_stands _ _ _ _ c.self.view_is c.next-next.ensures.order c.next-next.ensures.value c.next-next.ensures.range c.self.invariant.1
+pub returns-clause-well_formed : goal.returns-clause-well_formed
+returns-clause-well_formed c = seen_well_formed _ _ _ _ c.self.view_is c.next-next.ensures.order c.next-next.ensures.value c.next-next.ensures.range c.self.invariant.1
 
 pub returns-clause-restorable : goal.returns-clause-restorable
-returns-clause-restorable c = can_restore _ (seen_stands _ _ _ _ c.self.view_is c.next-next.ensures.order c.next-next.ensures.value c.next-next.ensures.range c.self.invariant.1)
+returns-clause-restorable c = can_restore _ (seen_well_formed _ _ _ _ c.self.view_is c.next-next.ensures.order c.next-next.ensures.value c.next-next.ensures.range c.self.invariant.1)

@@ -2,7 +2,7 @@ use Rattle.std.proofs.Common.{◌≡◌, true, subst, sym}
 use Rattle.std.specs.Prelude.{IfOk}
 use Rattle.cam_locks.specs.Site.{TableView, is_fit}
 use Rattle.cam_locks.specs.Calls.{grant}
-use Rattle.cam_locks.specs.Changes.{holder_of}
+use Rattle.cam_locks.specs.Moss.{holder_of}
 use Rattle.cam_locks.proofs.Fitting.{fit_after}
 use Rattle.cam_locks.proofs.table.LockTable.try_lock_and_apply.Goals as goal
 
