@@ -23,7 +23,7 @@ use Rattle.cam_script.specs.declared.Statement.{Statement}
 use Rattle.cam_runs.proofs.Delivering.{letters_sent, waiting_numbered}
 use Rattle.cam_headline.specs.Draining.{PlayLeavesNone, PlaysLeaveNone, Lowers, LeavesNone, EachDeliveryLowers, DrainsLeaveNone}
 use Rattle.cam_headline.proofs.Light.{sent_weight, FewDeps}
-use Rattle.cam_headline.proofs.Lighter.{arrives_lighter, some_weight}
+use Rattle.cam_headline.proofs.Lighter.{arrives_lighter}
 
 -- the number was delivered or lost
 abbrev is_done : Running → ℕ → Bool

@@ -94,15 +94,3 @@ arrives_lighter objects g from (bodies.Prepare f c) few = below 9 10 (prepare_co
 arrives_lighter objects g from (bodies.Vote f c agrees) few = below 8 9 (vote_comes g from f c agrees) (omega arith) (vote_light g from f c agrees few)
 arrives_lighter objects g from (bodies.Query f) few = below 1 2 (query_comes g from f) (omega arith) (query_light g from f)
 arrives_lighter objects g from bodies.News few = omega arith
-
--- Each letter weighs something.
-pub some_weight : (body : Body) → 1 ≤ weight body
-some_weight (bodies.Start b counts) = omega arith
-some_weight (bodies.Call a n x op c counts) = omega arith
-some_weight (bodies.Answer a n reply) = omega arith
-some_weight (bodies.Finish b v counts) = omega arith
-some_weight (bodies.Quit b) = omega arith
-some_weight (bodies.Prepare f c) = omega arith
-some_weight (bodies.Vote f c agrees) = omega arith
-some_weight (bodies.Query f) = omega arith
-some_weight bodies.News = omega arith
