@@ -375,18 +375,6 @@ fn main(rt: HostRuntime) -> Result<(), Error> {
     show_way(&rt, "each the write of a child of a child of a child, which all committed", Way::DeepHandUp)
 }
 PROGRAM
-measure() {
-    mkdir -p "proofs/+$1"
-    cat > "proofs/+$1/Invariants.antt" <<PROOF
-use Rattle.std.proofs.Common.{length}
-use Rattle.lock_times.proofs.+$1.Given as goal
-
-abbrev pub decreases-$1 : goal.decreases-$1
-decreases-$1 l = length l.ops.now
-PROOF
-}
-measure has_index
-measure may_be_held
 if [ "${1-}" = --quick ]; then
     # That build checks each step as it runs, and is a thousand times slower.
     sed -i 's/const ROUNDS: u32 = 5/const ROUNDS: u32 = 1/; s/const CALLS: u32 = 20/const CALLS: u32 = 2/; s/, 1_000, 10_000\]/, 200]/' src/main.rt
