@@ -85,14 +85,25 @@ fn join_again(rt: &HostRuntime, know: &mut Know, letter: &Know) -> Result<u128, 
     Ok(start.elapsed(rt)?.as_nanos() / JOINS as u128)
 }
 
-/// The time of a join of a letter whose ten outcomes are all new.
-fn join_new(rt: &HostRuntime, top: &Name, children: u32) -> Result<u128, Error> {
+/// What a letter brings whose ten outcomes are all new where this many children are known.
+fn letter_of_new(rt: &HostRuntime, top: &Name, children: u32) -> Result<Know, Error> {
     let first = children.saturating_add(1);
-    let letter = family(rt, top, first, children.saturating_add(LETTER))?;
+    family(rt, top, first, children.saturating_add(LETTER))
+}
+
+/// What some nodes know, each the commits of this many children.
+fn nodes_that_know(rt: &HostRuntime, top: &Name, children: u32) -> Result<Vec<Know>, Error> {
     let mut nodes = Vec::new(rt.alloc());
     for _ in 0..NODES {
         nodes.push(family(rt, top, 1, children)?)?;
     }
+    Ok(nodes)
+}
+
+/// The time of a join of a letter whose ten outcomes are all new.
+fn join_new(rt: &HostRuntime, top: &Name, children: u32) -> Result<u128, Error> {
+    let letter = letter_of_new(rt, top, children)?;
+    let mut nodes = nodes_that_know(rt, top, children)?;
     let start = Instant::now(rt)?;
     for know in nodes.iter_mut() {
         know.join(&letter)?;
@@ -113,12 +124,8 @@ fn add_again(rt: &HostRuntime, know: &mut Know, letter: &Know) -> Result<u128, E
 
 /// The time of adding ten new outcomes one by one.
 fn add_new(rt: &HostRuntime, top: &Name, children: u32) -> Result<u128, Error> {
-    let first = children.saturating_add(1);
-    let letter = family(rt, top, first, children.saturating_add(LETTER))?;
-    let mut nodes = Vec::new(rt.alloc());
-    for _ in 0..NODES {
-        nodes.push(family(rt, top, 1, children)?)?;
-    }
+    let letter = letter_of_new(rt, top, children)?;
+    let mut nodes = nodes_that_know(rt, top, children)?;
     let start = Instant::now(rt)?;
     for know in nodes.iter_mut() {
         for outcome in letter.outcomes() {
