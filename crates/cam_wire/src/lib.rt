@@ -1,9 +1,9 @@
 //! Letters as bytes.
 //!
-//! Each letter in its ranges whose names have one dependency set each has exactly one spelling, and any bytes are read as the letter that they
-//! spell or answered with the first fault and its place. All numbers are big-endian; number, value, name, family, counts, dependencies, object
-//! and operation are the fields of `cam_bytes`. Names rise in the order of their lists of parts, a prefix first; parts in the order of node,
-//! count, number.
+//! Each letter in its ranges whose names have one dependency set each, with no more aborts or commits than four bytes can tell, has exactly
+//! one spelling, and any bytes are read as the letter that they spell or answered with the first fault and its place. All numbers are
+//! big-endian; number, value, name, family, counts, dependencies, object and operation are the fields of `cam_bytes`. Names rise in the
+//! order of their lists of parts, a prefix first; parts in the order of node, count, number.
 //!
 //! | Part of a letter | Bytes |
 //! |---|---|
