@@ -41,6 +41,8 @@ fn a_letter(rt: &HostRuntime, outcomes: u32) -> Result<Letter, Error>
         from: 1,
         count: 1,
         to: 2,
+        have: 0,
+        place: 0,
         know,
         body: Body::News,
     })

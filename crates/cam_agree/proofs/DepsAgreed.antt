@@ -1,5 +1,5 @@
 -- On runs a letter carries the same by either reading: the same outcomes, each commit with the same dependencies, and the same counts.
-use Rattle.std.proofs.Common.{◌≡◌, inl, inr, ℕ, Bool, true, false, ◌||◌, List, [], ◌∷◌, Some, refl, sym, ap, ◌∙◌, subst}
+use Rattle.std.proofs.Common.{◌≡◌, inl, inr, ℕ, Bool, true, false, ◌||◌, List, [], ◌∷◌, Some, refl, sym, ap, ◌∙◌, subst, is_some}
 use Rattle.std.specs.List.{list_any}
 use Rattle.std.proofs.lemmas.Bool.{true≢false}
 use Rattle.cam_names.specs.declared.name.Name.{Name}
@@ -10,7 +10,7 @@ use Rattle.cam_type.specs.declared.ObjectDecl.{ObjectDecl}
 use Rattle.cam_know.specs.declared.Outcome.{Outcome}
 use Rattle.cam_know.specs.declared.Outcome.TheVariants.{Aborted, Committed}
 use Rattle.cam_know.specs.Knowledge.{Knowledge}
-use Rattle.cam_know.specs.Known.{outcome_eq, knows, knows_commit, is_abort_of, is_commit_of}
+use Rattle.cam_know.specs.Known.{outcome_eq, knows, knows_commit, is_abort_of, is_commit_of, IsSame}
 use Rattle.cam_know.proofs.Outcomes.{outcome_eq_same, outcome_eq_refl}
 use Rattle.cam_event.specs.declared.Deed.{Deed}
 use Rattle.cam_event.specs.declared.Deed.TheVariants.{Create, Ask, Call, Perform, Bounce, Got, AskCommit, AskAbort, Commit, Abort, Secure, Inform, Crash}
@@ -25,15 +25,17 @@ use Rattle.cam_event.proofs.Members.{In, in_any, any_in}
 use Rattle.cam_event.proofs.PastLaws.{past_is_closed}
 use Rattle.cam_event.proofs.SameOutcomes.{aborts_agree, commits_agree}
 use Rattle.cam_event.proofs.SameCounts.{counts_agree}
-use Rattle.cam_event.proofs.RunLaws.{runs_are_sent, runs_crash_alone}
 use Rattle.cam_plain.proofs.Deciding.{committed_asked}
 use Rattle.cam_cut.proofs.Lists.{in_flat, flat_in}
 use Rattle.cam_cut.proofs.Holds.{RunHolds}
-use Rattle.cam_cut.proofs.Step.{run_holds}
 use Rattle.cam_know.proofs.OrphanBySet.{both_ways}
 use Rattle.cam_agree.proofs.DepsPairs.{counts_same}
 use Rattle.cam_agree.proofs.DepsWhole.{asked_same}
 use Rattle.cam_agree.proofs.DepsKnown.{IsTold, held_tell}
+use Rattle.cam_agree.proofs.Ran.{ran_holds, ran_sent, ran_alone, plain_ran, Ran}
+use Rattle.cam_event.specs.declared.Event.{Event}
+use Rattle.cam_event.specs.Readings.{by_whole_letters, told_at}
+use Rattle.cam_event.specs.declared.LetterId.{LetterId}
 
 -- a known commit is one of the outcomes
 pub commit_known : (k : Knowledge) (b : Name) → knows_commit k b ≡ true → (counts : List ℕ) × In (Committed b counts) k.outcomes
@@ -66,7 +68,7 @@ is_aborted (Aborted a) = true
 is_aborted (Committed a cs) = false
 
 -- the commits that a history tells
-told_in : (objects : List ObjectDecl) (L : List Deed) (b : Name) (counts : List ℕ) → In (Committed b counts) (told objects L).outcomes → (committed L b ≡ true) × (counts ≡ as_counts (deps objects L b))
+pub told_in : (objects : List ObjectDecl) (L : List Deed) (b : Name) (counts : List ℕ) → In (Committed b counts) (told objects L).outcomes → (committed L b ≡ true) × (counts ≡ as_counts (deps objects L b))
 told_in objects L b counts h = let found = flat_in (outcome_in objects L) L (Committed b counts) h in by found.0 found.1 found.2
   where
     by : (d : Deed) → In d L → In (Committed b counts) (outcome_in objects L d) → (committed L b ≡ true) × (counts ≡ as_counts (deps objects L b))
@@ -88,7 +90,7 @@ told_in objects L b counts h = let found = flat_in (outcome_in objects L) L (Com
     by (Inform s a outcome) i j = absurd j
     by (Crash s) i j = absurd j
 
-in_told : (objects : List ObjectDecl) (L : List Deed) (b : Name) → committed L b ≡ true → In (Committed b (as_counts (deps objects L b))) (told objects L).outcomes
+pub in_told : (objects : List ObjectDecl) (L : List Deed) (b : Name) → committed L b ≡ true → In (Committed b (as_counts (deps objects L b))) (told objects L).outcomes
 in_told objects L b h = let found = any_in (is_commit b) L h in by found.0 found.1 found.2
   where
     by : (d : Deed) → In d L → is_commit b d ≡ true → In (Committed b (as_counts (deps objects L b))) (told objects L).outcomes
@@ -97,20 +99,20 @@ in_told objects L b h = let found = any_in (is_commit b) L h in by found.0 found
         (inl (ap (λ x. Committed x (as_counts (deps objects L x))) (name_eq_same b a e)))
     by _ i e = cc
 
-aborts_any : (a : Name) (os : List Outcome) → list_any (outcome_eq (Aborted a)) os ≡ list_any (is_abort_of a) os
+pub aborts_any : (a : Name) (os : List Outcome) → list_any (outcome_eq (Aborted a)) os ≡ list_any (is_abort_of a) os
 aborts_any a [] = refl
 aborts_any a (Aborted b ∷ os) = ap (λ r. name_eq a b || r) (aborts_any a os)
 aborts_any a (Committed b counts ∷ os) = aborts_any a os
 
 -- A letter carries the same by either reading.
-pub letters_agree : LettersAgree
-letters_agree objects t letter run there = record { outcomes = same; counts = counts_agree objects t letter sent (runs_crash_alone objects t run) there }
+pub ran_letters : (objects : List ObjectDecl) (t : List Event) (letter : LetterId) → Ran objects t → is_some (letter_at t letter) ≡ true → IsSame ((by_whole_letters objects).carried t letter).know (told_at objects t letter)
+ran_letters objects t letter run there = record { outcomes = same; counts = counts_agree objects t letter sent (ran_alone objects t run) there }
   where
     holds : RunHolds objects t
-    holds = run_holds objects t run
+    holds = ran_holds objects t run
 
     sent : AreSent t
-    sent = runs_are_sent objects t run
+    sent = ran_sent objects t run
 
     S : ℕ → Bool
     S i = in_past t i letter.event
@@ -147,3 +149,7 @@ letters_agree objects t letter run there = record { outcomes = same; counts = co
             let is = told_in objects L b counts i in
             let other = commit_known K b (commits_agree objects t letter b sent there ∙ known_commit (told objects L) b counts i) in
             in_known K (Committed b counts) (subst (λ cs. In (Committed b cs) K.outcomes) ((is_told b other.0 other.1).final ∙ sym (final b is.0) ∙ sym is.1) other.1)
+
+-- of runs without a halt
+pub letters_agree : LettersAgree
+letters_agree objects t letter run = ran_letters objects t letter (plain_ran objects t run)

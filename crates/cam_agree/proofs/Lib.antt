@@ -1,3 +1,4 @@
+pub mod Ran
 pub mod DepsPairs
 pub mod OrphanOpen
 pub mod OrphanCover
@@ -19,7 +20,6 @@ pub mod OrphanFacts
 pub mod OrphanRequests
 pub mod OrphanTests
 pub mod DepsLaw
-pub mod DepsSpelled
 pub mod DepsSights
 pub mod DepsHomes
 pub mod DepsEvents

@@ -27,15 +27,18 @@ use Rattle.cam_plain.proofs.Performed.{created_named, called_created}
 use Rattle.cam_cut.proofs.LegalFacts.{in_call, asked_commit_created}
 use Rattle.cam_cut.proofs.DepsAgree.{created_known}
 use Rattle.cam_cut.proofs.Sees.{BodyOk}
+use Rattle.cam_cut.proofs.Tested.{sight_so}
 use Rattle.cam_cut.proofs.DecideLines.{OpenHere, open_here}
 use Rattle.cam_cut.proofs.Clear.{ancestors_in}
 use Rattle.cam_cut.proofs.Parts.{keep_first}
-use Rattle.cam_agree.specs.Orphan.{goes_by, AnswersSame, OwnSame, BodyTests, MailTests, OrphansAgree}
+use Rattle.cam_agree.specs.Orphan.{goes_by, AnswersSame, OwnSame, BodyTests, MailTests, OrphansAgree, RuleTests}
 use Rattle.cam_agree.proofs.DepsPairs.{SamePairs}
 use Rattle.cam_agree.proofs.DepsSays.{BodySays}
 use Rattle.cam_agree.proofs.DepsSaid.{letters_say}
 use Rattle.cam_agree.proofs.OrphanFacts.{base_at, told_at, Facts, facts, told_created, own_tested, own_same}
 use Rattle.cam_agree.proofs.OrphanRequests.{requested_runs}
+use Rattle.cam_agree.proofs.Ran.{Ran, plain_ran}
+use Rattle.cam_event.specs.Runs.{MayCome}
 
 -- a child's start
 start_same : (objects : List ObjectDecl) (t : List Event) (input : Input) (from : ℕ) (b : Name) (counts : List ℕ) → Facts objects t input → BodyOk objects (base_at t input) from (node_of t input) (bodies.Start b counts) → BodySays objects (base_at t input) (bodies.Start b counts) → created (goes_by objects t input).deeds b ≡ false → AnswersSame objects t input b (with_home counts b)
@@ -103,7 +106,7 @@ child_same objects t input p b f h =
     let g : Sight = goes_by objects t input in
     let one = and_parts (is_present g p && not (ended g.deeds p)) (is_open_child g.deeds p b) h in
     let two = and_parts (is_present g p) (not (ended g.deeds p)) one.0 in
-    let here : OpenHere g (told_at t input) p b = open_here objects g (told_at t input) (told_at t input) p b f.sees one.1 in
+    let here : OpenHere g (told_at t input) p b = open_here objects g (told_at t input) (told_at t input) p b (sight_so objects g (told_at t input) (told_at t input) f.sees) one.1 in
     (own_same objects t input p f here.home (f.sees.same_created p here.home ∙ here.there) (not-true (ended g.deeds p) two.1), here)
 
 finish_same : (objects : List ObjectDecl) (t : List Event) (input : Input) (p b : Name) (v : ℤ) (counts : List ℕ) → Facts objects t input → BodySays objects (base_at t input) (bodies.Finish b v counts) → decides_child (goes_by objects t input) p b ≡ true → OwnSame objects t input p × AnswersSame objects t input b (pairs_of counts)
@@ -147,11 +150,11 @@ body_tests objects t input from (bodies.Vote g c agrees) f ok says = tt
 body_tests objects t input from (bodies.Query g) f ok says = tt
 body_tests objects t input from bodies.News f ok says = tt
 
-pub orphans_agree : OrphansAgree
-orphans_agree objects t (Requests r) run may =
+pub ran_orphans : (objects : List ObjectDecl) (t : List Event) (input : Input) → Ran objects t → MayCome objects t input → RuleTests objects t input
+ran_orphans objects t (Requests r) run may =
     let runs = requested_runs (goes_by objects t (Requests r)) r.action r.want may.0 in
     own_same objects t (Requests r) r.action (facts objects t (Requests r) run may) refl runs.0 runs.1
-orphans_agree objects t (Receives letter) run may = by (letter_at t letter) refl
+ran_orphans objects t (Receives letter) run may = by (letter_at t letter) refl
   where
     f : Facts objects t (Receives letter)
     f = facts objects t (Receives letter) run may
@@ -163,7 +166,11 @@ orphans_agree objects t (Receives letter) run may = by (letter_at t letter) refl
         body_tests objects t (Receives letter) mail.from mail.body f
         (subst (λ s. BodyOk objects (base_at t (Receives letter)) mail.from s mail.body) at (f.holds.letters letter mail e (in_base t (node_of t (Receives letter)) (Some letter)) f.base.closed f.base.sender))
         (letters_say objects t run letter mail e (in_base t (node_of t (Receives letter)) (Some letter)) f.base.closed f.base.sender)
-orphans_agree objects t (Begins s) run may = tt
-orphans_agree objects t (Tells s to) run may = tt
-orphans_agree objects t (Queries s f) run may = tt
-orphans_agree objects t (Restarts s) run may = tt
+ran_orphans objects t (Begins s) run may = tt
+ran_orphans objects t (Tells s to) run may = tt
+ran_orphans objects t (Queries s f) run may = tt
+ran_orphans objects t (Restarts s) run may = tt
+
+-- of runs without a halt
+pub orphans_agree : OrphansAgree
+orphans_agree objects t input run = ran_orphans objects t input (plain_ran objects t run)

@@ -5,14 +5,14 @@ use Rattle.cam_names.specs.declared.name.Name.{Name}
 use Rattle.cam_type.specs.declared.Op.{Op}
 use Rattle.cam_type.specs.declared.Op.TheVariants as ops
 use Rattle.cam_bytes.specs.declared.WireFault.{WireFault}
-use Rattle.cam_bytes.specs.Fields.{number, value, name, counts_above, object, op}
-use Rattle.cam_bytes.specs.Ranges.{IsBytes, IsFrom, IsValue, IsName, IsFamily, AreCounts, IsObject, IsOp}
-use Rattle.cam_bytes.specs.Reading.{byte_in, counts_above_at, number_in, value_at, name_at, family_at, object_at, op_at}
-use Rattle.cam_bytes.specs.Laws.{IsField, BytesAreFields, NumbersAreFields, ValuesAreFields, NamesAreFields, FamiliesAreFields, CountsAreFields, DependenciesAreFields, ObjectsAreFields, OperationsAreFields}
-use Rattle.cam_bytes.proofs.Steady.{Within, IsSteady, steady_byte_in, steady_number_in, steady_value, steady_name_in, steady_pairs_in, steady_object, steady_op}
-use Rattle.cam_bytes.proofs.Again.{Reads, reads_byte_in, reads_number_in, reads_value, reads_name, reads_family, reads_object, reads_op}
+use Rattle.cam_bytes.specs.Fields.{number, long, value, name, counts_above, object, op}
+use Rattle.cam_bytes.specs.Ranges.{IsBytes, IsFrom, IsLong, IsValue, IsName, IsFamily, AreCounts, IsObject, IsOp}
+use Rattle.cam_bytes.specs.Reading.{byte_in, counts_above_at, number_in, long_at, value_at, name_at, family_at, object_at, op_at}
+use Rattle.cam_bytes.specs.Laws.{IsField, BytesAreFields, NumbersAreFields, LongsAreFields, ValuesAreFields, NamesAreFields, FamiliesAreFields, CountsAreFields, DependenciesAreFields, ObjectsAreFields, OperationsAreFields}
+use Rattle.cam_bytes.proofs.Steady.{Within, IsSteady, steady_byte_in, steady_number_in, steady_long, steady_value, steady_name_in, steady_pairs_in, steady_object, steady_op}
+use Rattle.cam_bytes.proofs.Again.{Reads, reads_byte_in, reads_number_in, reads_long, reads_value, reads_name, reads_family, reads_object, reads_op}
 use Rattle.cam_bytes.proofs.AgainPairs.{reads_counts}
-use Rattle.cam_bytes.proofs.Taken.{took_byte_in, took_number_in, took_value, took_name, took_family, took_object}
+use Rattle.cam_bytes.proofs.Taken.{took_byte_in, took_number_in, took_long, took_value, took_name, took_family, took_object}
 use Rattle.cam_bytes.proofs.TakenPairs.{took_counts}
 use Rattle.cam_bytes.proofs.TakenOps.{took_op}
 
@@ -43,6 +43,12 @@ numbers_are_fields least most top =
     is_field ℕ (IsFrom least most) number (number_in least most) (steady_number_in least most) (λ n. lit< tt)
     (λ bytes at n rest r stands. reads_number_in bytes least most at n rest r top stands)
     (λ bytes at n behind are e. let t = took_number_in bytes least most at (n, behind) are e in (t.1, t.0))
+
+pub longs_are_fields : LongsAreFields
+longs_are_fields =
+    is_field ℕ IsLong long long_at steady_long (λ n. lit< tt)
+    (λ bytes at n rest r stands. reads_long bytes at n rest r stands)
+    (λ bytes at n behind are e. let t = took_long bytes at (n, behind) are e in (t.1, t.0))
 
 pub values_are_fields : ValuesAreFields
 values_are_fields =
@@ -84,6 +90,7 @@ some_op (ops.Swap v) = lit< tt
 some_op ops.Size = lit< tt
 some_op (ops.Put v) = lit< tt
 some_op ops.Take = lit< tt
+some_op (ops.Add v) = lit< tt
 
 pub operations_are_fields : OperationsAreFields
 operations_are_fields =

@@ -14,7 +14,7 @@ use Rattle.cam_event.specs.Inputs.{Receives}
 use Rattle.cam_event.specs.Rules.{did, got_reply}
 use Rattle.cam_event.specs.declared.Deed.TheVariants.{Got}
 use Rattle.cam_event.specs.ByPast.{event_of}
-use Rattle.cam_event.specs.ByKnowledge.{next_held}
+use Rattle.cam_event.specs.ByDeltas.{next_by_deltas}
 use Rattle.cam_script.specs.declared.Script.{Script}
 use Rattle.cam_cluster.specs.declared.delivery.Delivery.{Delivery}
 use Rattle.cam_cluster.specs.declared.node.OpenCall.{OpenCall}
@@ -47,14 +47,14 @@ late_ends script events kept delivery events' kept' K from upto more changed =
 
 -- An answer comes late where nothing awaits it:
 late_so : (script : Script) (t : List Event) (kept : Kept) (n : NodeState) (delivery : Delivery) (a : Name) (k : ℕ) (reply : Reply) → Keeps script t kept → (H : IsHere script t delivery (bodies.Answer a k reply)) → slice_get kept.nodes (delivery.to - 1) ≡ Some n
-    → awaits_kept k (found (1 + (delivery.to - 1)) n.actions a) ≡ false → next_held script.objects t (Receives delivery.letter) ≡ late_event delivery.to delivery.letter
+    → awaits_kept k (found (1 + (delivery.to - 1)) n.actions a) ≡ false → next_by_deltas script.objects t (Receives delivery.letter) ≡ late_event delivery.to delivery.letter
 late_so script t kept n delivery a k reply K H at not_awaited =
     late_next script t kept (delivery.to - 1) n delivery.letter H.mail a k reply K at H.sent H.to H.says not_awaited
     ∙ ap (λ s. late_event s delivery.letter) (there_so delivery.to H.from)
 
 -- where the reply shows nothing, which is no reply of the first path,
 pub late_unseen : (script : Script) (t : List Event) (delivery : Delivery) (a : Name) (k : ℕ) (reply : Reply) → IsHere script t delivery (bodies.Answer a k reply) → seen_of reply ≡ None
-    → next_held script.objects t (Receives delivery.letter) ≡ late_event delivery.to delivery.letter
+    → next_by_deltas script.objects t (Receives delivery.letter) ≡ late_event delivery.to delivery.letter
 late_unseen script t delivery a k reply H unseen = absurd (true≢false (sym (answer_here script t delivery a k reply H).0 ∙ by reply unseen))
   where
     by : (r : Reply) → seen_of r ≡ None → is_first_reply r ≡ false
@@ -65,7 +65,7 @@ late_unseen script t delivery a k reply H unseen = absurd (true≢false (sym (an
 
 -- where the node does not keep the action,
 pub late_not_kept : (script : Script) (t : List Event) (kept : Kept) (delivery : Delivery) (a : Name) (k : ℕ) (reply : Reply) → Keeps script t kept → IsHere script t delivery (bodies.Answer a k reply) → IsNotKept kept a
-    → next_held script.objects t (Receives delivery.letter) ≡ late_event delivery.to delivery.letter
+    → next_by_deltas script.objects t (Receives delivery.letter) ≡ late_event delivery.to delivery.letter
 late_not_kept script t kept delivery a k reply K H missing =
     let home = (answer_here script t delivery a k reply H).1 in
     let at = node_at script t kept delivery.to K H.from H.upto in
@@ -75,7 +75,7 @@ late_not_kept script t kept delivery a k reply K H missing =
 
 -- and where the action awaits another.
 pub late_not_awaited : (script : Script) (t : List Event) (kept : Kept) (delivery : Delivery) (a : Name) (k : ℕ) (reply : Reply) (at : Found) → Keeps script t kept → IsHere script t delivery (bodies.Answer a k reply) → IsKept kept a at
-    → is_open_number k at.action.open_call ≡ false → next_held script.objects t (Receives delivery.letter) ≡ late_event delivery.to delivery.letter
+    → is_open_number k at.action.open_call ≡ false → next_by_deltas script.objects t (Receives delivery.letter) ≡ late_event delivery.to delivery.letter
 late_not_awaited script t kept delivery a k reply at K H F other =
     let home = (answer_here script t delivery a k reply H).1 in
     let place : at.place ≡ delivery.to - 1 = F.home ∙ ap (λ s. s - 1) home in
@@ -111,7 +111,7 @@ awaited_count script t kept a at call K F open_so =
     deps_at_one script t kept at.place F.node a at.action call.site K F.there (kept_found script t kept a at K F) site.0 site.1
 
 pub got_next_so : (script : Script) (t : List Event) (kept : Kept) (delivery : Delivery) (a : Name) (reply : Reply) (at : Found) (call : OpenCall) (seen : Seen) → Keeps script t kept → IsAwaited script t kept delivery a reply at call seen
-    → next_held script.objects t (Receives delivery.letter) ≡ got_event delivery.to delivery.letter a call.number seen
+    → next_by_deltas script.objects t (Receives delivery.letter) ≡ got_event delivery.to delivery.letter a call.number seen
 got_next_so script t kept delivery a reply at call seen K W =
     let place = awaited_place script t kept delivery a reply at call seen W in
     got_next script t kept at.place W.kept_at.node delivery.letter W.here.mail a at.action call reply K W.kept_at.there W.here.sent (W.here.to ∙ there_so delivery.to W.here.from ∙ sym place) W.here.says (kept_found script t kept a at K W.kept_at) W.open_so

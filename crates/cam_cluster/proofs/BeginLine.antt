@@ -12,7 +12,8 @@ use Rattle.cam_event.specs.declared.Deed.TheVariants.{Create}
 use Rattle.cam_event.specs.Inputs.{Begins}
 use Rattle.cam_event.specs.Rules.{did, one}
 use Rattle.cam_event.specs.ByPast.{event_of}
-use Rattle.cam_event.specs.ByKnowledge.{of_node, carried_of, next_held}
+use Rattle.cam_event.specs.ByKnowledge.{of_node, carried_of}
+use Rattle.cam_event.specs.ByDeltas.{next_by_deltas}
 use Rattle.cam_event.specs.declared.Mark.{Mark}
 use Rattle.cam_event.specs.Readings.{by_knowledge}
 use Rattle.cam_script.specs.declared.Script.{Script}
@@ -48,7 +49,7 @@ next_name_is (m ∷ nodes) zero n at = ap (λ (z : NodeState). top z.number (len
 next_name_is (m ∷ nodes) (suc place) n at = next_name_is nodes place n at
 
 pub begin_next : (script : Script) (t : List Event) (kept : Kept) (place : ℕ) (n : NodeState) → Keeps script t kept → slice_get kept.nodes place ≡ Some n
-    → next_held script.objects t (Begins (1 + place)) ≡ begin_event_of (1 + place) (top (1 + place) (length n.actions + 1))
+    → next_by_deltas script.objects t (Begins (1 + place)) ≡ begin_event_of (1 + place) (top (1 + place) (length n.actions + 1))
 begin_next script t kept place n K at =
     let h = of_node (carried_of script.objects t) (1 + place) in
     let q = of_node_quiet (carried_of script.objects t) (1 + place) (carried_quiet script.objects script.nodes t K.events_first) in
@@ -121,7 +122,7 @@ pub begin_answers : (script : Script) (events : List Event) (kept : Kept) (node 
 begin_answers script events kept node events' kept' left line old done K from to b is one =
     let n = begun_at script events kept node events' kept' K from to b in
     let next =
-    ap (λ s. next_held script.objects (reverse events) (Begins s)) (sym n.3)
+    ap (λ s. next_by_deltas script.objects (reverse events) (Begins s)) (sym n.3)
     ∙ begin_next script (reverse events) kept (node - 1) n.0 K n.1
     ∙ ap (λ (z : Name). begin_event_of (1 + (node - 1)) z) (sym n.2) ∙ ap (λ s. begin_event_of s b.name) n.3 in
     let now =

@@ -15,7 +15,7 @@ use Rattle.cam_event.specs.declared.Want.TheVariants as wants
 use Rattle.cam_event.specs.Live.{site_of, is_fit}
 use Rattle.cam_event.specs.Inputs.{Requests}
 use Rattle.cam_event.specs.Refusals.{refusal}
-use Rattle.cam_event.specs.ByKnowledge.{next_held}
+use Rattle.cam_event.specs.ByDeltas.{next_by_deltas}
 use Rattle.cam_event.specs.Readings.{by_knowledge}
 use Rattle.cam_script.specs.declared.Script.{Script}
 use Rattle.cam_script.specs.declared.Act.TheVariants as acts
@@ -23,7 +23,7 @@ use Rattle.cam_cluster.specs.declared.LineDone.{LineDone}
 use Rattle.cam_cluster.specs.declared.parts.Found.{Found}
 use Rattle.cam_cluster.specs.declared.parts.Parts.{Parts}
 use Rattle.cam_cluster.specs.Contract.{ClusterState, IsDone, taken}
-use Rattle.cam_runs.specs.Requests.{Refused, variable, of_variable, unless_refused, led_asking, requested, take_request}
+use Rattle.cam_runs.specs.Requests.{Refused, of_variable, unless_refused, led_asking, requested, take_request}
 use Rattle.cam_cluster.specs.Lines.{call_event}
 use Rattle.cam_cluster.specs.FirstPath.{is_node}
 use Rattle.cam_cluster.specs.Nodes.{place_of, found, NodeState, node_state}
@@ -126,7 +126,7 @@ call_answers script events kept v a at x op events' kept' left line old done K b
         call_refused script (reverse events) kept at.place F.node a x op K F.there here (bound_so script.nodes kept.bound v a K.bound_here bound).1
         ∙ ap call_refusal (kept_found script (reverse events) kept a at K F) ∙ if_not (is_some at.action.open_call) (Some refusals.OpenCall) None idle
 
-    next : next_held script.objects (reverse events) (Requests (record { action = a; want = wants.Call x op })) ≡ call_event (home_node a) a at.action x op (site_of script.objects x)
+    next : next_by_deltas script.objects (reverse events) (Requests (record { action = a; want = wants.Call x op })) ≡ call_event (home_node a) a at.action x op (site_of script.objects x)
     next =
         call_next script (reverse events) kept at.place F.node a at.action x op K F.there here (kept_found script (reverse events) kept a at K F) (nat_le_is 1 (site_of script.objects x) site_range.0)
         (omega (arith, nat_le_is (site_of script.objects x) script.nodes site_range.1, K.is_script.eight_nodes))

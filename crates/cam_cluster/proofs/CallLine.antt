@@ -22,7 +22,8 @@ use Rattle.cam_event.specs.Inputs.{Requests}
 use Rattle.cam_event.specs.Refusals.{refusal, first_of_two, where_so}
 use Rattle.cam_event.specs.Rules.{send, request}
 use Rattle.cam_event.specs.ByPast.{event_of}
-use Rattle.cam_event.specs.ByKnowledge.{Carried, deeds_of, of_node, carried_of, next_held}
+use Rattle.cam_event.specs.ByKnowledge.{Carried, deeds_of, of_node, carried_of}
+use Rattle.cam_event.specs.ByDeltas.{next_by_deltas}
 use Rattle.cam_event.specs.Readings.{by_knowledge}
 use Rattle.cam_script.specs.declared.Script.{Script}
 use Rattle.cam_cluster.specs.declared.node.Action.{Action}
@@ -31,7 +32,7 @@ use Rattle.cam_cluster.specs.FirstPath.{is_node, is_first_sent, is_bound_here}
 use Rattle.cam_cluster.specs.Nodes.{place_of, found, opened, NodeState, StandsFor, is_at_node, is_small, is_few, changed_at}
 use Rattle.cam_cluster.specs.Keeps.{Kept, Keeps}
 use Rattle.cam_cluster.specs.Changes.{with_action, calling, after_call}
-use Rattle.cam_cluster.proofs.Quiet.{carried_quiet, of_node_quiet, sight_quiet, quiet_sight, next_quiet}
+use Rattle.cam_cluster.proofs.Quiet.{carried_quiet, of_node_quiet, sight_first, quiet_sight, next_quiet}
 use Rattle.cam_cluster.proofs.FirstRules.{call_rule, refusal_rule}
 use Rattle.cam_cluster.proofs.Standing.{kept_made, not_kept}
 use Rattle.cam_cluster.proofs.StandingCalls.{stands_called}
@@ -66,13 +67,13 @@ call_refused script t kept place n a x op K at here one =
     let h = of_node (carried_of script.objects t) (1 + place) in
     let q = of_node_quiet (carried_of script.objects t) (1 + place) (carried_quiet script.objects script.nodes t K.events_first) in
     ap (λ s. refusal ((by_knowledge script.objects).sight t s) a (wants.Call x op)) here
-    ∙ ap (λ g. refusal g a (wants.Call x op)) (sight_quiet script.objects (1 + place) h q)
+    ∙ ap (λ g. refusal g a (wants.Call x op)) (sight_first script.objects script.nodes t (1 + place) K.events_first)
     ∙ refusal_rule script.objects (1 + place) h a x op q one
     ∙ refused_by_kept script.objects h (1 + place) n a (found (1 + place) n.actions a) (stand_at script.objects t 1 kept.nodes place n K.stand at).1 refl
 
 pub call_next : (script : Script) (t : List Event) (kept : Kept) (place : ℕ) (n : NodeState) (a : Name) (action : Action) (x : ℕ) (op : Op) → Keeps script t kept → slice_get kept.nodes place ≡ Some n → home_node a ≡ 1 + place
     → found (1 + place) n.actions a ≡ Some action → 1 ≤ site_of script.objects x → site_of script.objects x ≤ 8
-    → next_held script.objects t (Requests (record { action = a; want = wants.Call x op })) ≡ call_event (1 + place) a action x op (site_of script.objects x)
+    → next_by_deltas script.objects t (Requests (record { action = a; want = wants.Call x op })) ≡ call_event (1 + place) a action x op (site_of script.objects x)
 call_next script t kept place n a action x op K at here is from to =
     let h = of_node (carried_of script.objects t) (1 + place) in
     let q = of_node_quiet (carried_of script.objects t) (1 + place) (carried_quiet script.objects script.nodes t K.events_first) in

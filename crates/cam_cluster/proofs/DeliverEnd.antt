@@ -13,7 +13,7 @@ use Rattle.cam_event.specs.Inputs.{Receives}
 use Rattle.cam_event.specs.Live.{is_fit, start_of, replay}
 use Rattle.cam_event.specs.Rules.{again_or, on_object}
 use Rattle.cam_event.specs.ByPast.{event_of}
-use Rattle.cam_event.specs.ByKnowledge.{next_held}
+use Rattle.cam_event.specs.ByDeltas.{next_by_deltas}
 use Rattle.cam_script.specs.declared.Script.{Script}
 use Rattle.cam_cluster.specs.declared.delivery.Delivery.{Delivery}
 use Rattle.cam_cluster.specs.declared.site.Asked.{Asked}
@@ -33,7 +33,7 @@ use Rattle.cam_cluster.proofs.Ends.{keeps_now}
 
 -- A call that was served comes again.
 pub again_next : (script : Script) (t : List Event) (kept : Kept) (n : NodeState) (delivery : Delivery) (asked : Asked) (reply : Reply) → Keeps script t kept → IsCallHere script t delivery asked → slice_get kept.nodes (delivery.to - 1) ≡ Some n
-    → replied n.served asked.action asked.number ≡ Some reply → next_held script.objects t (Receives delivery.letter) ≡ again_event delivery.to delivery.letter asked.action asked.number reply
+    → replied n.served asked.action asked.number ≡ Some reply → next_by_deltas script.objects t (Receives delivery.letter) ≡ again_event delivery.to delivery.letter asked.action asked.number reply
 again_next script t kept n delivery asked reply K H at again =
     call_comes_next script t kept (delivery.to - 1) n delivery.letter H.here.mail asked.action asked.number asked.object asked.op H.counts K at H.here.sent H.here.to H.here.says
     ∙ ap (λ r. event_of (1 + (delivery.to - 1)) (Some delivery.letter) [] (again_or asked.action asked.number r (answered script.objects n.served asked.action asked.number asked.object asked.op (holder_of n.served asked.action asked.object asked.op)))) again
@@ -61,7 +61,7 @@ answered_so script n s id asked (Some u) = refl
 answered_so script n s id asked None = refl
 
 pub served_next : (script : Script) (t : List Event) (kept : Kept) (n : NodeState) (delivery : Delivery) (asked : Asked) (reply : Reply) → Keeps script t kept → IsCallHere script t delivery asked → slice_get kept.nodes (delivery.to - 1) ≡ Some n
-    → IsServing script n asked reply → next_held script.objects t (Receives delivery.letter) ≡ served_event delivery.to delivery.letter asked.action asked.number (deeds_of asked reply) reply
+    → IsServing script n asked reply → next_by_deltas script.objects t (Receives delivery.letter) ≡ served_event delivery.to delivery.letter asked.action asked.number (deeds_of asked reply) reply
 served_next script t kept n delivery asked reply K H at S =
     call_comes_next script t kept (delivery.to - 1) n delivery.letter H.here.mail asked.action asked.number asked.object asked.op H.counts K at H.here.sent H.here.to H.here.says
     ∙ ap (λ r. event_of (1 + (delivery.to - 1)) (Some delivery.letter) [] (again_or asked.action asked.number r (answered script.objects n.served asked.action asked.number asked.object asked.op (holder_of n.served asked.action asked.object asked.op)))) S.new

@@ -16,7 +16,8 @@ use Rattle.cam_event.specs.Live.{site_of}
 use Rattle.cam_event.specs.Inputs.{Mail, Receives, letter_at}
 use Rattle.cam_event.specs.Rules.{arrives, again_or, is_number, got_reply, nothing_but, rule}
 use Rattle.cam_event.specs.ByPast.{event_of}
-use Rattle.cam_event.specs.ByKnowledge.{Carried, deeds_of, of_node, carried_of, next_held}
+use Rattle.cam_event.specs.ByKnowledge.{Carried, deeds_of, of_node, carried_of}
+use Rattle.cam_event.specs.ByDeltas.{next_by_deltas}
 use Rattle.cam_script.specs.declared.Script.{Script}
 use Rattle.cam_cluster.specs.declared.node.OpenCall.{OpenCall}
 use Rattle.cam_cluster.specs.declared.node.Action.{Action}
@@ -33,7 +34,7 @@ use Rattle.cam_cluster.proofs.Stand.{stand_at}
 
 -- the event of a delivery is what the letter's arrival gives
 receive_next : (script : Script) (t : List Event) (kept : Kept) (id : LetterId) (mail : Mail) → Keeps script t kept → letter_at t id ≡ Some mail
-    → next_held script.objects t (Receives id) ≡ event_of mail.to (Some id) [] (arrives script.objects (quiet_sight script.objects mail.to (of_node (carried_of script.objects t) mail.to)) mail.from mail.body)
+    → next_by_deltas script.objects t (Receives id) ≡ event_of mail.to (Some id) [] (arrives script.objects (quiet_sight script.objects mail.to (of_node (carried_of script.objects t) mail.to)) mail.from mail.body)
 receive_next script t kept id mail K at =
     next_quiet script.objects script.nodes t (Receives id) K.events_first
     ∙ ap (λ o. event_of (option_map_or (λ (m : Mail). m.to) o 0) (Some id) [] (rule script.objects (quiet_sight script.objects (option_map_or (λ (m : Mail). m.to) o 0) (of_node (carried_of script.objects t) (option_map_or (λ (m : Mail). m.to) o 0))) o (Receives id))) at
@@ -41,7 +42,7 @@ receive_next script t kept id mail K at =
 -- A call comes.
 pub call_comes_next : (script : Script) (t : List Event) (kept : Kept) (place : ℕ) (n : NodeState) (id : LetterId) (mail : Mail) (a : Name) (k x : ℕ) (op : Op) (counts : List ℕ) → Keeps script t kept → slice_get kept.nodes place ≡ Some n
     → letter_at t id ≡ Some mail → mail.to ≡ 1 + place → mail.body ≡ bodies.Call a k x op 1 counts
-    → next_held script.objects t (Receives id) ≡ event_of (1 + place) (Some id) [] (again_or a k (replied n.served a k) (answered script.objects n.served a k x op (holder_of n.served a x op)))
+    → next_by_deltas script.objects t (Receives id) ≡ event_of (1 + place) (Some id) [] (again_or a k (replied n.served a k) (answered script.objects n.served a k x op (holder_of n.served a x op)))
 call_comes_next script t kept place n id mail a k x op counts K at sent to says =
     let h = of_node (carried_of script.objects t) (1 + place) in
     let q = of_node_quiet (carried_of script.objects t) (1 + place) (carried_quiet script.objects script.nodes t K.events_first) in
@@ -70,7 +71,7 @@ awaited_so objects h s n a k (Some action) S is =
 -- An answer comes late.
 pub late_next : (script : Script) (t : List Event) (kept : Kept) (place : ℕ) (n : NodeState) (id : LetterId) (mail : Mail) (a : Name) (k : ℕ) (reply : Reply) → Keeps script t kept → slice_get kept.nodes place ≡ Some n
     → letter_at t id ≡ Some mail → mail.to ≡ 1 + place → mail.body ≡ bodies.Answer a k reply → awaits_kept k (found (1 + place) n.actions a) ≡ false
-    → next_held script.objects t (Receives id) ≡ event_of (1 + place) (Some id) [] (nothing_but notes.Late)
+    → next_by_deltas script.objects t (Receives id) ≡ event_of (1 + place) (Some id) [] (nothing_but notes.Late)
 late_next script t kept place n id mail a k reply K at sent to says no_wait =
     let h = of_node (carried_of script.objects t) (1 + place) in
     let S = (stand_at script.objects t 1 kept.nodes place n K.stand at).1 in
@@ -103,7 +104,7 @@ open_so objects h a action call is waits = by (open_call_in (deeds_of h) a) refl
 -- The action gets its answer.
 pub got_next : (script : Script) (t : List Event) (kept : Kept) (place : ℕ) (n : NodeState) (id : LetterId) (mail : Mail) (a : Name) (action : Action) (call : OpenCall) (reply : Reply) → Keeps script t kept → slice_get kept.nodes place ≡ Some n
     → letter_at t id ≡ Some mail → mail.to ≡ 1 + place → mail.body ≡ bodies.Answer a call.number reply → found (1 + place) n.actions a ≡ Some action → action.open_call ≡ Some call
-    → next_held script.objects t (Receives id) ≡ event_of (1 + place) (Some id) [] (got_reply a call.number reply)
+    → next_by_deltas script.objects t (Receives id) ≡ event_of (1 + place) (Some id) [] (got_reply a call.number reply)
 got_next script t kept place n id mail a action call reply K at sent to says is waits =
     let h = of_node (carried_of script.objects t) (1 + place) in
     let q = of_node_quiet (carried_of script.objects t) (1 + place) (carried_quiet script.objects script.nodes t K.events_first) in

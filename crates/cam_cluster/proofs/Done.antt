@@ -12,7 +12,7 @@ use Rattle.cam_event.specs.declared.Mark.TheVariants as marks
 use Rattle.cam_event.specs.declared.Want.TheVariants as wants
 use Rattle.cam_event.specs.Inputs.{Begins, Requests, Receives}
 use Rattle.cam_event.specs.Refusals.{refusal}
-use Rattle.cam_event.specs.ByKnowledge.{next_held}
+use Rattle.cam_event.specs.ByDeltas.{next_by_deltas}
 use Rattle.cam_event.specs.Readings.{by_knowledge}
 use Rattle.cam_script.specs.declared.Script.{Script}
 use Rattle.cam_script.specs.declared.Step.{Step}
@@ -33,7 +33,7 @@ pub seen_more : (script : Script) (events : List Event) (e : Event) (left : List
 seen_more script events e left kept = ap (λ (t : List Event). record { script = script; running = record { trace = t; marks = left; delivered = reverse kept.delivered; lost = []; bound = kept.bound; bodies = [] } }) (reverse_more events e)
 
 -- a top action was begun
-pub begin_done : (old new : ClusterState) (line node : ℕ) (e : Event) (a : Name) → next_held old.script.objects old.running.trace (Begins node) ≡ e → created_in e.deeds ≡ Some a
+pub begin_done : (old new : ClusterState) (line node : ℕ) (e : Event) (a : Name) → next_by_deltas old.script.objects old.running.trace (Begins node) ≡ e → created_in e.deeds ≡ Some a
     → new ≡ record old { running = record old.running { trace = e ∷ old.running.trace; bound = old.running.bound ++ Some a ∷ [] } }
     → IsDone by_knowledge (record { line = line; act = acts.Begin node }) old new (record { events = 1; halted = None; bad = None })
 begin_done old new line node e a next creates is = record {
@@ -48,7 +48,7 @@ begin_done old new line node e a next creates is = record {
 
 -- a call was made
 pub call_done : (old new : ClusterState) (line v x : ℕ) (op : Op) (a : Name) (e : Event) → variable old.running v ≡ Some a → refusal ((by_knowledge old.script.objects).sight old.running.trace (home_node a)) a (wants.Call x op) ≡ None
-    → next_held old.script.objects old.running.trace (Requests (record { action = a; want = wants.Call x op })) ≡ e → asked_in e.deeds ≡ None
+    → next_by_deltas old.script.objects old.running.trace (Requests (record { action = a; want = wants.Call x op })) ≡ e → asked_in e.deeds ≡ None
     → new ≡ record old { running = record old.running { trace = e ∷ old.running.trace; bound = old.running.bound ++ None ∷ [] } }
     → IsDone by_knowledge (record { line = line; act = acts.Call v x op }) old new (record { events = 1; halted = None; bad = None })
 call_done old new line v x op a e stands_for allowed next asks is = record {
@@ -68,7 +68,7 @@ call_done old new line v x op a e stands_for allowed next asks is = record {
         ∙ ap (λ o. unless_refused o (led_asking (requested (by_knowledge old.script.objects) old.running a (wants.Call x op)))) allowed
 
 -- a letter was delivered
-pub deliver_done : (old new : ClusterState) (line k : ℕ) (id : LetterId) (e : Event) → letter_of old.running k ≡ Some id → next_held old.script.objects old.running.trace (Receives id) ≡ e
+pub deliver_done : (old new : ClusterState) (line k : ℕ) (id : LetterId) (e : Event) → letter_of old.running k ≡ Some id → next_by_deltas old.script.objects old.running.trace (Receives id) ≡ e
     → new ≡ record old { running = record old.running { trace = e ∷ old.running.trace; delivered = k ∷ old.running.delivered; bound = old.running.bound ++ None ∷ [] } }
     → IsDone by_knowledge (record { line = line; act = acts.Deliver k }) old new (record { events = 1; halted = None; bad = None })
 deliver_done old new line k id e there next is = record {

@@ -1,6 +1,6 @@
 ghost use Rattle.std.specs.Prelude.{◌≡◌, ◌≤◌, Some, option_map};
 ghost use Rattle.cam_event.specs.Inputs.{Receives, letter_at};
-ghost use Rattle.cam_event.specs.ByKnowledge.{next_held};
+ghost use Rattle.cam_event.specs.ByDeltas.{next_by_deltas};
 ghost use Rattle.cam_event.specs.Readings.{by_knowledge};
 ghost use Rattle.cam_script.specs.declared.Act.TheVariants as acts;
 ghost use Rattle.cam_cluster.specs.Contract.{IsLine};
@@ -140,7 +140,7 @@ impl<'a> Engine<'a> {
     fn late(&mut self, delivery: &Delivery) -> Result<LineDone, LineFault>
         requires numbered { letter_of self.old.running delivery.now.number ≡ Some delivery.now.letter }
         requires node { (1 ≤ delivery.now.to) × (delivery.now.to ≤ self.old.script.nodes) }
-        requires late { next_held self.old.script.objects self.old.running.trace (Receives delivery.now.letter) ≡ late_event delivery.now.to delivery.now.letter }
+        requires late { next_by_deltas self.old.script.objects self.old.running.trace (Receives delivery.now.letter) ≡ late_event delivery.now.to delivery.now.letter }
         ensures { IsLine by_knowledge (record { line = delivery.now.line; act = acts.Deliver delivery.now.number }) self.old self.new result }
     {
         let place = delivery.to as usize - 1;

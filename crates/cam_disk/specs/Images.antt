@@ -3,7 +3,7 @@ use Rattle.std.specs.Prelude.{ℕ, ◌≡◌, ◌+◌, ◌-◌, ◌≤◌, Bool,
 use Rattle.std.proofs.Common.{arith, sym, ap, refl, subst, length-append, length-drop, append_assoc, ◌⊎◌, inl, inr, leb-true}
 use Rattle.std.proofs.lemmas.Bool.{cases_lt}
 use Rattle.std.proofs.lemmas.List.{length-take-le, take_at, drop_at, take_all, take-append-le, reverse-append}
-use Rattle.cam_disk.specs.Disk.{Torn, Cut, Elapses}
+use Rattle.cam_disk.specs.Disk.{Torn, Cut, Elapses, Follows, Same}
 use Rattle.cam_disk.specs.declared.call.Call.{Call}
 use Rattle.cam_disk.specs.declared.call.Call.TheVariants.{Write, Resize, Sync}
 
@@ -38,6 +38,18 @@ pub record LeftSince (calls : List Call) (t : ℕ) (c : List ℕ) : Type 0 where
   pub from : t ≤ made
   pub to : made ≤ length calls
   pub image : IsImage (reverse (take made calls)) c
+
+-- what a crash after these calls, the oldest first, may leave
+abbrev pub MayLeave : List Call → List ℕ → Type 0
+MayLeave calls c = IsImage (reverse calls) c
+
+-- time goes on, from the moment after the one list of calls to that after the other
+abbrev pub Onward : List Call → List Call → Type 0
+Onward old new = Elapses (length old) (length new) (LeftSince old) (LeftSince new) (MayLeave new)
+
+-- neither what is read nor what a crash may leave has changed
+abbrev pub Unchanged : List ℕ → List ℕ → List Call → List Call → Type 0
+Unchanged held now old new = (now ≡ held) × Follows Same (MayLeave old) (MayLeave new)
 
 Torn-written : (held bytes : List ℕ) (at : ℕ) → at ≤ length held → Torn at (length bytes) held (written held at bytes)
 Torn-written held bytes at within =

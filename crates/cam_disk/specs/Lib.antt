@@ -1,3 +1,4 @@
 pub mod Disk
 pub mod Images
 pub mod Host
+pub mod Stop

@@ -1,6 +1,7 @@
-ghost use Rattle.std.specs.Prelude.{◌≡◌, ◌≤◌, ◌+◌, ◌^◌, ◌<◌, Bool, List, ℕ, length, take, IsTrue, IsFalse, IfOk, OnOk, IsErrOf, Result, Err};
+ghost use Rattle.std.specs.Prelude.{◌≡◌, ◌≤◌, ◌+◌, ◌^◌, ◌<◌, Bool, List, ℕ, length, take, IsTrue, IsFalse, IfOk, OnOk, IsErrOf, Result, Err, Option, None};
 ghost use Rattle.cam_base.specs.Causes.{Rose};
 ghost use Rattle.cam_disk.specs.declared.error.DiskError.TheVariants.{Failed, NoMemory};
+ghost use Rattle.cam_disk.specs.Stop.{Stands, Stops};
 ghost use Rattle.cam_disk.specs.Disk.{Only, Follows, Torn, Cut, Same, Holds, Elapses, FailsWithCause, Reads};
 
 use crate::error::DiskError;
@@ -28,6 +29,15 @@ pub trait Disk: Drop {
     /// How often the disk has failed.
     ghost faults: { Self → ℕ };
 
+    /// How many calls it still does. None: no bound.
+    ghost passes: { Self → Option ℕ } = { λ _. None };
+
+    /// How many of its faults are its own, where it stands over another disk: those of calls not passed on.
+    ghost own_faults: { Self → ℕ } = { λ _. 0 };
+
+    /// Whether the disk within is the same as before, where it stands over another disk.
+    ghost same_within: { Self → Self → Type 0 } = { λ _ _. Unit {0} };
+
     /// Copies the bytes that stand from `at` on, as many as there are and fit, and answers their number.
     /// It answers 0 at and past the end.
     fn read(&mut self, at: u64, into: &mut [u8]) -> Result<usize, DiskError>
@@ -37,6 +47,8 @@ pub trait Disk: Drop {
         ensures seen { IsTrue (tells self.old) → seen self.new ≡ seen self.old }
         ensures crash { IsTrue (tells self.old) → Follows Same (may_leave self.old) (may_leave self.new) }
         ensures time { IsTrue (tells self.old) → Elapses (moment self.old) (moment self.new) (left_since self.old) (left_since self.new) (may_leave self.new) }
+        ensures stops { Stops (passes self.old) (passes self.new) (own_faults self.old) (own_faults self.new)
+            (same_within self.old self.new × Stands (moment self.old) (moment self.new) (left_since self.old) (left_since self.new)) result }
         ensures cause { FailsWithCause (faults self.old) (faults self.new) result };
 
     /// Writes over what is there, and past the end. A write that would reach past 2^62 bytes fails. Where
@@ -49,6 +61,8 @@ pub trait Disk: Drop {
         ensures tells { tells self.new ≡ tells self.old }
         ensures crash { IsTrue (tells self.old) → Follows (Torn at (length bytes.now)) (may_leave self.old) (may_leave self.new) }
         ensures time { IsTrue (tells self.old) → Elapses (moment self.old) (moment self.new) (left_since self.old) (left_since self.new) (may_leave self.new) }
+        ensures stops { Stops (passes self.old) (passes self.new) (own_faults self.old) (own_faults self.new)
+            (same_within self.old self.new × Stands (moment self.old) (moment self.new) (left_since self.old) (left_since self.new)) result }
         ensures cause { FailsWithCause (faults self.old) (faults self.new) result };
 
     /// Cuts the disk to a size, in bytes, that it has at least. Where memory runs out nothing changes.
@@ -59,6 +73,8 @@ pub trait Disk: Drop {
         ensures tells { tells self.new ≡ tells self.old }
         ensures crash { IsTrue (tells self.old) → Follows (Cut size) (may_leave self.old) (may_leave self.new) }
         ensures time { IsTrue (tells self.old) → Elapses (moment self.old) (moment self.new) (left_since self.old) (left_since self.new) (may_leave self.new) }
+        ensures stops { Stops (passes self.old) (passes self.new) (own_faults self.old) (own_faults self.new)
+            (same_within self.old self.new × Stands (moment self.old) (moment self.new) (left_since self.old) (left_since self.new)) result }
         ensures cause { FailsWithCause (faults self.old) (faults self.new) result };
 
     /// At `Ok` a crash leaves what a read gives.
@@ -68,11 +84,15 @@ pub trait Disk: Drop {
         ensures seen { IsTrue (tells self.old) → seen self.new ≡ seen self.old }
         ensures crash { IsTrue (tells self.old) → Follows Same (may_leave self.old) (may_leave self.new) }
         ensures time { IsTrue (tells self.old) → Elapses (moment self.old) (moment self.new) (left_since self.old) (left_since self.new) (may_leave self.new) }
+        ensures stops { Stops (passes self.old) (passes self.new) (own_faults self.old) (own_faults self.new)
+            (same_within self.old self.new × Stands (moment self.old) (moment self.new) (left_since self.old) (left_since self.new)) result }
         ensures cause { FailsWithCause (faults self.old) (faults self.new) result };
 
     /// Says that the disk gave bytes that it cannot have held, which counts as a fault. It is for disks
     /// that do not tell what they hold; a disk that does tell does nothing here.
     fn spoil(&mut self)
+        ensures passes { passes self.new ≡ passes self.old }
+        ensures own_faults { own_faults self.new ≡ own_faults self.old }
         ensures rose { IsFalse (tells self.old) → Rose (faults self.old) (faults self.new) }
         ensures later { faults self.old ≤ faults self.new }
         ensures tells { tells self.new ≡ tells self.old }

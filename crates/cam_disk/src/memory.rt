@@ -1,8 +1,8 @@
-ghost use Rattle.std.specs.Prelude.{◌≡◌, ◌+◌, ◌≤◌, ◌^◌, true, [], ◌∷◌, ◌++◌, length, take, reverse, IsTrue, OnOk, OnErr};
+ghost use Rattle.std.specs.Prelude.{◌<◌, IfOk, IfErr, IsErrOf, Err, ◌≡◌, ◌+◌, ◌≤◌, ◌^◌, true, [], ◌∷◌, ◌++◌, length, take, reverse, IsTrue, OnOk, OnErr};
 ghost use Rattle.cam_disk.specs.declared.call.Call.TheVariants.{Write, Resize, Sync};
-ghost use Rattle.cam_disk.specs.declared.error.DiskError.TheVariants.{NoMemory};
-ghost use Rattle.cam_disk.specs.Disk.{Only};
-ghost use Rattle.cam_disk.specs.Images.{held_after, is_record, written, IsImage, LeftSince, IsImage-held, LeftSince-now, LeftSince-only};
+ghost use Rattle.cam_disk.specs.declared.error.DiskError.TheVariants.{NoMemory, Failed};
+ghost use Rattle.cam_disk.specs.Disk.{Only, Follows, Torn, Cut, Same, Holds, FailsWithCause, Reads};
+ghost use Rattle.cam_disk.specs.Images.{held_after, is_record, written, IsImage, MayLeave, Onward, Unchanged, LeftSince, IsImage-held, LeftSince-now, LeftSince-only};
 ghost use Rattle.std.proofs.Common.{subst, sym};
 
 use crate::call::Call;
@@ -71,14 +71,31 @@ impl Disk for MemoryDisk {
 
     ghost only_now = { λ d c h left. LeftSince-only d.calls.items c left };
 
-    fn read(&mut self, at: u64, into: &mut [u8]) -> Result<usize, DiskError> {
+    fn read(&mut self, at: u64, into: &mut [u8]) -> Result<usize, DiskError>
+        ensures count { IfOk result (λ n. n ≤ length into.new) }
+        ensures bytes { IfOk result (λ n. Reads self.old.bytes.items at (length into.new) n (take n into.new)) }
+        ensures done { OnErr result ⊥ }
+        ensures same { self.new ≡ self.old }
+    {
         let held = &self.bytes[(at.min(self.bytes.len() as u64)) as usize..];
         let count = into.len().min(held.len());
         into[..count].copy_from_slice(&held[..count]);
         Ok(count)
     }
 
-    fn write_at(&mut self, at: u64, bytes: &[u8]) -> Result<(), DiskError> {
+    fn write_at(&mut self, at: u64, bytes: &[u8]) -> Result<(), DiskError>
+        requires { at ≤ length self.old.bytes.items }
+        ensures written { OnOk result (Holds self.old.bytes.items at bytes.now self.new.bytes.items) }
+        ensures no_memory { IsErrOf result NoMemory
+            → Unchanged self.old.bytes.items self.new.bytes.items self.old.calls.items self.new.calls.items }
+        ensures limit { 2 ^ 62 < at + length bytes.now → result ≡ Err Failed }
+        ensures crash { Follows (Torn at (length bytes.now))
+            (MayLeave self.old.calls.items) (MayLeave self.new.calls.items) }
+        ensures time { Onward self.old.calls.items self.new.calls.items }
+        ensures cause { FailsWithCause self.old.faults self.new.faults result }
+        ensures steady { at + length bytes.now ≤ 2 ^ 62 → self.new.faults ≡ self.old.faults }
+        ensures fails { IsErrOf result Failed → 2 ^ 62 < at + length bytes.now }
+    {
         if !fits(at, bytes) {
             self.faults = self.faults.saturating_add(1);
             return Err(DiskError::Failed);
@@ -93,16 +110,36 @@ impl Disk for MemoryDisk {
         Ok(())
     }
 
-    fn cut(&mut self, size: u64) -> Result<(), DiskError> {
+    fn cut(&mut self, size: u64) -> Result<(), DiskError>
+        requires { size ≤ length self.old.bytes.items }
+        ensures cut { OnOk result (self.new.bytes.items ≡ take size self.old.bytes.items) }
+        ensures no_memory { IsErrOf result NoMemory
+            → Unchanged self.old.bytes.items self.new.bytes.items self.old.calls.items self.new.calls.items }
+        ensures crash { Follows (Cut size) (MayLeave self.old.calls.items) (MayLeave self.new.calls.items) }
+        ensures time { Onward self.old.calls.items self.new.calls.items }
+        ensures cause { FailsWithCause self.old.faults self.new.faults result }
+        ensures steady { self.new.faults ≡ self.old.faults }
+        ensures fails { IfErr result (λ error. error ≡ NoMemory) }
+    {
         self.calls.push(Call::Resize { size })?;
         self.bytes.truncate(size as usize);
         Ok(())
     }
 
-    fn sync(&mut self) -> Result<(), DiskError> {
+    fn sync(&mut self) -> Result<(), DiskError>
+        ensures durable { OnOk result (Only self.old.bytes.items (MayLeave self.new.calls.items)) }
+        ensures seen { self.new.bytes.items ≡ self.old.bytes.items }
+        ensures crash { Follows Same (MayLeave self.old.calls.items) (MayLeave self.new.calls.items) }
+        ensures time { Onward self.old.calls.items self.new.calls.items }
+        ensures cause { FailsWithCause self.old.faults self.new.faults result }
+        ensures steady { self.new.faults ≡ self.old.faults }
+        ensures fails { IfErr result (λ error. error ≡ NoMemory) }
+    {
         self.calls.push(Call::Sync)?;
         Ok(())
     }
 
-    fn spoil(&mut self) {}
+    fn spoil(&mut self)
+        ensures same { self.new ≡ self.old }
+    {}
 }

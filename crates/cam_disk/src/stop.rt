@@ -1,5 +1,7 @@
-ghost use Rattle.std.specs.Prelude.{◌≡◌, ℕ, ◌+◌, ◌-◌, ◌^◌, ◌≤◌, min, Some, None, Option};
-ghost use Rattle.cam_disk.specs.Disk.{SameOutcomes};
+ghost use Rattle.std.specs.Prelude.{◌≡◌, ℕ, ◌+◌, ◌-◌, ◌^◌, ◌≤◌, min, Some, None, Option, OnOk, OnErr, IfErr};
+ghost use Rattle.cam_disk.specs.declared.error.DiskError.TheVariants.{Failed};
+ghost use Rattle.cam_disk.specs.Stop.{IsPassed};
+ghost use Rattle.cam_disk.specs.Disk.{SameOutcomes, FailsWithCause};
 
 use crate::disk::Disk;
 use crate::error::DiskError;
@@ -22,6 +24,7 @@ impl<D: Disk> StopDisk<D> {
         ensures left_since { (t : ℕ) → SameOutcomes (⟦<StopDisk<D> as Disk>⟧.left_since result t) (D.left_since inner t) }
         ensures moment { ⟦<StopDisk<D> as Disk>⟧.moment result ≡ D.moment inner }
         ensures faults { ⟦<StopDisk<D> as Disk>⟧.faults result ≡ D.faults inner }
+        ensures passes { result ≡ record { inner = inner; passes = None; own_faults = 0 } }
     {
         StopDisk {
             inner,
@@ -38,6 +41,7 @@ impl<D: Disk> StopDisk<D> {
         ensures left_since { (t : ℕ) → SameOutcomes (D.left_since result t) (⟦<StopDisk<D> as Disk>⟧.left_since self t) }
         ensures moment { D.moment result ≡ ⟦<StopDisk<D> as Disk>⟧.moment self }
         ensures faults { D.faults result ≤ ⟦<StopDisk<D> as Disk>⟧.faults self }
+        ensures inner { result ≡ self.inner }
     {
         self.inner
     }
@@ -50,6 +54,7 @@ impl<D: Disk> StopDisk<D> {
         ensures left_since { (t : ℕ) → SameOutcomes (⟦<StopDisk<D> as Disk>⟧.left_since self.new t) (⟦<StopDisk<D> as Disk>⟧.left_since self.old t) }
         ensures moment { ⟦<StopDisk<D> as Disk>⟧.moment self.new ≡ ⟦<StopDisk<D> as Disk>⟧.moment self.old }
         ensures faults { ⟦<StopDisk<D> as Disk>⟧.faults self.new ≡ ⟦<StopDisk<D> as Disk>⟧.faults self.old }
+        ensures passes { self.new ≡ record self.old { passes = Some calls } }
     {
         self.passes = Some(calls);
     }
@@ -62,19 +67,31 @@ impl<D: Disk> StopDisk<D> {
         ensures left_since { (t : ℕ) → SameOutcomes (⟦<StopDisk<D> as Disk>⟧.left_since self.new t) (⟦<StopDisk<D> as Disk>⟧.left_since self.old t) }
         ensures moment { ⟦<StopDisk<D> as Disk>⟧.moment self.new ≡ ⟦<StopDisk<D> as Disk>⟧.moment self.old }
         ensures faults { ⟦<StopDisk<D> as Disk>⟧.faults self.new ≡ ⟦<StopDisk<D> as Disk>⟧.faults self.old }
+        ensures passes { self.new ≡ record self.old { passes = None } }
     {
         self.passes = None;
     }
-}
-
-/// Counts a call, and answers whether it is passed on.
-fn passes(left: &mut Option<u32>) -> bool {
-    match left {
-        None => true,
-        Some(0) => false,
-        Some(calls) => {
-            *calls -= 1;
-            true
+    /// Counts a call, and fails it where none is left.
+    fn pass(&mut self) -> Result<(), DiskError>
+        ensures same { self.new.inner ≡ self.old.inner }
+        ensures passed { OnOk result (IsPassed self.old.passes self.new.passes
+            × (self.new.own_faults ≡ self.old.own_faults)) }
+        ensures stopped { OnErr result ((self.old.passes ≡ Some 0) × (self.new.passes ≡ Some 0)) }
+        ensures counted { OnErr result (self.new.own_faults ≡ min (self.old.own_faults + 1) (2 ^ 64 - 1)) }
+        ensures failed { IfErr result (λ error. error ≡ Failed) }
+        ensures cause { FailsWithCause (self.old.own_faults + D.faults self.old.inner)
+            (self.new.own_faults + D.faults self.new.inner) result }
+    {
+        match &mut self.passes {
+            None => Ok(()),
+            Some(0) => {
+                self.own_faults = self.own_faults.saturating_add(1);
+                Err(DiskError::Failed)
+            }
+            Some(calls) => {
+                *calls -= 1;
+                Ok(())
+            }
         }
     }
 }
@@ -92,41 +109,39 @@ impl<D: Disk> Disk for StopDisk<D> {
 
     ghost faults = { λ s. s.own_faults + D.faults s.inner };
 
+    ghost passes = { λ s. s.passes };
+
+    ghost own_faults = { λ s. s.own_faults };
+
+    ghost same_within = { λ old new. new.inner ≡ old.inner };
+
     ghost kept = { λ s. D.kept s.inner };
 
     ghost counts_now = { λ s. D.counts_now s.inner };
 
     ghost only_now = { λ s. D.only_now s.inner };
 
+    #[tactic(auto, using(crate::specs::Stop::stops_done, crate::specs::Stop::stops_not_done))]
     fn read(&mut self, at: u64, into: &mut [u8]) -> Result<usize, DiskError> {
-        if !passes(&mut self.passes) {
-            self.own_faults = self.own_faults.saturating_add(1);
-            return Err(DiskError::Failed);
-        }
+        self.pass()?;
         self.inner.read(at, into)
     }
 
+    #[tactic(auto, using(crate::specs::Stop::stops_done, crate::specs::Stop::stops_not_done))]
     fn write_at(&mut self, at: u64, bytes: &[u8]) -> Result<(), DiskError> {
-        if !passes(&mut self.passes) {
-            self.own_faults = self.own_faults.saturating_add(1);
-            return Err(DiskError::Failed);
-        }
+        self.pass()?;
         self.inner.write_at(at, bytes)
     }
 
+    #[tactic(auto, using(crate::specs::Stop::stops_done, crate::specs::Stop::stops_not_done))]
     fn cut(&mut self, size: u64) -> Result<(), DiskError> {
-        if !passes(&mut self.passes) {
-            self.own_faults = self.own_faults.saturating_add(1);
-            return Err(DiskError::Failed);
-        }
+        self.pass()?;
         self.inner.cut(size)
     }
 
+    #[tactic(auto, using(crate::specs::Stop::stops_done, crate::specs::Stop::stops_not_done))]
     fn sync(&mut self) -> Result<(), DiskError> {
-        if !passes(&mut self.passes) {
-            self.own_faults = self.own_faults.saturating_add(1);
-            return Err(DiskError::Failed);
-        }
+        self.pass()?;
         self.inner.sync()
     }
 

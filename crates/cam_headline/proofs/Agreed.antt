@@ -5,6 +5,7 @@ use Rattle.std.proofs.lemmas.Bool.{false_from_ne_true}
 use Rattle.cam_names.specs.declared.name.Name.{Name}
 use Rattle.cam_type.specs.declared.ObjectDecl.{ObjectDecl}
 use Rattle.cam_know.specs.Known.{knows_abort, knows_commit, is_abort_of, is_commit_of}
+use Rattle.cam_know.proofs.OrphanBySet.{any_same}
 use Rattle.cam_event.specs.declared.Event.{Event}
 use Rattle.cam_event.specs.declared.Deed.{Deed}
 use Rattle.cam_event.specs.declared.Deed.TheVariants.{Commit}
@@ -12,6 +13,7 @@ use Rattle.cam_event.specs.History.{is_commit, is_abort, committed, aborted}
 use Rattle.cam_event.specs.Pasts.{last_of, holds, in_past, plain_all, every}
 use Rattle.cam_event.specs.Inputs.{event_at}
 use Rattle.cam_event.specs.ByPast.{own_past}
+use Rattle.cam_event.specs.ByKnowledge.{held, of_node, carried_of}
 use Rattle.cam_event.specs.Runs.{IsRun}
 use Rattle.cam_event.proofs.Members.{any_more, plain_more, in_event}
 use Rattle.cam_event.proofs.RunLaws.{runs_are_sent}
@@ -21,6 +23,8 @@ use Rattle.cam_plain.proofs.Histories.{legal_before}
 use Rattle.cam_plain.proofs.Deciding.{one_outcome}
 use Rattle.cam_cut.proofs.Holds.{every_closed}
 use Rattle.cam_cut.proofs.Laws.{closed_sets_are_legal}
+use Rattle.cam_delta.proofs.Addressed.{runs_are_addressed}
+use Rattle.cam_delta.proofs.SameKnown.{nodes_know_the_same}
 use Rattle.cam_headline.specs.Outcomes.{held_by, EachIsDecidedOnce, NoTwoEventsDiffer, HeldWasDecided, NoTwoNodesDiffer, CommittedIsSecured, CommitNeedsSecured}
 use Rattle.cam_headline.proofs.Decided.{decided_once, commit_needs, commit_secured}
 
@@ -42,13 +46,17 @@ no_two_events_differ objects t i j d e a run first second commits =
 
 -- What a node holds stands in the past of its last event.
 pub holds_aborts : (objects : List ObjectDecl) (t : List Event) (s : ℕ) (a : Name) → IsRun objects t → knows_abort (held_by objects t s) a ≡ aborted (own_past t s) a
-holds_aborts objects t s a run = (held_and_brought (is_abort a) (is_abort_of a) (tells_aborts a) objects t (runs_are_sent objects t run)).0 s
+holds_aborts objects t s a run =
+    any_same (is_abort_of a) (held_by objects t s) (held objects (of_node (carried_of objects t) s)) (nodes_know_the_same objects t s (runs_are_addressed objects t run))
+    ∙ (held_and_brought (is_abort a) (is_abort_of a) (tells_aborts a) objects t (runs_are_sent objects t run)).0 s
 
 pub holds_commits : (objects : List ObjectDecl) (t : List Event) (s : ℕ) (a : Name) → IsRun objects t → knows_commit (held_by objects t s) a ≡ committed (own_past t s) a
-holds_commits objects t s a run = (held_and_brought (is_commit a) (is_commit_of a) (tells_commits a) objects t (runs_are_sent objects t run)).0 s
+holds_commits objects t s a run =
+    any_same (is_commit_of a) (held_by objects t s) (held objects (of_node (carried_of objects t) s)) (nodes_know_the_same objects t s (runs_are_addressed objects t run))
+    ∙ (held_and_brought (is_commit a) (is_commit_of a) (tells_commits a) objects t (runs_are_sent objects t run)).0 s
 
 -- and so in the whole
-own_in_whole : (p : Deed → Bool) (t : List Event) (s : ℕ) → list_any p (own_past t s) ≡ true → list_any p (plain_all t) ≡ true
+pub own_in_whole : (p : Deed → Bool) (t : List Event) (s : ℕ) → list_any p (own_past t s) ≡ true → list_any p (plain_all t) ≡ true
 own_in_whole p t s h = any_more p (own_past t s) (plain_all t) (plain_more t (λ i. holds (in_past t i) (last_of t s)) every (λ k g. refl)) h
 
 pub held_was_decided : HeldWasDecided

@@ -1,5 +1,5 @@
 -- Each delivery lowers the weight of the letters that wait, so a drain leaves none.
-use Rattle.std.proofs.Common.{◌≡◌, ◌≤◌, ◌<◌, inl, inr, ℕ, zero, suc, ◌+◌, eqb, Bool, true, false, ◌||◌, if◌then◌else◌, List, [], ◌∷◌, ◌++◌, length, Option, Some, None, is_some, refl, sym, ap, ◌∙◌, subst, arith}
+use Rattle.std.proofs.Common.{◌≡◌, ◌≤◌, ◌<◌, inl, inr, ℕ, zero, suc, ◌+◌, eqb, Bool, true, false, ◌||◌, if◌then◌else◌, List, [], ◌∷◌, ◌++◌, length, map, Option, Some, None, is_some, refl, sym, ap, ◌∙◌, subst, arith}
 use Rattle.std.specs.Prelude.{nat_lt, slice_get, option_map, option_and_then}
 use Rattle.std.specs.Option.{option_map_or}
 use Rattle.std.proofs.lemmas.Bool.{or_right, eq-eqb}
@@ -11,7 +11,9 @@ use Rattle.cam_event.specs.declared.Event.{Event}
 use Rattle.cam_event.specs.declared.Sent.{Sent}
 use Rattle.cam_event.specs.Inputs.{Receives, Mail, mail_of, event_at, letter_at, node_of}
 use Rattle.cam_event.specs.ByPast.{sight}
-use Rattle.cam_event.specs.ByKnowledge.{of_node, carried_by, carried_of, held_sight}
+use Rattle.cam_event.specs.ByKnowledge.{held_sight}
+use Rattle.cam_know.specs.Order.{told_in_order}
+use Rattle.cam_event.specs.ByDeltas.{as_carried, of_node, load_by, received_of}
 use Rattle.cam_event.specs.Sights.{Sight}
 use Rattle.cam_event.specs.Rules.{arrives_mail}
 use Rattle.cam_event.specs.Readings.{Reading, by_pasts, by_knowledge}
@@ -26,7 +28,7 @@ use Rattle.cam_headline.proofs.Light.{sent_weight, FewDeps}
 use Rattle.cam_headline.proofs.Lighter.{arrives_lighter}
 
 -- the number was delivered or lost
-abbrev is_done : Running → ℕ → Bool
+abbrev pub is_done : Running → ℕ → Bool
 is_done r k = has_number r.delivered k || has_number r.lost k
 
 -- What is sent weighs less than what is received.
@@ -37,15 +39,15 @@ mail_falls : (objects : List ObjectDecl) (g : Sight) (o : Option Mail) → FewDe
 mail_falls objects g None few h = cc
 mail_falls objects g (Some mail) few h = arrives_lighter objects g mail.from mail.body few
 
-pasts_fall : (objects : List ObjectDecl) → Falls (by_pasts objects)
+pub pasts_fall : (objects : List ObjectDecl) → Falls (by_pasts objects)
 pasts_fall objects t letter h = mail_falls objects (sight objects t (node_of t (Receives letter)) (Some letter)) (letter_at t letter) (λ a. omega arith) h
 
-held_fall : (objects : List ObjectDecl) → Falls (by_knowledge objects)
+pub held_fall : (objects : List ObjectDecl) → Falls (by_knowledge objects)
 held_fall objects t letter h =
-    mail_falls objects (held_sight objects (node_of t (Receives letter)) (of_node (carried_of objects t) (node_of t (Receives letter))) (carried_by objects (carried_of objects t) (Some letter) (letter_at t letter))) (letter_at t letter) (λ a. omega arith) h
+    mail_falls objects (held_sight objects (node_of t (Receives letter)) (map as_carried (of_node (received_of objects t) (node_of t (Receives letter)))) (told_in_order (load_by objects (received_of objects t) (Some letter) (letter_at t letter)).know)) (letter_at t letter) (λ a. omega arith) h
 
 -- a letter keeps its weight behind one more event
-same_weight : (e : Event) (t : List Event) (letter : LetterId) → is_some (letter_at t letter) ≡ true → weight_of (e ∷ t) letter ≡ weight_of t letter
+pub same_weight : (e : Event) (t : List Event) (letter : LetterId) → is_some (letter_at t letter) ≡ true → weight_of (e ∷ t) letter ≡ weight_of t letter
 same_weight e t letter h = by (letter_at t letter) refl h
   where
     by : (o : Option Mail) → letter_at t letter ≡ o → is_some o ≡ true → weight_of (e ∷ t) letter ≡ weight_of t letter
@@ -53,7 +55,7 @@ same_weight e t letter h = by (letter_at t letter) refl h
     by (Some mail) at g = ap (λ o. option_map_or (λ (m : Mail). weight m.body) o 0) (letter_older e t letter mail at ∙ sym at)
 
 -- the letters of two parts, where those of the second weigh so much at most
-parts_weigh : (r : Running) (k n : ℕ) (xs ys : List LetterId) → ((j : ℕ) → weight_from r j ys ≤ n) → weight_from r k (xs ++ ys) ≤ weight_from r k xs + n
+pub parts_weigh : (r : Running) (k n : ℕ) (xs ys : List LetterId) → ((j : ℕ) → weight_from r j ys ≤ n) → weight_from r k (xs ++ ys) ≤ weight_from r k xs + n
 parts_weigh r k n [] ys most = let m = most k in omega (arith, m)
 parts_weigh r k n (x ∷ xs) ys most = let rest = parts_weigh r (k + 1) n xs ys most in omega (arith, rest)
 
@@ -62,7 +64,7 @@ waits_less : (b : Bool) (w : ℕ) → (if b then 0 else w) ≤ w
 waits_less true w = omega arith
 waits_less false w = omega arith
 
-new_weigh : (r : Running) (event place j : ℕ) (ms : List Sent) → ((q : ℕ) → weight_of r.trace (record { event = event; place = place + q }) ≡ option_map_or (λ (m : Sent). weight m.body) (slice_get ms q) 0) → weight_from r j (ids_from event place ms) ≤ sent_weight ms
+pub new_weigh : (r : Running) (event place j : ℕ) (ms : List Sent) → ((q : ℕ) → weight_of r.trace (record { event = event; place = place + q }) ≡ option_map_or (λ (m : Sent). weight m.body) (slice_get ms q) 0) → weight_from r j (ids_from event place ms) ≤ sent_weight ms
 new_weigh r event place j [] at = omega arith
 new_weigh r event place j (m ∷ ms) at =
     let first : weight_of r.trace (record { event = event; place = place }) ≡ weight m.body = ap (λ p. weight_of r.trace (record { event = event; place = p })) (omega arith) ∙ at 0 in
@@ -71,7 +73,7 @@ new_weigh r event place j (m ∷ ms) at =
     let here = waits_less (is_done r j) (weight_of r.trace (record { event = event; place = place })) in
     omega (arith, first, rest, here)
 
-sent_weigh : (e : Event) (t : List Event) (q : ℕ) → weight_of (e ∷ t) (record { event = length t; place = 0 + q }) ≡ option_map_or (λ (m : Sent). weight m.body) (slice_get e.sent q) 0
+pub sent_weigh : (e : Event) (t : List Event) (q : ℕ) → weight_of (e ∷ t) (record { event = length t; place = 0 + q }) ≡ option_map_or (λ (m : Sent). weight m.body) (slice_get e.sent q) 0
 sent_weigh e t q =
     ap (λ (b : Bool). option_map_or (λ (m : Mail). weight m.body) (option_and_then (λ (x : Event). option_map (mail_of x) (slice_get x.sent (0 + q))) (if b then Some e else event_at t (length t))) 0) (eq-eqb (length t) (length t) refl)
     ∙ ap (λ p. option_map_or (λ (m : Mail). weight m.body) (option_map (mail_of e) (slice_get e.sent p)) 0) (omega arith)
@@ -82,11 +84,11 @@ sent_weigh e t q =
     by (Some m) = refl
 
 -- Of old letters each weighs what it did, and none waits that did not.
-record IsLater (r new : Running) (k : ℕ) (ls : List LetterId) : Type 0 where
-  done : (j : ℕ) → is_done new j ≡ (eqb k j || is_done r j)
-  same : (l : LetterId) → In l ls → weight_of new.trace l ≡ weight_of r.trace l
+pub record IsLater (r new : Running) (k : ℕ) (ls : List LetterId) : Type 0 where
+  pub done : (j : ℕ) → is_done new j ≡ (eqb k j || is_done r j)
+  pub same : (l : LetterId) → In l ls → weight_of new.trace l ≡ weight_of r.trace l
 
-one_less : (old new once : Bool) (w v : ℕ) → new ≡ (once || old) → v ≡ w → (if new then 0 else v) ≤ (if old then 0 else w)
+pub one_less : (old new once : Bool) (w v : ℕ) → new ≡ (once || old) → v ≡ w → (if new then 0 else v) ≤ (if old then 0 else w)
 one_less true new once w v e same = by once e
   where
     by : (once : Bool) → new ≡ (once || true) → (if new then 0 else v) ≤ 0
@@ -94,10 +96,10 @@ one_less true new once w v e same = by once e
     by false e = rw e (omega arith)
 one_less false new once w v e same = let less = waits_less new v in omega (arith, less, same)
 
-rest_later : (r new : Running) (k : ℕ) (l : LetterId) (ls : List LetterId) → IsLater r new k (l ∷ ls) → IsLater r new k ls
+pub rest_later : (r new : Running) (k : ℕ) (l : LetterId) (ls : List LetterId) → IsLater r new k (l ∷ ls) → IsLater r new k ls
 rest_later r new k l ls h = record { done = h.done; same = λ x there. h.same x (inr there) }
 
-old_weigh : (r new : Running) (k j : ℕ) (ls : List LetterId) → IsLater r new k ls → weight_from new j ls ≤ weight_from r j ls
+pub old_weigh : (r new : Running) (k j : ℕ) (ls : List LetterId) → IsLater r new k ls → weight_from new j ls ≤ weight_from r j ls
 old_weigh r new k j [] h = omega arith
 old_weigh r new k j (l ∷ ls) h =
     let here = one_less (is_done r j) (is_done new j) (eqb k j) (weight_of r.trace l) (weight_of new.trace l) (h.done j) (h.same l (inl refl)) in

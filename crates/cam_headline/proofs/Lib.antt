@@ -2,6 +2,7 @@ pub mod Decided
 pub mod Agreed
 pub mod Whole
 pub mod SceneRun
+pub mod CountersRun
 pub mod Stays
 pub mod Secure
 pub mod Recovered
@@ -9,3 +10,15 @@ pub mod Light
 pub mod Lighter
 pub mod Drained
 pub mod HaltedRuns
+pub mod HaltedHeld
+pub mod HaltedWhole
+pub mod HaltedRowsRun
+pub mod KeptWhole
+pub mod KeptKnowledge
+pub mod KeptLists
+pub mod KeptGroups
+pub mod KeptOrder
+pub mod KeptSteps
+pub mod KeptPlaces
+pub mod KeptIndices
+pub mod HaltedDrained

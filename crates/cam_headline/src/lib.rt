@@ -10,11 +10,18 @@
 //! the grammar accepts).
 #![tactic(auto)]
 
+ghost use Rattle.cam_headline.specs.Counters.{CountersAreReported};
 ghost use Rattle.cam_headline.specs.Draining.{DrainsLeaveNone, EachDeliveryLowers, PlaysLeaveNone};
 ghost use Rattle.cam_headline.specs.Halted.{HaltedCommitNeeds, HaltedDecidedOnce, HaltedEventsAgree, HaltedReplay, HaltedStays, HaltedViews};
+ghost use Rattle.cam_headline.specs.HaltedDraining.{HaltedDeliveriesLower, HaltedDrainsLeaveNone, HaltedPlaysLeaveNone};
+ghost use Rattle.cam_headline.specs.HaltedHeadline.{HaltedHeadline, NoHaltIsTheOneRun};
+ghost use Rattle.cam_headline.specs.HaltedHeld.{HaltedCommittedIsCovered, HaltedCommittedIsSecured, HaltedCrashKeepsOthers, HaltedCrashKeepsSecured, HaltedHeldIsThePast, HaltedHeldWasDecided, HaltedNodesAgree, HaltedNoneIsAborted, HaltedSecuredStays};
+ghost use Rattle.cam_headline.specs.HaltedRows.{AreWorked};
 ghost use Rattle.cam_headline.specs.Headline.{Headline};
+ghost use Rattle.cam_headline.specs.KeptLog.{LogsKeep, LogsKeepKnowledge, LogsKeepOrder, LogsKeepSecured};
 ghost use Rattle.cam_headline.specs.Outcomes.{CommitNeedsSecured, CommittedIsSecured, EachIsDecidedOnce, HeldWasDecided, NoTwoEventsDiffer, NoTwoNodesDiffer};
 ghost use Rattle.cam_headline.specs.Scene.{IsWorked};
+ghost use Rattle.cam_headline.specs.Premises.{OnlyStopsAreKnown, StopsAreKnown};
 ghost use Rattle.cam_headline.specs.Recovery.{CommittedIsCovered, CommittedStays, CrashKeepsOthers, CrashKeepsSecured, NoneIsAborted, SecuredStays};
 
 /// For all bytes that spell a script, at each stage of the grammar: the program's run is the one run of the step rules; for each action,
@@ -66,8 +73,65 @@ pub fn halted_laws()
     ensures stays { HaltedStays }
 {}
 
+/// In runs in which nodes halt a node holds what stands in the past of its last event, a taken one too; so no two nodes differ on an action,
+/// and a crash leaves what it leaves without halts.
+pub fn halted_nodes()
+    ensures past { HaltedHeldIsThePast }
+    ensures known { HaltedHeldWasDecided }
+    ensures nodes { HaltedNodesAgree }
+    ensures secured { HaltedCommittedIsSecured }
+    ensures crash { HaltedCrashKeepsSecured }
+    ensures others { HaltedCrashKeepsOthers }
+    ensures aborted { HaltedNoneIsAborted }
+    ensures stays { HaltedSecuredStays }
+    ensures covered { HaltedCommittedIsCovered }
+{}
+
+/// At the end of each run, with halts or without, a log that keeps the node's history, a taken event at its end with it, gives what the node
+/// keeps over a restart: its count, what it knows, and for each of its Secures the family's operations that were live just before.
+pub fn kept_logs()
+    ensures knowledge { LogsKeepKnowledge }
+    ensures secured { LogsKeepSecured }
+    ensures order { LogsKeepOrder }
+    ensures kept { LogsKeep }
+{}
+
+/// For all bytes that spell a script, whichever inputs are halts, taken or lost: the run by what nodes hold is the run by pasts; for each
+/// action its view stands in a legal execution; committed top actions replay in commit order; and no two nodes differ. Without a halt it is
+/// the one run of the script.
+pub fn halted_headline()
+    ensures holds { HaltedHeadline }
+    ensures none { NoHaltIsTheOneRun }
+{}
+
+/// In runs in which nodes halt each delivery lowers the weight of the letters that wait, at a halt too, so a drain leaves none waiting for a
+/// node that is not halted; nor does a play.
+pub fn halted_drains_end()
+    ensures lowers { HaltedDeliveriesLower }
+    ensures ends { HaltedDrainsLeaveNone }
+    ensures plays { HaltedPlaysLeaveNone }
+{}
+
+/// Where no disk that was handed in failed, the halts of a run are those of its stop lines, and no others.
+pub fn known_halts()
+    ensures stops { StopsAreKnown }
+    ensures only { OnlyStopsAreKnown }
+{}
+
 /// A worked scene: an action that runs on after its parent has given it up. From the bytes of its script to its report and to its
 /// witness, computed from the definitions alone.
 pub fn worked_scene()
     ensures { IsWorked }
+{}
+
+/// Two worked scenes with counters: adders that stand in the way of a reader alone, and a sum that wraps. From the bytes of their scripts
+/// to their reports, computed from the definitions alone.
+pub fn worked_counters()
+    ensures { CountersAreReported }
+{}
+
+/// Worked runs in which a node halts: a stop at each device call of the append of a commit, lost at the first three, taken at the fourth, none
+/// behind it; and a disk that fails by itself.
+pub fn worked_halts()
+    ensures { AreWorked }
 {}

@@ -1,11 +1,11 @@
 -- A grant, by what is kept: who stands in the way, what is answered, and what is kept behind it.
-use Rattle.std.proofs.Common.{◌≡◌, ℕ, ◌+◌, ◌≤◌, ◌<◌, false, List, [], ◌∷◌, ◌++◌, length, get_or, Option, None, sym, ap, subst, ◌∙◌}
+use Rattle.std.proofs.Common.{◌≡◌, ℕ, ◌+◌, ◌≤◌, ◌<◌, true, false, List, [], ◌∷◌, ◌++◌, length, get_or, Option, None, sym, ap, subst, ◌∙◌}
 use Rattle.std.specs.Prelude.{option_and_then}
 use Rattle.cam_names.specs.declared.name.Name.{Name}
 use Rattle.cam_type.specs.declared.ObjectDecl.{ObjectDecl}
 use Rattle.cam_type.specs.declared.Op.{Op}
 use Rattle.cam_type.specs.declared.Answer.{Answer}
-use Rattle.cam_type.specs.Table.{answer_of}
+use Rattle.cam_type.specs.Table.{kind_of, fits, answer_of}
 use Rattle.cam_locks.specs.declared.LiveOp.{LiveOp}
 use Rattle.cam_locks.specs.Site.{IndicesRise, start_of}
 use Rattle.cam_locks.specs.Holding.{LocksView, leaders_of, AllLocks, fresh}
@@ -15,9 +15,16 @@ use Rattle.cam_locks.proofs.Standing.{conflict_kept}
 use Rattle.cam_locks.proofs.AllKept.{all_tidied, all_done, all_undone, answer_all}
 
 -- what is not stale is not stale once it is tidied
-fresh_tidied : (ns : List Name) (os : List LiveOp) (old new : List LocksView) (x : ℕ) → x < length old → ((l : LocksView) → (get_or old x l).stale ≡ false)
+pub fresh_tidied : (ns : List Name) (os : List LiveOp) (old new : List LocksView) (x : ℕ) → x < length old → ((l : LocksView) → (get_or old x l).stale ≡ false)
     → EachTo (TidiedTo ns os) old new → (l : LocksView) → (get_or new x l).stale ≡ false
 fresh_tidied ns os old new x within not_stale tidy l = (tidy.each x l within).stale ∙ not_stale l
+
+-- and its start state stays
+pub start_kept : (objects : List ObjectDecl) (ns : List Name) (os : List LiveOp) (next : ℕ) (old new : List LocksView) (x : ℕ) → x < length old
+    → ((l : LocksView) → (get_or old x l).stale ≡ false) → EachTo (TidiedTo ns os) old new → AllLocks objects ns os next old
+    → (l : LocksView) → (get_or new x l).start ≡ start_of objects x
+start_kept objects ns os next old new x within not_stale tidy all l =
+    (all_tidied objects ns os next old new tidy all x l (subst (λ (n : ℕ). x < n) (sym tidy.len) within) (fresh_tidied ns os old new x within not_stale tidy l)).start_is
 
 -- the lift of what leads a holder in the way is the holder
 pub holder_kept : (objects : List ObjectDecl) (ns : List Name) (os : List LiveOp) (next : ℕ) (old new : List LocksView) (a : Name) (x : ℕ) (op : Op) (r : Option LiveOp)
@@ -54,11 +61,11 @@ kept_undone objects ns os ops next end old mid done_to new n answer tidy done sp
     (all_undone objects ns os next mid done_to new n answer done spoiled (all_tidied objects ns os next old mid tidy all)))
 
 pub answer_kept : (objects : List ObjectDecl) (ns : List Name) (os : List LiveOp) (next : ℕ) (old mid new : List LocksView) (n : LiveOp) (answer : Answer)
-    → n.object < length old → ((l : LocksView) → (get_or old n.object l).stale ≡ false)
+    → fits (kind_of (start_of objects n.object)) n.op ≡ true → n.object < length old → ((l : LocksView) → (get_or old n.object l).stale ≡ false)
     → EachTo (TidiedTo ns os) old mid → EachTo (DoneTo ns os n answer) mid new → AllLocks objects ns os next old
     → answer ≡ answer_of (value_of objects os n.object) n.op
-answer_kept objects ns os next old mid new n answer within not_stale tidy done all =
-    answer_all objects ns os next mid new n answer any (subst (λ (k : ℕ). n.object < k) (sym tidy.len) within) (fresh_tidied ns os old mid n.object within not_stale tidy any)
+answer_kept objects ns os next old mid new n answer fit within not_stale tidy done all =
+    answer_all objects ns os next mid new n answer any fit (subst (λ (k : ℕ). n.object < k) (sym tidy.len) within) (fresh_tidied ns os old mid n.object within not_stale tidy any)
     done (all_tidied objects ns os next old mid tidy all)
   where
     any : LocksView

@@ -15,12 +15,15 @@ pub mod Living
 pub mod Lifting
 pub mod Climbing
 pub mod Modes
+mod Summing
+mod Meeting
 pub mod Leading
 pub mod Current
 pub mod Values
 pub mod Settling
 pub mod Tidying
 pub mod Writing
+pub mod SameKind
 pub mod Staying
 pub mod Nesting
 pub mod Aborting
@@ -39,4 +42,5 @@ pub mod Securing
 pub mod Later
 pub mod Rights
 pub mod Granting
+mod Serving
 pub mod Restoring

@@ -13,8 +13,8 @@ use Rattle.cam_locks.specs.declared.LiveOp.{LiveOp}
 use Rattle.cam_locks.specs.declared.versions.Version.{Version}
 use Rattle.cam_locks.specs.Members.{In}
 use Rattle.cam_locks.specs.Site.{IndicesRise}
-use Rattle.cam_locks.specs.Moss.{is_on, replay, lift_in}
-use Rattle.cam_locks.specs.Holding.{has_op, writes, is_write, is_written, IsVersionOf, KeepsVersions}
+use Rattle.cam_locks.specs.Moss.{replay, lift_in}
+use Rattle.cam_locks.specs.Holding.{has_op, is_write, is_written, IsVersionOf, KeepsVersions}
 use Rattle.cam_locks.specs.Changes.{lift_eq, last_state, LastIsLive, written, with_write, has_holder}
 use Rattle.cam_locks.proofs.Passing.{and_no, le_yes, le_no}
 use Rattle.cam_locks.proofs.Ends.{split_last, last_snoc, set_snoc}
@@ -24,7 +24,7 @@ use Rattle.cam_locks.proofs.Climbing.{AtLeast, lift_climbs}
 use Rattle.cam_locks.proofs.Leading.{has_push}
 use Rattle.cam_locks.proofs.Replaying.{replay_append}
 use Rattle.cam_locks.proofs.Current.{in_ops}
-use Rattle.cam_locks.proofs.Values.{writes_count, value_last}
+use Rattle.cam_locks.proofs.Values.{value_last}
 use Rattle.cam_locks.proofs.Tidying.{versions_drop_before}
 
 -- an operation that is not counted adds nothing
@@ -62,7 +62,7 @@ versions_other x start ns os next vs n at other keeps = record {
 
 -- a new write brings its version
 versions_write : (x : ℕ) (start : State) (ns : List Name) (os : List LiveOp) (next : ℕ) (vs : List Version) (n : LiveOp) (state : State)
-    → n.index ≡ next → is_write x n ≡ true → IndicesRise 0 os next → state ≡ state_after (replay start (filter (is_on x) os)) n.op
+    → n.index ≡ next → is_write x n ≡ true → IndicesRise 0 os next → state ≡ state_after (replay start (filter (is_write x) os)) n.op
     → KeepsVersions x start ns os next vs → KeepsVersions x start ns (os ++ n ∷ []) (next + 1) (vs ++ record { last = n; state = state } ∷ [])
 versions_write x start ns os next vs n state at lock rise is keeps = record {
   rising = subst (λ (ps : List LiveOp). IndicesRise 0 ps (next + 1)) (sym (map-append (λ v. v.last) vs (new ∷ []))) (rise_push 0 (map (λ v. v.last) vs) next n keeps.rising at);
@@ -89,7 +89,7 @@ versions_write x start ns os next vs n state at lock rise is keeps = record {
           own.1 ∙ ap (replay start) (sym (filter_more (is_written x v.last.index) os n (ap (λ (b : Bool). is_write x n && b) later ∙ and_no (is_write x n)))),
         )
 
-    all_before : (o : LiveOp) → In o os → is_written x n.index o ≡ (is_on x o && writes o)
+    all_before : (o : LiveOp) → In o os → is_written x n.index o ≡ is_write x o
     all_before o h =
         let lt : o.index < next = below 0 os next o rise h in
         ap (λ (b : Bool). is_write x o && b) (le_yes o.index n.index (omega arith)) ∙ and_yes (is_write x o)
@@ -101,7 +101,7 @@ versions_write x start ns os next vs n state at lock rise is keeps = record {
     new_sound : In n (os ++ n ∷ []) × (state ≡ replay start (filter (is_written x n.index) (os ++ n ∷ [])))
     new_sound = (
       in_right n os (n ∷ []) (inl refl),
-      is ∙ ap (λ (s : State). state_after s n.op) (writes_count (is_on x) start os ∙ ap (replay start) (sym (filter_agree (is_written x n.index) (λ o. is_on x o && writes o) os all_before)))
+      is ∙ ap (λ (s : State). state_after s n.op) (ap (replay start) (sym (filter_agree (is_written x n.index) (is_write x) os all_before)))
           ∙ sym (replay_append start (filter (is_written x n.index) os) (n ∷ []))
           ∙ ap (replay start) (sym (filter-append (is_written x n.index) os (n ∷ [])
           ∙ ap (λ (b : Bool). filter (is_written x n.index) os ++ cond b (n ∷ []) []) (and_from (is_write x n) (nat_le n.index n.index) lock (le_yes n.index n.index (omega arith))))),

@@ -9,3 +9,6 @@ pub mod Restored
 pub mod Secured
 pub mod Holding
 pub mod Changes
+pub mod Sums
+pub mod Kinds
+pub mod Served

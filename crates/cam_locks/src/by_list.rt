@@ -1,8 +1,9 @@
 //! What the definitions say, read off the list of live operations: for objects of which nothing else is kept.
-ghost use Rattle.std.specs.Prelude.{◌≡◌, ◌&&◌, filter, find, is_none, map, option_and_then, IfOk};
+ghost use Rattle.std.specs.Prelude.{◌≡◌, ◌&&◌, true, filter, find, is_none, map, option_and_then, IfOk, OnOk};
 ghost use Rattle.std.specs.List.{list_any};
 ghost use Rattle.cam_locks.specs.Site.{start_of};
-ghost use Rattle.cam_locks.specs.Moss.{is_on, replay, conflicts, holder_of, lift_in};
+ghost use Rattle.cam_type.specs.Table.{kind_of, fits, state_after, answer_of};
+ghost use Rattle.cam_locks.specs.Moss.{is_on, replay, value_of, conflicts, holder_of, lift_in};
 ghost use Rattle.cam_locks.specs.Calls.{is_of, held_op};
 
 use crate::leaders::is_in_the_way;
@@ -11,7 +12,7 @@ use crate::operations::{is_of, replay, start_of};
 use crate::{LiveOp, LiveOps};
 use cam_base::NoMemory;
 use cam_names::Name;
-use cam_type::{HeldOp, HeldOps, Objects, Op, State, compatible, mode_of};
+use cam_type::{Answer, DataType, HeldOp, HeldOps, Objects, Op, State, compatible, mode_of};
 use std::alloc::Global;
 
 /// The lift of the first live operation that conflicts.
@@ -83,6 +84,27 @@ pub(crate) fn value(
         }
     }
     replay(start_of(objects, object)?, operations.as_slice())
+}
+
+/// Has a server do an operation in the value that it meets.
+pub(crate) fn serve<T: DataType>(
+    live: &[LiveOp],
+    objects: &Objects,
+    operation: &LiveOp,
+    server: &mut T,
+    alloc: Global,
+) -> Result<Answer, NoMemory>
+    requires kind { T.kind server.old ≡ kind_of (start_of objects.now operation.now.object) }
+    requires fits { fits (kind_of (start_of objects.now operation.now.object)) operation.now.op ≡ true }
+    ensures kind_stays { T.kind server.new ≡ T.kind server.old }
+    ensures after { OnOk result (T.held server.new
+        ≡ state_after (value_of objects.now live.now operation.now.object) operation.now.op) }
+    ensures answer { IfOk result (λ answer. answer
+        ≡ answer_of (value_of objects.now live.now operation.now.object) operation.now.op) }
+{
+    let state = value(alloc, live, objects, operation.object)?;
+    server.load(&state)?;
+    server.apply(&operation.op)
 }
 
 /// The value of the object that is handed up past the top.

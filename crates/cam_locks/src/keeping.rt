@@ -1,6 +1,8 @@
 //! Grants, aborts and values, by what is kept of an object where anything is, and else by the list.
-ghost use Rattle.std.specs.Prelude.{◌≡◌, ◌+◌, ◌≤◌, ◌<◌, [], ◌∷◌, ◌++◌, not, false, filter, get_or, vec_len, IfOk, OnOk, OnErr};
-ghost use Rattle.cam_type.specs.Table.{answer_of};
+ghost use Rattle.std.specs.Prelude.{◌≡◌, ◌+◌, ◌≤◌, ◌<◌, [], ◌∷◌, ◌++◌, not, true, false, filter, get_or, vec_len, IfOk, OnOk, OnErr};
+ghost use Rattle.cam_type.specs.Table.{kind_of, fits, answer_of};
+ghost use Rattle.cam_locks.specs.Served.{served_by};
+ghost use Rattle.cam_locks.specs.Site.{start_of};
 ghost use Rattle.cam_locks.specs.Calls.{grant_by, is_below};
 ghost use Rattle.cam_locks.specs.Holding.{AllLocks, LocksView};
 ghost use Rattle.cam_locks.specs.Changes.{EachTo, TidiedTo, by_holder};
@@ -12,7 +14,7 @@ use crate::names::Names;
 use crate::{Grant, LiveOp, by_list};
 use cam_base::NoMemory;
 use cam_names::Name;
-use cam_type::{Objects, State, apply};
+use cam_type::{DataType, Objects, State};
 
 /// The value of the object that is handed up past the top.
 pub(crate) fn settled(
@@ -27,7 +29,7 @@ pub(crate) fn settled(
 {
     // Indices rise, and stay in their range.
     let _next = live.next();
-    if locks::is_kept(locks, object) {
+    if locks::is_versioned(locks, object) {
         return locks[object as usize].settled(live, committed);
     }
     let all = live.to_vec()?;
@@ -35,16 +37,22 @@ pub(crate) fn settled(
 }
 
 /// Does an operation, unless a live one conflicts. What is kept stays so at every answer.
-pub(crate) fn grant(
+pub(crate) fn grant<T: DataType>(
     locks: &mut Vec<Locks>,
     live: &mut Live,
     committed: &Names,
     objects: &Objects,
     operation: &LiveOp,
+    server: &mut T,
 ) -> Result<Grant, NoMemory>
     requires all { AllLocks objects.now committed.now.names live.old.ops live.old.next locks.old.items }
     requires index { live.old.next ≤ operation.now.index }
     requires range { operation.now.index ≤ 999999999 }
+    requires fits { fits (kind_of (start_of objects.now operation.now.object)) operation.now.op ≡ true }
+    requires kind { T.kind server.old ≡ kind_of (start_of objects.now operation.now.object) }
+    ensures kind_stays { T.kind server.new ≡ T.kind server.old }
+    ensures served { OnOk result (T.held server.new
+        ≡ served_by objects.now committed.now.names live.old.ops operation.now (T.held server.old)) }
     ensures kept { AllLocks objects.now committed.now.names live.new.ops live.new.next locks.new.items }
     ensures grant { IfOk result (λ granted. granted ≡ grant_by (holder_of committed.now.names live.old.ops operation.now.action operation.now.object operation.now.op) (answer_of (value_of objects.now live.old.ops operation.now.object) operation.now.op)) }
     ensures ops { OnOk result (live.new.ops ≡ by_holder (holder_of committed.now.names live.old.ops operation.now.action operation.now.object operation.now.op) live.old.ops (live.old.ops ++ operation.now ∷ [])) }
@@ -53,25 +61,31 @@ pub(crate) fn grant(
     ensures err_next { OnErr result (live.new.next ≡ live.old.next) }
 {
     if locks::is_kept(locks.as_slice(), operation.object) {
-        grant_kept(locks, live, committed, objects, operation)
+        grant_kept(locks, live, committed, objects, operation, server)
     } else {
-        grant_replayed(locks, live, committed, objects, operation)
+        grant_replayed(locks, live, committed, objects, operation, server)
     }
 }
 
 /// Does an operation on an object of which all is kept, unless a live one conflicts.
-fn grant_kept(
+fn grant_kept<T: DataType>(
     locks: &mut Vec<Locks>,
     live: &mut Live,
     committed: &Names,
     objects: &Objects,
     operation: &LiveOp,
+    server: &mut T,
 ) -> Result<Grant, NoMemory>
     requires all { AllLocks objects.now committed.now.names live.old.ops live.old.next locks.old.items }
     requires index { live.old.next ≤ operation.now.index }
     requires range { operation.now.index ≤ 999999999 }
+    requires fits { fits (kind_of (start_of objects.now operation.now.object)) operation.now.op ≡ true }
     requires within { operation.now.object < vec_len locks.old }
     requires fresh { (l : LocksView) → (get_or locks.old.items operation.now.object l).stale ≡ false }
+    requires kind { T.kind server.old ≡ kind_of (start_of objects.now operation.now.object) }
+    ensures kind_stays { T.kind server.new ≡ T.kind server.old }
+    ensures served { OnOk result (T.held server.new
+        ≡ served_by objects.now committed.now.names live.old.ops operation.now (T.held server.old)) }
     ensures kept { AllLocks objects.now committed.now.names live.new.ops live.new.next locks.new.items }
     ensures grant { IfOk result (λ granted. granted ≡ grant_by (holder_of committed.now.names live.old.ops operation.now.action operation.now.object operation.now.op) (answer_of (value_of objects.now live.old.ops operation.now.object) operation.now.op)) }
     ensures ops { OnOk result (live.new.ops ≡ by_holder (holder_of committed.now.names live.old.ops operation.now.action operation.now.object operation.now.op) live.old.ops (live.old.ops ++ operation.now ∷ [])) }
@@ -84,7 +98,7 @@ fn grant_kept(
     if let Some(holder) = holder(locks, live, committed, objects, operation) {
         return Ok(Grant::Conflict(holder));
     }
-    let answer = locks::perform(locks, operation, live, committed)?;
+    let answer = locks::perform(locks, operation, live, committed, server)?;
     if let Err(fault) = live.push(operation) {
         // What is kept has the operation already.
         locks::spoil_at(locks, operation.object);
@@ -120,16 +134,22 @@ fn holder(
 }
 
 /// Does an operation, unless a live one conflicts, by the list. Nothing is kept of its object from now on.
-fn grant_replayed(
+fn grant_replayed<T: DataType>(
     locks: &mut Vec<Locks>,
     live: &mut Live,
     committed: &Names,
     objects: &Objects,
     operation: &LiveOp,
+    server: &mut T,
 ) -> Result<Grant, NoMemory>
     requires all { AllLocks objects.now committed.now.names live.old.ops live.old.next locks.old.items }
     requires index { live.old.next ≤ operation.now.index }
     requires range { operation.now.index ≤ 999999999 }
+    requires fits { fits (kind_of (start_of objects.now operation.now.object)) operation.now.op ≡ true }
+    requires kind { T.kind server.old ≡ kind_of (start_of objects.now operation.now.object) }
+    ensures kind_stays { T.kind server.new ≡ T.kind server.old }
+    ensures served { OnOk result (T.held server.new
+        ≡ served_by objects.now committed.now.names live.old.ops operation.now (T.held server.old)) }
     ensures kept { AllLocks objects.now committed.now.names live.new.ops live.new.next locks.new.items }
     ensures grant { IfOk result (λ granted. granted ≡ grant_by (holder_of committed.now.names live.old.ops operation.now.action operation.now.object operation.now.op) (answer_of (value_of objects.now live.old.ops operation.now.object) operation.now.op)) }
     ensures ops { OnOk result (live.new.ops ≡ by_holder (holder_of committed.now.names live.old.ops operation.now.action operation.now.object operation.now.op) live.old.ops (live.old.ops ++ operation.now ∷ [])) }
@@ -148,8 +168,7 @@ fn grant_replayed(
     if let Some(holder) = holder {
         return Ok(Grant::Conflict(holder));
     }
-    let mut state = by_list::value(live.allocator(), all.as_slice(), objects, *object)?;
-    let answer = apply(&mut state, op)?;
+    let answer = by_list::serve(all.as_slice(), objects, operation, server, live.allocator())?;
     append_spoiled(locks, live, committed, objects, operation)?;
     Ok(Grant::Done(answer))
 }

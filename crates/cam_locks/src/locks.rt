@@ -1,8 +1,11 @@
-ghost use Rattle.std.specs.Prelude.{◌≡◌, ℕ, ◌<◌, true, false, ◌&&◌, if◌then◌else◌, find, map, length, get_or, vec_len, IfOk, OnErr};
+ghost use Rattle.std.specs.Prelude.{◌≡◌, ℕ, ◌<◌, true, false, ◌&&◌, if◌then◌else◌, find, map, length, get_or, vec_len, IfOk, OnOk, OnErr};
 ghost use Rattle.cam_type.specs.declared.Mode.{Mode as ModeValue};
+ghost use Rattle.cam_type.specs.Table.{kind_of, fits};
 ghost use Rattle.cam_locks.specs.Moss.{is_in_the_way, lift_in};
 ghost use Rattle.cam_locks.specs.Holding.{has_op, fresh, leaders_of, LocksView, KeepsLeaders};
+ghost use Rattle.cam_locks.specs.Sums.{is_counter};
 ghost use Rattle.cam_locks.specs.Changes.{standing, earlier, first_over, state_of, is_current, last_current, Tidied, IsDone, EachTo, TidiedTo, DoneTo, SpoiledAt};
+ghost use Rattle.cam_locks.specs.Served.{IsServed};
 
 use crate::live::Live;
 use crate::names::Names;
@@ -10,7 +13,7 @@ use crate::versions::{self, Version};
 use crate::{LiveOp, leaders};
 use cam_base::NoMemory;
 use cam_names::Name;
-use cam_type::{Answer, Mode, Objects, Op, State, compatible, mode_of};
+use cam_type::{Answer, DataType, Kind, Mode, Objects, Op, State, compatible, mode_of};
 use std::alloc::Global;
 use std::collections::VecDeque;
 use std::marker::Model;
@@ -22,17 +25,22 @@ pub(crate) struct Locks {
     start: State,
     readers: VecDeque<LiveOp>,
     writers: VecDeque<LiveOp>,
+    adders: VecDeque<LiveOp>,
     versions: Vec<Version>,
     /// Nothing is kept any more: the object is replayed from the list.
     stale: bool,
 }
 
 impl Model for Locks {
+    ghost use Rattle.cam_type.specs.Table.{kind_of};
     ghost use Rattle.cam_locks.specs.Holding.{LocksView};
+    ghost use Rattle.cam_locks.specs.Kinds.{AreOfKind};
 
     ghost Value = { LocksView };
 
-    ghost view = { λ l. record { start = l.start; readers = l.readers.items; writers = l.writers.items; versions = l.versions.items; stale = l.stale } };
+    ghost view = { λ l. record { start = l.start; readers = l.readers.items; writers = l.writers.items; adders = l.adders.items; versions = l.versions.items; stale = l.stale } };
+
+    ghost invariant = { λ l. AreOfKind (kind_of l.start) l.versions.items };
 }
 
 impl Locks {
@@ -44,6 +52,7 @@ impl Locks {
             start,
             readers: VecDeque::new(alloc),
             writers: VecDeque::new(alloc),
+            adders: VecDeque::new(alloc),
             versions: Vec::new(alloc),
             stale: false,
         }
@@ -56,6 +65,13 @@ impl Locks {
         ensures { result ≡ self.now.stale }
     {
         self.stale
+    }
+
+    /// Whether the object is a counter.
+    pub(crate) fn is_counter(&self) -> bool
+        ensures { result ≡ is_counter self.now.start }
+    {
+        self.start.kind() == Kind::Counter
     }
 
     /// Keeps nothing from now on.
@@ -78,38 +94,53 @@ impl Locks {
     {
         let joins_readers = compatible(Mode::Read, mode_of(op));
         let joins_writers = compatible(Mode::Write, mode_of(op));
+        let joins_adders = compatible(Mode::Add, mode_of(op));
         let reader = standing(&mut self.readers, live, committed, name, joins_readers);
         let writer = standing(&mut self.writers, live, committed, name, joins_writers);
-        earlier(reader, writer)
+        let adder = standing(&mut self.adders, live, committed, name, joins_adders);
+        earlier(earlier(reader, writer), adder)
     }
 
-    /// Does an operation in whose way no one stands.
-    pub(crate) fn perform(
+    /// Has a server do an operation in whose way no one stands.
+    pub(crate) fn perform<T: DataType>(
         &mut self,
         operation: &LiveOp,
         live: &Live,
         committed: &Names,
+        server: &mut T,
     ) -> Result<Answer, NoMemory>
+        requires kind { T.kind server.old ≡ kind_of self.old.start }
+        requires fits { fits (kind_of self.old.start) operation.now.op ≡ true }
+        ensures kind_stays { T.kind server.new ≡ T.kind server.old }
+        ensures served { OnOk result (IsServed committed.now.names live.now.ops operation.now
+            (T.held server.new) self.old) }
         ensures done { IfOk result (λ answer. IsDone committed.now.names live.now.ops operation.now answer self.old self.new) }
         ensures err { OnErr result (Tidied committed.now.names live.now.ops self.old self.new) }
     {
+        // A number has 64 bits.
+        versions::keep_range(&self.start);
         versions::tidy(&mut self.versions, live, committed);
-        match mode_of(&operation.op) {
+        let start = &self.start;
+        let op = &operation.op;
+        let sum = live.sum(operation.object);
+        match mode_of(op) {
             Mode::Read => {
                 leaders::make_room(&mut self.readers, live, committed)?;
-                let answer = versions::look(&mut self.versions, &mut self.start, &operation.op)?;
+                let answer = versions::serve(self.versions.as_slice(), start, sum, op, server)?;
                 leaders::add(&mut self.readers, operation, live, committed);
                 Ok(answer)
             }
             Mode::Write => {
                 leaders::make_room(&mut self.writers, live, committed)?;
-                let answer = versions::write(
-                    &mut self.versions,
-                    &self.start,
-                    operation,
-                    committed,
-                )?;
+                let versions = &mut self.versions;
+                let answer = versions::write(versions, start, sum, operation, committed, server)?;
                 leaders::add(&mut self.writers, operation, live, committed);
+                Ok(answer)
+            }
+            Mode::Add => {
+                leaders::make_room(&mut self.adders, live, committed)?;
+                let answer = versions::serve(self.versions.as_slice(), start, sum, op, server)?;
+                leaders::add(&mut self.adders, operation, live, committed);
                 Ok(answer)
             }
         }
@@ -131,6 +162,7 @@ impl Locks {
             start: self.start.copy()?,
             readers: self.readers.iter().copied().collect(alloc)?,
             writers: self.writers.iter().copied().collect(alloc)?,
+            adders: self.adders.iter().copied().collect(alloc)?,
             versions: versions::copy(&self.versions)?,
             stale: self.stale,
         })
@@ -194,6 +226,18 @@ pub(crate) fn is_kept(locks: &[Locks], object: u8) -> bool
     }
 }
 
+/// Whether the value of the object that is handed up can be told by its versions: it can be gone by, and is no counter.
+pub(crate) fn is_versioned(locks: &[Locks], object: u8) -> bool
+    ensures within { result ≡ true → object < length locks.now }
+    ensures fresh { (l : LocksView) → result ≡ true → (get_or locks.now object l).stale ≡ false }
+    ensures kind { (l : LocksView) → result ≡ true → is_counter (get_or locks.now object l).start ≡ false }
+{
+    match locks.get(object as usize) {
+        Some(one) => !one.is_stale() && !one.is_counter(),
+        None => false,
+    }
+}
+
 /// The first live operation that stands in the way of an op of an action on an object.
 pub(crate) fn first_conflict(
     locks: &mut Vec<Locks>,
@@ -210,18 +254,26 @@ pub(crate) fn first_conflict(
     locks[object as usize].first_conflict(live, committed, name, op)
 }
 
-/// Does an operation in whose way no one stands.
-pub(crate) fn perform(
+/// Has a server do an operation in whose way no one stands.
+pub(crate) fn perform<T: DataType>(
     locks: &mut Vec<Locks>,
     operation: &LiveOp,
     live: &Live,
     committed: &Names,
+    server: &mut T,
 ) -> Result<Answer, NoMemory>
-    requires { operation.now.object < vec_len locks.old }
+    requires within { operation.now.object < vec_len locks.old }
+    requires kind { (l : LocksView) → T.kind server.old
+        ≡ kind_of (get_or locks.old.items operation.now.object l).start }
+    requires fits { (l : LocksView)
+        → fits (kind_of (get_or locks.old.items operation.now.object l).start) operation.now.op ≡ true }
+    ensures kind_stays { T.kind server.new ≡ T.kind server.old }
+    ensures served { (l : LocksView) → OnOk result (IsServed committed.now.names live.now.ops
+        operation.now (T.held server.new) (get_or locks.old.items operation.now.object l)) }
     ensures done { IfOk result (λ answer. EachTo (DoneTo committed.now.names live.now.ops operation.now answer) locks.old.items locks.new.items) }
     ensures err { OnErr result (EachTo (TidiedTo committed.now.names live.now.ops) locks.old.items locks.new.items) }
 {
-    locks[operation.object as usize].perform(operation, live, committed)
+    locks[operation.object as usize].perform(operation, live, committed, server)
 }
 
 /// Keeps nothing of an object from now on.

@@ -1,4 +1,5 @@
 ghost use Rattle.std.specs.Prelude.{◌≡◌, IfOk, filter, not};
+ghost use Rattle.cam_type.specs.Table.{kind_of};
 ghost use Rattle.cam_locks.specs.Site.{start_of, is_here, is_fit};
 ghost use Rattle.cam_locks.specs.Moss.{replay};
 ghost use Rattle.cam_locks.specs.Calls.{is_below, is_of};
@@ -6,7 +7,7 @@ ghost use Rattle.cam_locks.specs.Calls.{is_below, is_of};
 use crate::LiveOp;
 use cam_base::NoMemory;
 use cam_names::Name;
-use cam_type::{Objects, Op, State, apply, fits};
+use cam_type::{Kind, Objects, Op, State, apply, fits};
 use std::alloc::Global;
 
 /// An equal list of declarations.
@@ -47,6 +48,16 @@ pub(crate) fn start_of(objects: &Objects, object: u8) -> Result<State, NoMemory>
     match objects.get(object as usize) {
         Some(declared) => declared.start.copy(),
         None => Ok(State::Register(0)),
+    }
+}
+
+/// The kind of an object.
+pub(crate) fn kind_of(objects: &Objects, object: u8) -> Kind
+    ensures { result ≡ kind_of (start_of objects.now object) }
+{
+    match objects.get(object as usize) {
+        Some(declared) => declared.start.kind(),
+        None => Kind::Register,
     }
 }
 

@@ -1,18 +1,20 @@
 ghost use Rattle.std.specs.Prelude.{◌≡◌, ◌+◌, ◌≤◌, IsTrue, IfOk, OnOk, OnErr};
-ghost use Rattle.cam_locks.specs.Site.{is_here, is_fit, IndicesRise};
+ghost use Rattle.cam_type.specs.Table.{kind_of, state_after, answer_of};
+ghost use Rattle.cam_locks.specs.Site.{start_of, is_here, is_fit, IndicesRise};
 ghost use Rattle.cam_locks.specs.Moss.{holder, value, settled};
 ghost use Rattle.cam_locks.specs.Calls.{new_site, grant, after_grant, with_commit, with_abort, held, has_family};
 ghost use Rattle.cam_locks.specs.Restored.{restored, CanRestore};
+ghost use Rattle.cam_locks.specs.Served.{served};
 ghost use Rattle.cam_locks.specs.Secured.{IsWellFormed, SecuredCanBeRestored};
 
 use crate::names::Names;
-use crate::operations::{copy_objects, drop_below, is_fit, is_here};
+use crate::operations::{copy_objects, drop_below, is_fit, is_here, kind_of};
 use crate::restore::{aborted_names, committed_names, in_order, kept_operations, next_of};
 use crate::{Grant, LiveOp, by_list};
 use cam_base::NoMemory;
 use cam_know::Know;
 use cam_names::Name;
-use cam_type::{Held, HeldList, Objects, Op, State, apply};
+use cam_type::{Answer, DataType, Held, HeldList, Kind, Objects, Op, State};
 use std::alloc::Global;
 use std::marker::Model;
 
@@ -56,30 +58,35 @@ impl PlainTable {
 
     /// Does an operation of an action on an object, unless a live operation conflicts: then the lift of the first one is named, and
     /// nothing changes.
-    pub fn try_lock_and_apply(
+    pub fn try_lock_and_apply<T: DataType>(
         &mut self,
         name: &Name,
         object: u8,
         op: &Op,
+        server: &mut T,
     ) -> Result<Grant, NoMemory>
         requires fits { IsTrue (is_fit self.old.site.objects self.old.site.node object op.now) }
         requires index { self.old.site.next ≤ 999999999 }
+        requires kind { T.kind server.old ≡ kind_of (start_of self.old.site.objects object) }
         ensures grant { IfOk result (λ granted. granted ≡ grant self.old.site name.now object op.now) }
         ensures ok { OnOk result (self.new.site ≡ after_grant self.old.site name.now object op.now) }
         ensures err { OnErr result (self.new.site ≡ self.old.site) }
         ensures spare { self.new.spare ≡ self.old.spare }
+        ensures served { OnOk result (T.held server.new
+            ≡ served self.old.site name.now object op.now (T.held server.old)) }
+        ensures kind_stays { T.kind server.new ≡ T.kind server.old }
     {
         if let Some(holder) = self.holder(name, object, op) {
             return Ok(Grant::Conflict(holder));
         }
-        let mut state = self.value_met(object)?;
-        let answer = apply(&mut state, op)?;
-        self.live.push(LiveOp {
+        let operation = LiveOp {
             index: self.next,
             action: *name,
             object,
             op: *op,
-        })?;
+        };
+        let answer = self.serve(&operation, server)?;
+        self.live.push(operation)?;
         self.next += 1;
         Ok(Grant::Done(answer))
     }
@@ -89,6 +96,13 @@ impl PlainTable {
         ensures { result ≡ is_fit self.now.site.objects self.now.site.node object op.now }
     {
         is_fit(&self.objects, self.node, object, op)
+    }
+
+    /// The kind of an object, which is that of its servers.
+    pub fn kind(&self, object: u8) -> Kind
+        ensures { result ≡ kind_of (start_of self.now.site.objects object) }
+    {
+        kind_of(&self.objects, object)
     }
 
     /// Whether the object stands at the table's node.
@@ -223,15 +237,23 @@ impl PlainTable {
         by_list::holder(self.live.as_slice(), &self.committed, name, object, op)
     }
 
-    /// The value that an operation on the object meets.
-    fn value_met(&self, object: u8) -> Result<State, NoMemory>
-        ensures { IfOk result (λ state. state ≡ value self.now.site object) }
+    /// Has a server do an operation in the value that it meets.
+    fn serve<T: DataType>(&self, operation: &LiveOp, server: &mut T) -> Result<Answer, NoMemory>
+        requires fits { IsTrue (is_fit self.now.site.objects self.now.site.node operation.now.object operation.now.op) }
+        requires kind { T.kind server.old ≡ kind_of (start_of self.now.site.objects operation.now.object) }
+        ensures kind_stays { T.kind server.new ≡ T.kind server.old }
+        ensures after { OnOk result (T.held server.new
+            ≡ state_after (value self.now.site operation.now.object) operation.now.op) }
+        ensures answer { IfOk result (λ answer. answer
+            ≡ answer_of (value self.now.site operation.now.object) operation.now.op) }
     {
-        by_list::value(
-            *self.live.allocator(),
+        let alloc = *self.live.allocator();
+        by_list::serve(
             self.live.as_slice(),
             &self.objects,
-            object,
+            operation,
+            server,
+            alloc,
         )
     }
 }

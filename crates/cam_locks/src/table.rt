@@ -1,20 +1,24 @@
 ghost use Rattle.std.specs.Prelude.{◌≡◌, ◌≤◌, ◌+◌, [], ◌++◌, IsTrue, IfOk, OnOk, OnErr};
-ghost use Rattle.cam_locks.specs.Site.{is_here, is_fit, AreFit, IndicesRise};
+ghost use Rattle.cam_type.specs.Table.{kind_of};
+ghost use Rattle.cam_locks.specs.Site.{start_of, is_here, is_fit, AreFit, IndicesRise};
 ghost use Rattle.cam_locks.specs.Moss.{settled};
 ghost use Rattle.cam_locks.specs.Calls.{new_site, grant, after_grant, with_commit, with_abort, held, has_family};
 ghost use Rattle.cam_locks.specs.Restored.{informed, restored, taken_over, CanRestore};
+ghost use Rattle.cam_locks.specs.Served.{served};
 ghost use Rattle.cam_locks.specs.Secured.{IsWellFormed, SecuredCanBeRestored};
 
 use crate::live::Live;
 use crate::locks::{self, Locks};
 use crate::names::Names;
-use crate::operations::{copy_objects, is_fit, is_here};
+use crate::operations::{copy_objects, is_fit, is_here, kind_of};
 use crate::restore::{aborted_names, committed_names, in_order, kept_operations, next_of};
 use crate::{Grant, LiveOp, by_list, keeping};
 use cam_base::NoMemory;
 use cam_know::{Know, Outcome};
 use cam_names::Name;
-use cam_type::{Held, HeldList, Objects, Op, State};
+use cam_type::{
+    CounterServer, DataType, Held, HeldList, Kind, Objects, Op, QueueServer, RegisterServer, State,
+};
 use std::alloc::Global;
 use std::marker::Model;
 
@@ -52,20 +56,27 @@ impl LockTable {
     }
 
     /// Does an operation of an action on an object, unless a live operation conflicts: then the lift of the first one is named, and
-    /// nothing changes. It wants what [`LockTable::takes`] accepts, and a next index of at most 999,999,999. The rule stands in
-    /// `specs/Moss.antt`: Moss, *Nested Transactions*, 1985.
-    pub fn try_lock_and_apply(
+    /// nothing changes. The handed-in server does it, at the value that it is given to hold, and holds the state behind it then; a
+    /// server that wants memory leaves the table as it was. It wants a server of the object's kind ([`LockTable::kind`]),
+    /// what [`LockTable::takes`] accepts, and a next index of at most 999,999,999. The rule stands in `specs/Moss.antt`: Moss,
+    /// *Nested Transactions*, 1985.
+    pub fn try_lock_and_apply<T: DataType>(
         &mut self,
         name: &Name,
         object: u8,
         op: &Op,
+        server: &mut T,
     ) -> Result<Grant, NoMemory>
         requires fits { IsTrue (is_fit self.old.site.objects self.old.site.node object op.now) }
         requires index { self.old.site.next ≤ 999999999 }
+        requires kind { T.kind server.old ≡ kind_of (start_of self.old.site.objects object) }
         ensures grant { IfOk result (λ granted. granted ≡ grant self.old.site name.now object op.now) }
         ensures ok { OnOk result (self.new.site ≡ after_grant self.old.site name.now object op.now) }
         ensures err { OnErr result (self.new.site ≡ self.old.site) }
         ensures spare { self.new.spare ≡ self.old.spare }
+        ensures served { OnOk result (T.held server.new
+            ≡ served self.old.site name.now object op.now (T.held server.old)) }
+        ensures kind_stays { T.kind server.new ≡ T.kind server.old }
     {
         let operation = LiveOp {
             index: self.live.next(),
@@ -79,6 +90,7 @@ impl LockTable {
             &self.committed,
             &self.objects,
             &operation,
+            server,
         )
     }
 
@@ -87,6 +99,13 @@ impl LockTable {
         ensures { result ≡ is_fit self.now.site.objects self.now.site.node object op.now }
     {
         is_fit(&self.objects, self.node, object, op)
+    }
+
+    /// The kind of an object, which is that of its servers.
+    pub fn kind(&self, object: u8) -> Kind
+        ensures { result ≡ kind_of (start_of self.now.site.objects object) }
+    {
+        kind_of(&self.objects, object)
     }
 
     /// Whether the object stands at the table's node.
@@ -258,11 +277,33 @@ impl LockTable {
         self.live.raise(next);
     }
 
-    /// Takes a restored operation over. Where it conflicts with one before it nothing is kept of its object any more.
+    /// Takes a restored operation over, with a server of its object's kind.
     fn take_over(&mut self, operation: &LiveOp) -> Result<(), NoMemory>
         requires fits { IsTrue (is_fit self.old.site.objects self.old.site.node operation.now.object operation.now.op) }
         requires index { self.old.site.next ≤ operation.now.index }
         requires range { operation.now.index ≤ 999999999 }
+        ensures ok { OnOk result (self.new.site ≡ taken_over self.old.site operation.now) }
+    {
+        match kind_of(&self.objects, operation.object) {
+            Kind::Register => self.take_over_by(operation, &mut RegisterServer::new()),
+            Kind::Queue => {
+                let mut server = QueueServer::new(self.live.allocator());
+                self.take_over_by(operation, &mut server)
+            }
+            Kind::Counter => self.take_over_by(operation, &mut CounterServer::new()),
+        }
+    }
+
+    /// Takes a restored operation over. Where it conflicts with one before it nothing is kept of its object any more.
+    fn take_over_by<T: DataType>(
+        &mut self,
+        operation: &LiveOp,
+        server: &mut T,
+    ) -> Result<(), NoMemory>
+        requires fits { IsTrue (is_fit self.old.site.objects self.old.site.node operation.now.object operation.now.op) }
+        requires index { self.old.site.next ≤ operation.now.index }
+        requires range { operation.now.index ≤ 999999999 }
+        requires kind { T.kind server.old ≡ kind_of (start_of self.old.site.objects operation.now.object) }
         ensures ok { OnOk result (self.new.site ≡ taken_over self.old.site operation.now) }
     {
         if !locks::is_kept(self.locks.as_slice(), operation.object) {
@@ -280,6 +321,7 @@ impl LockTable {
             &self.committed,
             &self.objects,
             operation,
+            server,
         )?;
         match granted {
             Grant::Done(_) => Ok(()),

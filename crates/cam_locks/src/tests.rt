@@ -2,18 +2,19 @@ mod both;
 mod histories;
 mod restarts;
 mod scenes;
+mod servers;
 mod steps;
 
 ghost use Rattle.std.specs.Prelude.{◌≡◌, [], ◌∷◌, pos, IfOk};
-ghost use Rattle.cam_type.specs.declared.State.TheVariants.{Register, Queue};
+ghost use Rattle.cam_type.specs.declared.State.TheVariants.{Register, Queue, Counter};
 
 use cam_base::NoMemory;
 use cam_type::{Items, ObjectDecl, Objects, State};
 use std::alloc::Global;
 
-/// At node 1 a register that begins with 0 and an empty queue.
+/// At node 1 a register that begins with 0, an empty queue and a counter that begins with 10.
 fn objects(alloc: Global) -> Result<Objects, NoMemory>
-    ensures { IfOk result (λ objects. objects ≡ record { node = 1; start = Register (pos 0) } ∷ record { node = 1; start = Queue [] } ∷ []) }
+    ensures { IfOk result (λ objects. objects ≡ record { node = 1; start = Register (pos 0) } ∷ record { node = 1; start = Queue [] } ∷ record { node = 1; start = Counter (pos 10) } ∷ []) }
 {
     let mut objects = Objects::new(alloc);
     objects.push(ObjectDecl {
@@ -23,6 +24,10 @@ fn objects(alloc: Global) -> Result<Objects, NoMemory>
     objects.push(ObjectDecl {
         node: 1,
         start: State::Queue(Items::new(alloc)),
+    })?;
+    objects.push(ObjectDecl {
+        node: 1,
+        start: State::Counter(10),
     })?;
     Ok(objects)
 }

@@ -1,18 +1,21 @@
 //! The versions of one object: of each holder of a write lock the state behind its last write, in order.
-ghost use Rattle.std.specs.Prelude.{◌≡◌, ℕ, true, [], ◌∷◌, ◌++◌, slice_get, option_and_then, IfOk, OnOk, OnErr, ◌≤◌, vec_len};
+ghost use Rattle.std.specs.Prelude.{◌≡◌, ℕ, true, [], ◌∷◌, ◌++◌, slice_get, option_and_then, IfOk, OnOk, OnErr, ◌≤◌, ◌<◌, vec_len};
 ghost use Rattle.std.specs.Vec.{vec_capacity};
 ghost use Rattle.cam_type.specs.declared.State.{State as StateValue};
-ghost use Rattle.cam_type.specs.declared.Mode.TheVariants.{Read as ReadMode};
-ghost use Rattle.cam_type.specs.Table.{mode_of, state_after, answer_of};
+ghost use Rattle.cam_type.specs.declared.Kind.{Kind as KindValue};
+ghost use Rattle.cam_type.specs.declared.Mode.TheVariants.{Write as WriteMode};
+ghost use Rattle.cam_type.specs.Table.{kind_of, fits, mode_of, state_after, answer_of};
 ghost use Rattle.cam_locks.specs.Holding.{has_op, KeepsVersions};
-ghost use Rattle.cam_locks.specs.Changes.{is_current, is_outdated, last_current, state_of, last_state, LastIsLive, with_write};
+ghost use Rattle.cam_locks.specs.Changes.{is_current, is_outdated, last_current, state_of, last_state, met, LastIsLive, with_write};
+ghost use Rattle.cam_locks.specs.Kinds.{AreOfKind};
+ghost use Rattle.cam_locks.specs.Sums.{IsStart};
 
 use crate::LiveOp;
 use crate::leaders::is_same_lift;
 use crate::live::Live;
 use crate::names::Names;
 use cam_base::NoMemory;
-use cam_type::{Answer, Op, State, apply};
+use cam_type::{Answer, DataType, Op, State};
 
 /// The state of an object behind a write.
 #[derive(Drop)]
@@ -83,64 +86,125 @@ pub(crate) fn settled(
     }
 }
 
-/// Does an operation that only looks, in the last state.
-pub(crate) fn look(
-    versions: &mut Vec<Version>,
-    start: &mut State,
-    op: &Op,
-) -> Result<Answer, NoMemory>
-    requires { mode_of op.now ≡ ReadMode }
-    ensures versions { versions.new.items ≡ versions.old.items }
-    ensures start { start.new ≡ start.old }
-    ensures answer { IfOk result (λ answer. answer ≡ answer_of (last_state start.old versions.old.items) op.now) }
+/// Whatever the state is, a number in it has 64 bits.
+pub(crate) fn keep_range(state: &State)
+    ensures { IsStart state.now }
 {
-    match versions.len().checked_sub(1) {
-        Some(last) => apply(&mut versions[last].state, op),
-        None => apply(start, op),
+    if let State::Counter(value) = state {
+        let _value = *value;
     }
 }
 
-/// Does a write: in the last version where that is its holder's, and else in a copy, which is the holder's from now on.
-pub(crate) fn write(
+/// Lets a server hold the state that was written last.
+fn load_last<T: DataType>(
+    versions: &[Version],
+    start: &State,
+    server: &mut T,
+) -> Result<(), NoMemory>
+    requires kind { T.kind server.old ≡ kind_of start.now }
+    requires kinds { AreOfKind (kind_of start.now) versions.now }
+    ensures kind_stays { T.kind server.new ≡ T.kind server.old }
+    ensures ok { OnOk result (T.held server.new ≡ last_state start.now versions.now) }
+{
+    match versions.len().checked_sub(1) {
+        Some(last) => server.load(&versions[last].state),
+        None => server.load(start),
+    }
+}
+
+/// Lets a server hold the state that an operation meets: of a counter the start state with the sum of all adds, else the last one.
+fn load_met<T: DataType>(
+    versions: &[Version],
+    start: &State,
+    sum: i64,
+    server: &mut T,
+) -> Result<(), NoMemory>
+    requires kind { T.kind server.old ≡ kind_of start.now }
+    requires kinds { AreOfKind (kind_of start.now) versions.now }
+    ensures kind_stays { T.kind server.new ≡ T.kind server.old }
+    ensures ok { OnOk result (T.held server.new ≡ met start.now versions.now sum) }
+{
+    match start {
+        State::Register(_) | State::Queue(_) => load_last(versions, start, server),
+        State::Counter(_) => {
+            server.load(start)?;
+            server.apply(&Op::Add(sum))?;
+            Ok(())
+        }
+    }
+}
+
+/// Has a server do an operation in the state that it meets.
+pub(crate) fn serve<T: DataType>(
+    versions: &[Version],
+    start: &State,
+    sum: i64,
+    op: &Op,
+    server: &mut T,
+) -> Result<Answer, NoMemory>
+    requires kind { T.kind server.old ≡ kind_of start.now }
+    requires kinds { AreOfKind (kind_of start.now) versions.now }
+    requires fits { fits (kind_of start.now) op.now ≡ true }
+    ensures kind_stays { T.kind server.new ≡ T.kind server.old }
+    ensures after { OnOk result (T.held server.new
+        ≡ state_after (met start.now versions.now sum) op.now) }
+    ensures answer { IfOk result (λ answer. answer
+        ≡ answer_of (met start.now versions.now sum) op.now) }
+{
+    load_met(versions, start, sum, server)?;
+    server.apply(op)
+}
+
+/// Has a server do a write, and keeps the state behind it. Where memory is wanting the versions are as before.
+pub(crate) fn write<T: DataType>(
     versions: &mut Vec<Version>,
     start: &State,
+    sum: i64,
     operation: &LiveOp,
     committed: &Names,
+    server: &mut T,
 ) -> Result<Answer, NoMemory>
-    ensures ok { OnOk result (versions.new.items ≡ with_write committed.now.names start.now versions.old.items operation.now) }
+    requires kind { T.kind server.old ≡ kind_of start.now }
+    requires kinds { AreOfKind (kind_of start.now) versions.old.items }
+    requires fits { fits (kind_of start.now) operation.now.op ≡ true }
+    requires mode { mode_of operation.now.op ≡ WriteMode }
+    ensures kind_stays { T.kind server.new ≡ T.kind server.old }
+    ensures after { OnOk result (T.held server.new
+        ≡ state_after (met start.now versions.old.items sum) operation.now.op) }
+    ensures ok { OnOk result (versions.new.items
+        ≡ with_write committed.now.names start.now versions.old.items operation.now) }
     ensures err { OnErr result (versions.new.items ≡ versions.old.items) }
-    ensures answer { IfOk result (λ answer. answer ≡ answer_of (last_state start.now versions.old.items) operation.now.op) }
+    ensures answer { IfOk result (λ answer. answer
+        ≡ answer_of (met start.now versions.old.items sum) operation.now.op) }
 {
+    versions.reserve(1)?;
+    let answer = serve(versions.as_slice(), start, sum, &operation.op, server)?;
+    let state = server.save()?;
+    put(versions, operation, state, committed);
+    Ok(answer)
+}
+
+/// Keeps the state behind a write: in the place of the last version where that is its holder's, and else behind it.
+fn put(versions: &mut Vec<Version>, operation: &LiveOp, state: State, committed: &Names)
+    requires { vec_len versions.old < vec_capacity versions.old }
+    ensures { (start : StateValue)
+        → state ≡ state_after (last_state start versions.old.items) operation.now.op
+        → versions.new.items ≡ with_write committed.now.names start versions.old.items operation.now }
+{
+    let version = Version {
+        last: *operation,
+        state,
+    };
     let Some(last) = versions.len().checked_sub(1) else {
-        return begin(versions, start.copy()?, operation);
+        versions.push_reserved(version);
+        return;
     };
     let lift = committed.lift(&operation.action);
     if is_same_lift(&committed.lift(&versions[last].last.action), &lift) {
-        let answer = apply(&mut versions[last].state, &operation.op)?;
-        versions[last].last = *operation;
-        return Ok(answer);
+        versions[last] = version;
+    } else {
+        versions.push_reserved(version);
     }
-    let state = versions[last].state.copy()?;
-    begin(versions, state, operation)
-}
-
-/// Does a write in this state, and adds the version that it makes.
-fn begin(
-    versions: &mut Vec<Version>,
-    mut state: State,
-    operation: &LiveOp,
-) -> Result<Answer, NoMemory>
-    ensures ok { OnOk result (versions.new.items ≡ versions.old.items ++ record { last = operation.now; state = state_after state operation.now.op } ∷ []) }
-    ensures err { OnErr result (versions.new.items ≡ versions.old.items) }
-    ensures answer { IfOk result (λ answer. answer ≡ answer_of state operation.now.op) }
-{
-    versions.reserve(1)?;
-    let answer = apply(&mut state, &operation.op)?;
-    versions.push_reserved(Version {
-        last: *operation,
-        state,
-    });
-    Ok(answer)
 }
 
 /// Whether a version need not be kept beside a later one: it is dead, or both have one holder.
@@ -159,6 +223,7 @@ pub(crate) fn tidy(versions: &mut Vec<Version>, live: &Live, committed: &Names)
     ensures kept { (x : ℕ) (start : StateValue) (next : ℕ) → KeepsVersions x start committed.now.names live.now.ops next versions.old.items
         → KeepsVersions x start committed.now.names live.now.ops next versions.new.items }
     ensures last { LastIsLive live.now.ops versions.new.items }
+    ensures kinds { (k : KindValue) → AreOfKind k versions.old.items → AreOfKind k versions.new.items }
 {
     while let Some(last) = versions.pop() {
         if live.has(last.last.index) {
@@ -176,6 +241,7 @@ fn drop_older(versions: &mut Vec<Version>, live: &Live, committed: &Names, later
         → KeepsVersions x start committed.now.names live.now.ops next (versions.new.items ++ later.now ∷ []) }
     ensures len { vec_len versions.new ≤ vec_len versions.old }
     ensures capacity { vec_capacity versions.new ≡ vec_capacity versions.old }
+    ensures kinds { (k : KindValue) → AreOfKind k versions.old.items → AreOfKind k versions.new.items }
 {
     while let Some(version) = versions.pop() {
         if !is_outdated(live, committed, &version, later) {

@@ -6,7 +6,7 @@ use Rattle.std.proofs.lemmas.List.{take_at, drop_at, drop_more}
 use Rattle.std.proofs.Math.Seq.{get_or-append_seam}
 use Rattle.std.proofs.lemmas.List.Concat.{flat_map-append}
 use Rattle.cam_disk.specs.Disk.{Holds, Torn, Only}
-use Rattle.cam_log.specs.Image.{header, gated, appended, gate_place}
+use Rattle.cam_log.specs.Image.{header, gated, appended, gate_place, log_bytes, IsAppended}
 use Rattle.cam_log.specs.Reading.{read_log}
 use Rattle.cam_log.specs.Moments.{IsAtRest, IsBeforeOrAfter, Written}
 use Rattle.cam_log.specs.Again.{opened_is_there}
@@ -110,15 +110,30 @@ torn_gate entries gate entry old c small staged torn =
       | inr shut ↦ inl (opens entries gate c (omega (arith, small)) (at_rest entries gate (get_or c gate 1) (appended entry ++ staged.rest) c staged.place shut is))
     ]
 
-pub written_gate : (entries : List (List ℕ)) (gate : ℕ) (entry old new : List ℕ) → Staged entries gate (appended entry) old → Holds old gate (1 ∷ []) new → IsAtRest (entries ++ entry ∷ []) (gate + length (appended entry)) new
-written_gate entries gate entry old new staged holds =
+-- what stands once the gate is open
+gate_bytes : (entries : List (List ℕ)) (gate : ℕ) (entry old new : List ℕ) (staged : Staged entries gate (appended entry) old) → Holds old gate (1 ∷ []) new → new ≡ front entries ++ 1 ∷ (appended entry ++ staged.rest)
+gate_bytes entries gate entry old new staged holds =
     let long : length (front entries) ≡ gate = long_front entries ∙ sym staged.place in
     let text = appended entry ++ staged.rest in
     let before : take gate old ≡ front entries = ap (λ (b : List ℕ). take gate b) staged.is ∙ take_at (front entries) (staged.g ∷ text) gate long in
     let behind : drop (gate + 1) old ≡ text =
     ap (λ (b : List ℕ). drop (gate + 1) b) (staged.is ∙ sym (append_assoc (front entries) (staged.g ∷ []) text)) ∙ drop_at (front entries ++ staged.g ∷ []) text (gate + 1) (omega (arith, long, length-append (front entries) (staged.g ∷ []))) in
-    at_rest_after entries gate entry staged.rest new staged.place
-    (holds ∙ ap (λ (u : List ℕ). u ++ (1 ∷ []) ++ drop (gate + 1) old) before ∙ ap (λ (u : List ℕ). front entries ++ (1 ∷ []) ++ u) behind ∙ append_assoc (front entries) (1 ∷ []) text)
+    holds ∙ ap (λ (u : List ℕ). u ++ (1 ∷ []) ++ drop (gate + 1) old) before ∙ ap (λ (u : List ℕ). front entries ++ (1 ∷ []) ++ u) behind ∙ append_assoc (front entries) (1 ∷ []) text
+
+pub written_gate : (entries : List (List ℕ)) (gate : ℕ) (entry old new : List ℕ) → Staged entries gate (appended entry) old → Holds old gate (1 ∷ []) new → IsAtRest (entries ++ entry ∷ []) (gate + length (appended entry)) new
+written_gate entries gate entry old new staged holds =
+    at_rest_after entries gate entry staged.rest new staged.place (gate_bytes entries gate entry old new staged holds)
+
+-- just the bytes of the longer log stand, and past them what stood there before
+pub appended_bytes : (entries : List (List ℕ)) (gate : ℕ) (entry old mid new : List ℕ) → IsAtRest entries gate old → Holds old (gate + 1) (appended entry) mid → Holds mid gate (1 ∷ []) new → IsAppended (entries ++ entry ∷ []) old new
+unfolding written_behind
+appended_bytes entries gate entry old mid new rests first second =
+    let staged = written_behind entries gate (appended entry) old mid rests first in
+    let longer = entries ++ entry ∷ [] in
+    let size : gate + 1 + length (appended entry) ≡ length (log_bytes longer) =
+    omega (arith, rests.place, next_place entries entry, long_front longer, length-append (front longer) (0 ∷ [])) in
+    gate_bytes entries gate entry mid new staged second ∙ opened entries entry staged.rest ∙ sym (append_assoc (front longer) (0 ∷ []) staged.rest)
+    ∙ ap (λ (n : ℕ). log_bytes longer ++ drop n old) size
 
 -- each image after the first write, of a disk that held one image alone
 pub first_write : (entries : List (List ℕ)) (gate n : ℕ) (entry old c : List ℕ) (may_leave : List ℕ → Type 0) → gate < 18446744073709551616 → IsAtRest entries gate old → Only old may_leave → Written (gate + 1) n may_leave c → IsBeforeOrAfter entries entry (read_log c)

@@ -6,3 +6,4 @@ pub mod Again
 pub mod Moments
 pub mod Rest
 pub mod Steps
+pub mod Spent

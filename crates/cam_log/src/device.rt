@@ -3,7 +3,8 @@ ghost use Rattle.cam_base.specs.Causes.{Rose};
 ghost use Rattle.cam_log.specs.declared.fault.LogFault.TheVariants.{DiskFault};
 ghost use Rattle.cam_log.specs.Faults.{Refuses};
 ghost use Rattle.cam_disk.specs.Disk.{Only, Holds, Follows, Same, FailsWithCause};
-ghost use Rattle.cam_log.specs.Image.{appended};
+ghost use Rattle.cam_log.specs.Image.{appended, IsAppended};
+ghost use Rattle.cam_log.specs.Spent.{Spent};
 ghost use Rattle.cam_log.specs.Moments.{IsAtRest, Grows, AddsNothing, Written, IsBeforeOrAfter};
 ghost use Rattle.cam_log.specs.Reading.{read_log};
 
@@ -14,11 +15,13 @@ use cam_disk::{Disk, DiskError};
 use std::alloc::Global;
 
 /// Writes and syncs. At `Ok` a crash leaves the bytes as they are then.
+#[tactic(auto, using(crate::specs::Spent::spent_one, crate::specs::Spent::spent_then))]
 pub fn force<D: Disk>(disk: &mut D, at: u64, bytes: &[u8]) -> Result<(), DiskError>
     requires { IsTrue (D.tells disk.old) → at ≤ length (D.seen disk.old) }
     ensures written { IsTrue (D.tells disk.old) → OnOk result (Holds (D.seen disk.old) at bytes.now (D.seen disk.new)) }
     ensures durable { IsTrue (D.tells disk.old) → OnOk result (Only (D.seen disk.new) (D.may_leave disk.new)) }
     ensures limit { OnOk result (at + length bytes.now ≤ 2 ^ 62) }
+    ensures spent { OnOk result (Spent 2 (D.passes disk.old) (D.passes disk.new)) }
     ensures tells { D.tells disk.new ≡ D.tells disk.old }
     ensures any_moment { IsTrue (D.tells disk.old) → Grows (D.moment disk.old) (D.moment disk.new)
         (D.left_since disk.old) (D.left_since disk.new) (Written at (length bytes.now) (D.may_leave disk.old)) }
@@ -29,6 +32,7 @@ pub fn force<D: Disk>(disk: &mut D, at: u64, bytes: &[u8]) -> Result<(), DiskErr
 }
 
 /// The four device calls of an append: the entry goes behind its closed gate, and then the gate is opened.
+#[tactic(auto, using(crate::specs::Spent::spent_then))]
 pub fn write_entry<D: Disk>(disk: &mut D, gate: u64, behind: &[u8]) -> Result<(), DiskError>
     requires within { gate < 2 ^ 63 }
     requires place { IsTrue (D.tells disk.old) → gate + 1 ≤ length (D.seen disk.old) }
@@ -36,7 +40,10 @@ pub fn write_entry<D: Disk>(disk: &mut D, gate: u64, behind: &[u8]) -> Result<()
     ensures at_rest { IsTrue (D.tells disk.old) → OnOk result ((entries : List (List ℕ)) (entry : List ℕ) → behind.now ≡ appended entry
         → IsAtRest entries gate (D.seen disk.old) → IsAtRest (entries ++ entry ∷ []) (gate + length behind.now) (D.seen disk.new)) }
     ensures durable { IsTrue (D.tells disk.old) → OnOk result (Only (D.seen disk.new) (D.may_leave disk.new)) }
+    ensures bytes { IsTrue (D.tells disk.old) → OnOk result ((entries : List (List ℕ)) (entry : List ℕ) → behind.now ≡ appended entry
+        → IsAtRest entries gate (D.seen disk.old) → IsAppended (entries ++ entry ∷ []) (D.seen disk.old) (D.seen disk.new)) }
     ensures limit { OnOk result (gate + length behind.now ≤ 2 ^ 62) }
+    ensures spent { OnOk result (Spent 4 (D.passes disk.old) (D.passes disk.new)) }
     ensures tells { D.tells disk.new ≡ D.tells disk.old }
     ensures any_moment { IsTrue (D.tells disk.old) → (entries : List (List ℕ)) (entry : List ℕ) → behind.now ≡ appended entry
         → IsAtRest entries gate (D.seen disk.old) → Grows (D.moment disk.old) (D.moment disk.new)

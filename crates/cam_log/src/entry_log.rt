@@ -1,4 +1,5 @@
-ghost use Rattle.std.specs.Prelude.{◌≡◌, ◌≤◌, ◌+◌, ◌++◌, ◌∷◌, [], Bool, List, ℕ, IsTrue, IsFalse, OnOk, OnErr, IsErrOf, Ok};
+ghost use Rattle.std.specs.Prelude.{◌≡◌, ◌≤◌, ◌+◌, ◌++◌, ◌∷◌, [], Bool, List, ℕ, IsTrue, IsFalse, OnOk, OnErr, IsErrOf, Ok, Option, None};
+ghost use Rattle.cam_log.specs.Spent.{Spent};
 ghost use Rattle.cam_base.specs.Causes.{Rose};
 ghost use Rattle.cam_log.specs.declared.fault.LogFault.TheVariants.{DiskFault, NotALog};
 ghost use Rattle.cam_log.specs.Moments.{Grows, Stays, Opened, IsBeforeOrAfter};
@@ -33,12 +34,22 @@ pub trait EntryLog: Drop {
     /// How often its disk has failed.
     ghost faults: { Self → ℕ };
 
+    /// How many calls its disk still does. None: no bound.
+    ghost passes: { Self → Option ℕ } = { λ _. None };
+
+    /// Whether an append of the entry to the first log, which became the second, wrote just the bytes that
+    /// the log's format has for it.
+    ghost is_written: { Self → List ℕ → Self → Type 0 } = { λ _ _ _. Unit {0} };
+
     /// Appends an entry. At `Ok` a crash leaves a log that has it. It fails with `DiskFault` or `NoMemory`,
     /// and is broken after a `DiskFault`, and after a `NoMemory` of the disk itself.
     fn append(&mut self, entry: &[u8]) -> Result<(), LogFault>
         requires { IsFalse (broken self.old) }
         ensures appended { OnOk result (listed self.new ≡ listed self.old ++ entry.now ∷ []) }
         ensures whole { OnOk result (IsFalse (broken self.new)) }
+        ensures bytes { IsTrue (tells self.old) → OnOk result (is_written self.old entry.now self.new) }
+        // It takes four calls of the disk: with fewer left it fails.
+        ensures spent { OnOk result (Spent 4 (passes self.old) (passes self.new)) }
         // A crash at any moment of the call leaves the entries before it, with the new one or without.
         ensures any_moment { IsTrue (tells self.old) → Grows (moment self.old) (moment self.new)
             (opens_since self.old) (opens_since self.new) (IsBeforeOrAfter (listed self.old) entry.now) }

@@ -3,6 +3,7 @@ ghost use Rattle.cam_base.specs.Causes.{Rose};
 ghost use Rattle.cam_disk.specs.Disk.{Only, FailsWithCause};
 ghost use Rattle.cam_log.specs.declared.fault.LogFault.TheVariants.{DiskFault, NotALog};
 ghost use Rattle.cam_log.specs.Faults.{Refuses};
+ghost use Rattle.cam_log.specs.Image.{log_bytes, IsAppended};
 ghost use Rattle.cam_log.specs.Reading.{read_log};
 ghost use Rattle.cam_log.specs.Moments.{IsAtRest, AddsNothing, Openings};
 
@@ -41,6 +42,7 @@ fn drop_newest(entries: &mut Entries, alloc: Global)
 fn format_disk<D: Disk>(disk: &mut D) -> Result<(), DiskError>
     ensures at_rest { IsTrue (D.tells disk.old) → OnOk result (IsAtRest [] 8 (D.seen disk.new)) }
     ensures durable { IsTrue (D.tells disk.old) → OnOk result (Only (D.seen disk.new) (D.may_leave disk.new)) }
+    ensures bytes { IsTrue (D.tells disk.old) → OnOk result (D.seen disk.new ≡ log_bytes []) }
     ensures tells { D.tells disk.new ≡ D.tells disk.old }
     ensures cause { FailsWithCause (D.faults disk.old) (D.faults disk.new) result }
     ensures later { IsTrue (D.tells disk.old) → D.moment disk.old ≤ D.moment disk.new }
@@ -54,6 +56,7 @@ impl<D: Disk> Log<D> {
     pub fn format(alloc: Global, disk: D) -> Result<Log<D>, OpenRefused<D>>
         ensures empty { IfOk result (λ log. ⟦<Log<D> as EntryLog>⟧.listed log ≡ []) }
         ensures whole { IfOk result (λ log. IsFalse (⟦<Log<D> as EntryLog>⟧.broken log)) }
+        ensures bytes { IsTrue (D.tells disk) → IfOk result (λ log. D.seen log.disk ≡ log_bytes []) }
         ensures tells { IfOk result (λ log. ⟦<Log<D> as EntryLog>⟧.tells log ≡ D.tells disk) }
         ensures time { IsTrue (D.tells disk) → IfOk result (λ log. D.moment disk ≤ ⟦<Log<D> as EntryLog>⟧.moment log) }
         ensures later { IfOk result (λ log. D.faults disk ≤ ⟦<Log<D> as EntryLog>⟧.faults log) }
@@ -134,6 +137,10 @@ impl<D: Disk> EntryLog for Log<D> {
     ghost opens_since = { λ log. Openings (D.left_since log.disk) };
 
     ghost faults = { λ log. D.faults log.disk };
+
+    ghost passes = { λ log. D.passes log.disk };
+
+    ghost is_written = { λ old _ new. IsAppended new.entries (D.seen old.disk) (D.seen new.disk) };
 
     ghost at_rest = { λ log opened h whole o. opens_alone log.entries log.gate (D.seen log.disk) o.0 (D.may_leave log.disk) opened (Prim.omega (arith, log.within)) (log.at_rest h whole) (log.durable h whole) (D.only_now log.disk o.0 h o.1) o.2 };
 

@@ -1,5 +1,6 @@
 pub mod Records
 pub mod Reading
+pub mod Versions
 pub mod Ranges
 pub mod Writable
 pub mod Refuses
@@ -7,3 +8,5 @@ pub mod Recovery
 pub mod Faults
 pub mod Inspect
 pub mod Laws
+pub mod Migrating
+pub mod Snapshot

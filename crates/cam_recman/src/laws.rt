@@ -1,6 +1,8 @@
+ghost use Rattle.cam_recman.specs.Snapshot.{SnapshotKeepsAll};
 ghost use Rattle.cam_recman.specs.Laws.{EntriesAreRead, ReadIsWritten, RecoveryIsOfTheRecords, OutcomesAreThoseSaid, HeldIsWhatWasSecured, CountsAreTheGreatest, CountIsTheLast, OneMoreEntryAdds, WrittenEntryAdds, StoppedAppendRecovers, FaultIsTheFirst, FirstIsTheFault};
+ghost use Rattle.cam_recman.specs.Migrating.{MigrationKeepsRecovery, MigrationHasTheFault, MigratedIsVersion2, MigrationIsOnce, WrittenIsMigrated, StoppedMigrationRecovers, UpgradeKeepsRecovery};
 
-/// An entry that was written is read as its records, and what is read as records is their bytes.
+/// An entry that was written is read as its records, where the format has their version, and what is read as records is their bytes.
 pub fn entries()
     ensures read { EntriesAreRead }
     ensures exactly { ReadIsWritten }
@@ -21,4 +23,22 @@ pub fn recovery()
     ensures stopped { StoppedAppendRecovers }
     ensures first { FaultIsTheFirst }
     ensures faulty { FirstIsTheFault }
+{}
+
+/// A log is brought to version 2 by one entry of a Version alone, which says nothing that is recovered. What is left recovers what was
+/// recovered before, and so does a log that was stopped meanwhile; where nothing could be recovered, the fault is the same. To migrate once
+/// is enough.
+pub fn migration()
+    ensures recovery { MigrationKeepsRecovery }
+    ensures fault { MigrationHasTheFault }
+    ensures version { MigratedIsVersion2 }
+    ensures once { MigrationIsOnce }
+    ensures written { WrittenIsMigrated }
+    ensures stopped { StoppedMigrationRecovers }
+    ensures upgrade { UpgradeKeepsRecovery }
+{}
+
+/// One entry can keep all that a node has: recovery of it gives that again.
+pub fn snapshots()
+    ensures keeps { SnapshotKeepsAll }
 {}

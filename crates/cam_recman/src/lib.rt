@@ -10,6 +10,10 @@
 //! | 3 | Commit | name, dependencies |
 //! | 4 | Seen | node (one byte), its count (number, 2 or more) |
 //! | 5 | Secure | family, count (number), how many operations (four bytes), then of each its index (four bytes, 0 to 999,999,999), object and operation |
+//! | 6 | Version | the version behind it, 2 (one byte) |
+//!
+//! A log begins with version 1. Version may stand once; before it an Add is not known, and behind it the version is 2. Recovery takes
+//! nothing from it.
 //!
 //! Recovered are the last count, every outcome, of each node the greatest count, and what each secured family holds, and nothing else.
 //! One more entry adds what its records say, and nothing else.
@@ -21,15 +25,21 @@
 
 ghost use Rattle.std.specs.Prelude.{◌≡◌};
 ghost use Rattle.cam_recman.specs.declared.RecFault.TheVariants.{NoMemory as OutOfMemory};
+ghost use Rattle.cam_recman.specs.declared.MigrateFault.TheVariants.{NoMemory as NoMemoryToMigrate};
+ghost use Rattle.cam_recman.specs.Migrating.{fault_of};
 
 mod entry;
+mod keeping;
 mod laws;
+mod migrating;
 mod reading;
 mod recovering;
 mod writing;
 
 pub use entry::decode_entry;
-pub use laws::{entries, recovery};
+pub use keeping::snapshot;
+pub use laws::{entries, migration, recovery, snapshots};
+pub use migrating::migrate;
 pub use recovering::{recover, restart};
 pub use writing::encode_entry;
 
@@ -55,6 +65,8 @@ pub enum Record {
     Seen(u8, u32),
     /// A family was secured here with these operations.
     Secure(Held),
+    /// What stands behind this is of version 2.
+    Version,
 }
 
 /// The records of an entry, in order.
@@ -87,5 +99,44 @@ impl From<NoMemory> for RecFault {
 
     fn from(_: NoMemory) -> RecFault {
         RecFault::NoMemory
+    }
+}
+
+/// What bringing a log to version 2 found: one of version 1, to which it appended an entry, or one of version 2.
+#[derive(Clone, Copy, Debug, PartialEq, Eq)]
+pub enum Migrated {
+    Done,
+    Already,
+}
+
+/// Why a log can't be brought to version 2.
+#[derive(Clone, Copy, Debug, PartialEq, Eq, Error)]
+pub enum MigrateFault {
+    /// The disk failed. Its count of faults rose.
+    #[error("the disk failed")]
+    DiskFault,
+    /// This entry, counted from 0, is no list of records. The place is that of its first fault.
+    #[error("entry {entry} is no list of records at byte {at}")]
+    BadRecord { entry: u64, at: u64 },
+    #[error("out of memory")]
+    NoMemory,
+}
+
+impl From<NoMemory> for MigrateFault {
+    ghost from_gives = { λ _ fault. fault ≡ NoMemoryToMigrate };
+
+    fn from(_: NoMemory) -> MigrateFault {
+        MigrateFault::NoMemory
+    }
+}
+
+impl From<RecFault> for MigrateFault {
+    ghost from_gives = { λ fault given. given ≡ fault_of fault };
+
+    fn from(fault: RecFault) -> MigrateFault {
+        match fault {
+            RecFault::BadRecord { entry, at } => MigrateFault::BadRecord { entry, at },
+            RecFault::NoMemory => MigrateFault::NoMemory,
+        }
     }
 }

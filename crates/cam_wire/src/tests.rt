@@ -13,19 +13,23 @@ use std::alloc::Global;
 use std::test::Fail;
 
 /// News from node 1 at count 1 to node 2, with nothing known.
-const NEWS: [u8; 17] = [1, 1, 0, 0, 0, 1, 2, 0, 0, 0, 0, 0, 0, 0, 0, 0, 9];
+const NEWS: [u8; 33] = [
+    2, 1, 0, 0, 0, 1, 2, 0, 0, 0, 0, 0, 0, 0, 0, 0, 0, 0, 0, 0, 0, 0, 0, 0, 0, 0, 0, 0, 0, 0, 0, 0,
+    9,
+];
 
 /// The first call of the top action 1.1.1, to write 5 on the first object.
-const CALL: [u8; 51] = [
-    1, 1, 0, 0, 0, 1, 2, 0, 0, 0, 0, 0, 0, 0, 0, 0, 2, 1, 1, 0, 0, 0, 1, 0, 0, 0, 1, 0, 0, 0, 1, 0,
-    2, 0, 0, 0, 0, 0, 0, 0, 5, 0, 0, 0, 1, 1, 1, 0, 0, 0, 1,
+const CALL: [u8; 67] = [
+    2, 1, 0, 0, 0, 1, 2, 0, 0, 0, 0, 0, 0, 0, 0, 0, 0, 0, 0, 0, 0, 0, 0, 0, 0, 0, 0, 0, 0, 0, 0, 0,
+    2, 1, 1, 0, 0, 0, 1, 0, 0, 0, 1, 0, 0, 0, 1, 0, 2, 0, 0, 0, 0, 0, 0, 0, 5, 0, 0, 0, 1, 1, 1, 0,
+    0, 0, 1,
 ];
 
 /// A Quit of 1.1.2 from node 2 at count 3 to node 1. Node 4 is known at count 2, 1.1.1 and 1.1.2 aborted, 2.3.1 committed.
-const QUIT: [u8; 73] = [
-    1, 2, 0, 0, 0, 3, 1, 2, 2, 0, 0, 0, 3, 4, 0, 0, 0, 2, 0, 0, 0, 2, 1, 1, 0, 0, 0, 1, 0, 0, 0, 1,
-    1, 1, 0, 0, 0, 1, 0, 0, 0, 2, 0, 0, 0, 1, 1, 2, 0, 0, 0, 3, 0, 0, 0, 1, 1, 2, 0, 0, 0, 3, 5, 1,
-    1, 0, 0, 0, 1, 0, 0, 0, 2,
+const QUIT: [u8; 89] = [
+    2, 2, 0, 0, 0, 3, 1, 0, 0, 0, 0, 0, 0, 0, 3, 0, 0, 0, 0, 0, 0, 0, 4, 2, 2, 0, 0, 0, 3, 4, 0, 0,
+    0, 2, 0, 0, 0, 2, 1, 1, 0, 0, 0, 1, 0, 0, 0, 1, 1, 1, 0, 0, 0, 1, 0, 0, 0, 2, 0, 0, 0, 1, 1, 2,
+    0, 0, 0, 3, 0, 0, 0, 1, 1, 2, 0, 0, 0, 3, 5, 1, 1, 0, 0, 0, 1, 0, 0, 0, 2,
 ];
 
 /// A letter of node 1 at count 1 to node 2, with nothing known.
@@ -37,6 +41,8 @@ fn letter_of(alloc: Global, body: Body) -> Letter
         from: 1,
         count: 1,
         to: 2,
+        have: 0,
+        place: 0,
         know: Know::new(alloc),
         body,
     }
@@ -79,6 +85,8 @@ fn letters_are_spelled_as_the_format_says(rt: HostRuntime) -> Result<(), Fail> {
         from: 2,
         count: 3,
         to: 1,
+        have: 3,
+        place: 4,
         know,
         body: Body::Quit { action: second },
     };
@@ -90,12 +98,12 @@ fn letters_are_spelled_as_the_format_says(rt: HostRuntime) -> Result<(), Fail> {
     Ok(())
 }
 
-/// Whether a letter as `NEWS` but with this body is spelled as the first 16 bytes of `NEWS`, the tag, the name 1.1.1 and these bytes.
+/// Whether a letter as `NEWS` but with this body is spelled as the first 32 bytes of `NEWS`, the tag, the name 1.1.1 and these bytes.
 fn is_spelled(alloc: Global, body: Body, tag: u8, fields: &[u8]) -> Result<bool, NoMemory>
     requires { IsWritableBody body }
 {
     let name = [1, 1, 0, 0, 0, 1, 0, 0, 0, 1];
-    let bytes = join(alloc, &[&NEWS[..16], &[tag], &name, fields])?;
+    let bytes = join(alloc, &[&NEWS[..32], &[tag], &name, fields])?;
     let letter = letter_of(alloc, body);
     Ok(encode(alloc, &letter)?.as_slice() == bytes.as_slice())
 }
@@ -179,8 +187,8 @@ fn fault_of(alloc: Global, bytes: &[u8]) -> Result<Option<WireFault>, Fail> {
 }
 
 /// `NEWS` with another byte at a place.
-fn news_with(place: usize, byte: u8) -> [u8; 17]
-    requires { place < 17 }
+fn news_with(place: usize, byte: u8) -> [u8; 33]
+    requires { place < 33 }
 {
     let mut bytes = NEWS;
     bytes[place] = byte;
@@ -192,24 +200,24 @@ fn letters_are_read_and_other_bytes_refused(rt: HostRuntime) -> Result<(), Fail>
     let longer = join(rt.alloc(), &[&NEWS, &[0]])?;
     // 2.3.1 is committed twice, the second time with no dependencies.
     let twice = [
-        &QUIT[..42],
+        &QUIT[..58],
         &[0, 0, 0, 2],
-        &QUIT[46..62],
-        &QUIT[46..56],
+        &QUIT[62..78],
+        &QUIT[62..72],
         &[0],
-        &QUIT[62..],
+        &QUIT[78..],
     ];
     let twice = join(rt.alloc(), &twice)?;
     for (bytes, fault) in [
         (NEWS.as_slice(), None),
         (CALL.as_slice(), None),
         (QUIT.as_slice(), None),
-        (news_with(0, 3).as_slice(), Some(WireFault::BadTag(0))),
+        (news_with(0, 1).as_slice(), Some(WireFault::BadTag(0))),
         (news_with(1, 9).as_slice(), Some(WireFault::BadNumber(1))),
-        (news_with(16, 10).as_slice(), Some(WireFault::BadTag(16))),
-        (longer.as_slice(), Some(WireFault::Rest(17))),
+        (news_with(32, 10).as_slice(), Some(WireFault::BadTag(32))),
+        (longer.as_slice(), Some(WireFault::Rest(33))),
         (&NEWS[..0], Some(WireFault::Short(0))),
-        (twice.as_slice(), Some(WireFault::Order(62))),
+        (twice.as_slice(), Some(WireFault::Order(78))),
     ] {
         assert_eq!(rt; fault_of(rt.alloc(), bytes)?, fault);
     }

@@ -1,9 +1,10 @@
 //! The plain table and the lock table under the same calls.
+use super::servers::Servers;
 use crate::{Grant, LockTable, PlainTable, may_restore};
 use cam_base::NoMemory;
 use cam_know::Know;
 use cam_names::Name;
-use cam_type::{Answer, Held, HeldList, HeldOp, Objects, Op, State};
+use cam_type::{Answer, DataType, Held, HeldList, HeldOp, Kind, Objects, Op, State};
 use std::alloc::Global;
 
 /// What a table answers: what the operation answered, or who stands in the way.
@@ -21,6 +22,7 @@ pub(super) fn told(grant: &Grant) -> Told {
 pub(super) struct Both {
     plain: PlainTable,
     locks: LockTable,
+    servers: Servers,
     pub(super) done: u32,
     pub(super) refused: u32,
 }
@@ -30,14 +32,15 @@ impl Both {
         Ok(Both {
             plain: PlainTable::new(alloc, objects, 1)?,
             locks: LockTable::new(alloc, objects, 1)?,
+            servers: Servers::new(alloc),
             done: 0,
             refused: 0,
         })
     }
 
     pub(super) fn ask(&mut self, name: &Name, object: u8, op: &Op) -> Result<bool, NoMemory> {
-        let one = ask_plain(&mut self.plain, name, object, op)?;
-        let other = ask_locks(&mut self.locks, name, object, op)?;
+        let one = ask_plain(&mut self.plain, name, object, op, &mut self.servers)?;
+        let other = ask_locks(&mut self.locks, name, object, op, &mut self.servers)?;
         if one.0.is_some() {
             self.done = self.done.wrapping_add(1);
         }
@@ -71,6 +74,7 @@ impl Both {
         ) {
             (State::Register(one), State::Register(other)) => Ok(one == other),
             (State::Queue(one), State::Queue(other)) => Ok(one.as_slice() == other.as_slice()),
+            (State::Counter(one), State::Counter(other)) => Ok(one == other),
             _ => Ok(false),
         }
     }
@@ -113,11 +117,34 @@ impl Both {
     }
 }
 
-fn ask_plain(table: &mut PlainTable, name: &Name, object: u8, op: &Op) -> Result<Told, NoMemory> {
+fn ask_plain(
+    table: &mut PlainTable,
+    name: &Name,
+    object: u8,
+    op: &Op,
+    servers: &mut Servers,
+) -> Result<Told, NoMemory> {
+    match table.kind(object) {
+        Kind::Register => ask_plain_with(table, name, object, op, &mut servers.register),
+        Kind::Queue => ask_plain_with(table, name, object, op, &mut servers.queue),
+        Kind::Counter => ask_plain_with(table, name, object, op, &mut servers.counter),
+    }
+}
+
+fn ask_plain_with<T: DataType>(
+    table: &mut PlainTable,
+    name: &Name,
+    object: u8,
+    op: &Op,
+    server: &mut T,
+) -> Result<Told, NoMemory> {
     if !table.takes(object, op) || table.next_index() > 999_999_999 {
         return Ok((None, None));
     }
-    Ok(told(&table.try_lock_and_apply(name, object, op)?))
+    if table.kind(object) != server.kind() {
+        return Ok((None, None));
+    }
+    Ok(told(&table.try_lock_and_apply(name, object, op, server)?))
 }
 
 pub(super) fn ask_locks(
@@ -125,11 +152,29 @@ pub(super) fn ask_locks(
     name: &Name,
     object: u8,
     op: &Op,
+    servers: &mut Servers,
+) -> Result<Told, NoMemory> {
+    match table.kind(object) {
+        Kind::Register => ask_with(table, name, object, op, &mut servers.register),
+        Kind::Queue => ask_with(table, name, object, op, &mut servers.queue),
+        Kind::Counter => ask_with(table, name, object, op, &mut servers.counter),
+    }
+}
+
+pub(super) fn ask_with<T: DataType>(
+    table: &mut LockTable,
+    name: &Name,
+    object: u8,
+    op: &Op,
+    server: &mut T,
 ) -> Result<Told, NoMemory> {
     if !table.takes(object, op) || table.next_index() > 999_999_999 {
         return Ok((None, None));
     }
-    Ok(told(&table.try_lock_and_apply(name, object, op)?))
+    if table.kind(object) != server.kind() {
+        return Ok((None, None));
+    }
+    Ok(told(&table.try_lock_and_apply(name, object, op, server)?))
 }
 
 fn value_of_plain(table: &PlainTable, object: u8) -> Result<State, NoMemory> {

@@ -50,7 +50,10 @@ fn restarted(alloc: Global) -> Result<LockTable, Fail> {
 fn a_restart_keeps_what_was_secured_and_not_aborted(rt: HostRuntime) -> Result<(), Fail> {
     let mut table = restarted(rt.alloc())?;
     assert_eq!(rt; table.next_index(), 10);
-    assert_eq!(rt; first_unlike(&mut table, Scene::Restarted)?, None);
+    assert_eq!(rt;
+        first_unlike(rt.alloc(), &mut table, Scene::Restarted)?,
+        None
+    );
     Ok(())
 }
 
@@ -67,7 +70,10 @@ fn two_writers(alloc: Global) -> Result<LockTable, Fail> {
 #[test]
 fn two_restored_writers_stand_in_each_others_way(rt: HostRuntime) -> Result<(), Fail> {
     let mut table = two_writers(rt.alloc())?;
-    assert_eq!(rt; first_unlike(&mut table, Scene::TwoWriters)?, None);
+    assert_eq!(rt;
+        first_unlike(rt.alloc(), &mut table, Scene::TwoWriters)?,
+        None
+    );
     Ok(())
 }
 
@@ -89,16 +95,16 @@ fn restored_answers(alloc: Global, held: &HeldList, scene: Scene) -> Result<bool
         return Ok(false);
     }
     let mut table = LockTable::restore(alloc, &objects, 1, held, &know)?;
-    Ok(first_unlike(&mut table, scene)?.is_none())
+    Ok(first_unlike(alloc, &mut table, scene)?.is_none())
 }
 
 #[test]
 fn what_is_secured_and_restored_answers_as_before(rt: HostRuntime) -> Result<(), Fail> {
     let objects = objects(rt.alloc())?;
     let mut table = LockTable::new(rt.alloc(), &objects, 1)?;
-    assert_eq!(rt; first_unlike(&mut table, Scene::Before)?, None);
+    assert_eq!(rt; first_unlike(rt.alloc(), &mut table, Scene::Before)?, None);
     let held = secured(rt.alloc(), &table)?;
-    assert_eq!(rt; first_unlike(&mut table, Scene::After)?, None);
+    assert_eq!(rt; first_unlike(rt.alloc(), &mut table, Scene::After)?, None);
     assert!(rt; restored_answers(rt.alloc(), &held, Scene::After)?);
     Ok(())
 }
@@ -126,7 +132,9 @@ fn second(place: u8) -> Option<(HeldOp, bool)> {
         2 => (3, 1, Op::Put(1), false),
         3 => (1_000_000_000, 0, Op::Read, false),
         4 => (4, 0, Op::Put(1), false),
-        5 => (4, 2, Op::Read, false),
+        5 => (4, 3, Op::Read, false),
+        6 => (4, 2, Op::Add(1), true),
+        7 => (4, 2, Op::Write(1), false),
         _ => return None,
     };
     Some((HeldOp { index, object, op }, may))
@@ -134,7 +142,7 @@ fn second(place: u8) -> Option<(HeldOp, bool)> {
 
 #[test]
 fn only_what_fits_under_indices_of_its_own_can_be_restored(rt: HostRuntime) -> Result<(), Fail> {
-    for place in 0..6u8 {
+    for place in 0..8u8 {
         if let Some((op, may)) = second(place) {
             assert_eq!(rt; takes(rt.alloc(), 1, &op)?, may, "case {place}");
             assert!(rt; !takes(rt.alloc(), 2, &op)?, "case {place} at another node");

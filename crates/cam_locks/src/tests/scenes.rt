@@ -30,6 +30,8 @@ pub(super) enum Scene {
     Before,
     /// They go on.
     After,
+    /// Two families add, one of them in a child that aborts, and read.
+    Adders,
 }
 
 impl Scene {
@@ -46,6 +48,7 @@ impl Scene {
             Scene::TwoWriters => two_writers(place),
             Scene::Before => before(place),
             Scene::After => after(place),
+            Scene::Adders => adders(place),
         }
     }
 }
@@ -210,11 +213,36 @@ fn after(place: u8) -> Option<Step> {
     })
 }
 
+fn adders(place: u8) -> Option<Step> {
+    Some(match place {
+        0 => Step::Done("1.1.1", 2, Op::Add(5), Answer::Ok),
+        1 => Step::Done("1.1.2", 2, Op::Add(7), Answer::Ok),
+        2 => Step::Busy("1.1.1", 2, Op::Read, "1.1.2"),
+        3 => Step::Counter(10),
+        4 => Step::Done("1.1.1/1.1.1", 2, Op::Add(i64::MAX), Answer::Ok),
+        5 => Step::Commit("1.1.2"),
+        6 => Step::Counter(17),
+        7 => Step::Busy("1.1.1", 2, Op::Read, "1.1.1/1.1.1"),
+        8 => Step::Busy("1.1.3", 2, Op::Read, "1.1.1"),
+        9 => Step::Done("1.1.1/1.1.1", 2, Op::Read, Answer::Value(i64::MIN + 21)),
+        10 => Step::Busy("1.1.3", 2, Op::Add(1), "1.1.1/1.1.1"),
+        11 => Step::Abort("1.1.1/1.1.1"),
+        12 => Step::Done("1.1.1", 2, Op::Read, Answer::Value(22)),
+        13 => Step::Counter(17),
+        14 => Step::Commit("1.1.1"),
+        15 => Step::Counter(22),
+        16 => Step::Done("1.1.3", 2, Op::Add(1), Answer::Ok),
+        17 => Step::Copy,
+        18 => Step::Done("1.1.3", 2, Op::Read, Answer::Value(23)),
+        _ => return None,
+    })
+}
+
 /// The first step of a scene that a new table does not answer as it has to.
 fn unlike(alloc: Global, scene: Scene) -> Result<Option<u8>, NoMemory> {
     let objects = objects(alloc)?;
     let mut table = LockTable::new(alloc, &objects, 1)?;
-    first_unlike(&mut table, scene)
+    first_unlike(alloc, &mut table, scene)
 }
 
 #[test]
@@ -250,5 +278,11 @@ fn an_abort_of_the_parent_or_of_the_child_comes_first(rt: HostRuntime) -> Result
 #[test]
 fn both_outcomes_of_an_action_come_in(rt: HostRuntime) -> Result<(), Fail> {
     assert_eq!(rt; unlike(rt.alloc(), Scene::BothOutcomes)?, None);
+    Ok(())
+}
+
+#[test]
+fn adders_stand_in_the_way_of_readers_alone(rt: HostRuntime) -> Result<(), Fail> {
+    assert_eq!(rt; unlike(rt.alloc(), Scene::Adders)?, None);
     Ok(())
 }

@@ -2,10 +2,12 @@
 
 use super::both::{Told, ask_locks, value_of_locks};
 use super::scenes::Scene;
+use super::servers::Servers;
 use crate::LockTable;
 use cam_base::NoMemory;
 use cam_names::Name;
 use cam_type::{Answer, Op, State};
+use std::alloc::Global;
 
 /// One step with a table, and what it has to answer.
 #[derive(Clone, Copy)]
@@ -20,17 +22,24 @@ pub(super) enum Step {
     Copy,
     /// What the register holds past the top.
     Register(i64),
+    /// What the counter holds past the top.
+    Counter(i64),
     /// How many operations of a family are secured.
     Secured(&'static str, usize),
 }
 
 /// The first step of a scene that the table does not answer as it has to.
-pub(super) fn first_unlike(table: &mut LockTable, scene: Scene) -> Result<Option<u8>, NoMemory> {
+pub(super) fn first_unlike(
+    alloc: Global,
+    table: &mut LockTable,
+    scene: Scene,
+) -> Result<Option<u8>, NoMemory> {
+    let mut servers = Servers::new(alloc);
     for place in 0..=u8::MAX {
         let Some(step) = scene.step(place) else {
             return Ok(None);
         };
-        if !answers(table, &step)? {
+        if !answers(table, &mut servers, &step)? {
             return Ok(Some(place));
         }
     }
@@ -38,49 +47,58 @@ pub(super) fn first_unlike(table: &mut LockTable, scene: Scene) -> Result<Option
 }
 
 /// Whether the table answers the step as it has to. Where memory runs out the step is done once more: the table is as it was.
-fn answers(table: &mut LockTable, step: &Step) -> Result<bool, NoMemory> {
-    match answers_at_once(table, step) {
+fn answers(table: &mut LockTable, servers: &mut Servers, step: &Step) -> Result<bool, NoMemory> {
+    match answers_at_once(table, servers, step) {
         Ok(is_right) => Ok(is_right),
-        Err(NoMemory) => answers_at_once(table, step),
+        Err(NoMemory) => answers_at_once(table, servers, step),
     }
 }
 
-fn answers_at_once(table: &mut LockTable, step: &Step) -> Result<bool, NoMemory> {
+fn answers_at_once(
+    table: &mut LockTable,
+    servers: &mut Servers,
+    step: &Step,
+) -> Result<bool, NoMemory> {
     match step {
         Step::Done(name, object, op, answer) => {
-            asks(table, name, *object, op, &(Some(*answer), None))
+            asks(table, servers, name, *object, op, &(Some(*answer), None))
         }
-        Step::Busy(name, object, op, holder) => is_refused(table, name, *object, op, holder),
+        Step::Busy(name, object, op, holder) => {
+            is_refused(table, servers, name, *object, op, holder)
+        }
         Step::Commit(name) => commits(table, name),
         Step::Abort(name) => aborts(table, name),
         Step::Copy => goes_on_with_a_copy(table),
         Step::Register(value) => holds(table, *value),
+        Step::Counter(value) => has_counted(table, *value),
         Step::Secured(name, count) => secures(table, name, *count),
     }
 }
 
 fn is_refused(
     table: &mut LockTable,
+    servers: &mut Servers,
     name: &str,
     object: u8,
     op: &Op,
     holder: &str,
 ) -> Result<bool, NoMemory> {
     match Name::parse(holder) {
-        Ok(holder) => asks(table, name, object, op, &(None, Some(holder))),
+        Ok(holder) => asks(table, servers, name, object, op, &(None, Some(holder))),
         Err(_) => Ok(false),
     }
 }
 
 fn asks(
     table: &mut LockTable,
+    servers: &mut Servers,
     name: &str,
     object: u8,
     op: &Op,
     expected: &Told,
 ) -> Result<bool, NoMemory> {
     match Name::parse(name) {
-        Ok(name) => Ok(ask_locks(table, &name, object, op)? == *expected),
+        Ok(name) => Ok(ask_locks(table, &name, object, op, servers)? == *expected),
         Err(_) => Ok(false),
     }
 }
@@ -111,7 +129,14 @@ fn goes_on_with_a_copy(table: &mut LockTable) -> Result<bool, NoMemory> {
 fn holds(table: &LockTable, value: i64) -> Result<bool, NoMemory> {
     match value_of_locks(table, 0)? {
         State::Register(held) => Ok(held == value),
-        State::Queue(_) => Ok(false),
+        State::Queue(_) | State::Counter(_) => Ok(false),
+    }
+}
+
+fn has_counted(table: &LockTable, value: i64) -> Result<bool, NoMemory> {
+    match value_of_locks(table, 2)? {
+        State::Counter(held) => Ok(held == value),
+        State::Register(_) | State::Queue(_) => Ok(false),
     }
 }
 

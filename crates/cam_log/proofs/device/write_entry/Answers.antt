@@ -3,7 +3,8 @@ use Rattle.std.proofs.lemmas.Result.{on_ok_weaker}
 use Rattle.cam_log.specs.Image.{appended}
 use Rattle.cam_log.specs.Moments.{IsAtRest}
 use Rattle.cam_log.proofs.Grown.{grows_weaker, grows_then}
-use Rattle.cam_log.proofs.Stages.{Staged, written_behind, written_gate, first_write, second_write}
+use Rattle.cam_log.proofs.Stages.{Staged, written_behind, written_gate, first_write, second_write, appended_bytes}
+use Rattle.cam_disk.specs.Disk.{Holds}
 use Rattle.cam_log.proofs.device.write_entry.Goals as goal
 
 -- the first write leaves the entries as they were
@@ -34,3 +35,14 @@ returns-clause-any_moment g c = λ h entries entry is rests.
     grows_then
     (grows_weaker (λ image written. first_write entries c.args.gate (length c.args.behind.now) entry old image (g.D.Disk.may_leave c.args.disk.now) (omega (arith, c.requires.within)) rests (c.requires.only h) written) (c.in_ok-force.ensures.any_moment h))
     (grows_weaker (λ image written. second_write entries c.args.gate entry mid image (g.D.Disk.may_leave c.force.new.disk) (omega (arith, c.in_ok-force.ensures.limit, ap (λ (text : List ℕ). length text) is)) staged (c.in_ok-force.ensures.durable h) written) (c.force-2.ensures.any_moment still))
+
+pub returns-clause-bytes : goal.returns-clause-bytes
+returns-clause-bytes g c = λ h.
+    let old = g.D.Disk.seen c.args.disk.now in
+    let mid = g.D.Disk.seen c.force.new.disk in
+    let new = g.D.Disk.seen c.force-2.new.disk in
+    let still : IsTrue (g.D.Disk.tells c.force.new.disk) = c.in_ok-force.ensures.tells ∙ h in
+    on_ok_weaker c.force-2.result (λ holds entries entry is rests.
+    let first : Holds old (c.args.gate + 1) (appended entry) mid = subst (λ (text : List ℕ). Holds old (c.args.gate + 1) text mid) is (c.in_ok-force.ensures.written h) in
+    appended_bytes entries c.args.gate entry old mid new rests first holds)
+    (c.force-2.ensures.written still)

@@ -2,7 +2,7 @@ use Rattle.std.proofs.Common.{◌≡◌, ◌≤◌, ◌∙◌, ◌∷◌, [], �
 use Rattle.std.specs.Prelude.{reverse}
 use Rattle.cam_event.specs.declared.Body.TheVariants as bodies
 use Rattle.cam_event.specs.Inputs.{Receives}
-use Rattle.cam_event.specs.ByKnowledge.{next_held}
+use Rattle.cam_event.specs.ByDeltas.{next_by_deltas}
 use Rattle.cam_cluster.specs.Contract.{ClusterState}
 use Rattle.cam_cluster.specs.Lines.{late_event, got_event}
 use Rattle.cam_cluster.specs.Keeps.{kept_of}
@@ -22,7 +22,7 @@ late-requires-clause-node c =
 pub late-requires-clause-late : goal.late-requires-clause-late
 late-requires-clause-late c =
     let here = here_of c.self.inside.script.now c.self.inside.so_far.trace c.self.inside.so_far.marks (kept_of c.self.inside.parts) c.args.delivery.now (bodies.Answer c.args.action.now c.args.number c.args.reply.now) c.args.self.now c.self.view_is c.self.invariant c.requires in
-    subst (λ (z : ClusterState). next_held z.script.objects z.running.trace (Receives c.args.delivery.now.letter) ≡ late_event c.args.delivery.now.to c.args.delivery.now.letter) c.self.view_is
+    subst (λ (z : ClusterState). next_by_deltas z.script.objects z.running.trace (Receives c.args.delivery.now.letter) ≡ late_event c.args.delivery.now.to c.args.delivery.now.letter) c.self.view_is
     (late_not_kept c.self.inside.script.now _ (kept_of c.self.inside.parts) c.args.delivery.now c.args.action.now c.args.number c.args.reply.now c.self.invariant here c.in_default.ensures)
 
 pub late-requires-in_default-seen_of-clause-node : goal.late-requires-in_default-seen_of-clause-node
@@ -33,7 +33,7 @@ late-requires-in_default-seen_of-clause-node c =
 pub late-requires-in_default-seen_of-clause-late : goal.late-requires-in_default-seen_of-clause-late
 late-requires-in_default-seen_of-clause-late c =
     let here = here_of c.self.inside.script.now c.self.inside.so_far.trace c.self.inside.so_far.marks (kept_of c.self.inside.parts) c.args.delivery.now (bodies.Answer c.args.action.now c.args.number c.args.reply.now) c.args.self.now c.self.view_is c.self.invariant c.requires in
-    subst (λ (z : ClusterState). next_held z.script.objects z.running.trace (Receives c.args.delivery.now.letter) ≡ late_event c.args.delivery.now.to c.args.delivery.now.letter) c.self.view_is
+    subst (λ (z : ClusterState). next_by_deltas z.script.objects z.running.trace (Receives c.args.delivery.now.letter) ≡ late_event c.args.delivery.now.to c.args.delivery.now.letter) c.self.view_is
     (late_unseen c.self.inside.script.now _ c.args.delivery.now c.args.action.now c.args.number c.args.reply.now here (sym c.seen_of.ensures ∙ c.in_default-seen_of.is))
 
 pub late-requires-in_default-awaited-clause-node : goal.late-requires-in_default-awaited-clause-node
@@ -44,7 +44,7 @@ late-requires-in_default-awaited-clause-node c =
 pub late-requires-in_default-awaited-clause-late : goal.late-requires-in_default-awaited-clause-late
 late-requires-in_default-awaited-clause-late c =
     let here = here_of c.self.inside.script.now c.self.inside.so_far.trace c.self.inside.so_far.marks (kept_of c.self.inside.parts) c.args.delivery.now (bodies.Answer c.args.action.now c.args.number c.args.reply.now) c.args.self.now c.self.view_is c.self.invariant c.requires in
-    subst (λ (z : ClusterState). next_held z.script.objects z.running.trace (Receives c.args.delivery.now.letter) ≡ late_event c.args.delivery.now.to c.args.delivery.now.letter) c.self.view_is
+    subst (λ (z : ClusterState). next_by_deltas z.script.objects z.running.trace (Receives c.args.delivery.now.letter) ≡ late_event c.args.delivery.now.to c.args.delivery.now.letter) c.self.view_is
     (late_not_awaited c.self.inside.script.now _ (kept_of c.self.inside.parts) c.args.delivery.now c.args.action.now c.args.number c.args.reply.now c.in-Some.found c.self.invariant here c.in-Some.ensures c.in_default-awaited.ensures)
 
 pub record_event-requires : goal.record_event-requires
@@ -83,7 +83,7 @@ returns c =
     let changed = c.add_got.ensures ∙ (λ i. after_got c.args.delivery.now.number c.in-Some.found.place c.in-Some.found.at (c.answered.ensures i) (c.in_ok-record_event.ensures.same i)) in
     delivered_answers c.self.inside.script.now c.self.inside.so_far.trace (kept_of c.self.inside.parts) c.record_event.new.trace (kept_of c.add_got.new.self) c.self.inside.so_far.marks c.args.delivery.now.line c.args.delivery.now.number c.args.delivery.now.letter (got_event c.args.delivery.now.to c.args.delivery.now.letter c.args.action.now c.in-Some-awaited.call.number c.in-Some-seen_of.seen) c.args.self.now c.one_event.result
     c.self.view_is c.requires.numbered
-    (subst (λ (z : ClusterState). next_held z.script.objects z.running.trace (Receives c.args.delivery.now.letter) ≡ got_event c.args.delivery.now.to c.args.delivery.now.letter c.args.action.now c.in-Some-awaited.call.number c.in-Some-seen_of.seen) c.self.view_is
+    (subst (λ (z : ClusterState). next_by_deltas z.script.objects z.running.trace (Receives c.args.delivery.now.letter) ≡ got_event c.args.delivery.now.to c.args.delivery.now.letter c.args.action.now c.in-Some-awaited.call.number c.in-Some-seen_of.seen) c.self.view_is
     (got_next_so c.self.inside.script.now _ (kept_of c.self.inside.parts) c.args.delivery.now c.args.action.now c.args.reply.now c.in-Some.found c.in-Some-awaited.call c.in-Some-seen_of.seen c.self.invariant
     (record {
       here = subst (λ k. IsHere c.self.inside.script.now (reverse c.self.inside.so_far.trace) c.args.delivery.now (bodies.Answer c.args.action.now k c.args.reply.now)) (sym number_is) here;

@@ -1,6 +1,6 @@
 use Rattle.std.proofs.Common.{◌≡◌, ◌∙◌, ◌-◌, ◌∷◌, [], ◌++◌, length, sym, ap, subst, arith}
 use Rattle.cam_event.specs.Inputs.{Receives}
-use Rattle.cam_event.specs.ByKnowledge.{next_held}
+use Rattle.cam_event.specs.ByDeltas.{next_by_deltas}
 use Rattle.cam_cluster.specs.Contract.{ClusterState}
 use Rattle.cam_cluster.specs.Lines.{again_event, served_event}
 use Rattle.cam_cluster.specs.Nodes.{node_state}
@@ -60,7 +60,7 @@ returns-in-Some c =
     let changed = c.add_again.ensures ∙ (λ i. after_again c.args.delivery.now.number (record { event = c.len.ensures i; place = 0 }) (c.in_ok-record_event.ensures.same i)) in
     delivered_answers c.self.inside.script.now c.self.inside.so_far.trace (kept_of c.self.inside.parts) c.record_event.new.trace (kept_of c.add_again.new.self) c.self.inside.so_far.marks c.args.delivery.now.line c.args.delivery.now.number c.args.delivery.now.letter (again_event c.args.delivery.now.to c.args.delivery.now.letter c.args.asked.now.action c.args.asked.now.number c.in-Some.reply) c.args.self.now c.one_event.result
     c.self.view_is c.requires.comes.numbered
-    (subst (λ (z : ClusterState). next_held z.script.objects z.running.trace (Receives c.args.delivery.now.letter) ≡ again_event c.args.delivery.now.to c.args.delivery.now.letter c.args.asked.now.action c.args.asked.now.number c.in-Some.reply) c.self.view_is
+    (subst (λ (z : ClusterState). next_by_deltas z.script.objects z.running.trace (Receives c.args.delivery.now.letter) ≡ again_event c.args.delivery.now.to c.args.delivery.now.letter c.args.asked.now.action c.args.asked.now.number c.in-Some.reply) c.self.view_is
     (again_next c.self.inside.script.now _ (kept_of c.self.inside.parts) (node_state c.index.result.now) c.args.delivery.now c.args.asked.now c.in-Some.reply c.self.invariant here at again))
     more (ap (λ k. k.delivered) changed) (ap (λ k. k.bound) changed) c.one_event.ensures
 
@@ -86,6 +86,6 @@ returns c =
     let changed = c.add_served.ensures ∙ (λ i. after_served c.args.delivery.now.number (c.args.delivery.now.to - 1) (c.served.ensures i) (record { event = c.len.ensures i; place = 0 }) (c.in_ok-record_event-2.ensures.same i)) in
     delivered_answers c.self.inside.script.now c.self.inside.so_far.trace (kept_of c.self.inside.parts) c.record_event-2.new.trace (kept_of c.add_served.new.self) c.self.inside.so_far.marks c.args.delivery.now.line c.args.delivery.now.number c.args.delivery.now.letter (served_event c.args.delivery.now.to c.args.delivery.now.letter c.args.asked.now.action c.args.asked.now.number (deeds_of c.args.asked.now c.in_ok-reply.reply) c.in_ok-reply.reply) c.args.self.now c.one_event-2.result
     c.self.view_is c.requires.comes.numbered
-    (subst (λ (z : ClusterState). next_held z.script.objects z.running.trace (Receives c.args.delivery.now.letter) ≡ served_event c.args.delivery.now.to c.args.delivery.now.letter c.args.asked.now.action c.args.asked.now.number (deeds_of c.args.asked.now c.in_ok-reply.reply) c.in_ok-reply.reply) c.self.view_is
+    (subst (λ (z : ClusterState). next_by_deltas z.script.objects z.running.trace (Receives c.args.delivery.now.letter) ≡ served_event c.args.delivery.now.to c.args.delivery.now.letter c.args.asked.now.action c.args.asked.now.number (deeds_of c.args.asked.now c.in_ok-reply.reply) c.in_ok-reply.reply) c.self.view_is
     (served_next c.self.inside.script.now _ (kept_of c.self.inside.parts) (node_state c.index.result.now) c.args.delivery.now c.args.asked.now c.in_ok-reply.reply c.self.invariant here at serving))
     more (ap (λ k. k.delivered) changed) (ap (λ k. k.bound) changed) c.one_event-2.ensures

@@ -1,78 +1,214 @@
-use Rattle.std.proofs.Common.{refl, sym, subst, ◌∙◌}
+use Rattle.std.proofs.Common.{List, ℤ, sym, ap, subst, refl, ◌∙◌}
+use Rattle.std.specs.Prelude.{filter}
+use Rattle.std.specs.Int.{w64, cast_signed, cast_unsigned}
+use Rattle.cam_type.specs.Table.{kind_of, state_after, answer_of}
+use Rattle.cam_locks.specs.declared.versions.Version.{Version}
+use Rattle.cam_locks.specs.Moss.{is_on}
 use Rattle.cam_locks.specs.Holding.{LocksView}
-use Rattle.cam_locks.specs.Changes.{Tidied, IsDone}
+use Rattle.cam_locks.specs.Kinds.{AreOfKind}
+use Rattle.cam_locks.specs.Changes.{met, Tidied, IsDone}
+use Rattle.cam_locks.specs.Served.{IsServed}
+use Rattle.cam_locks.proofs.Serving.{is_served}
+use Rattle.cam_locks.proofs.Summing.{sum_reads}
 use Rattle.cam_locks.proofs.Passing.{any_err}
-use Rattle.cam_locks.proofs.Doing.{same, not_done, done_read, done_write}
+use Rattle.cam_locks.proofs.SameKind.{kinds_written}
+use Rattle.cam_locks.proofs.Doing.{same, not_done, done_read, done_write, done_add}
 use Rattle.cam_locks.proofs.locks.Locks.perform.Goals as goal
 
+pub invariant_of-self : goal.invariant_of-self
+invariant_of-self g c =
+    c.tidy.ensures.kinds (kind_of c.self.inside.start) c.self.invariant
+
 pub returns-in_err-make_room-in-Read-clause-err : goal.returns-in_err-make_room-in-Read-clause-err
-returns-in_err-make_room-in-Read-clause-err c =
+returns-in_err-make_room-in-Read-clause-err g c =
     let ns = c.args.committed.now.names in
     let os = c.args.live.now.ops in
     let t = c.self.inside in
-    let old : LocksView = record { start = t.start; readers = t.readers.items; writers = t.writers.items; versions = t.versions.items; stale = t.stale } in
-    let new : LocksView = record { start = t.start; readers = c.make_room.new.leaders.items; writers = t.writers.items; versions = c.tidy.new.versions.items; stale = t.stale } in
-    any_err c.from_residual.result (Tidied ns os c.args.self.now new)
-    (subst (λ (v : LocksView). Tidied ns os v new) c.self.view_is
-    (not_done ns os old t.start (c.make_room.new.leaders.items) (t.writers.items) c.tidy.new.versions.items (c.tidy.new.versions.items) c.tidy.ensures.kept c.make_room.ensures.kept (same ns os t.writers.items) refl refl))
+    let old : LocksView = record { start = t.start; readers = t.readers.items; writers = t.writers.items; adders = t.adders.items; versions = t.versions.items; stale = t.stale } in
+    any_err c.from_residual.result (Tidied ns os c.args.self.now (record old { readers = c.make_room.new.leaders.items; versions = c.tidy.new.versions.items }))
+    (subst (λ (v : LocksView). Tidied ns os v (record old { readers = c.make_room.new.leaders.items; versions = c.tidy.new.versions.items })) c.self.view_is
+    (not_done ns os old (c.make_room.new.leaders.items) t.writers.items t.adders.items c.tidy.new.versions.items c.tidy.new.versions.items c.tidy.ensures.kept c.make_room.ensures.kept (same ns os t.writers.items) (same ns os t.adders.items) refl))
+
+pub serve-requires-clause-kinds : goal.serve-requires-clause-kinds
+serve-requires-clause-kinds g c =
+    subst (AreOfKind (kind_of c.self.inside.start)) (sym c.as_slice.ensures.value) (c.tidy.ensures.kinds (kind_of c.self.inside.start) c.self.invariant)
+
+pub invariant_of-self-in_err-answer-in-Read : goal.invariant_of-self-in_err-answer-in-Read
+invariant_of-self-in_err-answer-in-Read g c =
+    c.tidy.ensures.kinds (kind_of c.self.inside.start) c.self.invariant
 
 pub returns-in_err-answer-in-Read-clause-err : goal.returns-in_err-answer-in-Read-clause-err
-returns-in_err-answer-in-Read-clause-err c =
+returns-in_err-answer-in-Read-clause-err g c =
     let ns = c.args.committed.now.names in
     let os = c.args.live.now.ops in
     let t = c.self.inside in
-    let old : LocksView = record { start = t.start; readers = t.readers.items; writers = t.writers.items; versions = t.versions.items; stale = t.stale } in
-    let new : LocksView = record { start = c.look.new.start; readers = c.make_room.new.leaders.items; writers = t.writers.items; versions = c.look.new.versions.items; stale = t.stale } in
-    any_err c.from_residual-in_err-answer-in-Read.result (Tidied ns os c.args.self.now new)
-    (subst (λ (v : LocksView). Tidied ns os v new) c.self.view_is
-    (not_done ns os old c.look.new.start (c.make_room.new.leaders.items) (t.writers.items) c.tidy.new.versions.items (c.look.new.versions.items) c.tidy.ensures.kept c.make_room.ensures.kept (same ns os t.writers.items) c.in_err-answer-in-Read.ensures.start c.in_err-answer-in-Read.ensures.versions))
+    let old : LocksView = record { start = t.start; readers = t.readers.items; writers = t.writers.items; adders = t.adders.items; versions = t.versions.items; stale = t.stale } in
+    any_err c.from_residual-in_err-answer-in-Read.result (Tidied ns os c.args.self.now (record old { readers = c.make_room.new.leaders.items; versions = c.tidy.new.versions.items }))
+    (subst (λ (v : LocksView). Tidied ns os v (record old { readers = c.make_room.new.leaders.items; versions = c.tidy.new.versions.items })) c.self.view_is
+    (not_done ns os old (c.make_room.new.leaders.items) t.writers.items t.adders.items c.tidy.new.versions.items c.tidy.new.versions.items c.tidy.ensures.kept c.make_room.ensures.kept (same ns os t.writers.items) (same ns os t.adders.items) refl))
 
-pub returns-in_err-make_room-in-Write-clause-err : goal.returns-in_err-make_room-in-Write-clause-err
-returns-in_err-make_room-in-Write-clause-err c =
-    let ns = c.args.committed.now.names in
-    let os = c.args.live.now.ops in
-    let t = c.self.inside in
-    let old : LocksView = record { start = t.start; readers = t.readers.items; writers = t.writers.items; versions = t.versions.items; stale = t.stale } in
-    let new : LocksView = record { start = t.start; readers = t.readers.items; writers = c.make_room-in-Write.new.leaders.items; versions = c.tidy.new.versions.items; stale = t.stale } in
-    any_err c.from_residual-in_err-make_room-in-Write.result (Tidied ns os c.args.self.now new)
-    (subst (λ (v : LocksView). Tidied ns os v new) c.self.view_is
-    (not_done ns os old t.start (t.readers.items) (c.make_room-in-Write.new.leaders.items) c.tidy.new.versions.items (c.tidy.new.versions.items) c.tidy.ensures.kept (same ns os t.readers.items) c.make_room-in-Write.ensures.kept refl refl))
-
-pub returns-in_err-answer-in-Write-clause-err : goal.returns-in_err-answer-in-Write-clause-err
-returns-in_err-answer-in-Write-clause-err c =
-    let ns = c.args.committed.now.names in
-    let os = c.args.live.now.ops in
-    let t = c.self.inside in
-    let old : LocksView = record { start = t.start; readers = t.readers.items; writers = t.writers.items; versions = t.versions.items; stale = t.stale } in
-    let new : LocksView = record { start = t.start; readers = t.readers.items; writers = c.make_room-in-Write.new.leaders.items; versions = c.write.new.versions.items; stale = t.stale } in
-    any_err c.from_residual-in_err-answer-in-Write.result (Tidied ns os c.args.self.now new)
-    (subst (λ (v : LocksView). Tidied ns os v new) c.self.view_is
-    (not_done ns os old t.start (t.readers.items) (c.make_room-in-Write.new.leaders.items) c.tidy.new.versions.items (c.write.new.versions.items) c.tidy.ensures.kept (same ns os t.readers.items) c.make_room-in-Write.ensures.kept refl c.in_err-answer-in-Write.ensures.err))
+pub invariant_of-self-in-Read : goal.invariant_of-self-in-Read
+invariant_of-self-in-Read g c =
+    c.tidy.ensures.kinds (kind_of c.self.inside.start) c.self.invariant
 
 pub returns-in_ok-answer-in-Read-clause-done : goal.returns-in_ok-answer-in-Read-clause-done
-returns-in_ok-answer-in-Read-clause-done c =
+returns-in_ok-answer-in-Read-clause-done g c =
     let ns = c.args.committed.now.names in
     let os = c.args.live.now.ops in
     let o = c.args.operation.now in
     let t = c.self.inside in
+    let old : LocksView = record { start = t.start; readers = t.readers.items; writers = t.writers.items; adders = t.adders.items; versions = t.versions.items; stale = t.stale } in
     let answer = c.in_ok-answer-in-Read.answer in
-    let old : LocksView = record { start = t.start; readers = t.readers.items; writers = t.writers.items; versions = t.versions.items; stale = t.stale } in
-    let new : LocksView = record { start = c.look.new.start; readers = c.add.new.leaders.items; writers = t.writers.items; versions = c.look.new.versions.items; stale = t.stale } in
-    subst (λ (v : LocksView). IsDone ns os o answer v new) c.self.view_is
-    (done_read ns os o answer old c.look.new.start c.make_room.new.leaders.items c.add.new.leaders.items c.tidy.new.versions.items c.look.new.versions.items (sym c.mode_of.ensures ∙ c.in-Read.is) c.make_room.ensures.kept c.tidy.ensures.kept c.tidy.ensures.last
-    c.in_ok-answer-in-Read.ensures.answer c.in_ok-answer-in-Read.ensures.start c.in_ok-answer-in-Read.ensures.versions
-    c.add.ensures)
+    subst (λ (v : LocksView). IsDone ns os o answer v (record old { readers = c.add.new.leaders.items; versions = c.tidy.new.versions.items })) c.self.view_is
+    (done_read ns os o answer old c.make_room.new.leaders.items c.add.new.leaders.items c.tidy.new.versions.items (sym c.mode_of.ensures ∙ c.in-Read.is)
+    c.keep_range.ensures c.make_room.ensures.kept c.tidy.ensures.kept c.tidy.ensures.last
+    (c.in_ok-answer-in-Read.ensures.answer
+    ∙ ap (λ (vs : List Version). answer_of (met t.start vs (cast_signed w64 (cast_unsigned w64 c.sum-sum.result))) o.op) c.as_slice.ensures.value
+    ∙ ap (λ (k : ℤ). answer_of (met t.start c.tidy.new.versions.items (cast_signed w64 (cast_unsigned w64 k))) o.op) c.sum-sum.ensures
+    ∙ ap (λ (k : ℤ). answer_of (met t.start c.tidy.new.versions.items k) o.op) (sum_reads (filter (is_on o.object) os))) c.add.ensures)
+
+pub invariant_of-self-in_err-make_room-in-Write : goal.invariant_of-self-in_err-make_room-in-Write
+invariant_of-self-in_err-make_room-in-Write g c =
+    c.tidy.ensures.kinds (kind_of c.self.inside.start) c.self.invariant
+
+pub returns-in_err-make_room-in-Write-clause-err : goal.returns-in_err-make_room-in-Write-clause-err
+returns-in_err-make_room-in-Write-clause-err g c =
+    let ns = c.args.committed.now.names in
+    let os = c.args.live.now.ops in
+    let t = c.self.inside in
+    let old : LocksView = record { start = t.start; readers = t.readers.items; writers = t.writers.items; adders = t.adders.items; versions = t.versions.items; stale = t.stale } in
+    any_err c.from_residual-in_err-make_room-in-Write.result (Tidied ns os c.args.self.now (record old { writers = c.make_room-in-Write.new.leaders.items; versions = c.tidy.new.versions.items }))
+    (subst (λ (v : LocksView). Tidied ns os v (record old { writers = c.make_room-in-Write.new.leaders.items; versions = c.tidy.new.versions.items })) c.self.view_is
+    (not_done ns os old t.readers.items (c.make_room-in-Write.new.leaders.items) t.adders.items c.tidy.new.versions.items c.tidy.new.versions.items c.tidy.ensures.kept (same ns os t.readers.items) c.make_room-in-Write.ensures.kept (same ns os t.adders.items) refl))
+
+pub write-requires-clause-kinds : goal.write-requires-clause-kinds
+write-requires-clause-kinds g c =
+    c.tidy.ensures.kinds (kind_of c.self.inside.start) c.self.invariant
+
+pub invariant_of-self-in_err-answer-in-Write : goal.invariant_of-self-in_err-answer-in-Write
+invariant_of-self-in_err-answer-in-Write g c =
+    subst (AreOfKind (kind_of c.self.inside.start)) (sym c.in_err-answer-in-Write.ensures.err) (c.tidy.ensures.kinds (kind_of c.self.inside.start) c.self.invariant)
+
+pub returns-in_err-answer-in-Write-clause-err : goal.returns-in_err-answer-in-Write-clause-err
+returns-in_err-answer-in-Write-clause-err g c =
+    let ns = c.args.committed.now.names in
+    let os = c.args.live.now.ops in
+    let t = c.self.inside in
+    let old : LocksView = record { start = t.start; readers = t.readers.items; writers = t.writers.items; adders = t.adders.items; versions = t.versions.items; stale = t.stale } in
+    any_err c.from_residual-in_err-answer-in-Write.result (Tidied ns os c.args.self.now (record old { writers = c.make_room-in-Write.new.leaders.items; versions = c.write.new.versions.items }))
+    (subst (λ (v : LocksView). Tidied ns os v (record old { writers = c.make_room-in-Write.new.leaders.items; versions = c.write.new.versions.items })) c.self.view_is
+    (not_done ns os old t.readers.items (c.make_room-in-Write.new.leaders.items) t.adders.items c.tidy.new.versions.items c.write.new.versions.items c.tidy.ensures.kept (same ns os t.readers.items) c.make_room-in-Write.ensures.kept (same ns os t.adders.items) c.in_err-answer-in-Write.ensures.err))
+
+pub invariant_of-self-in-Write : goal.invariant_of-self-in-Write
+invariant_of-self-in-Write g c =
+    let t = c.self.inside in
+    subst (AreOfKind (kind_of t.start)) (sym c.in_ok-answer-in-Write.ensures.ok)
+    (kinds_written (kind_of t.start) c.args.committed.now.names t.start c.tidy.new.versions.items c.args.operation.now refl (c.tidy.ensures.kinds (kind_of c.self.inside.start) c.self.invariant))
 
 pub returns-in_ok-answer-in-Write-clause-done : goal.returns-in_ok-answer-in-Write-clause-done
-returns-in_ok-answer-in-Write-clause-done c =
+returns-in_ok-answer-in-Write-clause-done g c =
     let ns = c.args.committed.now.names in
     let os = c.args.live.now.ops in
     let o = c.args.operation.now in
     let t = c.self.inside in
+    let old : LocksView = record { start = t.start; readers = t.readers.items; writers = t.writers.items; adders = t.adders.items; versions = t.versions.items; stale = t.stale } in
     let answer = c.in_ok-answer-in-Write.answer in
-    let old : LocksView = record { start = t.start; readers = t.readers.items; writers = t.writers.items; versions = t.versions.items; stale = t.stale } in
-    let new : LocksView = record { start = t.start; readers = t.readers.items; writers = c.add-in-Write.new.leaders.items; versions = c.write.new.versions.items; stale = t.stale } in
-    subst (λ (v : LocksView). IsDone ns os o answer v new) c.self.view_is
-    (done_write ns os o answer old c.make_room-in-Write.new.leaders.items c.add-in-Write.new.leaders.items c.tidy.new.versions.items c.write.new.versions.items (sym c.mode_of.ensures ∙ c.in-Write.is) c.make_room-in-Write.ensures.kept c.tidy.ensures.kept c.tidy.ensures.last
-    c.in_ok-answer-in-Write.ensures.answer c.in_ok-answer-in-Write.ensures.ok
-    c.add-in-Write.ensures)
+    subst (λ (v : LocksView). IsDone ns os o answer v (record old { writers = c.add-in-Write.new.leaders.items; versions = c.write.new.versions.items })) c.self.view_is
+    (done_write ns os o answer old c.make_room-in-Write.new.leaders.items c.add-in-Write.new.leaders.items c.tidy.new.versions.items c.write.new.versions.items (sym c.mode_of.ensures ∙ c.in-Write.is)
+    c.keep_range.ensures c.make_room-in-Write.ensures.kept c.tidy.ensures.kept c.tidy.ensures.last
+    (c.in_ok-answer-in-Write.ensures.answer
+    ∙ ap (λ (k : ℤ). answer_of (met t.start c.tidy.new.versions.items (cast_signed w64 (cast_unsigned w64 k))) o.op) c.sum-sum.ensures
+    ∙ ap (λ (k : ℤ). answer_of (met t.start c.tidy.new.versions.items k) o.op) (sum_reads (filter (is_on o.object) os))) c.in_ok-answer-in-Write.ensures.ok c.add-in-Write.ensures)
+
+pub invariant_of-self-in_err-make_room-in-Add : goal.invariant_of-self-in_err-make_room-in-Add
+invariant_of-self-in_err-make_room-in-Add g c =
+    c.tidy.ensures.kinds (kind_of c.self.inside.start) c.self.invariant
+
+pub returns-in_err-make_room-in-Add-clause-err : goal.returns-in_err-make_room-in-Add-clause-err
+returns-in_err-make_room-in-Add-clause-err g c =
+    let ns = c.args.committed.now.names in
+    let os = c.args.live.now.ops in
+    let t = c.self.inside in
+    let old : LocksView = record { start = t.start; readers = t.readers.items; writers = t.writers.items; adders = t.adders.items; versions = t.versions.items; stale = t.stale } in
+    any_err c.from_residual-in_err-make_room-in-Add.result (Tidied ns os c.args.self.now (record old { adders = c.make_room-in-Add.new.leaders.items; versions = c.tidy.new.versions.items }))
+    (subst (λ (v : LocksView). Tidied ns os v (record old { adders = c.make_room-in-Add.new.leaders.items; versions = c.tidy.new.versions.items })) c.self.view_is
+    (not_done ns os old t.readers.items t.writers.items (c.make_room-in-Add.new.leaders.items) c.tidy.new.versions.items c.tidy.new.versions.items c.tidy.ensures.kept (same ns os t.readers.items) (same ns os t.writers.items) c.make_room-in-Add.ensures.kept refl))
+
+pub serve-requires-in-Add-clause-kinds : goal.serve-requires-in-Add-clause-kinds
+serve-requires-in-Add-clause-kinds g c =
+    subst (AreOfKind (kind_of c.self.inside.start)) (sym c.as_slice-in-Add.ensures.value) (c.tidy.ensures.kinds (kind_of c.self.inside.start) c.self.invariant)
+
+pub invariant_of-self-in_err-answer-in-Add : goal.invariant_of-self-in_err-answer-in-Add
+invariant_of-self-in_err-answer-in-Add g c =
+    c.tidy.ensures.kinds (kind_of c.self.inside.start) c.self.invariant
+
+pub returns-in_err-answer-in-Add-clause-err : goal.returns-in_err-answer-in-Add-clause-err
+returns-in_err-answer-in-Add-clause-err g c =
+    let ns = c.args.committed.now.names in
+    let os = c.args.live.now.ops in
+    let t = c.self.inside in
+    let old : LocksView = record { start = t.start; readers = t.readers.items; writers = t.writers.items; adders = t.adders.items; versions = t.versions.items; stale = t.stale } in
+    any_err c.from_residual-in_err-answer-in-Add.result (Tidied ns os c.args.self.now (record old { adders = c.make_room-in-Add.new.leaders.items; versions = c.tidy.new.versions.items }))
+    (subst (λ (v : LocksView). Tidied ns os v (record old { adders = c.make_room-in-Add.new.leaders.items; versions = c.tidy.new.versions.items })) c.self.view_is
+    (not_done ns os old t.readers.items t.writers.items (c.make_room-in-Add.new.leaders.items) c.tidy.new.versions.items c.tidy.new.versions.items c.tidy.ensures.kept (same ns os t.readers.items) (same ns os t.writers.items) c.make_room-in-Add.ensures.kept refl))
+
+pub invariant_of-self-in-Add : goal.invariant_of-self-in-Add
+invariant_of-self-in-Add g c =
+    c.tidy.ensures.kinds (kind_of c.self.inside.start) c.self.invariant
+
+pub returns-in_ok-answer-in-Add-clause-done : goal.returns-in_ok-answer-in-Add-clause-done
+returns-in_ok-answer-in-Add-clause-done g c =
+    let ns = c.args.committed.now.names in
+    let os = c.args.live.now.ops in
+    let o = c.args.operation.now in
+    let t = c.self.inside in
+    let old : LocksView = record { start = t.start; readers = t.readers.items; writers = t.writers.items; adders = t.adders.items; versions = t.versions.items; stale = t.stale } in
+    let answer = c.in_ok-answer-in-Add.answer in
+    subst (λ (v : LocksView). IsDone ns os o answer v (record old { adders = c.add-in-Add.new.leaders.items; versions = c.tidy.new.versions.items })) c.self.view_is
+    (done_add ns os o answer old c.make_room-in-Add.new.leaders.items c.add-in-Add.new.leaders.items c.tidy.new.versions.items (sym c.mode_of.ensures ∙ c.in-Add.is)
+    c.keep_range.ensures c.make_room-in-Add.ensures.kept c.tidy.ensures.kept c.tidy.ensures.last
+    (c.in_ok-answer-in-Add.ensures.answer
+    ∙ ap (λ (vs : List Version). answer_of (met t.start vs (cast_signed w64 (cast_unsigned w64 c.sum-sum.result))) o.op) c.as_slice-in-Add.ensures.value
+    ∙ ap (λ (k : ℤ). answer_of (met t.start c.tidy.new.versions.items (cast_signed w64 (cast_unsigned w64 k))) o.op) c.sum-sum.ensures
+    ∙ ap (λ (k : ℤ). answer_of (met t.start c.tidy.new.versions.items k) o.op) (sum_reads (filter (is_on o.object) os))) c.add-in-Add.ensures)
+
+pub returns-in_ok-answer-in-Read-clause-served : goal.returns-in_ok-answer-in-Read-clause-served
+returns-in_ok-answer-in-Read-clause-served g c =
+    let ns = c.args.committed.now.names in
+    let os = c.args.live.now.ops in
+    let o = c.args.operation.now in
+    let t = c.self.inside in
+    let old : LocksView = record { start = t.start; readers = t.readers.items; writers = t.writers.items; adders = t.adders.items; versions = t.versions.items; stale = t.stale } in
+    subst (λ (v : LocksView). IsServed ns os o (g.T.DataType.held c.serve.new.server) v) c.self.view_is
+    (is_served ns os o (g.T.DataType.held c.serve.new.server) old c.tidy.new.versions.items c.keep_range.ensures c.tidy.ensures.kept c.tidy.ensures.last
+    (c.in_ok-answer-in-Read.ensures.after
+    ∙ ap (λ (vs : List Version). state_after (met t.start vs (cast_signed w64 (cast_unsigned w64 c.sum-sum.result))) o.op) c.as_slice.ensures.value
+    ∙ ap (λ (k : ℤ). state_after (met t.start c.tidy.new.versions.items (cast_signed w64 (cast_unsigned w64 k))) o.op) c.sum-sum.ensures
+    ∙ ap (λ (k : ℤ). state_after (met t.start c.tidy.new.versions.items k) o.op) (sum_reads (filter (is_on o.object) os))))
+
+pub returns-in_ok-answer-in-Write-clause-served : goal.returns-in_ok-answer-in-Write-clause-served
+returns-in_ok-answer-in-Write-clause-served g c =
+    let ns = c.args.committed.now.names in
+    let os = c.args.live.now.ops in
+    let o = c.args.operation.now in
+    let t = c.self.inside in
+    let old : LocksView = record { start = t.start; readers = t.readers.items; writers = t.writers.items; adders = t.adders.items; versions = t.versions.items; stale = t.stale } in
+    subst (λ (v : LocksView). IsServed ns os o (g.T.DataType.held c.write.new.server) v) c.self.view_is
+    (is_served ns os o (g.T.DataType.held c.write.new.server) old c.tidy.new.versions.items c.keep_range.ensures c.tidy.ensures.kept c.tidy.ensures.last
+    (c.in_ok-answer-in-Write.ensures.after
+    ∙ ap (λ (k : ℤ). state_after (met t.start c.tidy.new.versions.items (cast_signed w64 (cast_unsigned w64 k))) o.op) c.sum-sum.ensures
+    ∙ ap (λ (k : ℤ). state_after (met t.start c.tidy.new.versions.items k) o.op) (sum_reads (filter (is_on o.object) os))))
+
+pub returns-in_ok-answer-in-Add-clause-served : goal.returns-in_ok-answer-in-Add-clause-served
+returns-in_ok-answer-in-Add-clause-served g c =
+    let ns = c.args.committed.now.names in
+    let os = c.args.live.now.ops in
+    let o = c.args.operation.now in
+    let t = c.self.inside in
+    let old : LocksView = record { start = t.start; readers = t.readers.items; writers = t.writers.items; adders = t.adders.items; versions = t.versions.items; stale = t.stale } in
+    subst (λ (v : LocksView). IsServed ns os o (g.T.DataType.held c.serve-in-Add.new.server) v) c.self.view_is
+    (is_served ns os o (g.T.DataType.held c.serve-in-Add.new.server) old c.tidy.new.versions.items c.keep_range.ensures c.tidy.ensures.kept c.tidy.ensures.last
+    (c.in_ok-answer-in-Add.ensures.after
+    ∙ ap (λ (vs : List Version). state_after (met t.start vs (cast_signed w64 (cast_unsigned w64 c.sum-sum.result))) o.op) c.as_slice-in-Add.ensures.value
+    ∙ ap (λ (k : ℤ). state_after (met t.start c.tidy.new.versions.items (cast_signed w64 (cast_unsigned w64 k))) o.op) c.sum-sum.ensures
+    ∙ ap (λ (k : ℤ). state_after (met t.start c.tidy.new.versions.items k) o.op) (sum_reads (filter (is_on o.object) os))))

@@ -6,7 +6,7 @@ use Rattle.cam_locks.proofs.Fitting.{fit_push}
 use Rattle.cam_locks.proofs.plain.PlainTable.try_lock_and_apply.Goals as goal
 
 pub invariant_of-self-2 : goal.invariant_of-self-2
-invariant_of-self-2 c =
+invariant_of-self-2 g c =
     let t = c.self.inside in
     let stands = c.self.invariant in
     let o : LiveOp = record { index = t.next; action = c.args.name.now; object = c.args.object; op = c.args.op.now } in

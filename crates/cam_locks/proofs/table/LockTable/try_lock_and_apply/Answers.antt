@@ -3,15 +3,21 @@ use Rattle.std.specs.Prelude.{IfOk}
 use Rattle.cam_locks.specs.Site.{TableView, is_fit}
 use Rattle.cam_locks.specs.Calls.{grant}
 use Rattle.cam_locks.specs.Moss.{holder_of}
-use Rattle.cam_locks.proofs.Fitting.{fit_after}
+use Rattle.cam_locks.proofs.Fitting.{fit_after, fit_start}
 use Rattle.cam_locks.proofs.table.LockTable.try_lock_and_apply.Goals as goal
 
 pub returns-clause-grant : goal.returns-clause-grant
-returns-clause-grant c =
+returns-clause-grant g c =
     subst (λ (v : TableView). IfOk c.grant.result (λ granted. granted ≡ grant v.site c.args.name.now c.args.object c.args.op.now)) c.self.view_is c.grant.ensures.grant
 
+pub grant-requires-clause-fits : goal.grant-requires-clause-fits
+grant-requires-clause-fits g c =
+    let t = c.self.inside in
+    fit_start t.objects t.node c.args.object c.args.op.now
+    (subst (λ (v : TableView). is_fit v.site.objects v.site.node c.args.object c.args.op.now ≡ true) (sym c.self.view_is) c.requires.fits)
+
 pub invariant_of-self : goal.invariant_of-self
-invariant_of-self c =
+invariant_of-self g c =
     let t = c.self.inside in
     let n = c.args.name.now in
     let x = c.args.object in

@@ -1,0 +1,9 @@
+pub mod Pairs
+pub mod Votes
+pub mod Knowing
+pub mod Events
+pub mod Calling
+pub mod Recovering
+pub mod RuleCalls
+pub mod RuleKinds
+pub mod StepKinds

@@ -1,0 +1,4 @@
+pub mod Families
+pub mod Calls
+pub mod Events
+pub mod Steps

@@ -1,0 +1,254 @@
+//! Two-phase commit: the families that a node prepares as their home, with the votes for them, and those that it has secured as a site.
+//!
+//! Each call is one rule: `vote` counts a vote, `asked` answers a home that prepares a family, `query` answers a site that asks after one.
+//! What a family depends on is handed to `vote`, since the actions' layer keeps it. `reserve` makes all growth before a step; what follows
+//! takes no memory. Tables of hashes, so that a call costs some look-ups and not what is kept.
+//!
+//! Its law: after each event of a node the families answer as the node's history does (`one_more_event`, `one_more_call`), and after a
+//! restart too (`after_restart`). It stands on `cam_event` (histories and rules) and `cam_know` (knowledge).
+#![tactic(auto)]
+
+ghost use Rattle.std.specs.Prelude.{◌≡◌, ◌≤◌, false, map, IfOk, OnOk};
+ghost use Rattle.std.specs.List.{list_all};
+ghost use Rattle.cam_names.specs.Dependencies.{pairs_of};
+ghost use Rattle.cam_commit.specs.Calls.{yes, answers, AreNone, AreSame, IsPrepared, IsSecured, IsVoted, voted_by, asked_of, queried_of};
+ghost use Rattle.cam_commit.specs.Events.{KeepsOverEvent, QuietKeeps, PrepareKeeps, VoteKeeps, SecureKeeps, AreRecovered, RecoversFamilies};
+ghost use Rattle.cam_commit.specs.Steps.{AskedIsRule, VotedIsRule, QueriedIsRule, StepsAreOfKind};
+
+use cam_base::NoMemory;
+use cam_know::Know;
+use cam_names::{Deps, Name};
+use cam_type::Held;
+use std::alloc::Global;
+use std::collections::HashSet;
+
+#[cfg(test)]
+mod tests;
+
+/// What a vote makes of its family at its home.
+#[derive(Clone, Copy, Debug, PartialEq, Eq)]
+pub enum Voted {
+    /// Each node on which the family depends has voted yes: it commits.
+    All,
+    /// The vote was yes, and others are awaited.
+    Some,
+    /// The vote was no: the family aborts.
+    No,
+    /// The family is not preparing, or a vote has decided it.
+    Late,
+}
+
+/// What a site answers a home that prepares a family.
+#[derive(Clone, Copy, Debug, PartialEq, Eq)]
+pub enum Asked {
+    /// The site secures the family and votes yes.
+    Secure,
+    /// It has secured the family before, and votes yes again.
+    AlreadyYes,
+    /// It has crashed since the family's calls, and votes no.
+    Refuse,
+    /// It knows how the family ended.
+    Late,
+}
+
+/// What a home answers a site that asks after a family.
+#[derive(Clone, Copy, Debug, PartialEq, Eq)]
+pub enum Queried {
+    /// It tells how the family ended.
+    Tell,
+    /// It has crashed since the family began: the family aborts.
+    Abort,
+    /// The family is open.
+    StillOpen,
+}
+
+/// A vote yes: of a node at a count, for a family.
+#[derive(Clone, Copy, PartialEq, Eq, Hash)]
+pub(crate) struct Yes {
+    family: Name,
+    node: u8,
+    count: u32,
+}
+
+/// The families that a node is committing: those that it prepares, with their votes, and those that it has secured.
+#[derive(Drop)]
+pub struct Families {
+    preparing: HashSet<Name>,
+    votes: HashSet<Yes>,
+    secured: HashSet<Name>,
+}
+
+impl Families {
+    /// No family is preparing, and none is secured.
+    pub fn new(alloc: Global) -> Families
+        ensures { AreNone (answers result) }
+    {
+        Families {
+            preparing: HashSet::new(alloc),
+            votes: HashSet::new(alloc),
+            secured: HashSet::new(alloc),
+        }
+    }
+
+    /// What a log recovered: these families are secured, and none is preparing.
+    pub fn of(alloc: Global, held: &[Held]) -> Result<Families, NoMemory>
+        ensures { IfOk result (λ families. AreRecovered (map (λ h. h.family) held.now) (answers families)) }
+    {
+        let mut families = Families::new(alloc);
+        for one in held {
+            families.secured.insert(one.family)?;
+        }
+        Ok(families)
+    }
+
+    /// Makes room for one more of each: after it the next `prepare`, `vote` or `secured` takes no memory. What is answered stays the same.
+    pub fn reserve(&mut self) -> Result<(), NoMemory>
+        ensures same { AreSame (answers self.old) (answers self.new) }
+        ensures ok { OnOk result (1 ≤ (answers self.new).room) }
+    {
+        self.preparing.reserve(1)?;
+        self.votes.reserve(1)?;
+        self.secured.reserve(1)?;
+        Ok(())
+    }
+
+    /// Whether this node is preparing the family.
+    pub fn is_preparing(&self, family: &Name) -> bool
+        ensures { result ≡ (answers self.now).is_preparing family.now }
+    {
+        self.preparing.contains(family)
+    }
+
+    /// Its home begins to prepare a family, which is not preparing. There is room, so it takes no memory.
+    pub fn prepare(&mut self, family: &Name)
+        requires room { 1 ≤ (answers self.old).room }
+        requires begins { (answers self.old).is_preparing family.now ≡ false }
+        ensures { IsPrepared family.now (answers self.old) (answers self.new) }
+    {
+        let _ = self.preparing.insert(*family);
+    }
+
+    /// A site has secured a family. There is room, so it takes no memory.
+    pub fn secured(&mut self, family: &Name)
+        requires { 1 ≤ (answers self.old).room }
+        ensures { IsSecured family.now (answers self.old) (answers self.new) }
+    {
+        let _ = self.secured.insert(*family);
+    }
+
+    /// A node at a count votes for a family, which depends on `deps`. There is room, so it takes no memory.
+    pub fn vote(
+        &mut self,
+        family: &Name,
+        node: u8,
+        count: u32,
+        agrees: bool,
+        deps: &Deps,
+    ) -> Voted
+        requires { 1 ≤ (answers self.old).room }
+        ensures value { result ≡ voted_by (answers self.old) (yes family.now node count) agrees deps.now }
+        ensures new { IsVoted (yes family.now node count) agrees result (answers self.old) (answers self.new) }
+    {
+        if !self.is_preparing(family) {
+            return Voted::Late;
+        }
+        if !agrees {
+            let _ = self.preparing.remove(family);
+            return Voted::No;
+        }
+        let _ = self.votes.insert(Yes {
+            family: *family,
+            node,
+            count,
+        });
+        if !self.have_all(family, deps) {
+            return Voted::Some;
+        }
+        let _ = self.preparing.remove(family);
+        Voted::All
+    }
+
+    /// Each node on which the family depends has voted yes at its count.
+    fn have_all(&self, family: &Name, deps: &Deps) -> bool
+        ensures { result ≡ list_all (λ p. (answers self.now).has_vote family.now p.0 p.1) (pairs_of deps.now) }
+    {
+        // Only for the proof: these are eight.
+        let _counts = deps.counts();
+        for node in 1..9 {
+            let count = deps.count_of(node);
+            if count != 0 && !self.has_yes(family, node, count) {
+                return false;
+            }
+        }
+        true
+    }
+
+    fn has_yes(&self, family: &Name, node: u8, count: u32) -> bool
+        ensures { result ≡ (answers self.now).has_vote family.now node count }
+    {
+        self.votes.contains(&Yes {
+            family: *family,
+            node,
+            count,
+        })
+    }
+
+    /// A home asks this site to secure a family for its count `count`, where the site is at the count `present`. Takes no memory.
+    pub fn asked(&self, family: &Name, count: u32, present: u32, know: &Know) -> Asked
+        ensures { result ≡ asked_of know.now (answers self.now) family.now count present }
+    {
+        if know.is_committed(family) || know.is_aborted(family) {
+            Asked::Late
+        } else if self.secured.contains(family) {
+            Asked::AlreadyYes
+        } else if count != present {
+            Asked::Refuse
+        } else {
+            Asked::Secure
+        }
+    }
+
+    /// A site asks after a family, where this node, its home, is at the count `present`. Takes no memory.
+    pub fn query(&self, family: &Name, present: u32, know: &Know) -> Queried
+        ensures { result ≡ queried_of know.now family.now present }
+    {
+        let (_node, count) = family.home();
+        if know.is_committed(family) || know.is_aborted(family) {
+            Queried::Tell
+        } else if count < present {
+            Queried::Abort
+        } else {
+            Queried::StillOpen
+        }
+    }
+}
+
+/// After one more event, which is no restart, the families answer as the node's history does: where each is what the event made of it.
+pub fn one_more_event()
+    ensures { KeepsOverEvent }
+{}
+
+/// The same by the call that the node makes at an event: none, or `prepare`, `vote` or `secured`.
+pub fn one_more_call()
+    ensures none { QuietKeeps }
+    ensures prepare { PrepareKeeps }
+    ensures vote { VoteKeeps }
+    ensures secured { SecureKeeps }
+{}
+
+/// After a restart the families that the log recovered answer as the node's history does.
+pub fn after_restart()
+    ensures { RecoversFamilies }
+{}
+
+/// What a node does with a prepare, a vote or a query is what the call answers.
+pub fn calls_are_rules()
+    ensures asked { AskedIsRule }
+    ensures voted { VotedIsRule }
+    ensures queried { QueriedIsRule }
+{}
+
+/// Just a restart crashes a node, just a finish begins a family there, just a prepare secures one, and its Secures are its own.
+pub fn kinds_of_steps()
+    ensures { StepsAreOfKind }
+{}

@@ -1,0 +1,72 @@
+// Each test of each rule once: votes, prepares and queries.
+use crate::{Asked, Families, Queried, Voted};
+use cam_base::Sequence;
+use cam_know::{Know, Outcome};
+use cam_names::{Deps, Name};
+use cam_type::Held;
+use std::test::Fail;
+
+#[test]
+fn the_last_yes_commits_and_the_first_no_aborts(rt: HostRuntime) -> Result<(), Fail> {
+    let family = Name::parse("1.2.1")?;
+    let other = Name::parse("1.2.2")?;
+    let deps = Deps::none().with(1, 2).with(3, 5);
+    let mut families = Families::new(rt.alloc());
+    families.reserve()?;
+    assert_eq!(rt; families.vote(&family, 1, 2, true, &deps), Voted::Late);
+    assert!(rt; !families.is_preparing(&family));
+    families.reserve()?;
+    families.prepare(&family);
+    families.reserve()?;
+    assert!(rt; !families.is_preparing(&other));
+    families.prepare(&other);
+    for (node, count, answer) in [
+        (3, 4, Voted::Some),
+        (1, 2, Voted::Some),
+        (1, 2, Voted::Some),
+        (3, 5, Voted::All),
+        (3, 5, Voted::Late),
+    ] {
+        families.reserve()?;
+        assert_eq!(rt; families.vote(&family, node, count, true, &deps), answer);
+    }
+    assert!(rt; families.is_preparing(&other));
+    families.reserve()?;
+    assert_eq!(rt; families.vote(&other, 3, 4, false, &deps), Voted::No);
+    families.reserve()?;
+    assert_eq!(rt; families.vote(&other, 3, 5, true, &deps), Voted::Late);
+    Ok(())
+}
+
+#[test]
+fn a_site_that_secured_votes_yes_at_an_old_count(rt: HostRuntime) -> Result<(), Fail> {
+    let family = Name::parse("1.2.1")?;
+    let other = Name::parse("1.2.2")?;
+    let mut know = Know::new(rt.alloc());
+    let mut families = Families::new(rt.alloc());
+    assert_eq!(rt; families.asked(&family, 3, 3, &know), Asked::Secure);
+    assert_eq!(rt; families.asked(&family, 2, 3, &know), Asked::Refuse);
+    families.reserve()?;
+    families.secured(&family);
+    assert_eq!(rt; families.asked(&family, 2, 3, &know), Asked::AlreadyYes);
+    assert_eq!(rt; families.asked(&other, 3, 3, &know), Asked::Secure);
+    let held = [Held { family, count: 2, ops: Sequence::new(rt.alloc()) }];
+    let recovered = Families::of(rt.alloc(), &held)?;
+    assert_eq!(rt; recovered.asked(&family, 2, 4, &know), Asked::AlreadyYes);
+    assert_eq!(rt; recovered.asked(&other, 2, 4, &know), Asked::Refuse);
+    know.add(&Outcome::Aborted(family))?;
+    assert_eq!(rt; families.asked(&family, 3, 3, &know), Asked::Late);
+    Ok(())
+}
+
+#[test]
+fn a_query_aborts_an_open_family_of_an_older_count(rt: HostRuntime) -> Result<(), Fail> {
+    let family = Name::parse("1.2.1")?;
+    let mut know = Know::new(rt.alloc());
+    let families = Families::new(rt.alloc());
+    assert_eq!(rt; families.query(&family, 2, &know), Queried::StillOpen);
+    assert_eq!(rt; families.query(&family, 3, &know), Queried::Abort);
+    know.add(&Outcome::Committed(family, Deps::none().with(1, 2)))?;
+    assert_eq!(rt; families.query(&family, 3, &know), Queried::Tell);
+    Ok(())
+}

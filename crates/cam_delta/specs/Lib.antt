@@ -1,0 +1,4 @@
+pub mod Laws
+pub mod Halted
+pub mod Program
+pub mod Row

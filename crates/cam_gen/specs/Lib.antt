@@ -1,0 +1,6 @@
+pub mod Draws
+pub mod Script
+pub mod Digest
+pub mod Storms
+pub mod Worked
+pub mod Writes

@@ -1,0 +1,12 @@
+pub mod Replies
+pub mod Replying
+pub mod Carrying
+pub mod Sent
+pub mod Putting
+pub mod Lawful
+pub mod Staying
+pub mod ScriptNodes
+pub mod Ranging
+pub mod Echoing
+pub mod InRange
+pub mod Writing

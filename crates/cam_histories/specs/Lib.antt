@@ -1,0 +1,4 @@
+pub mod Laws
+pub mod Sending
+pub mod Scripts
+pub mod Ranges

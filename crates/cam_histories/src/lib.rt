@@ -1,0 +1,61 @@
+//! The nodes of a run: what each run gives of the history of each node, of each letter that was sent, and of each input that may come.
+//!
+//! A node's step has a precondition over its own history (`cam_node`). Here it is proved that a run meets it: the history of each node is
+//! lawful ([`histories`]), each letter that was sent may be put to its receiver, whenever it comes ([`letters`]), and each input that may
+//! come may be put to its node ([`inputs`]). Laws alone; they stand on `cam_node`, whose definitions they speak of, and on `cam_agree`,
+//! `cam_delta` and `cam_runs`, which say the same of runs by what nodes hold and by pasts.
+#![tactic(auto)]
+
+ghost use Rattle.cam_histories.specs.Laws.{HaltedInputsMayBePut, HaltedLettersMayBePut, HistoriesAreLawful, HistoriesGoThrough, HistoriesMayEnd, InputsMayBePut, LettersMayBePut, NodesMakeRuns, PutsMayCome, StepsAreNodes, WholeLettersMayBePut};
+ghost use Rattle.cam_histories.specs.Ranges.{LettersAreInRange, NumbersAreFew, PerformsAreFew};
+ghost use Rattle.cam_histories.specs.Scripts.{BeginningsHold, HaltedScriptsHold, StandingsHold};
+ghost use Rattle.cam_histories.specs.Sending.{LettersAreSent, LettersStay};
+
+/// In a run the history of each node is lawful. In a run in which nodes halt it goes through the halts, and where the node's last event was a
+/// taken one it is that of a halted node.
+pub fn histories()
+    ensures lawful { HistoriesAreLawful }
+    ensures through { HistoriesGoThrough }
+    ensures ended { HistoriesMayEnd }
+{}
+
+/// Each letter of a run may be put to the node to which it was sent, with what it carries: it is for that node, and no count in its
+/// dependencies or in those of its commits is above the count of that node in its knowledge.
+pub fn letters()
+    ensures plain { LettersMayBePut }
+    ensures halted { HaltedLettersMayBePut }
+    ensures whole { WholeLettersMayBePut }
+{}
+
+/// An input that may come in a run may be put to its node, and the next event of the run is the node's step. And back: where an input may be
+/// put to a node it may come, and the node's step may come next, so a trace that is made of steps of its nodes is a run.
+pub fn inputs()
+    ensures plain { InputsMayBePut }
+    ensures halted { HaltedInputsMayBePut }
+    ensures steps { StepsAreNodes }
+    ensures come { PutsMayCome }
+    ensures next { NodesMakeRuns }
+{}
+
+/// A letter is what its event sent, with what the history of its node up to it lets it carry, and stays so, whatever comes after.
+pub fn sending()
+    ensures sent { LettersAreSent }
+    ensures stay { LettersStay }
+{}
+
+/// So it is in the run of each script in the grammar's ranges by what nodes hold: after each number of its lines, and, whichever inputs are
+/// halts, behind each line and at the end; a node that is not halted has a history through halts.
+pub fn scripts()
+    ensures beginnings { BeginningsHold }
+    ensures standings { StandingsHold }
+    ensures halted { HaltedScriptsHold }
+{}
+
+/// In a run of fewer than a thousand million events, over 64 objects at most, each letter goes from a node to a node, and each number in it is
+/// in its range: those of calls and answers, the counts, the object; a family has one part, and the child of a start two or more. A node has
+/// performed no more operations than it has events; no count and no number of an action or a call is above the number of events and 1.
+pub fn ranges()
+    ensures letters { LettersAreInRange }
+    ensures performs { PerformsAreFew }
+    ensures numbers { NumbersAreFew }
+{}

@@ -1,0 +1,10 @@
+-- The kind of what was written on an object.
+use Rattle.std.specs.Prelude.{◌≡◌, List}
+use Rattle.cam_type.specs.declared.Kind.{Kind}
+use Rattle.cam_type.specs.Table.{kind_of}
+use Rattle.cam_locks.specs.declared.versions.Version.{Version}
+use Rattle.cam_locks.specs.Members.{In}
+
+-- the states behind writes are of the kind
+abbrev pub AreOfKind : Kind → List Version → Type 0
+AreOfKind k versions = (v : Version) → In v versions → kind_of v.state ≡ k

@@ -1,0 +1,84 @@
+// All that a node has, as the records of one entry.
+ghost use Rattle.std.specs.Prelude.{◌≡◌, ◌++◌, ◌+◌, ◌-◌, ◌≤◌, map, drop, IfOk, OnOk};
+ghost use Rattle.cam_recman.specs.declared.Record.TheVariants.{Secure};
+ghost use Rattle.cam_recman.specs.Snapshot.{outcome_record, seen_records, snapshot};
+
+use crate::{Record, Records, Recovered};
+use cam_base::NoMemory;
+use cam_know::{Know, Outcome};
+use cam_type::{Held, HeldList};
+use std::alloc::Global;
+
+/// The records that keep all that a node has: the format's version, its own count, each outcome in the order in which they were learnt, each
+/// count that was seen, in order of nodes, and what each secured family holds.
+pub fn snapshot(alloc: Global, kept: &Recovered) -> Result<Records, NoMemory>
+    ensures { IfOk result (λ records. records ≡ snapshot kept.now) }
+{
+    let mut records = Records::new(alloc);
+    records.push(Record::Version)?;
+    if kept.count > 1 {
+        records.push(Record::Count(kept.count))?;
+    }
+    add_outcomes(&mut records, &kept.know)?;
+    add_counts(&mut records, &kept.know, 1)?;
+    add_held(&mut records, &kept.held)?;
+    Ok(records)
+}
+
+/// The record of an outcome.
+fn record_of(outcome: &Outcome) -> Record
+    ensures { «result» ≡ outcome_record outcome.now }
+{
+    match outcome {
+        Outcome::Aborted(name) => Record::Abort(*name),
+        Outcome::Committed(name, deps) => Record::Commit(*name, *deps),
+    }
+}
+
+/// Adds each outcome.
+fn add_outcomes(records: &mut Records, know: &Know) -> Result<(), NoMemory>
+    ensures { OnOk result (records.new ≡ records.old ++ map outcome_record know.now.outcomes) }
+{
+    for outcome in know.outcomes() {
+        records.push(record_of(outcome))?;
+    }
+    Ok(())
+}
+
+/// Adds the counts of the nodes from this one on.
+fn add_counts(records: &mut Records, know: &Know, node: u8) -> Result<(), NoMemory>
+    requires { (1 ≤ node) × (node ≤ 9) }
+    ensures { OnOk result (records.new ≡ records.old ++ seen_records node (drop (node - 1) know.now.counts)) }
+{
+    if node > 8 {
+        // Only for the proof: it gives the fact that there are eight counts.
+        let _count = know.count(8);
+        return Ok(());
+    }
+    let count = know.count(node);
+    if count > 1 {
+        records.push(Record::Seen(node, count))?;
+    }
+    add_counts(records, know, node + 1)
+}
+
+/// A copy of what a family holds.
+fn copy_of(held: &Held) -> Result<Held, NoMemory>
+    ensures { IfOk result (λ copy. copy ≡ held.now) }
+{
+    Ok(Held {
+        family: held.family,
+        count: held.count,
+        ops: held.ops.copy()?,
+    })
+}
+
+/// Adds what each family holds.
+fn add_held(records: &mut Records, held: &HeldList) -> Result<(), NoMemory>
+    ensures { OnOk result (records.new ≡ records.old ++ map (λ one. Secure one) held.now) }
+{
+    for one in held.as_slice() {
+        records.push(Record::Secure(copy_of(one)?))?;
+    }
+    Ok(())
+}

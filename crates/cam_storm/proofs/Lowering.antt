@@ -1,0 +1,224 @@
+-- With each copy that is received less is left to hand over.
+use Rattle.std.proofs.Common.{map, ◌≡◌, ◌≤◌, ◌<◌, ℕ, zero, suc, ◌+◌, ◌-◌, ◌*◌, eqb, Bool, true, false, ◌&&◌, if◌then◌else◌, List, [], ◌∷◌, ◌++◌, length, Option, Some, None, refl, sym, ap, ◌∙◌, subst, arith}
+use Rattle.std.specs.Prelude.{slice_get, ◌%◌}
+use Rattle.std.proofs.Math.Nat.{mul-suc}
+use Rattle.std.proofs.lemmas.Nat.{mul-le}
+use Rattle.std.proofs.lemmas.Bool.{eq-eqb}
+use Rattle.cam_names.specs.declared.name.Name.{Name}
+use Rattle.cam_type.specs.declared.ObjectDecl.{ObjectDecl}
+use Rattle.cam_event.specs.declared.LetterId.{LetterId}
+use Rattle.cam_event.specs.declared.Event.{Event}
+use Rattle.cam_event.specs.declared.Sent.{Sent}
+use Rattle.cam_event.specs.Inputs.{Input, Begins, Requests, Receives, Tells, Queries, Restarts, got_of}
+use Rattle.cam_event.specs.Sights.{Sight}
+use Rattle.cam_event.specs.Rules.{arrives}
+use Rattle.cam_know.specs.Order.{told_in_order}
+use Rattle.cam_event.specs.ByKnowledge.{held_sight, node_step}
+use Rattle.cam_event.specs.ByDeltas.{Received, as_carried}
+use Rattle.cam_journal.specs.declared.entry.Entry.{Entry}
+use Rattle.cam_journal.specs.Trace.{Receives as Named}
+use Rattle.cam_gen.specs.Draws.{draw_at}
+use Rattle.cam_gen.specs.Storms.{Words, objects_of, copies_of, copies_by}
+use Rattle.cam_storm.specs.declared.Copied.{Copied}
+use Rattle.cam_storm.specs.declared.Stepped.{Stepped}
+use Rattle.cam_storm.specs.Runs.{is_letter}
+use Rattle.cam_storm.specs.Own.{own_sent}
+use Rattle.cam_storm.specs.Lawful.{named, letter_mail, load_in, carried, own_history, AreCopied, IsStormStep}
+use Rattle.cam_storm.specs.Weights.{copy_weight, copies_weight, event_at_entry, times, left_of, left_from, ArrivalsWeighLess, ReceiptsLower}
+use Rattle.cam_storm.proofs.Lightness.{sent_weight, IsEight, arrives_lighter}
+
+-- a letter has two copies at most
+by_draw : (a b : Bool) → (if a then 0 else if b then 2 else 1) ≤ 2
+by_draw true b = omega arith
+by_draw false true = omega arith
+by_draw false false = omega arith
+
+pub copies_few : (words : Words) (s n : ℕ) → copies_of words s n ≤ 2
+copies_few words s n =
+    by words.calm (by_draw (eqb (draw_at ((words.seed + s) % 18446744073709551616) n % 16) 0) (eqb (draw_at ((words.seed + s) % 18446744073709551616) n % 16) 1))
+  where
+    by : (calm : Bool) → copies_by (draw_at ((words.seed + s) % 18446744073709551616) n % 16) ≤ 2 → (if calm then 1 else copies_by (draw_at ((words.seed + s) % 18446744073709551616) n % 16)) ≤ 2
+    by true h = omega arith
+    by false h = h
+
+copied_weight : (words : Words) (s : ℕ) (h : List Received) (n : ℕ) (sent : List Sent) (letters : List Copied) → AreCopied words s h n sent letters → copies_weight letters ≤ 2 * sent_weight sent
+copied_weight words s h n [] [] all = omega arith
+copied_weight words s h n (m ∷ sent) (c ∷ letters) all =
+    let rest = copied_weight words s h (n + 1) sent letters all.1 in
+    let few : c.copies ≤ 2 = subst (λ (k : ℕ). k ≤ 2) (sym all.0.copies) (copies_few words s n) in
+    let same : copy_weight c.letter.body ≡ copy_weight m.body = ap copy_weight all.0.body in
+    let here : copy_weight c.letter.body * c.copies ≤ copy_weight m.body * 2 = mul-le (copy_weight c.letter.body) c.copies (copy_weight m.body) 2 (omega (arith, same)) few in
+    omega (arith, rest, here)
+copied_weight words s h n [] (c ∷ letters) all = absurd all
+copied_weight words s h n (m ∷ sent) [] all = absurd all
+
+eight : (objects : List ObjectDecl) (s : ℕ) (g : Sight) → g.node ≡ s → ((a : Name) → length (g.deps a) ≡ 8) → 1 ≤ s → s ≤ 8 → IsEight g
+eight objects s g same counts low high = record { low = omega (arith, same, low); high = omega (arith, same, high); eight = counts }
+
+pub arrivals_weigh_less : ArrivalsWeighLess
+arrivals_weigh_less words s history sent e allowed is = by step.input refl
+  where
+    own : List Received
+    own = own_history history
+
+    step : IsStormStep words s own (Some sent) e
+    step = allowed.1
+
+    high : s ≤ 8
+    high = let four = step.here.1 in omega (arith, four)
+
+    got : e.event.got ≡ got_of step.input
+    got = ap (λ (x : Event). x.got) step.is_next
+
+    all : copies_weight e.letters ≤ 2 * sent_weight e.event.sent
+    all = copied_weight words s (carried e (Some sent) ∷ own) (own_sent own) e.event.sent e.letters step.letters
+
+    none : got_of step.input ≡ None → ⊥
+    none n = subst (λ (g : Option LetterId). Named (named g) (Some sent)) (got ∙ n) is
+
+    by : (input : Input) → step.input ≡ input → copies_weight e.letters < copy_weight sent.letter.letter.body
+    by (Receives letter) at =
+        let g : Sight = held_sight (objects_of words) s (map as_carried own) (told_in_order (load_in (Some sent)).know) in
+        let sent_is : e.event.sent ≡ (arrives (objects_of words) g sent.letter.letter.from sent.letter.letter.body).sent =
+        ap (λ (x : Event). x.sent) step.is_next ∙ ap (λ (i : Input). (node_step (objects_of words) s (map as_carried own) i (Some (letter_mail sent.letter.letter)) (told_in_order (load_in (Some sent)).know)).sent) at in
+        let light = arrives_lighter (objects_of words) g sent.letter.letter.from sent.letter.letter.body (eight (objects_of words) s g refl (λ a. refl) step.here.0 high) in
+        let same : sent_weight e.event.sent ≡ sent_weight (arrives (objects_of words) g sent.letter.letter.from sent.letter.letter.body).sent = ap sent_weight sent_is in
+        let most = all in
+        omega (arith, light, same, most)
+    by (Begins m) at = absurd (none (ap got_of at))
+    by (Requests r) at = absurd (none (ap got_of at))
+    by (Tells m to) at = absurd (none (ap got_of at))
+    by (Queries m f) at = absurd (none (ap got_of at))
+    by (Restarts m) at = absurd (none (ap got_of at))
+
+-- one more entry, and how often a letter was received then
+record OneMore (old new : ℕ) (here : Bool) : Type 0 where
+  hit : here ≡ true → new ≡ old + 1
+  miss : here ≡ false → new ≡ old
+
+times_more : (before behind : List (Entry Stepped Copied)) (x : Entry Stepped Copied) (l : LetterId) → OneMore (times (before ++ behind) l) (times (before ++ x ∷ behind) l) (is_letter l (event_at_entry x).got)
+times_more [] behind x l = record {
+  hit = λ h. ap (λ (b : Bool). if b then times behind l + 1 else times behind l) h;
+  miss = λ h. ap (λ (b : Bool). if b then times behind l + 1 else times behind l) h;
+}
+times_more (y ∷ before) behind x l =
+    let rest = times_more before behind x l in
+    let b : Bool = is_letter l (event_at_entry y).got in
+    record {
+      hit = λ h. by b (times (before ++ behind) l) (times (before ++ x ∷ behind) l) (rest.hit h);
+      miss = λ h. ap (λ (n : ℕ). if b then n + 1 else n) (rest.miss h);
+    }
+  where
+    by : (b : Bool) (m n : ℕ) → n ≡ m + 1 → (if b then n + 1 else n) ≡ (if b then m + 1 else m) + 1
+    by true m n h = omega (arith, h)
+    by false m n h = h
+
+times_grow : (before behind : List (Entry Stepped Copied)) (x : Entry Stepped Copied) (l : LetterId) → times (before ++ behind) l ≤ times (before ++ x ∷ behind) l
+times_grow before behind x l = by (is_letter l (event_at_entry x).got) refl
+  where
+    more : OneMore (times (before ++ behind) l) (times (before ++ x ∷ behind) l) (is_letter l (event_at_entry x).got)
+    more = times_more before behind x l
+
+    by : (b : Bool) → is_letter l (event_at_entry x).got ≡ b → times (before ++ behind) l ≤ times (before ++ x ∷ behind) l
+    by true h = let e = more.hit h in omega (arith, e)
+    by false h = let e = more.miss h in omega (arith, e)
+
+-- what came more often is left less often
+left_of_less : (came now : LetterId → ℕ) (n p : ℕ) (cs : List Copied) → ((l : LetterId) → came l ≤ now l) → left_of now n p cs ≤ left_of came n p cs
+left_of_less came now n p [] grow = omega arith
+left_of_less came now n p (c ∷ cs) grow =
+    let l : LetterId = record { event = n; place = p } in
+    let rest = left_of_less came now n (p + 1) cs grow in
+    let more = grow l in
+    let here : copy_weight c.letter.body * (c.copies - now l) ≤ copy_weight c.letter.body * (c.copies - came l) = mul-le (copy_weight c.letter.body) (c.copies - now l) (copy_weight c.letter.body) (c.copies - came l) (omega arith) (omega (arith, more)) in
+    omega (arith, rest, here)
+
+left_of_most : (came : LetterId → ℕ) (n p : ℕ) (cs : List Copied) → left_of came n p cs ≤ copies_weight cs
+left_of_most came n p [] = omega arith
+left_of_most came n p (c ∷ cs) =
+    let l : LetterId = record { event = n; place = p } in
+    let rest = left_of_most came n (p + 1) cs in
+    let here : copy_weight c.letter.body * (c.copies - came l) ≤ copy_weight c.letter.body * c.copies = mul-le (copy_weight c.letter.body) (c.copies - came l) (copy_weight c.letter.body) c.copies (omega arith) (omega arith) in
+    omega (arith, rest, here)
+
+-- one copy less is left of the letter that came
+one_lower : (w k old now : ℕ) → now ≡ old + 1 → old < k → w * (k - now) + w ≤ w * (k - old)
+one_lower w k old now is less =
+    let step : k - old ≡ suc (k - now) = omega (arith, is, less) in
+    let more : w * (k - old) ≡ w * suc (k - now) = ap (λ (m : ℕ). w * m) step in
+    let times_one : w * suc (k - now) ≡ w * (k - now) + w = mul-suc w (k - now) in
+    omega (arith, more, times_one)
+
+left_of_lower : (came now : LetterId → ℕ) (n p q : ℕ) (cs : List Copied) (c : Copied) → ((l : LetterId) → came l ≤ now l) → slice_get cs q ≡ Some c
+    → now (record { event = n; place = p + q }) ≡ came (record { event = n; place = p + q }) + 1 → came (record { event = n; place = p + q }) < c.copies
+    → left_of now n p cs + copy_weight c.letter.body ≤ left_of came n p cs
+left_of_lower came now n p q [] c grow at is less = absurd (cc)
+left_of_lower came now n p zero (d ∷ cs) c grow at is less =
+    let same : d ≡ c = cc in
+    let place : p + 0 ≡ p = omega arith in
+    let l : LetterId = record { event = n; place = p } in
+    let now_is : now l ≡ came l + 1 = subst (λ (k : ℕ). now (record { event = n; place = k }) ≡ came (record { event = n; place = k }) + 1) place is in
+    let left : came l < d.copies = subst (λ (x : Copied). came l < x.copies) (sym same) (subst (λ (k : ℕ). came (record { event = n; place = k }) < c.copies) place less) in
+    let weight : copy_weight c.letter.body ≡ copy_weight d.letter.body = ap (λ (x : Copied). copy_weight x.letter.body) (sym same) in
+    let here = one_lower (copy_weight d.letter.body) d.copies (came l) (now l) now_is left in
+    let rest = left_of_less came now n (p + 1) cs grow in
+    omega (arith, here, rest, weight)
+left_of_lower came now n p (suc q) (d ∷ cs) c grow at is less =
+    let l : LetterId = record { event = n; place = p } in
+    let place : p + suc q ≡ (p + 1) + q = omega arith in
+    let rest = left_of_lower came now n (p + 1) q cs c grow at
+    (subst (λ (k : ℕ). now (record { event = n; place = k }) ≡ came (record { event = n; place = k }) + 1) place is)
+    (subst (λ (k : ℕ). came (record { event = n; place = k }) < c.copies) place less) in
+    let more = grow l in
+    let here : copy_weight d.letter.body * (d.copies - now l) ≤ copy_weight d.letter.body * (d.copies - came l) = mul-le (copy_weight d.letter.body) (d.copies - now l) (copy_weight d.letter.body) (d.copies - came l) (omega arith) (omega (arith, more)) in
+    omega (arith, rest, here)
+
+left_from_less : (came now : LetterId → ℕ) (xs : List (Entry Stepped Copied)) → ((l : LetterId) → came l ≤ now l) → left_from now xs ≤ left_from came xs
+left_from_less came now [] grow = omega arith
+left_from_less came now (x ∷ xs) grow =
+    let here = left_of_less came now x.number 0 x.event.letters grow in
+    let rest = left_from_less came now xs grow in
+    omega (arith, here, rest)
+
+left_from_lower : (came now : LetterId → ℕ) (xs : List (Entry Stepped Copied)) (at q : ℕ) (sender : Entry Stepped Copied) (c : Copied) → ((l : LetterId) → came l ≤ now l) → slice_get xs at ≡ Some sender → slice_get sender.event.letters q ≡ Some c
+    → now (record { event = sender.number; place = q }) ≡ came (record { event = sender.number; place = q }) + 1 → came (record { event = sender.number; place = q }) < c.copies
+    → left_from now xs + copy_weight c.letter.body ≤ left_from came xs
+left_from_lower came now [] at q sender c grow there letter is less = absurd (cc)
+left_from_lower came now (x ∷ xs) zero q sender c grow there letter is less =
+    let same : sender ≡ x = cc in
+    let place : q ≡ 0 + q = omega arith in
+    let here : left_of now x.number 0 x.event.letters + copy_weight c.letter.body ≤ left_of came x.number 0 x.event.letters =
+    subst (λ (y : Entry Stepped Copied). left_of now y.number 0 y.event.letters + copy_weight c.letter.body ≤ left_of came y.number 0 y.event.letters) same
+    (left_of_lower came now sender.number 0 q sender.event.letters c grow letter
+    (subst (λ (k : ℕ). now (record { event = sender.number; place = k }) ≡ came (record { event = sender.number; place = k }) + 1) place is)
+    (subst (λ (k : ℕ). came (record { event = sender.number; place = k }) < c.copies) place less)) in
+    let rest = left_from_less came now xs grow in
+    omega (arith, here, rest)
+left_from_lower came now (x ∷ xs) (suc at) q sender c grow there letter is less =
+    let rest = left_from_lower came now xs at q sender c grow there letter is less in
+    let here = left_of_less came now x.number 0 x.event.letters grow in
+    omega (arith, here, rest)
+
+left_with : (came : LetterId → ℕ) (before behind : List (Entry Stepped Copied)) (x : Entry Stepped Copied) → left_from came (before ++ x ∷ behind) ≡ left_from came (before ++ behind) + left_of came x.number 0 x.event.letters
+left_with came [] behind x = omega arith
+left_with came (y ∷ before) behind x = let rest = left_with came before behind x in omega (arith, rest)
+
+pub receipts_lower : ReceiptsLower
+receipts_lower words before behind s history sent e number r =
+    let x : Entry Stepped Copied = record { number = number; event = e; received = Some sent } in
+    let came : LetterId → ℕ = times (before ++ behind) in
+    let now : LetterId → ℕ = times (before ++ x ∷ behind) in
+    let l : LetterId = record { event = sent.number; place = sent.place } in
+    let grow : (k : LetterId) → came k ≤ now k = λ k. times_grow before behind x k in
+    let once : now l ≡ came l + 1 = (times_more before behind x l).hit (hits e.event.got r.named) in
+    let at : record { event = r.sender.number; place = sent.place } ≡ l = λ i. record { event = r.number i; place = sent.place } in
+    let lower = left_from_lower came now (before ++ behind) r.at sent.place r.sender sent.letter grow r.stands r.letter
+    (subst (λ (k : LetterId). now k ≡ came k + 1) (sym at) once) (subst (λ (k : LetterId). came k < sent.letter.copies) (sym at) r.one_left) in
+    let split = left_with now before behind x in
+    let most = left_of_most now number 0 e.letters in
+    let light = arrivals_weigh_less words s history sent e r.allowed r.named in
+    omega (arith, lower, split, most, light)
+  where
+    hits : (got : Option LetterId) → Named (named got) (Some sent) → is_letter (record { event = sent.number; place = sent.place }) got ≡ true
+    hits None is = absurd is
+    hits (Some k) is = (λ i. eqb sent.number (is.0 i) && eqb sent.place (is.1 i)) ∙ ap (λ b. b && eqb sent.place sent.place) (eq-eqb sent.number sent.number refl) ∙ eq-eqb sent.place sent.place refl
