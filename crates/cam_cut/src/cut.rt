@@ -1,4 +1,4 @@
-ghost use Rattle.std.specs.Prelude.{◌≡◌, ◌++◌, ℕ, Bool, List, length, reverse, IfOk, OnOk};
+ghost use Rattle.std.specs.Prelude.{◌≡◌, ℕ, Bool, List, length, reverse, IfOk};
 ghost use Rattle.cam_type.specs.declared.ObjectDecl.{ObjectDecl};
 ghost use Rattle.cam_event.specs.Pasts.{IsClosed, plain};
 ghost use Rattle.cam_event.specs.Runs.{IsRun};
@@ -23,18 +23,8 @@ pub fn cut_deeds(alloc: Global, trace: &Trace, keep: &[bool]) -> Result<Deeds, N
     let mut deeds = Deeds::new(alloc);
     for (number, event) in trace.as_slice().iter().enumerate() {
         if keep[number] {
-            extend(&mut deeds, &event.deeds)?;
+            deeds.extend_from_slice(event.deeds.as_slice())?;
         }
     }
     Ok(deeds)
-}
-
-/// Adds deeds at the end.
-fn extend(deeds: &mut Deeds, more: &Deeds) -> Result<(), NoMemory>
-    ensures { OnOk result (deeds.new ≡ deeds.old ++ more.now) }
-{
-    for deed in more.as_slice() {
-        deeds.push_copy(deed)?;
-    }
-    Ok(())
 }

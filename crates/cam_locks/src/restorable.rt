@@ -1,5 +1,5 @@
 //! Whether a restart takes what is held.
-ghost use Rattle.std.specs.Prelude.{◌≡◌, ◌++◌, ◌&&◌, ◌↔◌, nat_le, IsTrue, IfOk, OnOk};
+ghost use Rattle.std.specs.Prelude.{◌≡◌, ◌&&◌, ◌↔◌, nat_le, IsTrue, IfOk};
 ghost use Rattle.cam_locks.specs.Site.{is_fit};
 ghost use Rattle.cam_locks.specs.Restored.{all_held, MayBeHeld, CanRestore};
 
@@ -29,19 +29,9 @@ fn all_held(alloc: Global, held: &[Held]) -> Result<HeldOps, NoMemory>
 {
     let mut ops = HeldOps::new(alloc);
     for one in held {
-        add_ops(&mut ops, one.ops.as_slice())?;
+        ops.extend_from_slice(one.ops.as_slice())?;
     }
     Ok(ops)
-}
-
-/// Adds these at the end.
-fn add_ops(ops: &mut HeldOps, more: &[HeldOp]) -> Result<(), NoMemory>
-    ensures { OnOk result (ops.new ≡ ops.old ++ more.now) }
-{
-    for op in more {
-        ops.push_copy(op)?;
-    }
-    Ok(())
 }
 
 /// Whether these operations can be held at the node.

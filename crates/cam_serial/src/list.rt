@@ -38,23 +38,13 @@ pub fn serial(
     Ok(list)
 }
 
-/// Adds operations at the end.
-fn append(list: &mut SerialList, more: &[Operation]) -> Result<(), NoMemory>
-    ensures { OnOk result (list.new ≡ list.old ++ more.now) }
-{
-    for operation in more {
-        list.push_copy(operation)?;
-    }
-    Ok(())
-}
-
 /// Adds the group of a top action that commits.
 fn add_group(list: &mut SerialList, groups: &Groups, deed: &Deed) -> Result<(), NoMemory>
     ensures { OnOk result ((L : List Deed) → list.old ≡ joined groups.now L → list.new ≡ joined groups.now (deed.now ∷ L)) }
 {
     if let Deed::Commit { action } = deed {
         if action.depth() == 1 {
-            append(list, group_of(groups, action))?;
+            list.extend_from_slice(group_of(groups, action))?;
         }
     }
     Ok(())

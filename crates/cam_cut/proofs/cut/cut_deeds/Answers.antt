@@ -7,7 +7,7 @@ use Rattle.cam_plain.specs.Legal.{Legal, history}
 use Rattle.cam_cut.specs.Kept.{is_kept}
 use Rattle.cam_cut.proofs.Cutting.{stands, cut_more}
 use Rattle.cam_cut.proofs.Laws.{closed_sets_are_legal, halted_sets_are_legal}
-use Rattle.cam_cut.proofs.cut.cut_deeds.Goals.{then-keep-number+in_ok-extend, else-keep-number}
+use Rattle.cam_cut.proofs.cut.cut_deeds.Goals.{then-keep-number+in_ok-extend_from_slice, else-keep-number}
 use Rattle.cam_cut.proofs.cut.cut_deeds.Goals as goal
 
 pub loop-number-preserved : goal.loop-number-preserved
@@ -21,7 +21,8 @@ loop-number-preserved c =
     (stands c.args.trace.now c.as_slice-event-items.result.now i e c.as_slice-event-items.ensures c.loop-number-test.true c.event-item.is)
     c.loop-number.invariant
     (elim c.if-keep-number.branch [
-      | then-keep-number+in_ok-extend w ↦ w.deeds-is ∙ w.in_ok-extend.ensures ∙ sym (ap (λ b. if b then old ++ e.deeds else old) (flag ∙ w.if-keep-number.true))
+      | then-keep-number+in_ok-extend_from_slice w ↦
+        w.deeds-is ∙ w.in_ok-extend_from_slice.ensures.ok ∙ ap (λ ds. old ++ ds) w.as_slice.ensures ∙ sym (ap (λ b. if b then old ++ e.deeds else old) (flag ∙ w.if-keep-number.true))
       | else-keep-number w ↦ w.deeds-is ∙ sym (ap (λ b. if b then old ++ e.deeds else old) (flag ∙ w.if-keep-number.false))
     ])
 
