@@ -24,7 +24,7 @@ mod values;
 
 pub use ledger::{Ledger, live, settled};
 pub use performed::Operations;
-pub use values::{site_of, value_after};
+pub use values::value_after;
 
 #[cfg(test)]
 mod tests;

@@ -7,11 +7,10 @@ ghost use Rattle.cam_live.specs.Settled.{is_handed_up, past_top_of};
 ghost use Rattle.cam_live.specs.Tables.{Tells};
 
 use crate::tables::{Tables, count_of, has_ancestor, lift};
-use crate::values::site_of;
 use cam_base::{NoMemory, Sequence};
 use cam_event::{Deed, Operation};
 use cam_names::Name;
-use cam_type::{Answer, Objects};
+use cam_type::{Answer, Objects, site_of};
 use std::alloc::Global;
 
 /// Operations, in the order in which they were performed.

@@ -15,9 +15,9 @@ use crate::fact::Fact;
 use crate::standing::count;
 use cam_base::NoMemory;
 use cam_event::{Deed, Operation};
-use cam_live::{Ledger, Operations, site_of, value_after};
+use cam_live::{Ledger, Operations, value_after};
 use cam_names::Name;
-use cam_type::{Answer, Objects, apply, compatible, mode_of};
+use cam_type::{Answer, Objects, apply, compatible, mode_of, site_of};
 use std::alloc::Global;
 
 /// The call that comes to its site, where no reply to it was made and the site stands at the

@@ -14,9 +14,8 @@ ghost use Rattle.cam_plain.specs.Legal.{history};
 use crate::calls::{AddressedCall, call_of};
 use cam_base::{NoMemory, Sequence};
 use cam_event::{Deed, Seen};
-use cam_live::site_of;
 use cam_names::Name;
-use cam_type::Objects;
+use cam_type::{Objects, site_of};
 use std::alloc::Global;
 use std::collections::BTreeMap;
 

@@ -3,7 +3,6 @@
 ghost use Rattle.std.specs.Prelude.{◌≡◌, ◌+◌, IfOk, eqb, if◌then◌else◌};
 ghost use Rattle.cam_names.specs.Names.{is_top, last_part, home_node, home_count};
 ghost use Rattle.cam_event.specs.History.{tops, decided};
-ghost use Rattle.cam_event.specs.Live.{is_fit};
 ghost use Rattle.cam_plain.specs.Legal.{history};
 ghost use Rattle.cam_plain.specs.Lines.{asked_for};
 ghost use Rattle.cam_plain.specs.Tests.{create_test, ask_test, call_test, seen_test, got_test, ask_commit_test, abort_test, inform_test};
@@ -14,9 +13,8 @@ use crate::standing::{count, has_open_child, is_at_home, runs};
 use crate::tally::Tally;
 use cam_base::NoMemory;
 use cam_event::{Deed, Seen};
-use cam_live::site_of;
 use cam_names::Name;
-use cam_type::{Objects, Op, fits};
+use cam_type::{Objects, is_fit, site_of};
 use std::alloc::Global;
 
 /// The number of the action among those of its parent, or among the top actions of its home.
@@ -59,16 +57,6 @@ pub(crate) fn may_ask(before: &[Deed], action: &Name, child: &Name) -> bool
     let counted = home_count as usize <= count(before, node);
     let next = number_of(child) as usize == Tally::AsksOf(*action).of(before) + 1;
     running && open.is_none() && action.depth() < 8 && below && counted && next
-}
-
-/// Whether the object is declared and the op fits it.
-fn is_fit(objects: &Objects, object: u8, op: &Op) -> bool
-    ensures { result ≡ is_fit objects.now object op.now }
-{
-    match objects.get(object as usize) {
-        Some(declared) => fits(declared.start.kind(), op),
-        None => false,
-    }
 }
 
 pub(crate) fn may_call(

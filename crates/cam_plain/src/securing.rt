@@ -19,9 +19,9 @@ use crate::lines::is_decided;
 use crate::standing::{count, is_at_home, runs};
 use cam_base::NoMemory;
 use cam_event::{Deed, Operation};
-use cam_live::{Ledger, Operations, site_of};
+use cam_live::{Ledger, Operations};
 use cam_names::Name;
-use cam_type::Objects;
+use cam_type::{Objects, site_of};
 use std::alloc::Global;
 
 /// Whether the family is secured at each pair.

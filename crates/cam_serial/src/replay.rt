@@ -7,22 +7,12 @@ ghost use Rattle.cam_serial.specs.Serial.{Replays};
 use crate::SerialList;
 use cam_base::NoMemory;
 use cam_event::Operation;
-use cam_type::{Objects, State, apply};
+use cam_type::{Objects, State, apply, start_of};
 use std::alloc::Global;
 use std::collections::BTreeMap;
 
 /// The states of the objects that an operation has come to.
 type States = BTreeMap<u8, State>;
-
-/// The start state of an object.
-fn start_of(objects: &Objects, object: u8) -> Result<State, NoMemory>
-    ensures { IfOk result (λ state. state ≡ start_of objects.now object) }
-{
-    match objects.get(object as usize) {
-        Some(declared) => declared.start.copy(),
-        None => Ok(State::Register(0)),
-    }
-}
 
 /// The state that was kept of an object, or its start state.
 fn kept_or_start(objects: &Objects, object: u8, kept: Option<State>) -> Result<State, NoMemory>
@@ -30,7 +20,7 @@ fn kept_or_start(objects: &Objects, object: u8, kept: Option<State>) -> Result<S
 {
     match kept {
         Some(state) => Ok(state),
-        None => start_of(objects, object),
+        None => start_of(objects, object as usize),
     }
 }
 
