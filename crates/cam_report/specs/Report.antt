@@ -1,5 +1,5 @@
 -- The report of a run.
-use Rattle.std.specs.Prelude.{ℕ, ◌+◌, ◌-◌, Bool, true, false, if◌then◌else◌, List, [], ◌∷◌, ◌++◌, length, flat_map, Some, None, codes, decimal, slice_get, unwrap_or}
+use Rattle.std.specs.Prelude.{ℕ, ◌+◌, Bool, true, false, if◌then◌else◌, List, [], ◌∷◌, ◌++◌, length, flat_map, Some, None, codes, decimal}
 use Rattle.std.specs.Fmt.{signed_decimal}
 use Rattle.cam_names.specs.declared.name.Name.{Name}
 use Rattle.cam_type.specs.declared.ObjectDecl.{ObjectDecl}
@@ -8,6 +8,8 @@ use Rattle.cam_event.specs.declared.Note.{Note}
 use Rattle.cam_event.specs.declared.Note.TheVariants as notes
 use Rattle.cam_event.specs.declared.LineRefusal.{LineRefusal}
 use Rattle.cam_event.specs.declared.LineRefusal.TheVariants as refusals
+use Rattle.cam_event.specs.declared.LetterFault.{LetterFault}
+use Rattle.cam_event.specs.declared.LetterFault.TheVariants as faults
 use Rattle.cam_event.specs.declared.Mark.{Mark}
 use Rattle.cam_event.specs.declared.Mark.TheVariants as marks
 use Rattle.cam_event.specs.declared.ViewStep.{ViewStep}
@@ -70,8 +72,12 @@ refusal_number refusals.NotOpen = 7
 refusal_number refusals.TooDeep = 8
 refusal_number refusals.NothingToDo = 9
 
-abbrev pub fault_word : ℕ → List ℕ
-fault_word n = unwrap_or (slice_get (codes "short" ∷ codes "tag" ∷ codes "number" ∷ codes "order" ∷ codes "rest" ∷ []) (n - 1)) []
+abbrev pub fault_word : LetterFault → List ℕ
+fault_word faults.Short = codes "short"
+fault_word faults.Tag = codes "tag"
+fault_word faults.Number = codes "number"
+fault_word faults.Order = codes "order"
+fault_word faults.Rest = codes "rest"
 
 abbrev pub taken_word : Bool → List ℕ
 taken_word true = codes "taken"

@@ -3,7 +3,7 @@ ghost use Rattle.std.specs.List.{flat_map};
 ghost use Rattle.cam_report.specs.Report.{refusal_number, fault_word, taken_word, mark_text};
 
 use cam_base::NoMemory;
-use cam_event::{LineRefusal, Mark, Marks};
+use cam_event::{LetterFault, LineRefusal, Mark, Marks};
 use std::fmt::Write;
 
 /// The number by which a refusal is shown.
@@ -24,16 +24,15 @@ fn refusal_number(refusal: LineRefusal) -> u8
 }
 
 /// The word for a letter's fault.
-fn fault_word(fault: u8) -> &'static str
+fn fault_word(fault: LetterFault) -> &'static str
     ensures { result.now ≡ fault_word fault }
 {
     match fault {
-        0 | 1 => "short",
-        2 => "tag",
-        3 => "number",
-        4 => "order",
-        5 => "rest",
-        _ => "",
+        LetterFault::Short => "short",
+        LetterFault::Tag => "tag",
+        LetterFault::Number => "number",
+        LetterFault::Order => "order",
+        LetterFault::Rest => "rest",
     }
 }
 

@@ -10,6 +10,7 @@ use Rattle.cam_event.specs.declared.LetterId.{LetterId}
 use Rattle.cam_event.specs.declared.LineRefusal.{LineRefusal}
 use Rattle.cam_event.specs.declared.LineRefusal.TheVariants as refusals
 use Rattle.cam_event.specs.declared.Mark.TheVariants as marks
+use Rattle.cam_event.specs.declared.LetterFault.TheVariants.{Short}
 use Rattle.cam_event.specs.declared.Want.{Want}
 use Rattle.cam_event.specs.declared.Deed.TheVariants.{Crash}
 use Rattle.cam_event.specs.History.{is_crash}
@@ -175,7 +176,7 @@ cut_both script c st k bytes letter under awake at = record {
     there = letter_numbered st.running k letter at
 
     short : Standing
-    short = record st { running = record st.running { marks = st.running.marks ++ marks.Cut c.line k 1 bytes ∷ [] } }
+    short = record st { running = record st.running { marks = st.running.marks ++ marks.Cut c.line k Short bytes ∷ [] } }
 
     by : (b : Bool) → Both script st (if b then short else deliver (pasts script c) st k letter) (if b then short else deliver (helds script c) st k letter)
     by true = record { under = record { run = under.run; below = under.below; waits = under.waits; works = under.works; bound = under.bound }; bound = refl; same = refl }
