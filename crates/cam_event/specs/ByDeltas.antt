@@ -4,15 +4,14 @@ use Rattle.std.specs.Prelude.{ℕ, min, max, eqb, Bool, false, not, ◌&&◌, if
 use Rattle.std.specs.List.{list_any}
 use Rattle.cam_type.specs.declared.ObjectDecl.{ObjectDecl}
 use Rattle.cam_know.specs.Knowledge.{Knowledge}
-use Rattle.cam_know.specs.Known.{nothing}
+use Rattle.cam_know.specs.Known.{nothing, after_place}
+use Rattle.cam_know.specs.Order.{told_in_order}
 use Rattle.cam_event.specs.declared.LetterId.{LetterId}
 use Rattle.cam_event.specs.declared.Event.{Event}
 use Rattle.cam_event.specs.History.{is_crash}
 use Rattle.cam_event.specs.Inputs.{Input, Mail, letter_at, mail_got, node_of, got_of}
 use Rattle.cam_event.specs.Sights.{Sight}
 use Rattle.cam_event.specs.ByKnowledge.{Carried, held, held_sight, node_step}
-use Rattle.cam_know.specs.Known.{after_place}
-use Rattle.cam_know.specs.Order.{told_in_order}
 use Rattle.cam_event.specs.Loads.{Load, no_load, with_load, PlacesFields, each_node}
 
 -- an event of a node, with the letter that it received and what that letter carried
