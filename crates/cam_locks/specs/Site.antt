@@ -3,10 +3,9 @@ use Rattle.std.specs.Prelude.{◌≡◌, ℕ, ◌≤◌, true, eqb, Bool, false,
 use Rattle.std.specs.Option.{option_map_or}
 use Rattle.cam_names.specs.declared.name.Name.{Name}
 use Rattle.cam_type.specs.declared.ObjectDecl.{ObjectDecl}
-use Rattle.cam_type.specs.declared.State.{State}
-use Rattle.cam_type.specs.declared.State.TheVariants.{Register}
 use Rattle.cam_type.specs.declared.Op.{Op}
 use Rattle.cam_type.specs.Table.{kind_of, fits}
+pub use Rattle.cam_type.specs.Objects.{start_of}
 use Rattle.cam_locks.specs.declared.LiveOp.{LiveOp}
 
 pub record Site : Type 0 where
@@ -32,10 +31,6 @@ is_here objects node x = option_map_or (λ o. eqb o.node node) (slice_get object
 
 abbrev pub is_fit : List ObjectDecl → ℕ → ℕ → Op → Bool
 is_fit objects node x op = option_map_or (λ o. eqb o.node node && fits (kind_of o.start) op) (slice_get objects x) false
-
--- the start state of an object; what is not declared is a register that begins with 0
-abbrev pub start_of : List ObjectDecl → ℕ → State
-start_of objects x = option_map_or (λ o. o.start) (slice_get objects x) (Register (Rattle.std.specs.Prelude.pos 0))
 
 -- the indices of the operations rise, from `low` on, and stay below the next index
 abbrev pub IndicesRise : ℕ → List LiveOp → ℕ → Type 0

@@ -8,11 +8,13 @@ ghost use Rattle.cam_locks.specs.Calls.{is_of, held_op};
 
 use crate::leaders::is_in_the_way;
 use crate::names::Names;
-use crate::operations::{is_of, replay, start_of};
+use crate::operations::{is_of, replay};
 use crate::{LiveOp, LiveOps};
 use cam_base::NoMemory;
 use cam_names::Name;
-use cam_type::{Answer, DataType, HeldOp, HeldOps, Objects, Op, State, compatible, mode_of};
+use cam_type::{
+    Answer, DataType, HeldOp, HeldOps, Objects, Op, State, compatible, mode_of, start_of,
+};
 use std::alloc::Global;
 
 /// The lift of the first live operation that conflicts.
@@ -83,7 +85,7 @@ pub(crate) fn value(
             operations.push_copy(operation)?;
         }
     }
-    replay(start_of(objects, object)?, operations.as_slice())
+    replay(start_of(objects, object as usize)?, operations.as_slice())
 }
 
 /// Has a server do an operation in the value that it meets.
@@ -123,7 +125,7 @@ pub(crate) fn settled(
             operations.push_copy(operation)?;
         }
     }
-    replay(start_of(objects, object)?, operations.as_slice())
+    replay(start_of(objects, object as usize)?, operations.as_slice())
 }
 
 /// Whether an operation is on the object and handed up past the top.

@@ -41,16 +41,6 @@ pub(crate) fn is_here(objects: &Objects, node: u8, object: u8) -> bool
     }
 }
 
-/// The start state of an object.
-pub(crate) fn start_of(objects: &Objects, object: u8) -> Result<State, NoMemory>
-    ensures { IfOk result (λ state. state ≡ start_of objects.now object) }
-{
-    match objects.get(object as usize) {
-        Some(declared) => declared.start.copy(),
-        None => Ok(State::Register(0)),
-    }
-}
-
 /// The kind of an object.
 pub(crate) fn kind_of(objects: &Objects, object: u8) -> Kind
     ensures { result ≡ kind_of (start_of objects.now object) }
