@@ -1,8 +1,8 @@
+//! Why a read or a write did not come to its end.
 ghost use Rattle.std.specs.Prelude.{◌≡◌};
 ghost use Rattle.cam_io.specs.declared.fault.ReadFault.TheVariants.{Failed as ReadFailed, NoMemory as ReadNoMemory};
 
 use cam_base::NoMemory;
-use std::alloc::{AllocError, AllocFailed};
 use thiserror::Error;
 
 /// The object's own failure, which its count of faults shows.
@@ -29,22 +29,6 @@ impl From<Failed> for ReadFault {
 
     fn from(_: Failed) -> ReadFault {
         ReadFault::Failed
-    }
-}
-
-impl From<AllocError> for ReadFault {
-    ghost from_gives = { λ _ e. e ≡ ReadNoMemory };
-
-    fn from(_: AllocError) -> ReadFault {
-        ReadFault::NoMemory
-    }
-}
-
-impl<T: Drop> From<AllocFailed<T>> for ReadFault {
-    ghost from_gives = { λ _ e. e ≡ ReadNoMemory };
-
-    fn from(_: AllocFailed<T>) -> ReadFault {
-        ReadFault::NoMemory
     }
 }
 

@@ -1,10 +1,12 @@
-ghost use Rattle.std.specs.Prelude.{◌≡◌, ◌≤◌, ◌<◌, ℕ, List, Option, length, take, vec_len, IfOk, IsErrOf, MatchResult};
+//! Sources of bytes, and how one is read to its end.
+ghost use Rattle.std.specs.Prelude.{◌≡◌, ◌≤◌, ◌<◌, ◌+◌, ◌++◌, ℕ, List, Option, length, take, vec_len, IfOk, OnOk, IsErrOf, MatchResult};
 ghost use Rattle.cam_base.specs.Told.{IfTold};
 ghost use Rattle.cam_base.specs.Causes.{HasCause, Rose};
 ghost use Rattle.cam_io.specs.Moving.{Moves};
 ghost use Rattle.cam_io.specs.Reading.{IsRead};
 
 use crate::fault::{Failed, ReadFault};
+use cam_base::NoMemory;
 use std::alloc::Global;
 
 /// A source of bytes.
@@ -15,8 +17,9 @@ pub trait Source {
     /// How often the source has failed.
     ghost faults: { Self → ℕ };
 
-    /// Moves the next bytes into the front of `into`, and answers how many: none exactly at the end.
-    /// A read that fails moves nothing. What `into` holds behind the moved bytes, and after a failure, is left open.
+    /// Moves the next bytes to the beginning of `into`, and answers how many: none exactly at the end.
+    /// A read that fails moves nothing. What `into` holds after the moved bytes, and after a failure, is
+    /// left open.
     fn read(&mut self, into: &mut [u8]) -> Result<usize, Failed>
         requires { 0 < length into.old }
         ensures count { IfOk result (λ n. n ≤ length into.new) }
@@ -24,8 +27,9 @@ pub trait Source {
         ensures cause { HasCause (faults self.old) (faults self.new) result };
 }
 
-/// Reads all bytes that are left. Fails with `TooLarge` once more than `limit` bytes were read, with `Failed` where a read failed, and
-/// with `NoMemory` where memory runs out. Then a front of them was read, and the rest is left.
+/// Reads all bytes that are left. Fails with `TooLarge` once more than `limit` bytes were read, with
+/// `Failed` where a read failed, and with `NoMemory` where memory runs out. After a failure the bytes that
+/// were not read are left.
 pub fn read_all<S: Source>(
     alloc: Global,
     source: &mut S,
@@ -46,6 +50,15 @@ pub fn read_all<S: Source>(
         if count > limit - bytes.len() {
             return Err(ReadFault::TooLarge);
         }
-        bytes.extend_from_slice(&piece[..count])?;
+        append(&mut bytes, &piece[..count])?;
     }
+}
+
+/// Adds a piece to the bytes that were read.
+fn append(bytes: &mut Vec<u8>, piece: &[u8]) -> Result<(), NoMemory>
+    ensures added { OnOk result (bytes.new.items ≡ bytes.old.items ++ piece.now) }
+    ensures len { OnOk result (vec_len bytes.new ≡ vec_len bytes.old + length piece.now) }
+{
+    bytes.extend_from_slice(piece)?;
+    Ok(())
 }
