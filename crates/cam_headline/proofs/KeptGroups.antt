@@ -39,7 +39,7 @@ use Rattle.cam_agree.proofs.LiveSight.{ran_live}
 use Rattle.cam_agree.proofs.OrphanFacts.{sent_of}
 use Rattle.cam_agree.proofs.Ran.{Ran, Stood, did_as, event_as, stood, before_it, ran_holds, ran_informs, good_as}
 use Rattle.cam_node.specs.Kept.{Secured, secured_of, AllStandFor, AllHeld}
-use Rattle.cam_node.specs.Layers.{AreHeldOps, AreHeld}
+use Rattle.cam_server.specs.Recovered.{AreHeldOps, AreHeld}
 use Rattle.cam_headline.specs.KeptLog.{LogsKeepSecured}
 use Rattle.cam_headline.proofs.KeptLists.{Essence, of_placed, of_operation, AllAlike, secures, Groups, groups_one, groups_all, groups_secure, plain_away, pair_of, of_family_map, informs_alone}
 use Rattle.cam_headline.proofs.KeptWhole.{kept_whole}

@@ -12,7 +12,7 @@ use Rattle.cam_event.specs.Sights.{entries, own_deeds}
 use Rattle.cam_event.specs.History.{number_of}
 use Rattle.cam_event.specs.ByKnowledge.{Placed, is_any_perform, site, of_node, carried_of}
 use Rattle.cam_node.specs.Kept.{Secured, performed_at, secured_of, paired}
-use Rattle.cam_node.specs.Layers.{AreHeldOps, AreHeld, beside}
+use Rattle.cam_server.specs.Recovered.{AreHeldOps, AreHeld, beside}
 use Rattle.cam_headline.specs.KeptLog.{LogsKeepOrder, LogsKeep}
 use Rattle.cam_headline.proofs.KeptKnowledge.{logs_keep_knowledge}
 use Rattle.cam_headline.proofs.KeptGroups.{logs_keep_secured}

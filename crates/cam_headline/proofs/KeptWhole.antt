@@ -15,7 +15,8 @@ use Rattle.cam_event.specs.Taken.{IsRunTaking}
 use Rattle.cam_delta.proofs.Addressed.{halted_runs_are_addressed}
 use Rattle.cam_delta.proofs.SameHistories.{site_same, entries_alike}
 use Rattle.cam_delta.proofs.SameKnown.{nodes_know_the_same}
-use Rattle.cam_node.specs.Layers.{Logged, AreHeld, OrderIsKept, beside, secure_counts, KeepsLog}
+use Rattle.cam_server.specs.Recovered.{AreHeld, OrderIsKept, beside}
+use Rattle.cam_node.specs.Log.{Logged, secure_counts, KeepsLog}
 
 -- what such a log keeps of the history with whole letters
 pub record KeptWhole (objects : List ObjectDecl) (s : ℕ) (history : List Carried) (logged : Logged) : Type 0 where

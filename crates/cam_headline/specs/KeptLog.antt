@@ -15,7 +15,7 @@ use Rattle.cam_event.specs.ByDeltas.{of_node, received_of}
 use Rattle.cam_event.specs.Pasts.{plain_all}
 use Rattle.cam_event.specs.Taken.{IsRunTaking}
 use Rattle.cam_node.specs.Kept.{kept_count, secured_of, performed_at, paired, AllHeld, IndicesRise, IsKept}
-use Rattle.cam_node.specs.Layers.{Logged, KeepsLog}
+use Rattle.cam_node.specs.Log.{Logged, KeepsLog}
 
 -- Of a recovery: the node's count; the outcomes, each commit with what its action depends on, and the other nodes' counts in the past of
 -- the node's last event.

@@ -5,17 +5,22 @@
 -- Without it the event is lost, and the history is what it was.
 use Rattle.std.specs.Prelude.{◌≡◌, ◌⊎◌, ℕ, true, List, [], ◌∷◌, map, Option, None}
 use Rattle.std.specs.List.{list_any}
+use Rattle.cam_names.specs.declared.name.Name.{Name}
+use Rattle.cam_names.specs.Names.{home_node}
 use Rattle.cam_type.specs.declared.ObjectDecl.{ObjectDecl}
 use Rattle.cam_know.specs.Known.{nothing}
 use Rattle.cam_know.specs.Order.{told_in_order}
 use Rattle.cam_event.specs.declared.Event.{Event}
+use Rattle.cam_event.specs.declared.Want.{Want}
+use Rattle.cam_event.specs.declared.LineRefusal.{LineRefusal}
 use Rattle.cam_event.specs.History.{is_crash}
 use Rattle.cam_event.specs.Inputs.{Input, Restarts, Mail}
+use Rattle.cam_event.specs.Refusals.{refusal, query_refusal}
 use Rattle.cam_event.specs.Taken.{taken_of}
 use Rattle.cam_event.specs.ByKnowledge.{held_sight, node_step}
 use Rattle.cam_event.specs.Loads.{Load, no_load}
 use Rattle.cam_event.specs.ByDeltas.{Received, as_carried}
-use Rattle.cam_node.specs.Layers.{Logged, KeepsLog}
+use Rattle.cam_node.specs.Log.{Logged, KeepsLog}
 use Rattle.cam_node.specs.Lawful.{MayBePut, IsStepOf, IsLawful}
 use Rattle.cam_node.specs.Represents.{Node, Represents}
 
@@ -49,7 +54,19 @@ IsEnded objects s (k ∷ before) = IsThrough objects s (k ∷ before) ⊎ (IsTak
 abbrev pub LawfulIsThrough : Type 0
 LawfulIsThrough = (objects : List ObjectDecl) (s : ℕ) (history : List Received) → IsLawful objects s history → IsThrough objects s history
 
--- A step that comes to its end, through whatever halts the node went before.
+-- What a node answers before a request of an action that it is the home of, and before a query: the refusal of the definition, for each
+-- history through halts that it represents.
+abbrev pub IsRefusal : List ObjectDecl → Node → Name → Want → Option LineRefusal → Type 0
+IsRefusal objects node a want result =
+    (history : List Received) → IsThrough objects node.number history → Represents objects history node → home_node a ≡ node.number
+    → result ≡ refusal (held_sight objects node.number (map as_carried history) nothing) a want
+
+abbrev pub IsQueryRefusal : List ObjectDecl → Node → Name → Option LineRefusal → Type 0
+IsQueryRefusal objects node f result =
+    (history : List Received) → IsThrough objects node.number history → Represents objects history node
+    → result ≡ query_refusal (held_sight objects node.number (map as_carried history) nothing) f
+
+-- A step that comes to its end: for each such history the event is the definition's, and the node represents the longer history.
 pub record IsStepThrough (objects : List ObjectDecl) (old new : Node) (input : Input) (mail : Option Mail) (load : Load) (event : Event) : Type 0 where
   pub number : new.number ≡ old.number
   pub next :

@@ -11,7 +11,7 @@ use Rattle.cam_event.specs.History.{created}
 use Rattle.cam_event.specs.Inputs.{Input, Begins, Requests, Receives, Restarts}
 use Rattle.cam_event.specs.ByKnowledge.{deeds_of, node_step}
 use Rattle.cam_event.specs.ByDeltas.{Received, as_carried}
-use Rattle.cam_node.specs.Layers.{MayRunHere}
+use Rattle.cam_tranman.specs.Actions.{MayRunHere}
 use Rattle.cam_node.specs.Represents.{Node, Represents}
 use Rattle.cam_runs.specs.Playing.{is_stop_of}
 use Rattle.cam_journal.specs.declared.entry.Entry.{Entry}

@@ -1,0 +1,96 @@
+-- What each call answers, and what it does to the server.
+use Rattle.std.specs.Prelude.{◌≡◌, ℕ, ◌≤◌, eqb, Bool, true, false, not, ◌&&◌, ◌||◌, if◌then◌else◌, List, filter, Option, Some, None}
+use Rattle.std.specs.List.{list_any}
+use Rattle.cam_names.specs.declared.name.Name.{Name}
+use Rattle.cam_names.specs.Names.{name_eq, ancestors}
+use Rattle.cam_names.specs.Dependencies.{pairs_of}
+use Rattle.cam_type.specs.declared.Op.{Op}
+use Rattle.cam_know.specs.Knowledge.{Knowledge}
+use Rattle.cam_know.specs.declared.Reason.{Reason}
+use Rattle.cam_know.specs.Known.{knows_abort, knows_commit}
+use Rattle.cam_know.specs.Orphans.{known_orphan}
+use Rattle.cam_event.specs.declared.Reply.{Reply}
+use Rattle.cam_event.specs.declared.Reply.TheVariants as replies
+use Rattle.cam_locks.specs.declared.Grant.{Grant}
+use Rattle.cam_locks.specs.declared.Grant.TheVariants as grants
+use Rattle.cam_locks.specs.declared.LiveOp.{LiveOp}
+use Rattle.cam_locks.specs.Names.{has_name}
+use Rattle.cam_locks.specs.Site.{Site}
+use Rattle.cam_locks.specs.Calls.{grant, after_grant}
+use Rattle.cam_server.specs.declared.Performed.{Performed}
+use Rattle.cam_server.specs.declared.Performed.TheVariants as performed
+use Rattle.cam_server.specs.Server.{Server}
+
+-- a call as it comes to its site: the count at which the site was addressed, and the pairs that its action has visited
+pub record Asked : Type 0 where
+  pub action : Name
+  pub number : ℕ
+  pub object : ℕ
+  pub op : Op
+  pub count : ℕ
+  pub visited : List ℕ
+
+-- THE TESTS OF A CALL, in their order; the first that holds decides. The lock table grants it, or names who stands in the way.
+abbrev pub granted : Grant → Performed
+granted (grants.Done answer) = performed.Done answer
+granted (grants.Conflict u) = performed.Busy u
+
+abbrev pub orphan_or : Option Reason → Performed → Performed
+orphan_or (Some reason) other = performed.Orphan reason
+orphan_or None other = other
+
+abbrev pub again_or : Option Reply → Performed → Performed
+again_or (Some reply) other = performed.Again reply
+again_or None other = other
+
+abbrev pub performed_by : Knowledge → Server → Asked → Performed
+performed_by k server asked =
+    if not (eqb asked.count server.count) then performed.Missed
+    else if list_any (knows_commit k) (ancestors asked.action) then performed.Ended
+    else again_or (server.kept_reply asked.action asked.number)
+        (orphan_or (known_orphan k asked.action (pairs_of asked.visited))
+        (granted (grant server.table.site asked.action asked.object asked.op)))
+
+-- what is kept of it: the reply to a call that was performed or bounced
+abbrev pub reply_of : Performed → Option Reply
+reply_of (performed.Done answer) = Some (replies.Done answer)
+reply_of (performed.Busy u) = Some (replies.Busy u)
+reply_of _ = None
+
+abbrev pub is_served : Performed → Bool
+is_served (performed.Done answer) = true
+is_served (performed.Busy u) = true
+is_served _ = false
+
+-- A call that comes as far as the lock table leaves its site as the grant does; any other changes nothing.
+pub record AfterPerformed (asked : Asked) (result : Performed) (old new : Server) : Type 0 where
+  pub count : new.count ≡ old.count
+  pub site :
+      new.table.site ≡ (if is_served result then after_grant old.table.site asked.action asked.object asked.op else old.table.site)
+  pub replies :
+      (a : Name) (n : ℕ)
+      → new.kept_reply a n
+      ≡ (if is_served result && (name_eq asked.action a && eqb asked.number n) then reply_of result else old.kept_reply a n)
+
+-- both answer the same
+pub record AreSame (one other : Server) : Type 0 where
+  pub count : other.count ≡ one.count
+  pub site : other.table.site ≡ one.table.site
+  pub replies : (a : Name) (n : ℕ) → other.kept_reply a n ≡ one.kept_reply a n
+
+-- The site is informed of these aborts and commits: the operations of an aborted action and of all below it are dropped.
+pub record AreInformed (aborts commits : Name → Bool) (old new : Server) : Type 0 where
+  pub count : new.count ≡ old.count
+  pub objects : new.table.site.objects ≡ old.table.site.objects
+  pub node : new.table.site.node ≡ old.table.site.node
+  pub live : new.table.site.live ≡ filter (λ o. not (list_any aborts (ancestors o.action))) old.table.site.live
+  pub commits_are : (u : Name) → has_name new.table.site.committed u ≡ (has_name old.table.site.committed u || commits u)
+  pub aborts_are : (u : Name) → has_name new.table.site.aborted u ≡ (has_name old.table.site.aborted u || aborts u)
+  pub next : new.table.site.next ≡ old.table.site.next
+  pub replies : (a : Name) (n : ℕ) → new.kept_reply a n ≡ old.kept_reply a n
+
+-- a server that has served nothing since the restart
+pub record IsNew (count : ℕ) (site : Site) (new : Server) : Type 0 where
+  pub count_is : new.count ≡ count
+  pub site_is : new.table.site ≡ site
+  pub replies : (a : Name) (n : ℕ) → new.kept_reply a n ≡ None

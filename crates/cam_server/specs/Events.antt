@@ -1,0 +1,92 @@
+-- One more event of a node: what it does to what is served there, so that it goes on answering as the node's history does.
+use Rattle.std.specs.Prelude.{◌≡◌, ℕ, ◌+◌, eqb, Bool, true, false, ◌&&◌, ◌||◌, not, if◌then◌else◌, List, [], ◌∷◌, ◌++◌, reverse, Option, Some, None}
+use Rattle.std.specs.List.{list_any, list_all}
+use Rattle.cam_names.specs.declared.name.Name.{Name}
+use Rattle.cam_names.specs.Names.{name_eq}
+use Rattle.cam_type.specs.declared.ObjectDecl.{ObjectDecl}
+use Rattle.cam_type.specs.declared.Op.{Op}
+use Rattle.cam_type.specs.declared.Answer.{Answer}
+use Rattle.cam_type.specs.declared.Held.{Held}
+use Rattle.cam_know.specs.Knowledge.{Knowledge}
+use Rattle.cam_know.specs.Known.{knows_abort, knows_commit, news}
+use Rattle.cam_event.specs.declared.Body.TheVariants as bodies
+use Rattle.cam_event.specs.declared.Deed.{Deed}
+use Rattle.cam_event.specs.declared.Deed.TheVariants.{Perform, Bounce, Inform, Crash}
+use Rattle.cam_event.specs.History.{count, informed, is_inform}
+use Rattle.cam_event.specs.Inputs.{Mail}
+use Rattle.cam_event.specs.ByKnowledge.{Carried, deeds_of, held, new_informs, site}
+use Rattle.cam_locks.specs.Names.{has_name}
+use Rattle.cam_locks.specs.Restored.{CanRestore, restored}
+use Rattle.cam_server.specs.declared.Performed.{Performed}
+use Rattle.cam_server.specs.declared.Performed.TheVariants as performed
+use Rattle.cam_server.specs.Server.{Server, ServesSite}
+use Rattle.cam_server.specs.Calls.{Asked, AfterPerformed, AreInformed, IsNew}
+use Rattle.cam_server.specs.Recovered.{AreHeld, beside, OrderIsKept}
+
+-- A deed that does nothing here but that its site may be informed by it: its own site alone.
+abbrev pub is_quiet : ℕ → Deed → Bool
+is_quiet s (Perform a n answer) = false
+is_quiet s (Bounce a n u) = false
+is_quiet s (Crash site) = false
+is_quiet s (Inform site u committed) = eqb s site
+is_quiet s _ = true
+
+abbrev pub AreQuiet : ℕ → List Deed → Type 0
+AreQuiet s ds = list_all (is_quiet s) ds ≡ true
+
+-- of which aborts, and of which commits, the deeds inform the site
+abbrev pub informs_abort : ℕ → List Deed → Name → Bool
+informs_abort s ds u = list_any (is_inform s u false) ds
+
+abbrev pub informs_commit : ℕ → List Deed → Name → Bool
+informs_commit s ds u = list_any (is_inform s u true) ds
+
+-- THE LAW. An event that performs and bounces nothing informs the site, of nothing where it has no Inform;
+abbrev pub InformsKeep : Type 0
+InformsKeep =
+    (objects : List ObjectDecl) (s : ℕ) (before : List Carried) (c : Carried) (old new : Server) → AreQuiet s c.event.deeds
+    → AreInformed (informs_abort s c.event.deeds) (informs_commit s c.event.deeds) old new
+    → ServesSite objects s before old → ServesSite objects s (c ∷ before) new
+
+-- one with a Perform or a Bounce has it last, and its letter is the call.
+abbrev pub served_deed : Asked → Performed → List Deed
+served_deed asked (performed.Done answer) = Perform asked.action asked.number answer ∷ []
+served_deed asked (performed.Busy u) = Bounce asked.action asked.number u ∷ []
+served_deed asked _ = []
+
+pub record IsServing (s : ℕ) (c : Carried) (first : List Deed) (asked : Asked) (result : Performed) : Type 0 where
+  pub quiet : AreQuiet s first
+  pub deeds : c.event.deeds ≡ first ++ served_deed asked result
+  pub mail :
+      (m : Mail) × (c.mail ≡ Some m) × (m.body ≡ bodies.Call asked.action asked.number asked.object asked.op asked.count asked.visited)
+
+-- The lock table did it, just where the call was performed.
+abbrev pub PerformKeeps : Type 0
+PerformKeeps =
+    (objects : List ObjectDecl) (s : ℕ) (before : List Carried) (c : Carried) (first : List Deed) (asked : Asked) (k : Knowledge) (old mid new : Server)
+    → IsServing s c first asked (Rattle.cam_server.specs.Calls.performed_by k mid asked)
+    → AreInformed (informs_abort s first) (informs_commit s first) old mid
+    → AfterPerformed asked (Rattle.cam_server.specs.Calls.performed_by k mid asked) mid new
+    → ServesSite objects s before old → ServesSite objects s (c ∷ before) new
+
+-- The first Informs of an event are what the letter brings new, where each commit that is known was informed of.
+abbrev pub NewsInform : Type 0
+NewsInform =
+    (s : ℕ) (brought known : Knowledge) (old new : Server) → ((u : Name) → knows_commit known u ≡ true → has_name old.table.site.committed u ≡ true)
+    → AreInformed (knows_abort (news brought known)) (knows_commit (news brought known)) old new
+    → AreInformed (informs_abort s (new_informs s brought known)) (informs_commit s (new_informs s brought known)) old new
+
+-- After a restart, with the table that is restored from what the log held, it answers as the history does: the log held the secured
+-- families in order, and what was known of aborts is of what the site was informed.
+pub record IsLogged (objects : List ObjectDecl) (s : ℕ) (before : List Carried) (k : Knowledge) (logged : List Held) : Type 0 where
+  pub secured : AreHeld logged (reverse (site before).secured)
+  pub order : OrderIsKept (beside logged (reverse (site before).secured))
+  pub restorable : CanRestore objects s logged
+  pub aborts : (u : Name) → knows_abort k u ≡ informed (deeds_of before) s u false
+  pub commits : (u : Name) → knows_commit k u ≡ informed (deeds_of before) s u true
+
+abbrev pub RestartKeeps : Type 0
+RestartKeeps =
+    (objects : List ObjectDecl) (s : ℕ) (before : List Carried) (c : Carried) (k : Knowledge) (logged : List Held) (new : Server)
+    → c.event.deeds ≡ Crash s ∷ [] → IsLogged objects s before k logged
+    → IsNew (count (deeds_of before) s + 1) (restored objects s logged k) new → ServesSite objects s (c ∷ before) new

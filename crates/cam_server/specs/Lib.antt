@@ -1,0 +1,5 @@
+pub mod Server
+pub mod Calls
+pub mod Events
+pub mod Steps
+pub mod Recovered

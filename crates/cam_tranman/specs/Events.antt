@@ -1,0 +1,139 @@
+-- One more event of a node: what it does to the actions that run there, so that they go on answering as the node's history does.
+use Rattle.std.specs.Prelude.{◌≡◌, ℕ, ◌+◌, ◌<◌, ◌≤◌, Bool, true, false, if◌then◌else◌, List, [], ◌∷◌, filter, length, Option, Some, None}
+use Rattle.cam_names.specs.declared.name.Name.{Name}
+use Rattle.cam_names.specs.Names.{is_top, is_child, parent, home_node, home_count}
+use Rattle.cam_type.specs.declared.ObjectDecl.{ObjectDecl}
+use Rattle.cam_type.specs.declared.Op.{Op}
+use Rattle.cam_event.specs.declared.Deed.{Deed}
+use Rattle.cam_event.specs.declared.Deed.TheVariants.{Create, Ask, Call, Got, AskCommit, AskAbort, Commit, Abort, Crash}
+use Rattle.cam_event.specs.History as history
+use Rattle.cam_event.specs.Live.{site_of}
+use Rattle.cam_event.specs.Inputs.{Mail}
+use Rattle.cam_event.specs.ByKnowledge.{Carried, deeds_of, own_pairs, start_counts, finish_counts}
+use Rattle.cam_tranman.specs.declared.OpenCall.{OpenCall}
+use Rattle.cam_tranman.specs.Actions.{Actions, created, asks, RunsActions}
+use Rattle.cam_tranman.specs.Calls.{AreSame, IsFree, next_top, next_child, next_call, none_run, begun, begun_child, asked, called, finished, got, decided}
+
+-- the deeds that concern the actions at home
+abbrev pub is_at_home : Deed → Bool
+is_at_home (Create a) = true
+is_at_home (Ask a b) = true
+is_at_home (Call a n x op c) = true
+is_at_home (Got a n seen) = true
+is_at_home (AskCommit a v) = true
+is_at_home (AskAbort a) = true
+is_at_home (Commit a) = true
+is_at_home (Abort a) = true
+is_at_home (Crash s) = true
+is_at_home _ = false
+
+abbrev pub at_home : Carried → List Deed
+at_home c = filter is_at_home c.event.deeds
+
+-- what a call asks, and where it goes
+abbrev pub call_to : List ObjectDecl → ℕ → ℕ → Op → ℕ → OpenCall
+call_to objects n x op c = record { number = n; object = x; op = op; site = site_of objects x; count = c }
+
+-- What a deed does: just what one call does. The commit or abort of a top action does nothing here.
+abbrev pub begins : Bool → Name → Option Mail → Actions → Actions
+begins true a mail actions = begun actions
+begins false a mail actions = begun_child a (start_counts mail) actions
+
+abbrev pub decides : Bool → Name → Option (List ℕ) → Actions → Actions
+decides true b counts actions = actions
+decides false b counts actions = decided b counts actions
+
+abbrev pub after_deed : List ObjectDecl → Option Mail → Deed → Actions → Actions
+after_deed objects mail (Create a) actions = begins (is_top a) a mail actions
+after_deed objects mail (Ask a b) actions = asked a b actions
+after_deed objects mail (Call a n x op c) actions = called a (call_to objects n x op c) actions
+after_deed objects mail (Got a n seen) actions = got a seen actions
+after_deed objects mail (AskCommit a v) actions = finished a actions
+after_deed objects mail (AskAbort a) actions = finished a actions
+after_deed objects mail (Commit b) actions = decides (is_top b) b (Some (finish_counts mail)) actions
+after_deed objects mail (Abort b) actions = decides (is_top b) b None actions
+after_deed objects mail (Crash s) actions = none_run actions.node (actions.count + 1)
+after_deed objects mail _ actions = actions
+
+-- An action comes here new, at the present count.
+pub record IsNew (a : Name) (actions : Actions) : Type 0 where
+  pub home : home_node a ≡ actions.node
+  pub present : home_count a ≡ actions.count
+  pub fresh : created actions a ≡ false
+
+-- a top action with the next number and no letter, a child with the dependencies on its start
+abbrev pub IsNamed : Bool → Name → Option Mail → Actions → Type 0
+IsNamed true a mail actions = (a ≡ next_top actions) × (start_counts mail ≡ [])
+IsNamed false a mail actions = length (start_counts mail) ≡ 8
+
+-- When a deed may come: it is of an action that was created here; an ask is for a child of it.
+abbrev pub MayCome : Option Mail → Deed → Actions → Type 0
+MayCome mail (Create a) actions = IsNew a actions × IsNamed (is_top a) a mail actions
+MayCome mail (Ask a b) actions = (created actions a ≡ true) × (is_child a b ≡ true)
+MayCome mail (Call a n x op c) actions = created actions a ≡ true
+MayCome mail (Got a n seen) actions = created actions a ≡ true
+MayCome mail (AskCommit a v) actions = created actions a ≡ true
+MayCome mail (AskAbort a) actions = created actions a ≡ true
+MayCome mail (Commit b) actions = length (finish_counts mail) ≡ 8
+MayCome mail (Abort b) actions = Unit {0}
+MayCome mail _ actions = ⊥
+
+-- THE LAW. An event without such a deed leaves the actions as they are;
+abbrev pub QuietKeeps : Type 0
+QuietKeeps =
+    (objects : List ObjectDecl) (s : ℕ) (before : List Carried) (c : Carried) (old new : Actions) → at_home c ≡ [] → AreSame old new
+    → RunsActions objects s before old → RunsActions objects s (c ∷ before) new
+
+-- one with a deed that may come then does what the deed does;
+abbrev pub DeedKeeps : Type 0
+DeedKeeps =
+    (objects : List ObjectDecl) (s : ℕ) (before : List Carried) (c : Carried) (d : Deed) (old new : Actions) → at_home c ≡ d ∷ []
+    → MayCome c.mail d old → AreSame (after_deed objects c.mail d old) new
+    → RunsActions objects s before old → RunsActions objects s (c ∷ before) new
+
+-- The history has nothing of an action.
+pub record IsUnheard (objects : List ObjectDecl) (before : List Carried) (a : Name) : Type 0 where
+  pub created : history.created (deeds_of before) a ≡ false
+  pub ended : history.ended (deeds_of before) a ≡ false
+  pub asks : history.asks (deeds_of before) a ≡ 0
+  pub calls : history.calls (deeds_of before) a ≡ 0
+  pub open_call : history.open_call (deeds_of before) a ≡ None
+  pub children : history.open_children (deeds_of before) a ≡ []
+  pub pairs : own_pairs objects before a ≡ []
+
+-- It has nothing of the node's actions of a count that the node has not reached.
+pub record NoneLater (objects : List ObjectDecl) (s : ℕ) (before : List Carried) : Type 0 where
+  pub tops : (c : ℕ) → history.count (deeds_of before) s < c → history.tops (deeds_of before) s c ≡ 0
+  pub actions : (a : Name) → home_node a ≡ s → history.count (deeds_of before) s < home_count a → IsUnheard objects before a
+
+-- after a restart no action runs.
+abbrev pub RestartKeeps : Type 0
+RestartKeeps =
+    (objects : List ObjectDecl) (s : ℕ) (before : List Carried) (c : Carried) (new : Actions) → at_home c ≡ Crash s ∷ [] → NoneLater objects s before
+    → AreSame (none_run s (history.count (deeds_of before) s + 1)) new → RunsActions objects s (c ∷ before) new
+
+-- The event's deed is a crash, or of an action of a count that the node has reached.
+abbrev pub IsReached : ℕ → ℕ → Deed → Type 0
+IsReached s count (Create a) = home_count a ≤ count
+IsReached s count (Ask a b) = home_count a ≤ count
+IsReached s count (Call a n x op c) = home_count a ≤ count
+IsReached s count (Got a n seen) = home_count a ≤ count
+IsReached s count (AskCommit a v) = home_count a ≤ count
+IsReached s count (AskAbort a) = home_count a ≤ count
+IsReached s count (Commit b) = (p : Name) → is_child p b ≡ true → home_count p ≤ count
+IsReached s count (Abort b) = Unit {0}
+IsReached s count (Crash site) = Unit {0}
+IsReached s count _ = Unit {0}
+
+-- So it stays: a history begins without any, and no event that has such a deed, or none, adds one.
+abbrev pub NoneLaterAtFirst : Type 0
+NoneLaterAtFirst = (objects : List ObjectDecl) (s : ℕ) → NoneLater objects s []
+
+abbrev pub NoneLaterAfterQuiet : Type 0
+NoneLaterAfterQuiet =
+    (objects : List ObjectDecl) (s : ℕ) (before : List Carried) (c : Carried) → at_home c ≡ [] → NoneLater objects s before → NoneLater objects s (c ∷ before)
+
+abbrev pub NoneLaterAfterDeed : Type 0
+NoneLaterAfterDeed =
+    (objects : List ObjectDecl) (s : ℕ) (before : List Carried) (c : Carried) (d : Deed) → at_home c ≡ d ∷ []
+    → IsReached s (history.count (deeds_of before) s) d → NoneLater objects s before → NoneLater objects s (c ∷ before)

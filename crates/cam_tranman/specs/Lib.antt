@@ -1,0 +1,4 @@
+pub mod Actions
+pub mod Calls
+pub mod Events
+pub mod Steps

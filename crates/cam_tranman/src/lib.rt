@@ -1,0 +1,46 @@
+//! The actions that a node runs: what they have asked for, what is open, and what they depend on.
+//!
+//! [`Homed`] has the actions of the node's present incarnation alone, in tables of hashes, so that a call costs some look-ups and not what
+//! runs. Each call is one step of an action at its home: it is begun or started, asks for a child, makes a call, takes an answer, asks to
+//! commit or abort, decides a child. The tests that a rule makes first are calls too: `refusal`, `awaits`, `decides`. The orphan test comes
+//! between, and is that of `cam_orphan`. `reserve` makes all growth before a step; a call that has room takes no memory.
+//!
+//! Its law: after each event of a node the actions answer as the node's history does (`one_more_event`, `after_restart`). It stands on
+//! `cam_event` (histories and rules).
+#![tactic(auto)]
+
+mod action;
+
+use cam_event::Seen;
+use cam_type::Op;
+
+/// The call of an action that is not answered.
+#[derive(Clone, Copy, Debug)]
+pub struct OpenCall {
+    /// Which call of the action it is: 1 to 1,000,000,000.
+    pub number: u32,
+    /// The object, and what was asked of it.
+    pub object: u8,
+    pub op: Op,
+    /// The node of the object, 1 to 8, and the count at which it was addressed.
+    pub site: u8,
+    pub count: u32,
+}
+
+/// What the start of a child makes of it.
+#[derive(Clone, Copy, Debug, PartialEq, Eq)]
+pub enum Started {
+    /// It is created here now.
+    New,
+    /// It was created here before.
+    Known,
+}
+
+/// What the answer to a call makes of it.
+#[derive(Clone, Copy, Debug)]
+pub enum Taken {
+    /// The action sees this of its open call.
+    Got(Seen),
+    /// The call is not awaited, or its site had crashed or stopped it: the action sees nothing.
+    Late,
+}
