@@ -1,22 +1,23 @@
 -- What each call answers, and what it does to the server.
-use Rattle.std.specs.Prelude.{◌≡◌, ℕ, ◌≤◌, eqb, Bool, true, false, not, ◌&&◌, ◌||◌, if◌then◌else◌, List, filter, Option, Some, None}
+use Rattle.std.specs.Prelude.{◌≡◌, ℕ, eqb, Bool, true, false, not, ◌&&◌, ◌||◌, if◌then◌else◌, List, filter, Option, Some, None}
 use Rattle.std.specs.List.{list_any}
 use Rattle.cam_names.specs.declared.name.Name.{Name}
 use Rattle.cam_names.specs.Names.{name_eq, ancestors}
 use Rattle.cam_names.specs.Dependencies.{pairs_of}
 use Rattle.cam_type.specs.declared.Op.{Op}
+use Rattle.cam_type.specs.declared.State.{State}
 use Rattle.cam_know.specs.Knowledge.{Knowledge}
 use Rattle.cam_know.specs.declared.Reason.{Reason}
-use Rattle.cam_know.specs.Known.{knows_abort, knows_commit}
+use Rattle.cam_know.specs.Known.{knows_commit}
 use Rattle.cam_know.specs.Orphans.{known_orphan}
 use Rattle.cam_event.specs.declared.Reply.{Reply}
 use Rattle.cam_event.specs.declared.Reply.TheVariants as replies
 use Rattle.cam_locks.specs.declared.Grant.{Grant}
 use Rattle.cam_locks.specs.declared.Grant.TheVariants as grants
-use Rattle.cam_locks.specs.declared.LiveOp.{LiveOp}
 use Rattle.cam_locks.specs.Names.{has_name}
 use Rattle.cam_locks.specs.Site.{Site}
 use Rattle.cam_locks.specs.Calls.{grant, after_grant}
+use Rattle.cam_locks.specs.Served.{served}
 use Rattle.cam_server.specs.declared.Performed.{Performed}
 use Rattle.cam_server.specs.declared.Performed.TheVariants as performed
 use Rattle.cam_server.specs.Server.{Server}
@@ -29,6 +30,9 @@ pub record Asked : Type 0 where
   pub op : Op
   pub count : ℕ
   pub visited : List ℕ
+
+abbrev pub call : Name → ℕ → ℕ → Op → ℕ → List ℕ → Asked
+call a n x op c visited = record { action = a; number = n; object = x; op = op; count = c; visited = visited }
 
 -- THE TESTS OF A CALL, in their order; the first that holds decides. The lock table grants it, or names who stands in the way.
 abbrev pub granted : Grant → Performed
@@ -48,8 +52,8 @@ performed_by k server asked =
     if not (eqb asked.count server.count) then performed.Missed
     else if list_any (knows_commit k) (ancestors asked.action) then performed.Ended
     else again_or (server.kept_reply asked.action asked.number)
-        (orphan_or (known_orphan k asked.action (pairs_of asked.visited))
-        (granted (grant server.table.site asked.action asked.object asked.op)))
+    (orphan_or (known_orphan k asked.action (pairs_of asked.visited))
+    (granted (grant server.table.site asked.action asked.object asked.op)))
 
 -- what is kept of it: the reply to a call that was performed or bounced
 abbrev pub reply_of : Performed → Option Reply
@@ -71,6 +75,11 @@ pub record AfterPerformed (asked : Asked) (result : Performed) (old new : Server
       (a : Name) (n : ℕ)
       → new.kept_reply a n
       ≡ (if is_served result && (name_eq asked.action a && eqb asked.number n) then reply_of result else old.kept_reply a n)
+
+-- what the handed-in server holds then: the state behind a call that was performed, else what it held
+abbrev pub held_after : Performed → Asked → Server → State → State
+held_after result asked old state =
+    if is_served result then served old.table.site asked.action asked.object asked.op state else state
 
 -- both answer the same
 pub record AreSame (one other : Server) : Type 0 where

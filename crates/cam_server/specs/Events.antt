@@ -1,11 +1,8 @@
 -- One more event of a node: what it does to what is served there, so that it goes on answering as the node's history does.
-use Rattle.std.specs.Prelude.{◌≡◌, ℕ, ◌+◌, eqb, Bool, true, false, ◌&&◌, ◌||◌, not, if◌then◌else◌, List, [], ◌∷◌, ◌++◌, reverse, Option, Some, None}
+use Rattle.std.specs.Prelude.{◌≡◌, ℕ, ◌+◌, eqb, Bool, true, false, List, [], ◌∷◌, ◌++◌, reverse, Some}
 use Rattle.std.specs.List.{list_any, list_all}
 use Rattle.cam_names.specs.declared.name.Name.{Name}
-use Rattle.cam_names.specs.Names.{name_eq}
 use Rattle.cam_type.specs.declared.ObjectDecl.{ObjectDecl}
-use Rattle.cam_type.specs.declared.Op.{Op}
-use Rattle.cam_type.specs.declared.Answer.{Answer}
 use Rattle.cam_type.specs.declared.Held.{Held}
 use Rattle.cam_know.specs.Knowledge.{Knowledge}
 use Rattle.cam_know.specs.Known.{knows_abort, knows_commit, news}
@@ -14,13 +11,13 @@ use Rattle.cam_event.specs.declared.Deed.{Deed}
 use Rattle.cam_event.specs.declared.Deed.TheVariants.{Perform, Bounce, Inform, Crash}
 use Rattle.cam_event.specs.History.{count, informed, is_inform}
 use Rattle.cam_event.specs.Inputs.{Mail}
-use Rattle.cam_event.specs.ByKnowledge.{Carried, deeds_of, held, new_informs, site}
+use Rattle.cam_event.specs.ByKnowledge.{Carried, deeds_of, new_informs, site}
 use Rattle.cam_locks.specs.Names.{has_name}
 use Rattle.cam_locks.specs.Restored.{CanRestore, restored}
 use Rattle.cam_server.specs.declared.Performed.{Performed}
 use Rattle.cam_server.specs.declared.Performed.TheVariants as performed
 use Rattle.cam_server.specs.Server.{Server, ServesSite}
-use Rattle.cam_server.specs.Calls.{Asked, AfterPerformed, AreInformed, IsNew}
+use Rattle.cam_server.specs.Calls.{Asked, performed_by, AfterPerformed, AreInformed, IsNew}
 use Rattle.cam_server.specs.Recovered.{AreHeld, beside, OrderIsKept}
 
 -- A deed that does nothing here but that its site may be informed by it: its own site alone.
@@ -64,9 +61,9 @@ pub record IsServing (s : ℕ) (c : Carried) (first : List Deed) (asked : Asked)
 abbrev pub PerformKeeps : Type 0
 PerformKeeps =
     (objects : List ObjectDecl) (s : ℕ) (before : List Carried) (c : Carried) (first : List Deed) (asked : Asked) (k : Knowledge) (old mid new : Server)
-    → IsServing s c first asked (Rattle.cam_server.specs.Calls.performed_by k mid asked)
+    → IsServing s c first asked (performed_by k mid asked)
     → AreInformed (informs_abort s first) (informs_commit s first) old mid
-    → AfterPerformed asked (Rattle.cam_server.specs.Calls.performed_by k mid asked) mid new
+    → AfterPerformed asked (performed_by k mid asked) mid new
     → ServesSite objects s before old → ServesSite objects s (c ∷ before) new
 
 -- The first Informs of an event are what the letter brings new, where each commit that is known was informed of.

@@ -1,14 +1,12 @@
 -- The call is the rule: what a site does with a call follows from what `perform` answers.
-use Rattle.std.specs.Prelude.{◌≡◌, ℕ, true, List, [], ◌∷◌, Option}
+use Rattle.std.specs.Prelude.{◌≡◌, ℕ, true, List, [], ◌∷◌, Some}
 use Rattle.cam_names.specs.declared.name.Name.{Name}
-use Rattle.cam_names.specs.Names.{home_node}
 use Rattle.cam_type.specs.declared.ObjectDecl.{ObjectDecl}
 use Rattle.cam_know.specs.Knowledge.{Knowledge}
 use Rattle.cam_know.specs.Known.{knows_commit, both}
 use Rattle.cam_know.specs.Orphans.{known_orphan}
 use Rattle.cam_event.specs.declared.Note.TheVariants as notes
 use Rattle.cam_event.specs.declared.Reply.TheVariants as replies
-use Rattle.cam_event.specs.declared.Deed.TheVariants.{Bounce}
 use Rattle.cam_event.specs.declared.Operation.{Operation}
 use Rattle.cam_event.specs.History.{informed}
 use Rattle.cam_event.specs.Sights as sights
@@ -48,7 +46,7 @@ did_performed asked performed.Ended = nothing_but notes.Ended
 did_performed asked (performed.Again reply) = answers notes.Again (reply_to asked.action asked.number reply)
 did_performed asked (performed.Orphan reason) =
     answers (notes.Stopped asked.action reason) (reply_to asked.action asked.number replies.Refused)
-did_performed asked (performed.Busy u) = rules.bounced asked.action asked.number (Rattle.std.specs.Prelude.Some u)
+did_performed asked (performed.Busy u) = rules.bounced asked.action asked.number (Some u)
 did_performed asked (performed.Done answer) = rules.performed asked.action asked.number answer
 
 abbrev pub PerformedIsRule : Type 0

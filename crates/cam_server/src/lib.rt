@@ -11,19 +11,19 @@ use cam_know::Reason;
 use cam_names::Name;
 use cam_type::Answer;
 
-/// What comes of a call at its site. The tests stand in this order, the last three behind the first three; the first that holds decides.
+/// What comes of a call at its site, in the order of the tests: the first that holds decides.
 #[derive(Clone, Copy, Debug)]
 pub enum Performed {
-    /// It was performed, with this answer.
-    Done(Answer),
-    /// The lift of a live operation stands in its way.
-    Busy(Name),
-    /// It was performed or bounced before in this incarnation: the reply of then.
-    Again(Reply),
     /// It was addressed to another count.
     Missed,
     /// The commit of an ancestor of its action is known.
     Ended,
+    /// It was performed or bounced before in this incarnation: the reply of then.
+    Again(Reply),
     /// Its action is an orphan.
     Orphan(Reason),
+    /// The lift of a live operation stands in its way.
+    Busy(Name),
+    /// It was performed, with this answer.
+    Done(Answer),
 }
