@@ -1,3 +1,4 @@
+pub mod Children
 pub mod Actions
 pub mod Calls
 pub mod Events

@@ -10,6 +10,7 @@
 #![tactic(auto)]
 
 mod action;
+mod children;
 
 use cam_event::Seen;
 use cam_type::Op;
