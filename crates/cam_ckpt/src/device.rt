@@ -1,6 +1,8 @@
-ghost use Rattle.std.specs.Prelude.{◌≡◌, ◌+◌, ◌≤◌, ◌<◌, ◌^◌, ℕ, List, length, IsTrue, OnOk};
+// The device calls of a log with checkpoints.
+ghost use Rattle.std.specs.Prelude.{◌≡◌, ◌+◌, ◌≤◌, ◌<◌, ◌^◌, ℕ, List, length, IsTrue, OnOk, Some};
 ghost use Rattle.cam_disk.specs.Disk.{Only, Holds, FailsWithCause};
 ghost use Rattle.cam_log.specs.Image.{appended};
+ghost use Rattle.cam_disk.specs.Stop.{Untouched};
 ghost use Rattle.cam_log.specs.Spent.{Spent};
 ghost use Rattle.cam_ckpt.specs.Written.{IsAppended, IsReplaced};
 ghost use Rattle.cam_log.specs.Moments.{Grows, Written, IsBeforeOrAfter};
@@ -14,19 +16,26 @@ use cam_disk::{Disk, DiskError};
 use cam_log::{CLOSED, OPEN, force};
 
 /// The four device calls of an append: the entry goes behind its closed gate, and then the gate is opened.
-#[tactic(auto, using(cam_log::specs::Spent::spent_then))]
+#[tactic(auto, using(cam_log::specs::Spent::spent_then, cam_log::specs::Spent::none_spent))]
 pub fn write_entry<D: Disk>(disk: &mut D, gate: u64, behind: &[u8]) -> Result<(), DiskError>
     requires within { gate < 2 ^ 63 }
     requires place { IsTrue (D.tells disk.old) → gate + 1 ≤ length (D.seen disk.old) }
     requires only { IsTrue (D.tells disk.old) → Only (D.seen disk.old) (D.may_leave disk.old) }
-    ensures at_rest { IsTrue (D.tells disk.old) → OnOk result ((s : Standing) (entry : List ℕ) → behind.now ≡ appended entry → gate ≡ gate_of s
-        → IsAtRest s (D.seen disk.old) → IsAtRest (with_entry s entry) (D.seen disk.new) × SameGate (other_slot s.place) (D.seen disk.old) (D.seen disk.new)) }
-    ensures durable { IsTrue (D.tells disk.old) → OnOk result (Only (D.seen disk.new) (D.may_leave disk.new)) }
-    ensures bytes { IsTrue (D.tells disk.old) → OnOk result (IsAppended gate behind.now (D.seen disk.old) (D.seen disk.new)) }
+    ensures at_rest { IsTrue (D.tells disk.old) → OnOk result (
+        (s : Standing) (entry : List ℕ) → behind.now ≡ appended entry → gate ≡ gate_of s
+        → IsAtRest s (D.seen disk.old) → IsAtRest (with_entry s entry) (D.seen disk.new)
+        × SameGate (other_slot s.place) (D.seen disk.old) (D.seen disk.new)) }
+    ensures durable { IsTrue (D.tells disk.old)
+        → OnOk result (Only (D.seen disk.new) (D.may_leave disk.new)) }
+    ensures bytes { IsTrue (D.tells disk.old)
+        → OnOk result (IsAppended gate behind.now (D.seen disk.old) (D.seen disk.new)) }
     ensures limit { OnOk result (gate + length behind.now ≤ 2 ^ 62) }
     ensures spent { OnOk result (Spent 4 (D.passes disk.old) (D.passes disk.new)) }
+    ensures stopped { D.passes disk.old ≡ Some 0 → Untouched (D.moment disk.old) (D.moment disk.new)
+        (D.left_since disk.old) (D.left_since disk.new) (D.seen disk.old) (D.seen disk.new) }
     ensures tells { D.tells disk.new ≡ D.tells disk.old }
-    ensures any_moment { IsTrue (D.tells disk.old) → (s : Standing) (entry : List ℕ) → behind.now ≡ appended entry → gate ≡ gate_of s
+    ensures any_moment { IsTrue (D.tells disk.old) → (s : Standing) (entry : List ℕ)
+        → behind.now ≡ appended entry → gate ≡ gate_of s
         → IsAtRest s (D.seen disk.old) → Grows (D.moment disk.old) (D.moment disk.new)
         (D.left_since disk.old) (D.left_since disk.new) (λ image. IsBeforeOrAfter s.entries entry (read_ckpt image)) }
     ensures cause { FailsWithCause (D.faults disk.old) (D.faults disk.new) result }
@@ -46,13 +55,16 @@ fn force_two<D: Disk>(
 ) -> Result<(), DiskError>
     requires place { IsTrue (D.tells disk.old) → at ≤ length (D.seen disk.old) }
     requires second { IsTrue (D.tells disk.old) → second ≤ length (D.seen disk.old) }
-    ensures written { IsTrue (D.tells disk.old) → OnOk result ((mid : List ℕ) × Holds (D.seen disk.old) at bytes.now mid × Holds mid second more.now (D.seen disk.new)) }
-    ensures durable { IsTrue (D.tells disk.old) → OnOk result (Only (D.seen disk.new) (D.may_leave disk.new)) }
+    ensures written { IsTrue (D.tells disk.old) → OnOk result ((mid : List ℕ)
+        × Holds (D.seen disk.old) at bytes.now mid × Holds mid second more.now (D.seen disk.new)) }
+    ensures durable { IsTrue (D.tells disk.old)
+        → OnOk result (Only (D.seen disk.new) (D.may_leave disk.new)) }
     ensures limit { OnOk result (at + length bytes.now ≤ 2 ^ 62) }
     ensures spent { OnOk result (Spent 3 (D.passes disk.old) (D.passes disk.new)) }
     ensures tells { D.tells disk.new ≡ D.tells disk.old }
     ensures any_moment { IsTrue (D.tells disk.old) → Grows (D.moment disk.old) (D.moment disk.new)
-        (D.left_since disk.old) (D.left_since disk.new) (WrittenTwice at (length bytes.now) second (length more.now) (D.may_leave disk.old)) }
+        (D.left_since disk.old) (D.left_since disk.new)
+        (WrittenTwice at (length bytes.now) second (length more.now) (D.may_leave disk.old)) }
     ensures cause { FailsWithCause (D.faults disk.old) (D.faults disk.new) result }
 {
     disk.write_at(at, bytes)?;
@@ -63,12 +75,17 @@ fn force_two<D: Disk>(
 /// The first two device calls of a replacement: the other slot's gate is closed, where it is open.
 fn close_other<D: Disk>(disk: &mut D, other: u64, is_open: bool) -> Result<(), DiskError>
     requires place { IsTrue (D.tells disk.old) → other ≤ length (D.seen disk.old) }
-    ensures written { IsTrue (D.tells disk.old) → OnOk result (Holds (D.seen disk.old) other (closing_by is_open) (D.seen disk.new)) }
+    ensures written { IsTrue (D.tells disk.old)
+        → OnOk result (Holds (D.seen disk.old) other (closing_by is_open) (D.seen disk.new)) }
     ensures spent { OnOk result (Spent 2 (D.passes disk.old) (D.passes disk.new)) }
-    ensures durable { IsTrue (D.tells disk.old) → OnOk result (Only (D.seen disk.new) (D.may_leave disk.new)) }
+    ensures stopped { D.passes disk.old ≡ Some 0 → Untouched (D.moment disk.old) (D.moment disk.new)
+        (D.left_since disk.old) (D.left_since disk.new) (D.seen disk.old) (D.seen disk.new) }
+    ensures durable { IsTrue (D.tells disk.old)
+        → OnOk result (Only (D.seen disk.new) (D.may_leave disk.new)) }
     ensures tells { D.tells disk.new ≡ D.tells disk.old }
     ensures any_moment { IsTrue (D.tells disk.old) → Grows (D.moment disk.old) (D.moment disk.new)
-        (D.left_since disk.old) (D.left_since disk.new) (Written other (length (closing_by is_open)) (D.may_leave disk.old)) }
+        (D.left_since disk.old) (D.left_since disk.new)
+        (Written other (length (closing_by is_open)) (D.may_leave disk.old)) }
     ensures cause { FailsWithCause (D.faults disk.old) (D.faults disk.new) result }
 {
     if is_open {
@@ -80,7 +97,7 @@ fn close_other<D: Disk>(disk: &mut D, other: u64, is_open: bool) -> Result<(), D
 
 /// The seven device calls of a replacement. The other slot's gate is closed; the new segment is written, and
 /// what the other slot has behind its gate; then that gate is opened.
-#[tactic(auto, using(cam_log::specs::Spent::spent_then))]
+#[tactic(auto, using(cam_log::specs::Spent::spent_then, cam_log::specs::Spent::none_spent))]
 pub fn write_list<D: Disk>(
     disk: &mut D,
     other: u64,
@@ -94,15 +111,21 @@ pub fn write_list<D: Disk>(
     requires start { IsTrue (D.tells disk.old) → at ≤ length (D.seen disk.old) }
     requires only { IsTrue (D.tells disk.old) → Only (D.seen disk.old) (D.may_leave disk.old) }
     ensures at_rest { IsTrue (D.tells disk.old) → OnOk result ((s : Standing) (entries : List (List ℕ))
-        → IsMove s entries (D.seen disk.old) other is_open at text.now numbers.now → IsAtRest (with_entries s entries) (D.seen disk.new) × SameGate s.place (D.seen disk.old) (D.seen disk.new)) }
-    ensures durable { IsTrue (D.tells disk.old) → OnOk result (Only (D.seen disk.new) (D.may_leave disk.new)) }
+        → IsMove s entries (D.seen disk.old) other is_open at text.now numbers.now
+        → IsAtRest (with_entries s entries) (D.seen disk.new)
+        × SameGate s.place (D.seen disk.old) (D.seen disk.new)) }
+    ensures durable { IsTrue (D.tells disk.old)
+        → OnOk result (Only (D.seen disk.new) (D.may_leave disk.new)) }
     ensures bytes { IsTrue (D.tells disk.old) → OnOk result (IsReplaced other (closing_by is_open) at
         text.now numbers.now (D.seen disk.old) (D.seen disk.new)) }
     ensures limit { OnOk result (at + length text.now ≤ 2 ^ 62) }
     ensures spent { OnOk result (Spent 7 (D.passes disk.old) (D.passes disk.new)) }
+    ensures stopped { D.passes disk.old ≡ Some 0 → Untouched (D.moment disk.old) (D.moment disk.new)
+        (D.left_since disk.old) (D.left_since disk.new) (D.seen disk.old) (D.seen disk.new) }
     ensures tells { D.tells disk.new ≡ D.tells disk.old }
     ensures any_moment { IsTrue (D.tells disk.old) → (s : Standing) (entries : List (List ℕ))
-        → IsMove s entries (D.seen disk.old) other is_open at text.now numbers.now → Grows (D.moment disk.old) (D.moment disk.new)
+        → IsMove s entries (D.seen disk.old) other is_open at text.now numbers.now
+        → Grows (D.moment disk.old) (D.moment disk.new)
         (D.left_since disk.old) (D.left_since disk.new) (λ image. IsOldOrNew s.entries entries (read_ckpt image)) }
     ensures cause { FailsWithCause (D.faults disk.old) (D.faults disk.new) result }
 {

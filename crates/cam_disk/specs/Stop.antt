@@ -4,10 +4,11 @@ use Rattle.std.proofs.Common.{refl, ap, sym, ◌∙◌}
 use Rattle.cam_disk.specs.declared.error.DiskError.{DiskError}
 use Rattle.cam_disk.specs.declared.error.DiskError.TheVariants.{Failed}
 
--- no moment has passed, and a crash might have left the same
-pub record Stands (before now : ℕ) (past since : ℕ → List ℕ → Type 0) : Type 0 where
+-- Nothing has happened to what holds the bytes: they are the same, no moment has passed, and a crash might have left the same.
+pub record Untouched {A : Type 0} (before now : ℕ) (past since : ℕ → A → Type 0) (seen_before seen_now : List ℕ) : Type 0 where
   pub moment : now ≡ before
-  pub outcomes : (t : ℕ) (c : List ℕ) → (past t c → since t c) × (since t c → past t c)
+  pub outcomes : (t : ℕ) (c : A) → (past t c → since t c) × (since t c → past t c)
+  pub bytes : seen_now ≡ seen_before
 
 -- a call that was not done: it failed, the disk counted that as its own fault, and nothing else happened
 pub record NotDone {T : Type 0} (own_before own_now : ℕ) (same : Type 0) (result : Result T DiskError) : Type 0 where

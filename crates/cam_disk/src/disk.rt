@@ -1,7 +1,8 @@
+// What a disk owes its callers.
 ghost use Rattle.std.specs.Prelude.{◌≡◌, ◌≤◌, ◌+◌, ◌^◌, ◌<◌, Bool, List, ℕ, length, take, IsTrue, IsFalse, IfOk, OnOk, IsErrOf, Result, Err, Option, None};
 ghost use Rattle.cam_base.specs.Causes.{Rose};
 ghost use Rattle.cam_disk.specs.declared.error.DiskError.TheVariants.{Failed, NoMemory};
-ghost use Rattle.cam_disk.specs.Stop.{Stands, Stops};
+ghost use Rattle.cam_disk.specs.Stop.{Untouched, Stops};
 ghost use Rattle.cam_disk.specs.Disk.{Only, Follows, Torn, Cut, Same, Holds, Elapses, FailsWithCause, Reads};
 
 use crate::error::DiskError;
@@ -42,50 +43,63 @@ pub trait Disk: Drop {
     /// It answers 0 at and past the end.
     fn read(&mut self, at: u64, into: &mut [u8]) -> Result<usize, DiskError>
         ensures count { IfOk result (λ n. n ≤ length into.new) }
-        ensures bytes { IsTrue (tells self.old) → IfOk result (λ n. Reads (seen self.old) at (length into.new) n (take n into.new)) }
+        ensures bytes { IsTrue (tells self.old) → IfOk result (λ n.
+            Reads (seen self.old) at (length into.new) n (take n into.new)) }
         ensures tells { tells self.new ≡ tells self.old }
         ensures seen { IsTrue (tells self.old) → seen self.new ≡ seen self.old }
         ensures crash { IsTrue (tells self.old) → Follows Same (may_leave self.old) (may_leave self.new) }
-        ensures time { IsTrue (tells self.old) → Elapses (moment self.old) (moment self.new) (left_since self.old) (left_since self.new) (may_leave self.new) }
+        ensures time { IsTrue (tells self.old) → Elapses (moment self.old) (moment self.new)
+            (left_since self.old) (left_since self.new) (may_leave self.new) }
         ensures stops { Stops (passes self.old) (passes self.new) (own_faults self.old) (own_faults self.new)
-            (same_within self.old self.new × Stands (moment self.old) (moment self.new) (left_since self.old) (left_since self.new)) result }
+            (same_within self.old self.new × Untouched (moment self.old) (moment self.new)
+            (left_since self.old) (left_since self.new) (seen self.old) (seen self.new)) result }
         ensures cause { FailsWithCause (faults self.old) (faults self.new) result };
 
     /// Writes over what is there, and past the end. A write that would reach past 2^62 bytes fails. Where
     /// memory runs out nothing changes.
     fn write_at(&mut self, at: u64, bytes: &[u8]) -> Result<(), DiskError>
         requires { IsTrue (tells self.old) → at ≤ length (seen self.old) }
-        ensures written { IsTrue (tells self.old) → OnOk result (Holds (seen self.old) at bytes.now (seen self.new)) }
-        ensures no_memory { IsTrue (tells self.old) → IsErrOf result NoMemory → (seen self.new ≡ seen self.old) × Follows Same (may_leave self.old) (may_leave self.new) }
+        ensures written { IsTrue (tells self.old)
+            → OnOk result (Holds (seen self.old) at bytes.now (seen self.new)) }
+        ensures no_memory { IsTrue (tells self.old) → IsErrOf result NoMemory
+            → (seen self.new ≡ seen self.old) × Follows Same (may_leave self.old) (may_leave self.new) }
         ensures limit { 2 ^ 62 < at + length bytes.now → result ≡ Err Failed }
         ensures tells { tells self.new ≡ tells self.old }
         ensures crash { IsTrue (tells self.old) → Follows (Torn at (length bytes.now)) (may_leave self.old) (may_leave self.new) }
-        ensures time { IsTrue (tells self.old) → Elapses (moment self.old) (moment self.new) (left_since self.old) (left_since self.new) (may_leave self.new) }
+        ensures time { IsTrue (tells self.old) → Elapses (moment self.old) (moment self.new)
+            (left_since self.old) (left_since self.new) (may_leave self.new) }
         ensures stops { Stops (passes self.old) (passes self.new) (own_faults self.old) (own_faults self.new)
-            (same_within self.old self.new × Stands (moment self.old) (moment self.new) (left_since self.old) (left_since self.new)) result }
+            (same_within self.old self.new × Untouched (moment self.old) (moment self.new)
+            (left_since self.old) (left_since self.new) (seen self.old) (seen self.new)) result }
         ensures cause { FailsWithCause (faults self.old) (faults self.new) result };
 
     /// Cuts the disk to a size, in bytes, that it has at least. Where memory runs out nothing changes.
     fn cut(&mut self, size: u64) -> Result<(), DiskError>
         requires { IsTrue (tells self.old) → size ≤ length (seen self.old) }
         ensures cut { IsTrue (tells self.old) → OnOk result (seen self.new ≡ take size (seen self.old)) }
-        ensures no_memory { IsTrue (tells self.old) → IsErrOf result NoMemory → (seen self.new ≡ seen self.old) × Follows Same (may_leave self.old) (may_leave self.new) }
+        ensures no_memory { IsTrue (tells self.old) → IsErrOf result NoMemory
+            → (seen self.new ≡ seen self.old) × Follows Same (may_leave self.old) (may_leave self.new) }
         ensures tells { tells self.new ≡ tells self.old }
         ensures crash { IsTrue (tells self.old) → Follows (Cut size) (may_leave self.old) (may_leave self.new) }
-        ensures time { IsTrue (tells self.old) → Elapses (moment self.old) (moment self.new) (left_since self.old) (left_since self.new) (may_leave self.new) }
+        ensures time { IsTrue (tells self.old) → Elapses (moment self.old) (moment self.new)
+            (left_since self.old) (left_since self.new) (may_leave self.new) }
         ensures stops { Stops (passes self.old) (passes self.new) (own_faults self.old) (own_faults self.new)
-            (same_within self.old self.new × Stands (moment self.old) (moment self.new) (left_since self.old) (left_since self.new)) result }
+            (same_within self.old self.new × Untouched (moment self.old) (moment self.new)
+            (left_since self.old) (left_since self.new) (seen self.old) (seen self.new)) result }
         ensures cause { FailsWithCause (faults self.old) (faults self.new) result };
 
     /// At `Ok` a crash leaves what a read gives.
     fn sync(&mut self) -> Result<(), DiskError>
-        ensures durable { IsTrue (tells self.old) → OnOk result (Only (seen self.old) (may_leave self.new)) }
+        ensures durable { IsTrue (tells self.old)
+            → OnOk result (Only (seen self.old) (may_leave self.new)) }
         ensures tells { tells self.new ≡ tells self.old }
         ensures seen { IsTrue (tells self.old) → seen self.new ≡ seen self.old }
         ensures crash { IsTrue (tells self.old) → Follows Same (may_leave self.old) (may_leave self.new) }
-        ensures time { IsTrue (tells self.old) → Elapses (moment self.old) (moment self.new) (left_since self.old) (left_since self.new) (may_leave self.new) }
+        ensures time { IsTrue (tells self.old) → Elapses (moment self.old) (moment self.new)
+            (left_since self.old) (left_since self.new) (may_leave self.new) }
         ensures stops { Stops (passes self.old) (passes self.new) (own_faults self.old) (own_faults self.new)
-            (same_within self.old self.new × Stands (moment self.old) (moment self.new) (left_since self.old) (left_since self.new)) result }
+            (same_within self.old self.new × Untouched (moment self.old) (moment self.new)
+            (left_since self.old) (left_since self.new) (seen self.old) (seen self.new)) result }
         ensures cause { FailsWithCause (faults self.old) (faults self.new) result };
 
     /// Says that the disk gave bytes that it cannot have held, which counts as a fault. It is for disks
@@ -98,14 +112,17 @@ pub trait Disk: Drop {
         ensures tells { tells self.new ≡ tells self.old }
         ensures seen { IsTrue (tells self.old) → seen self.new ≡ seen self.old }
         ensures crash { IsTrue (tells self.old) → Follows Same (may_leave self.old) (may_leave self.new) }
-        ensures time { IsTrue (tells self.old) → Elapses (moment self.old) (moment self.new) (left_since self.old) (left_since self.new) (may_leave self.new) };
+        ensures time { IsTrue (tells self.old) → Elapses (moment self.old) (moment self.new)
+            (left_since self.old) (left_since self.new) (may_leave self.new) };
 
     /// What a read gives is one of the images that a crash may leave.
     ghost kept: { (disk : Self) → IsTrue (tells disk) → may_leave disk (seen disk) };
 
     /// This moment is one of those since an earlier one.
-    ghost counts_now: { (disk : Self) (t : ℕ) (c : List ℕ) → IsTrue (tells disk) → t ≤ moment disk → may_leave disk c → left_since disk t c };
+    ghost counts_now: { (disk : Self) (t : ℕ) (c : List ℕ)
+        → IsTrue (tells disk) → t ≤ moment disk → may_leave disk c → left_since disk t c };
 
     /// Since this moment there is no other.
-    ghost only_now: { (disk : Self) (c : List ℕ) → IsTrue (tells disk) → left_since disk (moment disk) c → may_leave disk c };
+    ghost only_now: { (disk : Self) (c : List ℕ)
+        → IsTrue (tells disk) → left_since disk (moment disk) c → may_leave disk c };
 }

@@ -1,7 +1,8 @@
+// Why a disk fails.
 ghost use Rattle.std.specs.Prelude.{◌≡◌};
-ghost use Rattle.cam_disk.specs.declared.error.DiskError.TheVariants.{NoMemory};
+ghost use Rattle.cam_disk.specs.declared.error.DiskError.TheVariants.{NoMemory as OutOfMemory};
 
-use std::alloc::{AllocError, AllocFailed};
+use cam_base::NoMemory;
 use thiserror::Error;
 
 /// Why a disk did not do a call.
@@ -14,18 +15,10 @@ pub enum DiskError {
     NoMemory,
 }
 
-impl From<AllocError> for DiskError {
-    ghost from_gives = { λ _ e. e ≡ NoMemory };
+impl From<NoMemory> for DiskError {
+    ghost from_gives = { λ _ e. e ≡ OutOfMemory };
 
-    fn from(_: AllocError) -> DiskError {
-        DiskError::NoMemory
-    }
-}
-
-impl<T: Drop> From<AllocFailed<T>> for DiskError {
-    ghost from_gives = { λ _ e. e ≡ NoMemory };
-
-    fn from(_: AllocFailed<T>) -> DiskError {
+    fn from(_: NoMemory) -> DiskError {
         DiskError::NoMemory
     }
 }

@@ -1,3 +1,4 @@
+// A file as a disk.
 ghost use Rattle.std.specs.Prelude.{◌≡◌, ◌≤◌, ◌+◌, false, [], Some, None, Err, length, IfOk};
 ghost use Rattle.cam_disk.specs.declared.error.DiskError.TheVariants.{Failed};
 ghost use Rattle.cam_disk.specs.Disk.{FailsWithCause};

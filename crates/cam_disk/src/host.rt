@@ -1,3 +1,4 @@
+// A disk of this machine.
 use crate::disk::Disk;
 use crate::error::DiskError;
 use crate::file::FileDisk;

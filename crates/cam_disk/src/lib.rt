@@ -28,6 +28,3 @@ pub use file::FileDisk;
 pub use host::HostDisk;
 pub use memory::MemoryDisk;
 pub use stop::StopDisk;
-
-#[cfg(test)]
-mod tests;

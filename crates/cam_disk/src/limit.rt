@@ -1,3 +1,4 @@
+// How large a disk may be.
 ghost use Rattle.std.specs.Prelude.{◌↔◌, ◌+◌, ◌≤◌, ◌^◌, length, IsTrue};
 
 /// The most bytes of a disk.

@@ -1,6 +1,7 @@
-ghost use Rattle.std.specs.Prelude.{◌<◌, IfOk, IfErr, IsErrOf, Err, ◌≡◌, ◌+◌, ◌≤◌, ◌^◌, true, [], ◌∷◌, ◌++◌, length, take, reverse, IsTrue, OnOk, OnErr};
+// A disk in memory.
+ghost use Rattle.std.specs.Prelude.{◌<◌, IfOk, IfErr, IsErrOf, Err, IsOk, ◌≡◌, ◌+◌, ◌≤◌, ◌^◌, true, [], ◌∷◌, ◌++◌, length, take, reverse, IsTrue, OnOk, OnErr};
 ghost use Rattle.cam_disk.specs.declared.call.Call.TheVariants.{Write, Resize, Sync};
-ghost use Rattle.cam_disk.specs.declared.error.DiskError.TheVariants.{NoMemory, Failed};
+ghost use Rattle.cam_disk.specs.declared.error.DiskError.TheVariants.{Failed, NoMemory as OutOfMemory};
 ghost use Rattle.cam_disk.specs.Disk.{Only, Follows, Torn, Cut, Same, Holds, FailsWithCause, Reads};
 ghost use Rattle.cam_disk.specs.Images.{held_after, is_record, written, IsImage, MayLeave, Onward, Unchanged, LeftSince, IsImage-held, LeftSince-now, LeftSince-only};
 ghost use Rattle.std.proofs.Common.{subst, sym};
@@ -9,7 +10,8 @@ use crate::call::Call;
 use crate::disk::Disk;
 use crate::error::DiskError;
 use crate::limit::fits;
-use std::alloc::{AllocError, Global};
+use cam_base::NoMemory;
+use std::alloc::Global;
 
 /// A disk in memory. It keeps a record of its calls, and what a crash may leave follows from that.
 /// It fails only at a write past 2^62 bytes.
@@ -41,7 +43,7 @@ impl MemoryDisk {
 
 /// Writes over the bytes from a place on, and past the end, in the time of what is written. Where memory
 /// runs out nothing changes.
-fn put(held: &mut Vec<u8>, at: usize, bytes: &[u8]) -> Result<(), AllocError>
+fn put(held: &mut Vec<u8>, at: usize, bytes: &[u8]) -> Result<(), NoMemory>
     requires { at ≤ length held.old.items }
     ensures ok { OnOk result (held.new.items ≡ written held.old.items at bytes.now) }
     ensures err { OnErr result (held.new.items ≡ held.old.items) }
@@ -49,6 +51,22 @@ fn put(held: &mut Vec<u8>, at: usize, bytes: &[u8]) -> Result<(), AllocError>
     let over = bytes.len().min(held.len() - at);
     held.extend_from_slice(&bytes[over..])?;
     held[at..at + over].copy_from_slice(&bytes[..over]);
+    Ok(())
+}
+
+/// A copy of bytes.
+fn copy_of(alloc: Global, bytes: &[u8]) -> Result<Vec<u8>, NoMemory>
+    ensures { IfOk result (λ copy. copy.items ≡ bytes.now) }
+{
+    Ok(bytes.to_vec(alloc)?)
+}
+
+/// Adds a call to a record of calls.
+fn note(calls: &mut Vec<Call>, call: Call) -> Result<(), NoMemory>
+    ensures ok { OnOk result (calls.new.items ≡ calls.old.items ++ call ∷ []) }
+    ensures err { OnErr result (calls.new.items ≡ calls.old.items) }
+{
+    calls.push(call)?;
     Ok(())
 }
 
@@ -74,7 +92,7 @@ impl Disk for MemoryDisk {
     fn read(&mut self, at: u64, into: &mut [u8]) -> Result<usize, DiskError>
         ensures count { IfOk result (λ n. n ≤ length into.new) }
         ensures bytes { IfOk result (λ n. Reads self.old.bytes.items at (length into.new) n (take n into.new)) }
-        ensures done { OnErr result ⊥ }
+        ensures done { IsOk result }
         ensures same { self.new ≡ self.old }
     {
         let held = &self.bytes[(at.min(self.bytes.len() as u64)) as usize..];
@@ -86,7 +104,7 @@ impl Disk for MemoryDisk {
     fn write_at(&mut self, at: u64, bytes: &[u8]) -> Result<(), DiskError>
         requires { at ≤ length self.old.bytes.items }
         ensures written { OnOk result (Holds self.old.bytes.items at bytes.now self.new.bytes.items) }
-        ensures no_memory { IsErrOf result NoMemory
+        ensures no_memory { IsErrOf result OutOfMemory
             → Unchanged self.old.bytes.items self.new.bytes.items self.old.calls.items self.new.calls.items }
         ensures limit { 2 ^ 62 < at + length bytes.now → result ≡ Err Failed }
         ensures crash { Follows (Torn at (length bytes.now))
@@ -100,9 +118,9 @@ impl Disk for MemoryDisk {
             self.faults = self.faults.saturating_add(1);
             return Err(DiskError::Failed);
         }
-        let copy = bytes.to_vec(self.alloc)?;
+        let copy = copy_of(self.alloc, bytes)?;
         let count = self.calls.len();
-        self.calls.push(Call::Write { at, bytes: copy })?;
+        note(&mut self.calls, Call::Write { at, bytes: copy })?;
         if put(&mut self.bytes, at as usize, bytes).is_err() {
             self.calls.truncate(count);
             return Err(DiskError::NoMemory);
@@ -113,15 +131,15 @@ impl Disk for MemoryDisk {
     fn cut(&mut self, size: u64) -> Result<(), DiskError>
         requires { size ≤ length self.old.bytes.items }
         ensures cut { OnOk result (self.new.bytes.items ≡ take size self.old.bytes.items) }
-        ensures no_memory { IsErrOf result NoMemory
+        ensures no_memory { IsErrOf result OutOfMemory
             → Unchanged self.old.bytes.items self.new.bytes.items self.old.calls.items self.new.calls.items }
         ensures crash { Follows (Cut size) (MayLeave self.old.calls.items) (MayLeave self.new.calls.items) }
         ensures time { Onward self.old.calls.items self.new.calls.items }
         ensures cause { FailsWithCause self.old.faults self.new.faults result }
         ensures steady { self.new.faults ≡ self.old.faults }
-        ensures fails { IfErr result (λ error. error ≡ NoMemory) }
+        ensures fails { IfErr result (λ error. error ≡ OutOfMemory) }
     {
-        self.calls.push(Call::Resize { size })?;
+        note(&mut self.calls, Call::Resize { size })?;
         self.bytes.truncate(size as usize);
         Ok(())
     }
@@ -133,9 +151,9 @@ impl Disk for MemoryDisk {
         ensures time { Onward self.old.calls.items self.new.calls.items }
         ensures cause { FailsWithCause self.old.faults self.new.faults result }
         ensures steady { self.new.faults ≡ self.old.faults }
-        ensures fails { IfErr result (λ error. error ≡ NoMemory) }
+        ensures fails { IfErr result (λ error. error ≡ OutOfMemory) }
     {
-        self.calls.push(Call::Sync)?;
+        note(&mut self.calls, Call::Sync)?;
         Ok(())
     }
 

@@ -1,7 +1,9 @@
-ghost use Rattle.std.specs.Prelude.{◌≡◌, ℕ, ◌+◌, ◌-◌, ◌^◌, ◌≤◌, min, Some, None, Option, OnOk, OnErr, IfErr};
+// A disk that can be stopped, as a machine that loses its power.
+ghost use Rattle.std.specs.Prelude.{◌≡◌, ◌+◌, ◌-◌, ◌^◌, min, OnOk, OnErr, IfErr};
 ghost use Rattle.cam_disk.specs.declared.error.DiskError.TheVariants.{Failed};
 ghost use Rattle.cam_disk.specs.Stop.{IsPassed};
-ghost use Rattle.cam_disk.specs.Disk.{SameOutcomes, FailsWithCause};
+ghost use Rattle.cam_disk.specs.Disk.{FailsWithCause};
+ghost use Rattle.cam_disk.specs.Stopping.{passing_on, within, with_passes};
 
 use crate::disk::Disk;
 use crate::error::DiskError;
@@ -18,13 +20,7 @@ pub struct StopDisk<D> {
 impl<D: Disk> StopDisk<D> {
     /// A disk that passes all calls on.
     pub fn new(inner: D) -> StopDisk<D>
-        ensures tells { ⟦<StopDisk<D> as Disk>⟧.tells result ≡ D.tells inner }
-        ensures seen { ⟦<StopDisk<D> as Disk>⟧.seen result ≡ D.seen inner }
-        ensures may_leave { SameOutcomes (⟦<StopDisk<D> as Disk>⟧.may_leave result) (D.may_leave inner) }
-        ensures left_since { (t : ℕ) → SameOutcomes (⟦<StopDisk<D> as Disk>⟧.left_since result t) (D.left_since inner t) }
-        ensures moment { ⟦<StopDisk<D> as Disk>⟧.moment result ≡ D.moment inner }
-        ensures faults { ⟦<StopDisk<D> as Disk>⟧.faults result ≡ D.faults inner }
-        ensures passes { result ≡ record { inner = inner; passes = None; own_faults = 0 } }
+        ensures { result ≡ passing_on inner }
     {
         StopDisk {
             inner,
@@ -35,42 +31,25 @@ impl<D: Disk> StopDisk<D> {
 
     /// The disk within, as it is.
     pub fn into_inner(self) -> D
-        ensures tells { D.tells result ≡ ⟦<StopDisk<D> as Disk>⟧.tells self }
-        ensures seen { D.seen result ≡ ⟦<StopDisk<D> as Disk>⟧.seen self }
-        ensures may_leave { SameOutcomes (D.may_leave result) (⟦<StopDisk<D> as Disk>⟧.may_leave self) }
-        ensures left_since { (t : ℕ) → SameOutcomes (D.left_since result t) (⟦<StopDisk<D> as Disk>⟧.left_since self t) }
-        ensures moment { D.moment result ≡ ⟦<StopDisk<D> as Disk>⟧.moment self }
-        ensures faults { D.faults result ≤ ⟦<StopDisk<D> as Disk>⟧.faults self }
-        ensures inner { result ≡ self.inner }
+        ensures { result ≡ within self }
     {
         self.inner
     }
 
     /// Lets it pass this many calls on, and fail each later one without doing it.
     pub fn stop_after(&mut self, calls: u32)
-        ensures tells { ⟦<StopDisk<D> as Disk>⟧.tells self.new ≡ ⟦<StopDisk<D> as Disk>⟧.tells self.old }
-        ensures seen { ⟦<StopDisk<D> as Disk>⟧.seen self.new ≡ ⟦<StopDisk<D> as Disk>⟧.seen self.old }
-        ensures may_leave { SameOutcomes (⟦<StopDisk<D> as Disk>⟧.may_leave self.new) (⟦<StopDisk<D> as Disk>⟧.may_leave self.old) }
-        ensures left_since { (t : ℕ) → SameOutcomes (⟦<StopDisk<D> as Disk>⟧.left_since self.new t) (⟦<StopDisk<D> as Disk>⟧.left_since self.old t) }
-        ensures moment { ⟦<StopDisk<D> as Disk>⟧.moment self.new ≡ ⟦<StopDisk<D> as Disk>⟧.moment self.old }
-        ensures faults { ⟦<StopDisk<D> as Disk>⟧.faults self.new ≡ ⟦<StopDisk<D> as Disk>⟧.faults self.old }
-        ensures passes { self.new ≡ record self.old { passes = Some calls } }
+        ensures { self.new ≡ with_passes (Some calls) self.old }
     {
         self.passes = Some(calls);
     }
 
     /// Lets it pass all calls on again.
     pub fn clear(&mut self)
-        ensures tells { ⟦<StopDisk<D> as Disk>⟧.tells self.new ≡ ⟦<StopDisk<D> as Disk>⟧.tells self.old }
-        ensures seen { ⟦<StopDisk<D> as Disk>⟧.seen self.new ≡ ⟦<StopDisk<D> as Disk>⟧.seen self.old }
-        ensures may_leave { SameOutcomes (⟦<StopDisk<D> as Disk>⟧.may_leave self.new) (⟦<StopDisk<D> as Disk>⟧.may_leave self.old) }
-        ensures left_since { (t : ℕ) → SameOutcomes (⟦<StopDisk<D> as Disk>⟧.left_since self.new t) (⟦<StopDisk<D> as Disk>⟧.left_since self.old t) }
-        ensures moment { ⟦<StopDisk<D> as Disk>⟧.moment self.new ≡ ⟦<StopDisk<D> as Disk>⟧.moment self.old }
-        ensures faults { ⟦<StopDisk<D> as Disk>⟧.faults self.new ≡ ⟦<StopDisk<D> as Disk>⟧.faults self.old }
-        ensures passes { self.new ≡ record self.old { passes = None } }
+        ensures { self.new ≡ with_passes None self.old }
     {
         self.passes = None;
     }
+
     /// Counts a call, and fails it where none is left.
     fn pass(&mut self) -> Result<(), DiskError>
         ensures same { self.new.inner ≡ self.old.inner }

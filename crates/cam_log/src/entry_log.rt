@@ -1,14 +1,24 @@
-ghost use Rattle.std.specs.Prelude.{◌≡◌, ◌≤◌, ◌+◌, ◌++◌, ◌∷◌, [], Bool, List, ℕ, IsTrue, IsFalse, OnOk, OnErr, IsErrOf, Ok, Option, None};
+// What callers see of a log.
+ghost use Rattle.std.specs.Prelude.{◌≡◌, ◌≤◌, ◌+◌, ◌++◌, ◌∷◌, [], Bool, List, ℕ, IsTrue, IsFalse, OnOk, OnErr, IfOk, IsErrOf, Ok, Option, Some, None};
+ghost use Rattle.cam_disk.specs.Stop.{Untouched};
 ghost use Rattle.cam_log.specs.Spent.{Spent};
 ghost use Rattle.cam_base.specs.Causes.{Rose};
 ghost use Rattle.cam_log.specs.declared.fault.LogFault.TheVariants.{DiskFault, NotALog};
 ghost use Rattle.cam_log.specs.Moments.{Grows, Stays, Opened, IsBeforeOrAfter};
 
 use crate::fault::LogFault;
-use cam_base::Sequence;
+use cam_base::{NoMemory, Sequence};
+use std::alloc::Global;
 
 /// The bytes of an entry.
 pub type Entry = Sequence<u8>;
+
+/// An entry of these bytes.
+pub fn entry_of(alloc: Global, bytes: &[u8]) -> Result<Entry, NoMemory>
+    ensures { IfOk result (λ entry. entry ≡ bytes.now) }
+{
+    Ok(Entry::from_vec(bytes.to_vec(alloc)?))
+}
 
 /// The entries of a log, the oldest first.
 pub type Entries = Sequence<Entry>;
@@ -34,11 +44,14 @@ pub trait EntryLog: Drop {
     /// How often its disk has failed.
     ghost faults: { Self → ℕ };
 
+    /// What a read of its disk gives, where the disk tells it.
+    ghost seen: { Self → List ℕ } = { λ _. [] };
+
     /// How many calls its disk still does. None: no bound.
     ghost passes: { Self → Option ℕ } = { λ _. None };
 
-    /// Whether an append of the entry to the first log, which became the second, wrote just the bytes that
-    /// the log's format has for it.
+    /// Whether an append of this entry to a log made it this other one with just the bytes that the log's
+    /// format has for it.
     ghost is_written: { Self → List ℕ → Self → Type 0 } = { λ _ _ _. Unit {0} };
 
     /// Appends an entry. At `Ok` a crash leaves a log that has it. It fails with `DiskFault` or `NoMemory`,
@@ -48,17 +61,21 @@ pub trait EntryLog: Drop {
         ensures appended { OnOk result (listed self.new ≡ listed self.old ++ entry.now ∷ []) }
         ensures whole { OnOk result (IsFalse (broken self.new)) }
         ensures bytes { IsTrue (tells self.old) → OnOk result (is_written self.old entry.now self.new) }
-        // It takes four calls of the disk: with fewer left it fails.
+        // It takes four calls of the disk: with fewer left it fails, and with none left it touches nothing.
         ensures spent { OnOk result (Spent 4 (passes self.old) (passes self.new)) }
+        ensures stopped { passes self.old ≡ Some 0 → Untouched (moment self.old) (moment self.new)
+            (opens_since self.old) (opens_since self.new) (seen self.old) (seen self.new) }
         // A crash at any moment of the call leaves the entries before it, with the new one or without.
         ensures any_moment { IsTrue (tells self.old) → Grows (moment self.old) (moment self.new)
             (opens_since self.old) (opens_since self.new) (IsBeforeOrAfter (listed self.old) entry.now) }
         ensures not_listed { OnErr result (listed self.new ≡ listed self.old) }
         ensures unchanged { OnErr result (IsFalse (broken self.new) → Stays (moment self.old) (moment self.new)
-            (opens_since self.old) (opens_since self.new) (faults self.old) (faults self.new)) }
+            (opens_since self.old) (opens_since self.new) (seen self.old) (seen self.new)
+            (faults self.old) (faults self.new)) }
         ensures tells { tells self.new ≡ tells self.old }
         ensures later { faults self.old ≤ faults self.new }
-        ensures disk_fault { IsErrOf result DiskFault → Rose (faults self.old) (faults self.new) × IsTrue (broken self.new) }
+        ensures disk_fault { IsErrOf result DiskFault → Rose (faults self.old) (faults self.new)
+            × IsTrue (broken self.new) }
         ensures is_a_log { (at : ℕ) → IsErrOf result (NotALog at) → ⊥ };
 
     /// The entries, the oldest first. It takes no memory.
@@ -70,11 +87,14 @@ pub trait EntryLog: Drop {
         ensures { result ≡ broken self.now };
 
     /// A crash now leaves a log of its entries, where it is not broken.
-    ghost at_rest: { (log : Self) (opened : Opened) → IsTrue (tells log) → IsFalse (broken log) → opens_since log (moment log) opened → opened ≡ Ok (listed log) };
+    ghost at_rest: { (log : Self) (opened : Opened) → IsTrue (tells log) → IsFalse (broken log)
+        → opens_since log (moment log) opened → opened ≡ Ok (listed log) };
 
     /// That is one of the things that may come since an earlier moment.
-    ghost counts: { (log : Self) (t : ℕ) → IsTrue (tells log) → IsFalse (broken log) → t ≤ moment log → opens_since log t (Ok (listed log)) };
+    ghost counts: { (log : Self) (t : ℕ) → IsTrue (tells log) → IsFalse (broken log)
+        → t ≤ moment log → opens_since log t (Ok (listed log)) };
 
     /// This moment is one of those since an earlier one.
-    ghost counts_now: { (log : Self) (t : ℕ) (opened : Opened) → IsTrue (tells log) → t ≤ moment log → opens_since log (moment log) opened → opens_since log t opened };
+    ghost counts_now: { (log : Self) (t : ℕ) (opened : Opened) → IsTrue (tells log) → t ≤ moment log
+        → opens_since log (moment log) opened → opens_since log t opened };
 }

@@ -1,10 +1,10 @@
+// Why a log fails.
 ghost use Rattle.std.specs.Prelude.{◌≡◌};
 ghost use Rattle.cam_log.specs.declared.fault.LogFault.TheVariants.{NoMemory as OutOfMemory};
 ghost use Rattle.cam_log.specs.Faults.{fault_of};
 
 use cam_base::NoMemory;
 use cam_disk::DiskError;
-use std::alloc::{AllocError, AllocFailed};
 use thiserror::Error;
 
 /// Why a log can't be opened or an entry can't be appended.
@@ -35,22 +35,6 @@ impl From<NoMemory> for LogFault {
     ghost from_gives = { λ _ fault. fault ≡ OutOfMemory };
 
     fn from(_: NoMemory) -> LogFault {
-        LogFault::NoMemory
-    }
-}
-
-impl From<AllocError> for LogFault {
-    ghost from_gives = { λ _ fault. fault ≡ OutOfMemory };
-
-    fn from(_: AllocError) -> LogFault {
-        LogFault::NoMemory
-    }
-}
-
-impl<T: Drop> From<AllocFailed<T>> for LogFault {
-    ghost from_gives = { λ _ fault. fault ≡ OutOfMemory };
-
-    fn from(_: AllocFailed<T>) -> LogFault {
         LogFault::NoMemory
     }
 }

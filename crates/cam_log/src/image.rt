@@ -16,7 +16,8 @@
 ghost use Rattle.std.specs.Prelude.{◌≡◌, ◌≤◌, ◌^◌, length, IfOk, OnErr};
 ghost use Rattle.cam_log.specs.Image.{header, appended};
 
-use std::alloc::{AllocError, Global};
+use cam_base::NoMemory;
+use std::alloc::Global;
 
 /// The first bytes of each log.
 pub const HEADER: [u8; 8] = *b"CAMELOT\n";
@@ -31,7 +32,7 @@ pub const OPEN: u8 = 1;
 pub const CLOSED: u8 = 0;
 
 /// What an append writes behind the closed gate, before it opens that one.
-pub fn appended(alloc: Global, entry: &[u8]) -> Result<Vec<u8>, AllocError>
+pub fn appended(alloc: Global, entry: &[u8]) -> Result<Vec<u8>, NoMemory>
     ensures { IfOk result (λ text. text.items ≡ appended entry.now) }
 {
     let mut text = (entry.len() as u64).to_be_bytes().to_vec(alloc)?;

@@ -1,14 +1,16 @@
-ghost use Rattle.std.specs.Prelude.{◌≡◌, ◌+◌, ◌-◌, ◌≤◌, ◌<◌, ◌^◌, ◌++◌, ◌∷◌, [], ℕ, List, length, take, IsTrue, IsFalse, OnOk, OnErr, IfOk, IfErr, IsErrOf, Ok};
+// A log over a disk.
+ghost use Rattle.std.specs.Prelude.{◌≡◌, ◌+◌, ◌-◌, ◌≤◌, ◌<◌, ◌^◌, ◌++◌, ◌∷◌, [], ℕ, List, length, take, IsTrue, IsFalse, OnOk, OnErr, IfOk, IfErr, IsErrOf, Ok, None};
 ghost use Rattle.cam_base.specs.Causes.{Rose};
 ghost use Rattle.cam_disk.specs.Disk.{Only, FailsWithCause};
 ghost use Rattle.cam_log.specs.declared.fault.LogFault.TheVariants.{DiskFault, NotALog};
 ghost use Rattle.cam_log.specs.Faults.{Refuses};
 ghost use Rattle.cam_log.specs.Image.{log_bytes, IsAppended};
 ghost use Rattle.cam_log.specs.Reading.{read_log};
+ghost use Rattle.cam_log.specs.Spent.{Spent};
 ghost use Rattle.cam_log.specs.Moments.{IsAtRest, AddsNothing, Openings};
 
 use crate::device::{force, read_in, write_entry};
-use crate::entry_log::{Entries, Entry, EntryLog};
+use crate::entry_log::{Entries, EntryLog, entry_of};
 use crate::fault::{LogFault, OpenRefused};
 use crate::image::{EMPTY, HEADER, appended};
 use cam_disk::{Disk, DiskError};
@@ -39,10 +41,12 @@ fn drop_newest(entries: &mut Entries, alloc: Global)
 }
 
 /// Makes a disk a log without entries.
+#[tactic(auto, using(crate::specs::Spent::spent_one, crate::specs::Spent::spent_then))]
 fn format_disk<D: Disk>(disk: &mut D) -> Result<(), DiskError>
     ensures at_rest { IsTrue (D.tells disk.old) → OnOk result (IsAtRest [] 8 (D.seen disk.new)) }
     ensures durable { IsTrue (D.tells disk.old) → OnOk result (Only (D.seen disk.new) (D.may_leave disk.new)) }
     ensures bytes { IsTrue (D.tells disk.old) → OnOk result (D.seen disk.new ≡ log_bytes []) }
+    ensures spent { OnOk result (Spent 3 (D.passes disk.old) (D.passes disk.new)) }
     ensures tells { D.tells disk.new ≡ D.tells disk.old }
     ensures cause { FailsWithCause (D.faults disk.old) (D.faults disk.new) result }
     ensures later { IsTrue (D.tells disk.old) → D.moment disk.old ≤ D.moment disk.new }
@@ -56,11 +60,16 @@ impl<D: Disk> Log<D> {
     pub fn format(alloc: Global, disk: D) -> Result<Log<D>, OpenRefused<D>>
         ensures empty { IfOk result (λ log. ⟦<Log<D> as EntryLog>⟧.listed log ≡ []) }
         ensures whole { IfOk result (λ log. IsFalse (⟦<Log<D> as EntryLog>⟧.broken log)) }
-        ensures bytes { IsTrue (D.tells disk) → IfOk result (λ log. D.seen log.disk ≡ log_bytes []) }
+        ensures bytes { IsTrue (D.tells disk)
+            → IfOk result (λ log. ⟦<Log<D> as EntryLog>⟧.seen log ≡ log_bytes []) }
+        // It takes three calls of the disk.
+        ensures spent { IfOk result (λ log. Spent 3 (D.passes disk) (⟦<Log<D> as EntryLog>⟧.passes log)) }
         ensures tells { IfOk result (λ log. ⟦<Log<D> as EntryLog>⟧.tells log ≡ D.tells disk) }
-        ensures time { IsTrue (D.tells disk) → IfOk result (λ log. D.moment disk ≤ ⟦<Log<D> as EntryLog>⟧.moment log) }
+        ensures time { IsTrue (D.tells disk)
+            → IfOk result (λ log. D.moment disk ≤ ⟦<Log<D> as EntryLog>⟧.moment log) }
         ensures later { IfOk result (λ log. D.faults disk ≤ ⟦<Log<D> as EntryLog>⟧.faults log) }
-        ensures disk_fault { IfErr result (λ refused. refused.fault ≡ DiskFault → Rose (D.faults disk) (D.faults refused.disk)) }
+        ensures disk_fault { IfErr result (λ refused. refused.fault ≡ DiskFault
+            → Rose (D.faults disk) (D.faults refused.disk)) }
         ensures is_a_log { IfErr result (λ refused. (at : ℕ) → refused.fault ≡ NotALog at → ⊥) }
         ensures refused_later { IfErr result (λ refused. D.faults disk ≤ D.faults refused.disk) }
         ensures refused_tells { IfErr result (λ refused. D.tells refused.disk ≡ D.tells disk) }
@@ -84,18 +93,27 @@ impl<D: Disk> Log<D> {
     /// Opens the log of a disk, as a crash or a log left it. It syncs the disk and reads it, and a crash
     /// meanwhile leaves what was there. `NotALog` says from which place on the bytes are no log.
     pub fn open(alloc: Global, disk: D) -> Result<Log<D>, OpenRefused<D>>
-        ensures read { IsTrue (D.tells disk) → IfOk result (λ log. read_log (D.seen disk) ≡ Ok (⟦<Log<D> as EntryLog>⟧.listed log)) }
-        ensures refused { IsTrue (D.tells disk) → IfErr result (λ refused. Refuses refused.fault (read_log (D.seen disk))) }
+        ensures read { IsTrue (D.tells disk)
+            → IfOk result (λ log. read_log (D.seen disk) ≡ Ok (⟦<Log<D> as EntryLog>⟧.listed log)) }
+        ensures refused { IsTrue (D.tells disk)
+            → IfErr result (λ refused. Refuses refused.fault (read_log (D.seen disk))) }
         ensures whole { IfOk result (λ log. IsFalse (⟦<Log<D> as EntryLog>⟧.broken log)) }
-        ensures any_moment { IsTrue (D.tells disk) → IfOk result (λ log. AddsNothing (D.moment disk) (⟦<Log<D> as EntryLog>⟧.moment log)
+        ensures any_moment { IsTrue (D.tells disk) → IfOk result (λ log.
+            AddsNothing (D.moment disk) (⟦<Log<D> as EntryLog>⟧.moment log)
             (Openings (D.left_since disk)) (⟦<Log<D> as EntryLog>⟧.opens_since log)) }
+        ensures unbounded { D.passes disk ≡ None
+            → IfOk result (λ log. ⟦<Log<D> as EntryLog>⟧.passes log ≡ None) }
         ensures tells { IfOk result (λ log. ⟦<Log<D> as EntryLog>⟧.tells log ≡ D.tells disk) }
         ensures later { IfOk result (λ log. D.faults disk ≤ ⟦<Log<D> as EntryLog>⟧.faults log) }
-        ensures disk_fault { IfErr result (λ refused. refused.fault ≡ DiskFault → Rose (D.faults disk) (D.faults refused.disk)) }
+        ensures disk_fault { IfErr result (λ refused. refused.fault ≡ DiskFault
+            → Rose (D.faults disk) (D.faults refused.disk)) }
         ensures refused_later { IfErr result (λ refused. D.faults disk ≤ D.faults refused.disk) }
         ensures refused_tells { IfErr result (λ refused. D.tells refused.disk ≡ D.tells disk) }
-        ensures refused_same { IsTrue (D.tells disk) → IfErr result (λ refused. D.seen refused.disk ≡ D.seen disk) }
-        ensures refused_any_moment { IsTrue (D.tells disk) → IfErr result (λ refused. AddsNothing (D.moment disk) (D.moment refused.disk) (D.left_since disk) (D.left_since refused.disk)) }
+        ensures refused_same { IsTrue (D.tells disk)
+            → IfErr result (λ refused. D.seen refused.disk ≡ D.seen disk) }
+        ensures refused_any_moment { IsTrue (D.tells disk) → IfErr result (λ refused.
+            AddsNothing (D.moment disk) (D.moment refused.disk)
+            (D.left_since disk) (D.left_since refused.disk)) }
     {
         let mut disk = disk;
         match read_in(alloc, &mut disk) {
@@ -112,10 +130,14 @@ impl<D: Disk> Log<D> {
 
     /// The disk, as it is. What a crash may leave of it opens as the log would.
     pub fn into_disk(self) -> D
-        ensures opens { IsTrue (D.tells result) → IsFalse (⟦<Log<D> as EntryLog>⟧.broken self) → read_log (D.seen result) ≡ Ok (⟦<Log<D> as EntryLog>⟧.listed self) }
-        ensures opens_since { (t : ℕ) (image : List ℕ) → D.left_since result t image → ⟦<Log<D> as EntryLog>⟧.opens_since self t (read_log image) }
+        ensures opens { IsTrue (D.tells result) → IsFalse (⟦<Log<D> as EntryLog>⟧.broken self)
+            → read_log (D.seen result) ≡ Ok (⟦<Log<D> as EntryLog>⟧.listed self) }
+        ensures opens_since { (t : ℕ) (image : List ℕ) → D.left_since result t image
+            → ⟦<Log<D> as EntryLog>⟧.opens_since self t (read_log image) }
         ensures tells { D.tells result ≡ ⟦<Log<D> as EntryLog>⟧.tells self }
         ensures moment { D.moment result ≡ ⟦<Log<D> as EntryLog>⟧.moment self }
+        ensures seen { D.seen result ≡ ⟦<Log<D> as EntryLog>⟧.seen self }
+        ensures passes { D.passes result ≡ ⟦<Log<D> as EntryLog>⟧.passes self }
         ensures faults { D.faults result ≡ ⟦<Log<D> as EntryLog>⟧.faults self }
     {
         self.disk
@@ -138,6 +160,8 @@ impl<D: Disk> EntryLog for Log<D> {
 
     ghost faults = { λ log. D.faults log.disk };
 
+    ghost seen = { λ log. D.seen log.disk };
+
     ghost passes = { λ log. D.passes log.disk };
 
     ghost is_written = { λ old _ new. IsAppended new.entries (D.seen old.disk) (D.seen new.disk) };
@@ -150,8 +174,7 @@ impl<D: Disk> EntryLog for Log<D> {
 
     fn append(&mut self, entry: &[u8]) -> Result<(), LogFault> {
         let behind = appended(self.alloc, entry)?;
-        let copy = Entry::from_vec(entry.to_vec(self.alloc)?);
-        self.entries.push(copy)?;
+        self.entries.push(entry_of(self.alloc, entry)?)?;
         self.broken = true;
         if let Err(error) = write_entry(&mut self.disk, self.gate, &behind) {
             drop_newest(&mut self.entries, self.alloc);

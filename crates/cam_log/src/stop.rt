@@ -1,3 +1,4 @@
+// A log whose disk can be stopped.
 ghost use Rattle.std.specs.Prelude.{◌≡◌, Some, None};
 ghost use Rattle.cam_log.specs.Moments.{Stays};
 
@@ -5,30 +6,36 @@ use crate::entry_log::EntryLog;
 use crate::log::Log;
 use cam_disk::{Disk, StopDisk};
 
-impl<D: Disk> Log<StopDisk<D>> {
-    /// Lets the disk pass this many calls on, and fail each later one without doing it.
-    pub fn stop_after(&mut self, calls: u32)
-        ensures listed { ⟦<Log<StopDisk<D>> as EntryLog>⟧.listed self.new ≡ ⟦<Log<StopDisk<D>> as EntryLog>⟧.listed self.old }
-        ensures passes { ⟦<Log<StopDisk<D>> as EntryLog>⟧.passes self.new ≡ Some calls }
-        ensures broken { ⟦<Log<StopDisk<D>> as EntryLog>⟧.broken self.new ≡ ⟦<Log<StopDisk<D>> as EntryLog>⟧.broken self.old }
-        ensures tells { ⟦<Log<StopDisk<D>> as EntryLog>⟧.tells self.new ≡ ⟦<Log<StopDisk<D>> as EntryLog>⟧.tells self.old }
-        ensures stays { Stays (⟦<Log<StopDisk<D>> as EntryLog>⟧.moment self.old) (⟦<Log<StopDisk<D>> as EntryLog>⟧.moment self.new)
-            (⟦<Log<StopDisk<D>> as EntryLog>⟧.opens_since self.old) (⟦<Log<StopDisk<D>> as EntryLog>⟧.opens_since self.new)
-            (⟦<Log<StopDisk<D>> as EntryLog>⟧.faults self.old) (⟦<Log<StopDisk<D>> as EntryLog>⟧.faults self.new) }
-    {
+/// A log whose disk can be stopped, as a machine that loses its power: from then on the disk does no call,
+/// and each fails. Neither call touches the disk or the entries.
+pub trait StopLog: EntryLog {
+    /// Lets the disk do this many calls more, and fail each later one without doing it.
+    fn stop_after(&mut self, calls: u32)
+        ensures passes { Self.passes self.new ≡ Some calls }
+        ensures listed { Self.listed self.new ≡ Self.listed self.old }
+        ensures broken { Self.broken self.new ≡ Self.broken self.old }
+        ensures tells { Self.tells self.new ≡ Self.tells self.old }
+        ensures stays { Stays (Self.moment self.old) (Self.moment self.new)
+            (Self.opens_since self.old) (Self.opens_since self.new)
+            (Self.seen self.old) (Self.seen self.new) (Self.faults self.old) (Self.faults self.new) };
+
+    /// Lets the disk do all calls again.
+    fn clear(&mut self)
+        ensures passes { Self.passes self.new ≡ None }
+        ensures listed { Self.listed self.new ≡ Self.listed self.old }
+        ensures broken { Self.broken self.new ≡ Self.broken self.old }
+        ensures tells { Self.tells self.new ≡ Self.tells self.old }
+        ensures stays { Stays (Self.moment self.old) (Self.moment self.new)
+            (Self.opens_since self.old) (Self.opens_since self.new)
+            (Self.seen self.old) (Self.seen self.new) (Self.faults self.old) (Self.faults self.new) };
+}
+
+impl<D: Disk> StopLog for Log<StopDisk<D>> {
+    fn stop_after(&mut self, calls: u32) {
         self.disk.stop_after(calls);
     }
 
-    /// Lets the disk pass all calls on again.
-    pub fn clear(&mut self)
-        ensures listed { ⟦<Log<StopDisk<D>> as EntryLog>⟧.listed self.new ≡ ⟦<Log<StopDisk<D>> as EntryLog>⟧.listed self.old }
-        ensures passes { ⟦<Log<StopDisk<D>> as EntryLog>⟧.passes self.new ≡ None }
-        ensures broken { ⟦<Log<StopDisk<D>> as EntryLog>⟧.broken self.new ≡ ⟦<Log<StopDisk<D>> as EntryLog>⟧.broken self.old }
-        ensures tells { ⟦<Log<StopDisk<D>> as EntryLog>⟧.tells self.new ≡ ⟦<Log<StopDisk<D>> as EntryLog>⟧.tells self.old }
-        ensures stays { Stays (⟦<Log<StopDisk<D>> as EntryLog>⟧.moment self.old) (⟦<Log<StopDisk<D>> as EntryLog>⟧.moment self.new)
-            (⟦<Log<StopDisk<D>> as EntryLog>⟧.opens_since self.old) (⟦<Log<StopDisk<D>> as EntryLog>⟧.opens_since self.new)
-            (⟦<Log<StopDisk<D>> as EntryLog>⟧.faults self.old) (⟦<Log<StopDisk<D>> as EntryLog>⟧.faults self.new) }
-    {
+    fn clear(&mut self) {
         self.disk.clear();
     }
 }

@@ -13,3 +13,4 @@ pub mod Exactly
 pub mod Firsts
 pub mod Upgrading
 pub mod KeptAll
+pub mod KeptRanges

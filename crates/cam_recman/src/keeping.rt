@@ -1,6 +1,9 @@
 // All that a node has, as the records of one entry.
-ghost use Rattle.std.specs.Prelude.{◌≡◌, ◌++◌, ◌+◌, ◌-◌, ◌≤◌, map, drop, IfOk, OnOk};
+ghost use Rattle.std.specs.Prelude.{◌≡◌, ◌++◌, ◌+◌, ◌-◌, ◌≤◌, map, drop, All, IfOk, OnOk};
+ghost use Rattle.std.specs.List.{AllByRecursion};
 ghost use Rattle.cam_recman.specs.declared.Record.TheVariants.{Secure};
+ghost use Rattle.cam_recman.specs.Ranges.{IsHeld};
+ghost use Rattle.cam_recman.specs.Writable.{IsWritable};
 ghost use Rattle.cam_recman.specs.Snapshot.{outcome_record, seen_records, snapshot};
 
 use crate::{Record, Records, Recovered};
@@ -9,10 +12,14 @@ use cam_know::{Know, Outcome};
 use cam_type::{Held, HeldList};
 use std::alloc::Global;
 
-/// The records that keep all that a node has: the format's version, its own count, each outcome in the order in which they were learnt, each
-/// count that was seen, in order of nodes, and what each secured family holds.
+/// The records that keep all that a node has: the format's version, its own count, each outcome in the
+/// order in which they were learnt, each count that was seen, in order of nodes, and what each secured
+/// family holds. [`crate::encode_entry`] may write them where the count and the families are in their
+/// ranges, as they are where [`crate::recover`] gave them.
 pub fn snapshot(alloc: Global, kept: &Recovered) -> Result<Records, NoMemory>
-    ensures { IfOk result (λ records. records ≡ snapshot kept.now) }
+    ensures exactly { IfOk result (λ records. records ≡ snapshot kept.now) }
+    ensures writable { kept.now.count ≤ 1000000000 → AllByRecursion IsHeld kept.now.held
+        → IfOk result (λ records. All IsWritable records) }
 {
     let mut records = Records::new(alloc);
     records.push(Record::Version)?;
@@ -48,7 +55,10 @@ fn add_outcomes(records: &mut Records, know: &Know) -> Result<(), NoMemory>
 /// Adds the counts of the nodes from this one on.
 fn add_counts(records: &mut Records, know: &Know, node: u8) -> Result<(), NoMemory>
     requires { (1 ≤ node) × (node ≤ 9) }
-    ensures { OnOk result (records.new ≡ records.old ++ seen_records node (drop (node - 1) know.now.counts)) }
+    ensures exactly { OnOk result
+        (records.new ≡ records.old ++ seen_records node (drop (node - 1) know.now.counts)) }
+    ensures range { OnOk result
+        (AllByRecursion IsWritable (seen_records node (drop (node - 1) know.now.counts))) }
 {
     if node > 8 {
         // Only for the proof: it gives the fact that there are eight counts.

@@ -36,21 +36,17 @@ mod reading;
 mod recovering;
 mod writing;
 
+use cam_base::{NoMemory, Sequence};
+use cam_know::Know;
+use cam_names::{Deps, Name};
+use cam_type::{Held, HeldList};
 pub use entry::decode_entry;
 pub use keeping::snapshot;
 pub use laws::{entries, migration, recovery, snapshots};
 pub use migrating::migrate;
 pub use recovering::{recover, restart};
-pub use writing::encode_entry;
-
-#[cfg(test)]
-mod tests;
-
-use cam_base::{NoMemory, Sequence};
-use cam_know::Know;
-use cam_names::{Deps, Name};
-use cam_type::{Held, HeldList};
 use thiserror::Error;
+pub use writing::encode_entry;
 
 /// What an entry of the log keeps of an event.
 #[derive(Drop)]

@@ -1,4 +1,4 @@
-use Rattle.std.proofs.Common.{◌≡◌, ◌-◌, ◌≤◌, ◌^◌, length, take, vec_len, IsTrue}
+use Rattle.std.proofs.Common.{◌≡◌, ◌-◌, ◌≤◌, ◌^◌, length, take, vec_len, IsTrue, None}
 use Rattle.cam_disk.specs.Disk.{Follows, Same}
 use Rattle.cam_log.specs.Moments.{AddsNothing}
 use Rattle.cam_log.proofs.device.read_whole.Given as goal
@@ -13,6 +13,7 @@ invariant-loop-bytes g l =
       front : IsTrue (g.D.Disk.tells was) → l.bytes.items ≡ take (length l.bytes.items) (g.D.Disk.seen was);
       seen : IsTrue (g.D.Disk.tells was) → g.D.Disk.seen l.disk ≡ g.D.Disk.seen was;
       crash : IsTrue (g.D.Disk.tells was) → Follows Same (g.D.Disk.may_leave was) (g.D.Disk.may_leave l.disk);
+      unbounded : g.D.Disk.passes was ≡ None → g.D.Disk.passes l.disk ≡ None;
       any_moment : IsTrue (g.D.Disk.tells was) → AddsNothing (g.D.Disk.moment was) (g.D.Disk.moment l.disk) (g.D.Disk.left_since was) (g.D.Disk.left_since l.disk);
     }
 

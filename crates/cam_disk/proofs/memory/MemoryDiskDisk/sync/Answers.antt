@@ -4,10 +4,10 @@ use Rattle.cam_disk.specs.Images.{held_after, IsImage, IsImage-held, Elapses-cal
 use Rattle.cam_disk.proofs.memory.MemoryDiskDisk.sync.Goals as goal
 
 pub returns-clause-time : goal.returns-clause-time
-returns-clause-time c = Elapses-call_at c.args.self.now.calls.items c.push.new.self.items _ c.in_ok-push.ensures.items
+returns-clause-time c = Elapses-call_at c.args.self.now.calls.items c.note.new.calls.items _ c.in_ok-note.ensures.ok
 
 pub returns-clause-crash : goal.returns-clause-crash
 returns-clause-crash c =
     let old = c.args.self.now.calls.items in
     λ image now.
-    (held_after (reverse old), IsImage-held (reverse old) c.args.self.now.placed, subst (λ calls. IsImage calls image) (ap reverse c.in_ok-push.ensures.items ∙ reverse-call old Sync) now)
+    (held_after (reverse old), IsImage-held (reverse old) c.args.self.now.placed, subst (λ calls. IsImage calls image) (ap reverse c.in_ok-note.ensures.ok ∙ reverse-call old Sync) now)

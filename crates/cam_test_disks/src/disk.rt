@@ -1,4 +1,5 @@
-use crate::{Disk, DiskError, FileDisk, HostDisk, MemoryDisk, StopDisk};
+// Disks in memory, that stop, and of files.
+use cam_disk::{Disk, DiskError, FileDisk, HostDisk, MemoryDisk, StopDisk};
 use std::fs;
 use std::test::Fail;
 

@@ -1,5 +1,6 @@
-use crate::{EntryLog, Log, LogFault};
+// Logs: their bytes, where bytes are none, and appends that are stopped.
 use cam_disk::{Disk, MemoryDisk, StopDisk};
+use cam_log::{EntryLog, Log, LogFault, StopLog};
 use std::test::Fail;
 
 /// A log of the one entry 01 00000002.

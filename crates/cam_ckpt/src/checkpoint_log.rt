@@ -1,0 +1,65 @@
+// What callers see of a log whose list of entries can be replaced.
+ghost use Rattle.std.specs.Prelude.{◌≡◌, ◌≤◌, ◌+◌, ◌^◌, List, ℕ, Bool, IsTrue, IsFalse, OnOk, OnErr, IsErrOf, Some};
+ghost use Rattle.cam_base.specs.Causes.{Rose};
+ghost use Rattle.cam_disk.specs.Stop.{Untouched};
+ghost use Rattle.cam_log.specs.declared.fault.LogFault.TheVariants.{DiskFault, NotALog};
+ghost use Rattle.cam_log.specs.Moments.{Grows, Stays};
+ghost use Rattle.cam_log.specs.Spent.{Spent};
+ghost use Rattle.cam_ckpt.specs.Moments.{IsOldOrNew};
+ghost use Rattle.cam_ckpt.specs.Opening.{can_follow};
+
+use cam_log::{Entries, EntryLog, LogFault};
+
+/// A log whose list of entries can be replaced by another as a whole, as a checkpoint does. A crash at any
+/// moment leaves it with the old list or with the new one.
+pub trait CheckpointLog: EntryLog {
+    /// How many lists the log has had: 1 for the one that it began with, and one more for each that took its
+    /// place. It is written in 64 bits, and under the last of these numbers there is no replacement.
+    ghost generation: { Self → ℕ };
+
+    /// Where on its disk this list would end, in bytes, if it took the place of the log's own.
+    ghost end_of: { Self → List (List ℕ) → ℕ };
+
+    /// Whether a replacement of a log's list by this one made it this other log with just the bytes that the
+    /// log's format has for it.
+    ghost is_rewritten: { Self → List (List ℕ) → Self → Type 0 };
+
+    /// Whether the list can be replaced: the log is not broken, and its generation is not the last.
+    fn can_replace(&self) -> bool
+        ensures { result ≡ can_follow (Self.broken self.now) (generation self.now) };
+
+    /// Makes the list of entries this one. At `Ok` a crash leaves a log that has it, and at any moment of
+    /// the call one that has the old list or the new one. It fails with `DiskFault`, as it does where the new
+    /// list would reach past 2^62 bytes, or with `NoMemory`, and its own list is then the old one. It is broken
+    /// after a `DiskFault`, and after a `NoMemory` of the disk itself.
+    fn replace(&mut self, entries: &Entries) -> Result<(), LogFault>
+        requires { IsTrue (can_follow (Self.broken self.old) (generation self.old)) }
+        ensures replaced { OnOk result (Self.listed self.new ≡ entries.now) }
+        ensures whole { OnOk result (IsFalse (Self.broken self.new)) }
+        ensures generation { OnOk result (generation self.new ≡ generation self.old + 1) }
+        ensures room { OnOk result (end_of self.old entries.now ≤ 2 ^ 62) }
+        ensures bytes { IsTrue (Self.tells self.old)
+            → OnOk result (is_rewritten self.old entries.now self.new) }
+        // It takes seven calls of the disk: with fewer left it fails, and with none left it touches nothing.
+        ensures spent { OnOk result (Spent 7 (Self.passes self.old) (Self.passes self.new)) }
+        ensures stopped { Self.passes self.old ≡ Some 0
+            → Untouched (Self.moment self.old) (Self.moment self.new)
+            (Self.opens_since self.old) (Self.opens_since self.new)
+            (Self.seen self.old) (Self.seen self.new) }
+        // A crash at any moment of the call leaves the old entries or the new ones.
+        ensures any_moment { IsTrue (Self.tells self.old)
+            → Grows (Self.moment self.old) (Self.moment self.new)
+            (Self.opens_since self.old) (Self.opens_since self.new)
+            (IsOldOrNew (Self.listed self.old) entries.now) }
+        ensures not_listed { OnErr result (Self.listed self.new ≡ Self.listed self.old) }
+        ensures same_generation { OnErr result (generation self.new ≡ generation self.old) }
+        ensures unchanged { OnErr result (IsFalse (Self.broken self.new)
+            → Stays (Self.moment self.old) (Self.moment self.new)
+            (Self.opens_since self.old) (Self.opens_since self.new)
+            (Self.seen self.old) (Self.seen self.new) (Self.faults self.old) (Self.faults self.new)) }
+        ensures tells { Self.tells self.new ≡ Self.tells self.old }
+        ensures later { Self.faults self.old ≤ Self.faults self.new }
+        ensures disk_fault { IsErrOf result DiskFault
+            → Rose (Self.faults self.old) (Self.faults self.new) × IsTrue (Self.broken self.new) }
+        ensures is_a_log { (at : ℕ) → IsErrOf result (NotALog at) → ⊥ };
+}

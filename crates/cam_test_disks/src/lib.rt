@@ -1,0 +1,13 @@
+//! Tests of `cam_bytes`, `cam_disk`, `cam_log`, `cam_ckpt` and `cam_recman` through their public calls, a module for each.
+#![tactic(auto)]
+
+#[cfg(test)]
+mod bytes;
+#[cfg(test)]
+mod ckpt;
+#[cfg(test)]
+mod disk;
+#[cfg(test)]
+mod log;
+#[cfg(test)]
+mod recman;
