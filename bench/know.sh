@@ -1,5 +1,5 @@
 #!/bin/sh
-# How long an orphan test, joins, additions and copies take where 10, 100, 500 and 1,000 outcomes are known, and how much of the first
+# How long an orphan test, joins and additions take where 10, 100, 500 and 1,000 outcomes are known, and how much of the first
 # run's time that is.
 # In the last line of each run all of them are commits of one name, with as many dependency sets.
 # A figure is such a ratio: the nanoseconds are those of one machine on one day. Each time is the least of several rounds.
@@ -9,7 +9,7 @@
 . "$(dirname "$0")/common.sh"
 make_program know_times anyhow cam_base cam_names cam_know cam_orphan
 cat > src/main.rt <<'PROGRAM'
-//! How long an orphan test, joins, additions and copies take.
+//! How long an orphan test, joins and additions take.
 #![tactic(auto)]
 
 use anyhow::Error;
@@ -146,16 +146,6 @@ fn join_all(rt: &HostRuntime, know: &Know) -> Result<u128, Error> {
     Ok(start.elapsed(rt)?.as_nanos() / JOINS as u128 / outcomes)
 }
 
-/// The time for each outcome of a copy.
-fn copy_all(rt: &HostRuntime, know: &Know) -> Result<u128, Error> {
-    let start = Instant::now(rt)?;
-    for _ in 0..JOINS {
-        let _copy = know.copy()?;
-    }
-    let outcomes = know.len().max(1) as u128;
-    Ok(start.elapsed(rt)?.as_nanos() / JOINS as u128 / outcomes)
-}
-
 /// What was measured.
 #[derive(Clone, Copy)]
 struct Times {
@@ -165,7 +155,6 @@ struct Times {
     add_new: u128,
     add_again: u128,
     join_all: u128,
-    copy_all: u128,
     one_name: u128,
 }
 
@@ -178,7 +167,6 @@ impl Times {
             add_new: self.add_new.min(other.add_new),
             add_again: self.add_again.min(other.add_again),
             join_all: self.join_all.min(other.join_all),
-            copy_all: self.copy_all.min(other.copy_all),
             one_name: self.one_name.min(other.one_name),
         }
     }
@@ -198,7 +186,6 @@ fn measure_once(rt: &HostRuntime, children: u32) -> Result<Times, Error> {
         add_new: add_new(rt, &top, children)?,
         add_again: add_again(rt, &mut know, &letter)?,
         join_all: join_all(rt, &know)?,
-        copy_all: copy_all(rt, &know)?,
         one_name: join_again(rt, &mut one, &again)?,
     })
 }
@@ -229,7 +216,6 @@ fn main(rt: HostRuntime) -> Result<(), Error> {
         show(&rt, "addition of 10 new outcomes", times.add_new, first.add_new)?;
         show(&rt, "addition of 10 known outcomes", times.add_again, first.add_again)?;
         show(&rt, "join into nothing, for each outcome", times.join_all, first.join_all)?;
-        show(&rt, "copy, for each outcome", times.copy_all, first.copy_all)?;
         show(&rt, "join of 10 known dependency sets of one name", times.one_name, first.one_name)?;
     }
     Ok(())

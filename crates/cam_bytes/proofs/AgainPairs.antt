@@ -4,8 +4,10 @@ use Rattle.std.specs.List.{AllByRecursion}
 use Rattle.std.proofs.lemmas.List.{length-append}
 use Rattle.std.proofs.lemmas.Bool.Decides.{leb_tells}
 use Rattle.cam_bytes.specs.Fields.{number, pair, pairs_above, counts_above, deps}
-use Rattle.cam_bytes.specs.Ranges.{IsFrom, AreCounts, IsDeps}
+use Rattle.cam_names.specs.Dependencies.{AreCounts}
+use Rattle.cam_bytes.specs.Ranges.{IsFrom, IsDeps}
 use Rattle.cam_bytes.specs.Reading.{pairs_from, pairs_in}
+use Rattle.cam_bytes.proofs.Counts.{each_count}
 use Rattle.cam_bytes.proofs.Again.{Reads, reads_then, reads_byte_in, reads_number_in}
 
 -- a count put in at its node
@@ -56,8 +58,8 @@ reads_pairs bytes (c ∷ cs) done found out base before node at rest n f o low r
 pub reads_counts : (bytes cs : List ℕ) (base at : ℕ) (rest : List ℕ) → AreCounts base cs → drop at bytes ≡ counts_above base cs ++ rest → Reads bytes (pairs_in (base + 1) (replicate 8 base) at bytes) cs rest
 unfolding pairs_in
 reads_counts bytes cs base at rest are stands =
-    reads_then bytes _ _ _ _ cs rest (reads_byte_in bytes 0 8 at (length (pairs_above base 1 cs)) (flat_map pair (pairs_above base 1 cs) ++ rest) (omega arith, omega (arith, few base 1 cs, are.nodes)) stands) (λ behind stands.
-    reads_pairs bytes cs [] (replicate 8 base) cs base 0 1 behind rest refl (ap (λ (n : ℕ). replicate n base) (sym are.nodes)) refl (omega arith) (omega (arith, are.nodes)) are.each stands)
+    reads_then bytes _ _ _ _ cs rest (reads_byte_in bytes 0 8 at (length (pairs_above base 1 cs)) (flat_map pair (pairs_above base 1 cs) ++ rest) (omega arith, omega (arith, few base 1 cs, are.eight)) stands) (λ behind stands.
+    reads_pairs bytes cs [] (replicate 8 base) cs base 0 1 behind rest refl (ap (λ (n : ℕ). replicate n base) (sym are.eight)) refl (omega arith) (omega (arith, are.eight)) (each_count base cs are) stands)
 
 pub reads_deps : (bytes cs : List ℕ) (at : ℕ) (rest : List ℕ) → IsDeps cs → drop at bytes ≡ deps cs ++ rest → Reads bytes (pairs_in 1 (replicate 8 0) at bytes) cs rest
 reads_deps bytes cs at rest is stands = reads_counts bytes cs 0 at rest is stands

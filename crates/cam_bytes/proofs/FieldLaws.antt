@@ -6,7 +6,8 @@ use Rattle.cam_type.specs.declared.Op.{Op}
 use Rattle.cam_type.specs.declared.Op.TheVariants as ops
 use Rattle.cam_bytes.specs.declared.WireFault.{WireFault}
 use Rattle.cam_bytes.specs.Fields.{number, long, value, name, counts_above, object, op}
-use Rattle.cam_bytes.specs.Ranges.{IsBytes, IsFrom, IsLong, IsValue, IsName, IsFamily, AreCounts, IsObject, IsOp}
+use Rattle.cam_names.specs.Dependencies.{AreCounts}
+use Rattle.cam_bytes.specs.Ranges.{IsBytes, IsFrom, IsLong, IsValue, IsName, IsFamily, IsObject, IsOp}
 use Rattle.cam_bytes.specs.Reading.{byte_in, counts_above_at, number_in, long_at, value_at, name_at, family_at, object_at, op_at}
 use Rattle.cam_bytes.specs.Laws.{IsField, BytesAreFields, NumbersAreFields, LongsAreFields, ValuesAreFields, NamesAreFields, FamiliesAreFields, CountsAreFields, DependenciesAreFields, ObjectsAreFields, OperationsAreFields}
 use Rattle.cam_bytes.proofs.Steady.{Within, IsSteady, steady_byte_in, steady_number_in, steady_long, steady_value, steady_name_in, steady_pairs_in, steady_object, steady_op}

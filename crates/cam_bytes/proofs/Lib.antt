@@ -1,4 +1,5 @@
 pub mod Steps
+pub mod Counts
 pub mod Steady
 pub mod Again
 pub mod AgainPairs

@@ -5,8 +5,10 @@ use Rattle.std.proofs.lemmas.Bool.{lt-leb}
 use Rattle.std.proofs.lemmas.List.{length-append}
 use Rattle.cam_bytes.specs.declared.WireFault.TheVariants.{Order}
 use Rattle.cam_bytes.specs.Fields.{number, pair, pairs_above, counts_above, deps}
-use Rattle.cam_bytes.specs.Ranges.{IsBytes, IsFrom, AreCounts, IsDeps}
+use Rattle.cam_names.specs.Dependencies.{AreCounts}
+use Rattle.cam_bytes.specs.Ranges.{IsBytes, IsFrom, IsDeps}
 use Rattle.cam_bytes.specs.Reading.{byte_in, number_in, pairs_from, pairs_in}
+use Rattle.cam_bytes.proofs.Counts.{are_counts}
 use Rattle.cam_bytes.proofs.AgainPairs.{put_in}
 use Rattle.cam_bytes.proofs.Taken.{Stands, stands_then, bind_in, ok_is, test_ok, took_byte_in, took_number_in}
 
@@ -101,7 +103,7 @@ took_counts bytes base at x low are e =
     let r = took_pairs bytes n.0 base 0 8 [] (replicate 8 base) n.1 x low are refl refl refl e1 in
     subst (λ (cs : List ℕ). Stands bytes at (counts_above base cs) x.1 × AreCounts base cs) (sym r.is) (
       stands_then bytes at (length (pairs_above base 1 r.counts) ∷ []) n.1 (flat_map pair (pairs_above base 1 r.counts)) x.1 (subst (λ (k : ℕ). Stands bytes at (k ∷ []) n.1) (sym r.number) a.0) r.stands,
-      record { nodes = r.many; each = r.each },
+      are_counts base r.counts r.many r.each,
     ))
 
 pub took_deps : (bytes : List ℕ) (at : ℕ) (x : List ℕ × ℕ) → IsBytes bytes → pairs_in 1 (replicate 8 0) at bytes ≡ Ok x → Stands bytes at (deps x.0) x.1 × IsDeps x.0

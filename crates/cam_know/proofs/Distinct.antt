@@ -3,7 +3,7 @@ use Rattle.std.proofs.Common.{inl, inr, ◌≡◌, ℕ, ◌≤◌, max, Bool, tr
 use Rattle.std.specs.List.{list_any}
 use Rattle.std.proofs.lemmas.List.Folds.{list_any-append}
 use Rattle.std.proofs.lemmas.Bool.{cases_Bool, and_left, or_left, or_right}
-use Rattle.cam_names.specs.Dependencies.{greater_counts}
+use Rattle.cam_names.specs.Dependencies.{AreCounts, greater_counts}
 use Rattle.cam_names.proofs.Dependencies.{greater_counts_at, greater_counts_length}
 use Rattle.cam_know.specs.declared.Outcome.{Outcome}
 use Rattle.cam_know.specs.declared.commits.Commit.{Commit}
@@ -13,7 +13,7 @@ use Rattle.cam_know.specs.Knowledge.{Knowledge}
 use Rattle.cam_know.specs.Known.{outcome_eq, knows, unknown}
 use Rattle.cam_know.specs.Commits.{has_commit, is_commit, HasSame}
 use Rattle.cam_know.specs.Index.{SaysSame, IsIndexOf}
-use Rattle.cam_know.specs.Invariant.{NoTwice, IsEightCounts, IsKnown}
+use Rattle.cam_know.specs.Invariant.{NoTwice, IsKnown}
 use Rattle.cam_know.proofs.Union.{knows_unknown}
 use Rattle.cam_know.proofs.Outcomes.{outcome_eq_refl, outcome_eq_same}
 use Rattle.cam_know.proofs.Noting.{index_same}
@@ -80,7 +80,7 @@ known_more os fresh ps l m n q r s cs is says noted alike has distinct h =
       counted = h.counted;
     })
 
-pub greater_counted : (a b : List ℕ) → IsEightCounts a → IsEightCounts b → IsEightCounts (greater_counts a b)
+pub greater_counted : (a b : List ℕ) → AreCounts 1 a → AreCounts 1 b → AreCounts 1 (greater_counts a b)
 greater_counted a b one other = record {
   eight = greater_counts_length a b (omega (arith, one.eight, other.eight)) ∙ one.eight;
   from = λ k below. subst (λ (n : ℕ). 1 ≤ n) (sym (greater_counts_at a b k)) (low (get_or a k 0) (get_or b k 0) (one.from k below));
@@ -93,7 +93,7 @@ greater_counted a b one other = record {
     high : (x y : ℕ) → x ≤ 1000000000 → y ≤ 1000000000 → max x y ≤ 1000000000
     high x y h k = omega arith
 
-pub known_greater : (os : List Outcome) (m : Index) (r : Commits) (cs ds es : List ℕ) → es ≡ greater_counts cs ds → IsEightCounts ds → IsKnown os m r cs → IsKnown os m r es
+pub known_greater : (os : List Outcome) (m : Index) (r : Commits) (cs ds es : List ℕ) → es ≡ greater_counts cs ds → AreCounts 1 ds → IsKnown os m r cs → IsKnown os m r es
 known_greater os m r cs ds es is other h =
     subst (λ (ns : List ℕ). IsKnown os m r ns) (sym is)
     (record { distinct = h.distinct; indexed = h.indexed; committed = h.committed; counted = greater_counted cs ds h.counted other })

@@ -16,13 +16,13 @@ greater_commutes [] (d ∷ b) = refl
 greater_commutes (c ∷ a) [] = refl
 greater_commutes (c ∷ a) (d ∷ b) = ap₂ (λ (x : ℕ) (xs : List ℕ). x ∷ xs) (omega arith) (greater_commutes a b)
 
-greater_associates : (a b c : List ℕ) → greater_counts (greater_counts a b) c ≡ greater_counts a (greater_counts b c)
+pub greater_associates : (a b c : List ℕ) → greater_counts (greater_counts a b) c ≡ greater_counts a (greater_counts b c)
 greater_associates [] b c = refl
 greater_associates (x ∷ a) [] c = refl
 greater_associates (x ∷ a) (y ∷ b) [] = refl
 greater_associates (x ∷ a) (y ∷ b) (z ∷ c) = ap₂ (λ (n : ℕ) (ns : List ℕ). n ∷ ns) (omega arith) (greater_associates a b c)
 
-greater_itself : (a : List ℕ) → greater_counts a a ≡ a
+pub greater_itself : (a : List ℕ) → greater_counts a a ≡ a
 greater_itself [] = refl
 greater_itself (x ∷ a) = ap₂ (λ (n : ℕ) (ns : List ℕ). n ∷ ns) (omega arith) (greater_itself a)
 

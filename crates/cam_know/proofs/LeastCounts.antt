@@ -58,8 +58,27 @@ least_from_place first (c ∷ counts) (suc k) =
           rw other (ap (least_count (pairs_from (first + 1) counts)) next ∙ least_from_place (first + 1) counts k))
     ]
 
-pub least_of_counts : (counts : List ℕ) (n : ℕ) → 1 ≤ n → least_count (pairs_of counts) n ≡ get_or counts (n - 1) 0
+least_of_counts : (counts : List ℕ) (n : ℕ) → 1 ≤ n → least_count (pairs_of counts) n ≡ get_or counts (n - 1) 0
 least_of_counts counts n h = let e : n ≡ 1 + (n - 1) = omega arith in ap (least_count (pairs_of counts)) e ∙ least_from_place 1 counts (n - 1)
+
+place_of_least : (ps : List (ℕ × ℕ)) (k : ℕ) → k < 8 → get_or (least_counts ps) k 0 ≡ least_count ps (k + 1)
+place_of_least ps zero h = refl
+place_of_least ps (suc zero) h = refl
+place_of_least ps (suc (suc zero)) h = refl
+place_of_least ps (suc (suc (suc zero))) h = refl
+place_of_least ps (suc (suc (suc (suc zero)))) h = refl
+place_of_least ps (suc (suc (suc (suc (suc zero))))) h = refl
+place_of_least ps (suc (suc (suc (suc (suc (suc zero)))))) h = refl
+place_of_least ps (suc (suc (suc (suc (suc (suc (suc zero))))))) h = refl
+place_of_least ps (suc (suc (suc (suc (suc (suc (suc (suc k)))))))) h = absurd (omega arith)
+
+-- the least counts among the pairs of eight counts are these counts
+pub least_are_counts : (counts : List ℕ) → length counts ≡ 8 → least_counts (pairs_of counts) ≡ counts
+least_are_counts counts eight =
+    same_number_lists (least_counts (pairs_of counts)) counts (omega (arith, eight))
+    (λ k below.
+    place_of_least (pairs_of counts) k (omega (arith, below)) ∙ least_of_counts counts (k + 1) (omega arith)
+    ∙ ap (λ (n : ℕ). get_or counts n 0) (let e : (k + 1) - 1 ≡ k = omega arith in e))
 
 -- of pairs of two kinds the lesser
 pub least_append : (ps qs : List (ℕ × ℕ)) (n : ℕ) → least_count (ps ++ qs) n ≡ lesser_count (least_count ps n) (least_count qs n)

@@ -1,6 +1,7 @@
 -- What is true of every value that holds knowledge.
-use Rattle.std.specs.Prelude.{◌≡◌, ℕ, ◌≤◌, ◌<◌, false, List, [], ◌∷◌, length, slice_index}
+use Rattle.std.specs.Prelude.{◌≡◌, ℕ, false, List, [], ◌∷◌}
 use Rattle.std.specs.List.{list_any}
+use Rattle.cam_names.specs.Dependencies.{AreCounts}
 use Rattle.cam_know.specs.declared.Outcome.{Outcome}
 use Rattle.cam_know.specs.declared.commits.Commits.{Commits}
 use Rattle.cam_know.specs.declared.index.Index.{Index}
@@ -13,14 +14,8 @@ abbrev pub NoTwice : List Outcome → Type 0
 NoTwice [] = Unit {0}
 NoTwice (o ∷ os) = (list_any (outcome_eq o) os ≡ false) × NoTwice os
 
--- eight counts, each in its range
-pub record IsEightCounts (counts : List ℕ) : Type 0 where
-  pub eight : length counts ≡ 8
-  pub from : (k : ℕ) → k < 8 → 1 ≤ slice_index counts k
-  pub to : (k : ℕ) → k < 8 → slice_index counts k ≤ 1000000000
-
 pub record IsKnown (outcomes : List Outcome) (index : Index) (commits : Commits) (counts : List ℕ) : Type 0 where
   pub distinct : NoTwice outcomes
   pub indexed : IsIndexOf outcomes index
   pub committed : HasCommitsOf outcomes commits
-  pub counted : IsEightCounts counts
+  pub counted : AreCounts 1 counts

@@ -1,4 +1,4 @@
-ghost use Rattle.std.specs.Prelude.{◌≡◌, ◌+◌, ◌≤◌, ◌||◌, [], length, IfOk, OnOk};
+ghost use Rattle.std.specs.Prelude.{◌≡◌, ◌+◌, ◌≤◌, ◌||◌, [], length, OnOk};
 ghost use Rattle.std.specs.List.{list_any};
 ghost use Rattle.cam_know.specs.declared.commits.Commit.{Commit as CommitValue};
 ghost use Rattle.cam_know.specs.Commits.{has_commit, is_commit, commits_room, HasSame, HasCommitsOf};
@@ -41,15 +41,6 @@ impl Commits {
         Commits {
             commits: HashSet::new(alloc),
         }
-    }
-
-    /// The same commits, in a time that grows with what it holds.
-    pub(crate) fn copy(&self) -> Result<Commits, NoMemory>
-        ensures { IfOk result (λ copy. HasSame self.now copy) }
-    {
-        Ok(Commits {
-            commits: self.commits.clone()?,
-        })
     }
 
     /// This very commit is known.

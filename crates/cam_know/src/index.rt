@@ -1,4 +1,4 @@
-ghost use Rattle.std.specs.Prelude.{◌≡◌, ◌+◌, ◌*◌, ◌≤◌, if◌then◌else◌, List, [], ◌∷◌, ◌++◌, length, IfOk, OnOk};
+ghost use Rattle.std.specs.Prelude.{◌≡◌, ◌+◌, ◌*◌, ◌≤◌, if◌then◌else◌, List, [], ◌∷◌, ◌++◌, length, OnOk};
 ghost use Rattle.cam_names.specs.declared.name.Name.{Name as NameValue};
 ghost use Rattle.cam_names.specs.Names.{name_eq};
 ghost use Rattle.cam_know.specs.declared.Outcome.{Outcome as OutcomeValue};
@@ -70,15 +70,6 @@ impl Index {
         Index {
             entries: HashMap::new(alloc),
         }
-    }
-
-    /// An index that says the same, in a time that grows with what it holds.
-    pub(crate) fn copy(&self) -> Result<Index, NoMemory>
-        ensures { IfOk result (λ copy. SaysSame self.now copy) }
-    {
-        Ok(Index {
-            entries: self.entries.clone()?,
-        })
     }
 
     /// What is known of this action.

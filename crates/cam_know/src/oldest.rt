@@ -14,13 +14,13 @@ pub struct Oldest {
 
 impl Model for Oldest {
     ghost use Rattle.std.specs.Prelude.{List, ℕ};
-    ghost use Rattle.cam_names.specs.Dependencies.{IsCounts};
+    ghost use Rattle.cam_names.specs.Dependencies.{AreCounts};
 
     ghost Value = { List ℕ };
 
     ghost view = { λ o. o.counts };
 
-    ghost invariant = { λ o. IsCounts o.counts };
+    ghost invariant = { λ o. AreCounts 0 o.counts };
 
     ghost inverse = { λ counts. record { counts = counts } };
 }
@@ -51,16 +51,7 @@ impl Oldest {
         ensures { result ≡ least_counts (pairs_of deps.now) }
     {
         Oldest {
-            counts: [
-                deps.count_of(1),
-                deps.count_of(2),
-                deps.count_of(3),
-                deps.count_of(4),
-                deps.count_of(5),
-                deps.count_of(6),
-                deps.count_of(7),
-                deps.count_of(8),
-            ],
+            counts: deps.counts(),
         }
     }
 

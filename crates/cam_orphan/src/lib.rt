@@ -81,9 +81,10 @@ fn stale(know: &Know, oldest: &Oldest) -> Option<Reason>
     ensures value { result ≡ reason_of (known_count know.now) None (first_stale (known_count know.now) 1 oldest.now) }
     ensures eight { length know.now.counts ≡ 8 }
 {
+    let known = know.counts();
     for node in 1..9 {
         let old = oldest.count_of(node);
-        let new = know.count(node);
+        let new = known[node as usize - 1];
         if 0 < old && old < new {
             return Some(Reason::Crash { node, old, new });
         }

@@ -1,8 +1,9 @@
 -- One entry that keeps all that a node has.
 use Rattle.std.specs.Prelude.{◌≡◌, ℕ, ◌+◌, ◌≤◌, nat_lt, if◌then◌else◌, List, [], ◌∷◌, ◌++◌, map, Ok}
+use Rattle.cam_names.specs.Dependencies.{AreCounts}
 use Rattle.cam_know.specs.declared.Outcome.{Outcome}
 use Rattle.cam_know.specs.declared.Outcome.TheVariants.{Aborted, Committed}
-use Rattle.cam_know.specs.Invariant.{NoTwice, IsEightCounts}
+use Rattle.cam_know.specs.Invariant.{NoTwice}
 use Rattle.cam_recman.specs.declared.Record.{Record}
 use Rattle.cam_recman.specs.declared.Record.TheVariants.{Count, Abort, Commit, Seen, Secure, Version}
 use Rattle.cam_recman.specs.declared.Recovered.{Recovered}
@@ -32,7 +33,7 @@ snapshot r = Version ∷ own_record r.count ++ map outcome_record r.know.outcome
 pub record CanBeKept (r : Recovered) : Type 0 where
   pub count : 1 ≤ r.count
   pub distinct : NoTwice r.know.outcomes
-  pub counts : IsEightCounts r.know.counts
+  pub counts : AreCounts 1 r.know.counts
   pub range : AreRecords (snapshot r)
 
 -- Recovery of that one entry gives all that the node has.

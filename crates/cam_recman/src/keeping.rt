@@ -62,7 +62,7 @@ fn add_counts(records: &mut Records, know: &Know, node: u8) -> Result<(), NoMemo
 {
     if node > 8 {
         // Only for the proof: it gives the fact that there are eight counts.
-        let _count = know.count(8);
+        let _counts = know.counts();
         return Ok(());
     }
     let count = know.count(node);

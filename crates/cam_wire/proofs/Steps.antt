@@ -2,11 +2,10 @@
 use Rattle.std.proofs.Common.{◌≡◌, ℕ, suc, ◌-◌, List, [], ◌∷◌, length, replicate, slice_get, Some, Result, Ok, Err, IfOk, sym, ap, arith, subst}
 use Rattle.cam_names.specs.declared.name.Name.{Name}
 use Rattle.cam_names.specs.Names.{name_lt}
-use Rattle.cam_know.specs.Invariant.{IsEightCounts}
 use Rattle.cam_bytes.specs.declared.WireFault.{WireFault}
-use Rattle.cam_bytes.specs.Ranges.{IsBytes, AreCounts}
+use Rattle.cam_names.specs.Dependencies.{AreCounts}
+use Rattle.cam_bytes.specs.Ranges.{IsBytes}
 use Rattle.cam_bytes.specs.Reading.{pairs_in}
-use Rattle.cam_bytes.proofs.Steps.{each_at}
 use Rattle.cam_bytes.proofs.TakenPairs.{took_counts}
 use Rattle.cam_wire.specs.Reading.{is_above_last}
 use Rattle.cam_wire.proofs.Again.{names_of}
@@ -15,14 +14,6 @@ use Rattle.cam_wire.proofs.Again.{names_of}
 pub counts_in_range : (at : ℕ) (bytes : List ℕ) (r : Result (List ℕ × ℕ) WireFault) → IsBytes bytes → r ≡ pairs_in 2 (replicate 8 1) at bytes → IfOk r (λ read. AreCounts 1 read.0)
 counts_in_range at bytes (Ok x) are e = (took_counts bytes 1 at x (omega arith) are (sym e)).1
 counts_in_range at bytes (Err fault) are e = tt
-
--- counts in their range are what knowledge is made of
-pub eight_counts : (counts : List ℕ) → AreCounts 1 counts → IsEightCounts counts
-eight_counts counts are = record {
-  eight = are.nodes;
-  from = λ k below. (each_at 1 counts are.each k (omega (arith, are.nodes, below))).0;
-  to = λ k below. (each_at 1 counts are.each k (omega (arith, are.nodes, below))).1;
-}
 
 -- the last of the names
 pub above_last : (names : List Name) (b a : Name) → slice_get names (length names - 1) ≡ Some b → is_above_last names a ≡ name_lt b a

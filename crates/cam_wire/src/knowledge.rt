@@ -1,6 +1,6 @@
 // What a letter brings, as knowledge.
 ghost use Rattle.std.specs.Prelude.{◌≡◌, map, IfOk};
-ghost use Rattle.cam_bytes.specs.Ranges.{AreCounts};
+ghost use Rattle.cam_names.specs.Dependencies.{AreCounts};
 ghost use Rattle.cam_wire.specs.Spelling.{Rising};
 ghost use Rattle.cam_wire.specs.Reading.{outcomes_of};
 

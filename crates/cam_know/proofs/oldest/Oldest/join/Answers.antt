@@ -7,6 +7,7 @@ use Rattle.cam_know.proofs.oldest.Oldest.join.Goals as goal
 pub invariant_of-result : goal.invariant_of-result
 invariant_of-result c = record {
   eight = c.loop-node.invariant.0;
+  from = λ k below. omega arith;
   to = λ k below. subst (λ (n : ℕ). n ≤ 1000000000) (sym (c.loop-node.invariant.1 k (omega (arith, c.loop-node-test.false))))
       (lesser_to (get_or c.self.inside.counts k 0) (get_or c.other.inside.counts k 0) (c.self.invariant.to k below) (c.other.invariant.to k below));
 }
