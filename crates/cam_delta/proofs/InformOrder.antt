@@ -49,7 +49,8 @@ use Rattle.cam_delta.proofs.Sound.{load_of}
 use Rattle.cam_delta.proofs.SameKnown.{SameSoFar, same_so_far, whole}
 use Rattle.cam_delta.proofs.SameSteps.{informs_same, input_brings}
 use Rattle.cam_delta.proofs.Distinctness.{distinct_so_far, came_distinct}
-use Rattle.cam_delta.proofs.OwnPast.{told_decided, listed_told, listed_final}
+use Rattle.cam_delta.proofs.OwnPast.{listed_told, listed_final}
+use Rattle.cam_delta.proofs.PastLengths.{told_decided}
 use Rattle.cam_delta.proofs.Prefixes.{load_to, listed_to}
 use Rattle.cam_delta.proofs.Telling.{told_known}
 use Rattle.cam_delta.proofs.NewsNamed.{SaidBy, news_named}

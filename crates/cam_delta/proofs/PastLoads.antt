@@ -30,7 +30,8 @@ use Rattle.cam_delta.proofs.DeltaLists.{in_split, in_drop, Begins, begins_in, be
 use Rattle.cam_delta.proofs.Growing.{history, listed}
 use Rattle.cam_delta.proofs.SameHistories.{Alike, alike_same}
 use Rattle.cam_delta.proofs.Distinctness.{distinct_so_far, behind_only}
-use Rattle.cam_delta.proofs.OwnPast.{told_aborts, listed_told, listed_final, told_decided, listed_length}
+use Rattle.cam_delta.proofs.OwnPast.{told_aborts, listed_told, listed_final}
+use Rattle.cam_delta.proofs.PastLengths.{told_decided, listed_length}
 use Rattle.cam_delta.proofs.Prefixes.{run_to, load_to, listed_to, EndsWith, letter_ends, own_to}
 use Rattle.cam_delta.proofs.PastPlaces.{have_same, acked_same}
 use Rattle.cam_delta.proofs.Reached.{base_reached, Found, first_found, first_to}

@@ -15,7 +15,7 @@ use Rattle.cam_delta.specs.Laws.{IsAddressed}
 use Rattle.cam_delta.proofs.Addressed.{ran_addressed}
 use Rattle.cam_delta.proofs.Growing.{history, newest_load, history_here, history_there, with_news}
 use Rattle.cam_delta.proofs.Sound.{load_of, sound, arrived, no_more}
-use Rattle.cam_delta.proofs.OwnPast.{listed_length}
+use Rattle.cam_delta.proofs.PastLengths.{listed_length}
 use Rattle.cam_delta.proofs.Prefixes.{run_to, load_to, letter_ends, own_to}
 
 -- the place of a letter to another node
