@@ -25,7 +25,8 @@ use Rattle.cam_cut.proofs.Holds.{every_closed}
 use Rattle.cam_cut.proofs.Laws.{closed_sets_are_legal}
 use Rattle.cam_delta.proofs.Addressed.{runs_are_addressed}
 use Rattle.cam_delta.proofs.SameKnown.{nodes_know_the_same}
-use Rattle.cam_headline.specs.Outcomes.{held_by, EachIsDecidedOnce, NoTwoEventsDiffer, HeldWasDecided, NoTwoNodesDiffer, CommittedIsSecured, CommitNeedsSecured}
+use Rattle.cam_delta.specs.Laws.{known_by}
+use Rattle.cam_headline.specs.Outcomes.{EachIsDecidedOnce, NoTwoEventsDiffer, HeldWasDecided, NoTwoNodesDiffer, CommittedIsSecured, CommitNeedsSecured}
 use Rattle.cam_headline.proofs.Decided.{decided_once, commit_needs, commit_secured}
 
 -- the whole of a run reads as a legal history
@@ -45,14 +46,14 @@ no_two_events_differ objects t i j d e a run first second commits =
     (λ aborts. one_outcome objects (plain_all t) a (whole_legal objects t run) (event_in_whole (is_commit a) t i d first commits) (event_in_whole (is_abort a) t j e second aborts))
 
 -- What a node holds stands in the past of its last event.
-pub holds_aborts : (objects : List ObjectDecl) (t : List Event) (s : ℕ) (a : Name) → IsRun objects t → knows_abort (held_by objects t s) a ≡ aborted (own_past t s) a
+pub holds_aborts : (objects : List ObjectDecl) (t : List Event) (s : ℕ) (a : Name) → IsRun objects t → knows_abort (known_by objects t s) a ≡ aborted (own_past t s) a
 holds_aborts objects t s a run =
-    any_same (is_abort_of a) (held_by objects t s) (held objects (of_node (carried_of objects t) s)) (nodes_know_the_same objects t s (runs_are_addressed objects t run))
+    any_same (is_abort_of a) (known_by objects t s) (held objects (of_node (carried_of objects t) s)) (nodes_know_the_same objects t s (runs_are_addressed objects t run))
     ∙ (held_and_brought (is_abort a) (is_abort_of a) (tells_aborts a) objects t (runs_are_sent objects t run)).0 s
 
-pub holds_commits : (objects : List ObjectDecl) (t : List Event) (s : ℕ) (a : Name) → IsRun objects t → knows_commit (held_by objects t s) a ≡ committed (own_past t s) a
+pub holds_commits : (objects : List ObjectDecl) (t : List Event) (s : ℕ) (a : Name) → IsRun objects t → knows_commit (known_by objects t s) a ≡ committed (own_past t s) a
 holds_commits objects t s a run =
-    any_same (is_commit_of a) (held_by objects t s) (held objects (of_node (carried_of objects t) s)) (nodes_know_the_same objects t s (runs_are_addressed objects t run))
+    any_same (is_commit_of a) (known_by objects t s) (held objects (of_node (carried_of objects t) s)) (nodes_know_the_same objects t s (runs_are_addressed objects t run))
     ∙ (held_and_brought (is_commit a) (is_commit_of a) (tells_commits a) objects t (runs_are_sent objects t run)).0 s
 
 -- and so in the whole
@@ -67,7 +68,7 @@ held_was_decided objects t s a run = (
 
 pub no_two_nodes_differ : NoTwoNodesDiffer
 no_two_nodes_differ objects t s r a run commits =
-    false_from_ne_true (knows_abort (held_by objects t r) a)
+    false_from_ne_true (knows_abort (known_by objects t r) a)
     (λ aborts. one_outcome objects (plain_all t) a (whole_legal objects t run) ((held_was_decided objects t s a run).0 commits) ((held_was_decided objects t r a run).1 aborts))
 
 pub committed_is_secured : CommittedIsSecured

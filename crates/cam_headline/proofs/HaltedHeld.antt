@@ -17,7 +17,7 @@ use Rattle.cam_plain.proofs.Deciding.{one_outcome}
 use Rattle.cam_cut.proofs.Halts.{run_taking_holds}
 use Rattle.cam_delta.proofs.Addressed.{halted_runs_are_addressed}
 use Rattle.cam_delta.proofs.SameKnown.{nodes_know_the_same}
-use Rattle.cam_headline.specs.Outcomes.{held_by}
+use Rattle.cam_delta.specs.Laws.{known_by}
 use Rattle.cam_headline.specs.HaltedHeld.{HaltedHeldIsThePast, HaltedHeldWasDecided, HaltedNodesAgree, HaltedCommittedIsSecured, HaltedCrashKeepsSecured, HaltedCrashKeepsOthers, HaltedNoneIsAborted, HaltedSecuredStays, HaltedCommittedIsCovered}
 use Rattle.cam_headline.proofs.Agreed.{own_in_whole}
 use Rattle.cam_headline.proofs.Decided.{commit_secured}
@@ -29,17 +29,17 @@ use Rattle.cam_headline.proofs.Recovered.{covered_in, keeps_secured, keeps_other
 pub whole_aborts : (objects : List ObjectDecl) (taken : ℕ → Bool) (t : List Event) (s : ℕ) (a : Name) → IsRunTaking objects taken t → knows_abort (held objects (of_node (carried_of objects t) s)) a ≡ aborted (own_past t s) a
 whole_aborts objects taken t s a run = (held_and_brought (is_abort a) (is_abort_of a) (tells_aborts a) objects t (taking_are_sent objects taken t run)).0 s
 
-pub halted_aborts : (objects : List ObjectDecl) (taken : ℕ → Bool) (t : List Event) (s : ℕ) (a : Name) → IsRunTaking objects taken t → knows_abort (held_by objects t s) a ≡ aborted (own_past t s) a
+pub halted_aborts : (objects : List ObjectDecl) (taken : ℕ → Bool) (t : List Event) (s : ℕ) (a : Name) → IsRunTaking objects taken t → knows_abort (known_by objects t s) a ≡ aborted (own_past t s) a
 halted_aborts objects taken t s a run =
-    any_same (is_abort_of a) (held_by objects t s) (held objects (of_node (carried_of objects t) s)) (nodes_know_the_same objects t s (halted_runs_are_addressed objects taken t run))
+    any_same (is_abort_of a) (known_by objects t s) (held objects (of_node (carried_of objects t) s)) (nodes_know_the_same objects t s (halted_runs_are_addressed objects taken t run))
     ∙ whole_aborts objects taken t s a run
 
 pub whole_commits : (objects : List ObjectDecl) (taken : ℕ → Bool) (t : List Event) (s : ℕ) (a : Name) → IsRunTaking objects taken t → knows_commit (held objects (of_node (carried_of objects t) s)) a ≡ committed (own_past t s) a
 whole_commits objects taken t s a run = (held_and_brought (is_commit a) (is_commit_of a) (tells_commits a) objects t (taking_are_sent objects taken t run)).0 s
 
-pub halted_commits : (objects : List ObjectDecl) (taken : ℕ → Bool) (t : List Event) (s : ℕ) (a : Name) → IsRunTaking objects taken t → knows_commit (held_by objects t s) a ≡ committed (own_past t s) a
+pub halted_commits : (objects : List ObjectDecl) (taken : ℕ → Bool) (t : List Event) (s : ℕ) (a : Name) → IsRunTaking objects taken t → knows_commit (known_by objects t s) a ≡ committed (own_past t s) a
 halted_commits objects taken t s a run =
-    any_same (is_commit_of a) (held_by objects t s) (held objects (of_node (carried_of objects t) s)) (nodes_know_the_same objects t s (halted_runs_are_addressed objects taken t run))
+    any_same (is_commit_of a) (known_by objects t s) (held objects (of_node (carried_of objects t) s)) (nodes_know_the_same objects t s (halted_runs_are_addressed objects taken t run))
     ∙ whole_commits objects taken t s a run
 
 pub halted_held_is_the_past : HaltedHeldIsThePast
@@ -53,7 +53,7 @@ halted_held_was_decided objects taken t s a run = (
 
 pub halted_nodes_agree : HaltedNodesAgree
 halted_nodes_agree objects taken t s r a run commits =
-    false_from_ne_true (knows_abort (held_by objects t r) a)
+    false_from_ne_true (knows_abort (known_by objects t r) a)
     (λ aborts. one_outcome objects (plain_all t) a (halted_legal objects taken t run) ((halted_held_was_decided objects taken t s a run).0 commits) ((halted_held_was_decided objects taken t r a run).1 aborts))
 
 pub halted_committed_is_secured : HaltedCommittedIsSecured

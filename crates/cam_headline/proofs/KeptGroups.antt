@@ -11,8 +11,6 @@ use Rattle.std.proofs.lemmas.Bool.Decides.{eqb_tells}
 use Rattle.cam_names.specs.declared.name.Name.{Name}
 use Rattle.cam_names.specs.Names.{name_eq, family}
 use Rattle.cam_type.specs.declared.ObjectDecl.{ObjectDecl}
-use Rattle.cam_type.specs.declared.Held.{Held}
-use Rattle.cam_type.specs.declared.HeldOp.{HeldOp}
 use Rattle.cam_event.specs.declared.LetterId.{LetterId}
 use Rattle.cam_event.specs.declared.Event.{Event}
 use Rattle.cam_event.specs.declared.Operation.{Operation}
@@ -38,11 +36,8 @@ use Rattle.cam_agree.proofs.LiveLists.{map_map}
 use Rattle.cam_agree.proofs.LiveSight.{ran_live}
 use Rattle.cam_agree.proofs.OrphanFacts.{sent_of}
 use Rattle.cam_agree.proofs.Ran.{Ran, Stood, did_as, event_as, stood, before_it, ran_holds, ran_informs, good_as}
-use Rattle.cam_node.specs.Kept.{Secured, secured_of, AllStandFor, AllHeld}
-use Rattle.cam_server.specs.Recovered.{AreHeldOps, AreHeld}
-use Rattle.cam_headline.specs.KeptLog.{LogsKeepSecured}
-use Rattle.cam_headline.proofs.KeptLists.{Essence, of_placed, of_operation, AllAlike, secures, Groups, groups_one, groups_all, groups_secure, plain_away, pair_of, of_family_map, informs_alone}
-use Rattle.cam_headline.proofs.KeptWhole.{kept_whole}
+use Rattle.cam_node.specs.Kept.{Secured, secured_of}
+use Rattle.cam_headline.proofs.KeptLists.{of_placed, of_operation, AllAlike, secures, Groups, groups_one, groups_all, groups_secure, plain_away, pair_of, of_family_map, informs_alone}
 
 abbrev GroupsAt : List ObjectDecl → List Event → ℕ → Type 0
 GroupsAt objects t s = Groups objects (deeds_of (of_node (carried_of objects t) s)) (plain_all t) s (site (of_node (carried_of objects t) s))
@@ -146,7 +141,7 @@ groups_own objects t input took run may before =
     shape xs (Aborts b) placed = groups_all objects (after own first) W s mail S1 xs (none_in xs (Aborts b) (λ (e : 2 ≡ 1). omega (arith, e))) started
 
 -- So it is at the end of each run.
-groups_at : (objects : List ObjectDecl) (t : List Event) (s : ℕ) → Ran objects t → GroupsAt objects t s
+pub groups_at : (objects : List ObjectDecl) (t : List Event) (s : ℕ) → Ran objects t → GroupsAt objects t s
 groups_at objects [] s run = record { alike = tt; counts = refl }
 groups_at objects (e ∷ t) s run = by (eqb_tells e.node s) (stood objects e t run) (before_it objects e t run) (λ r. groups_at objects t r (before_it objects e t run))
   where
@@ -163,45 +158,3 @@ groups_at objects (e ∷ t) s run = by (eqb_tells e.node s) (stood objects e t r
         let old = older s in
         let same : secured_of objects (plain_all (e ∷ t)) s ≡ secured_of objects (plain_all t) s = plain_away objects (plain_all (e ∷ t)) e.node s e.deeds (plain_all t) (ran_holds objects (e ∷ t) run).placed.0 n.1 in
         rw n.0 (record { alike = subst (AllAlike (reverse (site (of_node (carried_of objects t) s)).secured)) (sym same) old.alike; counts = old.counts ∙ ap (map (λ (k : Secured). k.count)) (sym same) })
-
--- A log that keeps the groups holds what the definition has.
-ops_held : (hs : List HeldOp) (ps : List Placed) (os : List Operation) → AreHeldOps hs ps → map of_placed ps ≡ map of_operation os → AllStandFor hs os
-ops_held [] [] [] held same = tt
-ops_held [] [] (o ∷ os) held same = cc
-ops_held [] (p ∷ ps) os held same = absurd held
-ops_held (h ∷ hs) [] os held same = absurd held
-ops_held (h ∷ hs) (p ∷ ps) [] held same = cc
-ops_held (h ∷ hs) (p ∷ ps) (o ∷ os) held same =
-    let first : of_placed p ≡ of_operation o = ap (head_or (of_placed p)) same in
-    let rest : map of_placed ps ≡ map of_operation os = ap behind same in
-    ((held.0.0 ∙ ap (λ (x : Essence). x.0) first, held.0.1 ∙ ap (λ (x : Essence). x.1) first), ops_held hs ps os held.1 rest)
-  where
-    head_or : Essence → List Essence → Essence
-    head_or x [] = x
-    head_or x (y ∷ ys) = y
-
-    behind : List Essence → List Essence
-    behind [] = []
-    behind (y ∷ ys) = ys
-
-groups_held : (hs : List Held) (gs : List (Name × List Placed)) (ks : List Secured) → AreHeld hs gs → AllAlike gs ks → map (λ (h : Held). h.count) hs ≡ map (λ (k : Secured). k.count) ks → AllHeld hs ks
-groups_held [] [] [] held alike counts = tt
-groups_held [] [] (k ∷ ks) held alike counts = absurd alike
-groups_held [] (g ∷ gs) ks held alike counts = absurd held
-groups_held (h ∷ hs) [] ks held alike counts = absurd held
-groups_held (h ∷ hs) (g ∷ gs) [] held alike counts = absurd alike
-groups_held (h ∷ hs) (g ∷ gs) (k ∷ ks) held alike counts =
-    ((held.0 ∙ alike.0.0, ap (head_or h.count) counts, ops_held h.ops g.1 k.operations held.1 alike.0.1), groups_held hs gs ks held.2 alike.1 (ap behind counts))
-  where
-    head_or : ℕ → List ℕ → ℕ
-    head_or x [] = x
-    head_or x (y ∷ ys) = y
-
-    behind : List ℕ → List ℕ
-    behind [] = []
-    behind (y ∷ ys) = ys
-
-pub logs_keep_secured : LogsKeepSecured
-logs_keep_secured objects taken t s logged run log =
-    let at = groups_at objects t s (taken, run) in
-    groups_held logged.held (reverse (site (of_node (carried_of objects t) s)).secured) (secured_of objects (plain_all t) s) (kept_whole objects taken t s logged run log).secured at.alike ((kept_whole objects taken t s logged run log).counts ∙ at.counts)

@@ -15,7 +15,7 @@ use Rattle.cam_node.specs.Kept.{Secured, performed_at, secured_of, paired}
 use Rattle.cam_server.specs.Recovered.{AreHeldOps, AreHeld, beside}
 use Rattle.cam_headline.specs.KeptLog.{LogsKeepOrder, LogsKeep}
 use Rattle.cam_headline.proofs.KeptKnowledge.{logs_keep_knowledge}
-use Rattle.cam_headline.proofs.KeptGroups.{logs_keep_secured}
+use Rattle.cam_headline.proofs.KeptSecured.{logs_keep_secured}
 use Rattle.cam_headline.proofs.KeptOrder.{Linked, OpsLinked, AllLinked}
 use Rattle.cam_headline.proofs.KeptPlaces.{order_at}
 use Rattle.cam_headline.proofs.KeptWhole.{kept_whole}

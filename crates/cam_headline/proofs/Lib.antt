@@ -17,6 +17,7 @@ pub mod KeptWhole
 pub mod KeptKnowledge
 pub mod KeptLists
 pub mod KeptGroups
+pub mod KeptSecured
 pub mod KeptOrder
 pub mod KeptSteps
 pub mod KeptPlaces

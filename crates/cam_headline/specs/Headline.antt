@@ -27,7 +27,7 @@ use Rattle.cam_runs.specs.Run.{run}
 use Rattle.cam_report.specs.Report.{report}
 use Rattle.cam_report.specs.Traces.{trace_text, witness_text}
 use Rattle.cam_report.specs.Records.{record_report, record_trace}
-use Rattle.cam_headline.specs.Outcomes.{held_by}
+use Rattle.cam_delta.specs.Laws.{known_by}
 
 -- the one run of a script: that by the pasts of events; and its events, the newest first
 abbrev pub one_run : Script → Running
@@ -69,7 +69,7 @@ pub record HasOneRun (script : Script) : Type 0 where
   -- Each action that was created in it, orphan or not, has its view in a legal history that replays.
   pub views : (a : Name) → created (plain_all (events script)) a ≡ true → IsPlainFor script.objects (events script) a (witness (events script) a)
   -- No two nodes hold different outcomes of an action.
-  pub agree : (s r : ℕ) (a : Name) → knows_commit (held_by script.objects (events script) s) a ≡ true → knows_abort (held_by script.objects (events script) r) a ≡ false
+  pub agree : (s r : ℕ) (a : Name) → knows_commit (known_by script.objects (events script) s) a ≡ true → knows_abort (known_by script.objects (events script) r) a ≡ false
   -- The report of the record that the program has is the report of this run.
   pub reported : record_report script (record_of (run by_knowledge script)) ≡ report script.objects script.labels (events script) (one_run script).marks
   -- So is its trace, and the text of each witness.

@@ -1,13 +1,15 @@
-//! The headline: from the bytes of a script to the views of its actions. And what every run promises of outcomes and of crashes.
+//! The headline: from the bytes of a script to the views of its actions. And what every run
+//! promises of outcomes and of crashes.
 //!
-//! For every script that the grammar accepts, the run that the program makes is the one run of the step rules; for each
-//! action, orphan or not, the events before its last event, read as plain nested transactions, are a legal execution in
-//! which it is no orphan and has the same view; committed top actions replay serially in order of their commits; and no
-//! two nodes hold different outcomes ([`headline`]). `docs/HEADLINE.md` shows it on a scene.
+//! For every script that the grammar accepts, the run that the program makes is the one run of the
+//! step rules; for each action, orphan or not, the events before its last event, read as plain
+//! nested transactions, are a legal execution in which it is no orphan and has the same view;
+//! committed top actions replay serially in order of their commits; and no two nodes hold different
+//! outcomes ([`headline`]). `docs/HEADLINE.md` shows it on a scene.
 //!
-//! Laws alone. They put together those of the crates below: `cam_cut` (closed sets are legal, views), `cam_serial` (the
-//! serial law), `cam_agree` and `cam_runs` (the run by what nodes hold is the run by pasts, and a run), `cam_script` (what
-//! the grammar accepts).
+//! Laws alone. They put together those of the crates below: `cam_cut` (closed sets are legal,
+//! views), `cam_serial` (the serial law), `cam_agree` and `cam_runs` (the run by what nodes hold is
+//! the run by pasts, and a run), `cam_script` (what the grammar accepts).
 #![tactic(auto)]
 
 ghost use Rattle.cam_headline.specs.Counters.{CountersAreReported};
@@ -24,15 +26,17 @@ ghost use Rattle.cam_headline.specs.Scene.{IsWorked};
 ghost use Rattle.cam_headline.specs.Premises.{OnlyStopsAreKnown, StopsAreKnown};
 ghost use Rattle.cam_headline.specs.Recovery.{CommittedIsCovered, CommittedStays, CrashKeepsOthers, CrashKeepsSecured, NoneIsAborted, SecuredStays};
 
-/// For all bytes that spell a script, at each stage of the grammar: the program's run is the one run of the step rules; for each action,
-/// orphan or not, the events before its last event are a legal execution in which it is no orphan and has the same view; committed top
-/// actions replay serially in commit order; no two nodes hold different outcomes of an action; and the report is that of this run.
+/// For all bytes that spell a script, at each stage of the grammar: the program's run is the one
+/// run of the step rules; for each action, orphan or not, the events before its last event are a
+/// legal execution in which it is no orphan and has the same view; committed top actions replay
+/// serially in commit order; no two nodes hold different outcomes of an action; and the report is
+/// that of this run.
 pub fn headline()
     ensures holds { Headline }
 {}
 
-/// In a run each action is decided once at most, no two events and no two nodes differ on it, and of a committed top action all that it
-/// depends on is secured.
+/// In a run each action is decided once at most, no two events and no two nodes differ on it, and
+/// of a committed top action all that it depends on is secured.
 pub fn agreement()
     ensures once { EachIsDecidedOnce }
     ensures events { NoTwoEventsDiffer }
@@ -42,9 +46,10 @@ pub fn agreement()
     ensures before { CommitNeedsSecured }
 {}
 
-/// After a crash the live operations at a site are those of families that were secured there, less the aborted ones, and such an operation
-/// stays live through all later crashes, unless an ancestor is aborted; and one whose answer an action got is live for good once the
-/// action has committed with all its ancestors: so the list of what has committed has each such answer.
+/// After a crash the live operations at a site are those of families that were secured there, less
+/// the aborted ones, and such an operation stays live through all later crashes, unless an ancestor
+/// is aborted; and one whose answer an action got is live for good once the action has committed
+/// with all its ancestors: so the list of what has committed has each such answer.
 pub fn recovery_of_runs()
     ensures crash { CrashKeepsSecured }
     ensures others { CrashKeepsOthers }
@@ -54,16 +59,16 @@ pub fn recovery_of_runs()
     ensures covered { CommittedIsCovered }
 {}
 
-/// Each delivery of the letter that waits lowers the weight of those that wait, so that a drain, which makes as many as their weight, leaves
-/// none waiting; nor does a play.
+/// Each delivery of the letter that waits lowers the weight of those that wait, so that a drain,
+/// which makes as many as their weight, leaves none waiting; nor does a play.
 pub fn drains_end()
     ensures lowers { EachDeliveryLowers }
     ensures ends { DrainsLeaveNone }
     ensures plays { PlaysLeaveNone }
 {}
 
-/// The same of runs in which nodes halt, taken events among them: views, the serial order, one decision of each action, commits of what is
-/// secured, and what stays for good.
+/// The same of runs in which nodes halt, taken events among them: views, the serial order, one
+/// decision of each action, commits of what is secured, and what stays for good.
 pub fn halted_laws()
     ensures replay { HaltedReplay }
     ensures views { HaltedViews }
@@ -73,8 +78,8 @@ pub fn halted_laws()
     ensures stays { HaltedStays }
 {}
 
-/// In runs in which nodes halt a node holds what stands in the past of its last event, a taken one too; so no two nodes differ on an action,
-/// and a crash leaves what it leaves without halts.
+/// In runs in which nodes halt a node holds what stands in the past of its last event, a taken one
+/// too; so no two nodes differ on an action, and a crash leaves what it leaves without halts.
 pub fn halted_nodes()
     ensures past { HaltedHeldIsThePast }
     ensures known { HaltedHeldWasDecided }
@@ -87,8 +92,9 @@ pub fn halted_nodes()
     ensures covered { HaltedCommittedIsCovered }
 {}
 
-/// At the end of each run, with halts or without, a log that keeps the node's history, a taken event at its end with it, gives what the node
-/// keeps over a restart: its count, what it knows, and for each of its Secures the family's operations that were live just before.
+/// At the end of each run, with halts or without, a log that keeps the node's history, a taken
+/// event at its end with it, gives what the node keeps over a restart: its count, what it knows,
+/// and for each of its Secures the family's operations that were live just before.
 pub fn kept_logs()
     ensures knowledge { LogsKeepKnowledge }
     ensures secured { LogsKeepSecured }
@@ -96,42 +102,44 @@ pub fn kept_logs()
     ensures kept { LogsKeep }
 {}
 
-/// For all bytes that spell a script, whichever inputs are halts, taken or lost: the run by what nodes hold is the run by pasts; for each
-/// action its view stands in a legal execution; committed top actions replay in commit order; and no two nodes differ. Without a halt it is
-/// the one run of the script.
+/// For all bytes that spell a script, whichever inputs are halts, taken or lost: the run by what
+/// nodes hold is the run by pasts; for each action its view stands in a legal execution; committed
+/// top actions replay in commit order; and no two nodes differ. Without a halt it is the one run of
+/// the script.
 pub fn halted_headline()
     ensures holds { HaltedHeadline }
     ensures none { NoHaltIsTheOneRun }
 {}
 
-/// In runs in which nodes halt each delivery lowers the weight of the letters that wait, at a halt too, so a drain leaves none waiting for a
-/// node that is not halted; nor does a play.
+/// In runs in which nodes halt each delivery lowers the weight of the letters that wait, at a halt
+/// too, so a drain leaves none waiting for a node that is not halted; nor does a play.
 pub fn halted_drains_end()
     ensures lowers { HaltedDeliveriesLower }
     ensures ends { HaltedDrainsLeaveNone }
     ensures plays { HaltedPlaysLeaveNone }
 {}
 
-/// Where no disk that was handed in failed, the halts of a run are those of its stop lines, and no others.
+/// Where no disk that was handed in failed, the halts of a run are those of its stop lines, and no
+/// others.
 pub fn known_halts()
     ensures stops { StopsAreKnown }
     ensures only { OnlyStopsAreKnown }
 {}
 
-/// A worked scene: an action that runs on after its parent has given it up. From the bytes of its script to its report and to its
-/// witness, computed from the definitions alone.
+/// A worked scene: an action that runs on after its parent has given it up. From the bytes of its
+/// script to its report and to its witness, computed from the definitions alone.
 pub fn worked_scene()
     ensures { IsWorked }
 {}
 
-/// Two worked scenes with counters: adders that stand in the way of a reader alone, and a sum that wraps. From the bytes of their scripts
-/// to their reports, computed from the definitions alone.
+/// Two worked scenes with counters: adders that stand in the way of a reader alone, and a sum that
+/// wraps. From the bytes of their scripts to their reports, computed from the definitions alone.
 pub fn worked_counters()
     ensures { CountersAreReported }
 {}
 
-/// Worked runs in which a node halts: a stop at each device call of the append of a commit, lost at the first three, taken at the fourth, none
-/// behind it; and a disk that fails by itself.
+/// Worked runs in which a node halts: a stop at each device call of the append of a commit, lost at
+/// the first three, taken at the fourth, none behind it; and a disk that fails by itself.
 pub fn worked_halts()
     ensures { AreWorked }
 {}

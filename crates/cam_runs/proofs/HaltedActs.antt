@@ -17,7 +17,8 @@ use Rattle.cam_runs.specs.Playing.{go_refusal}
 use Rattle.cam_runs.specs.InRange.{is_node, nests_within, is_start_act, is_free, is_op, is_act, IsInRange}
 use Rattle.cam_runs.specs.Halts.{Stop}
 use Rattle.cam_runs.specs.Standing.{Standing, Setting, put, deliver, addressee, drain, ended_halt}
-use Rattle.cam_runs.specs.HaltedLines.{Led, unless, of_variable, is_halted, halted_or, take_request, go, play, cut, act}
+use Rattle.cam_runs.specs.HaltedLines.{Led, unless, of_variable, is_halted, halted_or, take_request, cut, act}
+use Rattle.cam_runs.specs.HaltedPlaying.{go, play}
 use Rattle.cam_runs.specs.UnderHalts.{IsUnderHalts}
 use Rattle.cam_runs.proofs.Bodies.{node_of_test}
 use Rattle.cam_runs.proofs.MayAsk.{first_two}
@@ -26,7 +27,8 @@ use Rattle.cam_runs.proofs.Lines.{binds_none}
 use Rattle.cam_runs.proofs.HaltedEvents.{ran}
 use Rattle.cam_runs.proofs.HaltedPuts.{pasts, helds, input_both, deliver_both, drain_both}
 use Rattle.cam_runs.proofs.HaltedGoes.{go_both, go_refusal_same, play_both}
-use Rattle.cam_runs.proofs.HaltedTests.{BothPassed, led_none, unless_both, variable_both, letter_both, awake_by, bare_at, request_both, begin_both, start_both, cut_both, restart_both}
+use Rattle.cam_runs.proofs.HaltedTests.{request_both, begin_both, start_both, cut_both, restart_both}
+use Rattle.cam_runs.proofs.HaltedParts.{BothPassed, led_none, unless_both, variable_both, letter_both, awake_by, bare_at}
 
 -- Each line, with the test that its step passes; another line may use its variable only where it is no start.
 pub act_both : (script : Script) (c : Setting) (st : Standing) (does : Act) → IsInRange script → IsUnderHalts script st → is_act script does ≡ true

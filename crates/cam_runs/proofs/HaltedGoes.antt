@@ -33,7 +33,7 @@ use Rattle.cam_runs.specs.InRange.{nests_within, IsInRange}
 use Rattle.cam_runs.specs.UnderWay.{Idle, Known, WorksAt}
 use Rattle.cam_runs.specs.Halts.{accepted}
 use Rattle.cam_runs.specs.Standing.{Standing, Setting, put, made, drain}
-use Rattle.cam_runs.specs.HaltedLines.{given_body, make_request, go, may_go_on, go_in_round, round, rounds, play}
+use Rattle.cam_runs.specs.HaltedPlaying.{given_body, make_request, go, may_go_on, go_in_round, round, rounds, play}
 use Rattle.cam_runs.specs.UnderHalts.{IsUnderHalts}
 use Rattle.cam_runs.proofs.NewActions.{IsNew}
 use Rattle.cam_runs.proofs.BodyRequests.{BodyRequest, body_request_by}

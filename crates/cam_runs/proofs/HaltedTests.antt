@@ -1,108 +1,45 @@
 -- What a line tests and does in a run in which nodes halt: it is under way, and the same by both readings.
-use Rattle.std.proofs.Common.{◌≡◌, inl, inr, ℕ, ◌-◌, eqb, Bool, true, false, not, ◌||◌, if◌then◌else◌, List, [], ◌∷◌, ◌++◌, filter, length, Option, Some, None, refl, sym, ap, ◌∙◌, subst, arith}
-use Rattle.std.specs.Prelude.{slice_get, nat_lt, unwrap_or}
+use Rattle.std.proofs.Common.{◌≡◌, inl, inr, ℕ, ◌-◌, eqb, Bool, true, false, not, ◌||◌, if◌then◌else◌, List, [], ◌∷◌, ◌++◌, filter, length, Some, None, refl, sym, ap, ◌∙◌, subst, arith}
+use Rattle.std.specs.Prelude.{nat_lt}
 use Rattle.std.specs.List.{list_any}
 use Rattle.std.proofs.lemmas.Bool.{true≢false, eqb-true, eq-eqb, or_cases, or_left, or_right}
 use Rattle.std.proofs.lemmas.Option.{same_Some}
 use Rattle.cam_names.specs.declared.name.Name.{Name}
 use Rattle.cam_names.specs.Names.{home_node}
 use Rattle.cam_event.specs.declared.LetterId.{LetterId}
-use Rattle.cam_event.specs.declared.LineRefusal.{LineRefusal}
-use Rattle.cam_event.specs.declared.LineRefusal.TheVariants as refusals
 use Rattle.cam_event.specs.declared.Mark.TheVariants as marks
 use Rattle.cam_event.specs.declared.LetterFault.TheVariants.{Short}
 use Rattle.cam_event.specs.declared.Want.{Want}
 use Rattle.cam_event.specs.declared.Deed.TheVariants.{Crash}
 use Rattle.cam_event.specs.History.{is_crash}
 use Rattle.cam_event.specs.Pasts.{plain_all}
-use Rattle.cam_event.specs.Inputs.{Input, Begins, Requests, Restarts, node_of}
-use Rattle.cam_event.specs.Refusals.{refusal, where_so}
+use Rattle.cam_event.specs.Inputs.{Begins, Requests, Restarts}
+use Rattle.cam_event.specs.Refusals.{refusal}
 use Rattle.cam_event.specs.Readings.{by_pasts, by_knowledge}
 use Rattle.cam_event.specs.Runs.{IsWant, IsNode, MayCome}
-use Rattle.cam_event.specs.ByPast.{next as next_past}
 use Rattle.cam_delta.proofs.SameReadings.{ran_refusals}
 use Rattle.cam_delta.proofs.SpelledLoads.{ran_spellings}
 use Rattle.cam_script.specs.declared.Script.{Script}
 use Rattle.cam_wire.specs.OfTrace.{spelling_of}
 use Rattle.cam_runs.specs.Running.{has_number, letters, letter_of}
-use Rattle.cam_runs.specs.Requests.{home_sight, created_in, variable}
+use Rattle.cam_runs.specs.Requests.{home_sight, created_in}
 use Rattle.cam_runs.specs.Playing.{body_number}
-use Rattle.cam_runs.specs.InRange.{nests_within, is_free}
-use Rattle.cam_runs.specs.UnderWay.{Known, IsBare}
-use Rattle.cam_runs.specs.Halts.{appends}
-use Rattle.cam_runs.specs.Standing.{Standing, Setting, after_input, put, made, deliver, addressee, ended_halt}
-use Rattle.cam_runs.specs.HaltedLines.{Passed, Refused, Led, unless, of_variable, of_letter, is_halted, halted_or, led_creating, requested, led_asking, take_request, cut}
+use Rattle.cam_runs.specs.InRange.{nests_within}
+use Rattle.cam_runs.specs.UnderWay.{IsBare}
+use Rattle.cam_runs.specs.Standing.{Standing, Setting, put, made, deliver, addressee, ended_halt}
+use Rattle.cam_runs.specs.HaltedLines.{unless, is_halted, halted_or, led_creating, led_asking, take_request, cut}
+use Rattle.cam_runs.specs.HaltedPlaying.{requested}
 use Rattle.cam_runs.specs.UnderHalts.{IsUnderHalts}
 use Rattle.cam_runs.proofs.OneEvent.{first_none}
 use Rattle.cam_runs.proofs.MayAsk.{first_two}
 use Rattle.cam_runs.proofs.Delivering.{letters_sent, letter_numbered}
-use Rattle.cam_runs.proofs.Lines.{BindsBare, binds_none, not_both}
+use Rattle.cam_runs.proofs.Lines.{not_both}
 use Rattle.cam_runs.proofs.HaltedEvents.{IsReady, ran}
 use Rattle.cam_runs.proofs.HaltedNew.{asked_new, created_new}
 use Rattle.cam_runs.proofs.HaltedPuts.{pasts, helds, Both, put_both, ready_by, input_both, deliver_both}
 use Rattle.cam_runs.proofs.HaltedGoes.{body_given, given_both}
 use Rattle.cam_event.proofs.Members.{In}
-
--- what a line comes to by the pasts: what it leads to is under way, and its variable may be used as its place says; and by what nodes hold it is the same
-abbrev pub PassedKeeps : Script → Standing → Bool → Passed → Type 0
-PassedKeeps script st free (Refused refusal) = Unit {0}
-PassedKeeps script st free (Led new binds) = IsUnderHalts script new × (new.running.bound ≡ st.running.bound) × (free ≡ true → BindsBare new.running binds)
-
-pub record BothPassed (script : Script) (st : Standing) (free : Bool) (one other : Passed) : Type 0 where
-  pub keeps : PassedKeeps script st free one
-  pub same : other ≡ one
-
--- a line that binds nothing
-pub led_none : (script : Script) (st one other : Standing) (free : Bool) → Both script st one other → BothPassed script st free (Led one None) (Led other None)
-led_none script st one other free h = record { keeps = (h.under, h.bound, λ f. binds_none one.running); same = ap (λ (x : Standing). Led x None) h.same }
-
-pub unless_both : (script : Script) (st : Standing) (free : Bool) (o p : Option LineRefusal) (one other : Passed) → p ≡ o → (o ≡ None → BothPassed script st free one other) → BothPassed script st free (unless o one) (unless p other)
-unless_both script st free o p one other e h = record { keeps = (by o refl).keeps; same = ap (λ x. unless x other) e ∙ (by o refl).same }
-  where
-    by : (x : Option LineRefusal) → o ≡ x → BothPassed script st free (unless x one) (unless x other)
-    by (Some refusal) is = record { keeps = tt; same = refl }
-    by None is = h is
-
-pub variable_both : (script : Script) (st : Standing) (free : Bool) (o : Option Name) (one other : Name → Passed) → ((a : Name) → o ≡ Some a → BothPassed script st free (one a) (other a)) → BothPassed script st free (of_variable o one) (of_variable o other)
-variable_both script st free None one other h = record { keeps = tt; same = refl }
-variable_both script st free (Some a) one other h = h a refl
-
-pub letter_both : (script : Script) (st : Standing) (free : Bool) (o : Option LetterId) (one other : LetterId → Passed) → ((l : LetterId) → o ≡ Some l → BothPassed script st free (one l) (other l)) → BothPassed script st free (of_letter o one) (of_letter o other)
-letter_both script st free None one other h = record { keeps = tt; same = refl }
-letter_both script st free (Some l) one other h = h l refl
-
--- a test that the node is not halted
-pub awake_by : (st : Standing) (s : ℕ) → is_halted st s ≡ None → has_number st.halted s ≡ false
-awake_by st s h = by (has_number st.halted s) h
-  where
-    by : (b : Bool) → where_so b refusals.Halted ≡ None → b ≡ false
-    by true g = cc
-    by false g = refl
-
--- the variable of an action without a body
-pub bare_at : (script : Script) (st : Standing) (v : ℕ) (a : Name) → IsUnderHalts script st → is_free script v ≡ true → variable st.running v ≡ Some a → IsBare (plain_all st.running.trace) st.running.bodies a
-bare_at script st v a under free h = under.bound v a free (by (slice_get st.running.bound v) refl h)
-  where
-    by : (o : Option (Option Name)) → slice_get st.running.bound v ≡ o → unwrap_or o None ≡ Some a → slice_get st.running.bound v ≡ Some (Some a)
-    by None e g = cc
-    by (Some x) e g = e ∙ ap Some g
-
--- an action that was not known is none of those with a body
-no_body : (script : Script) (st : Standing) (a : Name) → IsUnderHalts script st → (Known (plain_all st.running.trace) a → ⊥) → body_number st.running.bodies a ≡ None
-no_body script st a under fresh = by (body_number st.running.bodies a) refl
-  where
-    by : (o : Option ℕ) → body_number st.running.bodies a ≡ o → o ≡ None
-    by None e = refl
-    by (Some n) e = absurd (fresh (under.works a n e).known)
-
--- no input changes which actions have bodies
-put_bodies : (script : Script) (c : Setting) (st : Standing) (input : Input) → (put (pasts script c) st input).running.bodies ≡ st.running.bodies
-put_bodies script c st input = by (c.halts st.turns (node_of st.running.trace input) (appends (by_pasts script.objects) st.running.trace input) (c.restarted (node_of st.running.trace input)))
-  where
-    by : (o : Option Bool) → (after_input c.line (c.restarted (node_of st.running.trace input)) st (node_of st.running.trace input) (next_past script.objects st.running.trace input) (appends (by_pasts script.objects) st.running.trace input) o).running.bodies ≡ st.running.bodies
-    by None = refl
-    by (Some true) = refl
-    by (Some false) = refl
+use Rattle.cam_runs.proofs.HaltedParts.{BothPassed, unless_both, awake_by, no_body, put_bodies}
 
 -- a request of an action without a body
 pub request_both : (script : Script) (c : Setting) (st : Standing) (a : Name) (want : Want) → IsUnderHalts script st → IsBare (plain_all st.running.trace) st.running.bodies a → IsWant script.objects want
