@@ -24,7 +24,7 @@ use Rattle.cam_storm.specs.Lawful.{named, names, sends, goes_to, mail_in, load_i
 use Rattle.cam_storm.specs.Core.{Keeps, IsDriven, IsAnswer, is_idle, used_by}
 use Rattle.cam_storm.specs.Laws.{AnswersAreLawful}
 use Rattle.cam_storm.proofs.Idle.{keeps_of}
-use Rattle.cam_storm.proofs.Sound.{letters_may_come}
+use Rattle.cam_storm.proofs.SoundLetters.{letters_may_come}
 
 -- no node restarts among its top actions
 tops_few : (words : Words) (s : ℕ) → words.actions ≤ 64 → tops_of words s ≤ 17

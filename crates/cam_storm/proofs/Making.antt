@@ -1,11 +1,10 @@
 -- What a rule makes of a letter or request that may be put to a node: of its deeds what is created, called and crashed, and of its letters where
 -- they go and what they depend on.
-use Rattle.std.proofs.Common.{◌≡◌, ◌⊎◌, inl, inr, ℕ, ◌≤◌, eqb, Bool, true, false, not, ◌||◌, if◌then◌else◌, List, [], ◌∷◌, map, filter, Option, Some, None, refl, sym, ap, ◌∙◌, subst, arith}
+use Rattle.std.proofs.Common.{◌≡◌, inl, inr, ℕ, ◌≤◌, eqb, Bool, true, false, not, ◌||◌, if◌then◌else◌, List, [], ◌∷◌, Option, Some, None, refl, sym, ◌∙◌, arith}
 use Rattle.std.specs.Prelude.{nat_lt, find, unwrap_or}
 use Rattle.std.specs.List.{list_any}
 use Rattle.cam_names.specs.declared.name.Name.{Name}
-use Rattle.cam_names.specs.Names.{is_ancestor, ancestors, parent, home_node, home_count}
-use Rattle.cam_names.specs.Part.{PartFields}
+use Rattle.cam_names.specs.Names.{ancestors, parent, home_node, home_count}
 use Rattle.cam_names.specs.Dependencies.{pairs_of}
 use Rattle.cam_type.specs.declared.ObjectDecl.{ObjectDecl}
 use Rattle.cam_type.specs.declared.Op.{Op}
@@ -15,186 +14,86 @@ use Rattle.cam_event.specs.declared.Reply.{Reply}
 use Rattle.cam_event.specs.declared.Reply.TheVariants as replies
 use Rattle.cam_event.specs.declared.Body.{Body}
 use Rattle.cam_event.specs.declared.Body.TheVariants as bodies
-use Rattle.cam_event.specs.declared.Want.{Want}
-use Rattle.cam_event.specs.declared.Want.TheVariants as wants
-use Rattle.cam_event.specs.declared.Note.{Note}
 use Rattle.cam_event.specs.declared.Note.TheVariants as notes
-use Rattle.cam_event.specs.declared.Sent.{Sent}
-use Rattle.cam_event.specs.declared.Deed.{Deed}
-use Rattle.cam_event.specs.declared.Deed.TheVariants.{Create, Ask, Call, Perform, Bounce, Got, AskCommit, AskAbort, Secure, Crash}
+use Rattle.cam_event.specs.declared.Deed.TheVariants.{Create, Perform, Bounce, Got, Secure, Crash}
 use Rattle.cam_event.specs.History.{Addressed, created, secured_at, call_of}
 use Rattle.cam_event.specs.Live.{site_of}
 use Rattle.cam_event.specs.Inputs.{Input, Begins, Requests, Receives, Tells, Queries, Restarts, Mail, decider}
 use Rattle.cam_event.specs.Sights.{Sight, present, is_present, knows_outcome, is_preparing, kept_reply, votes}
-use Rattle.cam_event.specs.Rules.{Did, did, nothing_but, answers, send, one, stopped_by, commits, aborts, news, wanted, top_name, child_name, with_home, start_comes, lift_here, is_conflict_here, on_object, bounced, served, refused_or_served, again_or, call_comes, awaits, got_reply, gone_or, answer_comes, decides_child, commits_or_aborts, prepares, finish_comes, quit_comes, vote, prepare_comes, all_yes, vote_comes, query_comes, arrives, rule}
-use Rattle.cam_event.specs.Runs.{IsWant}
-use Rattle.cam_event.proofs.Members.{In}
+use Rattle.cam_event.specs.Rules.{Did, did, nothing_but, answers, send, one, stopped_by, commits, aborts, news, wanted, top_name, with_home, start_comes, lift_here, is_conflict_here, on_object, bounced, served, refused_or_served, again_or, call_comes, awaits, got_reply, gone_or, answer_comes, decides_child, commits_or_aborts, prepares, finish_comes, quit_comes, vote, prepare_comes, all_yes, vote_comes, query_comes, arrives, rule}
 use Rattle.cam_event.specs.Loads.{Load}
-use Rattle.cam_node.specs.Lawful.{IsForNode, body_counts, IsLetter, MayBePut}
-use Rattle.cam_cut.proofs.HomeFacts.{child_decider}
-use Rattle.cam_cut.proofs.HomeLines.{last_more, child_more}
-use Rattle.cam_cut.proofs.Lists.{in_image}
-use Rattle.cam_storm.specs.Runs.{is_restart}
+use Rattle.cam_node.specs.Lawful.{IsLetter, MayBePut}
 use Rattle.cam_storm.specs.Lawful.{IsFrom, ComesFrom}
-use Rattle.cam_storm.proofs.Driving.{named_at}
-
--- the start of an action came, for the node's present count
-abbrev pub StartOf : Sight → Option Mail → Name → Type 0
-StartOf g None b = ⊥
-StartOf g (Some mail) b = (counts : List ℕ) × (mail.body ≡ bodies.Start b counts) × (is_present g b ≡ true)
-
--- a deed of a rule
-abbrev pub DeedFine : List ObjectDecl → Sight → Option Mail → Input → Deed → Type 0
-DeedFine objects g mail input (Create b) = (b ≡ top_name g) ⊎ StartOf g mail b
-DeedFine objects g mail input (Call a n x op c) = c ≡ g.known_count (site_of objects x)
-DeedFine objects g mail input (Crash m) = is_restart input ≡ true
-DeedFine objects g mail input _ = Unit {0}
-
--- a letter that it sends
-pub record LetterFine (objects : List ObjectDecl) (g : Sight) (m : Sent) : Type 0 where
-  pub for_node : IsForNode objects m.to m.body
-  pub counts : (body_counts m.body ≡ []) ⊎ ((a : Name) × (body_counts m.body ≡ g.deps a))
-  pub from : IsFrom g.node m.body
-
-pub record Fine (objects : List ObjectDecl) (g : Sight) (mail : Option Mail) (input : Input) (d : Did) : Type 0 where
-  pub deeds : (x : Deed) → In x d.deeds → DeedFine objects g mail input x
-  pub sent : (m : Sent) → In m d.sent → LetterFine objects g m
+use Rattle.cam_storm.proofs.Rules.{StartOf, LetterFine, Fine, if_fine, none_fine, stopped_fine, one_sent, answers_fine, deed_fine, both_fine, aborts_deeds, commits_deeds, news_one, news_fine, prepares_sent, wanted_fine}
 
 module _ (objects : List ObjectDecl) (g : Sight) (mail : Option Mail) (input : Input) where
-  if_fine : (b : Bool) (d e : Did) → (b ≡ true → Fine objects g mail input d) → (b ≡ false → Fine objects g mail input e) → Fine objects g mail input (if b then d else e)
-  if_fine true d e h k = h refl
-  if_fine false d e h k = k refl
-
-  none_fine : (note : Note) → Fine objects g mail input (nothing_but note)
-  none_fine note = record { deeds = λ x i. absurd i; sent = λ m i. absurd i }
-
-  stopped_fine : (a : Name) (o : Option Reason) (d : Did) → Fine objects g mail input d → Fine objects g mail input (stopped_by a o d)
-  stopped_fine a None d h = h
-  stopped_fine a (Some reason) d h = none_fine (notes.Stopped a reason)
-
-  one_sent : (k : Sent) → LetterFine objects g k → (m : Sent) → In m (one k) → LetterFine objects g m
-  one_sent k h m (inl e) = subst (LetterFine objects g) (sym e) h
-  one_sent k h m (inr r) = absurd r
-
-  one_deed : (d : Deed) → DeedFine objects g mail input d → (x : Deed) → In x (one d) → DeedFine objects g mail input x
-  one_deed d h x (inl e) = subst (DeedFine objects g mail input) (sym e) h
-  one_deed d h x (inr r) = absurd r
-
-  answers_fine : (note : Note) (k : Sent) → LetterFine objects g k → Fine objects g mail input (answers note (one k))
-  answers_fine note k h = record { deeds = λ x i. absurd i; sent = one_sent k h }
-
-  deed_fine : (d : Deed) → DeedFine objects g mail input d → Fine objects g mail input (did (one d) [])
-  deed_fine d h = record { deeds = one_deed d h; sent = λ m i. absurd i }
-
-  both_fine : (d : Deed) (k : Sent) → DeedFine objects g mail input d → LetterFine objects g k → Fine objects g mail input (did (one d) (one k))
-  both_fine d k h j = record { deeds = one_deed d h; sent = one_sent k j }
-
-  aborts_deeds : (b : Name) (x : Deed) → In x (aborts g b) → DeedFine objects g mail input x
-  aborts_deeds b x (inl e) = subst (DeedFine objects g mail input) (sym e) tt
-  aborts_deeds b x (inr (inl e)) = subst (DeedFine objects g mail input) (sym e) tt
-  aborts_deeds b x (inr (inr r)) = absurd r
-
-  commits_deeds : (b : Name) (x : Deed) → In x (commits g b) → DeedFine objects g mail input x
-  commits_deeds b x (inl e) = subst (DeedFine objects g mail input) (sym e) tt
-  commits_deeds b x (inr (inl e)) = subst (DeedFine objects g mail input) (sym e) tt
-  commits_deeds b x (inr (inr r)) = absurd r
-
-  news_one : (to : ℕ) → LetterFine objects g (send to bodies.News)
-  news_one to = record { for_node = tt; counts = inl refl; from = tt }
-
-  all_news : (ps : List (ℕ × ℕ)) (m : Sent) → In m (map (λ p. send p.0 bodies.News) ps) → LetterFine objects g m
-  all_news ps m i = let found = in_image (λ (p : ℕ × ℕ). send p.0 bodies.News) ps m i in subst (LetterFine objects g) (sym found.2) (news_one found.0.0)
-
-  news_fine : (f : Name) (m : Sent) → In m (news g f) → LetterFine objects g m
-  news_fine f m i = all_news (filter (λ p. not (eqb p.0 g.node)) (pairs_of (g.deps f))) m i
-
-  prepares_sent : (a : Name) (ps : List (ℕ × ℕ)) (m : Sent) → In m (map (λ p. send p.0 (bodies.Prepare a p.1)) ps) → LetterFine objects g m
-  prepares_sent a ps m i =
-      let found = in_image (λ (p : ℕ × ℕ). send p.0 (bodies.Prepare a p.1)) ps m i in
-      subst (LetterFine objects g) (sym found.2) (record { for_node = tt; counts = inl refl; from = tt })
-
-  -- a request
-  wanted_fine : (a : Name) (want : Want) → 1 ≤ g.node → home_node a ≡ g.node → IsWant objects want → Fine objects g mail input (wanted objects g a want)
-  wanted_fine a (wants.Ask m) low home is =
-      let named : is_ancestor a a ≡ true = named_at a (omega (arith, low, home)) in
-      both_fine (Ask a (child_name g a m)) (send m (bodies.Start (child_name g a m) (g.deps a))) tt
-      (record {
-        for_node = ap (λ (x : PartFields). x.node) (last_more a _);
-        counts = inr (a, refl);
-        from = child_decider a (child_name g a m) named (child_more a _) ∙ home;
-      })
-  wanted_fine a (wants.Call x op) low home is = both_fine _ _ refl (record { for_node = (refl, is.0); counts = inr (a, refl); from = tt })
-  wanted_fine a (wants.Commit v) low home is = both_fine (AskCommit a v) (send (decider a) (bodies.Finish a v (g.deps a))) tt (record { for_node = refl; counts = inr (a, refl); from = tt })
-  wanted_fine a wants.Abort low home is = both_fine (AskAbort a) (send (decider a) (bodies.Quit a)) tt (record { for_node = refl; counts = inl refl; from = tt })
-  wanted_fine a (wants.GiveUp b) low home is = record { deeds = aborts_deeds b; sent = λ m i. absurd i }
-
   -- a call
   reply_fine : (a : Name) (n : ℕ) (reply : Reply) → LetterFine objects g (send (home_node a) (bodies.Answer a n reply))
   reply_fine a n reply = record { for_node = refl; counts = inl refl; from = tt }
 
   bounced_fine : (a : Name) (n : ℕ) (o : Option Name) → Fine objects g mail input (bounced a n o)
-  bounced_fine a n None = none_fine notes.Plain
-  bounced_fine a n (Some u) = both_fine (Bounce a n u) _ tt (reply_fine a n (replies.Busy u))
+  bounced_fine a n None = none_fine objects g mail input notes.Plain
+  bounced_fine a n (Some u) = both_fine objects g mail input (Bounce a n u) _ tt (reply_fine a n (replies.Busy u))
 
   served_fine : (a : Name) (n x : ℕ) (op : Op) (o : Option Operation) → Fine objects g mail input (served objects g a n x op o)
   served_fine a n x op (Some o) = bounced_fine a n (lift_here g o.action)
-  served_fine a n x op None = both_fine (Perform a n _) _ tt (reply_fine a n (replies.Done _))
+  served_fine a n x op None = both_fine objects g mail input (Perform a n _) _ tt (reply_fine a n (replies.Done _))
 
   refused_fine : (a : Name) (n x : ℕ) (op : Op) (o : Option Reason) → Fine objects g mail input (refused_or_served objects g a n x op o)
-  refused_fine a n x op (Some reason) = answers_fine (notes.Stopped a reason) _ (reply_fine a n replies.Refused)
+  refused_fine a n x op (Some reason) = answers_fine objects g mail input (notes.Stopped a reason) _ (reply_fine a n replies.Refused)
   refused_fine a n x op None = served_fine a n x op (find (is_conflict_here g a op) (on_object x g.live))
 
   again_fine : (a : Name) (n : ℕ) (o : Option Reply) (d : Did) → Fine objects g mail input d → Fine objects g mail input (again_or a n o d)
-  again_fine a n (Some reply) d h = answers_fine notes.Again _ (reply_fine a n reply)
+  again_fine a n (Some reply) d h = answers_fine objects g mail input notes.Again _ (reply_fine a n reply)
   again_fine a n None d h = h
 
   call_fine : (a : Name) (n x : ℕ) (op : Op) (c : ℕ) (counts : List ℕ) → Fine objects g mail input (call_comes objects g a n x op c counts)
   call_fine a n x op c counts =
       let rest : Did = again_or a n (kept_reply g.deeds a n) (refused_or_served objects g a n x op (g.orphan a (pairs_of counts))) in
-      if_fine (not (eqb c (present g))) (answers notes.Missed (one (send (home_node a) (bodies.Answer a n replies.Missed)))) (if list_any g.knows_commit (ancestors a) then nothing_but notes.Ended else rest) (λ e. answers_fine notes.Missed _ (reply_fine a n replies.Missed))
-      (λ e. if_fine (list_any g.knows_commit (ancestors a)) (nothing_but notes.Ended) rest (λ f. none_fine notes.Ended)
+      if_fine objects g mail input (not (eqb c (present g))) (answers notes.Missed (one (send (home_node a) (bodies.Answer a n replies.Missed)))) (if list_any g.knows_commit (ancestors a) then nothing_but notes.Ended else rest) (λ e. answers_fine objects g mail input notes.Missed _ (reply_fine a n replies.Missed))
+      (λ e. if_fine objects g mail input (list_any g.knows_commit (ancestors a)) (nothing_but notes.Ended) rest (λ f. none_fine objects g mail input notes.Ended)
       (λ f. again_fine a n (kept_reply g.deeds a n) (refused_or_served objects g a n x op (g.orphan a (pairs_of counts))) (refused_fine a n x op (g.orphan a (pairs_of counts)))))
 
   -- an answer
   got_fine : (a : Name) (n : ℕ) (reply : Reply) → Fine objects g mail input (got_reply a n reply)
-  got_fine a n (replies.Done answer) = deed_fine (Got a n _) tt
-  got_fine a n (replies.Busy u) = deed_fine (Got a n _) tt
-  got_fine a n replies.Missed = none_fine notes.Late
-  got_fine a n replies.Refused = none_fine notes.Late
+  got_fine a n (replies.Done answer) = deed_fine objects g mail input (Got a n _) tt
+  got_fine a n (replies.Busy u) = deed_fine objects g mail input (Got a n _) tt
+  got_fine a n replies.Missed = none_fine objects g mail input notes.Late
+  got_fine a n replies.Refused = none_fine objects g mail input notes.Late
 
   gone_fine : (a : Name) (n : ℕ) (o : Option Addressed) (d : Did) → Fine objects g mail input d → Fine objects g mail input (gone_or objects g a n o d)
-  gone_fine a n None d h = none_fine notes.Late
-  gone_fine a n (Some call) d h = if_fine (nat_lt call.count (g.known_count (site_of objects call.object))) (did (one (Got a n _)) []) d (λ e. deed_fine (Got a n _) tt) (λ e. h)
+  gone_fine a n None d h = none_fine objects g mail input notes.Late
+  gone_fine a n (Some call) d h = if_fine objects g mail input (nat_lt call.count (g.known_count (site_of objects call.object))) (did (one (Got a n _)) []) d (λ e. deed_fine objects g mail input (Got a n _) tt) (λ e. h)
 
   answer_fine : (a : Name) (n : ℕ) (reply : Reply) → Fine objects g mail input (answer_comes objects g a n reply)
   answer_fine a n reply =
       let rest : Did = gone_or objects g a n (call_of g.deeds a n) (got_reply a n reply) in
-      if_fine (not (awaits g a n)) (nothing_but notes.Late) (stopped_by a (g.orphan a (pairs_of (g.deps a))) rest) (λ e. none_fine notes.Late)
-      (λ e. stopped_fine a (g.orphan a (pairs_of (g.deps a))) rest (gone_fine a n (call_of g.deeds a n) (got_reply a n reply) (got_fine a n reply)))
+      if_fine objects g mail input (not (awaits g a n)) (nothing_but notes.Late) (stopped_by a (g.orphan a (pairs_of (g.deps a))) rest) (λ e. none_fine objects g mail input notes.Late)
+      (λ e. stopped_fine objects g mail input a (g.orphan a (pairs_of (g.deps a))) rest (gone_fine a n (call_of g.deeds a n) (got_reply a n reply) (got_fine a n reply)))
 
   -- a finish or a quit
   decided_fine : (b : Name) (o : Option Reason) → Fine objects g mail input (commits_or_aborts g b o)
-  decided_fine b None = record { deeds = commits_deeds b; sent = λ m i. absurd i }
-  decided_fine b (Some reason) = record { deeds = aborts_deeds b; sent = λ m i. absurd i }
+  decided_fine b None = record { deeds = commits_deeds objects g mail input b; sent = λ m i. absurd i }
+  decided_fine b (Some reason) = record { deeds = aborts_deeds objects g mail input b; sent = λ m i. absurd i }
 
   prepares_fine : (a : Name) (o : Option Reason) → Fine objects g mail input (prepares g a o)
-  prepares_fine a None = record { deeds = λ x i. absurd i; sent = prepares_sent a (pairs_of (g.deps a)) }
-  prepares_fine a (Some reason) = record { deeds = aborts_deeds a; sent = news_fine a }
+  prepares_fine a None = record { deeds = λ x i. absurd i; sent = prepares_sent objects g mail input a (pairs_of (g.deps a)) }
+  prepares_fine a (Some reason) = record { deeds = aborts_deeds objects g mail input a; sent = news_fine objects g mail input a }
 
   finish_fine : (b : Name) (p : Option Name) (counts : List ℕ) → Fine objects g mail input (finish_comes g b p counts)
   finish_fine b (Some p) counts =
       let rest : Did = commits_or_aborts g b (g.orphan b (pairs_of counts)) in
-      if_fine (not (decides_child g p b)) (nothing_but notes.Late) (stopped_by p (g.orphan p (pairs_of (g.deps p))) rest) (λ e. none_fine notes.Late)
-      (λ e. stopped_fine p (g.orphan p (pairs_of (g.deps p))) rest (decided_fine b (g.orphan b (pairs_of counts))))
+      if_fine objects g mail input (not (decides_child g p b)) (nothing_but notes.Late) (stopped_by p (g.orphan p (pairs_of (g.deps p))) rest) (λ e. none_fine objects g mail input notes.Late)
+      (λ e. stopped_fine objects g mail input p (g.orphan p (pairs_of (g.deps p))) rest (decided_fine b (g.orphan b (pairs_of counts))))
   finish_fine b None counts =
-      if_fine (not (is_present g b) || knows_outcome g b || is_preparing g b) (nothing_but notes.Late) (prepares g b (g.orphan b (pairs_of (g.deps b)))) (λ e. none_fine notes.Late) (λ e. prepares_fine b (g.orphan b (pairs_of (g.deps b))))
+      if_fine objects g mail input (not (is_present g b) || knows_outcome g b || is_preparing g b) (nothing_but notes.Late) (prepares g b (g.orphan b (pairs_of (g.deps b)))) (λ e. none_fine objects g mail input notes.Late) (λ e. prepares_fine b (g.orphan b (pairs_of (g.deps b))))
 
   quit_fine : (b : Name) (p : Option Name) → Fine objects g mail input (quit_comes g b p)
   quit_fine b (Some p) =
-      if_fine (not (decides_child g p b)) (nothing_but notes.Late) (stopped_by p (g.orphan p (pairs_of (g.deps p))) (did (aborts g b) [])) (λ e. none_fine notes.Late)
-      (λ e. stopped_fine p (g.orphan p (pairs_of (g.deps p))) (did (aborts g b) []) (record { deeds = aborts_deeds b; sent = λ m i. absurd i }))
+      if_fine objects g mail input (not (decides_child g p b)) (nothing_but notes.Late) (stopped_by p (g.orphan p (pairs_of (g.deps p))) (did (aborts g b) [])) (λ e. none_fine objects g mail input notes.Late)
+      (λ e. stopped_fine objects g mail input p (g.orphan p (pairs_of (g.deps p))) (did (aborts g b) []) (record { deeds = aborts_deeds objects g mail input b; sent = λ m i. absurd i }))
   quit_fine b None =
-      if_fine (not (is_present g b) || knows_outcome g b) (nothing_but notes.Late) (did (aborts g b) (news g b)) (λ e. none_fine notes.Late) (λ e. record { deeds = aborts_deeds b; sent = news_fine b })
+      if_fine objects g mail input (not (is_present g b) || knows_outcome g b) (nothing_but notes.Late) (did (aborts g b) (news g b)) (λ e. none_fine objects g mail input notes.Late) (λ e. record { deeds = aborts_deeds objects g mail input b; sent = news_fine objects g mail input b })
 
   -- a prepare, a vote, a query
   vote_one : (f : Name) (c : ℕ) (agrees : Bool) → LetterFine objects g (send (home_node f) (bodies.Vote f c agrees))
@@ -205,33 +104,33 @@ module _ (objects : List ObjectDecl) (g : Sight) (mail : Option Mail) (input : I
       let last : Did = did (one (Secure f g.node c)) (vote f c true) in
       let third : Did = if not (eqb c (present g)) then answers notes.Missed (vote f c false) else last in
       let second : Did = if secured_at g.deeds f g.node then answers notes.Again (vote f c true) else third in
-      if_fine (knows_outcome g f) (nothing_but notes.Late) second (λ e. none_fine notes.Late)
-      (λ e. if_fine (secured_at g.deeds f g.node) (answers notes.Again (vote f c true)) third (λ x. answers_fine notes.Again _ (vote_one f c true))
-      (λ x. if_fine (not (eqb c (present g))) (answers notes.Missed (vote f c false)) last (λ y. answers_fine notes.Missed _ (vote_one f c false)) (λ y. both_fine (Secure f g.node c) _ tt (vote_one f c true))))
+      if_fine objects g mail input (knows_outcome g f) (nothing_but notes.Late) second (λ e. none_fine objects g mail input notes.Late)
+      (λ e. if_fine objects g mail input (secured_at g.deeds f g.node) (answers notes.Again (vote f c true)) third (λ x. answers_fine objects g mail input notes.Again _ (vote_one f c true))
+      (λ x. if_fine objects g mail input (not (eqb c (present g))) (answers notes.Missed (vote f c false)) last (λ y. answers_fine objects g mail input notes.Missed _ (vote_one f c false)) (λ y. both_fine objects g mail input (Secure f g.node c) _ tt (vote_one f c true))))
 
   vote_fine : (from : ℕ) (f : Name) (c : ℕ) (agrees : Bool) → Fine objects g mail input (vote_comes g from f c agrees)
   vote_fine from f c agrees =
       let all : Bool = all_yes ((from, c) ∷ unwrap_or (votes g.events f) []) (g.deps f) in
       let third : Did = if all then did (commits g f) (news g f) else nothing_but notes.Voted in
       let second : Did = if not agrees then did (aborts g f) (news g f) else third in
-      if_fine (not (is_present g f) || not (is_preparing g f) || knows_outcome g f) (nothing_but notes.Late) second (λ e. none_fine notes.Late)
-      (λ e. if_fine (not agrees) (did (aborts g f) (news g f)) third (λ x. record { deeds = aborts_deeds f; sent = news_fine f })
-      (λ x. if_fine all (did (commits g f) (news g f)) (nothing_but notes.Voted) (λ y. record { deeds = commits_deeds f; sent = news_fine f }) (λ y. none_fine notes.Voted)))
+      if_fine objects g mail input (not (is_present g f) || not (is_preparing g f) || knows_outcome g f) (nothing_but notes.Late) second (λ e. none_fine objects g mail input notes.Late)
+      (λ e. if_fine objects g mail input (not agrees) (did (aborts g f) (news g f)) third (λ x. record { deeds = aborts_deeds objects g mail input f; sent = news_fine objects g mail input f })
+      (λ x. if_fine objects g mail input all (did (commits g f) (news g f)) (nothing_but notes.Voted) (λ y. record { deeds = commits_deeds objects g mail input f; sent = news_fine objects g mail input f }) (λ y. none_fine objects g mail input notes.Voted)))
 
   query_fine : (from : ℕ) (f : Name) → Fine objects g mail input (query_comes g from f)
   query_fine from f =
       let second : Did = if nat_lt (home_count f) (present g) then did (aborts g f) (one (send from bodies.News)) else nothing_but notes.Late in
-      if_fine (knows_outcome g f) (did [] (one (send from bodies.News))) second (λ e. record { deeds = λ x i. absurd i; sent = one_sent _ (news_one from) })
-      (λ e. if_fine (nat_lt (home_count f) (present g)) (did (aborts g f) (one (send from bodies.News))) (nothing_but notes.Late) (λ x. record { deeds = aborts_deeds f; sent = one_sent _ (news_one from) }) (λ x. none_fine notes.Late))
+      if_fine objects g mail input (knows_outcome g f) (did [] (one (send from bodies.News))) second (λ e. record { deeds = λ x i. absurd i; sent = one_sent objects g mail input _ (news_one objects g mail input from) })
+      (λ e. if_fine objects g mail input (nat_lt (home_count f) (present g)) (did (aborts g f) (one (send from bodies.News))) (nothing_but notes.Late) (λ x. record { deeds = aborts_deeds objects g mail input f; sent = one_sent objects g mail input _ (news_one objects g mail input from) }) (λ x. none_fine objects g mail input notes.Late))
 
   -- a start, whose letter comes from the node that decides the child
   start_fine : (from : ℕ) (b : Name) (counts : List ℕ) → decider b ≡ from → (is_present g b ≡ true → StartOf g mail b) → Fine objects g mail input (start_comes g from b counts)
   start_fine from b counts decides starts =
       let last : Did = stopped_by b (g.orphan b (with_home counts b)) (did (one (Create b)) []) in
       let second : Did = if created g.deeds b then nothing_but notes.Again else last in
-      if_fine (not (is_present g b)) (answers notes.Missed (one (send from (bodies.Quit b)))) second (λ e. answers_fine notes.Missed _ (record { for_node = decides; counts = inl refl; from = tt }))
-      (λ e. if_fine (created g.deeds b) (nothing_but notes.Again) last (λ x. none_fine notes.Again)
-      (λ x. stopped_fine b (g.orphan b (with_home counts b)) (did (one (Create b)) []) (deed_fine (Create b) (inr (starts (not_not (is_present g b) e))))))
+      if_fine objects g mail input (not (is_present g b)) (answers notes.Missed (one (send from (bodies.Quit b)))) second (λ e. answers_fine objects g mail input notes.Missed _ (record { for_node = decides; counts = inl refl; from = tt }))
+      (λ e. if_fine objects g mail input (created g.deeds b) (nothing_but notes.Again) last (λ x. none_fine objects g mail input notes.Again)
+      (λ x. stopped_fine objects g mail input b (g.orphan b (with_home counts b)) (did (one (Create b)) []) (deed_fine objects g mail input (Create b) (inr (starts (not_not (is_present g b) e))))))
     where
       not_not : (x : Bool) → not x ≡ false → x ≡ true
       not_not true h = refl

@@ -1,99 +1,51 @@
 -- What a node of a storm holds covers what its actions depend on and what its commits depend on; so each letter that it sends may be handed over.
-use Rattle.std.proofs.Common.{eqb, ◌≡◌, ◌⊎◌, inl, inr, ℕ, ◌+◌, ◌-◌, ◌≤◌, Bool, true, false, if◌then◌else◌, List, [], ◌∷◌, ◌++◌, map, length, reverse, Option, Some, None, refl, sym, ap, ◌∙◌, subst, arith, max}
-use Rattle.std.specs.Prelude.{flat_map, slice_get, slice_index}
-use Rattle.std.specs.List.{list_any, list_all}
-use Rattle.std.proofs.lemmas.List.{get_or-set_same, get_or-replicate}
-use Rattle.std.proofs.lemmas.Bool.Decides.{eqb_tells}
-use Rattle.std.proofs.lemmas.Bool.{true≢false, false_from_ne_true, eqb-true, eq-eqb}
+use Rattle.std.proofs.Common.{◌≡◌, ◌⊎◌, inl, inr, ℕ, ◌+◌, ◌-◌, ◌≤◌, Bool, true, false, if◌then◌else◌, List, [], ◌∷◌, ◌++◌, map, length, Option, Some, None, refl, sym, ap, ◌∙◌, subst, arith, max}
+use Rattle.std.specs.Prelude.{flat_map, slice_index}
+use Rattle.std.proofs.lemmas.List.{get_or-set_same}
+use Rattle.std.proofs.lemmas.Bool.{eqb-true, eq-eqb}
 use Rattle.cam_names.specs.declared.name.Name.{Name}
 use Rattle.cam_names.specs.Names.{name_eq, is_top, is_child, home_node, home_count}
 use Rattle.cam_names.specs.Dependencies.{as_counts, pairs_of}
 use Rattle.cam_type.specs.declared.ObjectDecl.{ObjectDecl}
 use Rattle.cam_type.specs.declared.Op.{Op}
-use Rattle.cam_know.specs.declared.Outcome.{Outcome}
-use Rattle.cam_know.specs.declared.Outcome.TheVariants.{Aborted, Committed}
+use Rattle.cam_know.specs.declared.Outcome.TheVariants.{Committed}
 use Rattle.cam_know.specs.Knowledge.{Knowledge}
-use Rattle.cam_know.specs.Known.{nothing, known_count, new_aborts, new_commits, both, with_count}
+use Rattle.cam_know.specs.Known.{known_count, both, with_count}
 use Rattle.cam_know.proofs.JoinLaws.{join_knows_at_least}
-use Rattle.cam_event.specs.declared.Event.{Event}
-use Rattle.cam_event.specs.declared.Sent.{Sent}
 use Rattle.cam_event.specs.declared.Body.{Body}
 use Rattle.cam_event.specs.declared.Seen.TheVariants as seens
 use Rattle.cam_event.specs.declared.Deed.{Deed}
 use Rattle.cam_event.specs.declared.Deed.TheVariants.{Create, Ask, Call, Perform, Bounce, Got, AskCommit, AskAbort, Commit, Abort, Secure, Inform, Crash}
-use Rattle.cam_event.specs.History.{after, count, is_crash, call_of}
+use Rattle.cam_event.specs.History.{after, count, call_of}
 use Rattle.cam_event.specs.Gained.{home, visited}
 use Rattle.cam_event.specs.Live.{site_of}
 use Rattle.cam_event.specs.Inputs.{Input, Begins, Requests, Receives, Tells, Queries, Restarts, Mail}
 use Rattle.cam_event.specs.Sights.{Sight, present}
-use Rattle.cam_event.specs.Rules.{Did, rule, top_name}
+use Rattle.cam_event.specs.Rules.{rule, top_name}
 use Rattle.cam_event.specs.ByKnowledge.{Carried, deeds_of, start_counts, finish_counts, gained_by, own_pairs, commit_counts, learned_by, held, held_informs, held_sight}
 use Rattle.cam_event.proofs.Agree.{count_after_other}
-use Rattle.cam_event.proofs.Members.{In, in_append, in_after, any_in}
-use Rattle.cam_node.specs.Lawful.{IsForNode, body_counts, are_known, is_known_outcome}
+use Rattle.cam_event.proofs.Members.{In, in_append, in_after}
+use Rattle.cam_node.specs.Lawful.{IsForNode}
 use Rattle.cam_cut.proofs.DepsFacts.{in_visited}
-use Rattle.cam_cut.proofs.Informs.{IsInformAt, in_informs, keep_informs, after_append}
+use Rattle.cam_cut.proofs.Informs.{IsInformAt, after_append}
 use Rattle.cam_cut.proofs.LegalFacts.{call_in}
-use Rattle.cam_cut.proofs.Lists.{flat_in, slice_in, all_in}
+use Rattle.cam_cut.proofs.Lists.{flat_in}
 use Rattle.cam_cut.proofs.Pairs.{pairs_in}
 use Rattle.cam_agree.proofs.DepsLearned.{in_both_known, learned}
-use Rattle.cam_journal.specs.declared.entry.Entry.{Entry}
 use Rattle.cam_journal.specs.declared.entry.Sent.{Sent as Taken}
 use Rattle.cam_gen.specs.Storms.{Words, objects_of}
 use Rattle.cam_know.specs.Order.{told_in_order}
 use Rattle.cam_event.specs.Loads.{Load}
-use Rattle.cam_event.specs.ByDeltas.{Received, as_carried, known, acked_of, load_for}
-use Rattle.cam_delta.proofs.DeltaLists.{in_drop}
+use Rattle.cam_event.specs.ByDeltas.{Received, as_carried}
 use Rattle.cam_storm.specs.declared.Copied.{Copied}
 use Rattle.cam_storm.specs.declared.Stepped.{Stepped}
 use Rattle.cam_storm.specs.Runs.{is_restart}
-use Rattle.cam_storm.specs.Own.{own_sent}
-use Rattle.cam_storm.specs.Lawful.{mail_in, load_in, carried, carried_in, own_history, IsCopied, IsFrom, IsStormStep, IsStormHistory}
-use Rattle.cam_storm.specs.Laws.{LettersMayCome}
-use Rattle.cam_storm.proofs.Letters.{copied_at}
-use Rattle.cam_storm.proofs.Making.{StartOf, DeedFine, LetterFine, Fine, rule_fine}
-use Rattle.cam_storm.proofs.Covered.{Covers, Sound, learned_grow, learned_long, greater_long, learned_informs, Brings, brings, covers_all, start_known, finish_known, outcome_known, comes_from, no_tell, no_query}
+use Rattle.cam_storm.specs.Lawful.{mail_in, load_in, carried, IsStormStep}
+use Rattle.cam_storm.proofs.Rules.{StartOf, DeedFine}
+use Rattle.cam_storm.proofs.Covered.{Covers, Sound, learned_grow, learned_long, greater_long, learned_informs, Brings, start_known, finish_known, outcome_known}
+use Rattle.cam_storm.proofs.SoundSteps.{Next, next_of, first_inform, deed_of, present_is, no_crash}
 
--- what is known of one more event
-record Next (words : Words) (s : ℕ) (own : List Carried) (mail : Option Mail) (load : Load) (input : Input) (ds : List Deed) (did : Did) : Type 0 where
-  deeds : ds ≡ held_informs (objects_of words) s own (told_in_order load.know) ++ did.deeds
-  fine : Fine (objects_of words) (held_sight (objects_of words) s own (told_in_order load.know)) mail input did
-  comes : Brings (objects_of words) s mail load
-  is_rule : did ≡ rule (objects_of words) (held_sight (objects_of words) s own (told_in_order load.know)) mail input
-
-next_of : (words : Words) (s : ℕ) (own : List Received) (taken : Option (Taken Copied)) (e : Stepped) → 1 ≤ s → (step : IsStormStep words s own taken e)
-    → Next words s (map as_carried own) (mail_in taken) (load_in taken) step.input e.event.deeds (rule (objects_of words) (held_sight (objects_of words) s (map as_carried own) (told_in_order (load_in taken).know)) (mail_in taken) step.input)
-next_of words s own taken e low step =
-    let objects : List ObjectDecl = objects_of words in
-    let h : Sight = held_sight objects s (map as_carried own) nothing in
-    record {
-      deeds = ap (λ (x : Event). x.deeds) step.is_next;
-      fine = rule_fine objects s (held_sight objects s (map as_carried own) (told_in_order (load_in taken).know)) h (mail_in taken) (load_in taken) step.input low refl step.may (comes_from words s own taken step.input h step.so step.may)
-          (no_tell words s own taken step.input step.so) (no_query words s own taken step.input step.so);
-      comes = brings objects s h step.input (mail_in taken) (load_in taken) step.may;
-      is_rule = refl;
-    }
-
-first_inform : (objects : List ObjectDecl) (s : ℕ) (own : List Carried) (load : Load) (d : Deed) → In d (held_informs objects s own (told_in_order load.know)) → IsInformAt s d
-first_inform objects s own load d i = in_informs s (new_aborts (told_in_order load.know) (held objects own)) (new_commits (told_in_order load.know) (held objects own)) d i
-
--- a deed of the event, but for its first Informs
-deed_of : (words : Words) (s : ℕ) (own : List Carried) (mail : Option Mail) (load : Load) (input : Input) (ds : List Deed) (did : Did) → Next words s own mail load input ds did → (d : Deed) → In d ds
-    → IsInformAt s d ⊎ DeedFine (objects_of words) (held_sight (objects_of words) s own (told_in_order load.know)) mail input d
-deed_of words s own mail load input ds did n d i =
-    elim (in_append (held_informs (objects_of words) s own (told_in_order load.know)) did.deeds d (subst (λ (l : List Deed). In d l) n.deeds i)) [
-      | inl first ↦ inl (first_inform (objects_of words) s own load d first)
-      | inr done ↦ inr (n.fine.deeds d done)
-    ]
-
--- the present count that the event goes by
-present_is : (objects : List ObjectDecl) (s : ℕ) (own : List Carried) (load : Load) → present (held_sight objects s own (told_in_order load.know)) ≡ count (deeds_of own) s
-present_is objects s own load = keep_informs (λ L. count L s) (λ r a o L. refl) s (new_aborts (told_in_order load.know) (held objects own)) (new_commits (told_in_order load.know) (held objects own)) (deeds_of own)
-
-top_home : (g : Sight) (b : Name) → b ≡ top_name g → home b ≡ (g.node, present g)
-top_home g b e = ap home e
-
-sound_more : (words : Words) (s : ℕ) (own : List Received) (taken : Option (Taken Copied)) (e : Stepped) → 1 ≤ s → s ≤ 8 → IsStormStep words s own taken e → Sound (objects_of words) s (map as_carried own) → Sound (objects_of words) s (map as_carried (carried e taken ∷ own))
+pub sound_more : (words : Words) (s : ℕ) (own : List Received) (taken : Option (Taken Copied)) (e : Stepped) → 1 ≤ s → s ≤ 8 → IsStormStep words s own taken e → Sound (objects_of words) s (map as_carried own) → Sound (objects_of words) s (map as_carried (carried e taken ∷ own))
 sound_more words s own taken e low high step was = record { long = long; present = now; calls = calls; pairs = pairs; outcomes = outcomes }
   where
     objects : List ObjectDecl
@@ -222,30 +174,9 @@ sound_more words s own taken e low high step was = record { long = long; present
         by (inl h) = let y = h.is in absurd (cc)
         by (inr h) = let more = learned_grow objects past mail K1 ds (site_of objects x) in omega (arith, h, more)
 
-    crashes : is_restart step.input ≡ false → list_any (is_crash s) ds ≡ false
-    crashes no_restart = false_from_ne_true (list_any (is_crash s) ds) (λ h.
-        let found = any_in (is_crash s) ds h in
-        by found.0 (deed_of words s past mail load step.input ds (rule objects g mail step.input) n found.0 found.1) found.2)
-      where
-        by : (d : Deed) → IsInformAt s d ⊎ DeedFine objects g mail step.input d → is_crash s d ≡ true → ⊥
-        by (Crash m) (inr h) c = true≢false (sym h ∙ no_restart)
-        by (Crash m) (inl h) c = let y = h.is in cc
-        by (Create b) h c = cc
-        by (Ask q b) h c = cc
-        by (Call b k x op z) h c = cc
-        by (Perform b k answer) h c = cc
-        by (Bounce b k u) h c = cc
-        by (Got b k seen) h c = cc
-        by (AskCommit b v) h c = cc
-        by (AskAbort b) h c = cc
-        by (Commit b) h c = cc
-        by (Abort b) h c = cc
-        by (Secure f m z) h c = cc
-        by (Inform m b o) h c = cc
-
     stays : is_restart step.input ≡ false → count (after (deeds_of past) ds) s ≤ known_count K2 s
     stays no_restart =
-        let same : count (after (deeds_of past) ds) s ≡ count (deeds_of past) s = count_after_other ds (deeds_of past) s (crashes no_restart) in
+        let same : count (after (deeds_of past) ds) s ≡ count (deeds_of past) s = count_after_other ds (deeds_of past) s (no_crash words s past mail load step.input ds (rule objects g mail step.input) n no_restart) in
         let known = from_old (s, count (deeds_of past) s) was.present in
         omega (arith, same, known)
 
@@ -276,106 +207,3 @@ sound_more words s own taken e low high step was = record { long = long; present
         by (Receives letter) is = stays (ap is_restart is)
         by (Tells m to) is = stays (ap is_restart is)
         by (Queries m f) is = stays (ap is_restart is)
-
-one_known : (s : ℕ) → 1 ≤ s → s ≤ 8 → 1 ≤ known_count nothing s
-one_known s low high = let e = get_or-replicate {A = ℕ} 8 (s - 1) 1 0 (omega (arith, low, high)) in omega (arith, e)
-
-sound_history : (words : Words) (s : ℕ) (h : List (Entry Stepped Copied)) → 1 ≤ s → s ≤ 8 → IsStormHistory words s h → Sound (objects_of words) s (map as_carried (map carried_in h))
-sound_history words s [] low high all = record {
-  long = omega arith;
-  present = one_known s low high;
-  calls = λ a n x op c i. absurd i;
-  pairs = λ a p i. absurd i;
-  outcomes = λ a counts p there i. absurd there;
-}
-sound_history words s (entry ∷ h) low high all = sound_more words s (map carried_in h) entry.received entry.event low high all.0 (sound_history words s h low high all.1)
-
--- the counts of a load are all that its sender knows, and its outcomes are among those
-load_counts : (objects : List ObjectDecl) (s : ℕ) (h : List Received) (r : ℕ) → (load_for objects s h r).know.counts ≡ (known objects h).counts
-load_counts objects s h r = by (eqb_tells s r)
-  where
-    by : ((eqb s r ≡ true) × (s ≡ r)) ⊎ ((eqb s r ≡ false) × (s ≡ r → ⊥)) → (load_for objects s h r).know.counts ≡ (known objects h).counts
-    by (inl y) = rw y.0 refl
-    by (inr n) = rw n.0 refl
-
-load_within : (objects : List ObjectDecl) (s : ℕ) (h : List Received) (r : ℕ) (o : Outcome) → In o (load_for objects s h r).know.outcomes → In o (known objects h).outcomes
-load_within objects s h r o = by (eqb_tells s r)
-  where
-    by : ((eqb s r ≡ true) × (s ≡ r)) ⊎ ((eqb s r ≡ false) × (s ≡ r → ⊥)) → In o (load_for objects s h r).know.outcomes → In o (known objects h).outcomes
-    by (inl y) = rw y.0 (λ i. absurd i)
-    by (inr n) = rw n.0 (λ i. in_drop (acked_of objects h r) (known objects h).outcomes o i)
-
--- So each letter of a lawful event may be handed to the node to which it goes.
-pub letters_may_come : LettersMayCome
-letters_may_come words s history taken e place c allowed at =
-    (record { addressed = refl; for_node = for_node; body_known = body_known; outcomes_known = outcomes_known }, from)
-  where
-    objects : List ObjectDecl
-    objects = objects_of words
-
-    own : List Received
-    own = own_history history
-
-    step : IsStormStep words s own taken e
-    step = allowed.1
-
-    high : s ≤ 8
-    high = let four = step.here.1 in omega (arith, four)
-
-    g : Sight
-    g = held_sight objects s (map as_carried own) (told_in_order (load_in taken).know)
-
-    before : Sound objects s (map as_carried own)
-    before = sound_history words s (reverse history) step.here.0 high allowed.0
-
-    now : Sound objects s (map as_carried (carried e taken ∷ own))
-    now = sound_more words s own taken e step.here.0 high step before
-
-    found : (m : Sent) × (slice_get e.event.sent place ≡ Some m) × IsCopied words s (carried e taken ∷ own) (own_sent own + place) m c
-    found = copied_at words s (carried e taken ∷ own) (own_sent own) e.event.sent e.letters place c step.letters at
-
-    is : IsCopied words s (carried e taken ∷ own) (own_sent own + place) found.0 c
-    is = found.2
-
-    fine : LetterFine objects g found.0
-    fine = (next_of words s own taken e step.here.0 step).fine.sent found.0 (subst (λ (l : List Sent). In found.0 l) (ap (λ (x : Event). x.sent) step.is_next) (slice_in e.event.sent place found.0 found.1))
-
-    K : Knowledge
-    K = known objects (carried e taken ∷ own)
-
-    counts_are : c.letter.know.counts ≡ K.counts
-    counts_are = ap (λ (l : Load). l.know.counts) is.load ∙ load_counts objects s (carried e taken ∷ own) found.0.to
-
-    -- the counts that the node knows then, the letter has
-    with_letter : (p : ℕ × ℕ) → Covers K p → Covers c.letter.know p
-    with_letter p h = subst (λ (cs : List ℕ). p.1 ≤ slice_index cs (p.0 - 1)) (sym counts_are) h
-
-    old_covers : (p : ℕ × ℕ) → Covers (known objects own) p → Covers K p
-    old_covers p h =
-        let one = (join_knows_at_least (known objects own) (told_in_order (load_in taken).know)).0.counts p.0 in
-        let more = learned_grow objects (map as_carried own) (mail_in taken) (both (known objects own) (told_in_order (load_in taken).know)) e.event.deeds p.0 in
-        omega (arith, h, one, more)
-
-    for_node : IsForNode objects c.letter.to c.letter.body
-    for_node = subst (λ (b : Body). IsForNode objects c.letter.to b) (sym is.body) (subst (λ (r : ℕ). IsForNode objects r found.0.body) (sym is.to) fine.for_node)
-
-    by_counts : (body_counts found.0.body ≡ []) ⊎ ((a : Name) × (body_counts found.0.body ≡ g.deps a)) → are_known c.letter.know (body_counts found.0.body) ≡ true
-    by_counts (inl none) = ap (λ (cs : List ℕ). are_known c.letter.know cs) none
-    by_counts (inr deps) =
-        ap (λ (cs : List ℕ). are_known c.letter.know cs) deps.1
-        ∙ covers_all c.letter.know (g.deps deps.0) (λ p i. with_letter p (old_covers p (before.pairs deps.0 p (pairs_in (own_pairs objects (map as_carried own) deps.0) p i))))
-
-    body_known : are_known c.letter.know (body_counts c.letter.body) ≡ true
-    body_known = ap (λ (b : Body). are_known c.letter.know (body_counts b)) is.body ∙ by_counts fine.counts
-
-    outcomes_known : list_all (is_known_outcome c.letter.know) c.letter.know.outcomes ≡ true
-    outcomes_known = all_in (is_known_outcome c.letter.know) c.letter.know.outcomes by
-      where
-        by : (o : Outcome) → In o c.letter.know.outcomes → is_known_outcome c.letter.know o ≡ true
-        by (Aborted a) i = refl
-        by (Committed a counts) i =
-            let there : In (Committed a counts) K.outcomes = load_within objects s (carried e taken ∷ own) found.0.to (Committed a counts) (subst (λ (l : Load). In (Committed a counts) l.know.outcomes) is.load i) in
-            covers_all c.letter.know counts (λ p j. with_letter p (now.outcomes a counts p there j))
-
-    from : IsFrom c.letter.from c.letter.body
-    from = subst (λ (b : Body). IsFrom c.letter.from b) (sym is.body) (subst (λ (r : ℕ). IsFrom r found.0.body) (sym is.from) fine.from)

@@ -1,10 +1,12 @@
--- Which event of a node is lawful in a storm: after the node's own history, with a letter that it received, or none.
+-- Which event of a node is lawful in a storm: after the node's own history, with a letter that it
+-- received, or none.
 --
--- A history is that of the journal: each entry is an event with its letters, and the letter that it received. A letter is told by the
--- number of the event that sent it and its place; it has what it carries and its copies with it.
+-- A history is that of the journal: each entry is an event with its letters, and the letter that it
+-- received. A letter is told by the number of the event that sent it and its place; it has what it
+-- carries and its copies with it.
 use Rattle.std.specs.Prelude.{◌≡◌, ℕ, ◌+◌, ◌<◌, ◌≤◌, nat_lt, List, [], ◌∷◌, map, length, reverse, Option, Some, None}
-use Rattle.cam_know.specs.Known.{nothing}
 use Rattle.cam_know.specs.Order.{told_in_order}
+use Rattle.cam_event.specs.declared.Event.{Event}
 use Rattle.cam_event.specs.declared.Letter.{Letter}
 use Rattle.cam_event.specs.declared.LetterId.{LetterId}
 use Rattle.cam_event.specs.declared.Sent.{Sent}
@@ -13,7 +15,7 @@ use Rattle.cam_event.specs.declared.Body.TheVariants as bodies
 use Rattle.cam_event.specs.History.{count}
 use Rattle.cam_event.specs.Inputs.{Input, Begins, Requests, Receives, Tells, Queries, Restarts, Mail, decider}
 use Rattle.cam_event.specs.Loads.{Load, no_load}
-use Rattle.cam_event.specs.ByKnowledge.{deeds_of, held_sight, node_step}
+use Rattle.cam_event.specs.ByKnowledge.{deeds_of, node_step}
 use Rattle.cam_event.specs.ByDeltas.{Received, as_carried, load_for}
 use Rattle.cam_node.specs.Lawful.{MayBePut}
 use Rattle.cam_journal.specs.declared.entry.Entry.{Entry}
@@ -22,7 +24,11 @@ use Rattle.cam_gen.specs.Storms.{Words, objects_of, tops_of, copies_of, restarts
 use Rattle.cam_storm.specs.declared.Copied.{Copied}
 use Rattle.cam_storm.specs.declared.Stepped.{Stepped}
 use Rattle.cam_storm.specs.Runs.{received, is_begin, is_restart}
-use Rattle.cam_storm.specs.Own.{event_in, own_sent, OwnDrives}
+use Rattle.cam_storm.specs.Own.{event_in, own_sent, sight_at, OwnDrives}
+
+-- the history of a seat of the journal: its events, each with its letters and what it received
+abbrev pub SeatHistory : Type 0
+SeatHistory = List (Entry Stepped Copied)
 
 -- which letter an event received, by number and place
 abbrev pub named : Option LetterId → Option (ℕ × ℕ)
@@ -68,11 +74,13 @@ abbrev pub carried_in : Entry Stepped Copied → Received
 carried_in entry = carried entry.event entry.received
 
 -- the history of a seat, the newest event first
-abbrev pub own_history : List (Entry Stepped Copied) → List Received
+abbrev pub own_history : SeatHistory → List Received
 own_history history = map carried_in (reverse history)
 
--- A letter as it is sent: by this node at its count, with what its receiver has not acknowledged then, and with the copies that it draws.
-pub record IsCopied (words : Words) (s : ℕ) (history : List Received) (number : ℕ) (sent : Sent) (c : Copied) : Type 0 where
+-- A letter as it is sent: by this node at its count, with what its receiver has not acknowledged
+-- then, and with the copies that it draws.
+pub record IsCopied (words : Words) (s : ℕ) (history : List Received) (number : ℕ)
+    (sent : Sent) (c : Copied) : Type 0 where
   pub from : c.letter.from ≡ s
   pub count : c.letter.count ≡ count (deeds_of (map as_carried history)) s
   pub to : c.letter.to ≡ sent.to
@@ -83,7 +91,8 @@ pub record IsCopied (words : Words) (s : ℕ) (history : List Received) (number 
 -- the letters of an event, in order, from this number among the letters of the node
 abbrev pub AreCopied : Words → ℕ → List Received → ℕ → List Sent → List Copied → Type 0
 AreCopied words s history number [] [] = Unit {0}
-AreCopied words s history number (sent ∷ more) (c ∷ cs) = IsCopied words s history number sent c × AreCopied words s history (number + 1) more cs
+AreCopied words s history number (sent ∷ more) (c ∷ cs) =
+    IsCopied words s history number sent c × AreCopied words s history (number + 1) more cs
 AreCopied words s history number [] (c ∷ cs) = ⊥
 AreCopied words s history number (sent ∷ more) [] = ⊥
 
@@ -101,22 +110,32 @@ abbrev pub ComesFrom : Option Mail → Type 0
 ComesFrom None = Unit {0}
 ComesFrom (Some mail) = IsFrom mail.from mail.body
 
--- What a storm puts to a node: a letter no more often than its copies, and of an action's requests the one that it has.
+-- What a storm puts to a node: a letter no more often than its copies, and of an action's requests
+-- the one that it has.
 abbrev pub IsPut : Words → ℕ → List Received → Option (Taken Copied) → Input → Type 0
 IsPut words s history taken (Begins m) = Unit {0}
 IsPut words s history taken (Requests r) = OwnDrives words s history r.action r.want
-IsPut words s history taken (Receives letter) = IsLeft (received (map event_in history) letter) taken × ComesFrom (mail_in taken)
+IsPut words s history taken (Receives letter) =
+    IsLeft (received (map event_in history) letter) taken × ComesFrom (mail_in taken)
 IsPut words s history taken (Tells m to) = ⊥
 IsPut words s history taken (Queries m f) = ⊥
 IsPut words s history taken (Restarts m) = Unit {0}
 
+-- the step of a node after its history, for an input with the letter that it hands over
+abbrev pub step_at : Words → ℕ → List Received → Input → Option (Taken Copied) → Event
+step_at words s history input taken =
+    node_step (objects_of words) s (map as_carried history) input (mail_in taken)
+    (told_in_order (load_in taken).know)
+
 -- An event that may come next at a node after its history, with a letter that it received, or none.
-pub record IsStormStep (words : Words) (s : ℕ) (history : List Received) (taken : Option (Taken Copied)) (e : Stepped) : Type 0 where
+pub record IsStormStep (words : Words) (s : ℕ) (history : List Received)
+    (taken : Option (Taken Copied)) (e : Stepped) : Type 0 where
   pub input : Input
   -- the node is one of the four
   pub here : (1 ≤ s) × (s ≤ 4)
   -- it may be put to a node that holds this
-  pub may : MayBePut (objects_of words) s (held_sight (objects_of words) s (map as_carried history) nothing) input (mail_in taken) (load_in taken)
+  pub may :
+      MayBePut (objects_of words) s (sight_at words s history) input (mail_in taken) (load_in taken)
   -- and a storm puts it
   pub so : IsPut words s history taken input
   -- the node's top actions come first, and are created nowhere else
@@ -124,15 +143,20 @@ pub record IsStormStep (words : Words) (s : ℕ) (history : List Received) (take
   -- it restarts in the places of its restarts, and nowhere else
   pub restarts : is_restart input ≡ restarts_at words (length history)
   -- the event is the step by what the node holds and the letter carries
-  pub is_next : e.event ≡ node_step (objects_of words) s (map as_carried history) input (mail_in taken) (told_in_order (load_in taken).know)
+  pub is_next : e.event ≡ step_at words s history input taken
   -- its letters
-  pub letters : AreCopied words s (carried e taken ∷ history) (own_sent history) e.event.sent e.letters
+  pub letters :
+      AreCopied words s (carried e taken ∷ history) (own_sent history) e.event.sent e.letters
 
 -- a history each of whose events may come next after those before it, the newest first
-abbrev pub IsStormHistory : Words → ℕ → List (Entry Stepped Copied) → Type 0
+abbrev pub IsStormHistory : Words → ℕ → SeatHistory → Type 0
 IsStormHistory words s [] = Unit {0}
-IsStormHistory words s (entry ∷ before) = IsStormStep words s (map carried_in before) entry.received entry.event × IsStormHistory words s before
+IsStormHistory words s (entry ∷ before) =
+    IsStormStep words s (map carried_in before) entry.received entry.event
+    × IsStormHistory words s before
 
 -- Lawful, for the journal: the history is one of a storm, and the event may come next.
-abbrev pub lawful : Words → ℕ → List (Entry Stepped Copied) → Option (Taken Copied) → Stepped → Type 0
-lawful words s history taken e = IsStormHistory words s (reverse history) × IsStormStep words s (own_history history) taken e
+abbrev pub lawful :
+    Words → ℕ → SeatHistory → Option (Taken Copied) → Stepped → Type 0
+lawful words s history taken e =
+    IsStormHistory words s (reverse history) × IsStormStep words s (own_history history) taken e

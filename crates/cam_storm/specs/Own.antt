@@ -1,4 +1,5 @@
--- What a node of a storm says of itself: by its own events, the newest first, with the letters that they received and what those carried.
+-- What a node of a storm says of itself: by its own events, the newest first, with the letters that
+-- they received and what those carried.
 use Rattle.std.specs.Prelude.{◌≡◌, ℕ, ℤ, ◌+◌, true, if◌then◌else◌, List, [], ◌∷◌, ◌++◌, map, flat_map, length, Option, Some, None}
 use Rattle.cam_names.specs.declared.name.Name.{Name}
 use Rattle.cam_names.specs.Names.{is_child, home_node}
@@ -13,6 +14,7 @@ use Rattle.cam_event.specs.declared.ViewStep.{ViewStep}
 use Rattle.cam_event.specs.Views.{committed_child, step_of}
 use Rattle.cam_event.specs.Inputs.{Mail}
 use Rattle.cam_event.specs.Refusals.{refusal}
+use Rattle.cam_event.specs.Sights.{Sight}
 use Rattle.cam_event.specs.Runs.{IsWant}
 use Rattle.cam_event.specs.ByKnowledge.{held_sight}
 use Rattle.cam_event.specs.ByDeltas.{Received, as_carried}
@@ -31,7 +33,8 @@ abbrev pub finish_value : Option Mail → Option ℤ
 finish_value None = None
 finish_value (Some mail) = value_on mail.body
 
--- What a deed gives to the view of an action that runs here. A child that commits does so with the value on the finish that came.
+-- What a deed gives to the view of an action that runs here. A child that commits does so with the
+-- value on the finish that came.
 abbrev pub own_step : Option Mail → Name → Deed → List ViewStep
 own_step mail a (Commit b) = if is_child a b then committed_child b (finish_value mail) else []
 own_step mail a d = step_of [] d a
@@ -49,14 +52,23 @@ abbrev pub own_sent : List Received → ℕ
 own_sent [] = 0
 own_sent (c ∷ before) = own_sent before + length c.event.sent
 
--- An action that runs here has a request: the next one of its body, by its view, where `play` would let it make one.
-pub record OwnDrives (words : Words) (s : ℕ) (history : List Received) (a : Name) (want : Want) : Type 0 where
+-- what the node goes by
+abbrev pub sight_at : Words → ℕ → List Received → Sight
+sight_at words s history = held_sight (objects_of words) s (map as_carried history) nothing
+
+-- An action that runs here has a request: the next one of its body, by its view, where `play` would
+-- let it make one.
+pub record OwnDrives (words : Words) (s : ℕ) (history : List Received) (a : Name)
+    (want : Want) : Type 0 where
   pub here : home_node a ≡ s
-  pub may : may_go (held_sight (objects_of words) s (map as_carried history) nothing) (record start { trace = map event_in history }) a ≡ true
+  pub may :
+      may_go (sight_at words s history) (record start { trace = map event_in history }) a ≡ true
   pub next : next_of_body (body_of words a) (own_view history a) ≡ nexts.Request want
 
--- It may be put to the node: it is not refused, and in range. In the run of a storm each request that an action has may be.
-pub record OwnRequest (words : Words) (s : ℕ) (history : List Received) (a : Name) (want : Want) : Type 0 where
+-- It may be put to the node: it is not refused, and in range. In the run of a storm each request
+-- that an action has may be.
+pub record OwnRequest (words : Words) (s : ℕ) (history : List Received) (a : Name)
+    (want : Want) : Type 0 where
   pub drives : OwnDrives words s history a want
-  pub allowed : refusal (held_sight (objects_of words) s (map as_carried history) nothing) a want ≡ None
+  pub allowed : refusal (sight_at words s history) a want ≡ None
   pub fits : IsWant (objects_of words) want
