@@ -50,6 +50,3 @@ pub enum ArgsFault {
     #[error("the words are no command")]
     Usage,
 }
-
-#[cfg(test)]
-mod tests;

@@ -7,6 +7,7 @@ use Rattle.cam_type.specs.declared.Op.TheVariants as ops
 use Rattle.cam_script.specs.declared.Script.{Script}
 use Rattle.cam_words.specs.declared.fault.ScriptFault.{ScriptFault}
 use Rattle.cam_words.specs.declared.fault.ScriptFault.TheVariants.{Bad}
+use Rattle.cam_words.specs.declared.cause.Cause.TheVariants as causes
 use Rattle.cam_script.specs.declared.Step.{Step}
 use Rattle.cam_script.specs.declared.Act.TheVariants as acts
 use Rattle.cam_script.specs.Built.{Built, first_path}
@@ -86,7 +87,7 @@ repeated_reported : script_report (script 7 repeated_steps) ≡ repeated_letter_
 unfolding digits
 repeated_reported = refl
 
-unknown_read : read_by first_path unknown_line ≡ Err (Bad 3 1 3)
+unknown_read : read_by first_path unknown_line ≡ Err (Bad 3 1 causes.UnknownWord)
 unfolding read_by
 unknown_read = refl
 
@@ -100,5 +101,5 @@ are_worked =
       open_call_is_shown = answers open_call (Ok (script 0 open_steps)) 0 open_call_report open_spelled (refl, sym open_reported);
       refused_call_is_marked = answers refused_call (Ok (script 0 refused_steps)) 0 refused_call_report refused_spelled (refl, sym refused_reported);
       repeated_letter_is_performed_once = answers repeated_letter (Ok (script 7 repeated_steps)) 0 repeated_letter_report repeated_spelled (refl, sym repeated_reported);
-      unknown_line_is_refused = answers unknown_line (Err (Bad 3 1 3)) 3 unknown_line_text unknown_read (refl, sym unknown_told);
+      unknown_line_is_refused = answers unknown_line (Err (Bad 3 1 causes.UnknownWord)) 3 unknown_line_text unknown_read (refl, sym unknown_told);
     }

@@ -10,6 +10,7 @@ use Rattle.std.specs.Prelude.{ℕ, ◌≡◌, ◌≤◌, ◌⊎◌, List, [], �
 use Rattle.cam_script.specs.declared.Script.{Script}
 use Rattle.cam_words.specs.declared.fault.ScriptFault.{ScriptFault}
 use Rattle.cam_words.specs.declared.fault.ScriptFault.TheVariants.{Bad, NoMemory}
+use Rattle.cam_words.specs.Causes.{cause_number}
 use Rattle.cam_script.specs.Built.{first_path}
 use Rattle.cam_script.specs.Grammar.{read_script, as_unknown_line}
 use Rattle.cam_runs.specs.Running.{Running}
@@ -35,7 +36,7 @@ script_report script = report_of script (one_run script)
 -- the answer to an input that was read, by what it spells: the report of the script's run, or the refusal
 abbrev pub IsOfScript : Result Script ScriptFault → ℕ → List ℕ → Type 0
 IsOfScript (Ok script) status text = (status ≡ 0) × (text ≡ script_report script)
-IsOfScript (Err (Bad line column cause)) status text = (status ≡ 3) × (text ≡ refused_text line column cause)
+IsOfScript (Err (Bad line column cause)) status text = (status ≡ 3) × (text ≡ refused_text line column (cause_number cause))
 IsOfScript (Err NoMemory) status text = ⊥
 
 -- the answer where the source failed

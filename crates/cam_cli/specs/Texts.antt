@@ -8,6 +8,6 @@ usage_text = codes "usage: camelot run | trace | witness NAME | gen SEED SIZE | 
 abbrev pub read_fault_text : List ℕ
 read_fault_text = codes "read fault" ++ 10 ∷ []
 
--- `refused LINE COLUMN Sn`; 83 is the letter S
+-- `refused LINE COLUMN Sn`, n the number of the cause; 83 is the letter S
 abbrev pub refused_text : ℕ → ℕ → ℕ → List ℕ
 refused_text at_line column cause = line (codes "refused" ∷ decimal at_line ∷ decimal column ∷ (83 ∷ decimal cause) ∷ [])

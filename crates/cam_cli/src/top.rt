@@ -11,7 +11,7 @@ use crate::running::report;
 use crate::status::Status;
 use cam_base::NoMemory;
 use cam_io::{ReadFault, Sink, Source, read_all, write_all};
-use cam_script::{ScriptFault, Stage, parse};
+use cam_script::{Cause, ScriptFault, Stage, parse};
 use std::alloc::Global;
 
 /// The most bytes of a script.
@@ -114,7 +114,7 @@ fn read_and_run<S: Source>(alloc: Global, source: &mut S) -> Result<Answer, NoMe
             ScriptFault::Bad {
                 line: 1,
                 column: 1,
-                cause: 1,
+                cause: Cause::TooLong,
             },
         ),
         Err(ReadFault::Failed) => read_fault(alloc),
@@ -159,7 +159,7 @@ fn refusal(alloc: Global, fault: ScriptFault) -> Result<Answer, NoMemory>
             cause,
         } => Ok(Answer {
             status: Status::Refused,
-            text: format!(in alloc; "refused {line} {column} S{cause}\n")?,
+            text: format!(in alloc; "refused {line} {column} S{}\n", cause.number())?,
         }),
         ScriptFault::NoMemory => Err(NoMemory),
     }

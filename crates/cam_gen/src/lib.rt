@@ -16,9 +16,6 @@ pub use digest::digest_text;
 pub use draws::Draws;
 pub use script::script_of;
 
-#[cfg(test)]
-mod tests;
-
 ghost use Rattle.cam_gen.specs.Worked.{FirstDraw, NineSteps};
 
 /// At seed 7: the first number that is drawn, and the script of nine steps.

@@ -1,4 +1,5 @@
 -- There is room for each step that is not refused as one too many.
+use Rattle.cam_words.specs.declared.word.Word.{Word}
 use Rattle.std.proofs.Common.{◌≡◌, ◌≤◌, ℕ, ◌+◌, true, false, List, Some, None, length, subst, arith}
 use Rattle.std.specs.Prelude.{nat_lt, Ok, IsTrue, IsFalse}
 use Rattle.cam_script.specs.declared.Act.{Act}
@@ -33,7 +34,7 @@ one_step d _ at line h k = within_512 d.spent 1 h
 pub room_for : (d : SoFar) (form : Form) (at : ℕ) (line : List ℕ) (act : Act) → d.writing ≡ None → IsFalse (is_too_many d form at line) → IsTrue (costs_one form) → step_cost d.sizes act ≡ 1 → d.spent + step_cost d.sizes act ≤ 512
 room_for d form at line act none room one cost = let h = one_step d form at line (outside_bodies d form at line none room) one in omega (arith, h, cost)
 
-pub room_to_start : (d : SoFar) (number at : ℕ) (line : List ℕ) (said : (ℕ × ℕ) × Act) → length d.body_names ≡ length d.script.bodies → d.writing ≡ None → IsFalse (is_too_many d forms.Start at line) → start_line d number at line ≡ Ok said → d.spent + step_cost d.sizes said.1 ≤ 512
+pub room_to_start : (d : SoFar) (number at : ℕ) (line : List ℕ) (said : Word × Act) → length d.body_names ≡ length d.script.bodies → d.writing ≡ None → IsFalse (is_too_many d forms.Start at line) → start_line d number at line ≡ Ok said → d.spent + step_cost d.sizes said.1 ≤ 512
 room_to_start d number at line said names none room e =
     let fits : Fits d (Some bindings.Start) (cost_ahead d forms.Start at line) said.1 = subst (Holds (λ said. Fits d (Some bindings.Start) (cost_ahead d forms.Start at line) said.1)) e (start_fits d names number at line) in
     let costs = fits.costs in

@@ -3,6 +3,8 @@ use Rattle.std.proofs.Common.{◌≡◌, ℕ, ◌+◌, Bool, true, false, not, L
 use Rattle.std.specs.Prelude.{◌==◌, bytes_eq, Result, Ok}
 use Rattle.std.specs.List.{list_all}
 use Rattle.cam_words.specs.declared.fault.ScriptFault.{ScriptFault}
+use Rattle.cam_words.specs.declared.cause.Cause.TheVariants as causes
+use Rattle.cam_words.specs.declared.word.Word.{Word}
 use Rattle.cam_script.specs.declared.Form.{Form}
 use Rattle.cam_script.specs.declared.Form.TheVariants as forms
 use Rattle.cam_words.specs.Lines.{bad_byte}
@@ -42,13 +44,13 @@ begin_first : (d : SoFar) (number at : ℕ) (line : List ℕ) → Holds (λ said
 unfolding begin_line
 begin_first d number at line =
     then_any _ (new_name_at (variable_names d.variables) number at line) _ (λ name.
-    then_any _ (node_at d.script.nodes number name.1 line) _ (λ node.
+    then_any _ (node_at d.script.nodes number name.end line) _ (λ node.
     then_any _ (end_at number node.1 line) _ (λ _. refl)))
 
 call_first : (d : SoFar) (number at : ℕ) (line : List ℕ) → Holds (λ act. is_first_act act ≡ true) (call_line d number at line)
 unfolding call_line
 call_first d number at line =
-    then_any _ (variable_at true uses.Request d.variables number at line) _ (λ action.
+    then_any _ (variable_at uses.Request d.variables number at line) _ (λ action.
     then_any _ (declared_at d.script.labels number action.1 line) _ (λ object.
     then_any _ (op_at (kind_at d.script.objects object.0) number object.1 line) _ (λ op.
     then_any _ (end_at number op.1 line) _ (λ _. refl))))
@@ -83,14 +85,14 @@ place_first : (w : Option Writing) (d : SoFar) (form : Form) (number at : ℕ) (
 place_first (Some w) d form number at line f h = body_first d w form number at line h
 place_first None d form number at line f h = outside_first d form number at line f h
 
-word_first : (d : SoFar) (number : ℕ) (first : ℕ × ℕ) (line : List ℕ) → AreFirst d → Holds AreFirst (with_word first_path d number first line)
+word_first : (d : SoFar) (number : ℕ) (first : Word) (line : List ℕ) → AreFirst d → Holds AreFirst (with_word first_path d number first line)
 unfolding with_word
 word_first d number first line h =
-    then_holds (λ form. is_first_form form ≡ true) AreFirst (or_refuse (looked_up first_forms (text_of first line)) number first.0 3) _
-    (read_there (λ form. is_first_form form ≡ true) (looked_up first_forms (text_of first line)) number first.0 3 (first_form (text_of first line))) (λ form f.
-    then_any AreFirst (refuse_if (not (may_stand (part_of d) form)) number first.0 10) _ (λ _.
-    then_any AreFirst (refuse_if (is_too_many d form first.1 line) number first.0 12) _ (λ _.
-    place_first d.writing d form number first.1 line f h)))
+    then_holds (λ form. is_first_form form ≡ true) AreFirst (or_refuse (looked_up first_forms (text_of first line)) number first.start causes.UnknownWord) _
+    (read_there (λ form. is_first_form form ≡ true) (looked_up first_forms (text_of first line)) number first.start causes.UnknownWord (first_form (text_of first line))) (λ form f.
+    then_any AreFirst (refuse_if (not (may_stand (part_of d) form)) number first.start causes.Misplaced) _ (λ _.
+    then_any AreFirst (refuse_if (is_too_many d form first.end line) number first.start causes.TooMany) _ (λ _.
+    place_first d.writing d form number first.end line f h)))
 
 either_first : (b : Bool) (d : SoFar) (x : Result SoFar ScriptFault) → AreFirst d → Holds AreFirst x → Holds AreFirst (if b then Ok d else x)
 either_first true d x h k = h
@@ -104,7 +106,7 @@ line_first d number line h =
     either_first (is_missing first) d (if begins_with_hash (text_of first line) then Ok d else with_word first_path d number first line) h
     (either_first (begins_with_hash (text_of first line)) d (with_word first_path d number first line) h (word_first d number first line h)))
 
-end_by : (b : Bool) (number : ℕ) (d : SoFar) → AreFirst d → Holds IsFirstPath (if b then refuse number 0 10 else Ok d.script)
+end_by : (b : Bool) (number : ℕ) (d : SoFar) → AreFirst d → Holds IsFirstPath (if b then refuse number 0 causes.Misplaced else Ok d.script)
 end_by true number d h = tt
 end_by false number d h = h
 

@@ -16,7 +16,7 @@ impl SoFar {
         ensures value { result ≡ abort_line self.now line.now.number at line.now.bytes.now }
         ensures cost { IfOk result (λ act. step_cost self.now.sizes act ≡ 1) }
     {
-        let (action, at) = variable_at(line, at, &self.variables, Use::Request, true)?;
+        let (action, at) = variable_at(line, at, &self.variables, Use::Request)?;
         line.end_at(at)?;
         Ok(Act::Abort { action })
     }

@@ -16,13 +16,13 @@ impl SoFar {
     pub fn ask_line(&self, line: &Line, at: usize) -> Result<(Word, Act), ScriptFault>
         requires { at ≤ length line.now.bytes.now }
         ensures value { result ≡ ask_line self.now line.now.number at line.now.bytes.now }
-        ensures word { IfOk result (λ said. (said.0.0 ≤ said.0.1) × (said.0.1 ≤ length line.now.bytes.now)) }
+        ensures word { IfOk result (λ said. (said.0.start ≤ said.0.end) × (said.0.end ≤ length line.now.bytes.now)) }
         ensures name { IfOk result (λ said. IsTrue (is_name (text_of said.0 line.now.bytes.now))) }
         ensures cost { IfOk result (λ said. step_cost self.now.sizes said.1 ≡ 1) }
     {
-        let (parent, at) = variable_at(line, at, &self.variables, Use::Request, true)?;
+        let (parent, at) = variable_at(line, at, &self.variables, Use::Request)?;
         let name = new_name_at(line, at, self.variables.names())?;
-        let (node, at) = line.node_at(name.1, self.nodes)?;
+        let (node, at) = line.node_at(name.end, self.nodes)?;
         line.end_at(at)?;
         Ok((name, Act::Ask { parent, node }))
     }

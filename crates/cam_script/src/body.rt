@@ -17,11 +17,11 @@ impl SoFar {
     pub fn body_line(&self, line: &Line, at: usize) -> Result<Word, ScriptFault>
         requires { at ≤ length line.now.bytes.now }
         ensures value { result ≡ body_line self.now.body_names line.now.number at line.now.bytes.now }
-        ensures word { IfOk result (λ name. (name.0 ≤ name.1) × (name.1 ≤ length line.now.bytes.now)) }
+        ensures word { IfOk result (λ name. (name.start ≤ name.end) × (name.end ≤ length line.now.bytes.now)) }
         ensures name { IfOk result (λ name. IsTrue (is_name (text_of name line.now.bytes.now))) }
     {
         let name = new_name_at(line, at, self.bodies.names())?;
-        line.end_at(name.1)?;
+        line.end_at(name.end)?;
         Ok(name)
     }
 

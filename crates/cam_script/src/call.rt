@@ -20,7 +20,7 @@ impl SoFar {
         ensures value { result ≡ call_line self.now line.now.number at line.now.bytes.now }
         ensures cost { IfOk result (λ act. step_cost self.now.sizes act ≡ 1) }
     {
-        let (action, at) = variable_at(line, at, &self.variables, Use::Request, true)?;
+        let (action, at) = variable_at(line, at, &self.variables, Use::Request)?;
         let (object, at) = declared_at(line, at, &self.labels)?;
         let (op, at) = op_at(line, at, kind_at(&self.objects, object))?;
         line.end_at(at)?;

@@ -16,7 +16,7 @@ impl SoFar {
         ensures value { result ≡ commit_line top_commit self.now line.now.number at line.now.bytes.now }
         ensures cost { IfOk result (λ act. step_cost self.now.sizes act ≡ 1) }
     {
-        let (action, at) = variable_at(line, at, &self.variables, Use::Commit, top_commit)?;
+        let (action, at) = variable_at(line, at, &self.variables, Use::Commit { top: top_commit })?;
         let (value, at) = line.value_at(at)?;
         line.end_at(at)?;
         Ok(Act::Commit { action, value })

@@ -15,8 +15,8 @@ impl SoFar {
         ensures value { result ≡ giveup_line self.now line.now.number at line.now.bytes.now }
         ensures cost { IfOk result (λ act. step_cost self.now.sizes act ≡ 1) }
     {
-        let (action, at) = variable_at(line, at, &self.variables, Use::Request, true)?;
-        let (child, at) = variable_at(line, at, &self.variables, Use::Request, true)?;
+        let (action, at) = variable_at(line, at, &self.variables, Use::Request)?;
+        let (child, at) = variable_at(line, at, &self.variables, Use::Request)?;
         line.end_at(at)?;
         Ok(Act::GiveUp { action, child })
     }

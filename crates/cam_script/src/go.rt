@@ -15,7 +15,7 @@ impl SoFar {
         ensures value { result ≡ go_line self.now line.now.number at line.now.bytes.now }
         ensures cost { IfOk result (λ act. step_cost self.now.sizes act ≡ 1) }
     {
-        let (action, at) = variable_at(line, at, &self.variables, Use::Go, true)?;
+        let (action, at) = variable_at(line, at, &self.variables, Use::Go)?;
         line.end_at(at)?;
         Ok(Act::Go { action })
     }

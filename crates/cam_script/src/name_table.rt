@@ -4,7 +4,7 @@ ghost use Rattle.cam_words.specs.Numbers.{is_name, new_name_at, declared_at};
 ghost use Rattle.cam_script.specs.NameTable.{place_in, or_at};
 
 use cam_base::NoMemory;
-use cam_words::{Label, Labels, Line, ScriptFault, Word, causes, is_name};
+use cam_words::{Cause, Label, Labels, Line, ScriptFault, Word, is_name};
 use std::alloc::Global;
 use std::collections::HashMap;
 use std::marker::Model;
@@ -102,15 +102,15 @@ fn put(
 pub(crate) fn new_name_at(line: &Line, at: usize, names: &NameTable) -> Result<Word, ScriptFault>
     requires { at ≤ length line.now.bytes.now }
     ensures value { result ≡ new_name_at names.now line.now.number at line.now.bytes.now }
-    ensures word { IfOk result (λ word. (at ≤ word.0) × ((word.0 ≤ word.1) × (word.1 ≤ length line.now.bytes.now))) }
+    ensures word { IfOk result (λ word. (at ≤ word.start) × ((word.start ≤ word.end) × (word.end ≤ length line.now.bytes.now))) }
     ensures name { IfOk result (λ word. IsTrue (is_name (text_of word line.now.bytes.now))) }
 {
     let word = line.word_at(at)?;
     if !is_name(line.text(word)) {
-        return Err(line.fault(word.0, causes::INVALID_NAME));
+        return Err(line.fault(word.start, Cause::InvalidName));
     }
     if names.place_of(line.text(word)).is_some() {
-        return Err(line.fault(word.0, causes::DECLARED_AGAIN));
+        return Err(line.fault(word.start, Cause::DeclaredAgain));
     }
     Ok(word)
 }
@@ -129,7 +129,7 @@ pub(crate) fn declared_at(
 {
     let word = line.word_at(at)?;
     match names.place_of(line.text(word)) {
-        Some(place) => Ok((place, word.1)),
-        None => Err(line.fault(word.0, causes::UNDECLARED)),
+        Some(place) => Ok((place, word.end)),
+        None => Err(line.fault(word.start, Cause::Undeclared)),
     }
 }

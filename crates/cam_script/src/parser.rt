@@ -10,7 +10,7 @@ ghost use Rattle.cam_script.specs.Parse.{Gives};
 
 use crate::so_far::SoFar;
 use crate::{Script, ScriptFault, Stage};
-use cam_words::{Line, causes, first_line};
+use cam_words::{Cause, Line, first_line};
 use std::alloc::Global;
 
 /// The most bytes of a script.
@@ -44,7 +44,7 @@ pub fn parse(alloc: Global, stage: Stage, bytes: &[u8]) -> Result<Script, Script
         return Err(ScriptFault::Bad {
             line: 1,
             column: 1,
-            cause: causes::TOO_LONG,
+            cause: Cause::TooLong,
         });
     }
     read_lines(alloc, stage, bytes)

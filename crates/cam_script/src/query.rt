@@ -16,7 +16,7 @@ impl SoFar {
         ensures cost { IfOk result (λ act. step_cost self.now.sizes act ≡ 1) }
     {
         let (node, at) = line.node_at(at, self.nodes)?;
-        let (action, at) = variable_at(line, at, &self.variables, Use::Query, true)?;
+        let (action, at) = variable_at(line, at, &self.variables, Use::Query)?;
         line.end_at(at)?;
         Ok(Act::Query { node, action })
     }

@@ -17,7 +17,7 @@ use crate::order::may_stand;
 use crate::play::play_line;
 use crate::so_far::SoFar;
 use crate::{Act, Binding, Form, Stage, Statement};
-use cam_words::{Line, ScriptFault, Word, bad_byte, causes};
+use cam_words::{Cause, Line, ScriptFault, Word, bad_byte};
 
 impl SoFar {
     /// Reads a line.
@@ -27,10 +27,10 @@ impl SoFar {
         ensures { Leads result self.new (read_line (built_of stage) self.old line.now.number line.now.bytes.now) }
     {
         if let Some(at) = bad_byte(line.bytes) {
-            return Err(line.fault(at, causes::BYTE_NOT_ALLOWED));
+            return Err(line.fault(at, Cause::ByteNotAllowed));
         }
         let first = line.next_word(0);
-        if first.0 == first.1 || begins_with_hash(line.text(first)) {
+        if first.is_missing() || begins_with_hash(line.text(first)) {
             return Ok(());
         }
         self.with_word(stage, line, first)
@@ -40,20 +40,20 @@ impl SoFar {
     #[tactic(auto, unfolding(crate::specs::Grammar::with_word))]
     fn with_word(&mut self, stage: Stage, line: &Line, first: Word) -> Result<(), ScriptFault>
         requires within { IsWithin self.old }
-        requires start { first.0 ≤ first.1 }
-        requires end { first.1 ≤ length line.now.bytes.now }
+        requires start { first.start ≤ first.end }
+        requires end { first.end ≤ length line.now.bytes.now }
         ensures { Leads result self.new (with_word (built_of stage) self.old line.now.number first line.now.bytes.now) }
     {
         let Some(form) = stage.form_of(line.text(first)) else {
-            return Err(line.fault(first.0, causes::UNKNOWN_WORD));
+            return Err(line.fault(first.start, Cause::UnknownWord));
         };
         if !may_stand(self.part(), form) {
-            return Err(line.fault(first.0, causes::MISPLACED));
+            return Err(line.fault(first.start, Cause::Misplaced));
         }
-        if self.is_full(form, line, first.1) {
-            return Err(line.fault(first.0, causes::TOO_MANY));
+        if self.is_full(form, line, first.end) {
+            return Err(line.fault(first.start, Cause::TooMany));
         }
-        self.read_form(stage, form, line, first.1)
+        self.read_form(stage, form, line, first.end)
     }
 
     /// Reads a line of this form, behind its first word.
@@ -121,7 +121,7 @@ impl SoFar {
             Form::Child => self.child_statement(line, at),
             Form::Commit => commit_statement(line, at, earlier),
             Form::Abort => abort_statement(line, at),
-            _ => Err(line.fault(0, causes::MISPLACED)),
+            _ => Err(line.fault(0, Cause::Misplaced)),
         }
     }
 
@@ -155,7 +155,7 @@ impl SoFar {
                 self.open_body(line.text(name))?;
                 Ok(())
             }
-            Form::Child | Form::End => Err(line.fault(0, causes::MISPLACED)),
+            Form::Child | Form::End => Err(line.fault(0, Cause::Misplaced)),
             _ => self.read_step(stage, form, line, at),
         }
     }
@@ -223,7 +223,7 @@ impl SoFar {
             Form::Tell => self.tell_line(line, at),
             Form::Query => self.query_line(line, at),
             Form::Stop => self.stop_line(line, at),
-            _ => Err(line.fault(0, causes::MISPLACED)),
+            _ => Err(line.fault(0, Cause::Misplaced)),
         }
     }
 }

@@ -9,7 +9,7 @@ use crate::variables::{Bound, Variables};
 use crate::{Act, Binding, Script, Step, Steps};
 use cam_base::NoMemory;
 use cam_type::{ObjectDecl, Objects};
-use cam_words::{Label, ScriptFault, causes};
+use cam_words::{Cause, Label, ScriptFault};
 use std::alloc::Global;
 use std::marker::Model;
 
@@ -138,7 +138,7 @@ impl SoFar {
             return Err(ScriptFault::Bad {
                 line,
                 column: 1,
-                cause: causes::MISPLACED,
+                cause: Cause::Misplaced,
             });
         }
         let labels = labels.into_labels();

@@ -16,11 +16,11 @@ impl SoFar {
         requires place { at ≤ length line.now.bytes.now }
         requires within { IsWithin self.now }
         ensures value { result ≡ start_line self.now line.now.number at line.now.bytes.now }
-        ensures word { IfOk result (λ said. (said.0.0 ≤ said.0.1) × (said.0.1 ≤ length line.now.bytes.now)) }
+        ensures word { IfOk result (λ said. (said.0.start ≤ said.0.end) × (said.0.end ≤ length line.now.bytes.now)) }
         ensures name { IfOk result (λ said. IsTrue (is_name (text_of said.0 line.now.bytes.now))) }
     {
         let name = new_name_at(line, at, self.variables.names())?;
-        let (node, at) = line.node_at(name.1, self.nodes)?;
+        let (node, at) = line.node_at(name.end, self.nodes)?;
         let (body, at) = declared_at(line, at, self.bodies.names())?;
         line.end_at(at)?;
         let body = body as u8;

@@ -6,7 +6,7 @@ ghost use Rattle.cam_script.specs.VariableTable.{bound_of, named};
 use crate::name_table::NameTable;
 use crate::{Binding, Use};
 use cam_base::NoMemory;
-use cam_words::{Label, Line, ScriptFault, causes};
+use cam_words::{Cause, Label, Line, ScriptFault};
 use std::alloc::Global;
 use std::marker::Model;
 
@@ -81,38 +81,31 @@ pub(crate) fn variable_at(
     at: usize,
     variables: &Variables,
     used: Use,
-    top_commit: bool,
 ) -> Result<(u32, usize), ScriptFault>
     requires { at ≤ length line.now.bytes.now }
-    ensures value { result ≡ variable_at top_commit used variables.now line.now.number at line.now.bytes.now }
+    ensures value { result ≡ variable_at used variables.now line.now.number at line.now.bytes.now }
     ensures end { IfOk result (λ read. (at ≤ read.1) × (read.1 ≤ length line.now.bytes.now)) }
 {
     let word = line.word_at(at)?;
     match variables.find(line.text(word)) {
-        None => Err(line.fault(word.0, causes::UNDECLARED)),
-        Some(bound) => match against(used, bound.binding, top_commit) {
-            None => Ok((bound.step, word.1)),
-            Some(cause) => Err(line.fault(word.0, cause)),
+        None => Err(line.fault(word.start, Cause::Undeclared)),
+        Some(bound) => match against(used, bound.binding) {
+            None => Ok((bound.step, word.end)),
+            Some(cause) => Err(line.fault(word.start, cause)),
         },
     }
 }
 
-/// The cause against such a use of a variable that is bound so.
-fn against(used: Use, binding: Binding, top_commit: bool) -> Option<u8>
-    ensures { result ≡ against top_commit used binding }
+/// What stands against such a use of a variable that is bound so.
+fn against(used: Use, binding: Binding) -> Option<Cause>
+    ensures { result ≡ against used binding }
 {
     match (used, binding) {
-        (Use::Commit, Binding::Begin) => {
-            if top_commit {
-                None
-            } else {
-                Some(causes::UNKNOWN_WORD)
-            }
-        }
-        (Use::Request | Use::Commit, Binding::Start) => Some(causes::MISPLACED),
-        (Use::Request | Use::Commit, _) => None,
+        (Use::Commit { top: false }, Binding::Begin) => Some(Cause::UnknownWord),
+        (Use::Request | Use::Commit { .. }, Binding::Start) => Some(Cause::Misplaced),
+        (Use::Request | Use::Commit { .. }, _) => None,
         (Use::Go, Binding::Start) => None,
-        (Use::Go, _) => Some(causes::MISPLACED),
+        (Use::Go, _) => Some(Cause::Misplaced),
         (Use::Query, _) => None,
     }
 }

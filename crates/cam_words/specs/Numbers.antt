@@ -2,6 +2,8 @@
 use Rattle.std.specs.Prelude.{ℕ, ℤ, pos, negsuc, ◌+◌, ◌-◌, ◌*◌, ◌==◌, ◌&&◌, ◌||◌, Bool, false, not, nat_le, nat_lt, zero, suc, List, [], ◌∷◌, length, Option, Some, None, is_some, Result, Ok, if◌then◌else◌}
 use Rattle.std.specs.List.{list_all}
 use Rattle.cam_words.specs.declared.fault.ScriptFault.{ScriptFault}
+use Rattle.cam_words.specs.declared.cause.Cause.TheVariants as causes
+use Rattle.cam_words.specs.declared.word.Word.{Word}
 use Rattle.cam_words.specs.Words.{◌>>=◌, or_refuse, refuse_if, text_of, word_at, place_of}
 
 abbrev pub is_digit : ℕ → Bool
@@ -25,20 +27,20 @@ abbrev pub from : ℕ → Option ℕ → Option ℕ
 from least None = None
 from least (Some n) = if nat_le least n then Some n else None
 
--- a number of this range, and the place behind it; cause 6
+-- a number of this range, and the place behind it
 unfoldable pub number_at : ℕ → ℕ → ℕ → ℕ → List ℕ → Result (ℕ × ℕ) ScriptFault
 number_at least most number at line = do
   word ← word_at number at line
-  n ← or_refuse (from least (number_of most (text_of word line))) number word.0 6
-  Ok (n, word.1)
+  n ← or_refuse (from least (number_of most (text_of word line))) number word.start causes.InvalidNumber
+  Ok (n, word.end)
 
--- A node is 1 to 8 (cause 6), and none above the number of nodes (cause 11).
+-- A node is 1 to 8, and none above the number of nodes.
 unfoldable pub node_at : ℕ → ℕ → ℕ → List ℕ → Result (ℕ × ℕ) ScriptFault
 node_at nodes number at line = do
   word ← word_at number at line
-  n ← or_refuse (from 1 (number_of 8 (text_of word line))) number word.0 6
-  there ← refuse_if (nat_lt nodes n) number word.0 11
-  Ok (n, word.1)
+  n ← or_refuse (from 1 (number_of 8 (text_of word line))) number word.start causes.InvalidNumber
+  there ← refuse_if (nat_lt nodes n) number word.start causes.NoSuchNode
+  Ok (n, word.end)
 
 abbrev pub minus : ℕ → ℤ
 minus zero = pos 0
@@ -58,12 +60,12 @@ value_of [] = None
 value_of (b ∷ bs) =
     if b == 45 then below_zero (number_of 9223372036854775808 bs) else not_below_zero (number_of 9223372036854775807 (b ∷ bs))
 
--- a value, and the place behind it; cause 6
+-- a value, and the place behind it
 unfoldable pub value_at : ℕ → ℕ → List ℕ → Result (ℤ × ℕ) ScriptFault
 value_at number at line = do
   word ← word_at number at line
-  v ← or_refuse (value_of (text_of word line)) number word.0 6
-  Ok (v, word.1)
+  v ← or_refuse (value_of (text_of word line)) number word.start causes.InvalidNumber
+  Ok (v, word.end)
 
 abbrev pub is_letter_or_digit : ℕ → Bool
 is_letter_or_digit b = is_letter b || is_digit b
@@ -73,17 +75,17 @@ abbrev pub is_name : List ℕ → Bool
 is_name [] = false
 is_name (b ∷ bs) = is_letter b && (list_all is_letter_or_digit bs && nat_le (length bs) 15)
 
--- a new name, by the names that there are: the word; cause 7 where it is no name, cause 8 where it is one of them
-unfoldable pub new_name_at : List (List ℕ) → ℕ → ℕ → List ℕ → Result (ℕ × ℕ) ScriptFault
+-- the word of a new name, which is none of the names that there are
+unfoldable pub new_name_at : List (List ℕ) → ℕ → ℕ → List ℕ → Result Word ScriptFault
 new_name_at names number at line = do
   word ← word_at number at line
-  spelled ← refuse_if (not (is_name (text_of word line))) number word.0 7
-  new ← refuse_if (is_some (place_of names (text_of word line))) number word.0 8
+  spelled ← refuse_if (not (is_name (text_of word line))) number word.start causes.InvalidName
+  new ← refuse_if (is_some (place_of names (text_of word line))) number word.start causes.DeclaredAgain
   Ok word
 
--- the place of a declared name, and the place behind the word; cause 9
+-- the place of a declared name, and the place behind the word
 unfoldable pub declared_at : List (List ℕ) → ℕ → ℕ → List ℕ → Result (ℕ × ℕ) ScriptFault
 declared_at names number at line = do
   word ← word_at number at line
-  place ← or_refuse (place_of names (text_of word line)) number word.0 9
-  Ok (place, word.1)
+  place ← or_refuse (place_of names (text_of word line)) number word.start causes.Undeclared
+  Ok (place, word.end)

@@ -1,7 +1,10 @@
 -- The words of a line, and faults at them. Places in a line count from 0, columns from 1; a word is the places where it begins and ends.
 use Rattle.std.specs.Prelude.{ℕ, ◌+◌, ◌==◌, ◌||◌, Bool, true, false, List, [], ◌∷◌, drop, slice_range, bytes_eq, Option, Some, None, Result, Ok, Err, if◌then◌else◌}
 use Rattle.cam_words.specs.declared.fault.ScriptFault.{ScriptFault}
+use Rattle.cam_words.specs.declared.cause.Cause.{Cause}
+use Rattle.cam_words.specs.declared.cause.Cause.TheVariants as causes
 use Rattle.cam_words.specs.declared.fault.ScriptFault.TheVariants.{Bad}
+use Rattle.cam_words.specs.declared.word.Word.{Word}
 
 -- reading goes on from left to right, up to the first fault
 infixl 10 ◌>>=◌
@@ -9,17 +12,17 @@ abbrev pub ◌>>=◌ : {A B : Type 0} → Result A ScriptFault → (A → Result
 (Ok x) >>= f = f x
 (Err e) >>= f = Err e
 
--- the fault of this cause, listed in Grammar, at this place of the line of this number
-abbrev pub refuse : {A : Type 0} → ℕ → ℕ → ℕ → Result A ScriptFault
+-- the fault of this cause at this place of the line of this number
+abbrev pub refuse : {A : Type 0} → ℕ → ℕ → Cause → Result A ScriptFault
 refuse number at cause = Err (Bad number (at + 1) cause)
 
 -- what was read, or the fault
-abbrev pub or_refuse : {A : Type 0} → Option A → ℕ → ℕ → ℕ → Result A ScriptFault
+abbrev pub or_refuse : {A : Type 0} → Option A → ℕ → ℕ → Cause → Result A ScriptFault
 or_refuse (Some x) number at cause = Ok x
 or_refuse None number at cause = refuse number at cause
 
 -- the fault where something is wrong
-abbrev pub refuse_if : Bool → ℕ → ℕ → ℕ → Result (Unit {0}) ScriptFault
+abbrev pub refuse_if : Bool → ℕ → ℕ → Cause → Result (Unit {0}) ScriptFault
 refuse_if true number at cause = refuse number at cause
 refuse_if false number at cause = Ok tt
 
@@ -38,37 +41,37 @@ word_end at [] = at
 word_end at (b ∷ bs) = if is_blank b then at else word_end (at + 1) bs
 
 -- the word that begins at this place
-abbrev pub word_from : ℕ → List ℕ → ℕ × ℕ
-word_from start line = (start, word_end start (drop start line))
+abbrev pub word_from : ℕ → List ℕ → Word
+word_from start line = record { start = start; end = word_end start (drop start line) }
 
 -- the next word from `at` on: an empty one at the line's end where there is none
-abbrev pub next_word : ℕ → List ℕ → ℕ × ℕ
+abbrev pub next_word : ℕ → List ℕ → Word
 next_word at line = word_from (blanks_end at (drop at line)) line
 
 -- the bytes of a word
-abbrev pub text_of : ℕ × ℕ → List ℕ → List ℕ
-text_of word line = slice_range line word.0 word.1
+abbrev pub text_of : Word → List ℕ → List ℕ
+text_of word line = slice_range line word.start word.end
 
-abbrev pub is_missing : ℕ × ℕ → Bool
-is_missing word = word.0 == word.1
+abbrev pub is_missing : Word → Bool
+is_missing word = word.start == word.end
 
--- The next word behind a word that ends at `at`. Where it is missing, cause 4 stands one past the line's last word.
-abbrev pub some_word : ℕ → ℕ → ℕ × ℕ → Result (ℕ × ℕ) ScriptFault
-some_word number at word = if is_missing word then refuse number at 4 else Ok word
+-- The next word behind a word that ends at `at`. Where it is missing, the fault stands one past the line's last word.
+abbrev pub some_word : ℕ → ℕ → Word → Result Word ScriptFault
+some_word number at word = if is_missing word then refuse number at causes.MissingWord else Ok word
 
-abbrev pub word_at : ℕ → ℕ → List ℕ → Result (ℕ × ℕ) ScriptFault
+abbrev pub word_at : ℕ → ℕ → List ℕ → Result Word ScriptFault
 word_at number at line = some_word number at (next_word at line)
 
--- No word is left. Where there is one, cause 5 stands at it.
-abbrev pub no_word : ℕ → ℕ × ℕ → Result (Unit {0}) ScriptFault
-no_word number word = if is_missing word then Ok tt else refuse number word.0 5
+-- No word is left. Where there is one, the fault stands at it.
+abbrev pub no_word : ℕ → Word → Result (Unit {0}) ScriptFault
+no_word number word = if is_missing word then Ok tt else refuse number word.start causes.ExtraWord
 
 abbrev pub end_at : ℕ → ℕ → List ℕ → Result (Unit {0}) ScriptFault
 end_at number at line = no_word number (next_word at line)
 
 -- the third word behind one that ends at `at`, empty where there is none: the fourth word of a line
-abbrev pub third_word : ℕ → List ℕ → ℕ × ℕ
-third_word at line = next_word (next_word (next_word at line).1 line).1 line
+abbrev pub third_word : ℕ → List ℕ → Word
+third_word at line = next_word (next_word (next_word at line).end line).end line
 
 -- what the table has for this word
 abbrev pub looked_up : {A : Type 0} → List (List ℕ × A) → List ℕ → Option A

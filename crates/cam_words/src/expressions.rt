@@ -3,7 +3,7 @@ ghost use Rattle.cam_words.specs.Expressions.{digits_in_front, behind_digits, ad
 
 use crate::line::Line;
 use crate::numbers::{number_of, value_of};
-use crate::{ScriptFault, causes};
+use crate::{Cause, ScriptFault};
 
 /// A value in a body: fixed, or that of an earlier statement, counted from 1, with a number added.
 #[derive(Clone, Copy, Debug)]
@@ -21,8 +21,8 @@ impl Line<'_> {
         ensures end { IfOk result (λ read. (at ≤ read.1) × (read.1 ≤ length self.now.bytes.now)) }
     {
         let word = self.word_at(at)?;
-        let expr = self.expression_of(word.0, self.text(word), earlier)?;
-        Ok((expr, word.1))
+        let expr = self.expression_of(word.start, self.text(word), earlier)?;
+        Ok((expr, word.end))
     }
 
     /// The expression that the text of a word spells, which begins at this place.
@@ -31,11 +31,11 @@ impl Line<'_> {
         ensures { result ≡ expression_of earlier self.now.number at text.now }
     {
         match text.split_first() {
-            None => Err(self.fault(at, causes::INVALID_NUMBER)),
+            None => Err(self.fault(at, Cause::InvalidNumber)),
             Some((b'$', rest)) => self.kept_of(at, rest, earlier),
             Some(_) => match value_of(text) {
                 Some(value) => Ok(Expr::Fixed(value)),
-                None => Err(self.fault(at, causes::INVALID_NUMBER)),
+                None => Err(self.fault(at, Cause::InvalidNumber)),
             },
         }
     }
@@ -48,7 +48,7 @@ impl Line<'_> {
     {
         let end = digits_len(text);
         match added_of(&text[end..]) {
-            None => Err(self.fault(at, causes::INVALID_NUMBER)),
+            None => Err(self.fault(at, Cause::InvalidNumber)),
             Some(add) => {
                 let place = self.earlier_of(at, &text[..end], earlier)?;
                 Ok(Expr::Kept { place, add })
@@ -62,11 +62,11 @@ impl Line<'_> {
         ensures { result ≡ earlier_of earlier self.now.number at digits.now }
     {
         if digits.is_empty() {
-            return Err(self.fault(at, causes::INVALID_NUMBER));
+            return Err(self.fault(at, Cause::InvalidNumber));
         }
         match number_of(digits, earlier as u64) {
             Some(place) if 1 <= place => Ok(place as u8),
-            _ => Err(self.fault(at, causes::UNDECLARED)),
+            _ => Err(self.fault(at, Cause::Undeclared)),
         }
     }
 }

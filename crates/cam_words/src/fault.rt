@@ -2,15 +2,19 @@ ghost use Rattle.std.specs.Prelude.{◌≡◌};
 ghost use Rattle.cam_words.specs.declared.fault.ScriptFault.TheVariants.{NoMemory};
 ghost use Rattle.cam_words.specs.Faults.{unknown_line};
 
-use crate::causes;
+use crate::Cause;
 use std::alloc::{AllocError, AllocFailed};
 use thiserror::Error;
 
-/// The first fault of a script: its line and column, from 1, and its cause, 1 to 12, by [`causes`].
+/// The first fault of a script: its line and column, from 1, and its cause.
 #[derive(Clone, Copy, Debug, PartialEq, Eq, Error)]
 pub enum ScriptFault {
-    #[error("line {line}, column {column}: S{cause}")]
-    Bad { line: u32, column: u32, cause: u8 },
+    #[error("line {line}, column {column}: {cause}")]
+    Bad {
+        line: u32,
+        column: u32,
+        cause: Cause,
+    },
     #[error("out of memory")]
     NoMemory,
 }
@@ -28,7 +32,7 @@ impl ScriptFault {
             } => ScriptFault::Bad {
                 line,
                 column: 1,
-                cause: causes::UNKNOWN_WORD,
+                cause: Cause::UnknownWord,
             },
             ScriptFault::NoMemory => ScriptFault::NoMemory,
         }

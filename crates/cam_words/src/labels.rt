@@ -1,10 +1,7 @@
-ghost use Rattle.std.specs.Prelude.{◌≡◌, ◌≤◌, ◌<◌, length, string_bytes, Ok, Err, IfOk, IfSome, IsTrue};
+ghost use Rattle.std.specs.Prelude.{◌≡◌, string_bytes, IfOk, IsTrue};
 ghost use Rattle.std.specs.List.{list_all};
-ghost use Rattle.cam_words.specs.Words.{text_of, place_of};
-ghost use Rattle.cam_words.specs.Numbers.{is_letter, is_letter_or_digit, is_name, new_name_at, declared_at};
+ghost use Rattle.cam_words.specs.Numbers.{is_letter, is_letter_or_digit, is_name};
 
-use crate::line::{Line, Word};
-use crate::{ScriptFault, causes};
 use cam_base::{NoMemory, Sequence};
 use std::alloc::Global;
 use std::marker::Model;
@@ -52,41 +49,6 @@ impl Label {
     }
 }
 
-impl Line<'_> {
-    /// A new name, none of these: its word.
-    #[tactic(auto, unfolding(crate::specs::Numbers::new_name_at))]
-    pub fn new_name_at(&self, at: usize, names: &[Label]) -> Result<Word, ScriptFault>
-        requires { at ≤ length self.now.bytes.now }
-        ensures value { result ≡ new_name_at names.now self.now.number at self.now.bytes.now }
-        ensures word { IfOk result (λ word. (at ≤ word.0) × ((word.0 ≤ word.1) × (word.1 ≤ length self.now.bytes.now))) }
-        ensures name { IfOk result (λ word. IsTrue (is_name (text_of word self.now.bytes.now))) }
-    {
-        let word = self.word_at(at)?;
-        if !is_name(self.text(word)) {
-            return Err(self.fault(word.0, causes::INVALID_NAME));
-        }
-        if place_of(names, self.text(word)).is_some() {
-            return Err(self.fault(word.0, causes::DECLARED_AGAIN));
-        }
-        Ok(word)
-    }
-
-    /// The place of one of these names, and the place behind the word.
-    #[tactic(auto, unfolding(crate::specs::Numbers::declared_at))]
-    pub fn declared_at(&self, at: usize, names: &[Label]) -> Result<(usize, usize), ScriptFault>
-        requires { at ≤ length self.now.bytes.now }
-        ensures value { result ≡ declared_at names.now self.now.number at self.now.bytes.now }
-        ensures place { IfOk result (λ read. read.0 < length names.now) }
-        ensures end { IfOk result (λ read. (at ≤ read.1) × (read.1 ≤ length self.now.bytes.now)) }
-    {
-        let word = self.word_at(at)?;
-        match place_of(names, self.text(word)) {
-            Some(place) => Ok((place, word.1)),
-            None => Err(self.fault(word.0, causes::UNDECLARED)),
-        }
-    }
-}
-
 /// A name is a letter and up to 15 letters or digits.
 pub fn is_name(word: &[u8]) -> bool
     ensures { result ≡ is_name word.now }
@@ -120,17 +82,4 @@ fn has_letters_and_digits(bytes: &[u8]) -> bool
         }
     }
     true
-}
-
-/// The place of a name among the names.
-pub fn place_of(names: &[Label], word: &[u8]) -> Option<usize>
-    ensures value { result ≡ place_of names.now word.now }
-    ensures within { IfSome result (λ place. place < length names.now) }
-{
-    for (i, name) in names.iter().enumerate() {
-        if name.as_str().as_bytes() == word {
-            return Some(i);
-        }
-    }
-    None
 }

@@ -4,16 +4,19 @@
 //! it answers what the definition of its name in `specs/` reads there: what the word says with the place behind it, or its fault.
 #![tactic(auto)]
 
-pub mod causes;
+mod cause;
 mod expressions;
 mod fault;
 mod labels;
 mod line;
 mod lines;
 mod numbers;
+mod word;
 
+pub use cause::Cause;
 pub use expressions::Expr;
 pub use fault::ScriptFault;
-pub use labels::{Label, Labels, is_name, place_of};
-pub use line::{Line, Word};
+pub use labels::{Label, Labels, is_name};
+pub use line::Line;
 pub use lines::{bad_byte, first_line};
+pub use word::Word;

@@ -2,10 +2,7 @@ ghost use Rattle.std.specs.Prelude.{◌≡◌, ◌≤◌, ◌<◌, ◌+◌, drop
 ghost use Rattle.cam_words.specs.declared.fault.ScriptFault.TheVariants.{Bad};
 ghost use Rattle.cam_words.specs.Words.{is_blank, blanks_end, word_end, next_word, third_word, text_of, word_at, end_at};
 
-use crate::{ScriptFault, causes};
-
-/// The places of a line where a word begins and ends. They count from 0.
-pub type Word = (usize, usize);
+use crate::{Cause, ScriptFault, Word};
 
 /// A line of a script, with its number from 1.
 #[derive(Clone, Copy)]
@@ -17,7 +14,7 @@ pub struct Line<'a> {
 
 impl Line<'_> {
     /// The fault of this cause at this place.
-    pub fn fault(&self, at: usize, cause: u8) -> ScriptFault
+    pub fn fault(&self, at: usize, cause: Cause) -> ScriptFault
         requires { at ≤ length self.now.bytes.now }
         ensures { result ≡ Bad self.now.number (at + 1) cause }
     {
@@ -30,45 +27,48 @@ impl Line<'_> {
 
     /// The bytes of a word.
     pub fn text(&self, word: Word) -> &[u8]
-        requires start { word.0 ≤ word.1 }
-        requires end { word.1 ≤ length self.now.bytes.now }
+        requires start { word.start ≤ word.end }
+        requires end { word.end ≤ length self.now.bytes.now }
         ensures { result.now ≡ text_of word self.now.bytes.now }
     {
-        &self.bytes[word.0..word.1]
+        &self.bytes[word.start..word.end]
     }
 
     /// The next word from this place on: an empty one at the line's end where there is none.
     pub fn next_word(&self, at: usize) -> Word
         requires { at ≤ length self.now.bytes.now }
         ensures value { result ≡ next_word at self.now.bytes.now }
-        ensures start { (at ≤ result.0) × (result.0 ≤ result.1) }
-        ensures end { result.1 ≤ length self.now.bytes.now }
+        ensures start { (at ≤ result.start) × (result.start ≤ result.end) }
+        ensures end { result.end ≤ length self.now.bytes.now }
     {
         let start = blanks_end(self.bytes, at);
-        (start, word_end(self.bytes, start))
+        Word {
+            start,
+            end: word_end(self.bytes, start),
+        }
     }
 
     /// The third word from this place on: an empty one at the line's end where there is none.
     pub fn third_word(&self, at: usize) -> Word
         requires { at ≤ length self.now.bytes.now }
         ensures value { result ≡ third_word at self.now.bytes.now }
-        ensures start { result.0 ≤ result.1 }
-        ensures end { result.1 ≤ length self.now.bytes.now }
+        ensures start { result.start ≤ result.end }
+        ensures end { result.end ≤ length self.now.bytes.now }
     {
         let first = self.next_word(at);
-        let second = self.next_word(first.1);
-        self.next_word(second.1)
+        let second = self.next_word(first.end);
+        self.next_word(second.end)
     }
 
     /// The next word, which must be there.
     pub fn word_at(&self, at: usize) -> Result<Word, ScriptFault>
         requires { at ≤ length self.now.bytes.now }
         ensures value { result ≡ word_at self.now.number at self.now.bytes.now }
-        ensures word { IfOk result (λ word. (at ≤ word.0) × ((word.0 < word.1) × (word.1 ≤ length self.now.bytes.now))) }
+        ensures word { IfOk result (λ word. (at ≤ word.start) × ((word.start < word.end) × (word.end ≤ length self.now.bytes.now))) }
     {
         let word = self.next_word(at);
-        if word.0 == word.1 {
-            return Err(self.fault(at, causes::MISSING_WORD));
+        if word.is_missing() {
+            return Err(self.fault(at, Cause::MissingWord));
         }
         Ok(word)
     }
@@ -79,8 +79,8 @@ impl Line<'_> {
         ensures value { result ≡ end_at self.now.number at self.now.bytes.now }
     {
         let word = self.next_word(at);
-        if word.0 != word.1 {
-            return Err(self.fault(word.0, causes::EXTRA_WORD));
+        if !word.is_missing() {
+            return Err(self.fault(word.start, Cause::ExtraWord));
         }
         Ok(())
     }

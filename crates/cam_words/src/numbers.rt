@@ -3,7 +3,7 @@ ghost use Rattle.cam_words.specs.Words.{word_at};
 ghost use Rattle.cam_words.specs.Numbers.{number_of, digits_on, number_at, node_at, value_of, value_at};
 
 use crate::line::Line;
-use crate::{ScriptFault, causes};
+use crate::{Cause, ScriptFault};
 
 impl Line<'_> {
     /// A number of this range, and the place behind it.
@@ -16,8 +16,8 @@ impl Line<'_> {
     {
         let word = self.word_at(at)?;
         match number_of(self.text(word), most as u64) {
-            Some(n) if least as u64 <= n => Ok((n as u32, word.1)),
-            _ => Err(self.fault(word.0, causes::INVALID_NUMBER)),
+            Some(n) if least as u64 <= n => Ok((n as u32, word.end)),
+            _ => Err(self.fault(word.start, Cause::InvalidNumber)),
         }
     }
 
@@ -32,11 +32,11 @@ impl Line<'_> {
         match number_of(self.text(word), 8) {
             Some(n) if 1 <= n => {
                 if n as u8 > nodes {
-                    return Err(self.fault(word.0, causes::NO_SUCH_NODE));
+                    return Err(self.fault(word.start, Cause::NoSuchNode));
                 }
-                Ok((n as u8, word.1))
+                Ok((n as u8, word.end))
             }
-            _ => Err(self.fault(word.0, causes::INVALID_NUMBER)),
+            _ => Err(self.fault(word.start, Cause::InvalidNumber)),
         }
     }
 
@@ -49,8 +49,8 @@ impl Line<'_> {
     {
         let word = self.word_at(at)?;
         match value_of(self.text(word)) {
-            Some(value) => Ok((value, word.1)),
-            None => Err(self.fault(word.0, causes::INVALID_NUMBER)),
+            Some(value) => Ok((value, word.end)),
+            None => Err(self.fault(word.start, Cause::InvalidNumber)),
         }
     }
 }

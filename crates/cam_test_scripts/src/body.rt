@@ -1,4 +1,6 @@
-use crate::{child_body, next_request};
+//! `cam_body`: what an action with a body does next.
+
+use cam_body::{child_body, next_request};
 use cam_event::{Seen, View, ViewStep};
 use cam_names::{Name, Part};
 use cam_script::{BodyOp, BodyText, Expr, Statement};

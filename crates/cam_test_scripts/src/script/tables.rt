@@ -1,10 +1,18 @@
-/// Two nodes, a register, a queue and a body, on seven lines.
+//! Scripts in rows, each behind its first fault.
+
+/// Two nodes, a register and a queue, on three lines.
+pub const OBJECTS: &str = "nodes 2\nobject x 1 register 0\nobject q 2 queue\n";
+
+/// The same and a body, on seven lines.
 pub const DECLARED: &str =
     "nodes 2\nobject x 1 register 0\nobject q 2 queue\nbody b\ncall 1 x read\ncommit 0\nend\n";
 
 /// The same, two variables, and a variable of `start`, on ten lines.
 pub const STARTED: &str =
     "nodes 2\nobject x 1 register 0\nobject q 2 queue\nbody b\ncall 1 x read\ncommit 0\nend\nbegin A 1\nask A B 2\nstart S 1 b\n";
+
+/// A counter, in a stage that has none.
+pub const COUNTER: &str = "2 12 3|nodes 1/object c 1 counter 0/";
 
 /// Whole scripts behind their first fault: line, column and cause, 0 0 0 where there is none. `/` ends a line.
 ///
@@ -26,7 +34,6 @@ pub const WHOLE: &str = "3 1 3|nodes 1//foo/
 1 7 6|nodes 1\r\r/
 1 7 6|nodes 1\r 1/
 1 1 3|Nodes 1/
-2 2 3|nodes 1/ stop 1 1/
 3 1 10|# no nodes//
 2 1 10|# no nodes
 1 1 10|begin A 9/
@@ -44,7 +51,74 @@ pub const WHOLE: &str = "3 1 3|nodes 1//foo/
 2 18 5|nodes 1/object x 1 queue 0/
 2 8 7|nodes 1/object 1x 1 queue/
 3 8 8|nodes 1/object x 1 queue/object x 1 queue/
-3 1 10|nodes 1/body b/end/";
+3 1 10|nodes 1/body b/end/
+1 5 2|foo \u{1}/
+2 2 2|nodes 1/ \u{e9}/
+1 1 3|foo/
+3 2 3|nodes 1/body b/ Drain/
+3 1 10|/ # c/
+3 1 10|//drain/
+3 1 10|nodes 1/drain/nodes 1/
+3 1 10|nodes 1/drain/object q 1 queue/
+3 1 10|nodes 1/body b/body c/
+4 1 10|nodes 1/body b/commit 0/abort/
+3 1 10|nodes 1/body b/drain/
+2 1 10|nodes 1/child 1 1 b/
+4 1 10|nodes 1/body b/commit 0/
+4 1 10|nodes 1/body b/commit 0
+3 4 10|nodes 1/begin A 1/go A/
+4 4 10|nodes 1/begin A 1/ask A B 1/go B/
+2 8 4|nodes 1/begin A  /
+1 9 5|nodes 2 3/
+4 5 5|nodes 1/body b/abort/end b/
+2 18 5|nodes 1/object q 1 queue 0/
+1 7 6|nodes 9/
+2 9 6|nodes 1/begin A 9/
+2 9 6|nodes 1/deliver x/
+2 9 6|nodes 1/deliver 4294967296/
+2 8 6|nodes 1/stop 1 1001/
+0 0 0|nodes 1/stop 1 1000/
+2 7 7|nodes 1/begin abcdefghijklmnopq 1/
+2 6 7|nodes 1/body a_b/
+5 6 8|nodes 1/body b/abort/end/body b/
+3 7 8|nodes 1/begin A 1/ask A A 1/
+2 6 9|nodes 1/call A x read/
+3 8 9|nodes 1/begin A 1/call A x read/
+3 11 9|nodes 1/body b/child 1 1 b/
+2 9 11|nodes 1/begin A 2/
+2 8 11|nodes 2/tell 1 3/
+2 10 11|nodes 7/object x 8 queue/
+2 19 4|nodes 1/object c 1 counter/
+2 20 6|nodes 1/object c 1 counter x/
+2 22 5|nodes 1/object c 1 counter 0 0/
+4 10 3|nodes 1/object c 1 counter 0/begin A 1/call A c size/
+4 10 3|nodes 1/object c 1 counter 0/begin A 1/call A c write 5/
+4 14 6|nodes 1/object c 1 counter 0/begin A 1/call A c add $1/
+4 10 3|nodes 1/object r 1 register 0/begin A 1/call A r add 5/
+0 0 0|nodes 1/object c 1 counter 0/begin A 1/call A c add -1/call A c read/
+0 0 0|nodes 1/object c 1 counter 0/body b/call 1 c read/call 1 c add $1/commit 0/end/
+0 0 0|nodes 1/object r 1 register 0/begin A 1/call A r swap 9223372036854775807/call A r write -9223372036854775808/
+0 0 0|nodes 1/drain
+0 0 0|nodes 4/object x 2 register 1/object y 3 register 1/begin P 1/ask P C 4/drain/call C x read/drain/giveup P C/begin D 1/call D x write 2/drain/call D y write 2/drain/commit D 0/drain/call C y read/drain/";
+
+/// The same of what follows on the lines of `OBJECTS`.
+pub const BEHIND_OBJECTS: &str = "0 0 0|body x/abort/end/start x 1 x/begin y 1/call y x read/
+5 8 9|body b/commit $0/
+5 8 9|body b/commit $99999999999999999999/
+5 16 9|body b/call 1 x write $1/
+5 15 4|begin A 1/call A x write/
+5 6 6|body b/call 10 x read/
+5 8 6|body b/commit $1+9223372036854775808/
+6 8 6|body b/call 1 x read/commit $1--1/
+5 16 6|begin A 1/call A x write $1/
+5 10 3|begin A 1/call A q read/
+5 10 3|body b/call 1 x inc 1/
+37 1 12|body c/;32*call 1 x read/;commit 0/
+37 1 10|body c/;31*call 1 x read/;commit 0/abort/
+37 1 12|body c/;28*call 9 x read/;call 3 x read/commit 0/end/start S 1 c/start 1 9 c/
+37 10 4|body c/;28*call 9 x read/;call 3 x read/commit 0/end/start S 1 c/start T 1/
+24 1 12|body b/;5*call 9 x read/;call 4 x read/commit 0/end/body c/child 9 1 b/;5*call 9 x read/;call 6 x read/commit $1/end/start S 1 c/drain/
+23 1 12|body b/;5*call 9 x read/;call 4 x read/commit 0/end/body c/child 9 1 b/;5*call 9 x read/;call 7 x read/commit $1/end/start S 1 c/";
 
 /// The same of what follows on the lines of `DECLARED`.
 ///
@@ -86,7 +160,9 @@ pub const BEHIND_DECLARED: &str = "9 1 10|body c/object y 1 queue/
 8 7 7|begin abcdefghijklmnopq 1/
 8 24 6|begin abcdefghijklmnop 9/
 8 11 9|start S 1 z/
-8 9 11|start S 3 z/";
+8 9 11|start S 3 z/
+9 6 10|start S 1 b/call S x read/
+10 10 10|begin A 1/start S 1 b/giveup A S/";
 
 /// The same of what follows on the lines of `STARTED`.
 pub const BEHIND_STARTED: &str = "11 1 10|object y 1 queue/
@@ -137,12 +213,17 @@ pub const LIMITS: &str = "0 0 0|nodes 1/;64*object x@ 1 queue/
 0 0 0|nodes 1/body b0/abort/end/;7*body b@/child 9 1 b^/abort/end/
 34 1 12|nodes 1/body b0/abort/end/;8*body b@/child 9 1 b^/abort/end/
 34 1 12|nodes 1/body b0/abort/end/;7*body b@/child 9 1 b^/abort/end/;body c/child 0 x b7/
+514 1 12|nodes 1/;512*drain/;begin 1/
+66 1 12|nodes 1/;64*object o@ 1 queue/;object 1 9/
+98 1 12|nodes 1/;32*body b@/abort/end/;body b1/
+34 2 12|nodes 1/body b0/abort/end/;7*body b@/child 1 1 b^/abort/end/;body c/ child 0 x b7/
+34 7 6|nodes 1/body b0/abort/end/;7*body b@/child 1 1 b^/abort/end/;body c/child 0 x c/
 0 0 0|nodes 1/;262136*/
 1 1 1|nodes 9/;262137*/";
 
 /// A second body and steps behind `DECLARED`: each statement and each step once.
 pub const FORMS: &str =
-    "# a second body\r\n\n \t\nbody c\ncall 9 q take\ncall 1 x swap $1-0\nchild 2 1 b\ncall 1 q put $03+9223372036854775807\ncall 1 x write -9223372036854775808\ncommit $4-9223372036854775807\nend\nbegin A 1\nstart S 2 b\nask A B 2\ncall A x write -7\ncall B q put 08\ncall B q size\ncommit A 4\nabort B\ngiveup A B\ngo S\ndeliver 0004294967295\ncut 1 0\nlose 007\r\n\trestart  1 \ndrain\nplay\ntell 1 2\nquery 2 S";
+    "# a second body\r\n\n \t\nbody c\ncall 9 q take\ncall 1 x swap $1-0\nchild 2 1 b\ncall 1 q put $03+9223372036854775807\ncall 1 x write -9223372036854775808\ncommit $4-9223372036854775807\nend\nbegin A 1\nstart S 2 b\nask A B 2\ncall A x write -7\ncall B q put 08\ncall B q size\ncommit A 4\nabort B\ngiveup A B\ngo S\ndeliver 0004294967295\ncut 1 0\nlose 007\r\n\trestart  1 \ndrain\nplay\ntell 1 2\nquery 2 S\nstop 2 01000";
 
 /// What the statements of both bodies and the steps, with the numbers of their lines, say.
 pub const SAID: &str = "Call { tries: 1, object: 0, op: Read }
@@ -171,4 +252,5 @@ Commit(Kept { place: 4, add: -9223372036854775807 })
 34 Play
 35 Tell { node: 1, to: 2 }
 36 Query { node: 2, action: 1 }
+37 Stop { node: 2, calls: 1000 }
 ";

@@ -1,6 +1,6 @@
-//! Words that are forms, and words that are none.
+//! `cam_args`: words that are forms, and words that are none.
 
-use crate::{ArgsFault, Command, read_words};
+use cam_args::{ArgsFault, Command, read_words};
 use cam_names::Name;
 use std::alloc::Global;
 use std::test::Fail;

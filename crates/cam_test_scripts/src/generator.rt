@@ -1,6 +1,6 @@
-//! The generator against numbers and texts that two other programs gave.
+//! `cam_gen`: the generator against numbers and texts that two other programs gave.
 
-use crate::{Draws, digest_text, script_of};
+use cam_gen::{Draws, digest_text, script_of};
 use std::test::Fail;
 
 /// The first draw from seed 7.

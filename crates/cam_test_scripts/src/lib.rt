@@ -1,0 +1,14 @@
+//! Tests of `cam_words` and `cam_script` (by the parser), `cam_gen`, `cam_args`, `cam_body` and `cam_report` through their public calls,
+//! a module for each.
+#![tactic(auto)]
+
+#[cfg(test)]
+mod args;
+#[cfg(test)]
+mod body;
+#[cfg(test)]
+mod generator;
+#[cfg(test)]
+mod report;
+#[cfg(test)]
+mod script;
