@@ -9,7 +9,7 @@ use Rattle.cam_event.specs.declared.Operation.{Operation}
 use Rattle.cam_event.specs.Pasts.{plain_all}
 use Rattle.cam_event.specs.ByKnowledge.{Placed, site, of_node, carried_of}
 use Rattle.cam_node.specs.Kept.{Secured, secured_of, AllStandFor, AllHeld}
-use Rattle.cam_node.specs.Layers.{AreHeldOps, AreHeld}
+use Rattle.cam_server.specs.Recovered.{AreHeldOps, AreHeld}
 use Rattle.cam_headline.specs.KeptLog.{LogsKeepSecured}
 use Rattle.cam_headline.proofs.KeptLists.{Essence, of_placed, of_operation, AllAlike}
 use Rattle.cam_headline.proofs.KeptWhole.{kept_whole}
