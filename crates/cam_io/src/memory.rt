@@ -1,3 +1,4 @@
+//! A source and a sink in memory, which fail the calls that they are told to fail.
 ghost use Rattle.std.specs.Prelude.{◌≡◌, ◌≤◌, ◌<◌, ◌+◌, ◌-◌, ◌^◌, min, ◌++◌, [], Some, drop, length, take, IfOk, OnOk, OnErr, MatchResult, vec_len};
 ghost use Rattle.cam_base.specs.Causes.{HasCause};
 ghost use Rattle.cam_io.specs.Memory.{IsCounted, IsToFail};

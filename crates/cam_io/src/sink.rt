@@ -1,3 +1,4 @@
+//! Sinks of bytes, and how a whole text is written.
 ghost use Rattle.std.specs.Prelude.{◌≡◌, ◌≤◌, ◌<◌, ◌++◌, ℕ, List, Option, length, take, IfOk, OnOk, MatchResult};
 ghost use Rattle.cam_base.specs.Told.{IfTold};
 ghost use Rattle.cam_base.specs.Causes.{HasCause};
@@ -12,7 +13,8 @@ pub trait Sink {
     /// How often the sink has failed.
     ghost faults: { Self → ℕ };
 
-    /// Takes a front of the piece, and answers its length, one byte or more. A write that fails takes nothing.
+    /// Takes the first bytes of the piece, and answers how many: at least one. A write that fails takes
+    /// nothing.
     fn write(&mut self, piece: &[u8]) -> Result<usize, Failed>
         requires { 0 < length piece.now }
         ensures count { IfOk result (λ n. (1 ≤ n) × (n ≤ length piece.now)) }
@@ -20,7 +22,8 @@ pub trait Sink {
         ensures cause { HasCause (faults self.old) (faults self.new) result };
 }
 
-/// Writes the text: the whole, or a front of it where a write fails, and then it fails too. It takes no memory.
+/// Writes the whole text. It fails where a write fails, and then only the text before that was written.
+/// It takes no memory.
 pub fn write_all<K: Sink>(sink: &mut K, text: &[u8]) -> Result<(), Failed>
     ensures all { OnOk result (IfTold (K.written sink.old) (K.written sink.new) (λ old new. new ≡ old ++ text.now)) }
     ensures front { IfTold (K.written sink.old) (K.written sink.new) (λ old new. (n : ℕ) × (n ≤ length text.now) × (new ≡ old ++ take n text.now)) }

@@ -1,3 +1,4 @@
+//! std's readers and writers as sources and sinks.
 ghost use Rattle.std.specs.Prelude.{◌≡◌, None};
 
 use crate::fault::Failed;

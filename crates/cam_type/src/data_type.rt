@@ -1,3 +1,4 @@
+//! What a data server does.
 ghost use Rattle.std.specs.Prelude.{◌≡◌, OnOk, OnErr, IfOk, IsTrue};
 ghost use Rattle.cam_type.specs.declared.Kind.{Kind};
 ghost use Rattle.cam_type.specs.declared.State.{State};

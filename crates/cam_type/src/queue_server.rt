@@ -1,3 +1,4 @@
+//! The data server of queues.
 use crate::table::apply_to_queue;
 use crate::{Answer, DataType, Items, Kind, Op, State};
 use cam_base::NoMemory;

@@ -1,3 +1,4 @@
+//! The data server of registers.
 use crate::table::apply_to_register;
 use crate::{Answer, DataType, Kind, Op, State};
 use cam_base::NoMemory;

@@ -1,4 +1,5 @@
-use crate::{
+//! Streams of which reads and writes fail, and the adapters over those of std.
+use cam_io::{
     Failed, MemorySink, MemorySource, ReadFault, Sink, Source, StdSink, StdSource, read_all,
     write_all,
 };
