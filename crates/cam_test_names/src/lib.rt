@@ -1,8 +1,10 @@
-//! Tests of `cam_base`, `cam_io`, `cam_names` and `cam_type` through their public calls, a module for each.
+//! Tests of `cam_base`, `cam_io`, `cam_names`, `cam_type` and `cam_event` through their public calls, a module for each.
 #![tactic(auto)]
 
 #[cfg(test)]
 mod base;
+#[cfg(test)]
+mod events;
 #[cfg(test)]
 mod io;
 #[cfg(test)]
