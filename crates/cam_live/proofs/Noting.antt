@@ -11,11 +11,14 @@ use Rattle.cam_names.specs.declared.name.Name.{Name}
 use Rattle.cam_names.specs.Names.{name_cmp, name_eq}
 use Rattle.cam_names.proofs.Names.{name_eq_same}
 use Rattle.cam_names.proofs.Names.{name_ties_back}
+use Rattle.cam_type.specs.declared.ObjectDecl.{ObjectDecl}
+use Rattle.cam_type.specs.declared.Answer.{Answer}
 use Rattle.cam_event.specs.declared.Deed.{Deed}
-use Rattle.cam_event.specs.declared.Deed.TheVariants.{Call, Secure, Inform}
-use Rattle.cam_event.specs.History.{count, informed, Addressed, call_of}
+use Rattle.cam_event.specs.declared.Deed.TheVariants.{Call, Perform, Secure}
+use Rattle.cam_event.specs.History.{count, Addressed, call_of}
 use Rattle.cam_live.specs.declared.tables.Asked.{Asked}
-use Rattle.cam_live.specs.Tables.{site_name_cmp, call_cmp, asked_of, TellsCalls, first_secured, TellsSecured, informed_of, TellsInforms}
+use Rattle.cam_live.specs.Counted.{performed}
+use Rattle.cam_live.specs.Tables.{site_name_cmp, call_cmp, asked_of, TellsCalls, first_secured, TellsSecured, AddsName}
 
 -- two keys tie where their parts do
 both_equal : (o p : Ordering) → is_eq (ordering_then o p) ≡ (is_eq o && is_eq p)
@@ -43,29 +46,12 @@ calls_put L b m call old new before put a n =
     chosen true = refl
     chosen false = refl
 
--- one more deed that informs a site of this outcome
-named : (L : List Deed) (site t : ℕ) (c b : Name) (s : ℕ) (a : Name) (outcome : Bool) → ◌≡◌ {A = Option (ℕ × Name)} (Some (t, b)) (Some (site, c))
-    → ((eqb s site && name_eq a c) || informed L s a outcome) ≡ ((eqb s t && name_eq a b) || informed L s a outcome)
-named L site t c b s a outcome e =
-    let same : (t, b) ≡ (site, c) = ap (λ o. unwrap_or o (t, b)) e in
-    sym (ap (λ (k : ℕ × Name). (eqb s k.0 && name_eq a k.1) || informed L s a outcome) same)
-
-more_informed : (outcome : Bool) (L : List Deed) (d : Deed) (t : ℕ) (b : Name) → Some (t, b) ≡ informed_of outcome d → (s : ℕ) (a : Name) → informed (d ∷ L) s a outcome ≡ ((eqb s t && name_eq a b) || informed L s a outcome)
-more_informed true L (Inform site c true) t b e s a = named L site t c b s a true e
-more_informed true L (Inform site c false) t b e s a = cc e
-more_informed true L _ t b e s a = cc e
-more_informed false L (Inform site c false) t b e s a = named L site t c b s a false e
-more_informed false L (Inform site c true) t b e s a = cc e
-more_informed false L _ t b e s a = cc e
-
-pub informs_put : (outcome : Bool) (L : List Deed) (d : Deed) (key : ℕ × Name) (old new : BTreeSet (ℕ × Name)) → Some key ≡ informed_of outcome d → TellsInforms outcome L old
-    → ((q : ℕ × Name) → contains site_name_cmp new q ≡ cond (is_eq (site_name_cmp key q)) true (contains site_name_cmp old q))
-    → TellsInforms outcome (d ∷ L) new
-informs_put outcome L d key old new e before put s a =
-    put (s, a)
-    ∙ (λ i. cond (site_name_ties key.0 s key.1 a i) true (before s a i))
-    ∙ cond_or (eqb s key.0 && name_eq a key.1) (informed L s a outcome)
-    ∙ sym (more_informed outcome L d key.0 key.1 e s a)
+-- one more name at a site
+pub name_put : (t : ℕ) (b : Name) (old new : BTreeSet (ℕ × Name))
+    → ((q : ℕ × Name) → contains site_name_cmp new q ≡ cond (is_eq (site_name_cmp (t, b) q)) true (contains site_name_cmp old q))
+    → AddsName t b old new
+name_put t b old new put s a =
+    put (s, a) ∙ (λ i. cond (site_name_ties t s b a i) true (contains site_name_cmp old (s, a))) ∙ cond_or (eqb s t && name_eq a b) (contains site_name_cmp old (s, a))
   where
     cond_or : (x y : Bool) → cond x true y ≡ (x || y)
     cond_or true y = refl
@@ -110,3 +96,8 @@ secured_same L t g c old before there s f = before s f ∙ by (eqb s t && name_e
         ap is_some ((λ i. first_secured L (eqb-true s t parts.0 i) (name_eq_same f g parts.1 i)) ∙ sym (before t g)) ∙ there
         in
         sym (or_some (first_secured L s f) (Some (count L s)) first)
+
+-- a deed that is no Perform adds no operation
+pub other_performed : (objects : List ObjectDecl) (L : List Deed) (d : Deed) → ((a : Name) (n : ℕ) (answer : Answer) → d ≡ Perform a n answer → ⊥) → performed objects L ≡ performed objects (d ∷ L)
+other_performed objects L (Perform a n answer) other = absurd (other a n answer refl)
+other_performed objects L _ other = refl

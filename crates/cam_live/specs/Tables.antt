@@ -1,5 +1,5 @@
 -- What the tables have of the deeds so far: calls, counts of sites, secured families and informs.
-use Rattle.std.specs.Prelude.{◌≡◌, ℕ, eqb, Bool, true, false, ◌&&◌, if◌then◌else◌, List, [], ◌∷◌, Option, Some, None, option_map, unwrap_or}
+use Rattle.std.specs.Prelude.{◌≡◌, ℕ, eqb, Bool, true, false, ◌&&◌, ◌||◌, if◌then◌else◌, List, [], ◌∷◌, Option, Some, None, option_map, unwrap_or}
 use Rattle.std.specs.Option.{option_or}
 use Rattle.std.specs.Ordering.{nat_cmp, ordering_then}
 use Rattle.std.specs.declared.cmp.Ordering.{Ordering}
@@ -8,7 +8,7 @@ use Rattle.std.specs.BTreeSet.{BTreeSet, contains}
 use Rattle.cam_names.specs.declared.name.Name.{Name}
 use Rattle.cam_names.specs.Names.{name_cmp, name_eq}
 use Rattle.cam_event.specs.declared.Deed.{Deed}
-use Rattle.cam_event.specs.declared.Deed.TheVariants.{Secure, Inform}
+use Rattle.cam_event.specs.declared.Deed.TheVariants.{Secure}
 use Rattle.cam_event.specs.History.{count, Addressed, call_of, informed}
 use Rattle.cam_live.specs.declared.tables.Asked.{Asked}
 use Rattle.cam_live.specs.declared.tables.Tables.{Tables}
@@ -44,11 +44,12 @@ first_secured (_ ∷ before) s f = first_secured before s f
 abbrev pub TellsSecured : List Deed → BTreeMap (ℕ × Name) ℕ → Type 0
 TellsSecured L secured = (s : ℕ) (f : Name) → get site_name_cmp secured (s, f) ≡ first_secured L s f
 
--- the site that a deed informs of this outcome of an action, and the action
-abbrev pub informed_of : Bool → Deed → Option (ℕ × Name)
-informed_of true (Inform s a true) = Some (s, a)
-informed_of false (Inform s a false) = Some (s, a)
-informed_of _ _ = None
+-- the new set has this name at this site besides
+abbrev pub AddsName : ℕ → Name → BTreeSet (ℕ × Name) → BTreeSet (ℕ × Name) → Type 0
+AddsName site b old new = (s : ℕ) (a : Name) → contains site_name_cmp new (s, a) ≡ ((eqb s site && name_eq a b) || contains site_name_cmp old (s, a))
+
+abbrev pub HasSameNames : BTreeSet (ℕ × Name) → BTreeSet (ℕ × Name) → Type 0
+HasSameNames old new = (s : ℕ) (a : Name) → contains site_name_cmp new (s, a) ≡ contains site_name_cmp old (s, a)
 
 -- the names at the sites that were informed of their commit, or of their abort
 abbrev pub TellsInforms : Bool → List Deed → BTreeSet (ℕ × Name) → Type 0

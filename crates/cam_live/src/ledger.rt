@@ -1,4 +1,5 @@
-ghost use Rattle.std.specs.Prelude.{◌≡◌, ◌∷◌, [], List, IfOk, OnOk};
+//! The ledger: what is kept of a list of deeds, and what it tells of live operations.
+ghost use Rattle.std.specs.Prelude.{◌≡◌, ◌∷◌, [], List, IfOk, OnOk, OnErr};
 ghost use Rattle.cam_type.specs.declared.ObjectDecl.{ObjectDecl};
 ghost use Rattle.cam_event.specs.declared.Deed.{Deed};
 ghost use Rattle.cam_event.specs.History.{after};
@@ -6,7 +7,7 @@ ghost use Rattle.cam_event.specs.Live.{live, lift};
 ghost use Rattle.cam_live.specs.Ledger.{Keeps};
 ghost use Rattle.cam_live.specs.Settled.{settled_operations};
 
-use crate::performed::{Operations, PerformedList, live_of, note_performed, past_top_of};
+use crate::performed::{Operations, PerformedList, live_of, past_top_of, perform};
 use crate::tables::{Tables, lift};
 use cam_base::NoMemory;
 use cam_event::{Deed, Deeds};
@@ -32,14 +33,23 @@ impl Ledger {
         }
     }
 
-    /// Takes one more deed over. The deeds may be any list. It fails only where memory runs out, and
-    /// the ledger is of no use then.
+    /// Takes one more deed over. The deeds may be any list. It fails only where memory runs out, and the
+    /// ledger then keeps what it kept.
     pub fn note(&mut self, objects: &Objects, deed: &Deed) -> Result<(), NoMemory>
-        ensures { OnOk result ((L : List Deed) → Keeps objects.now L self.old → Keeps objects.now (deed.now ∷ L) self.new) }
+        ensures noted { OnOk result ((L : List Deed) → Keeps objects.now L self.old → Keeps objects.now (deed.now ∷ L) self.new) }
+        ensures failed { OnErr result ((L : List Deed) → Keeps objects.now L self.old → Keeps objects.now L self.new) }
     {
-        note_performed(objects, &self.tables, &mut self.performed, deed)?;
-        self.tables.note(deed)?;
-        Ok(())
+        match deed {
+            Deed::Perform {
+                action,
+                number,
+                answer,
+            } => {
+                let performed = &mut self.performed;
+                perform(objects, &self.tables, performed, action, *number, *answer)
+            }
+            _ => self.tables.note(deed),
+        }
     }
 
     /// Climbs from the action to its parent while the site was informed of the commit of the present

@@ -25,6 +25,3 @@ mod values;
 pub use ledger::{Ledger, live, settled};
 pub use performed::Operations;
 pub use values::value_after;
-
-#[cfg(test)]
-mod tests;

@@ -1,14 +1,14 @@
-ghost use Rattle.std.specs.Prelude.{◌≡◌, ◌∷◌, ◌++◌, List, map, IfOk, OnOk};
+//! The operations that were performed, and which of them are live.
+ghost use Rattle.std.specs.Prelude.{◌≡◌, ◌∷◌, List, IfOk, OnOk, OnErr};
 ghost use Rattle.cam_event.specs.declared.Deed.{Deed};
-ghost use Rattle.cam_event.specs.History.{call_of};
-ghost use Rattle.cam_event.specs.Live.{of_call};
-ghost use Rattle.cam_live.specs.Counted.{counted, performed, stands, is_live, live_of};
+ghost use Rattle.cam_event.specs.declared.Deed.TheVariants.{Perform};
+ghost use Rattle.cam_live.specs.Counted.{performed, stands, is_live, live_of};
 ghost use Rattle.cam_live.specs.Settled.{is_handed_up, past_top_of};
 ghost use Rattle.cam_live.specs.Tables.{Tells};
 
 use crate::tables::{Tables, count_of, has_ancestor, lift};
 use cam_base::{NoMemory, Sequence};
-use cam_event::{Deed, Operation};
+use cam_event::Operation;
 use cam_names::Name;
 use cam_type::{Answer, Objects, site_of};
 use std::alloc::Global;
@@ -27,7 +27,7 @@ pub(crate) struct Performed {
 pub(crate) type PerformedList = Sequence<Performed>;
 
 /// Adds an operation, where its call was made.
-fn perform(
+pub(crate) fn perform(
     objects: &Objects,
     tables: &Tables,
     list: &mut PerformedList,
@@ -35,7 +35,8 @@ fn perform(
     number: u32,
     answer: Answer,
 ) -> Result<(), NoMemory>
-    ensures { OnOk result ((L : List Deed) → Tells L tables.now → list.new ≡ list.old ++ map (counted objects.now L) (of_call action.now number answer (call_of L action.now number))) }
+    ensures noted { OnOk result ((L : List Deed) → Tells L tables.now → list.old ≡ performed objects.now L → list.new ≡ performed objects.now (Perform action.now number answer ∷ L)) }
+    ensures failed { OnErr result (list.new ≡ list.old) }
 {
     if let Some(asked) = tables.calls.get(&(*action, number)) {
         let operation = Operation {
@@ -49,25 +50,6 @@ fn perform(
         list.push_copy(&Performed { operation, count })?;
     }
     Ok(())
-}
-
-/// Adds the operation that a deed performs.
-pub(crate) fn note_performed(
-    objects: &Objects,
-    tables: &Tables,
-    list: &mut PerformedList,
-    deed: &Deed,
-) -> Result<(), NoMemory>
-    ensures { OnOk result ((L : List Deed) → Tells L tables.now → list.old ≡ performed objects.now L → list.new ≡ performed objects.now (deed.now ∷ L)) }
-{
-    match deed {
-        Deed::Perform {
-            action,
-            number,
-            answer,
-        } => perform(objects, tables, list, action, *number, *answer),
-        _ => Ok(()),
-    }
 }
 
 /// Whether no crash has removed the operation.

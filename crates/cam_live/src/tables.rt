@@ -1,10 +1,13 @@
-ghost use Rattle.std.specs.Prelude.{◌≡◌, ◌∷◌, [], List, OnOk};
+//! Tables of what the deeds so far say.
+ghost use Rattle.std.specs.Prelude.{◌≡◌, ◌∷◌, [], ℕ, List, OnOk, OnErr};
 ghost use Rattle.std.specs.BTreeSet.{contains};
 ghost use Rattle.std.specs.List.{list_any};
 ghost use Rattle.cam_names.specs.Names.{ancestors};
 ghost use Rattle.cam_know.specs.Known.{lift_by};
 ghost use Rattle.cam_event.specs.declared.Deed.{Deed};
-ghost use Rattle.cam_live.specs.Tables.{site_name_cmp, count_in, informed_of, TellsCalls, TellsCounts, TellsSecured, TellsInforms, Tells};
+ghost use Rattle.cam_event.specs.declared.Deed.TheVariants.{Call, Secure, Crash};
+ghost use Rattle.cam_live.specs.Tables.{site_name_cmp, count_in, AddsName, HasSameNames};
+ghost use Rattle.cam_live.specs.Tables.{TellsCalls, TellsCounts, TellsSecured, Tells};
 
 use cam_base::NoMemory;
 use cam_event::Deed;
@@ -58,39 +61,50 @@ impl Tables {
         }
     }
 
-    /// Keeps what one more deed says.
+    /// Keeps what one more deed says. Where memory runs out, the tables say what they said.
     pub(crate) fn note(&mut self, deed: &Deed) -> Result<(), NoMemory>
-        ensures { OnOk result ((L : List Deed) → Tells L self.old → Tells (deed.now ∷ L) self.new) }
+        ensures noted { OnOk result ((L : List Deed) → Tells L self.old → Tells (deed.now ∷ L) self.new) }
+        ensures failed { OnErr result ((L : List Deed) → Tells L self.old → Tells L self.new) }
     {
-        note_secure(&mut self.secured, &self.counts, deed)?;
-        note_call(&mut self.calls, deed)?;
-        note_crash(&mut self.counts, deed)?;
-        note_inform(&mut self.aborted, deed, false)?;
-        note_inform(&mut self.committed, deed, true)?;
-        Ok(())
+        match deed {
+            Deed::Call {
+                action,
+                number,
+                object,
+                op,
+                ..
+            } => note_call(&mut self.calls, action, *number, *object, *op),
+            Deed::Secure { family, site, .. } => {
+                note_secure(&mut self.secured, &self.counts, *site, family)
+            }
+            Deed::Crash { site } => note_crash(&mut self.counts, *site),
+            Deed::Inform {
+                site,
+                name,
+                committed: false,
+            } => note_name(&mut self.aborted, *site, name),
+            Deed::Inform {
+                site,
+                name,
+                committed: true,
+            } => note_name(&mut self.committed, *site, name),
+            _ => Ok(()),
+        }
     }
 }
 
 /// Keeps what a call asked.
-fn note_call(calls: &mut Calls, deed: &Deed) -> Result<(), NoMemory>
-    ensures { OnOk result ((L : List Deed) → TellsCalls L calls.old → TellsCalls (deed.now ∷ L) calls.new) }
+fn note_call(
+    calls: &mut Calls,
+    action: &Name,
+    number: u32,
+    object: u8,
+    op: Op,
+) -> Result<(), NoMemory>
+    ensures noted { OnOk result ((L : List Deed) (count : ℕ) → TellsCalls L calls.old → TellsCalls (Call action.now number object op count ∷ L) calls.new) }
+    ensures failed { OnErr result ((L : List Deed) → TellsCalls L calls.old → TellsCalls L calls.new) }
 {
-    if let Deed::Call {
-        action,
-        number,
-        object,
-        op,
-        ..
-    } = deed
-    {
-        calls.insert(
-            (*action, *number),
-            Asked {
-                object: *object,
-                op: *op,
-            },
-        )?;
-    }
+    calls.insert((*action, number), Asked { object, op })?;
     Ok(())
 }
 
@@ -105,65 +119,42 @@ pub(crate) fn count_of(counts: &Counts, site: u8) -> u64
 }
 
 /// Raises the count of a site that crashes. No memory holds so many deeds that the count could wrap.
-fn note_crash(counts: &mut Counts, deed: &Deed) -> Result<(), NoMemory>
-    ensures { OnOk result ((L : List Deed) → TellsCounts L counts.old → TellsCounts (deed.now ∷ L) counts.new) }
+fn note_crash(counts: &mut Counts, site: u8) -> Result<(), NoMemory>
+    ensures noted { OnOk result ((L : List Deed) → TellsCounts L counts.old → TellsCounts (Crash site ∷ L) counts.new) }
+    ensures failed { OnErr result ((L : List Deed) → TellsCounts L counts.old → TellsCounts L counts.new) }
 {
-    if let Deed::Crash { site } = deed {
-        match count_of(counts, *site).checked_add(1) {
-            Some(next) => {
-                counts.insert(*site, next)?;
-            }
-            None => return Err(NoMemory),
+    match count_of(counts, site).checked_add(1) {
+        Some(next) => {
+            counts.insert(site, next)?;
+            Ok(())
         }
+        None => Err(NoMemory),
     }
-    Ok(())
 }
 
 /// Keeps the count at which a family is secured at a site for the first time.
-fn note_secure(secured: &mut Secured, counts: &Counts, deed: &Deed) -> Result<(), NoMemory>
-    ensures { OnOk result ((L : List Deed) → TellsCounts L counts.now → TellsSecured L secured.old → TellsSecured (deed.now ∷ L) secured.new) }
+fn note_secure(
+    secured: &mut Secured,
+    counts: &Counts,
+    site: u8,
+    family: &Name,
+) -> Result<(), NoMemory>
+    ensures noted { OnOk result ((L : List Deed) (count : ℕ) → TellsCounts L counts.now → TellsSecured L secured.old → TellsSecured (Secure family.now site count ∷ L) secured.new) }
+    ensures failed { OnErr result ((L : List Deed) → TellsSecured L secured.old → TellsSecured L secured.new) }
 {
-    if let Deed::Secure { family, site, .. } = deed {
-        let key = (*site, *family);
-        if !secured.contains_key(&key) {
-            secured.insert(key, count_of(counts, *site))?;
-        }
+    let key = (site, *family);
+    if !secured.contains_key(&key) {
+        secured.insert(key, count_of(counts, site))?;
     }
     Ok(())
 }
 
-/// The site that the deed informs of this outcome of an action, and the action.
-fn informed_of(deed: &Deed, outcome: bool) -> Option<(u8, Name)>
-    ensures { result ≡ informed_of outcome deed.now }
+/// Keeps a name at a site.
+fn note_name(names: &mut SiteNames, site: u8, name: &Name) -> Result<(), NoMemory>
+    ensures noted { OnOk result (AddsName site name.now names.old names.new) }
+    ensures failed { OnErr result (HasSameNames names.old names.new) }
 {
-    match (deed, outcome) {
-        (
-            Deed::Inform {
-                site,
-                name,
-                committed: true,
-            },
-            true,
-        ) => Some((*site, *name)),
-        (
-            Deed::Inform {
-                site,
-                name,
-                committed: false,
-            },
-            false,
-        ) => Some((*site, *name)),
-        _ => None,
-    }
-}
-
-/// Keeps the action of whose commit, or of whose abort, a site is informed.
-fn note_inform(names: &mut SiteNames, deed: &Deed, outcome: bool) -> Result<(), NoMemory>
-    ensures { OnOk result ((L : List Deed) → TellsInforms outcome L names.old → TellsInforms outcome (deed.now ∷ L) names.new) }
-{
-    if let Some(name) = informed_of(deed, outcome) {
-        names.insert(name)?;
-    }
+    names.insert((site, *name))?;
     Ok(())
 }
 
@@ -183,7 +174,7 @@ pub(crate) fn lift(names: &SiteNames, site: u8, action: &Name) -> Option<Name>
     ensures { result ≡ lift_by (λ u. contains site_name_cmp names.now (site, u)) action.now }
 {
     // A name has a part.
-    let _parts = action.parts();
+    prove!(action.depth() > 0);
     if !names.contains(&(site, *action)) {
         return Some(*action);
     }

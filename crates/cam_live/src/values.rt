@@ -1,3 +1,4 @@
+//! Where objects stand, and what operations make of them.
 ghost use Rattle.std.specs.Prelude.{◌≡◌, IfOk, filter, eqb};
 ghost use Rattle.cam_event.specs.Live.{start_of, replay};
 

@@ -10,7 +10,7 @@ pub loop-deed-preserved : goal.loop-deed-preserved
 loop-deed-preserved c =
     let L = after [] (take c.loop-deed.deed-index c.as_slice-deed-items.result.now) in
     let more = further c.as_slice-deed-items.result.now c.loop-deed.deed-index c.deed-item.result c.loop-deed-test.true c.deed-item.is in
-    subst (λ (M : List Deed). Keeps c.args.objects.now M c.note.new.self) (sym more) (c.in_ok-note.ensures L c.loop-deed.invariant)
+    subst (λ (M : List Deed). Keeps c.args.objects.now M c.note.new.self) (sym more) (c.in_ok-note.ensures.noted L c.loop-deed.invariant)
 
 pub returns : goal.returns
 returns c =

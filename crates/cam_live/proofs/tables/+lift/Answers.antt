@@ -1,6 +1,5 @@
-use Rattle.std.proofs.Common.{subst, List, ◌≤◌, length, ◌≡◌, true, false, ◌∙◌, refl, arith}
+use Rattle.std.proofs.Common.{◌≡◌, true, false, ◌∙◌, refl, arith}
 use Rattle.std.specs.BTreeSet.{contains}
-use Rattle.cam_names.specs.Part.{PartFields}
 use Rattle.cam_know.proofs.Climbs.{lift_here, lift_above, lift_top}
 use Rattle.cam_live.specs.Tables.{site_name_cmp}
 use Rattle.cam_live.proofs.tables.+lift.Goals as goal
@@ -9,7 +8,7 @@ pub returns-then-not-contains : goal.returns-then-not-contains
 returns-then-not-contains t c =
     let open_yet : contains site_name_cmp c.args.names.now (c.args.site, c.args.action.now) ≡ false = grind arith in
     lift_here (λ u. contains site_name_cmp c.args.names.now (c.args.site, u)) c.args.action.now
-    (subst (λ (a : List PartFields). 1 ≤ length a) c.parts-parts.ensures.value c.parts-parts.ensures.from) open_yet
+    (omega (arith, c.depth.ensures.from, c.depth.ensures.value)) open_yet
 
 pub returns-in-Some : goal.returns-in-Some
 returns-in-Some t c =

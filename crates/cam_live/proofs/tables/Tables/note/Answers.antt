@@ -1,11 +1,19 @@
+use Rattle.std.proofs.Common.{◌∷◌, List, sym, subst}
+use Rattle.std.proofs.lemmas.Result.{on_ok_weaker}
+use Rattle.cam_event.specs.declared.Deed.{Deed}
+use Rattle.cam_live.specs.Tables.{Tells}
 use Rattle.cam_live.proofs.tables.Tables.note.Goals as goal
 
-pub returns : goal.returns
-returns c = λ L before.
-    record {
-      calls = c.in_ok-note_call.ensures L before.calls;
-      counts = c.in_ok-note_crash.ensures L before.counts;
-      secured = c.in_ok-note_secure.ensures L before.counts before.secured;
-      aborted = c.in_ok-note_inform.ensures L before.aborted;
-      committed = c.in_ok-note_inform-2.ensures L before.committed;
-    }
+pub returns-in-Secure-clause-noted : goal.returns-in-Secure-clause-noted
+returns-in-Secure-clause-noted c =
+    on_ok_weaker c.note_secure.result
+    (λ put. λ L before.
+    subst (λ (d : Deed). Tells (d ∷ L) (record c.args.self.now { secured = c.note_secure.new.secured })) (sym c.in-Secure.is)
+    (record {
+      calls = before.calls;
+      counts = before.counts;
+      secured = put L c.in-Secure.count before.counts before.secured;
+      aborted = before.aborted;
+      committed = before.committed;
+    }))
+    c.note_secure.ensures.noted
