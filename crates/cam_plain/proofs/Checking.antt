@@ -3,7 +3,8 @@ use Rattle.std.proofs.Common.{◌≡◌, ℕ, ◌<◌, ◌≤◌, true, false, L
 use Rattle.std.proofs.lemmas.Bool.{true≢false}
 use Rattle.cam_type.specs.declared.ObjectDecl.{ObjectDecl}
 use Rattle.cam_event.specs.declared.Deed.{Deed}
-use Rattle.cam_plain.specs.Legal.{Legal, history, cause_of, IsFirstIllegal}
+use Rattle.cam_plain.specs.declared.kind.DeedKind.{DeedKind}
+use Rattle.cam_plain.specs.Legal.{Legal, history, kind_of, IsFirstIllegal}
 use Rattle.cam_plain.specs.Tests.{meets}
 use Rattle.cam_plain.proofs.Deciders.{meets_decides}
 
@@ -20,8 +21,8 @@ front_length ds zero h = refl
 front_length [] (suc i) h = absurd (omega (arith, h))
 front_length (e ∷ ds) (suc i) h = let rest : i ≡ length (take i ds) = front_length ds i (omega (arith, h)) in omega (arith, rest)
 
-pub first_illegal : (objects : List ObjectDecl) (ds : List Deed) (i cause : ℕ) (d : Deed) → i < length ds → d ≡ get_or ds i d
-    → Legal objects (history (take i ds)) → meets objects (history (take i ds)) d ≡ false → cause ≡ cause_of d → IsFirstIllegal objects ds i cause
+pub first_illegal : (objects : List ObjectDecl) (ds : List Deed) (i : ℕ) (cause : DeedKind) (d : Deed) → i < length ds → d ≡ get_or ds i d
+    → Legal objects (history (take i ds)) → meets objects (history (take i ds)) d ≡ false → cause ≡ kind_of d → IsFirstIllegal objects ds i cause
 first_illegal objects ds i cause d h is legal fails why =
     record {
       front = take i ds;

@@ -10,6 +10,7 @@ ghost use Rattle.cam_plain.specs.Facts.{addressed};
 ghost use Rattle.cam_plain.specs.Legal.{history};
 ghost use Rattle.cam_plain.specs.Tests.{arrival_test, stands_against, is_performed, perform_test, is_bounced, bounce_test};
 
+use crate::before::Before;
 use crate::calls::{AddressedCall, call_of};
 use crate::fact::Fact;
 use crate::standing::count;
@@ -98,21 +99,17 @@ fn is_performed(
 
 pub(crate) fn may_perform(
     alloc: Global,
-    objects: &Objects,
-    before: &[Deed],
-    ledger: &Ledger,
+    before: &Before,
     action: &Name,
     number: u32,
     answer: &Answer,
 ) -> Result<bool, NoMemory>
-    requires { Keeps objects.now (history before.now) ledger.now }
-    ensures { IfOk result (λ may. may ≡ perform_test objects.now (history before.now) action.now number answer.now) }
+    requires { Keeps before.now.objects.now (history before.now.deeds.now) before.now.ledger.now }
+    ensures { IfOk result (λ may. may ≡ perform_test before.now.objects.now (history before.now.deeds.now) action.now number answer.now) }
 {
-    match arriving(objects, before, action, number) {
-        Some(call) => {
-            let may = is_performed(alloc, objects, ledger, action, &call, answer)?;
-            Ok(may)
-        }
+    let (objects, ledger) = (before.objects, before.ledger);
+    match arriving(objects, before.deeds, action, number) {
+        Some(call) => is_performed(alloc, objects, ledger, action, &call, answer),
         None => Ok(false),
     }
 }
@@ -143,21 +140,17 @@ fn is_bounced(
 
 pub(crate) fn may_bounce(
     alloc: Global,
-    objects: &Objects,
-    before: &[Deed],
-    ledger: &Ledger,
+    before: &Before,
     action: &Name,
     number: u32,
     holder: &Name,
 ) -> Result<bool, NoMemory>
-    requires { Keeps objects.now (history before.now) ledger.now }
-    ensures { IfOk result (λ may. may ≡ bounce_test objects.now (history before.now) action.now number holder.now) }
+    requires { Keeps before.now.objects.now (history before.now.deeds.now) before.now.ledger.now }
+    ensures { IfOk result (λ may. may ≡ bounce_test before.now.objects.now (history before.now.deeds.now) action.now number holder.now) }
 {
-    match arriving(objects, before, action, number) {
-        Some(call) => {
-            let may = is_bounced(alloc, objects, ledger, action, &call, holder)?;
-            Ok(may)
-        }
+    let (objects, ledger) = (before.objects, before.ledger);
+    match arriving(objects, before.deeds, action, number) {
+        Some(call) => is_bounced(alloc, objects, ledger, action, &call, holder),
         None => Ok(false),
     }
 }

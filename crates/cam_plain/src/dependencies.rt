@@ -116,7 +116,7 @@ fn take_ask(
     ensures { OnOk result ((objects : List ObjectDecl) (L : List Deed) → DependsOn objects L dependencies.old → DependsOn objects (Ask action.now child.now ∷ L) dependencies.new) }
 {
     // A name has a part.
-    let _depth = action.depth();
+    prove!(action.depth() > 0);
     let home = child.home();
     let mut pairs = pairs_of(alloc, dependencies, action)?;
     add_pair(&mut pairs, home.0, home.1)?;
@@ -159,7 +159,7 @@ fn take_commit(
     ensures { OnOk result ((objects : List ObjectDecl) (L : List Deed) → DependsOn objects L dependencies.old → DependsOn objects (Commit action.now ∷ L) dependencies.new) }
 {
     // A name has a part.
-    let _depth = action.depth();
+    prove!(action.depth() > 0);
     match action.parent() {
         Some(parent) => {
             let pairs = pairs_of(alloc, dependencies, action)?;

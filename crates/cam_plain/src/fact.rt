@@ -1,9 +1,10 @@
+//! What one deed can show, and whether some deed shows it.
 ghost use Rattle.std.specs.Prelude.{◌≡◌, ◌∷◌, List};
 ghost use Rattle.cam_event.specs.declared.Deed.{Deed};
 ghost use Rattle.cam_plain.specs.Facts.{shows, has};
 ghost use Rattle.cam_plain.specs.Legal.{history};
+ghost use Rattle.cam_plain.specs.Lines.{is_reply_to};
 
-use crate::deed_tests::{is_bounce, is_inform, is_perform, is_reply_to, is_secure, is_secure_at};
 use cam_event::Deed;
 use cam_names::Name;
 use cam_type::Answer;
@@ -42,11 +43,21 @@ impl Fact {
             Fact::Committed(a) => matches!(deed, Deed::Commit { action } if a == action),
             Fact::Aborted(a) => matches!(deed, Deed::Abort { action } if a == action),
             Fact::Replied(a, n) => is_reply_to(a, *n, deed),
-            Fact::Performed(a, n, seen) => is_perform(a, *n, seen, deed),
-            Fact::Bounced(a, n, u) => is_bounce(a, *n, u, deed),
-            Fact::Secured(f, s, c) => is_secure(f, *s, *c, deed),
-            Fact::SecuredAt(f, s) => is_secure_at(f, *s, deed),
-            Fact::Informed(s, a, outcome) => is_inform(*s, a, *outcome, deed),
+            Fact::Performed(a, n, given) => {
+                matches!(deed, Deed::Perform { action, number, answer } if a == action && n == number && given == answer)
+            }
+            Fact::Bounced(a, n, u) => {
+                matches!(deed, Deed::Bounce { action, number, holder } if a == action && n == number && u == holder)
+            }
+            Fact::Secured(f, s, c) => {
+                matches!(deed, Deed::Secure { family, site, count } if f == family && s == site && c == count)
+            }
+            Fact::SecuredAt(f, s) => {
+                matches!(deed, Deed::Secure { family, site, .. } if f == family && s == site)
+            }
+            Fact::Informed(s, a, outcome) => {
+                matches!(deed, Deed::Inform { site, name, committed } if outcome == committed && s == site && a == name)
+            }
         }
     }
 
@@ -66,5 +77,16 @@ impl Fact {
             found = self.or_shown_by(deed, found);
         }
         found
+    }
+}
+
+/// Whether the deed is a reply to the call.
+fn is_reply_to(a: &Name, n: u32, deed: &Deed) -> bool
+    ensures { result ≡ is_reply_to a.now n deed.now }
+{
+    match deed {
+        Deed::Perform { action, number, .. } => a == action && n == *number,
+        Deed::Bounce { action, number, .. } => a == action && n == *number,
+        _ => false,
     }
 }

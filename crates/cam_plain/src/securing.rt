@@ -13,6 +13,7 @@ ghost use Rattle.cam_plain.specs.Depending.{pairs_in, DependsOn};
 ghost use Rattle.cam_plain.specs.Legal.{history};
 ghost use Rattle.cam_plain.specs.Tests.{may_commit_test, commit_test, is_held_below, handed_up, secure_test};
 
+use crate::before::Before;
 use crate::dependencies::{Dependencies, Pairs, has_pair};
 use crate::fact::Fact;
 use crate::lines::is_decided;
@@ -61,7 +62,7 @@ fn is_let_commit(before: &[Deed], dependencies: &Dependencies, action: &Name) ->
     ensures { (objects : List ObjectDecl) → DependsOn objects (history before.now) dependencies.now → result ≡ may_commit_test objects (history before.now) action.now (parent action.now) }
 {
     // A name has a part.
-    let _depth = action.depth();
+    prove!(action.depth() > 0);
     match action.parent() {
         Some(parent) => runs(before, &parent),
         None => {
@@ -120,24 +121,21 @@ fn is_handed_up(
 
 pub(crate) fn may_secure(
     alloc: Global,
-    objects: &Objects,
-    before: &[Deed],
-    ledger: &Ledger,
-    dependencies: &Dependencies,
+    before: &Before,
     family: &Name,
     site: u8,
     secured_count: u32,
 ) -> Result<bool, NoMemory>
-    requires live { Keeps objects.now (history before.now) ledger.now }
-    requires depending { DependsOn objects.now (history before.now) dependencies.now }
-    ensures { IfOk result (λ may. may ≡ secure_test objects.now (history before.now) family.now site secured_count) }
+    requires live { Keeps before.now.objects.now (history before.now.deeds.now) before.now.ledger.now }
+    requires depending { DependsOn before.now.objects.now (history before.now.deeds.now) before.now.dependencies.now }
+    ensures { IfOk result (λ may. may ≡ secure_test before.now.objects.now (history before.now.deeds.now) family.now site secured_count) }
 {
     let is_top = family.depth() == 1;
-    let asked = Fact::AskedCommit(*family).is_in(before);
-    let depends = depends(dependencies, family, site, secured_count);
-    let present = secured_count as usize == count(before, site);
-    let secured = Fact::SecuredAt(*family, site).is_in(before);
-    let live = ledger.live(alloc, objects)?;
-    let handed_up = is_handed_up(objects, ledger, &live, family, site);
+    let asked = Fact::AskedCommit(*family).is_in(before.deeds);
+    let depends = depends(before.dependencies, family, site, secured_count);
+    let present = secured_count as usize == count(before.deeds, site);
+    let secured = Fact::SecuredAt(*family, site).is_in(before.deeds);
+    let live = before.ledger.live(alloc, before.objects)?;
+    let handed_up = is_handed_up(before.objects, before.ledger, &live, family, site);
     Ok(is_top && asked && depends && present && !secured && handed_up)
 }

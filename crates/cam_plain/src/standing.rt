@@ -1,3 +1,4 @@
+//! How actions stand: counts, who runs, and open children.
 ghost use Rattle.std.specs.Prelude.{◌≡◌, ◌≤◌, ◌+◌, ◌∷◌, List, IfOk, filter, not, length};
 ghost use Rattle.cam_names.specs.Names.{name_eq};
 ghost use Rattle.cam_event.specs.declared.Deed.{Deed};

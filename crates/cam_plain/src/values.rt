@@ -1,3 +1,4 @@
+//! Values that are handed up past the top.
 ghost use Rattle.std.specs.Prelude.{◌≡◌, IfOk};
 ghost use Rattle.cam_event.specs.Settled.{settled};
 ghost use Rattle.cam_plain.specs.Legal.{history};

@@ -12,7 +12,7 @@ pub returns-then-at_home : goal.returns-then-at_home
 returns-then-at_home c = λ objects depends.
     let L = history c.args.before.now in
     let a = c.args.action.now in
-    let named : 1 ≤ length a = omega (arith, c.depth-depth.ensures.from, c.depth-depth.ensures.value) in
+    let named : 1 ≤ length a = omega (arith, c.depth.ensures.from, c.depth.ensures.value) in
     let at_home : is_at_home L a ≡ true = sym c.is_at_home-at_home.ensures ∙ c.if-at_home.true in
     c.is_secured-secured.ensures
     ∙ same_pairs (λ s t. secured L a s t) (pairs_in c.args.dependencies.now a) (deps objects L a) (λ s t. depends a s t named)
