@@ -21,6 +21,3 @@ mod walk;
 
 pub use relation::Clocks;
 pub use walk::clocks;
-
-#[cfg(test)]
-mod tests;

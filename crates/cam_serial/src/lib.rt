@@ -27,9 +27,6 @@ mod replay;
 pub use list::serial;
 pub use replay::replays;
 
-#[cfg(test)]
-mod tests;
-
 use cam_base::Sequence;
 use cam_event::Operation;
 

@@ -1,14 +1,17 @@
-use crate::{CutFault, cut_deeds, witness};
+//! `cam_cut`: cuts and witnesses of a run in which an orphan runs on.
 use cam_base::NoMemory;
-use cam_event::{Deed, Deeds, Event, LetterId, Note, Seen, SentList, Trace};
+use cam_cut::{CutFault, cut_deeds, witness};
+use cam_event::{Deed, Deeds, LetterId, Note, Trace};
 use cam_names::Name;
+use cam_samples::{
+    abort, ask, ask_commit, call, commit, create, event, got_done, inform, perform, secure,
+};
 use cam_type::{Answer, Op};
 use std::alloc::Global;
 use std::test::Fail;
 
-/// A run in which the child C of P runs on after P has aborted it: the node of each event, and the
-/// letter that it received, by the number of its sender and its place there. P and D are at home at
-/// node 1, C at node 4, x at node 2 and y at node 3.
+/// A run in which the child C of P runs on after P has aborted it: the node of each event, and the letter that it received, by the number
+/// of its sender and its place there. P and D are at home at node 1, C at node 4, x at node 2 and y at node 3.
 const EVENTS: [(u8, Option<(u64, u32)>); 27] = [
     (1, None),
     (1, None),
@@ -39,85 +42,31 @@ const EVENTS: [(u8, Option<(u64, u32)>); 27] = [
     (4, Some((25, 0))),
 ];
 
-fn call(action: Name, number: u32, object: u8, op: Op) -> Deed {
-    Deed::Call {
-        action,
-        number,
-        object,
-        op,
-        count: 1,
-    }
-}
-
-fn perform(action: Name, number: u32, answer: Answer) -> Deed {
-    Deed::Perform {
-        action,
-        number,
-        answer,
-    }
-}
-
-fn got(action: Name, number: u32, answer: Answer) -> Deed {
-    Deed::Got {
-        action,
-        number,
-        seen: Seen::Done(answer),
-    }
-}
-
-fn secure(family: Name, site: u8) -> Deed {
-    Deed::Secure {
-        family,
-        site,
-        count: 1,
-    }
-}
-
-fn inform(site: u8, name: Name, committed: bool) -> Deed {
-    Deed::Inform {
-        site,
-        name,
-        committed,
-    }
-}
-
 /// The deeds of that run, each with the number of its event.
 fn deeds(p: Name, c: Name, d: Name) -> [(u64, Deed); 28] {
     [
-        (0, Deed::Create { action: p }),
-        (
-            1,
-            Deed::Ask {
-                action: p,
-                child: c,
-            },
-        ),
-        (2, Deed::Create { action: c }),
+        (0, create(p)),
+        (1, ask(p, c)),
+        (2, create(c)),
         (3, call(c, 1, 0, Op::Read)),
         (4, perform(c, 1, Answer::Value(1))),
-        (5, got(c, 1, Answer::Value(1))),
-        (6, Deed::Abort { action: c }),
+        (5, got_done(c, 1, Answer::Value(1))),
+        (6, abort(c)),
         (6, inform(1, c, false)),
-        (7, Deed::Create { action: d }),
+        (7, create(d)),
         (8, call(d, 1, 0, Op::Write(2))),
         (9, inform(2, c, false)),
         (9, perform(d, 1, Answer::Ok)),
-        (10, got(d, 1, Answer::Ok)),
+        (10, got_done(d, 1, Answer::Ok)),
         (11, call(d, 2, 1, Op::Write(2))),
         (12, inform(3, c, false)),
         (12, perform(d, 2, Answer::Ok)),
-        (13, got(d, 2, Answer::Ok)),
-        (
-            14,
-            Deed::AskCommit {
-                action: d,
-                value: 0,
-            },
-        ),
+        (13, got_done(d, 2, Answer::Ok)),
+        (14, ask_commit(d, 0)),
         (16, secure(d, 1)),
         (17, secure(d, 2)),
         (18, secure(d, 3)),
-        (21, Deed::Commit { action: d }),
+        (21, commit(d)),
         (21, inform(1, d, true)),
         (22, inform(2, d, true)),
         (23, inform(3, d, true)),
@@ -137,23 +86,14 @@ fn trace(alloc: Global, deeds: &[(u64, Deed)]) -> Result<Trace, NoMemory> {
                 own.push_copy(deed)?;
             }
         }
-        trace.push(Event {
-            node: *node,
-            got: got.map(|(event, place)| LetterId { event, place }),
-            deeds: own,
-            sent: SentList::new(alloc),
-            note: Note::Plain,
-        })?;
+        let got = got.map(|(event, place)| LetterId { event, place });
+        trace.push(event(alloc, *node, got, own.as_slice(), Note::Plain)?)?;
     }
     Ok(trace)
 }
 
-fn shown(alloc: Global, deeds: &[Deed]) -> Result<String, NoMemory> {
-    Ok(format!(in alloc; "{deeds:?}")?)
-}
-
-/// C asks for y after D has committed. In the past of that call, the last step of C's view, stands
-/// neither the abort of C nor anything of D. No third top action was created.
+/// C asks for y after D has committed. In the past of that call, the last step of C's view, stands neither the abort of C nor anything of
+/// D. No third top action was created.
 #[test]
 fn the_witness_of_an_orphan_has_no_abort(rt: HostRuntime) -> Result<(), Fail> {
     let alloc = rt.alloc();
@@ -161,19 +101,16 @@ fn the_witness_of_an_orphan_has_no_abort(rt: HostRuntime) -> Result<(), Fail> {
     let c = Name::parse("1.1.1/4.1.1")?;
     let trace = trace(alloc, &deeds(p, c, Name::parse("1.1.2")?))?;
     let expected = [
-        Deed::Create { action: p },
-        Deed::Ask {
-            action: p,
-            child: c,
-        },
-        Deed::Create { action: c },
+        create(p),
+        ask(p, c),
+        create(c),
         call(c, 1, 0, Op::Read),
         perform(c, 1, Answer::Value(1)),
-        got(c, 1, Answer::Value(1)),
+        got_done(c, 1, Answer::Value(1)),
         call(c, 2, 1, Op::Read),
     ];
     let found = witness(alloc, &trace, &c)?;
-    assert_eq!(rt; shown(alloc, found.as_slice())?, shown(alloc, &expected)?);
+    assert_eq!(rt; found.as_slice(), expected.as_slice());
     let third = witness(alloc, &trace, &Name::parse("1.1.3")?);
     assert!(rt; matches!(third, Err(CutFault::NoSuchAction)));
     Ok(())
@@ -193,13 +130,13 @@ fn a_cut_keeps_the_order_of_the_trace(rt: HostRuntime) -> Result<(), Fail> {
     assert_eq!(rt; trace.len(), 27);
     let kept = cut_deeds(alloc, &trace, &keep)?;
     let expected = [
-        Deed::Commit { action: d },
+        commit(d),
         inform(1, d, true),
         inform(2, d, true),
         inform(3, d, true),
         inform(4, c, false),
         inform(4, d, true),
     ];
-    assert_eq!(rt; shown(alloc, kept.as_slice())?, shown(alloc, &expected)?);
+    assert_eq!(rt; kept.as_slice(), expected.as_slice());
     Ok(())
 }

@@ -1,6 +1,7 @@
-use crate::clocks;
+//! `cam_past`: the clocks of a trace against the past by its definition.
 use cam_base::NoMemory;
 use cam_event::{Body, Deeds, Event, LetterId, Note, Sent, SentList, Trace};
+use cam_past::clocks;
 use std::alloc::Global;
 use std::collections::BTreeSet;
 use std::test::Fail;

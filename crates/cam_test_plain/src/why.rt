@@ -1,0 +1,114 @@
+//! `cam_why`: the cause of a stop, and the letters that lead from there, on traces worked by hand.
+use cam_base::NoMemory;
+use cam_event::{Body, Deed, Deeds, Event, LetterId, Note, Sent, Trace};
+use cam_know::Reason;
+use cam_names::Name;
+use cam_samples::{abort, crash, sent_of};
+use cam_why::{Link, Why, WhyFault, chain};
+use std::alloc::Global;
+use std::test::Fail;
+
+/// A trace whose events each send one letter: of each event its node, the event whose letter it received, its deed, and its note.
+fn trace(
+    alloc: Global,
+    events: &[(u8, Option<u64>, Option<Deed>, Note)],
+) -> Result<Trace, NoMemory> {
+    let mut trace = Trace::new(alloc);
+    for (node, sender, deed, note) in events {
+        let mut deeds = Deeds::new(alloc);
+        if let Some(deed) = deed {
+            deeds.push_copy(deed)?;
+        }
+        let news = Sent {
+            to: 1,
+            body: Body::News,
+        };
+        trace.push(Event {
+            node: *node,
+            got: sender.map(|event| LetterId { event, place: 0 }),
+            deeds,
+            sent: sent_of(alloc, &[news])?,
+            note: *note,
+        })?;
+    }
+    Ok(trace)
+}
+
+fn letter(from: u64, to: u64) -> Link {
+    Link {
+        letter: LetterId {
+            event: from,
+            place: 0,
+        },
+        from,
+        to,
+    }
+}
+
+fn links(why: &Why) -> &[Link] {
+    why.links.as_slice()
+}
+
+fn stopped_by_abort(name: Name) -> Note {
+    Note::Stopped(name, Reason::Abort(name))
+}
+
+/// A parent at node 1 gives its child up and tells node 2 so, where the child's call then comes.
+#[test]
+fn an_abort_leads_to_a_stop_over_the_fewest_letters(rt: HostRuntime) -> Result<(), Fail> {
+    let alloc = rt.alloc();
+    let child = Name::parse("1.1.1/3.1.1")?;
+    let events = [
+        (1, None, None, Note::Plain),
+        (1, None, None, Note::Plain),
+        (3, Some(1), None, Note::Plain),
+        (1, None, Some(abort(child)), Note::Plain),
+        (1, None, None, Note::Plain),
+        (2, Some(4), None, Note::Plain),
+        (3, None, None, Note::Plain),
+        (2, Some(6), None, stopped_by_abort(child)),
+        (3, Some(7), None, stopped_by_abort(child)),
+    ];
+    let trace = trace(alloc, &events)?;
+    let why = chain(alloc, &trace, 8)?;
+    assert_eq!(rt; why.cause, 3);
+    assert_eq!(rt; links(&why), [letter(4, 5), letter(7, 8)].as_slice());
+    let why = chain(alloc, &trace, 7)?;
+    assert_eq!(rt; why.cause, 3);
+    assert_eq!(rt; links(&why), [letter(4, 5)].as_slice());
+    assert_eq!(rt; chain(alloc, &trace, 6).err(), Some(WhyFault::NoSuchStop));
+    assert_eq!(rt; chain(alloc, &trace, 9).err(), Some(WhyFault::NoSuchStop));
+    Ok(())
+}
+
+/// Node 2 restarts twice and tells node 3 of the first time; node 3 restarts too.
+#[test]
+fn a_crash_leads_to_a_stop_through_a_node_that_restarted(rt: HostRuntime) -> Result<(), Fail> {
+    let alloc = rt.alloc();
+    let reason = Reason::Crash {
+        node: 2,
+        old: 1,
+        new: 2,
+    };
+    let stopped = Note::Stopped(Name::parse("1.1.1")?, reason);
+    let events = [
+        (1, None, None, Note::Plain),
+        (1, None, None, Note::Plain),
+        (2, Some(1), None, Note::Plain),
+        (1, Some(2), None, Note::Plain),
+        (2, None, Some(crash(2)), Note::Plain),
+        (2, None, None, Note::Plain),
+        (3, Some(5), None, Note::Plain),
+        (3, None, Some(crash(3)), Note::Plain),
+        (1, None, None, Note::Plain),
+        (3, Some(8), None, Note::Missed),
+        (2, None, Some(crash(2)), Note::Plain),
+        (1, Some(9), None, stopped),
+    ];
+    let trace = trace(alloc, &events)?;
+    let why = chain(alloc, &trace, 11)?;
+    assert_eq!(rt; why.cause, 4);
+    assert_eq!(rt; links(&why), [letter(5, 6), letter(9, 11)].as_slice());
+    assert_eq!(rt; chain(alloc, &trace, 3).err(), Some(WhyFault::NoSuchStop));
+    Ok(())
+}
