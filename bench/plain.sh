@@ -1,10 +1,9 @@
 #!/bin/sh
 # How long the check of the plain machine takes on legal lists of 96, 192, 384 and 768 deeds, and how often that is the time of the first.
 # A figure is such a ratio: the nanoseconds are those of one machine on one day. Each time is the least of four rounds.
-# Twice the deeds in eight times the time is the third power; on short lists lower powers count too.
+# Twice the deeds in four times the time is the square.
 # bench/plain.sh           proves the crates and the program, and runs it
 # bench/plain.sh --quick   runs a build of the same sources that nothing has proved
-# The figures in README.md come from the first, which has run to its end.
 . "$(dirname "$0")/common.sh"
 make_program plain_times anyhow cam_base cam_names cam_type cam_event cam_plain
 cat > src/main.rt <<'PROGRAM'

@@ -1,10 +1,9 @@
-ghost use Rattle.std.specs.Prelude.{◌≡◌, ℕ, Bool, List, length, reverse, IfOk};
-ghost use Rattle.cam_type.specs.declared.ObjectDecl.{ObjectDecl};
-ghost use Rattle.cam_event.specs.Pasts.{IsClosed, plain};
-ghost use Rattle.cam_event.specs.Runs.{IsRun};
-ghost use Rattle.cam_event.specs.Taken.{IsRunTaking};
-ghost use Rattle.cam_plain.specs.Legal.{Legal, history};
+//! The deeds of some events of a trace.
+ghost use Rattle.std.specs.Prelude.{◌≡◌, length, reverse, IfOk};
+ghost use Rattle.cam_event.specs.Pasts.{plain};
+ghost use Rattle.cam_plain.specs.Legal.{history};
 ghost use Rattle.cam_cut.specs.Kept.{is_kept};
+ghost use Rattle.cam_cut.specs.Law.{IsLegalCut, IsLegalHaltedCut};
 
 use cam_base::NoMemory;
 use cam_event::{Deeds, Trace};
@@ -17,8 +16,8 @@ use std::alloc::Global;
 pub fn cut_deeds(alloc: Global, trace: &Trace, keep: &[bool]) -> Result<Deeds, NoMemory>
     requires flags { length keep.now ≡ length trace.now }
     ensures exact { IfOk result (λ deeds. history deeds ≡ plain (reverse trace.now) (is_kept keep.now)) }
-    ensures legal { IfOk result (λ deeds. (objects : List ObjectDecl) → IsRun objects (reverse trace.now) → IsClosed (reverse trace.now) (is_kept keep.now) → Legal objects (history deeds)) }
-    ensures halted_legal { IfOk result (λ deeds. (objects : List ObjectDecl) (taken : ℕ → Bool) → IsRunTaking objects taken (reverse trace.now) → IsClosed (reverse trace.now) (is_kept keep.now) → Legal objects (history deeds)) }
+    ensures legal { IfOk result (λ deeds. IsLegalCut (reverse trace.now) (is_kept keep.now) (history deeds)) }
+    ensures halted_legal { IfOk result (λ deeds. IsLegalHaltedCut (reverse trace.now) (is_kept keep.now) (history deeds)) }
 {
     let mut deeds = Deeds::new(alloc);
     for (number, event) in trace.as_slice().iter().enumerate() {

@@ -1,3 +1,4 @@
+//! What the deeds so far say of one action, as far as its view needs it.
 ghost use Rattle.std.specs.Prelude.{◌≡◌, ◌∷◌, [], List, IfOk, OnOk};
 ghost use Rattle.cam_names.specs.declared.name.Name.{Name};
 ghost use Rattle.cam_event.specs.declared.Deed.{Deed};

@@ -1,14 +1,12 @@
-ghost use Rattle.std.specs.Prelude.{◌≡◌, ℕ, Bool, ◌<◌, List, true, false, length, reverse, IfOk, OnOk, IfErr, MatchOption};
-ghost use Rattle.cam_type.specs.declared.ObjectDecl.{ObjectDecl};
+//! Witnesses of actions.
+ghost use Rattle.std.specs.Prelude.{◌≡◌, ℕ, ◌<◌, true, false, length, reverse, IfOk, OnOk, IfErr, MatchOption};
 ghost use Rattle.cam_event.specs.History.{created};
 ghost use Rattle.cam_event.specs.Pasts.{in_past, plain_all};
-ghost use Rattle.cam_event.specs.Runs.{IsRun};
-ghost use Rattle.cam_event.specs.Taken.{IsRunTaking};
 ghost use Rattle.cam_plain.specs.Legal.{history};
 ghost use Rattle.cam_cut.specs.declared.witnesses.CutFault.TheVariants.{NoMemory as OutOfMemory};
 ghost use Rattle.cam_cut.specs.Faults.{IsCause};
 ghost use Rattle.cam_cut.specs.Kept.{is_kept};
-ghost use Rattle.cam_cut.specs.Law.{IsWitness};
+ghost use Rattle.cam_cut.specs.Law.{IsWitnessOfRun, IsWitnessOfHaltedRun};
 ghost use Rattle.cam_cut.specs.Witness.{last_step, witness};
 
 use crate::cut::cut_deeds;
@@ -47,8 +45,8 @@ pub fn witness(alloc: Global, trace: &Trace, name: &Name) -> Result<Deeds, CutFa
     ensures exact { IfOk result (λ deeds. history deeds ≡ witness (reverse trace.now) name.now) }
     ensures created { OnOk result (created (plain_all (reverse trace.now)) name.now ≡ true) }
     ensures fault { IfErr result (IsCause (reverse trace.now) name.now) }
-    ensures view { IfOk result (λ deeds. (objects : List ObjectDecl) → IsRun objects (reverse trace.now) → IsWitness objects (reverse trace.now) name.now (history deeds)) }
-    ensures halted_view { IfOk result (λ deeds. (objects : List ObjectDecl) (taken : ℕ → Bool) → IsRunTaking objects taken (reverse trace.now) → IsWitness objects (reverse trace.now) name.now (history deeds)) }
+    ensures view { IfOk result (λ deeds. IsWitnessOfRun (reverse trace.now) name.now (history deeds)) }
+    ensures halted_view { IfOk result (λ deeds. IsWitnessOfHaltedRun (reverse trace.now) name.now (history deeds)) }
 {
     let Some(last) = last_step(alloc, trace, name)? else {
         return Err(CutFault::NoSuchAction);

@@ -1,3 +1,4 @@
+//! A clock: of each of eight nodes its last event in a past.
 ghost use Rattle.std.specs.Prelude.{◌≡◌, ℕ, ◌<◌, max, get_or, set};
 
 use cam_base::Sequence;

@@ -1,3 +1,4 @@
+//! The clocks of a trace, and what they tell of two events.
 ghost use Rattle.std.specs.Prelude.{◌≡◌, List};
 ghost use Rattle.cam_event.specs.declared.Event.{Event};
 ghost use Rattle.cam_event.specs.Pasts.{in_past};

@@ -1,3 +1,4 @@
+//! Where a node has its place in the tables of clocks.
 ghost use Rattle.std.specs.Prelude.{◌≡◌, ◌<◌};
 ghost use Rattle.cam_past.specs.Tables.{table_of, place_of};
 

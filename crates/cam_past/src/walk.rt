@@ -1,3 +1,4 @@
+//! Clocks made by walks over a trace.
 ghost use Rattle.std.specs.Prelude.{◌≡◌, ℕ, ◌+◌, ◌^◌, ◌<◌, ◌≤◌, get_or, length, reverse, IfOk};
 ghost use Rattle.cam_past.specs.Relation.{AreClocksOf};
 ghost use Rattle.cam_past.specs.Tables.{latest_of, next_latest, AreNodes, AreTables, AreWithin, IsTable};

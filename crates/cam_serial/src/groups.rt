@@ -1,3 +1,4 @@
+//! Operations by their families.
 ghost use Rattle.std.specs.Prelude.{◌≡◌, ◌++◌, ◌∷◌, ◌&&◌, [], List, OnOk, IfOk, filter, if◌then◌else◌};
 ghost use Rattle.cam_names.specs.declared.name.Name.{Name as NameFields};
 ghost use Rattle.cam_names.specs.Names.{name_eq};

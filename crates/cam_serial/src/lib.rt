@@ -24,11 +24,10 @@ mod groups;
 mod list;
 mod replay;
 
-pub use list::serial;
-pub use replay::replays;
-
 use cam_base::Sequence;
 use cam_event::Operation;
+pub use list::serial;
+pub use replay::replays;
 
 /// Operations of committed actions, those of one top action behind those of another.
 pub type SerialList = Sequence<Operation>;

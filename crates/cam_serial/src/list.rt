@@ -1,3 +1,4 @@
+//! Serial lists.
 ghost use Rattle.std.specs.Prelude.{◌≡◌, ◌++◌, ◌∷◌, List, OnOk, IfOk};
 ghost use Rattle.std.specs.Option.{option_copied};
 ghost use Rattle.cam_event.specs.declared.Deed.{Deed};

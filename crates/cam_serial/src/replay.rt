@@ -1,3 +1,4 @@
+//! Whether a serial list replays.
 ghost use Rattle.std.specs.Prelude.{◌≡◌, ◌↔◌, ℕ, OnOk, IfOk, IsTrue, unwrap_or};
 ghost use Rattle.cam_event.specs.Live.{start_of};
 ghost use Rattle.cam_type.specs.Table.{answer_eq, answer_of};

@@ -22,7 +22,7 @@ loop-number-preserved c =
     c.loop-number.invariant
     (elim c.if-keep-number.branch [
       | then-keep-number+in_ok-extend_from_slice w ↦
-        w.deeds-is ∙ w.in_ok-extend_from_slice.ensures.ok ∙ ap (λ ds. old ++ ds) w.as_slice.ensures ∙ sym (ap (λ b. if b then old ++ e.deeds else old) (flag ∙ w.if-keep-number.true))
+          w.deeds-is ∙ w.in_ok-extend_from_slice.ensures.ok ∙ ap (λ ds. old ++ ds) w.as_slice.ensures ∙ sym (ap (λ b. if b then old ++ e.deeds else old) (flag ∙ w.if-keep-number.true))
       | else-keep-number w ↦ w.deeds-is ∙ sym (ap (λ b. if b then old ++ e.deeds else old) (flag ∙ w.if-keep-number.false))
     ])
 
