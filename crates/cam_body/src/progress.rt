@@ -1,3 +1,4 @@
+//! How far an action is in its body.
 ghost use Rattle.std.specs.Prelude.{◌≡◌, ◌≤◌, ◌<◌, ◌+◌, ◌^◌, ◌==◌, ℕ, List, false, if◌then◌else◌};
 ghost use Rattle.cam_script.specs.declared.Statement.{Statement};
 ghost use Rattle.cam_body.specs.Work.Try.{Open};

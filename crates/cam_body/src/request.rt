@@ -1,3 +1,4 @@
+//! The next request.
 ghost use Rattle.std.specs.Prelude.{◌≡◌, [], ◌∷◌};
 ghost use Rattle.cam_body.specs.Work.{has_ended, next, body_at, child_body};
 

@@ -1,3 +1,4 @@
+//! The part of the report on an action.
 ghost use Rattle.std.specs.Prelude.{◌≡◌, ◌++◌, List, ℕ, OnOk, IfOk, reverse, string_bytes};
 ghost use Rattle.std.specs.List.{flat_map};
 ghost use Rattle.cam_event.specs.declared.Deed.{Deed};

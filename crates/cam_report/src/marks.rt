@@ -1,3 +1,4 @@
+//! Refused, cut and halted lines.
 ghost use Rattle.std.specs.Prelude.{◌≡◌, ◌++◌, OnOk, string_bytes};
 ghost use Rattle.std.specs.List.{flat_map};
 ghost use Rattle.cam_report.specs.Report.{refusal_number, fault_word, taken_word, mark_text};

@@ -1,3 +1,4 @@
+//! The whole report.
 ghost use Rattle.std.specs.Prelude.{◌≡◌, IfOk, string_bytes};
 ghost use Rattle.cam_report.specs.Records.{record_report};
 

@@ -1,3 +1,4 @@
+//! The events that stopped an action.
 ghost use Rattle.std.specs.Prelude.{◌≡◌, ◌++◌, OnOk, reverse, string_bytes};
 ghost use Rattle.cam_report.specs.Report.{stop_text, stops_text};
 

@@ -1,3 +1,4 @@
+//! What the actions saw.
 ghost use Rattle.std.specs.Prelude.{◌≡◌, ◌++◌, ◌∷◌, List, Some, OnOk, IfOk, reverse};
 ghost use Rattle.std.specs.BTreeMap.{get};
 ghost use Rattle.cam_names.specs.declared.name.Name.{Name as NameFields};

@@ -1,3 +1,4 @@
+//! `body`, and the statements of the body that is being written.
 ghost use Rattle.std.specs.Prelude.{◌≡◌, ◌≤◌, length, Some, Ok, Err, IfOk, IsTrue, OnOk};
 ghost use Rattle.cam_words.specs.Words.{text_of};
 ghost use Rattle.cam_words.specs.Numbers.{is_name};

@@ -1,3 +1,4 @@
+//! The bodies whose `end` was read, with their sizes.
 ghost use Rattle.std.specs.Prelude.{◌≡◌, [], List, length, map, min, OnOk};
 ghost use Rattle.cam_script.specs.SoFar.{Size as AnySize};
 ghost use Rattle.cam_script.specs.Order.{closes, is_closed};

@@ -1,3 +1,4 @@
+//! `child`.
 ghost use Rattle.std.specs.Prelude.{◌≡◌, ◌≤◌, length, Ok, Err};
 ghost use Rattle.cam_script.specs.Statements.{child_statement};
 ghost use Rattle.cam_script.specs.Parse.{IsWithin};

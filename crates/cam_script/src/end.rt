@@ -1,3 +1,4 @@
+//! `end`.
 ghost use Rattle.std.specs.Prelude.{◌≡◌, ◌≤◌, length, Some, OnOk};
 ghost use Rattle.cam_words.specs.Words.{end_at};
 ghost use Rattle.cam_script.specs.SoFar.{Writing as AnyWriting, with_written};

@@ -1,3 +1,4 @@
+//! Names and their places.
 ghost use Rattle.std.specs.Prelude.{◌≡◌, ◌≤◌, ◌<◌, [], ◌∷◌, ◌++◌, List, ℕ, bytes_eq, length, Ok, Err, IfOk, IfSome, IsTrue, OnOk, OnErr};
 ghost use Rattle.cam_words.specs.Words.{text_of, place_of};
 ghost use Rattle.cam_words.specs.Numbers.{is_name, new_name_at, declared_at};

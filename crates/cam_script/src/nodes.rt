@@ -1,3 +1,4 @@
+//! `nodes`.
 ghost use Rattle.std.specs.Prelude.{◌≡◌, ◌≤◌, length, Ok, Err};
 ghost use Rattle.cam_script.specs.Declarations.{nodes_line};
 

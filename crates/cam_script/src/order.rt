@@ -1,3 +1,4 @@
+//! Which lines may stand where, and how many.
 ghost use Rattle.std.specs.Prelude.{◌≡◌, ◌≤◌, length};
 ghost use Rattle.cam_script.specs.Order.{part_of, is_step, is_statement, may_stand, cost_ahead, nests_too_deep, is_full_script, is_too_many};
 ghost use Rattle.cam_script.specs.Parse.{IsWithin};

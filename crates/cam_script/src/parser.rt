@@ -1,3 +1,4 @@
+//! The parser: the script that bytes spell, or their first fault.
 ghost use Rattle.std.specs.Prelude.{◌≡◌, ◌≤◌, length, IfOk};
 ghost use Rattle.cam_script.specs.declared.stage.Stage.TheVariants.{FirstPath};
 ghost use Rattle.cam_script.specs.Built.{built_of};

@@ -1,3 +1,4 @@
+//! `play`.
 ghost use Rattle.std.specs.Prelude.{◌≡◌, ◌≤◌, List, length, Ok, Err, IfOk};
 ghost use Rattle.cam_script.specs.SoFar.{Size, step_cost};
 ghost use Rattle.cam_script.specs.Steps.{play_line};

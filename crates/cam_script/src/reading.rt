@@ -1,3 +1,4 @@
+//! A line, by its first word and by where it stands.
 ghost use Rattle.std.specs.Prelude.{◌≡◌, ◌≤◌, length, Some, None, Ok, Err, IsTrue, IsFalse, IfOk};
 ghost use Rattle.cam_script.specs.SoFar.{Writing as AnyWriting, step_cost};
 ghost use Rattle.cam_script.specs.Built.{built_of};

@@ -1,3 +1,4 @@
+//! What stands after some lines of a script.
 ghost use Rattle.std.specs.Prelude.{◌≡◌, ◌≤◌, ◌+◌, length, min, IsTrue, OnOk, Result};
 ghost use Rattle.cam_words.specs.Numbers.{is_name};
 ghost use Rattle.cam_script.specs.SoFar.{nothing, step_cost, with_nodes, with_object, with_variable, with_step, with_binding_step};

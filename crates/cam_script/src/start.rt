@@ -1,3 +1,4 @@
+//! `start`.
 ghost use Rattle.std.specs.Prelude.{◌≡◌, ◌≤◌, length, Ok, Err, IfOk, IsTrue};
 ghost use Rattle.cam_words.specs.Words.{text_of};
 ghost use Rattle.cam_words.specs.Numbers.{is_name};

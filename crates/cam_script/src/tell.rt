@@ -1,3 +1,4 @@
+//! `tell`.
 ghost use Rattle.std.specs.Prelude.{◌≡◌, ◌≤◌, length, Ok, Err, IfOk};
 ghost use Rattle.cam_script.specs.SoFar.{step_cost};
 ghost use Rattle.cam_script.specs.Steps.{tell_line};

@@ -1,3 +1,4 @@
+//! Variables: the steps that bind them, and where they may be used.
 ghost use Rattle.std.specs.Prelude.{◌≡◌, ◌≤◌, [], ◌∷◌, ◌++◌, length, option_map, Ok, Err, IfOk, OnOk, OnErr};
 ghost use Rattle.cam_script.specs.SoFar.{variable_names};
 ghost use Rattle.cam_script.specs.Variables.{against, variable_of, variable_at};

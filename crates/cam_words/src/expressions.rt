@@ -1,3 +1,4 @@
+//! Values in bodies: fixed, or of an earlier statement.
 ghost use Rattle.std.specs.Prelude.{◌≡◌, ◌≤◌, length, take, drop, Ok, Err, IfOk};
 ghost use Rattle.cam_words.specs.Expressions.{digits_in_front, behind_digits, added_of, earlier_of, kept_of, expression_of, expression_at};
 

@@ -1,3 +1,4 @@
+//! The first fault of a script.
 ghost use Rattle.std.specs.Prelude.{◌≡◌};
 ghost use Rattle.cam_words.specs.declared.fault.ScriptFault.TheVariants.{NoMemory};
 ghost use Rattle.cam_words.specs.Faults.{unknown_line};

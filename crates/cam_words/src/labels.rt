@@ -1,3 +1,4 @@
+//! Names, as scripts spell them.
 ghost use Rattle.std.specs.Prelude.{◌≡◌, string_bytes, IfOk, IsTrue};
 ghost use Rattle.std.specs.List.{list_all};
 ghost use Rattle.cam_words.specs.Numbers.{is_letter, is_letter_or_digit, is_name};

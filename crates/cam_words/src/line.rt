@@ -1,3 +1,4 @@
+//! A line and its words.
 ghost use Rattle.std.specs.Prelude.{◌≡◌, ◌≤◌, ◌<◌, ◌+◌, drop, length, Ok, Err, IfOk};
 ghost use Rattle.cam_words.specs.declared.fault.ScriptFault.TheVariants.{Bad};
 ghost use Rattle.cam_words.specs.Words.{is_blank, blanks_end, word_end, next_word, third_word, text_of, word_at, end_at};

@@ -1,3 +1,4 @@
+//! The lines of a text, and the bytes that may stand in it.
 ghost use Rattle.std.specs.Prelude.{◌≡◌, ◌≤◌, ◌<◌, ◌+◌, ◌∷◌, length, IfSome};
 ghost use Rattle.cam_words.specs.Lines.{is_allowed, bad_byte, lines_of};
 ghost use Rattle.cam_words.specs.FirstLine.{line_len, without_cr};

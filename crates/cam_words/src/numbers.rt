@@ -1,3 +1,4 @@
+//! Numbers, nodes and values.
 ghost use Rattle.std.specs.Prelude.{◌≡◌, ◌≤◌, length, Ok, Err, IfOk, IfSome};
 ghost use Rattle.cam_words.specs.Words.{word_at};
 ghost use Rattle.cam_words.specs.Numbers.{number_of, digits_on, number_at, node_at, value_of, value_at};
