@@ -1,21 +1,10 @@
-//! The program `camelot`: it reads a script, runs it, and writes the report of the run.
-//!
-//! It stands on `cam_io` (the streams), `cam_script` (the parser), `cam_cluster` (the run), `cam_report` (the report) and `cam_headline`
-//! (what each run owes). Its main clauses are those of `camelot`: the status and the bytes that are written are the answer to the words
-//! and the input, and each other status has its cause (`written`, `complete`); and of the run of each accepted script the headline holds
-//! (`headline`): what every action saw, orphan or not, is a legal execution in which it is no orphan.
+//! The program `camelot`: it hands the words behind its name and the standard streams to the top call of `cam_run`, which reads a script,
+//! runs it, and writes the report of the run.
 #![tactic(auto)]
-
-mod running;
-mod status;
-#[cfg(test)]
-mod tests;
-mod top;
-mod worked;
 
 use cam_base::NoMemory;
 use cam_io::{StdSink, StdSource};
-use status::Status;
+use cam_run::{Status, camelot};
 use std::env;
 use std::io::ErrorKind;
 use std::process::ExitCode;
@@ -41,5 +30,5 @@ fn main(rt: HostRuntime) -> ExitCode {
     };
     let mut source = StdSource::new(rt.stdin());
     let mut sink = StdSink::new(rt.stdout());
-    ExitCode::from(top::camelot(rt.alloc(), &words, &mut source, &mut sink))
+    ExitCode::from(camelot(rt.alloc(), &words, &mut source, &mut sink))
 }

@@ -10,4 +10,3 @@ pub mod Gathering
 pub mod Handing
 pub mod Finding
 pub mod Letters
-pub mod Pairs

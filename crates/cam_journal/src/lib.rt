@@ -28,8 +28,3 @@ pub use journal::{Journal, Seats};
 pub use nodes::Core;
 pub use note::Note;
 pub use seat::NodeSeat;
-
-#[cfg(test)]
-mod numbers;
-#[cfg(test)]
-mod tests;

@@ -1,6 +1,0 @@
-ghost use Rattle.cam_cli.specs.Worked.{AreWorked};
-
-/// The answers to worked scripts are their worked texts: computed from the definitions alone, from the bytes of each script.
-pub fn worked_answers()
-    ensures { AreWorked }
-{}

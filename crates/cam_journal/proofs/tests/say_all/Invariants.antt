@@ -1,5 +1,0 @@
-use Rattle.std.proofs.Common.{◌≡◌}
-use Rattle.cam_journal.proofs.tests.say_all.Given as goal
-
-abbrev pub invariant-loop-number : goal.invariant-loop-number
-invariant-loop-number l = (l.seat.journal ≡ l.fn.seat.journal) × (l.seat.node ≡ l.fn.seat.node)

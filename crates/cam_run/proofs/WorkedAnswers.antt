@@ -1,0 +1,105 @@
+-- The worked answers, as the checker computes them.
+use Rattle.std.proofs.Common.{◌≡◌, ℕ, List, [], ◌∷◌, ◌++◌, Ok, Err, refl, sym, subst, ◌∙◌, pos}
+use Rattle.std.specs.Prelude.{Result, codes}
+use Rattle.std.specs.Fmt.{digits}
+use Rattle.cam_type.specs.declared.State.TheVariants.{Register}
+use Rattle.cam_type.specs.declared.Op.TheVariants as ops
+use Rattle.cam_script.specs.declared.Script.{Script}
+use Rattle.cam_words.specs.declared.fault.ScriptFault.{ScriptFault}
+use Rattle.cam_words.specs.declared.fault.ScriptFault.TheVariants.{Bad}
+use Rattle.cam_words.specs.declared.cause.Cause.TheVariants as causes
+use Rattle.cam_script.specs.declared.Step.{Step}
+use Rattle.cam_script.specs.declared.Act.TheVariants as acts
+use Rattle.cam_script.specs.Built.{Built, first_path}
+use Rattle.cam_script.specs.Grammar.{read_script, as_unknown_line}
+use Rattle.cam_script.proofs.Read.{read_by}
+use Rattle.cam_run.specs.Texts.{refused_text}
+use Rattle.cam_run.specs.Answer.{IsOfScript, script_of, script_report}
+use Rattle.cam_run.specs.Worked.{open_call, open_call_report, refused_call, refused_call_report, repeated_letter, repeated_letter_report, unknown_line, unknown_line_text, AreWorked}
+
+-- the grammar with its definitions opened
+opened : (built : Built) (bytes : List ℕ) → read_script built bytes ≡ read_by built bytes
+unfolding read_by
+opened built bytes = refl
+
+-- the answer to an input, by what is read of it
+answers : (input : List ℕ) (read : Result Script ScriptFault) (status : ℕ) (text : List ℕ) → read_by first_path input ≡ read → IsOfScript (as_unknown_line read) status text → IsOfScript (script_of input) status text
+answers input read status text spelled answer =
+    subst (λ r. IsOfScript (as_unknown_line r) status text) (sym (opened first_path input ∙ spelled)) answer
+
+-- one node and the register x, which holds this number
+abbrev script : ℕ → List Step → Script
+script value steps =
+    record { nodes = 1; objects = record { node = 1; start = Register (pos value) } ∷ []; labels = codes "x" ∷ []; bodies = []; steps = steps }
+
+abbrev busy_steps : List Step
+busy_steps =
+    record { line = 3; act = acts.Begin 1 }
+    ∷ record { line = 4; act = acts.Begin 1 }
+    ∷ record { line = 5; act = acts.Call 0 0 (ops.Write (pos 5)) }
+    ∷ record { line = 6; act = acts.Deliver 1 }
+    ∷ record { line = 7; act = acts.Deliver 2 }
+    ∷ record { line = 8; act = acts.Call 1 0 ops.Read }
+    ∷ record { line = 9; act = acts.Deliver 3 }
+    ∷ record { line = 10; act = acts.Deliver 4 }
+    ∷ []
+
+abbrev open_steps : List Step
+open_steps = busy_steps ++ record { line = 11; act = acts.Call 0 0 ops.Read } ∷ []
+
+abbrev refused_steps : List Step
+refused_steps = busy_steps ++ record { line = 11; act = acts.Call 1 0 ops.Read } ∷ record { line = 12; act = acts.Call 1 0 ops.Read } ∷ []
+
+abbrev repeated_steps : List Step
+repeated_steps =
+    record { line = 3; act = acts.Begin 1 }
+    ∷ record { line = 4; act = acts.Call 0 0 (ops.Swap (pos 5)) }
+    ∷ record { line = 5; act = acts.Deliver 1 }
+    ∷ record { line = 6; act = acts.Deliver 1 }
+    ∷ record { line = 7; act = acts.Deliver 3 }
+    ∷ record { line = 8; act = acts.Deliver 2 }
+    ∷ record { line = 9; act = acts.Call 0 0 ops.Read }
+    ∷ record { line = 10; act = acts.Deliver 4 }
+    ∷ record { line = 11; act = acts.Deliver 5 }
+    ∷ []
+
+open_spelled : read_by first_path open_call ≡ Ok (script 0 open_steps)
+unfolding read_by
+open_spelled = refl
+
+open_reported : script_report (script 0 open_steps) ≡ open_call_report
+unfolding digits
+open_reported = refl
+
+refused_spelled : read_by first_path refused_call ≡ Ok (script 0 refused_steps)
+unfolding read_by
+refused_spelled = refl
+
+refused_reported : script_report (script 0 refused_steps) ≡ refused_call_report
+unfolding digits
+refused_reported = refl
+
+repeated_spelled : read_by first_path repeated_letter ≡ Ok (script 7 repeated_steps)
+unfolding read_by
+repeated_spelled = refl
+
+repeated_reported : script_report (script 7 repeated_steps) ≡ repeated_letter_report
+unfolding digits
+repeated_reported = refl
+
+unknown_read : read_by first_path unknown_line ≡ Err (Bad 3 1 causes.UnknownWord)
+unfolding read_by
+unknown_read = refl
+
+unknown_told : refused_text 3 1 3 ≡ unknown_line_text
+unfolding digits
+unknown_told = refl
+
+pub are_worked : AreWorked
+are_worked =
+    record {
+      open_call_is_shown = answers open_call (Ok (script 0 open_steps)) 0 open_call_report open_spelled (refl, sym open_reported);
+      refused_call_is_marked = answers refused_call (Ok (script 0 refused_steps)) 0 refused_call_report refused_spelled (refl, sym refused_reported);
+      repeated_letter_is_performed_once = answers repeated_letter (Ok (script 7 repeated_steps)) 0 repeated_letter_report repeated_spelled (refl, sym repeated_reported);
+      unknown_line_is_refused = answers unknown_line (Err (Bad 3 1 causes.UnknownWord)) 3 unknown_line_text unknown_read (refl, sym unknown_told);
+    }

@@ -1,0 +1,171 @@
+//! `cam_run`: answers to words and scripts, and streams that fail.
+
+ghost use Rattle.std.specs.Prelude.{Some};
+
+use cam_io::{Failed, MemorySink, MemorySource, Sink};
+use cam_run::{camelot, worked_answers};
+use std::alloc::Global;
+use std::test::Fail;
+
+const FIRST_PATH: &str =
+    "nodes 1\nobject x 1 register 0\nbegin A 1\nbegin B 1\ncall A x write 5\ndeliver 1\ndeliver 2\ncall B x read\ndeliver 3\ndeliver 4\ncall A x read\n";
+
+const FIRST_REPORT: &str =
+    "action 1.1.1 open\n  created\n  called 1 x write 5\n  got 1 ok\n  called 2 x read\naction 1.1.2 open\n  created\n  called 1 x read\n  got 1 busy 1.1.1\nvalue x 0\n";
+
+const REFUSED_CALL: &str =
+    "nodes 1\nobject x 1 register 0\nbegin A 1\nbegin B 1\ncall A x write 5\ndeliver 1\ndeliver 2\ncall B x read\ndeliver 3\ndeliver 4\ncall B x read\ncall B x read\n";
+
+const REFUSED_REPORT: &str =
+    "action 1.1.1 open\n  created\n  called 1 x write 5\n  got 1 ok\naction 1.1.2 open\n  created\n  called 1 x read\n  got 1 busy 1.1.1\n  called 2 x read\nrefused 12 L5\nvalue x 0\n";
+
+/// A letter that is delivered twice, the second reply before the first.
+const REPEATED: &str =
+    "nodes 1\nobject x 1 register 7\nbegin A 1\ncall A x swap 5\ndeliver 1\ndeliver 1\ndeliver 3\ndeliver 2\ncall A x read\ndeliver 4\ndeliver 5\n";
+
+const REPEATED_REPORT: &str =
+    "action 1.1.1 open\n  created\n  called 1 x swap 5\n  got 1 value 7\n  called 2 x read\n  got 2 value 5\nvalue x 7\n";
+
+const USAGE: &str =
+    "usage: camelot run | trace | witness NAME | gen SEED SIZE | storm SEED ACTIONS THREADS MODE | inspect\n";
+
+/// The words between the blanks of a text.
+fn words(alloc: Global, text: &str) -> Result<Vec<String>, Fail> {
+    let mut words = Vec::new(alloc);
+    for word in text.split(' ') {
+        words.push(String::from_str(alloc, word)?)?;
+    }
+    Ok(words)
+}
+
+fn source(alloc: Global, text: &str, fail: &[u32]) -> Result<MemorySource, Fail> {
+    Ok(MemorySource::new(text.as_bytes().to_vec(alloc)?, fail.to_vec(alloc)?))
+}
+
+#[test]
+fn a_script_has_its_answer(rt: HostRuntime) -> Result<(), Fail> {
+    worked_answers();
+    let alloc = rt.alloc();
+    let run = words(alloc, "run")?;
+    for (input, status, text) in [
+        ("nodes 1\n", 0, ""),
+        (FIRST_PATH, 0, FIRST_REPORT),
+        (REFUSED_CALL, 0, REFUSED_REPORT),
+        (REPEATED, 0, REPEATED_REPORT),
+        ("nodes 1\n\nfoo\n", 3, "refused 3 1 S3\n"),
+        ("nodes 1\nbegin A 2\n", 3, "refused 2 1 S3\n"),
+        (
+            "nodes 1\nobject x 1 register 0\n# a comment\nbegin A 1\ncall A y read\nfoo\n",
+            3,
+            "refused 5 1 S3\n",
+        ),
+        ("", 3, "refused 1 1 S3\n"),
+    ] {
+        let mut source = source(alloc, input, &[])?;
+        let mut sink = MemorySink::new(alloc, Vec::new(alloc));
+        assert_eq!(rt;
+            camelot(alloc, &run, &mut source, &mut sink),
+            status,
+            "{input}"
+        );
+        assert_eq!(rt; sink.text(), text.as_bytes(), "{input}");
+    }
+    let mut long = MemorySource::new(vec![in alloc; 10; 262_145]?, Vec::new(alloc));
+    let mut sink = MemorySink::new(alloc, Vec::new(alloc));
+    assert_eq!(rt; camelot(alloc, &run, &mut long, &mut sink), 3);
+    assert_eq!(rt; sink.text(), b"refused 1 1 S3\n".as_slice());
+    Ok(())
+}
+
+#[test]
+fn words_that_are_no_form(rt: HostRuntime) -> Result<(), Fail> {
+    let alloc = rt.alloc();
+    for text in [
+        "",
+        "witness",
+        "run run",
+        "--help",
+        "gen 7 401",
+        "Run",
+        "run ",
+    ] {
+        let words = words(alloc, text)?;
+        let mut source = source(alloc, FIRST_PATH, &[])?;
+        let mut sink = MemorySink::new(alloc, Vec::new(alloc));
+        assert_eq!(rt; camelot(alloc, &words, &mut source, &mut sink), 2, "{text}");
+        assert_eq!(rt; sink.text(), USAGE.as_bytes(), "{text}");
+    }
+    let none = Vec::new(alloc);
+    let mut source = source(alloc, FIRST_PATH, &[])?;
+    let mut sink = MemorySink::new(alloc, Vec::new(alloc));
+    assert_eq!(rt; camelot(alloc, &none, &mut source, &mut sink), 2);
+    Ok(())
+}
+
+/// Each read fails in turn: of the script, and of the end behind it.
+#[test]
+fn a_source_that_fails(rt: HostRuntime) -> Result<(), Fail> {
+    let alloc = rt.alloc();
+    let run = words(alloc, "run")?;
+    for (call, status, text) in [
+        (1, 4, "read fault\n"),
+        (2, 4, "read fault\n"),
+        (3, 0, FIRST_REPORT),
+    ] {
+        let mut source = source(alloc, FIRST_PATH, &[call])?;
+        let mut sink = MemorySink::new(alloc, Vec::new(alloc));
+        assert_eq!(rt;
+            camelot(alloc, &run, &mut source, &mut sink),
+            status,
+            "at call {call}"
+        );
+        assert_eq!(rt; sink.text(), text.as_bytes(), "at call {call}");
+    }
+    Ok(())
+}
+
+/// A sink that takes a byte a call, and fails once it has taken so many.
+#[derive(Drop)]
+struct Narrow {
+    text: Vec<u8>,
+    room: usize,
+    faults: u64,
+}
+
+impl Sink for Narrow {
+    ghost written = { λ s. Some s.text.items };
+
+    ghost faults = { λ s. s.faults };
+
+    fn write(&mut self, piece: &[u8]) -> Result<usize, Failed> {
+        if self.text.len() < self.room && self.text.push(piece[0]).is_ok() {
+            return Ok(1);
+        }
+        self.faults = self.faults.saturating_add(1);
+        Err(Failed)
+    }
+}
+
+/// Each write fails in turn: a front of the text stands there, and the whole where none fails.
+#[test]
+fn a_sink_that_fails(rt: HostRuntime) -> Result<(), Fail> {
+    let alloc = rt.alloc();
+    let run = words(alloc, "run")?;
+    let whole = FIRST_REPORT.as_bytes();
+    for room in 0..=whole.len() {
+        let mut source = source(alloc, FIRST_PATH, &[])?;
+        let mut sink = Narrow {
+            text: Vec::new(alloc),
+            room,
+            faults: 0,
+        };
+        let wanted = if room < whole.len() { 5 } else { 0 };
+        assert_eq!(rt;
+            camelot(alloc, &run, &mut source, &mut sink),
+            wanted,
+            "at {room}"
+        );
+        assert_eq!(rt; sink.text.as_slice(), &whole[..room], "at {room}");
+    }
+    Ok(())
+}
