@@ -13,8 +13,8 @@ use cam_log::{Entries, EntryLog, LogFault};
 /// A log whose list of entries can be replaced by another as a whole, as a checkpoint does. A crash at any
 /// moment leaves it with the old list or with the new one.
 pub trait CheckpointLog: EntryLog {
-    /// How many lists the log has had: 1 for the one that it began with, and one more for each that took its
-    /// place. It is written in 64 bits, and under the last of these numbers there is no replacement.
+    /// The number of the log's list. A log begins with 1, and a list that takes another's place has the next
+    /// number. It is written in 64 bits; the list with the last number cannot be replaced.
     ghost generation: { Self → ℕ };
 
     /// Where on its disk this list would end, in bytes, if it took the place of the log's own.
@@ -56,7 +56,8 @@ pub trait CheckpointLog: EntryLog {
         ensures unchanged { OnErr result (IsFalse (Self.broken self.new)
             → Stays (Self.moment self.old) (Self.moment self.new)
             (Self.opens_since self.old) (Self.opens_since self.new)
-            (Self.seen self.old) (Self.seen self.new) (Self.faults self.old) (Self.faults self.new)) }
+            (Self.seen self.old) (Self.seen self.new)
+            (Self.faults self.old) (Self.faults self.new)) }
         ensures tells { Self.tells self.new ≡ Self.tells self.old }
         ensures later { Self.faults self.old ≤ Self.faults self.new }
         ensures disk_fault { IsErrOf result DiskFault

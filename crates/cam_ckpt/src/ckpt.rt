@@ -1,5 +1,5 @@
 // A log with checkpoints over a disk.
-ghost use Rattle.std.specs.Prelude.{◌≡◌, ◌+◌, ◌≤◌, ◌<◌, ◌^◌, [], ℕ, List, length, IsTrue, IsFalse, IfOk, IfErr, Ok, None};
+ghost use Rattle.std.specs.Prelude.{◌≡◌, ◌+◌, ◌≤◌, ◌<◌, ◌^◌, [], ℕ, List, length, IsTrue, IsFalse, IfOk, IfErr, Ok, Some, None};
 ghost use Rattle.cam_base.specs.Causes.{Rose};
 ghost use Rattle.cam_disk.specs.Disk.{Only};
 ghost use Rattle.cam_log.specs.declared.fault.LogFault.TheVariants.{DiskFault, NotALog};
@@ -10,17 +10,17 @@ ghost use Rattle.cam_log.specs.Image.{appended};
 ghost use Rattle.cam_ckpt.specs.Image.{formatted, other_slot, segment, numbers};
 ghost use Rattle.cam_ckpt.specs.Written.{IsAppended, IsReplaced};
 ghost use Rattle.cam_ckpt.specs.Steps.{closing_by};
-ghost use Rattle.cam_ckpt.specs.Reading.{read_ckpt};
+ghost use Rattle.cam_ckpt.specs.Reading.{generation_of, read_ckpt};
 ghost use Rattle.cam_ckpt.specs.Moments.{Openings};
 ghost use Rattle.cam_ckpt.specs.Opening.{IsOpened};
 
 use crate::checkpoint_log::CheckpointLog;
 use crate::device::{write_entry, write_list};
 use crate::image::{FIRST_SEGMENT, FIRST_SLOT, numbers, other_slot, segment};
-use crate::parts::{copy_of, drop_newest, format_disk, new_start, read_in};
+use crate::parts::{copy_of, format_disk, new_start, read_in};
 use crate::reading::Opened;
 use cam_disk::Disk;
-use cam_log::{Entries, EntryLog, LogFault, OpenRefused, appended, entry_of};
+use cam_log::{Entries, EntryLog, LogFault, OpenRefused, appended, drop_newest, entry_of};
 use std::alloc::Global;
 
 /// A log with checkpoints over a disk. While it is not broken, a crash leaves just its entries.
@@ -32,7 +32,8 @@ pub struct Ckpt<D: Disk> {
     state: Opened,
     broken: bool,
     ghost opened: { IsTrue (D.tells disk) → IsFalse broken → IsOpened (D.seen disk) state },
-    ghost durable: { IsTrue (D.tells disk) → IsFalse broken → Only (D.seen disk) (D.may_leave disk) },
+    ghost durable: { IsTrue (D.tells disk) → IsFalse broken
+        → Only (D.seen disk) (D.may_leave disk) },
     ghost within: { state.gate < 2 ^ 63 },
     ghost slot: { state.place < 2 ^ 32 },
 }
@@ -44,8 +45,10 @@ impl<D: Disk> Ckpt<D> {
         ensures whole { IfOk result (λ log. IsFalse (⟦<Ckpt<D> as EntryLog>⟧.broken log)) }
         ensures bytes { IsTrue (D.tells disk)
             → IfOk result (λ log. ⟦<Ckpt<D> as EntryLog>⟧.seen log ≡ formatted) }
+        ensures generation { IfOk result (λ log. ⟦<Ckpt<D> as CheckpointLog>⟧.generation log ≡ 1) }
         // It takes three calls of the disk.
-        ensures spent { IfOk result (λ log. Spent 3 (D.passes disk) (⟦<Ckpt<D> as EntryLog>⟧.passes log)) }
+        ensures spent { IfOk result
+            (λ log. Spent 3 (D.passes disk) (⟦<Ckpt<D> as EntryLog>⟧.passes log)) }
         ensures tells { IfOk result (λ log. ⟦<Ckpt<D> as EntryLog>⟧.tells log ≡ D.tells disk) }
         ensures time { IsTrue (D.tells disk)
             → IfOk result (λ log. D.moment disk ≤ ⟦<Ckpt<D> as EntryLog>⟧.moment log) }
@@ -82,13 +85,16 @@ impl<D: Disk> Ckpt<D> {
     /// meanwhile leaves what was there. `NotALog` says from which place on the bytes are no log.
     pub fn open(alloc: Global, disk: D) -> Result<Ckpt<D>, OpenRefused<D>>
         ensures read { IsTrue (D.tells disk)
-            → IfOk result (λ log. read_ckpt (D.seen disk) ≡ Ok (⟦<Ckpt<D> as EntryLog>⟧.listed log)) }
+            → IfOk result (λ log. read_ckpt (D.seen disk) ≡ Ok
+            (⟦<Ckpt<D> as EntryLog>⟧.listed log)) }
         ensures refused { IsTrue (D.tells disk)
             → IfErr result (λ refused. Refuses refused.fault (read_ckpt (D.seen disk))) }
         ensures whole { IfOk result (λ log. IsFalse (⟦<Ckpt<D> as EntryLog>⟧.broken log)) }
         ensures any_moment { IsTrue (D.tells disk) → IfOk result (λ log.
             AddsNothing (D.moment disk) (⟦<Ckpt<D> as EntryLog>⟧.moment log)
             (Openings (D.left_since disk)) (⟦<Ckpt<D> as EntryLog>⟧.opens_since log)) }
+        ensures generation { IsTrue (D.tells disk) → IfOk result (λ log.
+            generation_of (D.seen disk) ≡ Some (⟦<Ckpt<D> as CheckpointLog>⟧.generation log)) }
         ensures unbounded { D.passes disk ≡ None
             → IfOk result (λ log. ⟦<Ckpt<D> as EntryLog>⟧.passes log ≡ None) }
         ensures tells { IfOk result (λ log. ⟦<Ckpt<D> as EntryLog>⟧.tells log ≡ D.tells disk) }

@@ -37,7 +37,8 @@ pub fn write_entry<D: Disk>(disk: &mut D, gate: u64, behind: &[u8]) -> Result<()
     ensures any_moment { IsTrue (D.tells disk.old) → (s : Standing) (entry : List ℕ)
         → behind.now ≡ appended entry → gate ≡ gate_of s
         → IsAtRest s (D.seen disk.old) → Grows (D.moment disk.old) (D.moment disk.new)
-        (D.left_since disk.old) (D.left_since disk.new) (λ image. IsBeforeOrAfter s.entries entry (read_ckpt image)) }
+        (D.left_since disk.old) (D.left_since disk.new)
+        (λ image. IsBeforeOrAfter s.entries entry (read_ckpt image)) }
     ensures cause { FailsWithCause (D.faults disk.old) (D.faults disk.new) result }
 {
     force(disk, gate + 1, behind)?;
@@ -110,13 +111,15 @@ pub fn write_list<D: Disk>(
     requires place { IsTrue (D.tells disk.old) → other + 1 ≤ length (D.seen disk.old) }
     requires start { IsTrue (D.tells disk.old) → at ≤ length (D.seen disk.old) }
     requires only { IsTrue (D.tells disk.old) → Only (D.seen disk.old) (D.may_leave disk.old) }
-    ensures at_rest { IsTrue (D.tells disk.old) → OnOk result ((s : Standing) (entries : List (List ℕ))
+    ensures at_rest { IsTrue (D.tells disk.old)
+        → OnOk result ((s : Standing) (entries : List (List ℕ))
         → IsMove s entries (D.seen disk.old) other is_open at text.now numbers.now
         → IsAtRest (with_entries s entries) (D.seen disk.new)
         × SameGate s.place (D.seen disk.old) (D.seen disk.new)) }
     ensures durable { IsTrue (D.tells disk.old)
         → OnOk result (Only (D.seen disk.new) (D.may_leave disk.new)) }
-    ensures bytes { IsTrue (D.tells disk.old) → OnOk result (IsReplaced other (closing_by is_open) at
+    ensures bytes { IsTrue (D.tells disk.old)
+        → OnOk result (IsReplaced other (closing_by is_open) at
         text.now numbers.now (D.seen disk.old) (D.seen disk.new)) }
     ensures limit { OnOk result (at + length text.now ≤ 2 ^ 62) }
     ensures spent { OnOk result (Spent 7 (D.passes disk.old) (D.passes disk.new)) }
@@ -126,7 +129,8 @@ pub fn write_list<D: Disk>(
     ensures any_moment { IsTrue (D.tells disk.old) → (s : Standing) (entries : List (List ℕ))
         → IsMove s entries (D.seen disk.old) other is_open at text.now numbers.now
         → Grows (D.moment disk.old) (D.moment disk.new)
-        (D.left_since disk.old) (D.left_since disk.new) (λ image. IsOldOrNew s.entries entries (read_ckpt image)) }
+        (D.left_since disk.old) (D.left_since disk.new)
+        (λ image. IsOldOrNew s.entries entries (read_ckpt image)) }
     ensures cause { FailsWithCause (D.faults disk.old) (D.faults disk.new) result }
 {
     close_other(disk, other, is_open)?;

@@ -47,10 +47,12 @@ pub trait Disk: Drop {
             Reads (seen self.old) at (length into.new) n (take n into.new)) }
         ensures tells { tells self.new ≡ tells self.old }
         ensures seen { IsTrue (tells self.old) → seen self.new ≡ seen self.old }
-        ensures crash { IsTrue (tells self.old) → Follows Same (may_leave self.old) (may_leave self.new) }
+        ensures crash { IsTrue (tells self.old)
+            → Follows Same (may_leave self.old) (may_leave self.new) }
         ensures time { IsTrue (tells self.old) → Elapses (moment self.old) (moment self.new)
             (left_since self.old) (left_since self.new) (may_leave self.new) }
-        ensures stops { Stops (passes self.old) (passes self.new) (own_faults self.old) (own_faults self.new)
+        ensures stops { Stops (passes self.old) (passes self.new)
+            (own_faults self.old) (own_faults self.new)
             (same_within self.old self.new × Untouched (moment self.old) (moment self.new)
             (left_since self.old) (left_since self.new) (seen self.old) (seen self.new)) result }
         ensures cause { FailsWithCause (faults self.old) (faults self.new) result };
@@ -62,13 +64,16 @@ pub trait Disk: Drop {
         ensures written { IsTrue (tells self.old)
             → OnOk result (Holds (seen self.old) at bytes.now (seen self.new)) }
         ensures no_memory { IsTrue (tells self.old) → IsErrOf result NoMemory
-            → (seen self.new ≡ seen self.old) × Follows Same (may_leave self.old) (may_leave self.new) }
+            → (seen self.new ≡ seen self.old)
+            × Follows Same (may_leave self.old) (may_leave self.new) }
         ensures limit { 2 ^ 62 < at + length bytes.now → result ≡ Err Failed }
         ensures tells { tells self.new ≡ tells self.old }
-        ensures crash { IsTrue (tells self.old) → Follows (Torn at (length bytes.now)) (may_leave self.old) (may_leave self.new) }
+        ensures crash { IsTrue (tells self.old)
+            → Follows (Torn at (length bytes.now)) (may_leave self.old) (may_leave self.new) }
         ensures time { IsTrue (tells self.old) → Elapses (moment self.old) (moment self.new)
             (left_since self.old) (left_since self.new) (may_leave self.new) }
-        ensures stops { Stops (passes self.old) (passes self.new) (own_faults self.old) (own_faults self.new)
+        ensures stops { Stops (passes self.old) (passes self.new)
+            (own_faults self.old) (own_faults self.new)
             (same_within self.old self.new × Untouched (moment self.old) (moment self.new)
             (left_since self.old) (left_since self.new) (seen self.old) (seen self.new)) result }
         ensures cause { FailsWithCause (faults self.old) (faults self.new) result };
@@ -76,14 +81,18 @@ pub trait Disk: Drop {
     /// Cuts the disk to a size, in bytes, that it has at least. Where memory runs out nothing changes.
     fn cut(&mut self, size: u64) -> Result<(), DiskError>
         requires { IsTrue (tells self.old) → size ≤ length (seen self.old) }
-        ensures cut { IsTrue (tells self.old) → OnOk result (seen self.new ≡ take size (seen self.old)) }
+        ensures cut { IsTrue (tells self.old)
+            → OnOk result (seen self.new ≡ take size (seen self.old)) }
         ensures no_memory { IsTrue (tells self.old) → IsErrOf result NoMemory
-            → (seen self.new ≡ seen self.old) × Follows Same (may_leave self.old) (may_leave self.new) }
+            → (seen self.new ≡ seen self.old)
+            × Follows Same (may_leave self.old) (may_leave self.new) }
         ensures tells { tells self.new ≡ tells self.old }
-        ensures crash { IsTrue (tells self.old) → Follows (Cut size) (may_leave self.old) (may_leave self.new) }
+        ensures crash { IsTrue (tells self.old)
+            → Follows (Cut size) (may_leave self.old) (may_leave self.new) }
         ensures time { IsTrue (tells self.old) → Elapses (moment self.old) (moment self.new)
             (left_since self.old) (left_since self.new) (may_leave self.new) }
-        ensures stops { Stops (passes self.old) (passes self.new) (own_faults self.old) (own_faults self.new)
+        ensures stops { Stops (passes self.old) (passes self.new)
+            (own_faults self.old) (own_faults self.new)
             (same_within self.old self.new × Untouched (moment self.old) (moment self.new)
             (left_since self.old) (left_since self.new) (seen self.old) (seen self.new)) result }
         ensures cause { FailsWithCause (faults self.old) (faults self.new) result };
@@ -94,10 +103,12 @@ pub trait Disk: Drop {
             → OnOk result (Only (seen self.old) (may_leave self.new)) }
         ensures tells { tells self.new ≡ tells self.old }
         ensures seen { IsTrue (tells self.old) → seen self.new ≡ seen self.old }
-        ensures crash { IsTrue (tells self.old) → Follows Same (may_leave self.old) (may_leave self.new) }
+        ensures crash { IsTrue (tells self.old)
+            → Follows Same (may_leave self.old) (may_leave self.new) }
         ensures time { IsTrue (tells self.old) → Elapses (moment self.old) (moment self.new)
             (left_since self.old) (left_since self.new) (may_leave self.new) }
-        ensures stops { Stops (passes self.old) (passes self.new) (own_faults self.old) (own_faults self.new)
+        ensures stops { Stops (passes self.old) (passes self.new)
+            (own_faults self.old) (own_faults self.new)
             (same_within self.old self.new × Untouched (moment self.old) (moment self.new)
             (left_since self.old) (left_since self.new) (seen self.old) (seen self.new)) result }
         ensures cause { FailsWithCause (faults self.old) (faults self.new) result };
@@ -111,7 +122,8 @@ pub trait Disk: Drop {
         ensures later { faults self.old ≤ faults self.new }
         ensures tells { tells self.new ≡ tells self.old }
         ensures seen { IsTrue (tells self.old) → seen self.new ≡ seen self.old }
-        ensures crash { IsTrue (tells self.old) → Follows Same (may_leave self.old) (may_leave self.new) }
+        ensures crash { IsTrue (tells self.old)
+            → Follows Same (may_leave self.old) (may_leave self.new) }
         ensures time { IsTrue (tells self.old) → Elapses (moment self.old) (moment self.new)
             (left_since self.old) (left_since self.new) (may_leave self.new) };
 

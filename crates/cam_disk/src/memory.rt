@@ -91,7 +91,8 @@ impl Disk for MemoryDisk {
 
     fn read(&mut self, at: u64, into: &mut [u8]) -> Result<usize, DiskError>
         ensures count { IfOk result (λ n. n ≤ length into.new) }
-        ensures bytes { IfOk result (λ n. Reads self.old.bytes.items at (length into.new) n (take n into.new)) }
+        ensures bytes { IfOk result
+            (λ n. Reads self.old.bytes.items at (length into.new) n (take n into.new)) }
         ensures done { IsOk result }
         ensures same { self.new ≡ self.old }
     {
@@ -103,7 +104,8 @@ impl Disk for MemoryDisk {
 
     fn write_at(&mut self, at: u64, bytes: &[u8]) -> Result<(), DiskError>
         requires { at ≤ length self.old.bytes.items }
-        ensures written { OnOk result (Holds self.old.bytes.items at bytes.now self.new.bytes.items) }
+        ensures written { OnOk result
+            (Holds self.old.bytes.items at bytes.now self.new.bytes.items) }
         ensures no_memory { IsErrOf result OutOfMemory
             → Unchanged self.old.bytes.items self.new.bytes.items self.old.calls.items self.new.calls.items }
         ensures limit { 2 ^ 62 < at + length bytes.now → result ≡ Err Failed }
@@ -133,7 +135,8 @@ impl Disk for MemoryDisk {
         ensures cut { OnOk result (self.new.bytes.items ≡ take size self.old.bytes.items) }
         ensures no_memory { IsErrOf result OutOfMemory
             → Unchanged self.old.bytes.items self.new.bytes.items self.old.calls.items self.new.calls.items }
-        ensures crash { Follows (Cut size) (MayLeave self.old.calls.items) (MayLeave self.new.calls.items) }
+        ensures crash { Follows (Cut size) (MayLeave self.old.calls.items)
+            (MayLeave self.new.calls.items) }
         ensures time { Onward self.old.calls.items self.new.calls.items }
         ensures cause { FailsWithCause self.old.faults self.new.faults result }
         ensures steady { self.new.faults ≡ self.old.faults }
@@ -147,7 +150,8 @@ impl Disk for MemoryDisk {
     fn sync(&mut self) -> Result<(), DiskError>
         ensures durable { OnOk result (Only self.old.bytes.items (MayLeave self.new.calls.items)) }
         ensures seen { self.new.bytes.items ≡ self.old.bytes.items }
-        ensures crash { Follows Same (MayLeave self.old.calls.items) (MayLeave self.new.calls.items) }
+        ensures crash { Follows Same (MayLeave self.old.calls.items)
+            (MayLeave self.new.calls.items) }
         ensures time { Onward self.old.calls.items self.new.calls.items }
         ensures cause { FailsWithCause self.old.faults self.new.faults result }
         ensures steady { self.new.faults ≡ self.old.faults }

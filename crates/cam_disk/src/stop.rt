@@ -56,7 +56,8 @@ impl<D: Disk> StopDisk<D> {
         ensures passed { OnOk result (IsPassed self.old.passes self.new.passes
             × (self.new.own_faults ≡ self.old.own_faults)) }
         ensures stopped { OnErr result ((self.old.passes ≡ Some 0) × (self.new.passes ≡ Some 0)) }
-        ensures counted { OnErr result (self.new.own_faults ≡ min (self.old.own_faults + 1) (2 ^ 64 - 1)) }
+        ensures counted { OnErr result
+            (self.new.own_faults ≡ min (self.old.own_faults + 1) (2 ^ 64 - 1)) }
         ensures failed { IfErr result (λ error. error ≡ Failed) }
         ensures cause { FailsWithCause (self.old.own_faults + D.faults self.old.inner)
             (self.new.own_faults + D.faults self.new.inner) result }

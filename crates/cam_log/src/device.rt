@@ -31,7 +31,8 @@ pub fn force<D: Disk>(disk: &mut D, at: u64, bytes: &[u8]) -> Result<(), DiskErr
         (D.left_since disk.old) (D.left_since disk.new) (D.seen disk.old) (D.seen disk.new) }
     ensures tells { D.tells disk.new ≡ D.tells disk.old }
     ensures any_moment { IsTrue (D.tells disk.old) → Grows (D.moment disk.old) (D.moment disk.new)
-        (D.left_since disk.old) (D.left_since disk.new) (Written at (length bytes.now) (D.may_leave disk.old)) }
+        (D.left_since disk.old) (D.left_since disk.new)
+        (Written at (length bytes.now) (D.may_leave disk.old)) }
     ensures cause { FailsWithCause (D.faults disk.old) (D.faults disk.new) result }
 {
     disk.write_at(at, bytes)?;
@@ -62,7 +63,8 @@ pub fn write_entry<D: Disk>(disk: &mut D, gate: u64, behind: &[u8]) -> Result<()
     ensures any_moment { IsTrue (D.tells disk.old) → (entries : List (List ℕ)) (entry : List ℕ)
         → behind.now ≡ appended entry → IsAtRest entries gate (D.seen disk.old)
         → Grows (D.moment disk.old) (D.moment disk.new)
-        (D.left_since disk.old) (D.left_since disk.new) (λ image. IsBeforeOrAfter entries entry (read_log image)) }
+        (D.left_since disk.old) (D.left_since disk.new)
+        (λ image. IsBeforeOrAfter entries entry (read_log image)) }
     ensures cause { FailsWithCause (D.faults disk.old) (D.faults disk.new) result }
 {
     force(disk, gate + 1, behind)?;
@@ -82,12 +84,15 @@ fn add_piece(bytes: &mut Vec<u8>, piece: &[u8]) -> Result<(), NoMemory>
 
 /// All that a disk holds.
 pub fn read_whole<D: Disk>(alloc: Global, disk: &mut D) -> Result<Vec<u8>, DiskError>
-    ensures bytes { IsTrue (D.tells disk.old) → IfOk result (λ bytes. bytes.items ≡ D.seen disk.old) }
+    ensures bytes { IsTrue (D.tells disk.old)
+        → IfOk result (λ bytes. bytes.items ≡ D.seen disk.old) }
     ensures unbounded { D.passes disk.old ≡ None → D.passes disk.new ≡ None }
     ensures tells { D.tells disk.new ≡ D.tells disk.old }
     ensures seen { IsTrue (D.tells disk.old) → D.seen disk.new ≡ D.seen disk.old }
-    ensures crash { IsTrue (D.tells disk.old) → Follows Same (D.may_leave disk.old) (D.may_leave disk.new) }
-    ensures any_moment { IsTrue (D.tells disk.old) → AddsNothing (D.moment disk.old) (D.moment disk.new)
+    ensures crash { IsTrue (D.tells disk.old)
+        → Follows Same (D.may_leave disk.old) (D.may_leave disk.new) }
+    ensures any_moment { IsTrue (D.tells disk.old)
+        → AddsNothing (D.moment disk.old) (D.moment disk.new)
         (D.left_since disk.old) (D.left_since disk.new) }
     ensures cause { FailsWithCause (D.faults disk.old) (D.faults disk.new) result }
 {
@@ -117,7 +122,8 @@ pub fn read_in<D: Disk>(alloc: Global, disk: &mut D) -> Result<Found, LogFault>
     ensures unbounded { D.passes disk.old ≡ None → D.passes disk.new ≡ None }
     ensures tells { D.tells disk.new ≡ D.tells disk.old }
     ensures seen { IsTrue (D.tells disk.old) → D.seen disk.new ≡ D.seen disk.old }
-    ensures any_moment { IsTrue (D.tells disk.old) → AddsNothing (D.moment disk.old) (D.moment disk.new)
+    ensures any_moment { IsTrue (D.tells disk.old)
+        → AddsNothing (D.moment disk.old) (D.moment disk.new)
         (D.left_since disk.old) (D.left_since disk.new) }
     ensures later { D.faults disk.old ≤ D.faults disk.new }
     ensures disk_fault { IsErrOf result DiskFault → Rose (D.faults disk.old) (D.faults disk.new) }

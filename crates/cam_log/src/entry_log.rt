@@ -1,5 +1,5 @@
 // What callers see of a log.
-ghost use Rattle.std.specs.Prelude.{◌≡◌, ◌≤◌, ◌+◌, ◌++◌, ◌∷◌, [], Bool, List, ℕ, IsTrue, IsFalse, OnOk, OnErr, IfOk, IsErrOf, Ok, Option, Some, None};
+ghost use Rattle.std.specs.Prelude.{◌≡◌, ◌≤◌, ◌+◌, ◌-◌, ◌++◌, ◌∷◌, [], Bool, List, ℕ, length, take, IsTrue, IsFalse, OnOk, OnErr, IfOk, IsErrOf, Ok, Option, Some, None};
 ghost use Rattle.cam_disk.specs.Stop.{Untouched};
 ghost use Rattle.cam_log.specs.Spent.{Spent};
 ghost use Rattle.cam_base.specs.Causes.{Rose};
@@ -9,6 +9,7 @@ ghost use Rattle.cam_log.specs.Moments.{Grows, Stays, Opened, IsBeforeOrAfter};
 use crate::fault::LogFault;
 use cam_base::{NoMemory, Sequence};
 use std::alloc::Global;
+use std::mem;
 
 /// The bytes of an entry.
 pub type Entry = Sequence<u8>;
@@ -22,6 +23,15 @@ pub fn entry_of(alloc: Global, bytes: &[u8]) -> Result<Entry, NoMemory>
 
 /// The entries of a log, the oldest first.
 pub type Entries = Sequence<Entry>;
+
+/// Takes the newest entry away. It takes no memory.
+pub fn drop_newest(entries: &mut Entries, alloc: Global)
+    ensures { entries.new ≡ take (length entries.old - 1) entries.old }
+{
+    let mut list = mem::replace(entries, Entries::new(alloc)).into_vec();
+    list.truncate(list.len().saturating_sub(1));
+    *entries = Entries::from_vec(list);
+}
 
 /// A log of entries, to which entries are appended, and which a crash at any moment leaves with the
 /// entries before or with the new one besides.
@@ -60,16 +70,19 @@ pub trait EntryLog: Drop {
         requires { IsFalse (broken self.old) }
         ensures appended { OnOk result (listed self.new ≡ listed self.old ++ entry.now ∷ []) }
         ensures whole { OnOk result (IsFalse (broken self.new)) }
-        ensures bytes { IsTrue (tells self.old) → OnOk result (is_written self.old entry.now self.new) }
+        ensures bytes { IsTrue (tells self.old)
+            → OnOk result (is_written self.old entry.now self.new) }
         // It takes four calls of the disk: with fewer left it fails, and with none left it touches nothing.
         ensures spent { OnOk result (Spent 4 (passes self.old) (passes self.new)) }
         ensures stopped { passes self.old ≡ Some 0 → Untouched (moment self.old) (moment self.new)
             (opens_since self.old) (opens_since self.new) (seen self.old) (seen self.new) }
         // A crash at any moment of the call leaves the entries before it, with the new one or without.
         ensures any_moment { IsTrue (tells self.old) → Grows (moment self.old) (moment self.new)
-            (opens_since self.old) (opens_since self.new) (IsBeforeOrAfter (listed self.old) entry.now) }
+            (opens_since self.old) (opens_since self.new)
+            (IsBeforeOrAfter (listed self.old) entry.now) }
         ensures not_listed { OnErr result (listed self.new ≡ listed self.old) }
-        ensures unchanged { OnErr result (IsFalse (broken self.new) → Stays (moment self.old) (moment self.new)
+        ensures unchanged { OnErr result
+            (IsFalse (broken self.new) → Stays (moment self.old) (moment self.new)
             (opens_since self.old) (opens_since self.new) (seen self.old) (seen self.new)
             (faults self.old) (faults self.new)) }
         ensures tells { tells self.new ≡ tells self.old }

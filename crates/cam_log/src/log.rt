@@ -1,5 +1,5 @@
 // A log over a disk.
-ghost use Rattle.std.specs.Prelude.{◌≡◌, ◌+◌, ◌-◌, ◌≤◌, ◌<◌, ◌^◌, ◌++◌, ◌∷◌, [], ℕ, List, length, take, IsTrue, IsFalse, OnOk, OnErr, IfOk, IfErr, IsErrOf, Ok, None};
+ghost use Rattle.std.specs.Prelude.{◌≡◌, ◌+◌, ◌≤◌, ◌<◌, ◌^◌, ◌++◌, ◌∷◌, [], ℕ, List, IsTrue, IsFalse, OnOk, OnErr, IfOk, IfErr, IsErrOf, Ok, None};
 ghost use Rattle.cam_base.specs.Causes.{Rose};
 ghost use Rattle.cam_disk.specs.Disk.{Only, FailsWithCause};
 ghost use Rattle.cam_log.specs.declared.fault.LogFault.TheVariants.{DiskFault, NotALog};
@@ -10,12 +10,11 @@ ghost use Rattle.cam_log.specs.Spent.{Spent};
 ghost use Rattle.cam_log.specs.Moments.{IsAtRest, AddsNothing, Openings};
 
 use crate::device::{force, read_in, write_entry};
-use crate::entry_log::{Entries, EntryLog, entry_of};
+use crate::entry_log::{Entries, EntryLog, drop_newest, entry_of};
 use crate::fault::{LogFault, OpenRefused};
 use crate::image::{EMPTY, HEADER, appended};
 use cam_disk::{Disk, DiskError};
 use std::alloc::Global;
-use std::mem;
 
 /// A log over a disk. While it is not broken, a crash leaves just its entries.
 #[derive(Drop)]
@@ -27,24 +26,17 @@ pub struct Log<D: Disk> {
     gate: u64,
     broken: bool,
     ghost at_rest: { IsTrue (D.tells disk) → IsFalse broken → IsAtRest entries gate (D.seen disk) },
-    ghost durable: { IsTrue (D.tells disk) → IsFalse broken → Only (D.seen disk) (D.may_leave disk) },
+    ghost durable: { IsTrue (D.tells disk) → IsFalse broken
+        → Only (D.seen disk) (D.may_leave disk) },
     ghost within: { gate < 2 ^ 63 },
-}
-
-/// Takes the newest entry away. It takes no memory.
-fn drop_newest(entries: &mut Entries, alloc: Global)
-    ensures { entries.new ≡ take (length entries.old - 1) entries.old }
-{
-    let mut list = mem::replace(entries, Entries::new(alloc)).into_vec();
-    list.truncate(list.len().saturating_sub(1));
-    *entries = Entries::from_vec(list);
 }
 
 /// Makes a disk a log without entries.
 #[tactic(auto, using(crate::specs::Spent::spent_one, crate::specs::Spent::spent_then))]
 fn format_disk<D: Disk>(disk: &mut D) -> Result<(), DiskError>
     ensures at_rest { IsTrue (D.tells disk.old) → OnOk result (IsAtRest [] 8 (D.seen disk.new)) }
-    ensures durable { IsTrue (D.tells disk.old) → OnOk result (Only (D.seen disk.new) (D.may_leave disk.new)) }
+    ensures durable { IsTrue (D.tells disk.old)
+        → OnOk result (Only (D.seen disk.new) (D.may_leave disk.new)) }
     ensures bytes { IsTrue (D.tells disk.old) → OnOk result (D.seen disk.new ≡ log_bytes []) }
     ensures spent { OnOk result (Spent 3 (D.passes disk.old) (D.passes disk.new)) }
     ensures tells { D.tells disk.new ≡ D.tells disk.old }
@@ -63,7 +55,8 @@ impl<D: Disk> Log<D> {
         ensures bytes { IsTrue (D.tells disk)
             → IfOk result (λ log. ⟦<Log<D> as EntryLog>⟧.seen log ≡ log_bytes []) }
         // It takes three calls of the disk.
-        ensures spent { IfOk result (λ log. Spent 3 (D.passes disk) (⟦<Log<D> as EntryLog>⟧.passes log)) }
+        ensures spent { IfOk result
+            (λ log. Spent 3 (D.passes disk) (⟦<Log<D> as EntryLog>⟧.passes log)) }
         ensures tells { IfOk result (λ log. ⟦<Log<D> as EntryLog>⟧.tells log ≡ D.tells disk) }
         ensures time { IsTrue (D.tells disk)
             → IfOk result (λ log. D.moment disk ≤ ⟦<Log<D> as EntryLog>⟧.moment log) }

@@ -17,7 +17,8 @@ pub trait StopLog: EntryLog {
         ensures tells { Self.tells self.new ≡ Self.tells self.old }
         ensures stays { Stays (Self.moment self.old) (Self.moment self.new)
             (Self.opens_since self.old) (Self.opens_since self.new)
-            (Self.seen self.old) (Self.seen self.new) (Self.faults self.old) (Self.faults self.new) };
+            (Self.seen self.old) (Self.seen self.new)
+            (Self.faults self.old) (Self.faults self.new) };
 
     /// Lets the disk do all calls again.
     fn clear(&mut self)
@@ -27,7 +28,8 @@ pub trait StopLog: EntryLog {
         ensures tells { Self.tells self.new ≡ Self.tells self.old }
         ensures stays { Stays (Self.moment self.old) (Self.moment self.new)
             (Self.opens_since self.old) (Self.opens_since self.new)
-            (Self.seen self.old) (Self.seen self.new) (Self.faults self.old) (Self.faults self.new) };
+            (Self.seen self.old) (Self.seen self.new)
+            (Self.faults self.old) (Self.faults self.new) };
 }
 
 impl<D: Disk> StopLog for Log<StopDisk<D>> {

@@ -1,5 +1,5 @@
-use Rattle.std.proofs.Common.{◌-◌}
+use Rattle.std.proofs.Common.{◌-◌, length}
 use Rattle.cam_log.proofs.reading.+header_from.Given as goal
 
 abbrev pub decreases-header_from : goal.decreases-header_from
-decreases-header_from l = 8 - l.at
+decreases-header_from l = length l.header.now - l.at
