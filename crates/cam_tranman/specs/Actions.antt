@@ -12,7 +12,7 @@ use Rattle.cam_event.specs.History as history
 use Rattle.cam_event.specs.History.{Addressed, call_of}
 use Rattle.cam_event.specs.Live.{site_of}
 use Rattle.cam_event.specs.ByKnowledge.{Carried, deeds_of, own_pairs}
-use Rattle.cam_tranman.specs.declared.OpenCall.{OpenCall}
+use Rattle.cam_tranman.specs.declared.call.OpenCall.{OpenCall}
 use Rattle.cam_tranman.specs.declared.action.Action.{Action}
 
 pub record Actions : Type 0 where

@@ -1,9 +1,9 @@
 -- What each call answers, and what it does to the actions.
-use Rattle.std.specs.Prelude.{◌≡◌, ℕ, ◌+◌, eqb, nat_le, nat_lt, Bool, true, false, not, ◌&&◌, ◌||◌, if◌then◌else◌, List, [], ◌∷◌, ◌++◌, filter, length, Option, Some, None, option_map, is_some}
+use Rattle.std.specs.Prelude.{◌≡◌, ℕ, ◌+◌, eqb, nat_le, nat_lt, Bool, true, false, not, ◌&&◌, ◌||◌, if◌then◌else◌, List, [], ◌∷◌, ◌++◌, replicate, filter, length, Option, Some, None, option_map, is_some}
 use Rattle.std.specs.Option.{option_map_or}
 use Rattle.cam_names.specs.declared.name.Name.{Name}
 use Rattle.cam_names.specs.Names.{name_eq, parent, home_count}
-use Rattle.cam_names.specs.Dependencies.{pairs_of, as_counts, greater_counts}
+use Rattle.cam_names.specs.Dependencies.{as_counts, greater_counts}
 use Rattle.cam_event.specs.declared.Reply.{Reply}
 use Rattle.cam_event.specs.declared.Reply.TheVariants as replies
 use Rattle.cam_event.specs.declared.Seen.{Seen}
@@ -14,8 +14,8 @@ use Rattle.cam_event.specs.declared.LineRefusal.{LineRefusal}
 use Rattle.cam_event.specs.declared.LineRefusal.TheVariants as refusals
 use Rattle.cam_event.specs.Gained.{home}
 use Rattle.cam_event.specs.Refusals.{first_of_two, where_so}
-use Rattle.cam_event.specs.Rules.{with_home, is_number}
-use Rattle.cam_tranman.specs.declared.OpenCall.{OpenCall}
+use Rattle.cam_event.specs.Rules.{is_number}
+use Rattle.cam_tranman.specs.declared.call.OpenCall.{OpenCall}
 use Rattle.cam_tranman.specs.declared.Started.{Started}
 use Rattle.cam_tranman.specs.declared.Started.TheVariants as started
 use Rattle.cam_tranman.specs.declared.Taken.{Taken}
@@ -114,16 +114,23 @@ as_ended kept = record kept { ended = true }
 abbrev pub gaining : List ℕ → Action → Action
 gaining counts kept = record kept { deps = greater_counts kept.deps counts }
 
+-- the greater count of each node, where one more node at a count is in it
+abbrev pub visiting : List ℕ → ℕ × ℕ → List ℕ
+visiting counts pair = greater_counts counts (as_counts (pair ∷ []))
+
 -- A top action is begun: it depends on its home.
+abbrev pub begun_as : Name → Actions → Actions
+begun_as a actions = with_action a (fresh (visiting (replicate 8 0) (home a))) (record actions { tops = actions.tops + 1 })
+
 abbrev pub begun : Actions → Actions
-begun actions = with_action (next_top actions) (fresh (as_counts (home (next_top actions) ∷ []))) (record actions { tops = actions.tops + 1 })
+begun actions = begun_as (next_top actions) actions
 
 -- A child is started here: it depends on what its parent did when it asked for it, and on its home.
 abbrev pub started_by : Actions → Name → Started
 started_by actions b = if created actions b then started.Known else started.New
 
 abbrev pub begun_child : Name → List ℕ → Actions → Actions
-begun_child b counts actions = with_action b (fresh (as_counts (with_home counts b))) actions
+begun_child b counts actions = with_action b (fresh (visiting counts (home b))) actions
 
 abbrev pub after_start : Name → List ℕ → Actions → Actions
 after_start b counts actions = if created actions b then actions else begun_child b counts actions
@@ -161,17 +168,18 @@ abbrev pub taken_by : Actions → Name → ℕ → Reply → ℕ → Taken
 taken_by actions a n reply known = if not (awaits_by actions a n) then taken.Late else taken_at (actions.call a) reply known
 
 -- An answer that was done adds the call's site with the addressed count.
-abbrev pub visit : Option OpenCall → List ℕ
-visit None = as_counts []
-visit (Some call) = as_counts ((call.site, call.count) ∷ [])
+abbrev pub seeing : Seen → OpenCall → Action → Action
+seeing (seens.Done answer) call kept = record kept { deps = visiting kept.deps (call.site, call.count) }
+seeing (seens.Busy u) call kept = kept
+seeing seens.Gone call kept = kept
 
-abbrev pub gaining_by : Option OpenCall → Seen → Action → Action
-gaining_by call (seens.Done answer) kept = gaining (visit call) kept
-gaining_by call (seens.Busy u) kept = kept
-gaining_by call seens.Gone kept = kept
+-- An action has got what it sees of its open call, which is open no longer.
+abbrev pub got_by : Option OpenCall → Name → Seen → Actions → Actions
+got_by None a seen actions = actions
+got_by (Some call) a seen actions = with_call a None (on a (seeing seen call) actions)
 
 abbrev pub got : Name → Seen → Actions → Actions
-got a seen actions = with_call a None (on a (gaining_by (actions.call a) seen) actions)
+got a seen actions = got_by (actions.call a) a seen actions
 
 abbrev pub after_taken : Name → Taken → Actions → Actions
 after_taken a (taken.Got seen) actions = got a seen actions

@@ -10,7 +10,7 @@ use Rattle.cam_event.specs.History as history
 use Rattle.cam_event.specs.Live.{site_of}
 use Rattle.cam_event.specs.Inputs.{Mail}
 use Rattle.cam_event.specs.ByKnowledge.{Carried, deeds_of, own_pairs, start_counts, finish_counts}
-use Rattle.cam_tranman.specs.declared.OpenCall.{OpenCall}
+use Rattle.cam_tranman.specs.declared.call.OpenCall.{OpenCall}
 use Rattle.cam_tranman.specs.Actions.{Actions, created, asks, RunsActions}
 use Rattle.cam_tranman.specs.Calls.{AreSame, IsFree, next_top, next_child, next_call, none_run, begun, begun_child, asked, called, finished, got, decided}
 

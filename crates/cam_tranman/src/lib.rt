@@ -10,23 +10,18 @@
 #![tactic(auto)]
 
 mod action;
+mod asking;
+mod call;
 mod children;
+mod deps;
+mod homed;
+mod steps;
+mod tables;
+
+pub use call::OpenCall;
+pub use homed::Homed;
 
 use cam_event::Seen;
-use cam_type::Op;
-
-/// The call of an action that is not answered.
-#[derive(Clone, Copy, Debug)]
-pub struct OpenCall {
-    /// Which call of the action it is: 1 to 1,000,000,000.
-    pub number: u32,
-    /// The object, and what was asked of it.
-    pub object: u8,
-    pub op: Op,
-    /// The node of the object, 1 to 8, and the count at which it was addressed.
-    pub site: u8,
-    pub count: u32,
-}
 
 /// What the start of a child makes of it.
 #[derive(Clone, Copy, Debug, PartialEq, Eq)]
