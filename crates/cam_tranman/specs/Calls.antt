@@ -1,6 +1,5 @@
 -- What each call answers, and what it does to the actions.
 use Rattle.std.specs.Prelude.{◌≡◌, ℕ, ◌+◌, eqb, nat_le, nat_lt, Bool, true, false, not, ◌&&◌, ◌||◌, if◌then◌else◌, List, [], ◌∷◌, ◌++◌, replicate, filter, length, Option, Some, None, option_map, is_some}
-use Rattle.std.specs.Option.{option_map_or}
 use Rattle.cam_names.specs.declared.name.Name.{Name}
 use Rattle.cam_names.specs.Names.{name_eq, parent, home_count}
 use Rattle.cam_names.specs.Dependencies.{as_counts, greater_counts}
@@ -89,8 +88,11 @@ abbrev pub with_action : Name → Action → Actions → Actions
 with_action a kept actions = record actions { action = λ b. if name_eq a b then Some kept else actions.action b }
 
 -- what is kept of an action is changed, where it was created
+abbrev pub changed : Name → (Action → Action) → (Name → Option Action) → Name → Option Action
+changed a change kept b = if name_eq a b then option_map change (kept b) else kept b
+
 abbrev pub on : Name → (Action → Action) → Actions → Actions
-on a change actions = record actions { action = λ b. if name_eq a b then option_map change (actions.action b) else actions.action b }
+on a change actions = record actions { action = changed a change actions.action }
 
 abbrev pub with_call : Name → Option OpenCall → Actions → Actions
 with_call a call actions = record actions { call = λ b. if name_eq a b then call else actions.call b }
@@ -194,10 +196,13 @@ abbrev pub decides_by : Actions → Name → Bool
 decides_by actions b = decides_of actions b (parent b)
 
 -- It is open no longer; where it commits, its parent depends on what it depends on.
-abbrev pub parent_gains : Option Name → Option (List ℕ) → Actions → Actions
-parent_gains None counts actions = actions
-parent_gains (Some p) None actions = actions
-parent_gains (Some p) (Some counts) actions = on p (gaining counts) actions
+abbrev pub parent_changed : Option Name → (Action → Action) → (Name → Option Action) → Name → Option Action
+parent_changed None change kept = kept
+parent_changed (Some p) change kept = changed p change kept
+
+abbrev pub parent_gains : Name → List ℕ → Actions → Actions
+parent_gains b counts actions = record actions { action = parent_changed (parent b) (gaining counts) actions.action }
 
 abbrev pub decided : Name → Option (List ℕ) → Actions → Actions
-decided b counts actions = without_child b (parent_gains (parent b) counts actions)
+decided b None actions = without_child b actions
+decided b (Some counts) actions = without_child b (parent_gains b counts actions)

@@ -1,7 +1,7 @@
 -- One more event of a node: what it does to the actions that run there, so that they go on answering as the node's history does.
-use Rattle.std.specs.Prelude.{◌≡◌, ℕ, ◌+◌, ◌<◌, ◌≤◌, Bool, true, false, if◌then◌else◌, List, [], ◌∷◌, filter, length, Option, Some, None}
+use Rattle.std.specs.Prelude.{◌≡◌, ℕ, ◌+◌, ◌<◌, ◌≤◌, Bool, true, false, List, [], ◌∷◌, filter, length, Option, Some, None}
 use Rattle.cam_names.specs.declared.name.Name.{Name}
-use Rattle.cam_names.specs.Names.{is_top, is_child, parent, home_node, home_count}
+use Rattle.cam_names.specs.Names.{is_top, is_child, home_node, home_count}
 use Rattle.cam_type.specs.declared.ObjectDecl.{ObjectDecl}
 use Rattle.cam_type.specs.declared.Op.{Op}
 use Rattle.cam_event.specs.declared.Deed.{Deed}
@@ -11,8 +11,8 @@ use Rattle.cam_event.specs.Live.{site_of}
 use Rattle.cam_event.specs.Inputs.{Mail}
 use Rattle.cam_event.specs.ByKnowledge.{Carried, deeds_of, own_pairs, start_counts, finish_counts}
 use Rattle.cam_tranman.specs.declared.call.OpenCall.{OpenCall}
-use Rattle.cam_tranman.specs.Actions.{Actions, created, asks, RunsActions}
-use Rattle.cam_tranman.specs.Calls.{AreSame, IsFree, next_top, next_child, next_call, none_run, begun, begun_child, asked, called, finished, got, decided}
+use Rattle.cam_tranman.specs.Actions.{Actions, created, RunsActions}
+use Rattle.cam_tranman.specs.Calls.{AreSame, next_top, none_run, begun, begun_child, asked, called, finished, got, decided}
 
 -- the deeds that concern the actions at home
 abbrev pub is_at_home : Deed → Bool

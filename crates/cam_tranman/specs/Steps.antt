@@ -1,30 +1,12 @@
 -- The calls are the rules: what a node does with a request of an action, and with a start, an answer, a finish or a quit of a child,
 -- follows from their answers.
-use Rattle.std.specs.Prelude.{◌≡◌, ℕ, ◌+◌, ◌≤◌, List, Option, Some, None}
+use Rattle.std.specs.Prelude.{◌≡◌, ℕ, List, Some}
 use Rattle.cam_names.specs.declared.name.Name.{Name}
-use Rattle.cam_names.specs.Names.{home_node, home_count}
-use Rattle.cam_names.specs.Dependencies.{pairs_of}
 use Rattle.cam_type.specs.declared.ObjectDecl.{ObjectDecl}
-use Rattle.cam_type.specs.declared.Op.{Op}
-use Rattle.cam_event.specs.declared.Body.TheVariants as bodies
-use Rattle.cam_event.specs.declared.Note.TheVariants as notes
-use Rattle.cam_event.specs.declared.Reply.{Reply}
-use Rattle.cam_event.specs.declared.Seen.{Seen}
-use Rattle.cam_event.specs.declared.Want.{Want}
-use Rattle.cam_event.specs.declared.Want.TheVariants as wants
-use Rattle.cam_event.specs.declared.Deed.TheVariants.{Create, Got}
 use Rattle.cam_event.specs.History as history
 use Rattle.cam_event.specs.History.{call_of}
-use Rattle.cam_event.specs.Live.{site_of}
-use Rattle.cam_event.specs.Refusals.{refusal}
 use Rattle.cam_event.specs.Sights.{Sight, present}
-use Rattle.cam_event.specs.Rules.{Did, did, one, send, answers, nothing_but, unless_orphan, with_home, asks_child, makes_call, begins, wanted, start_comes, answer_comes, decides_child}
-use Rattle.cam_tranman.specs.declared.Started.{Started}
-use Rattle.cam_tranman.specs.declared.Started.TheVariants as started
-use Rattle.cam_tranman.specs.declared.Taken.{Taken}
-use Rattle.cam_tranman.specs.declared.Taken.TheVariants as taken
 use Rattle.cam_tranman.specs.Actions.{Actions, created, ended, asks, calls, deps, open_call, open_address, is_open_child, has_open_child}
-use Rattle.cam_tranman.specs.Calls.{refusal_by, next_top, next_child, next_call, started_by, awaits_by, taken_by, decides_by}
 
 -- The actions answer as what the node goes by, of an action that may run there.
 pub record AnswersSight (objects : List ObjectDecl) (g : Sight) (actions : Actions) (a : Name) : Type 0 where

@@ -19,9 +19,8 @@ mod steps;
 mod tables;
 
 pub use call::OpenCall;
-pub use homed::Homed;
-
 use cam_event::Seen;
+pub use homed::Homed;
 
 /// What the start of a child makes of it.
 #[derive(Clone, Copy, Debug, PartialEq, Eq)]

@@ -5,12 +5,12 @@ ghost use Rattle.cam_names.specs.Names.{home_node, home_count};
 ghost use Rattle.cam_event.specs.declared.Want.TheVariants as wants;
 ghost use Rattle.cam_tranman.specs.Actions.{asks, calls};
 ghost use Rattle.cam_tranman.specs.Tables.{answers};
-ghost use Rattle.cam_tranman.specs.Calls.{AreSame, IsFree, next_top, next_child, next_call, started_by, taken_by, decides_by, begun, begun_child, after_start, asked, called, finished, got, seen_of, after_taken, decided};
+ghost use Rattle.cam_tranman.specs.Calls.{AreSame, IsFree, next_top, next_child, next_call, started_by, taken_by, decides_by, begun, begun_child, after_start, asked, called, finished, got, seen_of, taken_at, after_taken, decided};
 
 use crate::action::Action;
 use crate::deps::{at, union};
 use crate::homed::Homed;
-use crate::tables::{call_in, close_call, keep, kept_in, open_call};
+use crate::tables::{call_in, close_call, end_in, keep, kept_in, open_call, parent_gains, see_in};
 use crate::{OpenCall, Started, Taken};
 use cam_base::NoMemory;
 use cam_event::{Reply, Seen};
@@ -127,15 +127,13 @@ impl Homed {
         let Some(call) = call_in(&self.calls, action) else {
             return Taken::Late;
         };
-        let taken = if call.count < known {
-            Taken::Got(Seen::Gone)
-        } else {
-            seen_of(reply)
-        };
-        if let Taken::Got(seen) = taken {
-            self.see(action, &call, &seen);
+        match taken_at(&call, reply, known) {
+            Taken::Got(seen) => {
+                self.see(action, &call, &seen);
+                Taken::Got(seen)
+            }
+            Taken::Late => Taken::Late,
         }
-        taken
     }
 
     /// An action has asked to commit. It takes no memory.
@@ -159,12 +157,10 @@ impl Homed {
         requires { decides_by (answers self.old) child.now ≡ true }
         ensures { AreSame (decided child.now commit.now (answers self.old)) (answers self.new) }
     {
-        if let (Some(parent), Some(deps)) = (child.parent(), commit) {
-            if let Some(kept) = kept_in(&self.actions, &parent) {
-                keep(&mut self.actions, &parent, &kept.gaining(deps));
-            }
+        match commit {
+            Some(deps) => self.commit_child(child, deps),
+            None => self.close_child(child),
         }
-        self.children.remove(child);
     }
 
     /// An action gives up a child. It takes no memory.
@@ -172,27 +168,39 @@ impl Homed {
         requires { IsFree (answers self.old) action.now (wants.GiveUp child.now) }
         ensures { AreSame (decided child.now None (answers self.old)) (answers self.new) }
     {
+        self.close_child(child);
+    }
+
+    /// A child is open no longer.
+    fn close_child(&mut self, child: &Name)
+        ensures { AreSame (decided child.now None (answers self.old)) (answers self.new) }
+    {
+        self.children.remove(child);
+    }
+
+    /// A child commits, and depends on these.
+    fn commit_child(&mut self, child: &Name, deps: &Deps)
+        ensures { AreSame (decided child.now (Some deps.now) (answers self.old)) (answers self.new) }
+    {
+        parent_gains(&mut self.actions, child, deps);
         self.children.remove(child);
     }
 
     /// An action comes here new, with these dependencies and its home. There is room for it.
     fn create(&mut self, action: &Name, deps: &Deps)
-        requires { 1 ≤ (answers self.old).room }
+        requires home { (home_node action.now ≡ (answers self.old).node) × (home_count action.now ≡ (answers self.old).count) }
+        requires room { 1 ≤ (answers self.old).room }
         ensures { AreSame (begun_child action.now deps.now (answers self.old)) (answers self.new) }
     {
-        let (node, count) = action.home();
-        let parts = action.parts();
-        let _part = parts[parts.len() - 1];
-        keep(&mut self.actions, action, &Action::fresh(&union(deps, &at(node, count))));
+        let deps = union(deps, &at(self.node, self.count));
+        keep(&mut self.actions, action, &Action::fresh(&deps));
     }
 
     /// An action has ended.
     fn end(&mut self, action: &Name)
         ensures { AreSame (finished action.now (answers self.old)) (answers self.new) }
     {
-        if let Some(kept) = kept_in(&self.actions, action) {
-            keep(&mut self.actions, action, &kept.as_ended());
-        }
+        end_in(&mut self.actions, action);
     }
 
     /// An action sees this of its open call.
@@ -200,14 +208,22 @@ impl Homed {
         requires { (answers self.old).call action.now ≡ Some call.now }
         ensures { AreSame (got action.now seen.now (answers self.old)) (answers self.new) }
     {
-        if let Some(kept) = kept_in(&self.actions, action) {
-            keep(&mut self.actions, action, &kept.seeing(seen, call));
-        }
+        see_in(&mut self.actions, action, call, seen);
         close_call(&mut self.calls, action);
     }
 }
 
-/// What an action sees of a reply that it awaits.
+/// What an action sees of a reply to its open call: it is gone where its site has crashed since it was addressed.
+fn taken_at(call: &OpenCall, reply: &Reply, known: u32) -> Taken
+    ensures { result ≡ taken_at (Some call.now) reply.now known }
+{
+    if call.count < known {
+        Taken::Got(Seen::Gone)
+    } else {
+        seen_of(reply)
+    }
+}
+
 fn seen_of(reply: &Reply) -> Taken
     ensures { result ≡ seen_of reply.now }
 {

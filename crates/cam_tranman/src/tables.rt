@@ -2,11 +2,13 @@
 ghost use Rattle.std.specs.Prelude.{◌≡◌, ◌≤◌, if◌then◌else◌, Some, None};
 ghost use Rattle.std.specs.HashMap.{get, spare};
 ghost use Rattle.cam_names.specs.declared.name.Name.{Name as NameValue};
-ghost use Rattle.cam_names.specs.Names.{name_eq};
+ghost use Rattle.cam_names.specs.Names.{name_eq, parent};
+ghost use Rattle.cam_tranman.specs.Calls.{changed, parent_changed, as_ended, gaining, seeing};
 
 use crate::OpenCall;
 use crate::action::Action;
-use cam_names::Name;
+use cam_event::Seen;
+use cam_names::{Deps, Name};
 use std::collections::HashMap;
 
 /// What is kept of an action, where it was created here.
@@ -22,6 +24,47 @@ pub(crate) fn keep(actions: &mut HashMap<Name, Action>, action: &Name, kept: &Ac
     ensures { (a : NameValue) → get name_eq actions.new a ≡ (if name_eq action.now a then Some kept.now else get name_eq actions.old a) }
 {
     let _ = actions.insert(*action, *kept);
+}
+
+/// An action has ended, where it was created here.
+pub(crate) fn end_in(actions: &mut HashMap<Name, Action>, action: &Name)
+    ensures { (a : NameValue) → get name_eq actions.new a ≡ changed action.now as_ended (get name_eq actions.old) a }
+{
+    if let Some(kept) = kept_in(actions, action) {
+        keep(actions, action, &kept.as_ended());
+    }
+}
+
+/// An action sees this of its open call, where it was created here.
+pub(crate) fn see_in(
+    actions: &mut HashMap<Name, Action>,
+    action: &Name,
+    call: &OpenCall,
+    seen: &Seen,
+)
+    ensures { (a : NameValue) → get name_eq actions.new a ≡ changed action.now (seeing seen.now call.now) (get name_eq actions.old) a }
+{
+    if let Some(kept) = kept_in(actions, action) {
+        keep(actions, action, &kept.seeing(seen, call));
+    }
+}
+
+/// The parent of a child depends on these besides, where it was created here.
+pub(crate) fn parent_gains(actions: &mut HashMap<Name, Action>, child: &Name, deps: &Deps)
+    ensures { (a : NameValue) → get name_eq actions.new a ≡ parent_changed (parent child.now) (gaining deps.now) (get name_eq actions.old) a }
+{
+    if let Some(parent) = child.parent() {
+        gain_in(actions, &parent, deps);
+    }
+}
+
+/// An action depends on these besides, where it was created here.
+fn gain_in(actions: &mut HashMap<Name, Action>, action: &Name, deps: &Deps)
+    ensures { (a : NameValue) → get name_eq actions.new a ≡ changed action.now (gaining deps.now) (get name_eq actions.old) a }
+{
+    if let Some(kept) = kept_in(actions, action) {
+        keep(actions, action, &kept.gaining(deps));
+    }
 }
 
 /// The open call of an action, if there is one.
