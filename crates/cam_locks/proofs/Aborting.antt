@@ -12,7 +12,8 @@ use Rattle.cam_locks.specs.declared.versions.Version.{Version}
 use Rattle.cam_locks.specs.Members.{In}
 use Rattle.cam_locks.specs.Names.{has_name}
 use Rattle.cam_locks.specs.Site.{IndicesRise}
-use Rattle.cam_locks.specs.Moss.{is_on, is_in_the_way, replay, lift_in}
+use Rattle.cam_locks.specs.Moss.{is_on, replay, lift_in}
+use Rattle.cam_type.specs.Moss.{is_in_the_way}
 use Rattle.cam_locks.specs.Calls.{is_below}
 use Rattle.cam_locks.specs.Holding.{has_op, writes, is_write, is_written, IsNested, KeepsLeaders, KeepsVersions, LocksView, leaders_of, KeepsLocks}
 use Rattle.cam_locks.proofs.Passing.{not_true, not_false, le_from, lt_from}

@@ -6,7 +6,8 @@ use Rattle.std.proofs.lemmas.List.Folds.{list_any-append}
 use Rattle.cam_names.specs.Names.{name_eq, is_ancestor, ancestors}
 use Rattle.cam_names.proofs.Names.{name_eq_sym, is_prefix_split}
 use Rattle.cam_locks.specs.Names.{has_name, with_name}
-use Rattle.cam_locks.specs.Moss.{is_in_the_way, lift_in}
+use Rattle.cam_locks.specs.Moss.{lift_in}
+use Rattle.cam_type.specs.Moss.{is_in_the_way}
 use Rattle.cam_locks.proofs.Passing.{not_false}
 use Rattle.cam_locks.proofs.Members.{find_no, find_none_all, found_in}
 use Rattle.cam_locks.proofs.Lifting.{Name, of_reverse, as_prefix, behind, lift_on, in_map, ancestor_part, length_on, lift_ancestor, ancestor_through}

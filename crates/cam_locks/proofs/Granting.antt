@@ -7,10 +7,12 @@ use Rattle.cam_type.specs.declared.Op.{Op}
 use Rattle.cam_type.specs.declared.Answer.{Answer}
 use Rattle.cam_type.specs.Table.{kind_of, fits, answer_of}
 use Rattle.cam_locks.specs.declared.LiveOp.{LiveOp}
-use Rattle.cam_locks.specs.Site.{IndicesRise, start_of}
+use Rattle.cam_locks.specs.Site.{IndicesRise}
+use Rattle.cam_type.specs.Objects.{start_of}
 use Rattle.cam_locks.specs.Holding.{LocksView, leaders_of, AllLocks, fresh}
 use Rattle.cam_locks.specs.Changes.{EachTo, TidiedTo, DoneTo, SpoiledAt, standing, first_over}
 use Rattle.cam_locks.specs.Moss.{holder_of, value_of, lift_in}
+use Rattle.cam_locks.proofs.Finding.{holder_first}
 use Rattle.cam_locks.proofs.Standing.{conflict_kept}
 use Rattle.cam_locks.proofs.AllKept.{all_tidied, all_done, all_undone, answer_all}
 
@@ -34,6 +36,7 @@ pub holder_kept : (objects : List ObjectDecl) (ns : List Name) (os : List LiveOp
 holder_kept objects ns os next old new a x op r rise within not_stale tidy all found =
     ap (option_and_then (λ (o : LiveOp). lift_in ns o.action))
     (found any ∙ conflict_kept x (start_of objects x) ns os next (get_or new x any) a op rise (all_tidied objects ns os next old new tidy all x any still (fresh_tidied ns os old new x within not_stale tidy any)))
+    ∙ sym (holder_first ns os a x op)
   where
     any : LocksView
     any = fresh (start_of objects x)
@@ -49,7 +52,7 @@ pub kept_done : (objects : List ObjectDecl) (ns : List Name) (os ops : List Live
 kept_done objects ns os ops next end old mid new n answer rise le none tidy done all ops_is end_is =
     subst (λ (ps : List LiveOp). AllLocks objects ns ps end new) (sym ops_is)
     (subst (λ (k : ℕ). AllLocks objects ns (os ++ n ∷ []) k new) (sym end_is)
-    (all_done objects ns os next mid new n answer rise le none done (all_tidied objects ns os next old mid tidy all)))
+    (all_done objects ns os next mid new n answer rise le (sym (holder_first ns os n.action n.object n.op) ∙ none) done (all_tidied objects ns os next old mid tidy all)))
 
 -- or one that was done but not added
 pub kept_undone : (objects : List ObjectDecl) (ns : List Name) (os ops : List LiveOp) (next end : ℕ) (old mid done_to new : List LocksView) (n : LiveOp) (answer : Answer)

@@ -9,7 +9,8 @@ use Rattle.cam_type.specs.declared.Mode.{Mode}
 use Rattle.cam_locks.specs.declared.LiveOp.{LiveOp}
 use Rattle.cam_locks.specs.Members.{In}
 use Rattle.cam_locks.specs.Site.{IndicesRise}
-use Rattle.cam_locks.specs.Moss.{is_in_the_way, lift_in}
+use Rattle.cam_locks.specs.Moss.{lift_in}
+use Rattle.cam_type.specs.Moss.{is_in_the_way}
 use Rattle.cam_locks.specs.Holding.{has_op, is_lock, IsLeader, KeepsLeaders}
 use Rattle.cam_locks.specs.Changes.{lift_eq, leads, last_of, with_leader}
 use Rattle.cam_locks.proofs.Rising.{rise_push, rise_later}

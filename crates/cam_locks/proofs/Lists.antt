@@ -41,3 +41,14 @@ filter_twice {X} p q (x ∷ xs) = by_test (q x) (p x) refl (filter_twice p q xs)
     by_test true true is rest = ap (λ (d : Bool). cond d (x ∷ filter p (filter q xs)) (filter p (filter q xs))) is ∙ ap (λ (ys : List X). x ∷ ys) rest
     by_test true false is rest = ap (λ (d : Bool). cond d (x ∷ filter p (filter q xs)) (filter p (filter q xs))) is ∙ rest
     by_test false c is rest = rest
+
+-- the first of those that pass a test that passes another is the first that passes both
+pub find_filter : {X : Type 0} (p q : X → Bool) (xs : List X) → find p (filter q xs) ≡ find (λ x. q x && p x) xs
+find_filter p q [] = refl
+find_filter {X} p q (x ∷ xs) = by_test (q x) (p x) refl (find_filter p q xs)
+  where
+    by_test : (b c : Bool) → p x ≡ c → find p (filter q xs) ≡ find (λ y. q y && p y) xs
+        → find p (cond b (x ∷ filter q xs) (filter q xs)) ≡ cond (b && c) (Some x) (find (λ y. q y && p y) xs)
+    by_test true true is rest = ap (λ (d : Bool). cond d (Some x) (find p (filter q xs))) is
+    by_test true false is rest = ap (λ (d : Bool). cond d (Some x) (find p (filter q xs))) is ∙ rest
+    by_test false c is rest = rest

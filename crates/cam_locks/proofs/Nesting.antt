@@ -7,7 +7,8 @@ use Rattle.cam_type.specs.Table.{mode_of, compatible}
 use Rattle.cam_locks.specs.declared.LiveOp.{LiveOp}
 use Rattle.cam_locks.specs.Members.{In}
 use Rattle.cam_locks.specs.Site.{IndicesRise}
-use Rattle.cam_locks.specs.Moss.{is_on, is_in_the_way, lift_in}
+use Rattle.cam_locks.specs.Moss.{is_on, lift_in}
+use Rattle.cam_type.specs.Moss.{is_in_the_way}
 use Rattle.cam_locks.specs.Holding.{IsNested}
 use Rattle.cam_locks.proofs.Members.{in_either, in_last, in_filter, below}
 use Rattle.cam_locks.proofs.Climbing.{AtLeast, clear_stays}

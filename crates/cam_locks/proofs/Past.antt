@@ -10,7 +10,8 @@ use Rattle.cam_names.specs.declared.name.Name.{Name}
 use Rattle.cam_names.specs.Names.{name_eq, is_prefix}
 use Rattle.cam_names.proofs.Names.{part_eq_same, name_eq_refl}
 use Rattle.cam_locks.specs.declared.LiveOp.{LiveOp}
-use Rattle.cam_locks.specs.Moss.{is_in_the_way, lift_in}
+use Rattle.cam_locks.specs.Moss.{lift_in}
+use Rattle.cam_type.specs.Moss.{is_in_the_way}
 use Rattle.cam_locks.specs.Holding.{has_op}
 use Rattle.cam_locks.specs.Changes.{lift_eq, leads, holder_in, depth_of}
 use Rattle.cam_locks.proofs.Passing.{not_false}

@@ -9,13 +9,13 @@ use Rattle.cam_type.specs.declared.HeldOp.{HeldOp}
 use Rattle.cam_know.specs.Knowledge.{Knowledge}
 use Rattle.cam_know.specs.Known.{knows_abort}
 use Rattle.cam_locks.specs.declared.LiveOp.{LiveOp}
-use Rattle.cam_locks.specs.Site.{is_fit, AreFit}
+use Rattle.cam_locks.specs.Site.{fits_here, AreFit}
 use Rattle.cam_locks.specs.Restored.{of_family, ops_of, all_held, has_index, MayBeHeld}
 use Rattle.cam_locks.proofs.Passing.{or_parts, or_false, eqb_sym, le_yes, le_from}
 use Rattle.cam_locks.proofs.Held.{may_back}
 
 abbrev is_right : List ObjectDecl → ℕ → HeldOp → Bool
-is_right objects node h = is_fit objects node h.object h.op && nat_le h.index 999999999
+is_right objects node h = fits_here objects node h.object h.op && nat_le h.index 999999999
 
 right_parts : (b c : Bool) → (b && c) ≡ true → (b ≡ true) × (c ≡ true)
 right_parts true c h = (refl, h)
@@ -27,7 +27,7 @@ absent_push (g ∷ hs) h i none apart =
     let parts = or_parts (eqb g.index i) (has_index hs i) none in
     or_false (eqb g.index i) (has_index (hs ++ h ∷ []) i) parts.0 (absent_push hs h i parts.1 apart)
 
-may_push : (objects : List ObjectDecl) (node : ℕ) (hs : List HeldOp) (h : HeldOp) → MayBeHeld objects node hs → is_fit objects node h.object h.op ≡ true
+may_push : (objects : List ObjectDecl) (node : ℕ) (hs : List HeldOp) (h : HeldOp) → MayBeHeld objects node hs → fits_here objects node h.object h.op ≡ true
     → h.index ≤ 999999999 → has_index hs h.index ≡ false → MayBeHeld objects node (hs ++ h ∷ [])
 may_push objects node [] h may fit range none = (fit, range, refl, tt)
 may_push objects node (g ∷ hs) h may fit range none =
@@ -43,7 +43,7 @@ pub may_further : (objects : List ObjectDecl) (node : ℕ) (hs : List HeldOp) (i
     → MayBeHeld objects node (take (i + 1) hs)
 may_further objects node hs i d lt may right none =
     let h = get_or hs i d in
-    let parts = right_parts (is_fit objects node h.object h.op) (nat_le h.index 999999999) right in
+    let parts = right_parts (fits_here objects node h.object h.op) (nat_le h.index 999999999) right in
     subst (MayBeHeld objects node) (sym (take_more hs i d lt))
     (may_push objects node (take i hs) h may parts.0 (le_from h.index 999999999 parts.1) none)
 
@@ -73,7 +73,7 @@ apart_at [] i d j lt none = absurd (omega arith)
 apart_at (g ∷ hs) zero d j lt none = (or_parts (eqb g.index j) (has_index hs j) none).0
 apart_at (g ∷ hs) (suc i) d j lt none = apart_at hs i d j (omega arith) (or_parts (eqb g.index j) (has_index hs j) none).1
 
-right_of : (objects : List ObjectDecl) (node : ℕ) (h : HeldOp) → is_fit objects node h.object h.op ≡ true → h.index ≤ 999999999 → is_right objects node h ≡ true
+right_of : (objects : List ObjectDecl) (node : ℕ) (h : HeldOp) → fits_here objects node h.object h.op ≡ true → h.index ≤ 999999999 → is_right objects node h ≡ true
 right_of objects node h fit range = ap (λ (b : Bool). b && nat_le h.index 999999999) fit ∙ le_yes h.index 999999999 range
 
 -- each of those that may be held is right, and its index stands not before it

@@ -7,7 +7,7 @@ use Rattle.cam_type.specs.declared.State.{State}
 use Rattle.cam_type.specs.Table.{state_after}
 use Rattle.cam_locks.specs.declared.LiveOp.{LiveOp}
 use Rattle.cam_locks.specs.declared.versions.Version.{Version}
-use Rattle.cam_locks.specs.Site.{start_of}
+use Rattle.cam_type.specs.Objects.{start_of}
 use Rattle.cam_locks.specs.Moss.{value_of}
 use Rattle.cam_locks.specs.Holding.{LocksView, KeepsLocks, AllLocks}
 use Rattle.cam_locks.specs.Sums.{sum_on, IsStart}

@@ -4,7 +4,8 @@ use Rattle.std.specs.Prelude.{find}
 use Rattle.cam_names.specs.declared.name.Name.{Name}
 use Rattle.cam_type.specs.declared.Mode.{Mode}
 use Rattle.cam_locks.specs.declared.LiveOp.{LiveOp}
-use Rattle.cam_locks.specs.Moss.{is_in_the_way, lift_in}
+use Rattle.cam_locks.specs.Moss.{lift_in}
+use Rattle.cam_type.specs.Moss.{is_in_the_way}
 use Rattle.cam_locks.specs.Holding.{has_op, KeepsLeaders}
 use Rattle.cam_locks.specs.Changes.{holder_in}
 use Rattle.cam_locks.proofs.Lists.{find_none, find_some}

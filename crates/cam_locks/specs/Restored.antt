@@ -11,7 +11,7 @@ use Rattle.cam_know.specs.Known.{knows_abort, committed_name, aborted_name}
 use Rattle.cam_locks.specs.declared.LiveOp.{LiveOp}
 use Rattle.cam_locks.specs.Names.{once}
 use Rattle.cam_locks.specs.Holding.{has_op}
-use Rattle.cam_locks.specs.Site.{Site, is_fit}
+use Rattle.cam_locks.specs.Site.{Site, fits_here}
 
 -- a held operation, with its family as its action
 abbrev pub of_family : Name → HeldOp → LiveOp
@@ -74,7 +74,7 @@ InRange (h ∷ hs) = (h.index ≤ 999999999) × InRange hs
 abbrev pub MayBeHeld : List ObjectDecl → ℕ → List HeldOp → Type 0
 MayBeHeld objects node [] = Unit {0}
 MayBeHeld objects node (h ∷ hs) =
-    (is_fit objects node h.object h.op ≡ true) × (h.index ≤ 999999999) × (has_index hs h.index ≡ false) × MayBeHeld objects node hs
+    (fits_here objects node h.object h.op ≡ true) × (h.index ≤ 999999999) × (has_index hs h.index ≡ false) × MayBeHeld objects node hs
 
 abbrev pub CanRestore : List ObjectDecl → ℕ → List Held → Type 0
 CanRestore objects node held = MayBeHeld objects node (all_held held)

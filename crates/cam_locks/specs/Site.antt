@@ -4,8 +4,7 @@ use Rattle.std.specs.Option.{option_map_or}
 use Rattle.cam_names.specs.declared.name.Name.{Name}
 use Rattle.cam_type.specs.declared.ObjectDecl.{ObjectDecl}
 use Rattle.cam_type.specs.declared.Op.{Op}
-use Rattle.cam_type.specs.Table.{kind_of, fits}
-pub use Rattle.cam_type.specs.Objects.{start_of}
+use Rattle.cam_type.specs.Objects.{is_fit}
 use Rattle.cam_locks.specs.declared.LiveOp.{LiveOp}
 
 pub record Site : Type 0 where
@@ -29,8 +28,8 @@ pub record TableView : Type 0 where
 abbrev pub is_here : List ObjectDecl → ℕ → ℕ → Bool
 is_here objects node x = option_map_or (λ o. eqb o.node node) (slice_get objects x) false
 
-abbrev pub is_fit : List ObjectDecl → ℕ → ℕ → Op → Bool
-is_fit objects node x op = option_map_or (λ o. eqb o.node node && fits (kind_of o.start) op) (slice_get objects x) false
+abbrev pub fits_here : List ObjectDecl → ℕ → ℕ → Op → Bool
+fits_here objects node x op = is_here objects node x && is_fit objects x op
 
 -- the indices of the operations rise, from `low` on, and stay below the next index
 abbrev pub IndicesRise : ℕ → List LiveOp → ℕ → Type 0
@@ -40,4 +39,4 @@ IndicesRise low (o ∷ os) next = (low ≤ o.index) × IndicesRise (Rattle.std.s
 -- each operation is on an object of the node, and fits it
 abbrev pub AreFit : List ObjectDecl → ℕ → List LiveOp → Type 0
 AreFit objects node [] = Unit {0}
-AreFit objects node (o ∷ os) = (is_fit objects node o.object o.op ≡ true) × AreFit objects node os
+AreFit objects node (o ∷ os) = (fits_here objects node o.object o.op ≡ true) × AreFit objects node os

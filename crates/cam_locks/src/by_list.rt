@@ -1,9 +1,9 @@
 //! What the definitions say, read off the list of live operations: for objects of which nothing else is kept.
 ghost use Rattle.std.specs.Prelude.{◌≡◌, ◌&&◌, true, filter, find, is_none, map, option_and_then, IfOk, OnOk};
 ghost use Rattle.std.specs.List.{list_any};
-ghost use Rattle.cam_locks.specs.Site.{start_of};
+ghost use Rattle.cam_type.specs.Objects.{start_of};
 ghost use Rattle.cam_type.specs.Table.{kind_of, fits, state_after, answer_of};
-ghost use Rattle.cam_locks.specs.Moss.{is_on, replay, value_of, conflicts, holder_of, lift_in};
+ghost use Rattle.cam_locks.specs.Moss.{is_on, replay, value_of, conflicts_on, holder_of, lift_in};
 ghost use Rattle.cam_locks.specs.Calls.{is_of, held_op};
 
 use crate::leaders::is_in_the_way;
@@ -51,7 +51,7 @@ fn first_conflict(
     object: u8,
     op: &Op,
 ) -> Option<LiveOp>
-    ensures { result ≡ find (conflicts committed.now.names name.now object op.now) live.now }
+    ensures { result ≡ find (conflicts_on committed.now.names name.now object op.now) live.now }
 {
     for operation in live {
         if is_conflict(committed, name, object, op, operation) {
@@ -63,7 +63,7 @@ fn first_conflict(
 
 /// Whether a live operation conflicts.
 fn is_conflict(committed: &Names, name: &Name, object: u8, op: &Op, operation: &LiveOp) -> bool
-    ensures { result ≡ conflicts committed.now.names name.now object op.now operation.now }
+    ensures { result ≡ conflicts_on committed.now.names name.now object op.now operation.now }
 {
     operation.object == object
         && is_in_the_way(name, &committed.lift(&operation.action))

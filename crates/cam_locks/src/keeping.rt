@@ -2,7 +2,7 @@
 ghost use Rattle.std.specs.Prelude.{◌≡◌, ◌+◌, ◌≤◌, ◌<◌, [], ◌∷◌, ◌++◌, not, true, false, filter, get_or, vec_len, IfOk, OnOk, OnErr};
 ghost use Rattle.cam_type.specs.Table.{kind_of, fits, answer_of};
 ghost use Rattle.cam_locks.specs.Served.{served_by};
-ghost use Rattle.cam_locks.specs.Site.{start_of};
+ghost use Rattle.cam_type.specs.Objects.{start_of};
 ghost use Rattle.cam_locks.specs.Calls.{grant_by, is_below};
 ghost use Rattle.cam_locks.specs.Holding.{AllLocks, LocksView};
 ghost use Rattle.cam_locks.specs.Changes.{EachTo, TidiedTo, by_holder};

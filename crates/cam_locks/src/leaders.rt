@@ -2,7 +2,8 @@
 ghost use Rattle.std.specs.Prelude.{◌≡◌, ℕ, ◌≤◌, ◌<◌, filter, find, not, ◌&&◌, OnOk};
 ghost use Rattle.std.specs.VecDeque.{deque_len, deque_capacity};
 ghost use Rattle.cam_type.specs.declared.Mode.{Mode};
-ghost use Rattle.cam_locks.specs.Moss.{is_in_the_way, lift_in};
+ghost use Rattle.cam_locks.specs.Moss.{lift_in};
+ghost use Rattle.cam_type.specs.Moss.{is_in_the_way};
 ghost use Rattle.cam_locks.specs.Holding.{has_op, KeepsLeaders};
 ghost use Rattle.cam_locks.specs.Changes.{lift_eq, leads, holder_in, has_ended, depth_of, with_leader};
 

@@ -1,7 +1,8 @@
 ghost use Rattle.std.specs.Prelude.{◌≡◌, ℕ, ◌<◌, true, false, ◌&&◌, if◌then◌else◌, find, map, length, get_or, vec_len, IfOk, OnOk, OnErr};
 ghost use Rattle.cam_type.specs.declared.Mode.{Mode as ModeValue};
 ghost use Rattle.cam_type.specs.Table.{kind_of, fits};
-ghost use Rattle.cam_locks.specs.Moss.{is_in_the_way, lift_in};
+ghost use Rattle.cam_locks.specs.Moss.{lift_in};
+ghost use Rattle.cam_type.specs.Moss.{is_in_the_way};
 ghost use Rattle.cam_locks.specs.Holding.{has_op, fresh, leaders_of, LocksView, KeepsLeaders};
 ghost use Rattle.cam_locks.specs.Sums.{is_counter};
 ghost use Rattle.cam_locks.specs.Changes.{standing, earlier, first_over, state_of, is_current, last_current, Tidied, IsDone, EachTo, TidiedTo, DoneTo, SpoiledAt};

@@ -1,13 +1,14 @@
-ghost use Rattle.std.specs.Prelude.{◌≡◌, IfOk, filter, not};
+ghost use Rattle.std.specs.Prelude.{◌≡◌, IfOk};
 ghost use Rattle.cam_type.specs.Table.{kind_of};
-ghost use Rattle.cam_locks.specs.Site.{start_of, is_here, is_fit};
+ghost use Rattle.cam_locks.specs.Site.{is_here, fits_here};
+ghost use Rattle.cam_type.specs.Objects.{start_of};
 ghost use Rattle.cam_locks.specs.Moss.{replay};
-ghost use Rattle.cam_locks.specs.Calls.{is_below, is_of};
+ghost use Rattle.cam_locks.specs.Calls.{is_of};
 
 use crate::LiveOp;
 use cam_base::NoMemory;
 use cam_names::Name;
-use cam_type::{Kind, Objects, Op, State, apply, fits};
+use cam_type::{Kind, Objects, Op, State, apply, is_fit};
 use std::alloc::Global;
 
 /// An equal list of declarations.
@@ -21,16 +22,6 @@ pub(crate) fn copy_objects(alloc: Global, objects: &Objects) -> Result<Objects, 
     Ok(copy)
 }
 
-/// Whether the object stands at the node and the op fits it.
-pub(crate) fn is_fit(objects: &Objects, node: u8, object: u8, op: &Op) -> bool
-    ensures { result ≡ is_fit objects.now node object op.now }
-{
-    match objects.get(object as usize) {
-        Some(declared) => declared.node == node && fits(declared.start.kind(), op),
-        None => false,
-    }
-}
-
 /// Whether the object stands at the node.
 pub(crate) fn is_here(objects: &Objects, node: u8, object: u8) -> bool
     ensures { result ≡ is_here objects.now node object }
@@ -39,6 +30,13 @@ pub(crate) fn is_here(objects: &Objects, node: u8, object: u8) -> bool
         Some(declared) => declared.node == node,
         None => false,
     }
+}
+
+/// Whether the object stands at the node and the op fits it.
+pub(crate) fn fits_here(objects: &Objects, node: u8, object: u8, op: &Op) -> bool
+    ensures { result ≡ fits_here objects.now node object op.now }
+{
+    is_here(objects, node, object) && is_fit(objects, object, op)
 }
 
 /// The kind of an object.
@@ -67,11 +65,4 @@ pub(crate) fn is_of(family: &Name, operation: &LiveOp) -> bool
     ensures { result ≡ is_of family.now operation.now }
 {
     *family == operation.action.family()
-}
-
-/// Leaves out the operations of an action and of all below it. It takes no memory.
-pub(crate) fn drop_below(operations: &mut Vec<LiveOp>, name: &Name)
-    ensures { operations.new.items ≡ filter (λ o. not (is_below name.now o)) operations.old.items }
-{
-    operations.retain(|operation| !name.is_ancestor(&operation.action));
 }

@@ -1,9 +1,9 @@
 //! Whether a restart takes what is held.
 ghost use Rattle.std.specs.Prelude.{◌≡◌, ◌&&◌, ◌↔◌, nat_le, IsTrue, IfOk};
-ghost use Rattle.cam_locks.specs.Site.{is_fit};
+ghost use Rattle.cam_locks.specs.Site.{fits_here};
 ghost use Rattle.cam_locks.specs.Restored.{all_held, MayBeHeld, CanRestore};
 
-use crate::operations::is_fit;
+use crate::operations::fits_here;
 use cam_base::NoMemory;
 use cam_type::{Held, HeldList, HeldOp, HeldOps, Objects};
 use std::alloc::Global;
@@ -52,7 +52,7 @@ fn may_be_held(alloc: Global, objects: &Objects, node: u8, ops: &[HeldOp]) -> Re
 
 /// Whether an operation is on an object of the node and fits it, under an index in its range.
 fn is_right(objects: &Objects, node: u8, op: &HeldOp) -> bool
-    ensures { result ≡ (is_fit objects.now node op.now.object op.now.op && nat_le op.now.index 999999999) }
+    ensures { result ≡ (fits_here objects.now node op.now.object op.now.op && nat_le op.now.index 999999999) }
 {
-    is_fit(objects, node, op.object, &op.op) && op.index <= 999_999_999
+    fits_here(objects, node, op.object, &op.op) && op.index <= 999_999_999
 }

@@ -1,6 +1,7 @@
 ghost use Rattle.std.specs.Prelude.{◌≡◌, ◌≤◌, ◌+◌, [], ◌++◌, IsTrue, IfOk, OnOk, OnErr};
 ghost use Rattle.cam_type.specs.Table.{kind_of};
-ghost use Rattle.cam_locks.specs.Site.{start_of, is_here, is_fit, AreFit, IndicesRise};
+ghost use Rattle.cam_locks.specs.Site.{is_here, fits_here, AreFit, IndicesRise};
+ghost use Rattle.cam_type.specs.Objects.{start_of};
 ghost use Rattle.cam_locks.specs.Moss.{settled};
 ghost use Rattle.cam_locks.specs.Calls.{new_site, grant, after_grant, with_commit, with_abort, held, has_family};
 ghost use Rattle.cam_locks.specs.Restored.{informed, restored, taken_over, CanRestore};
@@ -10,7 +11,7 @@ ghost use Rattle.cam_locks.specs.Secured.{IsWellFormed, SecuredCanBeRestored};
 use crate::live::Live;
 use crate::locks::{self, Locks};
 use crate::names::Names;
-use crate::operations::{copy_objects, is_fit, is_here, kind_of};
+use crate::operations::{copy_objects, fits_here, is_here, kind_of};
 use crate::restore::{aborted_names, committed_names, in_order, kept_operations, next_of};
 use crate::{Grant, LiveOp, by_list, keeping};
 use cam_base::NoMemory;
@@ -67,7 +68,7 @@ impl LockTable {
         op: &Op,
         server: &mut T,
     ) -> Result<Grant, NoMemory>
-        requires fits { IsTrue (is_fit self.old.site.objects self.old.site.node object op.now) }
+        requires fits { IsTrue (fits_here self.old.site.objects self.old.site.node object op.now) }
         requires index { self.old.site.next ≤ 999999999 }
         requires kind { T.kind server.old ≡ kind_of (start_of self.old.site.objects object) }
         ensures grant { IfOk result (λ granted. granted ≡ grant self.old.site name.now object op.now) }
@@ -96,9 +97,9 @@ impl LockTable {
 
     /// Whether the object stands at the table's node and the op fits it.
     pub fn takes(&self, object: u8, op: &Op) -> bool
-        ensures { result ≡ is_fit self.now.site.objects self.now.site.node object op.now }
+        ensures { result ≡ fits_here self.now.site.objects self.now.site.node object op.now }
     {
-        is_fit(&self.objects, self.node, object, op)
+        fits_here(&self.objects, self.node, object, op)
     }
 
     /// The kind of an object, which is that of its servers.
@@ -279,7 +280,7 @@ impl LockTable {
 
     /// Takes a restored operation over, with a server of its object's kind.
     fn take_over(&mut self, operation: &LiveOp) -> Result<(), NoMemory>
-        requires fits { IsTrue (is_fit self.old.site.objects self.old.site.node operation.now.object operation.now.op) }
+        requires fits { IsTrue (fits_here self.old.site.objects self.old.site.node operation.now.object operation.now.op) }
         requires index { self.old.site.next ≤ operation.now.index }
         requires range { operation.now.index ≤ 999999999 }
         ensures ok { OnOk result (self.new.site ≡ taken_over self.old.site operation.now) }
@@ -300,7 +301,7 @@ impl LockTable {
         operation: &LiveOp,
         server: &mut T,
     ) -> Result<(), NoMemory>
-        requires fits { IsTrue (is_fit self.old.site.objects self.old.site.node operation.now.object operation.now.op) }
+        requires fits { IsTrue (fits_here self.old.site.objects self.old.site.node operation.now.object operation.now.op) }
         requires index { self.old.site.next ≤ operation.now.index }
         requires range { operation.now.index ≤ 999999999 }
         requires kind { T.kind server.old ≡ kind_of (start_of self.old.site.objects operation.now.object) }

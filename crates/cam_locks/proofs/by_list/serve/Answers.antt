@@ -2,7 +2,7 @@ use Rattle.std.proofs.Common.{ap, sym, ◌∙◌}
 use Rattle.std.specs.Prelude.{filter}
 use Rattle.cam_type.specs.declared.State.{State}
 use Rattle.cam_type.specs.Table.{kind_of}
-use Rattle.cam_locks.specs.Site.{start_of}
+use Rattle.cam_type.specs.Objects.{start_of}
 use Rattle.cam_locks.specs.Moss.{is_on}
 use Rattle.cam_locks.proofs.SameKind.{replay_kind}
 use Rattle.cam_locks.proofs.by_list.serve.Goals as goal

@@ -3,7 +3,7 @@ use Rattle.cam_names.specs.declared.name.Name.{Name}
 use Rattle.cam_type.specs.declared.State.{State}
 use Rattle.cam_type.specs.Table.{kind_of, fits, state_after, answer_of}
 use Rattle.cam_locks.specs.declared.Grant.TheVariants.{Done}
-use Rattle.cam_locks.specs.Site.{start_of}
+use Rattle.cam_type.specs.Objects.{start_of}
 use Rattle.cam_locks.specs.Holding.{fresh}
 use Rattle.cam_locks.specs.Calls.{grant_by}
 use Rattle.cam_locks.specs.Changes.{by_holder}

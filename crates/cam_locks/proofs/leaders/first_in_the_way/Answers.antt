@@ -1,7 +1,7 @@
 use Rattle.std.proofs.Common.{◌≡◌, ◌≤◌, ◌<◌, ◌+◌, ◌++◌, ℕ, List, true, false, take, drop, length, get_or, set, suc, sym, ap, subst, ◌∙◌, arith}
 use Rattle.std.specs.Prelude.{find}
 use Rattle.cam_locks.specs.declared.LiveOp.{LiveOp}
-use Rattle.cam_locks.specs.Moss.{is_in_the_way}
+use Rattle.cam_type.specs.Moss.{is_in_the_way}
 use Rattle.cam_locks.specs.Holding.{KeepsLeaders}
 use Rattle.cam_locks.specs.Changes.{holder_in, depth_of}
 use Rattle.cam_locks.proofs.Passing.{on_some}

@@ -1,7 +1,8 @@
 use Rattle.std.proofs.Common.{◌≡◌, ◌≤◌, ◌-◌, ℕ, take, None, ◌&&◌, length}
 use Rattle.std.specs.Prelude.{find}
 use Rattle.cam_type.specs.declared.Mode.{Mode}
-use Rattle.cam_locks.specs.Moss.{is_in_the_way, lift_in}
+use Rattle.cam_locks.specs.Moss.{lift_in}
+use Rattle.cam_type.specs.Moss.{is_in_the_way}
 use Rattle.cam_locks.specs.Holding.{has_op, KeepsLeaders}
 use Rattle.cam_locks.proofs.Past.{ArePast}
 use Rattle.cam_locks.proofs.leaders.first_in_the_way.Given as goal

@@ -1,5 +1,5 @@
 use Rattle.std.proofs.Common.{◌≡◌, true, sym, subst, arith}
-use Rattle.cam_locks.specs.Site.{Site, is_fit}
+use Rattle.cam_locks.specs.Site.{Site, fits_here}
 use Rattle.cam_locks.proofs.Rising.{rise_at}
 use Rattle.cam_locks.proofs.Fitting.{fit_at}
 use Rattle.cam_locks.proofs.table.LockTable.take_over_all.Goals as goal
@@ -17,5 +17,5 @@ pub take_over-requires-clause-fits : goal.take_over-requires-clause-fits
 take_over-requires-clause-fits c =
     let o = c.operation-item.result in
     let site = c.args.self.now.site in
-    subst (λ (s : Site). is_fit s.objects s.node o.object o.op ≡ true) (sym c.loop-operation.invariant.0)
+    subst (λ (s : Site). fits_here s.objects s.node o.object o.op ≡ true) (sym c.loop-operation.invariant.0)
     (fit_at site.objects site.node c.args.operations.now c.loop-operation.operation-index o c.loop-operation-test.true c.operation-item.is c.requires.fits)

@@ -1,10 +1,11 @@
 //! Steps with a lock table, and whether it answers them as it has to.
 
-use super::both::{Told, ask_locks, value_of_locks};
-use super::scenes::Scene;
+use super::both::{ask, value_of};
+use super::plain_table::Told;
 use super::servers::Servers;
-use crate::LockTable;
+use super::{COUNTER, REGISTER};
 use cam_base::NoMemory;
+use cam_locks::LockTable;
 use cam_names::Name;
 use cam_type::{Answer, Op, State};
 use std::alloc::Global;
@@ -28,64 +29,45 @@ pub(super) enum Step {
     Secured(&'static str, usize),
 }
 
-/// The first step of a scene that the table does not answer as it has to.
+/// The first step of a scene that the table does not answer as it has to. Where memory runs out in a step it is done once more: the table
+/// is as it was.
 pub(super) fn first_unlike(
     alloc: Global,
     table: &mut LockTable,
-    scene: Scene,
-) -> Result<Option<u8>, NoMemory> {
+    scene: &[Step],
+) -> Result<Option<usize>, NoMemory> {
     let mut servers = Servers::new(alloc);
-    for place in 0..=u8::MAX {
-        let Some(step) = scene.step(place) else {
-            return Ok(None);
+    for (place, step) in scene.iter().enumerate() {
+        let is_right = match answers(table, &mut servers, step) {
+            Ok(is_right) => is_right,
+            Err(NoMemory) => answers(table, &mut servers, step)?,
         };
-        if !answers(table, &mut servers, &step)? {
+        if !is_right {
             return Ok(Some(place));
         }
     }
     Ok(None)
 }
 
-/// Whether the table answers the step as it has to. Where memory runs out the step is done once more: the table is as it was.
+/// Whether the table answers the step as it has to.
 fn answers(table: &mut LockTable, servers: &mut Servers, step: &Step) -> Result<bool, NoMemory> {
-    match answers_at_once(table, servers, step) {
-        Ok(is_right) => Ok(is_right),
-        Err(NoMemory) => answers_at_once(table, servers, step),
-    }
-}
-
-fn answers_at_once(
-    table: &mut LockTable,
-    servers: &mut Servers,
-    step: &Step,
-) -> Result<bool, NoMemory> {
     match step {
         Step::Done(name, object, op, answer) => {
-            asks(table, servers, name, *object, op, &(Some(*answer), None))
+            asks(table, servers, name, *object, op, Told::Done(*answer))
         }
-        Step::Busy(name, object, op, holder) => {
-            is_refused(table, servers, name, *object, op, holder)
-        }
+        Step::Busy(name, object, op, holder) => match Name::parse(holder) {
+            Ok(holder) => asks(table, servers, name, *object, op, Told::Busy(holder)),
+            Err(_) => Ok(false),
+        },
         Step::Commit(name) => commits(table, name),
         Step::Abort(name) => aborts(table, name),
-        Step::Copy => goes_on_with_a_copy(table),
-        Step::Register(value) => holds(table, *value),
-        Step::Counter(value) => has_counted(table, *value),
+        Step::Copy => {
+            *table = table.copy()?;
+            Ok(true)
+        }
+        Step::Register(value) => { Ok(value_of(table, REGISTER)? == Some(State::Register(*value))) }
+        Step::Counter(value) => { Ok(value_of(table, COUNTER)? == Some(State::Counter(*value))) }
         Step::Secured(name, count) => secures(table, name, *count),
-    }
-}
-
-fn is_refused(
-    table: &mut LockTable,
-    servers: &mut Servers,
-    name: &str,
-    object: u8,
-    op: &Op,
-    holder: &str,
-) -> Result<bool, NoMemory> {
-    match Name::parse(holder) {
-        Ok(holder) => asks(table, servers, name, object, op, &(None, Some(holder))),
-        Err(_) => Ok(false),
     }
 }
 
@@ -95,10 +77,10 @@ fn asks(
     name: &str,
     object: u8,
     op: &Op,
-    expected: &Told,
+    expected: Told,
 ) -> Result<bool, NoMemory> {
     match Name::parse(name) {
-        Ok(name) => Ok(ask_locks(table, &name, object, op, servers)? == *expected),
+        Ok(name) => Ok(ask(table, servers, &name, object, op)? == expected),
         Err(_) => Ok(false),
     }
 }
@@ -119,25 +101,6 @@ fn aborts(table: &mut LockTable, name: &str) -> Result<bool, NoMemory> {
     table.reserve(1)?;
     table.abort(&name);
     Ok(true)
-}
-
-fn goes_on_with_a_copy(table: &mut LockTable) -> Result<bool, NoMemory> {
-    *table = table.copy()?;
-    Ok(true)
-}
-
-fn holds(table: &LockTable, value: i64) -> Result<bool, NoMemory> {
-    match value_of_locks(table, 0)? {
-        State::Register(held) => Ok(held == value),
-        State::Queue(_) | State::Counter(_) => Ok(false),
-    }
-}
-
-fn has_counted(table: &LockTable, value: i64) -> Result<bool, NoMemory> {
-    match value_of_locks(table, 2)? {
-        State::Counter(held) => Ok(held == value),
-        State::Register(_) | State::Queue(_) => Ok(false),
-    }
 }
 
 fn secures(table: &LockTable, name: &str, count: usize) -> Result<bool, NoMemory> {

@@ -1,9 +1,10 @@
-//! The servers that tables are tried with, of which that of the register counts what it is asked.
+//! The servers that tables are tried with, of which that of the register counts what it is asked and may want memory.
 
-use super::both::{Told, ask_with, value_of_locks};
-use super::objects;
-use crate::LockTable;
+use super::both::{ask_with, value_of};
+use super::plain_table::Told;
+use super::{REGISTER, objects};
 use cam_base::NoMemory;
+use cam_locks::LockTable;
 use cam_names::Name;
 use cam_type::{Answer, CounterServer, DataType, Kind, Op, QueueServer, RegisterServer, State};
 use std::alloc::Global;
@@ -46,7 +47,7 @@ impl DataType for Counting {
     }
 
     fn apply(&mut self, op: &Op) -> Result<Answer, NoMemory> {
-        self.asked = self.asked.wrapping_add(1);
+        self.asked = self.asked.saturating_add(1);
         if self.wants_memory {
             return Err(NoMemory);
         }
@@ -76,38 +77,27 @@ impl Servers {
     }
 }
 
-/// An operation on the register, who stands in its way, and how often the server was asked behind it.
-fn asked(place: u8) -> Option<(&'static str, Op, Option<&'static str>, u32)> {
-    Some(match place {
-        0 => ("1.1.1", Op::Write(5), None, 1),
-        1 => ("1.1.2", Op::Write(6), Some("1.1.1"), 1),
-        2 => ("1.1.2", Op::Read, Some("1.1.1"), 1),
-        3 => ("1.1.1/1.1.1", Op::Swap(7), None, 2),
-        4 => ("1.1.1", Op::Read, Some("1.1.1/1.1.1"), 2),
-        _ => return None,
-    })
-}
-
-/// Whether that holds of the table and the server.
-fn is_asked(table: &mut LockTable, server: &mut Counting, place: u8) -> Result<bool, Fail> {
-    let Some((name, op, holder, count)) = asked(place) else {
-        return Ok(true);
-    };
-    let expected = match holder {
-        Some(holder) => Some(Name::parse(holder)?),
-        None => None,
-    };
-    let told: Told = ask_with(table, &Name::parse(name)?, 0, &op, server)?;
-    Ok(told.1 == expected && told.0.is_some() == expected.is_none() && server.asked == count)
-}
+/// An operation on the register, who stands in its way, and how often the server was asked after it.
+const ASKED: [(&str, Op, Option<&str>, u32); 5] = [
+    ("1.1.1", Op::Write(5), None, 1),
+    ("1.1.2", Op::Write(6), Some("1.1.1"), 1),
+    ("1.1.2", Op::Read, Some("1.1.1"), 1),
+    ("1.1.1/1.1.1", Op::Swap(7), None, 2),
+    ("1.1.1", Op::Read, Some("1.1.1/1.1.1"), 2),
+];
 
 #[test]
 fn a_refused_operation_is_asked_of_no_server(rt: HostRuntime) -> Result<(), Fail> {
     let objects = objects(rt.alloc())?;
     let mut table = LockTable::new(rt.alloc(), &objects, 1)?;
     let mut server = Counting::new();
-    for place in 0..5u8 {
-        assert!(rt; is_asked(&mut table, &mut server, place)?, "step {place}");
+    for (name, op, holder, count) in ASKED {
+        let told = ask_with(&mut table, &Name::parse(name)?, REGISTER, &op, &mut server)?;
+        match holder {
+            Some(holder) => assert_eq!(rt; told, Told::Busy(Name::parse(holder)?), "{name}"),
+            None => assert!(rt; matches!(told, Told::Done(_)), "{name}"),
+        }
+        assert_eq!(rt; server.asked, count, "{name}");
     }
     Ok(())
 }
@@ -120,12 +110,12 @@ fn a_server_that_wants_memory_leaves_the_table(rt: HostRuntime) -> Result<(), Fa
     let one = Name::parse("1.1.1")?;
     let other = Name::parse("1.1.2")?;
     server.wants_memory = true;
-    assert!(rt; ask_with(&mut table, &one, 0, &Op::Write(5), &mut server).is_err());
+    assert!(rt; ask_with(&mut table, &one, REGISTER, &Op::Write(5), &mut server).is_err());
     assert_eq!(rt; table.next_index(), 0);
     server.wants_memory = false;
-    let told = ask_with(&mut table, &other, 0, &Op::Swap(6), &mut server)?;
-    assert_eq!(rt; told, (Some(Answer::Value(0)), None));
-    assert!(rt; matches!(value_of_locks(&table, 0)?, State::Register(0)));
+    let told = ask_with(&mut table, &other, REGISTER, &Op::Swap(6), &mut server)?;
+    assert_eq!(rt; told, Told::Done(Answer::Value(0)));
+    assert_eq!(rt; value_of(&table, REGISTER)?, Some(State::Register(0)));
     assert_eq!(rt; server.asked, 2);
     Ok(())
 }

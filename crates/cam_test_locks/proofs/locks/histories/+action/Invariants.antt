@@ -1,4 +1,4 @@
-use Rattle.cam_locks.proofs.tests.histories.+action.Given as goal
+use Rattle.cam_test_locks.proofs.locks.histories.+action.Given as goal
 
 abbrev pub decreases-action : goal.decreases-action
 decreases-action l = l.place

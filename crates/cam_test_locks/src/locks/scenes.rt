@@ -1,0 +1,203 @@
+//! Scenes with a lock table, whose answers are worked out by hand.
+
+use super::steps::Step::{Abort, Busy, Commit, Copy, Counter, Done, Register, Secured};
+use super::steps::{Step, first_unlike};
+use super::{COUNTER, QUEUE, REGISTER, objects};
+use cam_base::NoMemory;
+use cam_locks::LockTable;
+use cam_type::{Answer, Op};
+use std::alloc::Global;
+use std::test::Fail;
+
+/// Holders stand in the way, commits hand up, and aborts drop.
+const HAND_UP: [Step; 19] = [
+    Done("1.1.1", REGISTER, Op::Read, Answer::Value(0)),
+    Done("1.1.2", REGISTER, Op::Read, Answer::Value(0)),
+    Busy("1.1.1/1.1.1", REGISTER, Op::Write(5), "1.1.2"),
+    Abort("1.1.2"),
+    Done("1.1.1/1.1.1", REGISTER, Op::Write(5), Answer::Ok),
+    Busy("1.1.1/1.1.2", REGISTER, Op::Read, "1.1.1/1.1.1"),
+    Commit("1.1.1/1.1.1"),
+    Done("1.1.1/1.1.2", REGISTER, Op::Swap(6), Answer::Value(5)),
+    Abort("1.1.1/1.1.2"),
+    Done("1.1.1", REGISTER, Op::Read, Answer::Value(5)),
+    Busy("1.1.2", REGISTER, Op::Read, "1.1.1"),
+    Secured("1.1.1", 3),
+    Register(0),
+    Commit("1.1.1"),
+    Register(5),
+    Done("1.1.2", REGISTER, Op::Read, Answer::Value(5)),
+    Done("1.1.1", QUEUE, Op::Put(7), Answer::Ok),
+    Done("1.1.2", QUEUE, Op::Take, Answer::Value(7)),
+    Secured("1.1.1/1.1.1", 0),
+];
+
+/// A writer keeps readers out until it ends.
+const WRITER: [Step; 10] = [
+    Done("1.1.1", REGISTER, Op::Write(4), Answer::Ok),
+    Busy("1.1.2", REGISTER, Op::Read, "1.1.1"),
+    Done("1.1.1/1.1.1", REGISTER, Op::Read, Answer::Value(4)),
+    Copy,
+    Commit("1.1.1/1.1.1"),
+    Busy("1.1.2", REGISTER, Op::Read, "1.1.1"),
+    Commit("1.1.1"),
+    Done("1.1.2", REGISTER, Op::Read, Answer::Value(4)),
+    Busy("1.1.3", REGISTER, Op::Write(1), "1.1.2"),
+    Secured("1.1.2", 1),
+];
+
+/// A child commits before its parent.
+const CHILD_FIRST: [Step; 11] = [
+    Done("1.1.1", REGISTER, Op::Write(1), Answer::Ok),
+    Done("1.1.1/1.1.1", REGISTER, Op::Swap(2), Answer::Value(1)),
+    Busy("1.1.1/1.1.2", REGISTER, Op::Read, "1.1.1/1.1.1"),
+    Commit("1.1.1/1.1.1"),
+    Done("1.1.1/1.1.2", REGISTER, Op::Read, Answer::Value(2)),
+    Busy("1.1.2", REGISTER, Op::Read, "1.1.1"),
+    Register(0),
+    Commit("1.1.1"),
+    Register(2),
+    Done("1.1.2", REGISTER, Op::Read, Answer::Value(2)),
+    Busy("1.1.2", REGISTER, Op::Write(3), "1.1.1/1.1.2"),
+];
+
+/// A parent commits before its child.
+const PARENT_FIRST: [Step; 8] = [
+    Done("1.1.1", REGISTER, Op::Write(1), Answer::Ok),
+    Done("1.1.1/1.1.1", REGISTER, Op::Swap(2), Answer::Value(1)),
+    Commit("1.1.1"),
+    Register(1),
+    Busy("1.1.2", REGISTER, Op::Read, "1.1.1/1.1.1"),
+    Commit("1.1.1/1.1.1"),
+    Register(2),
+    Done("1.1.2", REGISTER, Op::Read, Answer::Value(2)),
+];
+
+/// A child aborts, and then its parent commits; a parent aborts, and then its child commits.
+const ABORTS: [Step; 13] = [
+    Done("1.1.1", REGISTER, Op::Write(1), Answer::Ok),
+    Done("1.1.1/1.1.1", REGISTER, Op::Swap(2), Answer::Value(1)),
+    Abort("1.1.1/1.1.1"),
+    Done("1.1.1", REGISTER, Op::Read, Answer::Value(1)),
+    Commit("1.1.1"),
+    Register(1),
+    Done("1.1.2", REGISTER, Op::Write(3), Answer::Ok),
+    Done("1.1.2/1.1.1", REGISTER, Op::Swap(4), Answer::Value(3)),
+    Abort("1.1.2"),
+    Secured("1.1.2", 0),
+    Commit("1.1.2/1.1.1"),
+    Register(1),
+    Done("1.1.3", REGISTER, Op::Swap(5), Answer::Value(1)),
+];
+
+/// Both outcomes of an action come in, in either order.
+const BOTH_OUTCOMES: [Step; 12] = [
+    Done("1.1.1", REGISTER, Op::Write(3), Answer::Ok),
+    Commit("1.1.1"),
+    Register(3),
+    Abort("1.1.1"),
+    Register(0),
+    Secured("1.1.1", 0),
+    Done("1.1.2", REGISTER, Op::Read, Answer::Value(0)),
+    Abort("1.1.3"),
+    Commit("1.1.3"),
+    Busy("1.1.3", REGISTER, Op::Write(8), "1.1.2"),
+    Done("1.1.3", QUEUE, Op::Put(7), Answer::Ok),
+    Done("1.1.2", QUEUE, Op::Take, Answer::Value(7)),
+];
+
+/// Two families add to the counter, and one of them in a child that aborts; the sum wraps.
+const ADDERS: [Step; 19] = [
+    Done("1.1.1", COUNTER, Op::Add(5), Answer::Ok),
+    Done("1.1.2", COUNTER, Op::Add(7), Answer::Ok),
+    Busy("1.1.1", COUNTER, Op::Read, "1.1.2"),
+    Counter(10),
+    Done("1.1.1/1.1.1", COUNTER, Op::Add(i64::MAX), Answer::Ok),
+    Commit("1.1.2"),
+    Counter(17),
+    Busy("1.1.1", COUNTER, Op::Read, "1.1.1/1.1.1"),
+    Busy("1.1.3", COUNTER, Op::Read, "1.1.1"),
+    Done(
+        "1.1.1/1.1.1",
+        COUNTER,
+        Op::Read,
+        Answer::Value(i64::MIN + 21),
+    ),
+    Busy("1.1.3", COUNTER, Op::Add(1), "1.1.1/1.1.1"),
+    Abort("1.1.1/1.1.1"),
+    Done("1.1.1", COUNTER, Op::Read, Answer::Value(22)),
+    Counter(17),
+    Commit("1.1.1"),
+    Counter(22),
+    Done("1.1.3", COUNTER, Op::Add(1), Answer::Ok),
+    Copy,
+    Done("1.1.3", COUNTER, Op::Read, Answer::Value(23)),
+];
+
+/// Siblings add side by side, and the first read that may be done meets both adds.
+const SIBLINGS: [Step; 14] = [
+    Done("1.1.1/1.1.1", COUNTER, Op::Add(5), Answer::Ok),
+    Done("1.1.1/1.1.2", COUNTER, Op::Add(7), Answer::Ok),
+    Busy("1.1.1/1.1.2", COUNTER, Op::Read, "1.1.1/1.1.1"),
+    Busy("1.1.1", COUNTER, Op::Read, "1.1.1/1.1.1"),
+    Commit("1.1.1/1.1.1"),
+    Busy("1.1.1", COUNTER, Op::Read, "1.1.1/1.1.2"),
+    Done("1.1.1/1.1.2", COUNTER, Op::Read, Answer::Value(22)),
+    Busy("1.1.1/1.1.3", COUNTER, Op::Add(1), "1.1.1/1.1.2"),
+    Commit("1.1.1/1.1.2"),
+    Done("1.1.1", COUNTER, Op::Read, Answer::Value(22)),
+    Busy("1.1.2", COUNTER, Op::Add(1), "1.1.1"),
+    Counter(10),
+    Commit("1.1.1"),
+    Counter(22),
+];
+
+/// What a child adds is handed up twice and then taken back with the action that had it; of another action both outcomes come in.
+const TAKEN_BACK: [Step; 15] = [
+    Done("1.1.1", COUNTER, Op::Add(1), Answer::Ok),
+    Done("1.1.1/1.1.1", COUNTER, Op::Add(2), Answer::Ok),
+    Done("1.1.1/1.1.1/1.1.1", COUNTER, Op::Add(4), Answer::Ok),
+    Commit("1.1.1/1.1.1/1.1.1"),
+    Done("1.1.1/1.1.1", COUNTER, Op::Read, Answer::Value(17)),
+    Abort("1.1.1/1.1.1"),
+    Done("1.1.1", COUNTER, Op::Read, Answer::Value(11)),
+    Commit("1.1.1"),
+    Counter(11),
+    Done("1.1.2", COUNTER, Op::Add(100), Answer::Ok),
+    Commit("1.1.2"),
+    Counter(111),
+    Abort("1.1.2"),
+    Counter(11),
+    Done("1.1.3", COUNTER, Op::Read, Answer::Value(11)),
+];
+
+/// Whether a new table answers a scene as it has to.
+fn is_answered(alloc: Global, scene: &[Step]) -> Result<bool, NoMemory> {
+    let objects = objects(alloc)?;
+    let mut table = LockTable::new(alloc, &objects, 1)?;
+    Ok(first_unlike(alloc, &mut table, scene)?.is_none())
+}
+
+#[test]
+fn holders_stand_in_the_way_and_commits_hand_up(rt: HostRuntime) -> Result<(), Fail> {
+    assert!(rt; is_answered(rt.alloc(), &HAND_UP)?);
+    assert!(rt; is_answered(rt.alloc(), &WRITER)?);
+    Ok(())
+}
+
+#[test]
+fn outcomes_of_parents_and_children_come_in_any_order(rt: HostRuntime) -> Result<(), Fail> {
+    assert!(rt; is_answered(rt.alloc(), &CHILD_FIRST)?);
+    assert!(rt; is_answered(rt.alloc(), &PARENT_FIRST)?);
+    assert!(rt; is_answered(rt.alloc(), &ABORTS)?);
+    assert!(rt; is_answered(rt.alloc(), &BOTH_OUTCOMES)?);
+    Ok(())
+}
+
+#[test]
+fn adders_stand_in_the_way_of_readers_alone(rt: HostRuntime) -> Result<(), Fail> {
+    assert!(rt; is_answered(rt.alloc(), &ADDERS)?);
+    assert!(rt; is_answered(rt.alloc(), &SIBLINGS)?);
+    assert!(rt; is_answered(rt.alloc(), &TAKEN_BACK)?);
+    Ok(())
+}
