@@ -2,12 +2,12 @@
 # How long calls of the lock table take where 100, 1,000 and 10,000 live operations stand on one object, and how much of the first
 # number's time that is: under readers, under readers of which all but the last have ended, under the writes of one action, under
 # children of one action that wrote and committed, and under such writes of an action two levels further down, each of which was handed
-# up to the top action.
+# up to the top action. Last, how long an add takes among the adds of 100 holders on a counter, beside a read among as many reads.
 # A figure is such a ratio: the nanoseconds are those of one machine on one day. Each time is the least of several rounds.
 # Where one round took more than a second, greater numbers are left out, and a line says so.
 # bench/locks.sh           proves the crates and the program, and runs it
 # bench/locks.sh --quick   runs a build of the same sources that nothing has proved
-# The figures in README.md come from the first, which has run to its end.
+# The figures in crates/cam_locks/README.md come from the first, which has run to its end.
 . "$(dirname "$0")/common.sh"
 make_program lock_times anyhow cam_base cam_names cam_type cam_know cam_locks
 cat > src/main.rt <<'PROGRAM'
@@ -21,7 +21,9 @@ use cam_base::NoMemory;
 use cam_know::Know;
 use cam_locks::{Grant, LockTable, may_restore};
 use cam_names::{Name, Part};
-use cam_type::{HeldList, ObjectDecl, Objects, Op, State};
+use cam_type::{
+    CounterServer, DataType, HeldList, ObjectDecl, Objects, Op, RegisterServer, State,
+};
 use std::alloc::Global;
 use std::time::{Duration, Instant};
 
@@ -30,12 +32,16 @@ const CALLS: u32 = 20;
 /// Where one round takes longer, in nanoseconds, greater numbers are left out.
 const PATIENCE: u128 = 1_000_000_000;
 
-/// One register.
+/// A register and a counter.
 fn objects(alloc: Global) -> Result<Objects, NoMemory> {
     let mut objects = Objects::new(alloc);
     objects.push(ObjectDecl {
         node: 1,
         start: State::Register(0),
+    })?;
+    objects.push(ObjectDecl {
+        node: 1,
+        start: State::Counter(0),
     })?;
     Ok(objects)
 }
@@ -54,12 +60,29 @@ fn below(name: &Name) -> Option<Name> {
     name.child(Part::new(1, 1, 1)?)
 }
 
-/// Asks for an operation, and says whether it was done.
+/// Asks for an operation, of the counter where it is an add and else of the register, and says whether it was done.
 fn ask(table: &mut LockTable, name: &Name, op: &Op) -> Result<bool, NoMemory> {
-    if !table.takes(0, op) || table.next_index() > 999_999_999 {
+    match op {
+        Op::Add(_) => ask_with(table, name, 1, op, &mut CounterServer::new()),
+        _ => ask_with(table, name, 0, op, &mut RegisterServer::new()),
+    }
+}
+
+fn ask_with<T: DataType>(
+    table: &mut LockTable,
+    name: &Name,
+    object: u8,
+    op: &Op,
+    server: &mut T,
+) -> Result<bool, NoMemory> {
+    if !table.takes(object, op) || table.next_index() > 999_999_999 {
         return Ok(false);
     }
-    Ok(matches!(table.try_lock_and_apply(name, 0, op)?, Grant::Done(_)))
+    if table.kind(object) != server.kind() {
+        return Ok(false);
+    }
+    let grant = table.try_lock_and_apply(name, object, op, server)?;
+    Ok(matches!(grant, Grant::Done(_)))
 }
 
 fn commit(table: &mut LockTable, name: &Name) -> Result<(), NoMemory> {
@@ -82,12 +105,15 @@ enum Way {
     Writer,
     HandUp,
     DeepHandUp,
+    HundredReaders,
+    HundredAdders,
 }
 
 /// Whose the operation of a number is: a top action's where there are readers, and else a child's of the writer.
 fn actor(way: Way, number: u32) -> Option<Name> {
     match way {
         Way::Readers | Way::EndedReaders => top(number),
+        Way::HundredReaders | Way::HundredAdders => top(1 + number % 100),
         _ => child(number),
     }
 }
@@ -108,7 +134,8 @@ fn one_more(table: &mut LockTable, way: Way, number: u32) -> Result<bool, NoMemo
     };
     let write = Op::Write(number as i64);
     match way {
-        Way::Readers => ask(table, &name, &Op::Read),
+        Way::Readers | Way::HundredReaders => ask(table, &name, &Op::Read),
+        Way::HundredAdders => ask(table, &name, &Op::Add(number as i64)),
         Way::EndedReaders => read_behind(table, &name, number),
         Way::Writer => ask(table, &name.family(), &write),
         Way::HandUp => hand_up(table, &name, &write),
@@ -367,12 +394,35 @@ fn show_way(rt: &HostRuntime, what: &str, way: Way) -> Result<(), Error> {
     Ok(())
 }
 
+/// What one more operation takes, the least of some rounds.
+fn least_grant(rt: &HostRuntime, way: Way, count: u32) -> Result<u128, Error> {
+    let mut least = u128::MAX;
+    for _ in 0..ROUNDS {
+        let mut table = new_table(rt.alloc())?;
+        fill(rt, &mut table, way, count)?;
+        least = least.min(time_one_more(rt, &mut table, way, count)?);
+    }
+    Ok(least)
+}
+
+/// An add among the adds of 100 holders, beside a read among as many reads.
+fn show_adds(rt: &HostRuntime) -> Result<(), Error> {
+    for count in [100, 1_000, 10_000] {
+        let read = least_grant(rt, Way::HundredReaders, count)?;
+        let add = least_grant(rt, Way::HundredAdders, count)?;
+        println!(rt; "{count} live operations of 100 holders: a read {read} ns")?;
+        show(rt, "an add, to a read", add, read)?;
+    }
+    Ok(())
+}
+
 fn main(rt: HostRuntime) -> Result<(), Error> {
     show_way(&rt, "each the read of a top action", Way::Readers)?;
     show_way(&rt, "each the read of a top action, of which all but the last committed", Way::EndedReaders)?;
     show_way(&rt, "writes of one top action", Way::Writer)?;
     show_way(&rt, "each the write of a child that committed", Way::HandUp)?;
-    show_way(&rt, "each the write of a child of a child of a child, which all committed", Way::DeepHandUp)
+    show_way(&rt, "each the write of a child of a child of a child, which all committed", Way::DeepHandUp)?;
+    show_adds(&rt)
 }
 PROGRAM
 if [ "${1-}" = --quick ]; then

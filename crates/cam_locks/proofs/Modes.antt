@@ -14,6 +14,7 @@ use Rattle.cam_locks.specs.Holding.{mode_eq, LocksView, leaders_of, fresh}
 use Rattle.cam_locks.specs.Changes.{with_leader, with_write, added_by}
 use Rattle.cam_locks.specs.Sums.{is_counter}
 
+-- modes that are tested to be the same are the same
 pub same_mode : (m n : Mode) → mode_eq m n ≡ true → m ≡ n
 same_mode Read Read h = refl
 same_mode Read Write h = cc
@@ -25,11 +26,13 @@ same_mode Add Read h = cc
 same_mode Add Write h = cc
 same_mode Add Add h = refl
 
+-- a mode is one of the three
 pub some_mode : (k : Mode) → ((mode_eq k Read || mode_eq k Write) || mode_eq k Add) ≡ true
 some_mode Read = refl
 some_mode Write = refl
 some_mode Add = refl
 
+-- writes are not compatible
 pub writes_apart : (m n : Mode) → mode_eq m Write ≡ true → mode_eq n Write ≡ true → compatible m n ≡ false
 writes_apart Read n h k = cc
 writes_apart Add n h k = cc
@@ -84,16 +87,19 @@ counters_have_no_writes v (ops.Put w) f m = absurd cc
 counters_have_no_writes v ops.Take f m = absurd cc
 counters_have_no_writes v (ops.Add w) f m = absurd cc
 
+-- an operation leaves the start state
 pub added_start : (m : Mode) (ns : List Name) (os : List LiveOp) (l : LocksView) (o : LiveOp) → (added_by m ns os l o).start ≡ l.start
 added_start Read ns os l o = refl
 added_start Write ns os l o = refl
 added_start Add ns os l o = refl
 
+-- and whether the object is stale
 pub added_stale : (m : Mode) (ns : List Name) (os : List LiveOp) (l : LocksView) (o : LiveOp) → (added_by m ns os l o).stale ≡ l.stale
 added_stale Read ns os l o = refl
 added_stale Write ns os l o = refl
 added_stale Add ns os l o = refl
 
+-- It changes the list of its own mode alone.
 pub added_leaders : (m k : Mode) (ns : List Name) (os : List LiveOp) (l : LocksView) (o : LiveOp)
     → leaders_of (added_by m ns os l o) k ≡ (if mode_eq m k then with_leader ns os (leaders_of l k) o else leaders_of l k)
 added_leaders Read Read ns os l o = refl
@@ -106,12 +112,14 @@ added_leaders Add Read ns os l o = refl
 added_leaders Add Write ns os l o = refl
 added_leaders Add Add ns os l o = refl
 
+-- and the versions, where it writes
 pub added_versions : (m : Mode) (ns : List Name) (os : List LiveOp) (l : LocksView) (o : LiveOp)
     → (added_by m ns os l o).versions ≡ (if mode_eq m Write then with_write ns l.start l.versions o else l.versions)
 added_versions Read ns os l o = refl
 added_versions Write ns os l o = refl
 added_versions Add ns os l o = refl
 
+-- at first nothing leads
 pub no_leaders_of : (m : Mode) (start : State) → leaders_of (fresh start) m ≡ []
 no_leaders_of Read start = refl
 no_leaders_of Write start = refl

@@ -13,21 +13,23 @@ use Rattle.cam_locks.specs.Calls.{is_below}
 use Rattle.cam_locks.specs.Holding.{has_op}
 use Rattle.cam_locks.specs.Restored.{in_order, EachOnce}
 use Rattle.cam_locks.specs.Placed.{placed_cmp, placed_of, behind, has_placed, is_before, IsFirstFrom, IsNextBelow}
-use Rattle.cam_locks.proofs.Passing.{or_parts, or_false, eqb_sym}
-use Rattle.cam_locks.proofs.Rising.{rise_filter}
+use Rattle.cam_locks.proofs.Bools.{or_parts, or_false, eqb_sym}
+use Rattle.cam_locks.proofs.Indices.{rise_filter}
 use Rattle.cam_locks.proofs.Members.{in_left, in_right, in_either, in_last, in_filter, in_filtered, same_op, has_member, member_at, below}
-use Rattle.cam_locks.proofs.Ordering.{in_order_rises, rise_same, in_ordered, ordered_in}
-use Rattle.cam_locks.proofs.Fewer.{one_shorter}
-use Rattle.cam_locks.proofs.Naming.{placed_in, in_placed}
-use Rattle.cam_locks.proofs.Placing.{before_trans, not_before_itself, neither_before, not_behind, before_next, first_below, between}
+use Rattle.cam_locks.proofs.SortedOperations.{in_order_rises, rise_same, in_ordered, ordered_in}
+use Rattle.cam_locks.proofs.FewerOperations.{one_shorter}
+use Rattle.cam_locks.proofs.NamedOperations.{placed_in, in_placed}
+use Rattle.cam_locks.proofs.PlacedOrder.{before_trans, not_before_itself, neither_before, not_behind, before_next, first_below, between}
 
 -- What is next below an action, by the first of the set that is not before a place.
 abbrev Named : BTreeSet Placed → List LiveOp → Type 0
 Named set os = (p : Placed) → contains placed_cmp set p ≡ has_placed os p
 
+-- where no place is left, none is of the action or below it
 pub none_next : (set : BTreeSet Placed) (os : List LiveOp) (n : Name) (start : Placed) → Named set os → IsFirstFrom set start None → IsNextBelow os n start None
 none_next set os n start named first = λ o h under. first (placed_of o) (named (placed_of o) ∙ placed_in os o h)
 
+-- nor where the first place that is left is beyond the action
 pub beyond_next : (set : BTreeSet Placed) (os : List LiveOp) (n : Name) (start p : Placed) → Named set os → is_before start (record { name = n; index = 0 }) ≡ false
     → IsFirstFrom set start (Some p) → is_ancestor n p.name ≡ false → IsNextBelow os n start None
 beyond_next set os n start p named from first over = λ o h under. by_test o h under (is_before (placed_of o) start) refl
@@ -38,6 +40,7 @@ beyond_next set os n start p named from first over = λ o h under. by_test o h u
         let least = first.2 (placed_of o) (named (placed_of o) ∙ placed_in os o h) e in
         let no : true ≡ false = sym (between n p (placed_of o) under (not_behind (record { name = n; index = 0 }) start p from first.1) least) ∙ over in cc
 
+-- and else the operation at that place is the next one
 pub some_next : (set : BTreeSet Placed) (os : List LiveOp) (next : ℕ) (n : Name) (start p : Placed) (r : Option LiveOp) → Named set os → IndicesRise 0 os next
     → IsFirstFrom set start (Some p) → is_ancestor n p.name ≡ true → IfSome r (λ o. In o os × (o.index ≡ p.index)) → IfNone r (has_op os p.index ≡ false) → IsNextBelow os n start r
 some_next set os next n start p r named rise first under = by_found r
@@ -72,6 +75,7 @@ pub record IsFoundBelow (os : List LiveOp) (n : Name) (start : Placed) (found : 
   pub members : (o : LiveOp) → In o found → In o os × (is_below n o ≡ true) × (is_before (placed_of o) start ≡ true)
   pub all : (o : LiveOp) → In o os → is_below n o ≡ true → is_before (placed_of o) start ≡ true → In o found
 
+-- nothing is found before the first place
 pub found_none : (os : List LiveOp) (n : Name) → IsFoundBelow os n (record { name = n; index = 0 }) []
 found_none os n = record {
   from = not_before_itself (record { name = n; index = 0 });
@@ -90,6 +94,7 @@ once_more (o ∷ os) p once absent =
     let parts = or_parts (eqb o.index p.index) (has_op os p.index) absent in
     (has_more os p o.index once.0 (eqb_sym p.index o.index ∙ parts.0), once_more os p once.1 parts.1)
 
+-- one more is found
 pub found_more : (os : List LiveOp) (next : ℕ) (n : Name) (start : Placed) (found : List LiveOp) (p : LiveOp) → IndicesRise 0 os next → IsFoundBelow os n start found
     → IsNextBelow os n start (Some p) → IsFoundBelow os n (behind p) (found ++ p ∷ [])
 found_more os next n start found p rise is step = record {
@@ -133,6 +138,7 @@ found_more os next n start found p rise is step = record {
         let place : placed_of o ≡ placed_of p = neither_before (placed_of o) (placed_of p) (step.3 o h under e) after in
         in_right o found (p ∷ []) (inl (same_op 0 os next o p rise h step.0 (ap (λ (q : Placed). q.index) place)))
 
+-- where no more is left, what was found is in order all that is of the action or below it
 pub found_all : (os : List LiveOp) (next : ℕ) (n : Name) (start : Placed) (found : List LiveOp) → IndicesRise 0 os next → IsFoundBelow os n start found
     → IsNextBelow os n start None → in_order found ≡ filter (is_below n) os
 found_all os next n start found rise is none =
@@ -146,6 +152,7 @@ found_all os next n start found rise is none =
 abbrev pub late : Placed → LiveOp → Bool
 late start o = not (is_before (placed_of o) start)
 
+-- fewer are left behind one that was found
 pub fewer_late : (os : List LiveOp) (n : Name) (start : Placed) (p : LiveOp) → IsNextBelow os n start (Some p) → length (filter (late (behind p)) os) < length (filter (late start) os)
 fewer_late os n start p step =
     one_shorter (late start) (late (behind p)) os p weaker step.0 (ap not step.2)

@@ -10,16 +10,18 @@ use Rattle.cam_locks.specs.Members.{In}
 use Rattle.cam_locks.specs.Site.{IndicesRise}
 use Rattle.cam_locks.specs.Holding.{has_op}
 use Rattle.cam_locks.specs.Live.{all_of, live_of, is_live_at, AreInOrder, IsPlaceOf}
-use Rattle.cam_locks.proofs.Passing.{and_no}
-use Rattle.cam_locks.proofs.Rising.{rise_from_lower}
+use Rattle.cam_locks.proofs.Bools.{and_no}
+use Rattle.cam_locks.proofs.Indices.{rise_from_lower}
 
 -- the slots, and of them those that are not dropped
 abbrev pub kept : List Slot → List Slot
 kept ss = filter (λ s. not s.is_dropped) ss
 
+-- the operations of slots
 abbrev pub ops : List Slot → List LiveOp
 ops ss = map (λ s. s.operation) ss
 
+-- the indices of what is live rise
 pub slots_rise : (low : ℕ) (ss : List Slot) (next : ℕ) → IndicesRise low (all_of ss) next → IndicesRise low (live_of ss) next
 slots_rise low [] next h = h
 slots_rise low (s ∷ ss) next h = by_drop s.is_dropped (slots_rise (suc s.operation.index) ss next h.1)
@@ -90,14 +92,17 @@ at_place low (s ∷ ss) next (suc p) i rise within before behind =
     by_drop true rest = rest
     by_drop false rest = ap (λ (b : Bool). b || has_op (live_of ss) i) apart ∙ rest
 
+-- whether an index is live is told at its place
 pub has_at : (ss : List Slot) (next place i : ℕ) → IndicesRise 0 (all_of ss) next → IsPlaceOf ss i place → has_op (live_of ss) i ≡ is_live_at ss place i
 has_at ss next place i rise at = at_place 0 ss next place i rise at.within at.before at.behind
 
+-- an index is not live at the place of another
 pub not_here : (ss : List Slot) (place i : ℕ) (s : Slot) → place < length ss → s ≡ get_or ss place s → eqb s.operation.index i ≡ false → is_live_at ss place i ≡ false
 not_here [] place i s lt is other = absurd (omega arith)
 not_here (t ∷ ss) zero i s lt is other = ap (λ (r : Slot). eqb r.operation.index i && not r.is_dropped) (sym is) ∙ ap (λ (b : Bool). b && not s.is_dropped) other
 not_here (t ∷ ss) (suc k) i s lt is other = not_here ss k i s (omega arith) is other
 
+-- nor behind the last slot
 pub not_past : (ss : List Slot) (place i : ℕ) → length ss ≤ place → is_live_at ss place i ≡ false
 not_past [] zero i past = refl
 not_past [] (suc k) i past = refl
@@ -137,6 +142,7 @@ middle_below ss m i x order within is lt k d km = by_order (eqb k m) refl
         let before : k < m = grind (arith, e, km) in
         let less : (get_or ss k d).operation.index < (get_or ss m d).operation.index = rises 0 ss order.0 k m d order.1 before within in omega (arith, at)
 
+-- From the middle on no index is less, where that of the middle is not.
 pub middle_above : (ss : List Slot) (m i : ℕ) (x : Slot) → AreInOrder ss → m < length ss → x ≡ get_or ss m x → i ≤ x.operation.index
     → (k : ℕ) (d : Slot) → m ≤ k → k < length ss → i ≤ (get_or ss k d).operation.index
 middle_above ss m i x order within is le k d mk short = by_order (eqb k m) refl

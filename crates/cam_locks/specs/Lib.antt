@@ -9,6 +9,8 @@ pub mod Restored
 pub mod Secured
 pub mod Holding
 pub mod Changes
+pub mod Fresh
 pub mod Sums
 pub mod Kinds
 pub mod Served
+pub mod Granted

@@ -17,20 +17,12 @@ use cam_type::{
 };
 use std::alloc::Global;
 
-/// The lift of the first live operation that conflicts.
-pub(crate) fn holder(
-    live: &[LiveOp],
-    committed: &Names,
-    name: &Name,
-    object: u8,
-    op: &Op,
-) -> Option<Name>
-    ensures { result ≡ holder_of committed.now.names live.now name.now object op.now }
+/// Who stands in the way of an operation: the lift of the first live one that conflicts.
+pub(crate) fn holder(live: &[LiveOp], committed: &Names, asked: &LiveOp) -> Option<Name>
+    ensures { result ≡ holder_of committed.now.names live.now
+        asked.now.action asked.now.object asked.now.op }
 {
-    lift_of(
-        committed,
-        &first_conflict(live, committed, name, object, op),
-    )
+    lift_of(committed, &first_conflict(live, committed, asked))
 }
 
 /// The lift of an operation, where there is one.
@@ -44,30 +36,26 @@ pub(crate) fn lift_of(committed: &Names, operation: &Option<LiveOp>) -> Option<N
 }
 
 /// The first live operation that conflicts.
-fn first_conflict(
-    live: &[LiveOp],
-    committed: &Names,
-    name: &Name,
-    object: u8,
-    op: &Op,
-) -> Option<LiveOp>
-    ensures { result ≡ find (conflicts_on committed.now.names name.now object op.now) live.now }
+fn first_conflict(live: &[LiveOp], committed: &Names, asked: &LiveOp) -> Option<LiveOp>
+    ensures { result ≡ find (conflicts_on committed.now.names
+        asked.now.action asked.now.object asked.now.op) live.now }
 {
     for operation in live {
-        if is_conflict(committed, name, object, op, operation) {
+        if is_conflict(committed, asked, operation) {
             return Some(*operation);
         }
     }
     None
 }
 
-/// Whether a live operation conflicts.
-fn is_conflict(committed: &Names, name: &Name, object: u8, op: &Op, operation: &LiveOp) -> bool
-    ensures { result ≡ conflicts_on committed.now.names name.now object op.now operation.now }
+/// Whether a live operation conflicts with one that is asked.
+fn is_conflict(committed: &Names, asked: &LiveOp, operation: &LiveOp) -> bool
+    ensures { result ≡ conflicts_on committed.now.names
+        asked.now.action asked.now.object asked.now.op operation.now }
 {
-    operation.object == object
-        && is_in_the_way(name, &committed.lift(&operation.action))
-        && !compatible(mode_of(&operation.op), mode_of(op))
+    operation.object == asked.object
+        && is_in_the_way(&asked.action, &committed.lift(&operation.action))
+        && !compatible(mode_of(&operation.op), mode_of(&asked.op))
 }
 
 /// The value that an operation on the object meets.

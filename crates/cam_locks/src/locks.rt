@@ -1,11 +1,12 @@
-ghost use Rattle.std.specs.Prelude.{◌≡◌, ℕ, ◌<◌, true, false, ◌&&◌, if◌then◌else◌, find, map, length, get_or, vec_len, IfOk, OnOk, OnErr};
+//! The locks on one object.
+ghost use Rattle.std.specs.Prelude.{◌≡◌, ℕ, true, ◌&&◌, if◌then◌else◌, find, IfOk, OnOk, OnErr};
 ghost use Rattle.cam_type.specs.declared.Mode.{Mode as ModeValue};
 ghost use Rattle.cam_type.specs.Table.{kind_of, fits};
-ghost use Rattle.cam_locks.specs.Moss.{lift_in};
 ghost use Rattle.cam_type.specs.Moss.{is_in_the_way};
-ghost use Rattle.cam_locks.specs.Holding.{has_op, fresh, leaders_of, LocksView, KeepsLeaders};
+ghost use Rattle.cam_locks.specs.Moss.{lift_in};
+ghost use Rattle.cam_locks.specs.Holding.{has_op, fresh, leaders_of, KeepsLeaders};
 ghost use Rattle.cam_locks.specs.Sums.{is_counter};
-ghost use Rattle.cam_locks.specs.Changes.{standing, earlier, first_over, state_of, is_current, last_current, Tidied, IsDone, EachTo, TidiedTo, DoneTo, SpoiledAt};
+ghost use Rattle.cam_locks.specs.Changes.{standing, earlier, first_over, state_of, is_current, last_current, Tidied, IsDone};
 ghost use Rattle.cam_locks.specs.Served.{IsServed};
 
 use crate::live::Live;
@@ -14,7 +15,7 @@ use crate::versions::{self, Version};
 use crate::{LiveOp, leaders};
 use cam_base::NoMemory;
 use cam_names::Name;
-use cam_type::{Answer, DataType, Kind, Mode, Objects, Op, State, compatible, mode_of};
+use cam_type::{Answer, DataType, Kind, Mode, Op, State, compatible, mode_of};
 use std::alloc::Global;
 use std::collections::VecDeque;
 use std::marker::Model;
@@ -203,97 +204,4 @@ fn earlier(one: Option<LiveOp>, other: Option<LiveOp>) -> Option<LiveOp>
             }
         }
     }
-}
-
-/// What is kept of objects without operations.
-pub(crate) fn for_objects(alloc: Global, objects: &Objects) -> Result<Vec<Locks>, NoMemory>
-    ensures { IfOk result (λ locks. locks.items ≡ map (λ d. fresh d.start) objects.now) }
-{
-    let mut locks = Vec::new(alloc);
-    for declared in objects.as_slice() {
-        locks.push(Locks::new(alloc, declared.start.copy()?))?;
-    }
-    Ok(locks)
-}
-
-/// Whether what is kept of the object can be gone by.
-pub(crate) fn is_kept(locks: &[Locks], object: u8) -> bool
-    ensures within { result ≡ true → object < length locks.now }
-    ensures fresh { (l : LocksView) → result ≡ true → (get_or locks.now object l).stale ≡ false }
-{
-    match locks.get(object as usize) {
-        Some(one) => !one.is_stale(),
-        None => false,
-    }
-}
-
-/// Whether the value of the object that is handed up can be told by its versions: it can be gone by, and is no counter.
-pub(crate) fn is_versioned(locks: &[Locks], object: u8) -> bool
-    ensures within { result ≡ true → object < length locks.now }
-    ensures fresh { (l : LocksView) → result ≡ true → (get_or locks.now object l).stale ≡ false }
-    ensures kind { (l : LocksView) → result ≡ true → is_counter (get_or locks.now object l).start ≡ false }
-{
-    match locks.get(object as usize) {
-        Some(one) => !one.is_stale() && !one.is_counter(),
-        None => false,
-    }
-}
-
-/// The first live operation that stands in the way of an op of an action on an object.
-pub(crate) fn first_conflict(
-    locks: &mut Vec<Locks>,
-    live: &Live,
-    committed: &Names,
-    name: &Name,
-    object: u8,
-    op: &Op,
-) -> Option<LiveOp>
-    requires { object < vec_len locks.old }
-    ensures tidied { EachTo (TidiedTo committed.now.names live.now.ops) locks.old.items locks.new.items }
-    ensures value { (l : LocksView) → result ≡ first_over (λ m. standing committed.now.names live.now.ops name.now op.now m (leaders_of (get_or locks.new.items object l) m)) }
-{
-    locks[object as usize].first_conflict(live, committed, name, op)
-}
-
-/// Has a server do an operation in whose way no one stands.
-pub(crate) fn perform<T: DataType>(
-    locks: &mut Vec<Locks>,
-    operation: &LiveOp,
-    live: &Live,
-    committed: &Names,
-    server: &mut T,
-) -> Result<Answer, NoMemory>
-    requires within { operation.now.object < vec_len locks.old }
-    requires kind { (l : LocksView) → T.kind server.old
-        ≡ kind_of (get_or locks.old.items operation.now.object l).start }
-    requires fits { (l : LocksView)
-        → fits (kind_of (get_or locks.old.items operation.now.object l).start) operation.now.op ≡ true }
-    ensures kind_stays { T.kind server.new ≡ T.kind server.old }
-    ensures served { (l : LocksView) → OnOk result (IsServed committed.now.names live.now.ops
-        operation.now (T.held server.new) (get_or locks.old.items operation.now.object l)) }
-    ensures done { IfOk result (λ answer. EachTo (DoneTo committed.now.names live.now.ops operation.now answer) locks.old.items locks.new.items) }
-    ensures err { OnErr result (EachTo (TidiedTo committed.now.names live.now.ops) locks.old.items locks.new.items) }
-{
-    locks[operation.object as usize].perform(operation, live, committed, server)
-}
-
-/// Keeps nothing of an object from now on.
-pub(crate) fn spoil_at(locks: &mut Vec<Locks>, object: u8)
-    ensures { EachTo (SpoiledAt object) locks.old.items locks.new.items }
-{
-    let at = object as usize;
-    if at < locks.len() {
-        locks[at].spoil();
-    }
-}
-
-/// The same.
-pub(crate) fn copy(locks: &Vec<Locks>) -> Result<Vec<Locks>, NoMemory>
-    ensures { IfOk result (λ copy. copy.items ≡ locks.now.items) }
-{
-    let mut copies = Vec::new(*locks.allocator());
-    for one in locks.as_slice() {
-        copies.push(one.copy()?)?;
-    }
-    Ok(copies)
 }

@@ -1,25 +1,20 @@
-ghost use Rattle.std.specs.Prelude.{◌≡◌, ◌≤◌, ◌+◌, [], ◌++◌, IsTrue, IfOk, OnOk, OnErr};
+//! The lock table.
+ghost use Rattle.std.specs.Prelude.{◌≡◌, ◌≤◌, ◌+◌, IsTrue, IfOk, OnOk, OnErr};
 ghost use Rattle.cam_type.specs.Table.{kind_of};
-ghost use Rattle.cam_locks.specs.Site.{is_here, fits_here, AreFit, IndicesRise};
+ghost use Rattle.cam_locks.specs.Site.{is_here, fits_here, IndicesRise};
 ghost use Rattle.cam_type.specs.Objects.{start_of};
 ghost use Rattle.cam_locks.specs.Moss.{settled};
 ghost use Rattle.cam_locks.specs.Calls.{new_site, grant, after_grant, with_commit, with_abort, held, has_family};
-ghost use Rattle.cam_locks.specs.Restored.{informed, restored, taken_over, CanRestore};
 ghost use Rattle.cam_locks.specs.Served.{served};
 ghost use Rattle.cam_locks.specs.Secured.{IsWellFormed, SecuredCanBeRestored};
 
-use crate::live::Live;
-use crate::locks::{self, Locks};
+use crate::kept::Kept;
 use crate::names::Names;
 use crate::operations::{copy_objects, fits_here, is_here, kind_of};
-use crate::restore::{aborted_names, committed_names, in_order, kept_operations, next_of};
-use crate::{Grant, LiveOp, by_list, keeping};
+use crate::{Grant, LiveOp, by_list, by_object};
 use cam_base::NoMemory;
-use cam_know::{Know, Outcome};
 use cam_names::Name;
-use cam_type::{
-    CounterServer, DataType, Held, HeldList, Kind, Objects, Op, QueueServer, RegisterServer, State,
-};
+use cam_type::{DataType, Held, Kind, Objects, Op, State};
 use std::alloc::Global;
 use std::marker::Model;
 
@@ -27,25 +22,31 @@ use std::marker::Model;
 /// the next index; beside them stands for how many more outcomes there is room.
 #[derive(Drop)]
 pub struct LockTable {
-    objects: Objects,
-    node: u8,
-    live: Live,
-    committed: Names,
-    aborted: Names,
-    /// What is kept of each declared object, by its place.
-    locks: Vec<Locks>,
+    pub(crate) node: u8,
+    pub(crate) kept: Kept,
+    pub(crate) aborted: Names,
 }
 
 impl Model for LockTable {
     ghost use Rattle.std.specs.Prelude.{min};
     ghost use Rattle.cam_locks.specs.Site.{TableView, AreFit};
-    ghost use Rattle.cam_locks.specs.Holding.{AllLocks};
+    ghost use Rattle.cam_locks.specs.Granted.{IsKept};
 
     ghost Value = { TableView };
 
-    ghost view = { λ t. record { site = record { objects = t.objects; node = t.node; live = t.live.ops; committed = t.committed.names; aborted = t.aborted.names; next = t.live.next }; spare = min t.committed.spare t.aborted.spare } };
+    ghost view = { λ t. record {
+      site = record {
+        objects = t.kept.objects;
+        node = t.node;
+        live = t.kept.live.ops;
+        committed = t.kept.committed.names;
+        aborted = t.aborted.names;
+        next = t.kept.live.next;
+      };
+      spare = min t.kept.committed.spare t.aborted.spare;
+    } };
 
-    ghost invariant = { λ t. AllLocks t.objects t.committed.names t.live.ops t.live.next t.locks.items × AreFit t.objects t.node t.live.ops };
+    ghost invariant = { λ t. IsKept t.kept × AreFit t.kept.objects t.node t.kept.live.ops };
 }
 
 impl LockTable {
@@ -80,40 +81,33 @@ impl LockTable {
         ensures kind_stays { T.kind server.new ≡ T.kind server.old }
     {
         let operation = LiveOp {
-            index: self.live.next(),
+            index: self.kept.live.next(),
             action: *name,
             object,
             op: *op,
         };
-        keeping::grant(
-            &mut self.locks,
-            &mut self.live,
-            &self.committed,
-            &self.objects,
-            &operation,
-            server,
-        )
+        self.kept.grant(&operation, server)
     }
 
     /// Whether the object stands at the table's node and the op fits it.
     pub fn takes(&self, object: u8, op: &Op) -> bool
         ensures { result ≡ fits_here self.now.site.objects self.now.site.node object op.now }
     {
-        fits_here(&self.objects, self.node, object, op)
+        fits_here(&self.kept.objects, self.node, object, op)
     }
 
     /// The kind of an object, which is that of its servers.
     pub fn kind(&self, object: u8) -> Kind
         ensures { result ≡ kind_of (start_of self.now.site.objects object) }
     {
-        kind_of(&self.objects, object)
+        kind_of(&self.kept.objects, object)
     }
 
     /// Whether the object stands at the table's node.
     pub fn has_object(&self, object: u8) -> bool
         ensures { result ≡ is_here self.now.site.objects self.now.site.node object }
     {
-        is_here(&self.objects, self.node, object)
+        is_here(&self.kept.objects, self.node, object)
     }
 
     /// Makes room for this many more outcomes. Nothing else changes.
@@ -122,7 +116,7 @@ impl LockTable {
         ensures ok { OnOk result (outcomes ≤ self.new.spare) }
         ensures kept { self.old.spare ≤ self.new.spare }
     {
-        self.committed.reserve(outcomes as usize)?;
+        self.kept.committed.reserve(outcomes as usize)?;
         self.aborted.reserve(outcomes as usize)
     }
 
@@ -132,7 +126,7 @@ impl LockTable {
         ensures site { self.new.site ≡ with_commit self.old.site name.now }
         ensures spare { self.old.spare ≤ self.new.spare + 1 }
     {
-        self.committed.put(name);
+        self.kept.committed.put(name);
     }
 
     /// The site was informed of the abort of an action: the operations of the action and of all below it are dropped. It wants a spare
@@ -143,26 +137,23 @@ impl LockTable {
         ensures spare { self.old.spare ≤ self.new.spare + 1 }
     {
         self.aborted.put(name);
-        keeping::abort(
-            &mut self.locks,
-            &mut self.live,
-            &self.committed,
-            &self.objects,
-            name,
-        );
+        self.kept.abort(name);
     }
 
     /// An equal table, but for its room.
     pub fn copy(&self) -> Result<LockTable, NoMemory>
         ensures { IfOk result (λ copy. copy.site ≡ self.now.site) }
     {
+        let kept = Kept {
+            objects: copy_objects(self.kept.live.allocator(), &self.kept.objects)?,
+            committed: self.kept.committed.copy()?,
+            live: self.kept.live.copy()?,
+            locks: by_object::copy(&self.kept.locks)?,
+        };
         Ok(LockTable {
-            objects: copy_objects(self.live.allocator(), &self.objects)?,
             node: self.node,
-            live: self.live.copy()?,
-            committed: self.committed.copy()?,
+            kept,
             aborted: self.aborted.copy()?,
-            locks: locks::copy(&self.locks)?,
         })
     }
 
@@ -175,9 +166,9 @@ impl LockTable {
         ensures restorable { SecuredCanBeRestored self.now.site }
     {
         // Indices rise, and stay in their range.
-        let _next = self.live.next();
-        let live = self.live.of_family(family)?;
-        let ops = by_list::held(self.live.allocator(), live.as_slice(), family)?;
+        let _next = self.kept.live.next();
+        let live = self.kept.live.of_family(family)?;
+        let ops = by_list::held(self.kept.live.allocator(), live.as_slice(), family)?;
         Ok(Held {
             family: *family,
             count,
@@ -189,7 +180,7 @@ impl LockTable {
     pub fn has_family(&self, family: &Name) -> bool
         ensures { result ≡ has_family self.now.site family.now }
     {
-        self.live.has_family(family)
+        self.kept.live.has_family(family)
     }
 
     /// The value of an object that is handed up past the top. It wants what [`LockTable::has_object`] accepts.
@@ -197,13 +188,7 @@ impl LockTable {
         requires { IsTrue (is_here self.now.site.objects self.now.site.node object) }
         ensures { IfOk result (λ state. state ≡ settled self.now.site object) }
     {
-        keeping::settled(
-            self.locks.as_slice(),
-            &self.live,
-            &self.committed,
-            &self.objects,
-            object,
-        )
+        self.kept.settled(object)
     }
 
     /// The index of the next operation, which is above those of all live ones.
@@ -211,128 +196,6 @@ impl LockTable {
         ensures value { result ≡ self.now.site.next }
         ensures order { IndicesRise 0 self.now.site.live self.now.site.next }
     {
-        self.live.next()
-    }
-}
-
-impl LockTable {
-    /// The table that a restart makes of what was secured, by what is known. It wants what [`crate::may_restore`] accepts.
-    pub fn restore(
-        alloc: Global,
-        objects: &Objects,
-        node: u8,
-        held: &HeldList,
-        know: &Know,
-    ) -> Result<LockTable, NoMemory>
-        requires { CanRestore objects.now node held.now }
-        ensures { IfOk result (λ table. table.site ≡ restored objects.now node held.now know.now) }
-    {
-        let kept = kept_operations(alloc, held.as_slice(), know)?;
-        let ordered = in_order(alloc, kept.as_slice())?;
-        let mut table = LockTable::informed(alloc, objects, node, know.outcomes())?;
-        table.take_over_all(ordered.as_slice(), next_of(held.as_slice()))?;
-        Ok(table)
-    }
-}
-
-impl LockTable {
-    /// The table of a node that was informed of these outcomes, with no operations.
-    fn informed(
-        alloc: Global,
-        objects: &Objects,
-        node: u8,
-        outcomes: &[Outcome],
-    ) -> Result<LockTable, NoMemory>
-        ensures { IfOk result (λ table. table.site ≡ informed objects.now node outcomes.now) }
-    {
-        Ok(LockTable {
-            objects: copy_objects(alloc, objects)?,
-            node,
-            live: Live::new(alloc),
-            committed: committed_names(alloc, outcomes)?,
-            aborted: aborted_names(alloc, outcomes)?,
-            locks: locks::for_objects(alloc, objects)?,
-        })
-    }
-
-    /// Takes restored operations over, in order, and lets the next index be this one.
-    fn take_over_all(&mut self, operations: &[LiveOp], next: u32) -> Result<(), NoMemory>
-        requires order { IndicesRise self.old.site.next operations.now next }
-        requires fits { AreFit self.old.site.objects self.old.site.node operations.now }
-        requires range { next ≤ 1000000000 }
-        ensures ok { OnOk result (self.new.site ≡ record self.old.site { live = self.old.site.live ++ operations.now; next = next }) }
-    {
-        for operation in operations {
-            self.take_over(operation)?;
-        }
-        self.raise(next);
-        Ok(())
-    }
-
-    /// Lets the next index be this one.
-    fn raise(&mut self, next: u32)
-        requires order { self.old.site.next ≤ next }
-        requires range { next ≤ 1000000000 }
-        ensures { self.new.site ≡ record self.old.site { next = next } }
-    {
-        self.live.raise(next);
-    }
-
-    /// Takes a restored operation over, with a server of its object's kind.
-    fn take_over(&mut self, operation: &LiveOp) -> Result<(), NoMemory>
-        requires fits { IsTrue (fits_here self.old.site.objects self.old.site.node operation.now.object operation.now.op) }
-        requires index { self.old.site.next ≤ operation.now.index }
-        requires range { operation.now.index ≤ 999999999 }
-        ensures ok { OnOk result (self.new.site ≡ taken_over self.old.site operation.now) }
-    {
-        match kind_of(&self.objects, operation.object) {
-            Kind::Register => self.take_over_by(operation, &mut RegisterServer::new()),
-            Kind::Queue => {
-                let mut server = QueueServer::new(self.live.allocator());
-                self.take_over_by(operation, &mut server)
-            }
-            Kind::Counter => self.take_over_by(operation, &mut CounterServer::new()),
-        }
-    }
-
-    /// Takes a restored operation over. Where it conflicts with one before it nothing is kept of its object any more.
-    fn take_over_by<T: DataType>(
-        &mut self,
-        operation: &LiveOp,
-        server: &mut T,
-    ) -> Result<(), NoMemory>
-        requires fits { IsTrue (fits_here self.old.site.objects self.old.site.node operation.now.object operation.now.op) }
-        requires index { self.old.site.next ≤ operation.now.index }
-        requires range { operation.now.index ≤ 999999999 }
-        requires kind { T.kind server.old ≡ kind_of (start_of self.old.site.objects operation.now.object) }
-        ensures ok { OnOk result (self.new.site ≡ taken_over self.old.site operation.now) }
-    {
-        if !locks::is_kept(self.locks.as_slice(), operation.object) {
-            return keeping::append_spoiled(
-                &mut self.locks,
-                &mut self.live,
-                &self.committed,
-                &self.objects,
-                operation,
-            );
-        }
-        let granted = keeping::grant(
-            &mut self.locks,
-            &mut self.live,
-            &self.committed,
-            &self.objects,
-            operation,
-            server,
-        )?;
-        match granted {
-            Grant::Done(_) => Ok(()),
-            Grant::Conflict(_) => keeping::append_spoiled(
-                &mut self.locks,
-                &mut self.live,
-                &self.committed,
-                &self.objects,
-                operation,
-            ),
-        }
+        self.kept.live.next()
     }
 }

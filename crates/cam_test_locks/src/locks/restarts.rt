@@ -15,70 +15,88 @@ use std::test::Fail;
 
 /// What a restart keeps of three families that wrote the register, of which the first aborted, the second is undecided, and the third
 /// committed.
-const RESTARTED: [Step; 4] = [
-    Register(3),
-    Secured("1.1.1", 0),
-    Busy("1.1.3", REGISTER, Op::Read, "1.1.2"),
-    Done("1.1.2", REGISTER, Op::Read, Answer::Value(5)),
-];
+fn restarted(place: u8) -> Option<Step> {
+    Some(match place {
+        0 => Register(3),
+        1 => Secured("1.1.1", 0),
+        2 => Busy("1.1.3", REGISTER, Op::Read, "1.1.2"),
+        3 => Done("1.1.2", REGISTER, Op::Read, Answer::Value(5)),
+        _ => return None,
+    })
+}
 
 /// Two families that both wrote the register, and of which nothing is known, stand in each other's way.
-const TWO_WRITERS: [Step; 10] = [
-    Busy("1.1.1", REGISTER, Op::Read, "1.1.2"),
-    Busy("1.1.2", REGISTER, Op::Read, "1.1.1"),
-    Busy("1.1.3", REGISTER, Op::Read, "1.1.2"),
-    Copy,
-    Abort("1.1.2"),
-    Done("1.1.1", REGISTER, Op::Read, Answer::Value(4)),
-    Register(0),
-    Commit("1.1.1"),
-    Register(4),
-    Done("1.1.3", REGISTER, Op::Swap(6), Answer::Value(4)),
-];
+fn two_writers(place: u8) -> Option<Step> {
+    Some(match place {
+        0 => Busy("1.1.1", REGISTER, Op::Read, "1.1.2"),
+        1 => Busy("1.1.2", REGISTER, Op::Read, "1.1.1"),
+        2 => Busy("1.1.3", REGISTER, Op::Read, "1.1.2"),
+        3 => Copy,
+        4 => Abort("1.1.2"),
+        5 => Done("1.1.1", REGISTER, Op::Read, Answer::Value(4)),
+        6 => Register(0),
+        7 => Commit("1.1.1"),
+        8 => Register(4),
+        9 => Done("1.1.3", REGISTER, Op::Swap(6), Answer::Value(4)),
+        _ => return None,
+    })
+}
 
 /// Two families work.
-const WORK: [Step; 4] = [
-    Done("1.1.1", REGISTER, Op::Read, Answer::Value(0)),
-    Done("1.1.2", QUEUE, Op::Put(6), Answer::Ok),
-    Done("1.1.1/1.1.1", REGISTER, Op::Write(5), Answer::Ok),
-    Commit("1.1.1/1.1.1"),
-];
+fn work(place: u8) -> Option<Step> {
+    Some(match place {
+        0 => Done("1.1.1", REGISTER, Op::Read, Answer::Value(0)),
+        1 => Done("1.1.2", QUEUE, Op::Put(6), Answer::Ok),
+        2 => Done("1.1.1/1.1.1", REGISTER, Op::Write(5), Answer::Ok),
+        3 => Commit("1.1.1/1.1.1"),
+        _ => return None,
+    })
+}
 
 /// They go on.
-const MORE_WORK: [Step; 9] = [
-    Busy("1.1.2", REGISTER, Op::Read, "1.1.1"),
-    Done("1.1.1", REGISTER, Op::Swap(7), Answer::Value(5)),
-    Busy("1.1.1", QUEUE, Op::Take, "1.1.2"),
-    Register(0),
-    Secured("1.1.1", 3),
-    Secured("1.1.2", 1),
-    Done("1.1.2", QUEUE, Op::Take, Answer::Value(6)),
-    Commit("1.1.1"),
-    Register(7),
-];
+fn more_work(place: u8) -> Option<Step> {
+    Some(match place {
+        0 => Busy("1.1.2", REGISTER, Op::Read, "1.1.1"),
+        1 => Done("1.1.1", REGISTER, Op::Swap(7), Answer::Value(5)),
+        2 => Busy("1.1.1", QUEUE, Op::Take, "1.1.2"),
+        3 => Register(0),
+        4 => Secured("1.1.1", 3),
+        5 => Secured("1.1.2", 1),
+        6 => Done("1.1.2", QUEUE, Op::Take, Answer::Value(6)),
+        7 => Commit("1.1.1"),
+        8 => Register(7),
+        _ => return None,
+    })
+}
 
 /// Three families add to the counter.
-const ADDS: [Step; 4] = [
-    Done("1.1.1/1.1.1", COUNTER, Op::Add(5), Answer::Ok),
-    Done("1.1.3", COUNTER, Op::Add(100), Answer::Ok),
-    Done("1.1.2", COUNTER, Op::Add(7), Answer::Ok),
-    Commit("1.1.1/1.1.1"),
-];
+fn adds(place: u8) -> Option<Step> {
+    Some(match place {
+        0 => Done("1.1.1/1.1.1", COUNTER, Op::Add(5), Answer::Ok),
+        1 => Done("1.1.3", COUNTER, Op::Add(100), Answer::Ok),
+        2 => Done("1.1.2", COUNTER, Op::Add(7), Answer::Ok),
+        3 => Commit("1.1.1/1.1.1"),
+        _ => return None,
+    })
+}
 
 /// The first and the second were secured, and what the third added is gone.
-const SECURED_ADDS: [Step; 11] = [
-    Secured("1.1.3", 0),
-    Counter(10),
-    Busy("1.1.1", COUNTER, Op::Read, "1.1.2"),
-    Done("1.1.1/1.1.2", COUNTER, Op::Add(1), Answer::Ok),
-    Commit("1.1.2"),
-    Counter(17),
-    Done("1.1.1/1.1.2", COUNTER, Op::Read, Answer::Value(23)),
-    Busy("1.1.3", COUNTER, Op::Read, "1.1.1"),
-    Abort("1.1.1"),
-    Counter(17),
-    Done("1.1.3", COUNTER, Op::Read, Answer::Value(17)),
-];
+fn secured_adds(place: u8) -> Option<Step> {
+    Some(match place {
+        0 => Secured("1.1.3", 0),
+        1 => Counter(10),
+        2 => Busy("1.1.1", COUNTER, Op::Read, "1.1.2"),
+        3 => Done("1.1.1/1.1.2", COUNTER, Op::Add(1), Answer::Ok),
+        4 => Commit("1.1.2"),
+        5 => Counter(17),
+        6 => Done("1.1.1/1.1.2", COUNTER, Op::Read, Answer::Value(23)),
+        7 => Busy("1.1.3", COUNTER, Op::Read, "1.1.1"),
+        8 => Abort("1.1.1"),
+        9 => Counter(17),
+        10 => Done("1.1.3", COUNTER, Op::Read, Answer::Value(17)),
+        _ => return None,
+    })
+}
 
 /// What is held of a family that wrote a value under an index.
 fn held_write(alloc: Global, family: &Name, index: u32, value: i64) -> Result<Held, NoMemory>
@@ -131,9 +149,9 @@ fn two_writers(alloc: Global) -> Result<LockTable, Fail> {
 fn a_restart_keeps_what_was_secured_and_not_aborted(rt: HostRuntime) -> Result<(), Fail> {
     let mut table = restarted(rt.alloc())?;
     assert_eq!(rt; table.next_index(), 10);
-    assert_eq!(rt; first_unlike(rt.alloc(), &mut table, &RESTARTED)?, None);
+    assert_eq!(rt; first_unlike(rt.alloc(), &mut table, restarted)?, None);
     let mut table = two_writers(rt.alloc())?;
-    assert_eq!(rt; first_unlike(rt.alloc(), &mut table, &TWO_WRITERS)?, None);
+    assert_eq!(rt; first_unlike(rt.alloc(), &mut table, two_writers)?, None);
     Ok(())
 }
 
@@ -146,11 +164,13 @@ fn secured(alloc: Global, table: &LockTable) -> Result<HeldList, Fail> {
 }
 
 /// The first step that a table does not answer as it has to, after a restart with these families.
-fn first_unlike_after(
+fn first_unlike_after<F: Fn(u8) -> Option<Step>>(
     alloc: Global,
     held: &HeldList,
-    scene: &[Step],
-) -> Result<Option<usize>, Fail> {
+    scene: F,
+) -> Result<Option<u8>, Fail>
+    requires { F.IsAlwaysCallable scene }
+{
     let know = Know::new(alloc);
     let objects = objects(alloc)?;
     if !may_restore(alloc, &objects, 1, held)? {
@@ -164,10 +184,10 @@ fn first_unlike_after(
 fn what_is_secured_and_restored_answers_as_before(rt: HostRuntime) -> Result<(), Fail> {
     let objects = objects(rt.alloc())?;
     let mut table = LockTable::new(rt.alloc(), &objects, 1)?;
-    assert_eq!(rt; first_unlike(rt.alloc(), &mut table, &WORK)?, None);
+    assert_eq!(rt; first_unlike(rt.alloc(), &mut table, work)?, None);
     let held = secured(rt.alloc(), &table)?;
-    assert_eq!(rt; first_unlike(rt.alloc(), &mut table, &MORE_WORK)?, None);
-    assert_eq!(rt; first_unlike_after(rt.alloc(), &held, &MORE_WORK)?, None);
+    assert_eq!(rt; first_unlike(rt.alloc(), &mut table, more_work)?, None);
+    assert_eq!(rt; first_unlike_after(rt.alloc(), &held, more_work)?, None);
     Ok(())
 }
 
@@ -175,9 +195,9 @@ fn what_is_secured_and_restored_answers_as_before(rt: HostRuntime) -> Result<(),
 fn adds_that_were_secured_are_added_after_a_restart(rt: HostRuntime) -> Result<(), Fail> {
     let objects = objects(rt.alloc())?;
     let mut table = LockTable::new(rt.alloc(), &objects, 1)?;
-    assert_eq!(rt; first_unlike(rt.alloc(), &mut table, &ADDS)?, None);
+    assert_eq!(rt; first_unlike(rt.alloc(), &mut table, adds)?, None);
     let held = secured(rt.alloc(), &table)?;
-    assert_eq!(rt; first_unlike_after(rt.alloc(), &held, &SECURED_ADDS)?, None);
+    assert_eq!(rt; first_unlike_after(rt.alloc(), &held, secured_adds)?, None);
     Ok(())
 }
 

@@ -31,16 +31,21 @@ pub(super) enum Step {
 
 /// The first step of a scene that the table does not answer as it has to. Where memory runs out in a step it is done once more: the table
 /// is as it was.
-pub(super) fn first_unlike(
+pub(super) fn first_unlike<F: Fn(u8) -> Option<Step>>(
     alloc: Global,
     table: &mut LockTable,
-    scene: &[Step],
-) -> Result<Option<usize>, NoMemory> {
+    scene: F,
+) -> Result<Option<u8>, NoMemory>
+    requires { F.IsAlwaysCallable scene }
+{
     let mut servers = Servers::new(alloc);
-    for (place, step) in scene.iter().enumerate() {
-        let is_right = match answers(table, &mut servers, step) {
+    for place in 0..=u8::MAX {
+        let Some(step) = scene(place) else {
+            return Ok(None);
+        };
+        let is_right = match answers(table, &mut servers, &step) {
             Ok(is_right) => is_right,
-            Err(NoMemory) => answers(table, &mut servers, step)?,
+            Err(NoMemory) => answers(table, &mut servers, &step)?,
         };
         if !is_right {
             return Ok(Some(place));

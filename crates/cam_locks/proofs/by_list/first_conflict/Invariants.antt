@@ -4,4 +4,4 @@ use Rattle.cam_locks.specs.Moss.{conflicts_on}
 use Rattle.cam_locks.proofs.by_list.first_conflict.Given as goal
 
 abbrev pub invariant-loop-operation : goal.invariant-loop-operation
-invariant-loop-operation l = None ≡ find (conflicts_on l.committed.names l.name l.object l.op) (take l.operation-index l.live)
+invariant-loop-operation l = None ≡ find (conflicts_on l.committed.names l.asked.action l.asked.object l.asked.op) (take l.operation-index l.live)

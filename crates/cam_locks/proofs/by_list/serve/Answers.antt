@@ -4,7 +4,7 @@ use Rattle.cam_type.specs.declared.State.{State}
 use Rattle.cam_type.specs.Table.{kind_of}
 use Rattle.cam_type.specs.Objects.{start_of}
 use Rattle.cam_locks.specs.Moss.{is_on}
-use Rattle.cam_locks.proofs.SameKind.{replay_kind}
+use Rattle.cam_locks.proofs.KindLaws.{replay_kind}
 use Rattle.cam_locks.proofs.by_list.serve.Goals as goal
 
 pub load-requires : goal.load-requires

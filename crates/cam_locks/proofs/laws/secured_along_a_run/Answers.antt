@@ -1,5 +1,5 @@
-use Rattle.cam_locks.proofs.Securing.{along}
-use Rattle.cam_locks.proofs.Later.{grant_later, outcome_later, later_on}
+use Rattle.cam_locks.proofs.SecuredRuns.{along}
+use Rattle.cam_locks.proofs.LaterMoments.{grant_later, outcome_later, later_on}
 use Rattle.cam_locks.proofs.laws.secured_along_a_run.Goals as goal
 
 pub returns-clause-grants : goal.returns-clause-grants

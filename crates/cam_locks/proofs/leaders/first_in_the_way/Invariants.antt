@@ -4,7 +4,7 @@ use Rattle.cam_type.specs.declared.Mode.{Mode}
 use Rattle.cam_locks.specs.Moss.{lift_in}
 use Rattle.cam_type.specs.Moss.{is_in_the_way}
 use Rattle.cam_locks.specs.Holding.{has_op, KeepsLeaders}
-use Rattle.cam_locks.proofs.Past.{ArePast}
+use Rattle.cam_locks.proofs.LeadersPassed.{ArePast}
 use Rattle.cam_locks.proofs.leaders.first_in_the_way.Given as goal
 
 abbrev pub invariant-loop-place : goal.invariant-loop-place

@@ -1,7 +1,7 @@
 use Rattle.std.proofs.Common.{List, subst, sym, ◌∙◌}
 use Rattle.cam_locks.specs.declared.LiveOp.{LiveOp}
 use Rattle.cam_locks.specs.Holding.{KeepsLeaders}
-use Rattle.cam_locks.proofs.Tidying.{leaders_running}
+use Rattle.cam_locks.proofs.TidiedLocks.{leaders_running}
 use Rattle.cam_locks.proofs.leaders.make_room.Goals as goal
 
 pub returns-clause-kept : goal.returns-clause-kept

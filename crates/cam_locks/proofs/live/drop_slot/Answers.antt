@@ -4,7 +4,7 @@ use Rattle.std.proofs.lemmas.List.{get_or_default}
 use Rattle.cam_locks.specs.declared.live.Slot.{Slot}
 use Rattle.cam_locks.specs.Live.{live_of, is_live_at, IsPlaceOf, other}
 use Rattle.cam_locks.proofs.Slots.{has_at, not_here, not_past}
-use Rattle.cam_locks.proofs.Dropping.{live_dropped, all_dropped, without_none}
+use Rattle.cam_locks.proofs.DroppedSlots.{live_dropped, all_dropped, without_none}
 use Rattle.cam_locks.proofs.live.drop_slot.Goals as goal
 use Rattle.cam_locks.proofs.live.drop_slot.Goals.{else-place-len-via-then-place-len+else-index, else-place-len-via-else-place-len}
 

@@ -3,8 +3,8 @@ use Rattle.std.proofs.lemmas.Fn.{filter_same}
 use Rattle.cam_locks.specs.declared.live.Slot.{Slot}
 use Rattle.cam_locks.specs.Site.{IndicesRise}
 use Rattle.cam_locks.specs.Live.{all_of, live_of}
-use Rattle.cam_locks.proofs.Dropping.{live_swept}
-use Rattle.cam_locks.proofs.Living.{swept_rise}
+use Rattle.cam_locks.proofs.DroppedSlots.{live_swept}
+use Rattle.cam_locks.proofs.LiveOperations.{swept_rise}
 use Rattle.cam_locks.proofs.live.sweep.Goals as goal
 
 pub returns-clause-live : goal.returns-clause-live

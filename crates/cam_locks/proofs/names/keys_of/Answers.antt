@@ -2,7 +2,7 @@ use Rattle.std.proofs.Common.{true, if◌then◌else◌, Bool, List, take, ap, s
 use Rattle.cam_names.specs.declared.name.Name.{Name}
 use Rattle.cam_names.specs.Names.{name_eq}
 use Rattle.cam_locks.specs.Names.{has_name}
-use Rattle.cam_locks.proofs.Climbing.{more_has}
+use Rattle.cam_locks.proofs.ClimbingLifts.{more_has}
 use Rattle.cam_locks.proofs.Lists.{taken}
 use Rattle.cam_locks.proofs.names.keys_of.Goals as goal
 

@@ -1,4 +1,4 @@
-use Rattle.cam_locks.proofs.Replaying.{replay_further}
+use Rattle.cam_locks.proofs.Replays.{replay_further}
 use Rattle.cam_locks.proofs.operations.replay.Goals as goal
 
 pub loop-operation-preserved : goal.loop-operation-preserved

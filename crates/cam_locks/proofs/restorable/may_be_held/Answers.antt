@@ -1,6 +1,6 @@
 use Rattle.std.proofs.Common.{sym, ◌∙◌}
-use Rattle.cam_locks.proofs.Passing.{not_true, not_false}
-use Rattle.cam_locks.proofs.Rights.{may_further, may_at, index_further}
+use Rattle.cam_locks.proofs.Bools.{not_true, not_false}
+use Rattle.cam_locks.proofs.HeldOperations.{may_further, may_at, index_further}
 use Rattle.cam_locks.proofs.restorable.may_be_held.Goals as goal
 
 pub returns-then-not-is_right : goal.returns-then-not-is_right

@@ -1,5 +1,5 @@
 use Rattle.cam_know.specs.Known.{aborted_name}
-use Rattle.cam_locks.proofs.Restoring.{names_further}
+use Rattle.cam_locks.proofs.RestoredLists.{names_further}
 use Rattle.cam_locks.proofs.restore.aborted_names.Goals as goal
 
 pub loop-outcome-preserved : goal.loop-outcome-preserved

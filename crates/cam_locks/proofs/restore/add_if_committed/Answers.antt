@@ -4,7 +4,7 @@ use Rattle.cam_names.specs.declared.name.Name.{Name}
 use Rattle.cam_know.specs.declared.Outcome.{Outcome}
 use Rattle.cam_know.specs.Known.{committed_name}
 use Rattle.cam_locks.specs.Names.{with_name, once}
-use Rattle.cam_locks.proofs.Restoring.{once_more}
+use Rattle.cam_locks.proofs.RestoredLists.{once_more}
 use Rattle.cam_locks.proofs.restore.add_if_committed.Goals as goal
 
 pub returns-in-Committed : goal.returns-in-Committed

@@ -2,7 +2,7 @@ use Rattle.std.proofs.Common.{List, ◌++◌, ap, ◌∙◌, subst, rules}
 use Rattle.std.specs.List.Sorted.{IsPermutation}
 use Rattle.std.proofs.lemmas.List.Sorted.{IsNonDecreasingBy-from_sort_by_key}
 use Rattle.cam_locks.specs.declared.LiveOp.{LiveOp}
-use Rattle.cam_locks.proofs.Ordering.{sorted_in_order}
+use Rattle.cam_locks.proofs.SortedOperations.{sorted_in_order}
 use Rattle.cam_locks.proofs.restore.in_order.Goals as goal
 
 pub returns : goal.returns

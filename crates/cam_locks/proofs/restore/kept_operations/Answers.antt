@@ -1,4 +1,4 @@
-use Rattle.cam_locks.proofs.Restoring.{kept_further}
+use Rattle.cam_locks.proofs.RestoredLists.{kept_further}
 use Rattle.cam_locks.proofs.restore.kept_operations.Goals as goal
 
 pub loop-family-preserved : goal.loop-family-preserved

@@ -1,7 +1,7 @@
 use Rattle.std.proofs.Common.{ℕ, List, max, ap, ◌∙◌, sym, subst}
 use Rattle.cam_type.specs.declared.HeldOp.{HeldOp}
 use Rattle.cam_locks.specs.Restored.{InRange, next_of}
-use Rattle.cam_locks.proofs.Restoring.{in_range_of, next_family}
+use Rattle.cam_locks.proofs.RestoredLists.{in_range_of, next_family}
 use Rattle.cam_locks.proofs.restore.next_of.Goals as goal
 
 pub next_over-next-requires-clause-ops : goal.next_over-next-requires-clause-ops

@@ -1,5 +1,5 @@
 use Rattle.std.proofs.Common.{arith, max, ap, ◌∙◌}
-use Rattle.cam_locks.proofs.Restoring.{in_range_at, next_further}
+use Rattle.cam_locks.proofs.RestoredLists.{in_range_at, next_further}
 use Rattle.cam_locks.proofs.restore.next_over.Goals as goal
 
 pub after-requires : goal.after-requires

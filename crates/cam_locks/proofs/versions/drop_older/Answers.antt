@@ -4,8 +4,8 @@ use Rattle.cam_locks.specs.Holding.{KeepsVersions}
 use Rattle.cam_locks.specs.Changes.{is_outdated}
 use Rattle.std.proofs.lemmas.List.{append-nil}
 use Rattle.cam_locks.specs.Kinds.{AreOfKind}
-use Rattle.cam_locks.proofs.SameKind.{kinds_left}
-use Rattle.cam_locks.proofs.Tidying.{versions_drop_before}
+use Rattle.cam_locks.proofs.KindLaws.{kinds_left}
+use Rattle.cam_locks.proofs.TidiedLocks.{versions_drop_before}
 use Rattle.cam_locks.proofs.versions.drop_older.Goals as goal
 
 pub returns-then-not-is_outdated-clause-kept : goal.returns-then-not-is_outdated-clause-kept

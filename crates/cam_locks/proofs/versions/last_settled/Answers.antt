@@ -1,6 +1,6 @@
 use Rattle.std.proofs.Common.{◌≡◌, ◌-◌, ℕ, drop, suc, true, None, sym, subst, ◌∙◌, arith}
 use Rattle.cam_locks.specs.Changes.{is_current, last_current}
-use Rattle.cam_locks.proofs.Current.{current_found}
+use Rattle.cam_locks.proofs.LastVersions.{current_found}
 use Rattle.cam_locks.proofs.versions.last_settled.Goals as goal
 
 pub returns-then-is_settled : goal.returns-then-is_settled

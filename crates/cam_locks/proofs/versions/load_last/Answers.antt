@@ -3,8 +3,8 @@ use Rattle.std.proofs.lemmas.Result.{IfOk-equal}
 use Rattle.cam_type.specs.Table.{kind_of}
 use Rattle.cam_locks.specs.declared.versions.Version.{Version}
 use Rattle.cam_locks.specs.Changes.{last_state}
-use Rattle.cam_locks.proofs.SameKind.{kind_at}
-use Rattle.cam_locks.proofs.Writing.{state_at}
+use Rattle.cam_locks.proofs.KindLaws.{kind_at}
+use Rattle.cam_locks.proofs.NewestVersions.{state_at}
 use Rattle.cam_locks.proofs.versions.load_last.Goals as goal
 
 pub load-requires : goal.load-requires

@@ -3,9 +3,9 @@ use Rattle.cam_locks.specs.declared.versions.Version.{Version}
 use Rattle.cam_locks.specs.Holding.{KeepsVersions, has_op}
 use Rattle.std.proofs.lemmas.List.{append-nil}
 use Rattle.cam_locks.specs.Kinds.{AreOfKind}
-use Rattle.cam_locks.proofs.SameKind.{kinds_left, kinds_fewer}
-use Rattle.cam_locks.proofs.Tidying.{versions_drop_last}
-use Rattle.cam_locks.proofs.Writing.{last_live, last_live_none}
+use Rattle.cam_locks.proofs.KindLaws.{kinds_left, kinds_fewer}
+use Rattle.cam_locks.proofs.TidiedLocks.{versions_drop_last}
+use Rattle.cam_locks.proofs.NewestVersions.{last_live, last_live_none}
 use Rattle.cam_locks.proofs.versions.tidy.Goals as goal
 
 pub returns-then-has-clause-kept : goal.returns-then-has-clause-kept

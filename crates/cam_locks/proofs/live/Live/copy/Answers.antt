@@ -1,7 +1,7 @@
 use Rattle.std.proofs.Common.{ℕ, List, sym, subst, ◌∙◌, arith}
 use Rattle.cam_locks.specs.declared.LiveOp.{LiveOp}
 use Rattle.cam_locks.specs.Site.{IndicesRise}
-use Rattle.cam_locks.proofs.Rising.{rise_at}
+use Rattle.cam_locks.proofs.Indices.{rise_at}
 use Rattle.cam_locks.proofs.live.Live.copy.Goals as goal
 
 pub loop-operation-init : goal.loop-operation-init

@@ -1,5 +1,5 @@
 use Rattle.std.proofs.Common.{◌≡◌, ◌<◌, nat_eq, false, length, sym, ◌∙◌, arith}
-use Rattle.cam_locks.proofs.Kin.{some_of, none_of}
+use Rattle.cam_locks.proofs.Families.{some_of, none_of}
 use Rattle.cam_locks.proofs.live.Live.has_family.Goals as goal
 
 pub returns-then-depth-eq1 : goal.returns-then-depth-eq1

@@ -1,5 +1,5 @@
 use Rattle.std.proofs.Common.{◌<◌, length, ◌∙◌, arith}
-use Rattle.cam_locks.proofs.Kin.{no_family}
+use Rattle.cam_locks.proofs.Families.{no_family}
 use Rattle.cam_locks.proofs.live.Live.of_family.Goals as goal
 
 pub returns-then-depth-gt1 : goal.returns-then-depth-gt1

@@ -1,4 +1,4 @@
-use Rattle.cam_locks.proofs.Placing.{not_before_itself}
+use Rattle.cam_locks.proofs.PlacedOrder.{not_before_itself}
 use Rattle.cam_locks.proofs.NextBelow.{nothing_below}
 use Rattle.cam_locks.proofs.live.Live.one_below.Goals as goal
 

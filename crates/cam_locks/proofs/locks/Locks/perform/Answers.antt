@@ -1,18 +1,18 @@
-use Rattle.std.proofs.Common.{List, ℤ, sym, ap, subst, refl, ◌∙◌}
+use Rattle.std.proofs.Common.{sym, subst, refl, ◌∙◌}
 use Rattle.std.specs.Prelude.{filter}
-use Rattle.std.specs.Int.{w64, cast_signed, cast_unsigned}
 use Rattle.cam_type.specs.Table.{kind_of, state_after, answer_of}
-use Rattle.cam_locks.specs.declared.versions.Version.{Version}
+use Rattle.cam_type.specs.declared.State.{State}
+use Rattle.cam_locks.specs.contracts.locks.Locks.{the_view}
 use Rattle.cam_locks.specs.Moss.{is_on}
 use Rattle.cam_locks.specs.Holding.{LocksView}
 use Rattle.cam_locks.specs.Kinds.{AreOfKind}
-use Rattle.cam_locks.specs.Changes.{met, Tidied, IsDone}
+use Rattle.cam_locks.specs.Changes.{Tidied, IsDone}
 use Rattle.cam_locks.specs.Served.{IsServed}
-use Rattle.cam_locks.proofs.Serving.{is_served}
-use Rattle.cam_locks.proofs.Summing.{sum_reads}
-use Rattle.cam_locks.proofs.Passing.{any_err}
-use Rattle.cam_locks.proofs.SameKind.{kinds_written}
-use Rattle.cam_locks.proofs.Doing.{same, not_done, done_read, done_write, done_add}
+use Rattle.cam_locks.proofs.ServedStates.{is_served}
+use Rattle.cam_locks.proofs.MetStates.{met_read}
+use Rattle.cam_locks.proofs.Bools.{any_err}
+use Rattle.cam_locks.proofs.KindLaws.{kinds_written}
+use Rattle.cam_locks.proofs.AddedLocks.{same, not_done, done_read, done_write, done_add}
 use Rattle.cam_locks.proofs.locks.Locks.perform.Goals as goal
 
 pub invariant_of-self : goal.invariant_of-self
@@ -24,7 +24,7 @@ returns-in_err-make_room-in-Read-clause-err g c =
     let ns = c.args.committed.now.names in
     let os = c.args.live.now.ops in
     let t = c.self.inside in
-    let old : LocksView = record { start = t.start; readers = t.readers.items; writers = t.writers.items; adders = t.adders.items; versions = t.versions.items; stale = t.stale } in
+    let old : LocksView = the_view t in
     any_err c.from_residual.result (Tidied ns os c.args.self.now (record old { readers = c.make_room.new.leaders.items; versions = c.tidy.new.versions.items }))
     (subst (λ (v : LocksView). Tidied ns os v (record old { readers = c.make_room.new.leaders.items; versions = c.tidy.new.versions.items })) c.self.view_is
     (not_done ns os old (c.make_room.new.leaders.items) t.writers.items t.adders.items c.tidy.new.versions.items c.tidy.new.versions.items c.tidy.ensures.kept c.make_room.ensures.kept (same ns os t.writers.items) (same ns os t.adders.items) refl))
@@ -42,7 +42,7 @@ returns-in_err-answer-in-Read-clause-err g c =
     let ns = c.args.committed.now.names in
     let os = c.args.live.now.ops in
     let t = c.self.inside in
-    let old : LocksView = record { start = t.start; readers = t.readers.items; writers = t.writers.items; adders = t.adders.items; versions = t.versions.items; stale = t.stale } in
+    let old : LocksView = the_view t in
     any_err c.from_residual-in_err-answer-in-Read.result (Tidied ns os c.args.self.now (record old { readers = c.make_room.new.leaders.items; versions = c.tidy.new.versions.items }))
     (subst (λ (v : LocksView). Tidied ns os v (record old { readers = c.make_room.new.leaders.items; versions = c.tidy.new.versions.items })) c.self.view_is
     (not_done ns os old (c.make_room.new.leaders.items) t.writers.items t.adders.items c.tidy.new.versions.items c.tidy.new.versions.items c.tidy.ensures.kept c.make_room.ensures.kept (same ns os t.writers.items) (same ns os t.adders.items) refl))
@@ -57,15 +57,12 @@ returns-in_ok-answer-in-Read-clause-done g c =
     let os = c.args.live.now.ops in
     let o = c.args.operation.now in
     let t = c.self.inside in
-    let old : LocksView = record { start = t.start; readers = t.readers.items; writers = t.writers.items; adders = t.adders.items; versions = t.versions.items; stale = t.stale } in
-    let answer = c.in_ok-answer-in-Read.answer in
-    subst (λ (v : LocksView). IsDone ns os o answer v (record old { readers = c.add.new.leaders.items; versions = c.tidy.new.versions.items })) c.self.view_is
-    (done_read ns os o answer old c.make_room.new.leaders.items c.add.new.leaders.items c.tidy.new.versions.items (sym c.mode_of.ensures ∙ c.in-Read.is)
+    let old : LocksView = the_view t in
+    subst (λ (v : LocksView). IsDone ns os o c.in_ok-answer-in-Read.answer v (record old { readers = c.add.new.leaders.items; versions = c.tidy.new.versions.items })) c.self.view_is
+    (done_read ns os o c.in_ok-answer-in-Read.answer old c.make_room.new.leaders.items c.add.new.leaders.items c.tidy.new.versions.items (sym c.mode_of.ensures ∙ c.in-Read.is)
     c.keep_range.ensures c.make_room.ensures.kept c.tidy.ensures.kept c.tidy.ensures.last
     (c.in_ok-answer-in-Read.ensures.answer
-    ∙ ap (λ (vs : List Version). answer_of (met t.start vs (cast_signed w64 (cast_unsigned w64 c.sum-sum.result))) o.op) c.as_slice.ensures.value
-    ∙ ap (λ (k : ℤ). answer_of (met t.start c.tidy.new.versions.items (cast_signed w64 (cast_unsigned w64 k))) o.op) c.sum-sum.ensures
-    ∙ ap (λ (k : ℤ). answer_of (met t.start c.tidy.new.versions.items k) o.op) (sum_reads (filter (is_on o.object) os))) c.add.ensures)
+    ∙ met_read (λ (s : State). answer_of s o.op) t.start c.tidy.new.versions.items _ (filter (is_on o.object) os) _ c.as_slice.ensures.value c.sum-sum.ensures) c.add.ensures)
 
 pub invariant_of-self-in_err-make_room-in-Write : goal.invariant_of-self-in_err-make_room-in-Write
 invariant_of-self-in_err-make_room-in-Write g c =
@@ -76,7 +73,7 @@ returns-in_err-make_room-in-Write-clause-err g c =
     let ns = c.args.committed.now.names in
     let os = c.args.live.now.ops in
     let t = c.self.inside in
-    let old : LocksView = record { start = t.start; readers = t.readers.items; writers = t.writers.items; adders = t.adders.items; versions = t.versions.items; stale = t.stale } in
+    let old : LocksView = the_view t in
     any_err c.from_residual-in_err-make_room-in-Write.result (Tidied ns os c.args.self.now (record old { writers = c.make_room-in-Write.new.leaders.items; versions = c.tidy.new.versions.items }))
     (subst (λ (v : LocksView). Tidied ns os v (record old { writers = c.make_room-in-Write.new.leaders.items; versions = c.tidy.new.versions.items })) c.self.view_is
     (not_done ns os old t.readers.items (c.make_room-in-Write.new.leaders.items) t.adders.items c.tidy.new.versions.items c.tidy.new.versions.items c.tidy.ensures.kept (same ns os t.readers.items) c.make_room-in-Write.ensures.kept (same ns os t.adders.items) refl))
@@ -94,7 +91,7 @@ returns-in_err-answer-in-Write-clause-err g c =
     let ns = c.args.committed.now.names in
     let os = c.args.live.now.ops in
     let t = c.self.inside in
-    let old : LocksView = record { start = t.start; readers = t.readers.items; writers = t.writers.items; adders = t.adders.items; versions = t.versions.items; stale = t.stale } in
+    let old : LocksView = the_view t in
     any_err c.from_residual-in_err-answer-in-Write.result (Tidied ns os c.args.self.now (record old { writers = c.make_room-in-Write.new.leaders.items; versions = c.write.new.versions.items }))
     (subst (λ (v : LocksView). Tidied ns os v (record old { writers = c.make_room-in-Write.new.leaders.items; versions = c.write.new.versions.items })) c.self.view_is
     (not_done ns os old t.readers.items (c.make_room-in-Write.new.leaders.items) t.adders.items c.tidy.new.versions.items c.write.new.versions.items c.tidy.ensures.kept (same ns os t.readers.items) c.make_room-in-Write.ensures.kept (same ns os t.adders.items) c.in_err-answer-in-Write.ensures.err))
@@ -111,14 +108,12 @@ returns-in_ok-answer-in-Write-clause-done g c =
     let os = c.args.live.now.ops in
     let o = c.args.operation.now in
     let t = c.self.inside in
-    let old : LocksView = record { start = t.start; readers = t.readers.items; writers = t.writers.items; adders = t.adders.items; versions = t.versions.items; stale = t.stale } in
-    let answer = c.in_ok-answer-in-Write.answer in
-    subst (λ (v : LocksView). IsDone ns os o answer v (record old { writers = c.add-in-Write.new.leaders.items; versions = c.write.new.versions.items })) c.self.view_is
-    (done_write ns os o answer old c.make_room-in-Write.new.leaders.items c.add-in-Write.new.leaders.items c.tidy.new.versions.items c.write.new.versions.items (sym c.mode_of.ensures ∙ c.in-Write.is)
+    let old : LocksView = the_view t in
+    subst (λ (v : LocksView). IsDone ns os o c.in_ok-answer-in-Write.answer v (record old { writers = c.add-in-Write.new.leaders.items; versions = c.write.new.versions.items })) c.self.view_is
+    (done_write ns os o c.in_ok-answer-in-Write.answer old c.make_room-in-Write.new.leaders.items c.add-in-Write.new.leaders.items c.tidy.new.versions.items c.write.new.versions.items (sym c.mode_of.ensures ∙ c.in-Write.is)
     c.keep_range.ensures c.make_room-in-Write.ensures.kept c.tidy.ensures.kept c.tidy.ensures.last
     (c.in_ok-answer-in-Write.ensures.answer
-    ∙ ap (λ (k : ℤ). answer_of (met t.start c.tidy.new.versions.items (cast_signed w64 (cast_unsigned w64 k))) o.op) c.sum-sum.ensures
-    ∙ ap (λ (k : ℤ). answer_of (met t.start c.tidy.new.versions.items k) o.op) (sum_reads (filter (is_on o.object) os))) c.in_ok-answer-in-Write.ensures.ok c.add-in-Write.ensures)
+    ∙ met_read (λ (s : State). answer_of s o.op) t.start c.tidy.new.versions.items c.tidy.new.versions.items (filter (is_on o.object) os) _ refl c.sum-sum.ensures) c.in_ok-answer-in-Write.ensures.ok c.add-in-Write.ensures)
 
 pub invariant_of-self-in_err-make_room-in-Add : goal.invariant_of-self-in_err-make_room-in-Add
 invariant_of-self-in_err-make_room-in-Add g c =
@@ -129,7 +124,7 @@ returns-in_err-make_room-in-Add-clause-err g c =
     let ns = c.args.committed.now.names in
     let os = c.args.live.now.ops in
     let t = c.self.inside in
-    let old : LocksView = record { start = t.start; readers = t.readers.items; writers = t.writers.items; adders = t.adders.items; versions = t.versions.items; stale = t.stale } in
+    let old : LocksView = the_view t in
     any_err c.from_residual-in_err-make_room-in-Add.result (Tidied ns os c.args.self.now (record old { adders = c.make_room-in-Add.new.leaders.items; versions = c.tidy.new.versions.items }))
     (subst (λ (v : LocksView). Tidied ns os v (record old { adders = c.make_room-in-Add.new.leaders.items; versions = c.tidy.new.versions.items })) c.self.view_is
     (not_done ns os old t.readers.items t.writers.items (c.make_room-in-Add.new.leaders.items) c.tidy.new.versions.items c.tidy.new.versions.items c.tidy.ensures.kept (same ns os t.readers.items) (same ns os t.writers.items) c.make_room-in-Add.ensures.kept refl))
@@ -147,7 +142,7 @@ returns-in_err-answer-in-Add-clause-err g c =
     let ns = c.args.committed.now.names in
     let os = c.args.live.now.ops in
     let t = c.self.inside in
-    let old : LocksView = record { start = t.start; readers = t.readers.items; writers = t.writers.items; adders = t.adders.items; versions = t.versions.items; stale = t.stale } in
+    let old : LocksView = the_view t in
     any_err c.from_residual-in_err-answer-in-Add.result (Tidied ns os c.args.self.now (record old { adders = c.make_room-in-Add.new.leaders.items; versions = c.tidy.new.versions.items }))
     (subst (λ (v : LocksView). Tidied ns os v (record old { adders = c.make_room-in-Add.new.leaders.items; versions = c.tidy.new.versions.items })) c.self.view_is
     (not_done ns os old t.readers.items t.writers.items (c.make_room-in-Add.new.leaders.items) c.tidy.new.versions.items c.tidy.new.versions.items c.tidy.ensures.kept (same ns os t.readers.items) (same ns os t.writers.items) c.make_room-in-Add.ensures.kept refl))
@@ -162,15 +157,12 @@ returns-in_ok-answer-in-Add-clause-done g c =
     let os = c.args.live.now.ops in
     let o = c.args.operation.now in
     let t = c.self.inside in
-    let old : LocksView = record { start = t.start; readers = t.readers.items; writers = t.writers.items; adders = t.adders.items; versions = t.versions.items; stale = t.stale } in
-    let answer = c.in_ok-answer-in-Add.answer in
-    subst (λ (v : LocksView). IsDone ns os o answer v (record old { adders = c.add-in-Add.new.leaders.items; versions = c.tidy.new.versions.items })) c.self.view_is
-    (done_add ns os o answer old c.make_room-in-Add.new.leaders.items c.add-in-Add.new.leaders.items c.tidy.new.versions.items (sym c.mode_of.ensures ∙ c.in-Add.is)
+    let old : LocksView = the_view t in
+    subst (λ (v : LocksView). IsDone ns os o c.in_ok-answer-in-Add.answer v (record old { adders = c.add-in-Add.new.leaders.items; versions = c.tidy.new.versions.items })) c.self.view_is
+    (done_add ns os o c.in_ok-answer-in-Add.answer old c.make_room-in-Add.new.leaders.items c.add-in-Add.new.leaders.items c.tidy.new.versions.items (sym c.mode_of.ensures ∙ c.in-Add.is)
     c.keep_range.ensures c.make_room-in-Add.ensures.kept c.tidy.ensures.kept c.tidy.ensures.last
     (c.in_ok-answer-in-Add.ensures.answer
-    ∙ ap (λ (vs : List Version). answer_of (met t.start vs (cast_signed w64 (cast_unsigned w64 c.sum-sum.result))) o.op) c.as_slice-in-Add.ensures.value
-    ∙ ap (λ (k : ℤ). answer_of (met t.start c.tidy.new.versions.items (cast_signed w64 (cast_unsigned w64 k))) o.op) c.sum-sum.ensures
-    ∙ ap (λ (k : ℤ). answer_of (met t.start c.tidy.new.versions.items k) o.op) (sum_reads (filter (is_on o.object) os))) c.add-in-Add.ensures)
+    ∙ met_read (λ (s : State). answer_of s o.op) t.start c.tidy.new.versions.items _ (filter (is_on o.object) os) _ c.as_slice-in-Add.ensures.value c.sum-sum.ensures) c.add-in-Add.ensures)
 
 pub returns-in_ok-answer-in-Read-clause-served : goal.returns-in_ok-answer-in-Read-clause-served
 returns-in_ok-answer-in-Read-clause-served g c =
@@ -178,13 +170,11 @@ returns-in_ok-answer-in-Read-clause-served g c =
     let os = c.args.live.now.ops in
     let o = c.args.operation.now in
     let t = c.self.inside in
-    let old : LocksView = record { start = t.start; readers = t.readers.items; writers = t.writers.items; adders = t.adders.items; versions = t.versions.items; stale = t.stale } in
+    let old : LocksView = the_view t in
     subst (λ (v : LocksView). IsServed ns os o (g.T.DataType.held c.serve.new.server) v) c.self.view_is
     (is_served ns os o (g.T.DataType.held c.serve.new.server) old c.tidy.new.versions.items c.keep_range.ensures c.tidy.ensures.kept c.tidy.ensures.last
     (c.in_ok-answer-in-Read.ensures.after
-    ∙ ap (λ (vs : List Version). state_after (met t.start vs (cast_signed w64 (cast_unsigned w64 c.sum-sum.result))) o.op) c.as_slice.ensures.value
-    ∙ ap (λ (k : ℤ). state_after (met t.start c.tidy.new.versions.items (cast_signed w64 (cast_unsigned w64 k))) o.op) c.sum-sum.ensures
-    ∙ ap (λ (k : ℤ). state_after (met t.start c.tidy.new.versions.items k) o.op) (sum_reads (filter (is_on o.object) os))))
+    ∙ met_read (λ (s : State). state_after s o.op) t.start c.tidy.new.versions.items _ (filter (is_on o.object) os) _ c.as_slice.ensures.value c.sum-sum.ensures))
 
 pub returns-in_ok-answer-in-Write-clause-served : goal.returns-in_ok-answer-in-Write-clause-served
 returns-in_ok-answer-in-Write-clause-served g c =
@@ -192,12 +182,11 @@ returns-in_ok-answer-in-Write-clause-served g c =
     let os = c.args.live.now.ops in
     let o = c.args.operation.now in
     let t = c.self.inside in
-    let old : LocksView = record { start = t.start; readers = t.readers.items; writers = t.writers.items; adders = t.adders.items; versions = t.versions.items; stale = t.stale } in
+    let old : LocksView = the_view t in
     subst (λ (v : LocksView). IsServed ns os o (g.T.DataType.held c.write.new.server) v) c.self.view_is
     (is_served ns os o (g.T.DataType.held c.write.new.server) old c.tidy.new.versions.items c.keep_range.ensures c.tidy.ensures.kept c.tidy.ensures.last
     (c.in_ok-answer-in-Write.ensures.after
-    ∙ ap (λ (k : ℤ). state_after (met t.start c.tidy.new.versions.items (cast_signed w64 (cast_unsigned w64 k))) o.op) c.sum-sum.ensures
-    ∙ ap (λ (k : ℤ). state_after (met t.start c.tidy.new.versions.items k) o.op) (sum_reads (filter (is_on o.object) os))))
+    ∙ met_read (λ (s : State). state_after s o.op) t.start c.tidy.new.versions.items c.tidy.new.versions.items (filter (is_on o.object) os) _ refl c.sum-sum.ensures))
 
 pub returns-in_ok-answer-in-Add-clause-served : goal.returns-in_ok-answer-in-Add-clause-served
 returns-in_ok-answer-in-Add-clause-served g c =
@@ -205,10 +194,8 @@ returns-in_ok-answer-in-Add-clause-served g c =
     let os = c.args.live.now.ops in
     let o = c.args.operation.now in
     let t = c.self.inside in
-    let old : LocksView = record { start = t.start; readers = t.readers.items; writers = t.writers.items; adders = t.adders.items; versions = t.versions.items; stale = t.stale } in
+    let old : LocksView = the_view t in
     subst (λ (v : LocksView). IsServed ns os o (g.T.DataType.held c.serve-in-Add.new.server) v) c.self.view_is
     (is_served ns os o (g.T.DataType.held c.serve-in-Add.new.server) old c.tidy.new.versions.items c.keep_range.ensures c.tidy.ensures.kept c.tidy.ensures.last
     (c.in_ok-answer-in-Add.ensures.after
-    ∙ ap (λ (vs : List Version). state_after (met t.start vs (cast_signed w64 (cast_unsigned w64 c.sum-sum.result))) o.op) c.as_slice-in-Add.ensures.value
-    ∙ ap (λ (k : ℤ). state_after (met t.start c.tidy.new.versions.items (cast_signed w64 (cast_unsigned w64 k))) o.op) c.sum-sum.ensures
-    ∙ ap (λ (k : ℤ). state_after (met t.start c.tidy.new.versions.items k) o.op) (sum_reads (filter (is_on o.object) os))))
+    ∙ met_read (λ (s : State). state_after s o.op) t.start c.tidy.new.versions.items _ (filter (is_on o.object) os) _ c.as_slice-in-Add.ensures.value c.sum-sum.ensures))

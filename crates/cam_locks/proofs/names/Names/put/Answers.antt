@@ -4,7 +4,7 @@ use Rattle.std.specs.HashSet.{spare}
 use Rattle.cam_names.specs.declared.name.Name.{Name}
 use Rattle.cam_names.specs.Names.{name_eq}
 use Rattle.cam_locks.specs.Names.{NamesView, has_name}
-use Rattle.cam_locks.proofs.Climbing.{more_has}
+use Rattle.cam_locks.proofs.ClimbingLifts.{more_has}
 use Rattle.cam_locks.proofs.names.Names.put.Goals as goal
 
 on_ok : {T E : Type 0} (r : Result T E) (P : Type 0) → IsOk r → OnOk r P → P

@@ -2,15 +2,15 @@ use Rattle.std.proofs.Common.{List, subst, sym}
 use Rattle.cam_names.specs.declared.name.Name.{Name}
 use Rattle.cam_locks.specs.Names.{with_name}
 use Rattle.cam_locks.specs.Holding.{AllLocks}
-use Rattle.cam_locks.proofs.Climbing.{with_name_more}
-use Rattle.cam_locks.proofs.AllKept.{all_commit}
+use Rattle.cam_locks.proofs.ClimbingLifts.{with_name_more}
+use Rattle.cam_locks.proofs.AllLocks.{all_commit}
 use Rattle.cam_locks.proofs.table.LockTable.commit.Goals as goal
 
 pub invariant_of-self : goal.invariant_of-self
 invariant_of-self c =
     let t = c.self.inside in (
-      subst (λ (ns : List Name). AllLocks t.objects ns t.live.ops t.live.next t.locks.items) (sym c.put.ensures.names)
-          (all_commit t.objects t.committed.names (with_name t.committed.names c.args.name.now) t.live.ops t.live.next t.locks.items
-          (with_name_more t.committed.names c.args.name.now) c.self.invariant.0),
+      subst (λ (ns : List Name). AllLocks t.kept.objects ns t.kept.live.ops t.kept.live.next t.kept.locks.items) (sym c.put.ensures.names)
+          (all_commit t.kept.objects t.kept.committed.names (with_name t.kept.committed.names c.args.name.now) t.kept.live.ops t.kept.live.next t.kept.locks.items
+          (with_name_more t.kept.committed.names c.args.name.now) c.self.invariant.0),
       c.self.invariant.1,
     )

@@ -2,7 +2,7 @@ use Rattle.std.proofs.Common.{List, map, ap, sym, subst, ◌∙◌}
 use Rattle.cam_type.specs.declared.ObjectDecl.{ObjectDecl}
 use Rattle.cam_locks.specs.Site.{AreFit}
 use Rattle.cam_locks.specs.Holding.{fresh}
-use Rattle.cam_locks.proofs.AllKept.{all_fresh}
+use Rattle.cam_locks.proofs.AllLocks.{all_fresh}
 use Rattle.cam_locks.proofs.table.LockTable.informed.Goals as goal
 
 pub invariant_of-result : goal.invariant_of-result

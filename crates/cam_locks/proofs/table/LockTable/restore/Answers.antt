@@ -4,10 +4,10 @@ use Rattle.cam_type.specs.declared.Held.{Held}
 use Rattle.cam_locks.specs.declared.LiveOp.{LiveOp}
 use Rattle.cam_locks.specs.Site.{Site, IndicesRise, AreFit}
 use Rattle.cam_locks.specs.Restored.{InRange, EachOnce, all_held, ops_of, in_order, next_of}
-use Rattle.cam_locks.proofs.Fitting.{fit_ordered}
-use Rattle.cam_locks.proofs.Rights.{fit_kept}
-use Rattle.cam_locks.proofs.Restoring.{in_range}
-use Rattle.cam_locks.proofs.Held.{once_kept, restored_rise}
+use Rattle.cam_locks.proofs.Fits.{fit_ordered}
+use Rattle.cam_locks.proofs.HeldOperations.{fit_kept}
+use Rattle.cam_locks.proofs.RestoredLists.{in_range}
+use Rattle.cam_locks.proofs.HeldIndices.{once_kept, restored_rise}
 use Rattle.cam_locks.proofs.table.LockTable.restore.Goals as goal
 
 pub in_order-requires : goal.in_order-requires

@@ -5,8 +5,8 @@ use Rattle.cam_locks.specs.declared.LiveOp.{LiveOp}
 use Rattle.cam_locks.specs.Site.{Site, TableView, IndicesRise, AreFit}
 use Rattle.cam_locks.specs.Calls.{is_of, held_op}
 use Rattle.cam_locks.specs.Secured.{IsWellFormed}
-use Rattle.cam_locks.proofs.Passing.{kept_once}
-use Rattle.cam_locks.proofs.Securing.{can_restore}
+use Rattle.cam_locks.proofs.Bools.{kept_once}
+use Rattle.cam_locks.proofs.SecuredRuns.{can_restore}
 use Rattle.cam_locks.proofs.table.LockTable.secure.Goals as goal
 
 pub returns-clause-held : goal.returns-clause-held
@@ -15,7 +15,7 @@ returns-clause-held c =
     ap (λ (ops : List HeldOp). record { family = f; count = c.args.count; ops = ops })
     (c.in_ok-ops.ensures
     ∙ ap (λ (os : List LiveOp). map held_op (filter (is_of f) os)) (c.as_slice.ensures.value ∙ c.in_ok-live.ensures)
-    ∙ ap (map held_op) (kept_once (is_of f) c.self.inside.live.ops ∙ ap (λ v. filter (is_of f) v.site.live) c.self.view_is))
+    ∙ ap (map held_op) (kept_once (is_of f) c.self.inside.kept.live.ops ∙ ap (λ v. filter (is_of f) v.site.live) c.self.view_is))
 
 -- whatever the call answers, what is seen of the table is well formed
 seen_well_formed : (site : Site) (spare n : ℕ) (seen : TableView) → record { site = site; spare = spare } ≡ seen

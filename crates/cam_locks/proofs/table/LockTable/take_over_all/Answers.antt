@@ -1,7 +1,7 @@
 use Rattle.std.proofs.Common.{◌≡◌, true, sym, subst, arith}
 use Rattle.cam_locks.specs.Site.{Site, fits_here}
-use Rattle.cam_locks.proofs.Rising.{rise_at}
-use Rattle.cam_locks.proofs.Fitting.{fit_at}
+use Rattle.cam_locks.proofs.Indices.{rise_at}
+use Rattle.cam_locks.proofs.Fits.{fit_at}
 use Rattle.cam_locks.proofs.table.LockTable.take_over_all.Goals as goal
 
 pub take_over-requires-clause-index : goal.take_over-requires-clause-index
