@@ -1,5 +1,5 @@
 -- What is told and not known is the news, and to join the news is to join all.
-use Rattle.std.proofs.Common.{inl, inr, ◌≡◌, ℕ, true, not, List, [], ◌∷◌, ◌++◌, Result, Ok, Err, IfOk, refl, ap, ap₂, ◌∙◌, sym, arith}
+use Rattle.std.proofs.Common.{inl, inr, ◌≡◌, ℕ, true, not, List, [], ◌∷◌, ◌++◌, Result, Ok, Err, IfOk, refl, ap, ap₂, ◌∙◌, sym}
 use Rattle.std.specs.List.{list_any}
 use Rattle.std.proofs.lemmas.Bool.{cases_Bool, or_left, or_right}
 use Rattle.std.proofs.lemmas.List.Elements.{filter-append}

@@ -62,7 +62,8 @@ impl Commits {
     /// One more outcome, for which there is room, so that no memory is wanted.
     fn note(&mut self, outcome: &Outcome)
         requires { 1 ≤ commits_room self.old }
-        ensures value { (c : CommitValue) → has_commit self.new c ≡ (has_commit self.old c || is_commit c outcome.now) }
+        ensures value { (c : CommitValue) →
+            has_commit self.new c ≡ (has_commit self.old c || is_commit c outcome.now) }
         ensures room { commits_room self.old ≤ commits_room self.new + 1 }
     {
         if let Outcome::Committed(name, deps) = outcome {
@@ -73,7 +74,8 @@ impl Commits {
     /// These outcomes, for which there is room.
     pub(crate) fn note_all(&mut self, outcomes: &[Outcome])
         requires { length outcomes.now ≤ commits_room self.old }
-        ensures { (c : CommitValue) → has_commit self.new c ≡ (has_commit self.old c || list_any (is_commit c) outcomes.now) }
+        ensures { (c : CommitValue) →
+            has_commit self.new c ≡ (has_commit self.old c || list_any (is_commit c) outcomes.now) }
     {
         for outcome in outcomes {
             self.note(outcome);

@@ -94,7 +94,8 @@ impl Index {
     /// Changes the entry of an action. There is room for it, so that no memory is wanted.
     fn set(&mut self, name: &Name, entry: &Entry)
         requires { 1 ≤ index_room self.old }
-        ensures value { (a : NameValue) → entry_at self.new a ≡ (if name_eq name.now a then entry.now else entry_at self.old a) }
+        ensures value { (a : NameValue) →
+            entry_at self.new a ≡ (if name_eq name.now a then entry.now else entry_at self.old a) }
         ensures room { index_room self.old ≤ index_room self.new + 1 }
     {
         let _ = self.entries.insert(*name, *entry);
@@ -103,7 +104,8 @@ impl Index {
     /// One more outcome. It changes at most two entries, for which there is room.
     fn note(&mut self, outcome: &Outcome)
         requires { 2 ≤ index_room self.old }
-        ensures value { (os : List OutcomeValue) → IsIndexOf os self.old → IsIndexOf (os ++ outcome.now ∷ []) self.new }
+        ensures value { (os : List OutcomeValue) →
+            IsIndexOf os self.old → IsIndexOf (os ++ outcome.now ∷ []) self.new }
         ensures room { index_room self.old ≤ index_room self.new + 2 }
     {
         match outcome {
@@ -120,7 +122,8 @@ impl Index {
     /// These outcomes in turn, for which there is room.
     pub(crate) fn note_all(&mut self, outcomes: &[Outcome])
         requires { 2 * length outcomes.now ≤ index_room self.old }
-        ensures { (os : List OutcomeValue) → IsIndexOf os self.old → IsIndexOf (os ++ outcomes.now) self.new }
+        ensures { (os : List OutcomeValue) →
+            IsIndexOf os self.old → IsIndexOf (os ++ outcomes.now) self.new }
     {
         for outcome in outcomes {
             self.note(outcome);

@@ -9,7 +9,5 @@
 
 mod in_flight;
 mod net;
-#[cfg(test)]
-mod tests;
 
 pub use net::Net;

@@ -23,9 +23,6 @@ ghost use Rattle.cam_orphan.specs.Stale.{Valid, first_stale};
 use cam_know::{Know, Oldest, Reason};
 use cam_names::{Deps, Name};
 
-#[cfg(test)]
-mod tests;
-
 /// Why the action is an orphan by this knowledge, or None where it is none. `visited` has the pairs
 /// that it has visited. Each action is its own ancestor. It never answers want of memory. The rule
 /// stands in `docs/RULES.md`, at 'The orphan test'.
@@ -38,7 +35,8 @@ pub fn orphan(know: &Know, name: &Name, visited: &Deps) -> Option<Reason>
 /// The same test of an action that comes to its home: `visited` has the pairs with which it comes,
 /// and the home is tested beside them. So an older pair of that very node counts too.
 pub fn orphan_at_home(know: &Know, name: &Name, visited: &Deps) -> Option<Reason>
-    ensures { result ≡ known_orphan know.now name.now ((home_node name.now, home_count name.now) ∷ pairs_of visited.now) }
+    ensures { result ≡ known_orphan know.now name.now
+        ((home_node name.now, home_count name.now) ∷ pairs_of visited.now) }
 {
     orphan_by(know, name, &home_oldest(name).join(&Oldest::of(visited)))
 }
@@ -56,7 +54,8 @@ fn home_oldest(name: &Name) -> Oldest
 /// The test with any visited pairs that have these least counts.
 fn orphan_by(know: &Know, name: &Name, visited: &Oldest) -> Option<Reason>
     requires { length visited.now ≡ 8 }
-    ensures { (pairs : List (ℕ × ℕ)) → Valid pairs → visited.now ≡ least_counts pairs → result ≡ known_orphan know.now name.now pairs }
+    ensures { (pairs : List (ℕ × ℕ)) → Valid pairs → visited.now ≡ least_counts pairs
+        → result ≡ known_orphan know.now name.now pairs }
 {
     match know.aborted_by(name) {
         Some(ancestor) => Some(Reason::Abort(ancestor)),
@@ -78,7 +77,8 @@ fn family_oldest(know: &Know, name: &Name) -> Oldest
 /// The reason by the first node whose least count is below the known one.
 fn stale(know: &Know, oldest: &Oldest) -> Option<Reason>
     requires { length oldest.now ≡ 8 }
-    ensures value { result ≡ reason_of (known_count know.now) None (first_stale (known_count know.now) 1 oldest.now) }
+    ensures value { result ≡ reason_of (known_count know.now) None
+        (first_stale (known_count know.now) 1 oldest.now) }
     ensures eight { length know.now.counts ≡ 8 }
 {
     let known = know.counts();

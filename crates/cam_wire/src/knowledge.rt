@@ -37,7 +37,8 @@ pub fn know_of(
     requires counts { AreCounts 1 counts.now }
     requires aborts { Rising aborts.now }
     requires commits { Rising (map (λ c. c.0) commits.now) }
-    ensures { IfOk result (λ know. know ≡ record { outcomes = outcomes_of aborts.now commits.now; counts = counts.now }) }
+    ensures { IfOk result (λ know.
+        know ≡ record { outcomes = outcomes_of aborts.now commits.now; counts = counts.now }) }
 {
     Know::of(alloc, outcomes_of(alloc, aborts, commits)?, *counts)
 }

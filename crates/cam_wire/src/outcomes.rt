@@ -39,8 +39,10 @@ fn is_above_last_commit(commits: &[(Name, Deps)], name: &Name) -> bool
 #[tactic(auto, unfolding(crate::specs::Reading::aborts_from))]
 fn take_abort(bytes: &[u8], at: usize, aborts: &mut Aborts) -> Result<usize, WireFault>
     requires { at ≤ length bytes.now }
-    ensures taken { IfOk result (λ end. (left : ℕ) → aborts_from (suc left) aborts.old at bytes.now ≡ aborts_from left aborts.new end bytes.now) }
-    ensures refused { IfErr result (λ fault. (left : ℕ) → Refuses fault (aborts_from (suc left) aborts.old at bytes.now)) }
+    ensures taken { IfOk result (λ end. (left : ℕ) →
+        aborts_from (suc left) aborts.old at bytes.now ≡ aborts_from left aborts.new end bytes.now) }
+    ensures refused { IfErr result (λ fault. (left : ℕ) →
+        Refuses fault (aborts_from (suc left) aborts.old at bytes.now)) }
     ensures end { IfOk result (λ end. (at ≤ end) × (end ≤ length bytes.now)) }
 {
     let (name, end) = name_at(bytes, at)?;
@@ -72,8 +74,10 @@ pub fn aborts_at(alloc: Global, bytes: &[u8], at: usize) -> Result<(Aborts, usiz
 #[tactic(auto, unfolding(crate::specs::Reading::commits_from))]
 fn take_commit(bytes: &[u8], at: usize, commits: &mut Commits) -> Result<usize, WireFault>
     requires { at ≤ length bytes.now }
-    ensures taken { IfOk result (λ end. (left : ℕ) → commits_from (suc left) commits.old at bytes.now ≡ commits_from left commits.new end bytes.now) }
-    ensures refused { IfErr result (λ fault. (left : ℕ) → Refuses fault (commits_from (suc left) commits.old at bytes.now)) }
+    ensures taken { IfOk result (λ end. (left : ℕ) →
+        commits_from (suc left) commits.old at bytes.now ≡ commits_from left commits.new end bytes.now) }
+    ensures refused { IfErr result (λ fault. (left : ℕ) →
+        Refuses fault (commits_from (suc left) commits.old at bytes.now)) }
     ensures end { IfOk result (λ end. (at ≤ end) × (end ≤ length bytes.now)) }
 {
     let (name, behind) = name_at(bytes, at)?;

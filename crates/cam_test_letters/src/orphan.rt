@@ -1,6 +1,7 @@
-use crate::{orphan, orphan_at_home};
+// Who is an orphan, and why.
 use cam_know::{Know, Outcome, Reason};
 use cam_names::{Deps, Name};
+use cam_orphan::{orphan, orphan_at_home};
 use std::test::Fail;
 
 /// A commit of a sibling stands on the first count of node 2, which has restarted since.

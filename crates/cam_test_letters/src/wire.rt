@@ -1,14 +1,15 @@
+// Letters as bytes. What is expected was worked out from the format's text.
 mod changes;
 
 ghost use Rattle.std.specs.Prelude.{◌<◌};
 ghost use Rattle.cam_wire.specs.Writable.{IsWritable, IsWritableBody};
 
-use crate::{WireFault, decode, encode};
 use cam_base::NoMemory;
 use cam_event::{Body, Letter, Reply};
 use cam_know::{Know, Outcome};
 use cam_names::{Deps, Name, Part};
 use cam_type::{Answer, Op};
+use cam_wire::{WireFault, decode, encode};
 use std::alloc::Global;
 use std::test::Fail;
 

@@ -1,9 +1,10 @@
+// The network: letters put, handed out, lost and delivered.
 ghost use Rattle.std.specs.Prelude.{◌≤◌};
 ghost use Rattle.cam_wire.specs.Writable.{IsWritable};
 
-use crate::Net;
 use cam_event::{Body, Letter};
 use cam_know::Know;
+use cam_net::Net;
 use std::alloc::Global;
 use std::test::Fail;
 

@@ -1,5 +1,6 @@
-use crate::{Know, Outcome};
+// What is known, and what is answered by it.
 use cam_base::Sequence;
+use cam_know::{Know, Outcome};
 use cam_names::{Deps, Name, Part};
 use std::test::Fail;
 
@@ -33,7 +34,11 @@ fn what_is_learnt_is_known(rt: HostRuntime) -> Result<(), Fail> {
     assert!(rt; other.is_aborted(&top) && !know.is_aborted(&top));
     assert_eq!(rt; know.aborted_by(&low), None);
     let news = know.news_of(&other)?;
-    assert_eq!(rt; (news.len(), news.count(3)), (2, 2));
+    assert_eq!(rt;
+        news.outcomes(),
+        [Outcome::Aborted(top), Outcome::Aborted(middle)].as_slice()
+    );
+    assert_eq!(rt; news.counts(), [1, 1, 2, 1, 1, 1, 1, 1]);
     know.join(&other)?;
     assert_eq!(rt; know.len(), 4);
     know.add(&Outcome::Committed(middle, Deps::none()))?;

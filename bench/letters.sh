@@ -1,0 +1,177 @@
+#!/bin/sh
+# How long a letter takes to be sent, written, read and noted where 10, 100 and 1,000 outcomes are known and it brings ten more, and how
+# much of the first run's time that is. Its receiver has acknowledged all but these ten.
+# A figure is such a ratio: the nanoseconds are those of one machine on one day. Each time is the least of several rounds.
+# bench/letters.sh           proves the crates and the program, and runs it
+# bench/letters.sh --quick   runs a build of the same sources that nothing has proved
+. "$(dirname "$0")/common.sh"
+make_program letter_times anyhow cam_base cam_names cam_type cam_know cam_event cam_bytes cam_comman cam_wire
+cat > src/main.rt <<'PROGRAM'
+//! How long letters take by what is known and by what they bring.
+#![tactic(auto)]
+
+ghost use Rattle.std.specs.Prelude.{◌≤◌, length, IfOk};
+ghost use Rattle.std.specs.List.{AllByRecursion};
+ghost use Rattle.cam_wire.specs.Writable.{IsWritable};
+
+use anyhow::Error;
+use cam_comman::{Places, arrive, send};
+use cam_event::{Body, Letter};
+use cam_know::{Know, Outcome};
+use cam_names::{Deps, Name, Part};
+use cam_wire::{decode, encode};
+use std::time::Instant;
+
+const ROUNDS: u32 = 20;
+const TIMES: u32 = 500;
+const NODES: u32 = 5;
+const LETTERS: u32 = 20;
+const BROUGHT: u32 = 10;
+
+/// The outcome of a child of a top action: each second one commits.
+fn child(top: &Name, number: u32) -> Option<Outcome> {
+    let name = top.child(Part::new(2, 1, number)?)?;
+    if number % 2 == 0 {
+        Some(Outcome::Committed(name, Deps::none().with(2, 1)))
+    } else {
+        Some(Outcome::Aborted(name))
+    }
+}
+
+/// Knowledge of the outcomes of the children with these numbers.
+fn family(rt: &HostRuntime, top: &Name, first: u32, last: u32) -> Result<Know, Error> {
+    let mut know = Know::new(rt.alloc());
+    for number in first..=last {
+        if let Some(outcome) = child(top, number) {
+            know.add(&outcome)?;
+        }
+    }
+    Ok(know)
+}
+
+/// News from node 2 to node 1, which brings this, and acknowledges so many outcomes.
+fn news(have: u64, know: Know) -> Letter
+    ensures { IsWritable result }
+{
+    Letter {
+        from: 2,
+        count: 1,
+        to: 1,
+        have,
+        place: 0,
+        know,
+        body: Body::News,
+    }
+}
+
+/// The time of sending a letter to a node that has acknowledged all but ten outcomes.
+fn sent(rt: &HostRuntime, know: &Know, places: &Places) -> Result<u128, Error>
+    requires { AllByRecursion (λ n. n ≤ length know.now.outcomes) places.now.acked }
+{
+    let start = Instant::now(rt)?;
+    for _ in 0..TIMES {
+        let _ = send(know, places, 1, 1, 2, Body::News)?;
+    }
+    Ok(start.elapsed(rt)?.as_nanos() / TIMES as u128)
+}
+
+/// The times of writing and of reading a letter.
+fn as_bytes(rt: &HostRuntime, letter: &Letter) -> Result<[u128; 2], Error>
+    requires { IsWritable letter.now }
+{
+    let bytes = encode(rt.alloc(), letter)?;
+    let start = Instant::now(rt)?;
+    for _ in 0..TIMES {
+        let _ = encode(rt.alloc(), letter)?;
+    }
+    let written = start.elapsed(rt)?.as_nanos() / TIMES as u128;
+    let start = Instant::now(rt)?;
+    for _ in 0..TIMES {
+        let _ = decode(rt.alloc(), bytes.as_slice())?;
+    }
+    Ok([written, start.elapsed(rt)?.as_nanos() / TIMES as u128])
+}
+
+/// The time of the arrival of a letter that brings ten outcomes, which are known.
+fn noted_again(rt: &HostRuntime, know: &mut Know, letter: Know) -> Result<u128, Error> {
+    let letter = news(0, letter);
+    let mut places = Places::new();
+    let start = Instant::now(rt)?;
+    for _ in 0..TIMES {
+        let _ = arrive(know, &mut places, &letter)?;
+    }
+    Ok(start.elapsed(rt)?.as_nanos() / TIMES as u128)
+}
+
+/// The time of the arrival of a letter that brings ten new outcomes: the mean of letters that come one after another.
+fn noted(rt: &HostRuntime, top: &Name, known: u32) -> Result<u128, Error> {
+    let mut nanos = 0u128;
+    for _ in 0..NODES {
+        let mut know = family(rt, top, 1, known)?;
+        let mut places = Places::new();
+        for i in 0..LETTERS {
+            let before = known.saturating_add(i.saturating_mul(BROUGHT));
+            let letter = news(0, family(rt, top, before.saturating_add(1), before.saturating_add(BROUGHT))?);
+            let start = Instant::now(rt)?;
+            let _ = arrive(&mut know, &mut places, &letter)?;
+            nanos = nanos.saturating_add(start.elapsed(rt)?.as_nanos());
+        }
+    }
+    Ok(nanos / NODES as u128 / LETTERS as u128)
+}
+
+/// What was measured: to send, to write, to read, to note what is known, to note what is new.
+fn measure_once(rt: &HostRuntime, known: u32) -> Result<[u128; 5], Error> {
+    let top = Name::parse("1.1.1")?;
+    let mut know = family(rt, &top, 1, known.saturating_add(BROUGHT))?;
+    let mut places = Places::new();
+    let _ = arrive(&mut know, &mut places, &news(known as u64, Know::new(rt.alloc())))?;
+    let letter = send(&know, &places, 1, 1, 2, Body::News)?;
+    if letter.know.len() != BROUGHT as u64 {
+        println!(rt; "a letter of {} outcomes", letter.know.len())?;
+    }
+    let sent = sent(rt, &know, &places)?;
+    let [written, read] = as_bytes(rt, &letter)?;
+    let again = noted_again(rt, &mut know, letter.know)?;
+    Ok([sent, written, read, again, noted(rt, &top, known)?])
+}
+
+/// The least times of some rounds.
+fn measure(rt: &HostRuntime, known: u32) -> Result<[u128; 5], Error> {
+    let mut least = measure_once(rt, known)?;
+    for _ in 0..ROUNDS {
+        let times = measure_once(rt, known)?;
+        for i in 0..5 {
+            least[i] = least[i].min(times[i]);
+        }
+    }
+    Ok(least)
+}
+
+fn main(rt: HostRuntime) -> Result<(), Error> {
+    const WHAT: [&str; 5] = [
+        "send",
+        "encode",
+        "decode",
+        "arrive, ten known outcomes",
+        "arrive, ten new outcomes",
+    ];
+    let first = measure(&rt, 10)?;
+    for known in [10, 100, 1_000] {
+        let times = if known == 10 { first } else { measure(&rt, known)? };
+        println!(rt; "{known} outcomes known")?;
+        for i in 0..5 {
+            let hundredths = times[i].saturating_mul(100) / first[i].max(1);
+            println!(rt; "  {}: {} ns, {hundredths} hundredths of the first", WHAT[i], times[i])?;
+        }
+    }
+    Ok(())
+}
+PROGRAM
+if [ "${1-}" = --quick ]; then
+    # That build checks each step as it runs, and is a thousand times slower.
+    sed -i 's/ROUNDS: u32 = 20;/ROUNDS: u32 = 1;/; s/= 500;/= 10;/; s/NODES: u32 = 5;/NODES: u32 = 1;/' src/main.rt
+    rt try --steps 1
+else
+    rt run
+fi

@@ -1,0 +1,13 @@
+//! Tests of `cam_know`, `cam_orphan`, `cam_comman`, `cam_wire` and `cam_net` through their public calls, a module for each.
+#![tactic(auto)]
+
+#[cfg(test)]
+mod comman;
+#[cfg(test)]
+mod know;
+#[cfg(test)]
+mod net;
+#[cfg(test)]
+mod orphan;
+#[cfg(test)]
+mod wire;
