@@ -1,6 +1,5 @@
 -- A disk that may stop: how many calls it still does, and what a call does when none is left.
 use Rattle.std.specs.Prelude.{ℕ, zero, suc, ◌≡◌, ◌+◌, ◌-◌, ◌^◌, min, List, Option, Some, None, Result, Err}
-use Rattle.std.proofs.Common.{refl, ap, sym, ◌∙◌}
 use Rattle.cam_disk.specs.declared.error.DiskError.{DiskError}
 use Rattle.cam_disk.specs.declared.error.DiskError.TheVariants.{Failed}
 

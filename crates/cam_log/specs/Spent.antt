@@ -1,5 +1,5 @@
 -- How many calls of a disk were done, where it does a bounded number of them.
-use Rattle.std.proofs.Common.{ℕ, zero, suc, ◌≡◌, ◌+◌, Option, Some, None, Result, Ok, refl, sym, ap, subst, ◌∙◌, arith, OnOk, Err}
+use Rattle.std.proofs.Common.{ℕ, zero, suc, ◌≡◌, ◌+◌, Option, Some, None, Result, Ok, subst, arith, OnOk, Err}
 use Rattle.cam_disk.specs.declared.error.DiskError.{DiskError}
 use Rattle.cam_disk.specs.Stop.{Stops}
 

@@ -4,7 +4,7 @@ use Rattle.cam_ckpt.specs.Opening.{standing_of, start_for, IsMove}
 use Rattle.cam_ckpt.proofs.Openings.{openings_grow}
 use Rattle.cam_ckpt.proofs.Moved.{can_parts, move_is, moved_is}
 use Rattle.std.proofs.Common.{subst}
-use Rattle.cam_ckpt.specs.Image.{other_slot, segment, numbers}
+use Rattle.cam_ckpt.specs.Image.{segment, numbers}
 use Rattle.cam_ckpt.specs.Steps.{closing_by}
 use Rattle.cam_ckpt.specs.Written.{IsReplaced}
 use Rattle.cam_ckpt.proofs.ckpt.CkptCheckpointLog.replace.Goals as goal
