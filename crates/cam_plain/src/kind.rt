@@ -3,12 +3,11 @@ ghost use Rattle.std.specs.Prelude.{◌≡◌};
 ghost use Rattle.cam_plain.specs.Legal.{kind_of, number_of_kind};
 
 use cam_event::Deed;
-use std::fmt::{self, Display, Formatter, Write};
 
 /// The kind of a deed. Each has a line of the plain machine, which says what such a deed needs of those before it.
 #[derive(Clone, Copy, Debug, PartialEq, Eq)]
 pub enum DeedKind {
-    Create,
+    Create = 1,
     Ask,
     Call,
     Perform,
@@ -45,30 +44,10 @@ impl DeedKind {
         }
     }
 
-    /// The number of the kind's line, from 1.
+    /// The number of the kind's line: its place in the list above, from 1.
     pub fn number(self) -> u8
         ensures { result ≡ number_of_kind self }
     {
-        match self {
-            DeedKind::Create => 1,
-            DeedKind::Ask => 2,
-            DeedKind::Call => 3,
-            DeedKind::Perform => 4,
-            DeedKind::Bounce => 5,
-            DeedKind::Got => 6,
-            DeedKind::AskCommit => 7,
-            DeedKind::AskAbort => 8,
-            DeedKind::Commit => 9,
-            DeedKind::Abort => 10,
-            DeedKind::Secure => 11,
-            DeedKind::Inform => 12,
-            DeedKind::Crash => 13,
-        }
-    }
-}
-
-impl Display for DeedKind {
-    fn fmt<W: Write>(&self, f: &mut Formatter<W>) -> fmt::Result {
-        write!(f, "{}", self.number())
+        self as u8
     }
 }

@@ -27,7 +27,7 @@ use thiserror::Error;
 pub enum CheckFault {
     /// The first deed that is not legal: its place, from 0, and its kind, whose line it does not meet.
     /// It is never a crash, which may always come.
-    #[error("the deed at {at} does not meet line {cause}")]
+    #[error("the deed at {at} does not meet line {}", .cause.number())]
     Illegal { at: u64, cause: DeedKind },
     #[error("out of memory")]
     NoMemory,
