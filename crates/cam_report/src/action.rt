@@ -138,7 +138,7 @@ fn write_action(
 }
 
 /// Appends the created actions with their views, in order of names.
-pub(crate) fn write_actions(
+pub fn write_actions(
     alloc: Global,
     labels: &Labels,
     deeds: &[Deed],

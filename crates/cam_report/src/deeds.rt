@@ -7,7 +7,7 @@ use cam_event::{Deeds, Trace};
 use std::alloc::Global;
 
 /// The deeds of all events, in order.
-pub(crate) fn deeds_of(alloc: Global, trace: &Trace) -> Result<Deeds, NoMemory>
+pub fn deeds_of(alloc: Global, trace: &Trace) -> Result<Deeds, NoMemory>
     ensures { IfOk result (λ deeds. deeds ≡ flat_map (λ event. event.deeds) trace.now) }
 {
     let mut deeds = Deeds::new(alloc);

@@ -45,7 +45,7 @@ fn taken_word(taken: bool) -> &'static str
 }
 
 /// Appends a mark's line.
-fn write_mark(mark: &Mark, out: &mut String) -> Result<(), NoMemory>
+pub fn write_mark(mark: &Mark, out: &mut String) -> Result<(), NoMemory>
     ensures { OnOk result (string_bytes out.new ≡ string_bytes out.old ++ mark_text mark.now) }
 {
     match mark {

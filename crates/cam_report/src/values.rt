@@ -33,7 +33,7 @@ fn write_value(
 }
 
 /// Appends the value of each object, in order of their declarations.
-pub(crate) fn write_values(
+pub fn write_values(
     alloc: Global,
     script: &Script,
     deeds: &Deeds,
