@@ -1,0 +1,5 @@
+//! Tests of `cam_timed` through its public calls.
+#![tactic(auto)]
+
+#[cfg(test)]
+mod timed;
