@@ -50,12 +50,12 @@ keeps_over_event objects s before c old new no_restart follows commits =
       preparing = λ f undecided.
           follows.preparing f undecided
           ∙ preparing_then (is_restart c) (is_preparing_note f c.event.note) (yes_for f c.mail) (votes (map entry_of before) f) (old.is_preparing f) no_restart
-              (commits.preparing f (was_undecided objects before c f undecided));
+          (commits.preparing f (was_undecided objects before c f undecided));
       voted = λ f m n undecided.
           follows.votes f m n undecided
           ∙ voted_then (is_restart c) (is_preparing_note f c.event.note) (yes_for f c.mail) (votes (map entry_of before) f) (old.is_preparing f) (old.has_vote f m n) m n no_restart
-              (commits.preparing f (was_undecided objects before c f undecided)) (follows.begins f undecided)
-              (commits.voted f m n (was_undecided objects before c f undecided));
+          (commits.preparing f (was_undecided objects before c f undecided)) (follows.begins f undecided)
+          (commits.voted f m n (was_undecided objects before c f undecided));
       secured = λ f undecided.
           follows.secured f undecided
           ∙ ap (λ b. list_any (is_secure_at f s) c.event.deeds || b) (commits.secured f (was_undecided objects before c f undecided))

@@ -21,7 +21,7 @@ asked_is_rule g f c = by (knows_outcome g f) (secured_at g.deeds f g.node) (not 
   where
     by : (decided secured other : Bool)
         → (if decided then did_asked g f c asked.Late else if secured then did_asked g f c asked.AlreadyYes
-           else if other then did_asked g f c asked.Refuse else did_asked g f c asked.Secure)
+        else if other then did_asked g f c asked.Refuse else did_asked g f c asked.Secure)
         ≡ did_asked g f c (if decided then asked.Late else if secured then asked.AlreadyYes else if other then asked.Refuse else asked.Secure)
     by true secured other = refl
     by false true other = refl

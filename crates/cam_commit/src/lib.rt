@@ -137,14 +137,7 @@ impl Families {
     }
 
     /// A node at a count votes for a family, which depends on `deps`. There is room, so it takes no memory.
-    pub fn vote(
-        &mut self,
-        family: &Name,
-        node: u8,
-        count: u32,
-        agrees: bool,
-        deps: &Deps,
-    ) -> Voted
+    pub fn vote(&mut self, family: &Name, node: u8, count: u32, agrees: bool, deps: &Deps) -> Voted
         requires { 1 ≤ (answers self.old).room }
         ensures value { result ≡ voted_by (answers self.old) (yes family.now node count) agrees deps.now }
         ensures new { IsVoted (yes family.now node count) agrees result (answers self.old) (answers self.new) }

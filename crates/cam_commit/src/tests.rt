@@ -50,7 +50,11 @@ fn a_site_that_secured_votes_yes_at_an_old_count(rt: HostRuntime) -> Result<(), 
     families.secured(&family);
     assert_eq!(rt; families.asked(&family, 2, 3, &know), Asked::AlreadyYes);
     assert_eq!(rt; families.asked(&other, 3, 3, &know), Asked::Secure);
-    let held = [Held { family, count: 2, ops: Sequence::new(rt.alloc()) }];
+    let held = [Held {
+        family,
+        count: 2,
+        ops: Sequence::new(rt.alloc()),
+    }];
     let recovered = Families::of(rt.alloc(), &held)?;
     assert_eq!(rt; recovered.asked(&family, 2, 4, &know), Asked::AlreadyYes);
     assert_eq!(rt; recovered.asked(&other, 2, 4, &know), Asked::Refuse);

@@ -12,11 +12,11 @@ mod digest;
 mod draws;
 mod script;
 
+ghost use Rattle.cam_gen.specs.Worked.{FirstDraw, NineSteps};
+
 pub use digest::digest_text;
 pub use draws::Draws;
 pub use script::script_of;
-
-ghost use Rattle.cam_gen.specs.Worked.{FirstDraw, NineSteps};
 
 /// At seed 7: the first number that is drawn, and the script of nine steps.
 pub fn at_seed_seven()

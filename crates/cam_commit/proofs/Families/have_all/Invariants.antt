@@ -10,4 +10,4 @@ abbrev pub invariant-loop-node : goal.invariant-loop-node
 invariant-loop-node l =
     (1 ≤ l.node) × (l.node ≤ 9)
     × (list_all (λ p. (answers l.self).has_vote l.family p.0 p.1) (pairs_of l.deps)
-       ≡ all_from (λ p. (answers l.self).has_vote l.family p.0 p.1) l.node (l.node - 1) l.deps)
+    ≡ all_from (λ p. (answers l.self).has_vote l.family p.0 p.1) l.node (l.node - 1) l.deps)

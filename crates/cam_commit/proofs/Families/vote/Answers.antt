@@ -24,7 +24,7 @@ returns-then-not-have_all-clause-new c =
     record {
       preparing = λ g. refl;
       votes = λ g m n. noted g m n ∙ adds_itself ((answers old).is_preparing v.family) c.args.agrees (yes_eq v (yes g m n)) ((answers old).has_vote g m n)
-                         (sym c.is_preparing.ensures ∙ c.if-not-is_preparing.false) c.if-not-agrees.false;
+          (sym c.is_preparing.ensures ∙ c.if-not-is_preparing.false) c.if-not-agrees.false;
       secured = λ g. refl;
     }
 
@@ -46,6 +46,6 @@ returns-clause-new c =
     record {
       preparing = λ g. dropped (name_eq v.family g) ((answers old).is_preparing g) (c.remove-2.ensures.updates.0 g);
       votes = λ g m n. noted g m n ∙ adds_itself ((answers old).is_preparing v.family) c.args.agrees (yes_eq v (yes g m n)) ((answers old).has_vote g m n)
-                         (sym c.is_preparing.ensures ∙ c.if-not-is_preparing.false) c.if-not-agrees.false;
+          (sym c.is_preparing.ensures ∙ c.if-not-is_preparing.false) c.if-not-agrees.false;
       secured = λ g. refl;
     }
