@@ -1,7 +1,7 @@
 -- One more event of a node: what it does to the actions that run there, so that they go on answering as the node's history does.
 use Rattle.std.specs.Prelude.{◌≡◌, ℕ, ◌+◌, ◌<◌, ◌≤◌, Bool, true, false, List, [], ◌∷◌, filter, length, Option, Some, None}
 use Rattle.cam_names.specs.declared.name.Name.{Name}
-use Rattle.cam_names.specs.Names.{is_top, is_child, home_node, home_count}
+use Rattle.cam_names.specs.Names.{is_top, is_child, parent, home_node, home_count}
 use Rattle.cam_type.specs.declared.ObjectDecl.{ObjectDecl}
 use Rattle.cam_type.specs.declared.Op.{Op}
 use Rattle.cam_event.specs.declared.Deed.{Deed}
@@ -11,7 +11,7 @@ use Rattle.cam_event.specs.Live.{site_of}
 use Rattle.cam_event.specs.Inputs.{Mail}
 use Rattle.cam_event.specs.ByKnowledge.{Carried, deeds_of, own_pairs, start_counts, finish_counts}
 use Rattle.cam_tranman.specs.declared.call.OpenCall.{OpenCall}
-use Rattle.cam_tranman.specs.Actions.{Actions, created, RunsActions}
+use Rattle.cam_tranman.specs.Actions.{Actions, created, open_call, RunsActions}
 use Rattle.cam_tranman.specs.Calls.{AreSame, next_top, none_run, begun, begun_child, asked, called, finished, got, decided}
 
 -- the deeds that concern the actions at home
@@ -66,15 +66,20 @@ abbrev pub IsNamed : Bool → Name → Option Mail → Actions → Type 0
 IsNamed true a mail actions = (a ≡ next_top actions) × (start_counts mail ≡ [])
 IsNamed false a mail actions = length (start_counts mail) ≡ 8
 
--- When a deed may come: it is of an action that was created here; an ask is for a child of it.
+-- the parent, if there is one, was created here
+abbrev pub HasParent : Option Name → Actions → Type 0
+HasParent None actions = Unit {0}
+HasParent (Some p) actions = created actions p ≡ true
+
+-- When a deed may come: it is of an action that was created here; an ask is for a child of it, an answer for its open call.
 abbrev pub MayCome : Option Mail → Deed → Actions → Type 0
 MayCome mail (Create a) actions = IsNew a actions × IsNamed (is_top a) a mail actions
 MayCome mail (Ask a b) actions = (created actions a ≡ true) × (is_child a b ≡ true)
 MayCome mail (Call a n x op c) actions = created actions a ≡ true
-MayCome mail (Got a n seen) actions = created actions a ≡ true
+MayCome mail (Got a n seen) actions = (created actions a ≡ true) × (open_call actions a ≡ Some n)
 MayCome mail (AskCommit a v) actions = created actions a ≡ true
 MayCome mail (AskAbort a) actions = created actions a ≡ true
-MayCome mail (Commit b) actions = length (finish_counts mail) ≡ 8
+MayCome mail (Commit b) actions = (length (finish_counts mail) ≡ 8) × HasParent (parent b) actions
 MayCome mail (Abort b) actions = Unit {0}
 MayCome mail _ actions = ⊥
 

@@ -9,6 +9,8 @@
 //! `cam_event` (histories and rules).
 #![tactic(auto)]
 
+ghost use Rattle.cam_tranman.specs.Events.{QuietKeeps, DeedKeeps};
+
 mod action;
 mod asking;
 mod call;
@@ -39,3 +41,10 @@ pub enum Taken {
     /// The call is not awaited, or its site had crashed or stopped it: the action sees nothing.
     Late,
 }
+
+/// After one more event, which is no restart, the actions answer as the node's history does: one without a deed that concerns them leaves
+/// them as they are, and one with such a deed, which may come then, does what the call does that stands for it.
+pub fn one_more_event()
+    ensures none { QuietKeeps }
+    ensures one { DeedKeeps }
+{}
