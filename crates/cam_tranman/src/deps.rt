@@ -1,6 +1,6 @@
 //! Dependencies put together: of each node the greater count.
 ghost use Rattle.std.specs.Prelude.{◌≡◌, ◌≤◌, [], ◌∷◌};
-ghost use Rattle.cam_names.specs.Dependencies.{IsCounts, as_counts, greater_counts};
+ghost use Rattle.cam_names.specs.Dependencies.{AreCounts, as_counts, greater_counts};
 
 use cam_names::Deps;
 
@@ -22,10 +22,10 @@ pub(crate) fn at(node: u8, count: u32) -> Deps
 
 /// Of each node the greater count.
 fn greater(one: &[u32; 8], other: &[u32; 8]) -> [u32; 8]
-    requires one { IsCounts one.now }
-    requires other { IsCounts other.now }
+    requires one { AreCounts 0 one.now }
+    requires other { AreCounts 0 other.now }
     ensures value { result ≡ greater_counts one.now other.now }
-    ensures range { IsCounts result }
+    ensures range { AreCounts 0 result }
 {
     let mut counts = *one;
     for node in 0..8 {

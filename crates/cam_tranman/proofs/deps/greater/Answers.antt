@@ -11,6 +11,7 @@ pub returns-clause-range : goal.returns-clause-range
 returns-clause-range c =
     record {
       eight = c.loop-node.invariant.0;
+      from = λ k below. omega arith;
       to = λ k below.
           let e = c.loop-node.invariant.1 k (omega (arith, c.loop-node-test.false)) in
           let f = c.requires.one.to k below in
