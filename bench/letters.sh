@@ -10,8 +10,7 @@ cat > src/main.rt <<'PROGRAM'
 //! How long letters take by what is known and by what they bring.
 #![tactic(auto)]
 
-ghost use Rattle.std.specs.Prelude.{◌≤◌, length, IfOk};
-ghost use Rattle.std.specs.List.{AllByRecursion};
+ghost use Rattle.cam_comman.specs.Letters.{IsWithin};
 ghost use Rattle.cam_wire.specs.Writable.{IsWritable};
 
 use anyhow::Error;
@@ -66,7 +65,7 @@ fn news(have: u64, know: Know) -> Letter
 
 /// The time of sending a letter to a node that has acknowledged all but ten outcomes.
 fn sent(rt: &HostRuntime, know: &Know, places: &Places) -> Result<u128, Error>
-    requires { AllByRecursion (λ n. n ≤ length know.now.outcomes) places.now.acked }
+    requires { IsWithin know.now places.now }
 {
     let start = Instant::now(rt)?;
     for _ in 0..TIMES {
@@ -126,11 +125,8 @@ fn measure_once(rt: &HostRuntime, known: u32) -> Result<[u128; 5], Error> {
     let mut know = family(rt, &top, 1, known.saturating_add(BROUGHT))?;
     let mut places = Places::new();
     let _ = arrive(&mut know, &mut places, &news(known as u64, Know::new(rt.alloc())))?;
-    let letter = send(&know, &places, 1, 1, 2, Body::News)?;
-    if letter.know.len() != BROUGHT as u64 {
-        println!(rt; "a letter of {} outcomes", letter.know.len())?;
-    }
     let sent = sent(rt, &know, &places)?;
+    let letter = send(&know, &places, 1, 1, 2, Body::News)?;
     let [written, read] = as_bytes(rt, &letter)?;
     let again = noted_again(rt, &mut know, letter.know)?;
     Ok([sent, written, read, again, noted(rt, &top, known)?])
