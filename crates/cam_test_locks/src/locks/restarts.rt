@@ -120,7 +120,7 @@ fn held_write(alloc: Global, family: &Name, index: u32, value: i64) -> Result<He
 }
 
 /// The table after a restart of three families, of which the first aborted, the second is undecided, and the third committed.
-fn restarted(alloc: Global) -> Result<LockTable, Fail> {
+fn table_after_a_restart(alloc: Global) -> Result<LockTable, Fail> {
     let aborted = Name::parse("1.1.1")?;
     let undecided = Name::parse("1.1.2")?;
     let committed = Name::parse("1.1.3")?;
@@ -136,7 +136,7 @@ fn restarted(alloc: Global) -> Result<LockTable, Fail> {
 }
 
 /// The table after a restart of two families that both wrote the register, and of which nothing is known.
-fn two_writers(alloc: Global) -> Result<LockTable, Fail> {
+fn table_of_two_writers(alloc: Global) -> Result<LockTable, Fail> {
     let mut held = HeldList::new(alloc);
     held.push(held_write(alloc, &Name::parse("1.1.1")?, 4, 4)?)?;
     held.push(held_write(alloc, &Name::parse("1.1.2")?, 2, 2)?)?;
@@ -147,10 +147,10 @@ fn two_writers(alloc: Global) -> Result<LockTable, Fail> {
 
 #[test]
 fn a_restart_keeps_what_was_secured_and_not_aborted(rt: HostRuntime) -> Result<(), Fail> {
-    let mut table = restarted(rt.alloc())?;
+    let mut table = table_after_a_restart(rt.alloc())?;
     assert_eq!(rt; table.next_index(), 10);
     assert_eq!(rt; first_unlike(rt.alloc(), &mut table, restarted)?, None);
-    let mut table = two_writers(rt.alloc())?;
+    let mut table = table_of_two_writers(rt.alloc())?;
     assert_eq!(rt; first_unlike(rt.alloc(), &mut table, two_writers)?, None);
     Ok(())
 }
