@@ -10,3 +10,4 @@ pub mod Ranging
 pub mod Echoing
 pub mod InRange
 pub mod Writing
+pub mod Networks

@@ -1,4 +1,5 @@
-//! The nodes of a run: what each run gives of the history of each node, of each letter that was sent, and of each input that may come.
+//! The nodes and the network of a run: what each run gives of the history of each node, of each letter that was sent, and of each input that
+//! may come.
 //!
 //! A node's step has a precondition over its own history (`cam_node`). Here it is proved that a run meets it: the history of each node is
 //! lawful ([`histories`]), each letter that was sent may be put to its receiver, whenever it comes ([`letters`]), and each input that may
@@ -7,6 +8,7 @@
 #![tactic(auto)]
 
 ghost use Rattle.cam_histories.specs.Laws.{HaltedInputsMayBePut, HaltedLettersMayBePut, HistoriesAreLawful, HistoriesGoThrough, HistoriesMayEnd, InputsMayBePut, LettersMayBePut, NodesMakeRuns, PutsMayCome, StepsAreNodes, WholeLettersMayBePut};
+ghost use Rattle.cam_histories.specs.Network.{NextWaits, HasRunLetters};
 ghost use Rattle.cam_histories.specs.Ranges.{LettersAreInRange, NumbersAreFew, PerformsAreFew};
 ghost use Rattle.cam_histories.specs.Scripts.{BeginningsHold, HaltedScriptsHold, StandingsHold};
 ghost use Rattle.cam_histories.specs.Sending.{LettersAreSent, LettersStay};
@@ -58,4 +60,11 @@ pub fn ranges()
     ensures letters { LettersAreInRange }
     ensures performs { PerformsAreFew }
     ensures numbers { NumbersAreFew }
+{}
+
+/// Where a network (`cam_net`) has the letters of a run, each with its receiver and what was lost and delivered of it, the letter that it names
+/// next is the run's first letter that waits, and it has just the letters that the run can deliver.
+pub fn network()
+    ensures next { NextWaits }
+    ensures letters { HasRunLetters }
 {}
