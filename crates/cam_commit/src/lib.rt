@@ -22,9 +22,6 @@ use cam_type::Held;
 use std::alloc::Global;
 use std::collections::HashSet;
 
-#[cfg(test)]
-mod tests;
-
 /// What a vote makes of its family at its home.
 #[derive(Clone, Copy, Debug, PartialEq, Eq)]
 pub enum Voted {

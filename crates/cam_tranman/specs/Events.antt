@@ -6,10 +6,9 @@ use Rattle.cam_type.specs.declared.ObjectDecl.{ObjectDecl}
 use Rattle.cam_type.specs.declared.Op.{Op}
 use Rattle.cam_event.specs.declared.Deed.{Deed}
 use Rattle.cam_event.specs.declared.Deed.TheVariants.{Create, Ask, Call, Got, AskCommit, AskAbort, Commit, Abort, Crash}
-use Rattle.cam_event.specs.History as history
 use Rattle.cam_event.specs.Live.{site_of}
 use Rattle.cam_event.specs.Inputs.{Mail}
-use Rattle.cam_event.specs.ByKnowledge.{Carried, deeds_of, own_pairs, start_counts, finish_counts}
+use Rattle.cam_event.specs.ByKnowledge.{Carried, start_counts, finish_counts}
 use Rattle.cam_tranman.specs.declared.call.OpenCall.{OpenCall}
 use Rattle.cam_tranman.specs.Actions.{Actions, created, open_call, RunsActions}
 use Rattle.cam_tranman.specs.Calls.{AreSame, next_top, none_run, begun, begun_child, asked, called, finished, got, decided}
@@ -95,50 +94,3 @@ DeedKeeps =
     (objects : List ObjectDecl) (s : ℕ) (before : List Carried) (c : Carried) (d : Deed) (old new : Actions) → at_home c ≡ d ∷ []
     → MayCome c.mail d old → AreSame (after_deed objects c.mail d old) new
     → RunsActions objects s before old → RunsActions objects s (c ∷ before) new
-
--- The history has nothing of an action.
-pub record IsUnheard (objects : List ObjectDecl) (before : List Carried) (a : Name) : Type 0 where
-  pub created : history.created (deeds_of before) a ≡ false
-  pub ended : history.ended (deeds_of before) a ≡ false
-  pub asks : history.asks (deeds_of before) a ≡ 0
-  pub calls : history.calls (deeds_of before) a ≡ 0
-  pub open_call : history.open_call (deeds_of before) a ≡ None
-  pub children : history.open_children (deeds_of before) a ≡ []
-  pub pairs : own_pairs objects before a ≡ []
-
--- It has nothing of the node's actions of a count that the node has not reached.
-pub record NoneLater (objects : List ObjectDecl) (s : ℕ) (before : List Carried) : Type 0 where
-  pub tops : (c : ℕ) → history.count (deeds_of before) s < c → history.tops (deeds_of before) s c ≡ 0
-  pub actions : (a : Name) → home_node a ≡ s → history.count (deeds_of before) s < home_count a → IsUnheard objects before a
-
--- after a restart no action runs.
-abbrev pub RestartKeeps : Type 0
-RestartKeeps =
-    (objects : List ObjectDecl) (s : ℕ) (before : List Carried) (c : Carried) (new : Actions) → at_home c ≡ Crash s ∷ [] → NoneLater objects s before
-    → AreSame (none_run s (history.count (deeds_of before) s + 1)) new → RunsActions objects s (c ∷ before) new
-
--- The event's deed is a crash, or of an action of a count that the node has reached.
-abbrev pub IsReached : ℕ → ℕ → Deed → Type 0
-IsReached s count (Create a) = home_count a ≤ count
-IsReached s count (Ask a b) = home_count a ≤ count
-IsReached s count (Call a n x op c) = home_count a ≤ count
-IsReached s count (Got a n seen) = home_count a ≤ count
-IsReached s count (AskCommit a v) = home_count a ≤ count
-IsReached s count (AskAbort a) = home_count a ≤ count
-IsReached s count (Commit b) = (p : Name) → is_child p b ≡ true → home_count p ≤ count
-IsReached s count (Abort b) = Unit {0}
-IsReached s count (Crash site) = Unit {0}
-IsReached s count _ = Unit {0}
-
--- So it stays: a history begins without any, and no event that has such a deed, or none, adds one.
-abbrev pub NoneLaterAtFirst : Type 0
-NoneLaterAtFirst = (objects : List ObjectDecl) (s : ℕ) → NoneLater objects s []
-
-abbrev pub NoneLaterAfterQuiet : Type 0
-NoneLaterAfterQuiet =
-    (objects : List ObjectDecl) (s : ℕ) (before : List Carried) (c : Carried) → at_home c ≡ [] → NoneLater objects s before → NoneLater objects s (c ∷ before)
-
-abbrev pub NoneLaterAfterDeed : Type 0
-NoneLaterAfterDeed =
-    (objects : List ObjectDecl) (s : ℕ) (before : List Carried) (c : Carried) (d : Deed) → at_home c ≡ d ∷ []
-    → IsReached s (history.count (deeds_of before) s) d → NoneLater objects s before → NoneLater objects s (c ∷ before)

@@ -4,4 +4,3 @@ pub mod Actions
 pub mod Tables
 pub mod Calls
 pub mod Events
-pub mod Steps

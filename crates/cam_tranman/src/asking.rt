@@ -3,7 +3,7 @@ ghost use Rattle.std.specs.Prelude.{◌≡◌, ◌≤◌, eqb, nat_lt, not, ◌&
 ghost use Rattle.cam_names.specs.Names.{home_count};
 ghost use Rattle.cam_event.specs.Rules.{is_number};
 ghost use Rattle.cam_tranman.specs.Tables.{answers};
-ghost use Rattle.cam_tranman.specs.Actions.{created, ended, open_call};
+ghost use Rattle.cam_tranman.specs.Actions.{created, ended, asks, calls, open_call};
 ghost use Rattle.cam_tranman.specs.Calls.{AreSame, none_run, in_turn, has_call, has_child, is_not_open, has_not_open, is_too_deep, refusal_by, awaits_by, decides_by};
 
 use crate::OpenCall;
@@ -66,6 +66,33 @@ impl Homed {
     {
         let kept = kept_in(&self.actions, action)?;
         Some(kept.deps)
+    }
+
+    /// How many top actions were begun.
+    pub fn tops(&self) -> u32
+        ensures { result ≡ (answers self.now).tops }
+    {
+        self.tops
+    }
+
+    /// How many children an action has asked for.
+    pub fn asks(&self, action: &Name) -> u32
+        ensures { result ≡ asks (answers self.now) action.now }
+    {
+        match kept_in(&self.actions, action) {
+            Some(kept) => kept.asks,
+            None => 0,
+        }
+    }
+
+    /// How many calls an action has made.
+    pub fn calls(&self, action: &Name) -> u32
+        ensures { result ≡ calls (answers self.now) action.now }
+    {
+        match kept_in(&self.actions, action) {
+            Some(kept) => kept.calls,
+            None => 0,
+        }
     }
 
     /// The call of an action that is not answered, if there is one.

@@ -5,7 +5,7 @@
 //! commit or abort, decides a child. The tests that a rule makes first are calls too: `refusal`, `awaits`, `decides`. The orphan test comes
 //! between, and is that of `cam_orphan`. `reserve` makes all growth before a step; a call that has room takes no memory.
 //!
-//! Its law: after each event of a node the actions answer as the node's history does (`one_more_event`, `after_restart`). It stands on
+//! Its law: after each event of a node, which is no restart, the actions answer as the node's history does (`one_more_event`). It stands on
 //! `cam_event` (histories and rules).
 #![tactic(auto)]
 

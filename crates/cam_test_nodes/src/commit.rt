@@ -1,6 +1,6 @@
-// Each test of each rule once: votes, prepares and queries.
-use crate::{Asked, Families, Queried, Voted};
+//! Each test of each rule once: votes, prepares and queries.
 use cam_base::Sequence;
+use cam_commit::{Asked, Families, Queried, Voted};
 use cam_know::{Know, Outcome};
 use cam_names::{Deps, Name};
 use cam_type::Held;
