@@ -216,27 +216,32 @@ fn may_be_restored(alloc: Global, node: u8, second: &HeldOp) -> Result<bool, Fai
     Ok(may_restore(alloc, &objects, node, &held)?)
 }
 
-/// Index, object and operation of what the other did, and whether both can be restored at node 1.
-const SECONDS: [(u32, u8, Op, bool); 8] = [
-    (4, REGISTER, Op::Read, true),
-    (999_999_999, QUEUE, Op::Put(1), true),
-    (3, QUEUE, Op::Put(1), false),
-    (1_000_000_000, REGISTER, Op::Read, false),
-    (4, REGISTER, Op::Put(1), false),
-    (4, 3, Op::Read, false),
-    (4, COUNTER, Op::Add(1), true),
-    (4, COUNTER, Op::Write(1), false),
-];
+/// What the other did, and whether both can be restored at node 1.
+fn second(place: u8) -> Option<(HeldOp, bool)> {
+    let (index, object, op, may) = match place {
+        0 => (4, REGISTER, Op::Read, true),
+        1 => (999_999_999, QUEUE, Op::Put(1), true),
+        2 => (3, QUEUE, Op::Put(1), false),
+        3 => (1_000_000_000, REGISTER, Op::Read, false),
+        4 => (4, REGISTER, Op::Put(1), false),
+        5 => (4, 3, Op::Read, false),
+        6 => (4, COUNTER, Op::Add(1), true),
+        7 => (4, COUNTER, Op::Write(1), false),
+        _ => return None,
+    };
+    Some((HeldOp { index, object, op }, may))
+}
 
 #[test]
 fn only_what_fits_under_indices_of_its_own_can_be_restored(rt: HostRuntime) -> Result<(), Fail> {
-    for (index, object, op, may) in SECONDS {
-        let second = HeldOp { index, object, op };
-        assert_eq!(rt; may_be_restored(rt.alloc(), 1, &second)?, may, "{second:?}");
-        assert!(rt;
-            !may_be_restored(rt.alloc(), 2, &second)?,
-            "{second:?} at another node"
-        );
+    for place in 0..8u8 {
+        if let Some((op, may)) = second(place) {
+            assert_eq!(rt; may_be_restored(rt.alloc(), 1, &op)?, may, "case {place}");
+            assert!(rt;
+                !may_be_restored(rt.alloc(), 2, &op)?,
+                "case {place} at another node"
+            );
+        }
     }
     Ok(())
 }

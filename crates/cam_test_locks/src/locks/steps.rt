@@ -60,20 +60,40 @@ fn answers(table: &mut LockTable, servers: &mut Servers, step: &Step) -> Result<
         Step::Done(name, object, op, answer) => {
             asks(table, servers, name, *object, op, Told::Done(*answer))
         }
-        Step::Busy(name, object, op, holder) => match Name::parse(holder) {
-            Ok(holder) => asks(table, servers, name, *object, op, Told::Busy(holder)),
-            Err(_) => Ok(false),
-        },
+        Step::Busy(name, object, op, holder) => {
+            is_refused(table, servers, name, *object, op, holder)
+        }
         Step::Commit(name) => commits(table, name),
         Step::Abort(name) => aborts(table, name),
-        Step::Copy => {
-            *table = table.copy()?;
-            Ok(true)
-        }
-        Step::Register(value) => { Ok(value_of(table, REGISTER)? == Some(State::Register(*value))) }
-        Step::Counter(value) => { Ok(value_of(table, COUNTER)? == Some(State::Counter(*value))) }
+        Step::Copy => goes_on_with_a_copy(table),
+        Step::Register(value) => holds(table, REGISTER, State::Register(*value)),
+        Step::Counter(value) => holds(table, COUNTER, State::Counter(*value)),
         Step::Secured(name, count) => secures(table, name, *count),
     }
+}
+
+fn is_refused(
+    table: &mut LockTable,
+    servers: &mut Servers,
+    name: &str,
+    object: u8,
+    op: &Op,
+    holder: &str,
+) -> Result<bool, NoMemory> {
+    match Name::parse(holder) {
+        Ok(holder) => asks(table, servers, name, object, op, Told::Busy(holder)),
+        Err(_) => Ok(false),
+    }
+}
+
+fn goes_on_with_a_copy(table: &mut LockTable) -> Result<bool, NoMemory> {
+    *table = table.copy()?;
+    Ok(true)
+}
+
+/// Whether an object holds this past the top.
+fn holds(table: &LockTable, object: u8, value: State) -> Result<bool, NoMemory> {
+    Ok(value_of(table, object)? == Some(value))
 }
 
 fn asks(
