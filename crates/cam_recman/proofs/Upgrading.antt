@@ -3,6 +3,8 @@ use Rattle.std.proofs.Common.{◌≡◌, ◌⊎◌, inl, inr, ℕ, ◌+◌, Bool
 use Rattle.std.specs.List.{AllByRecursion}
 use Rattle.std.proofs.lemmas.Bool.Decides.{eqb_tells}
 use Rattle.cam_log.specs.Moments.{Opened, IsBeforeOrAfter}
+use Rattle.cam_log.specs.Laws.{AreEntries}
+use Rattle.cam_log.specs.Again.{logs_are_read}
 use Rattle.cam_bytes.specs.Reading.{◌>>=◌}
 use Rattle.cam_recman.specs.declared.Record.{Record}
 use Rattle.cam_recman.specs.declared.Record.TheVariants.{Count, Abort, Commit, Seen, Secure, Version}
@@ -14,7 +16,7 @@ use Rattle.cam_recman.specs.Ranges.{AreRecords}
 use Rattle.cam_recman.specs.Versions.{version_behind, AreOf}
 use Rattle.cam_recman.specs.Reading.{read_entry}
 use Rattle.cam_recman.specs.Recovery.{at_first, with_entry, all_records, recover_from, said_by, recovered_of, recover}
-use Rattle.cam_recman.specs.Migrating.{version_entry, with_version, migrated, RecoversTheSame, IsUpgraded}
+use Rattle.cam_recman.specs.Migrating.{version_entry, with_version, migrated, RecoversTheSame, IsUpgraded, ReadsAndRecovers}
 use Rattle.cam_recman.proofs.Again.{entries_are_read}
 use Rattle.cam_recman.proofs.Folding.{said_by_records, one_more_entry_adds}
 
@@ -130,5 +132,24 @@ stopped_migration_recovers entries s opened said first (inl before) = record { f
 stopped_migration_recovers entries s opened said first (inr after) =
     record { found = entries ++ version_entry ∷ []; opens = after; recovers = ap recovered_of (said_more entries s said first) ∙ sym (ap recovered_of said) }
 
-pub upgrade_keeps_recovery : (input output : List ℕ) (up : IsUpgraded input output) → recover up.left ≡ recover up.entries
-upgrade_keeps_recovery input output up = migration_keeps_recovery up.entries up.left up.migrates
+-- what is left of entries are entries
+one_more : (entries : List (List ℕ)) → AreEntries entries → AreEntries (entries ++ version_entry ∷ [])
+one_more [] are = (omega (arith), tt)
+one_more (entry ∷ entries) are = (are.0, one_more entries are.1)
+
+left_are_entries : (version : ℕ) (entries : List (List ℕ)) → AreEntries entries → AreEntries (with_version version entries)
+left_are_entries version entries are =
+    elim (eqb_tells version 1) [
+      | inl y ↦ subst (λ (b : Bool). AreEntries (cond b (entries ++ version_entry ∷ []) entries)) (sym y.0) (one_more entries are)
+      | inr n ↦ subst (λ (b : Bool). AreEntries (cond b (entries ++ version_entry ∷ []) entries)) (sym n.0) are
+    ]
+
+pub upgrade_keeps_recovery : (input output : List ℕ) (up : IsUpgraded input output) → AreEntries up.entries → ReadsAndRecovers up.entries up.left output
+upgrade_keeps_recovery input output up are =
+    let (s, said, is) = was_said up.entries up.left up.migrates in
+    record {
+      reads =
+          logs_are_read up.left output (subst AreEntries is (left_are_entries s.version up.entries are))
+          (record { gate = up.gate; is_closed = up.is_closed; rest = []; is = up.is });
+      recovers = migration_keeps_recovery up.entries up.left up.migrates;
+    }

@@ -4,6 +4,7 @@ use Rattle.std.specs.Prelude.{◌≡◌, ℕ, ◌==◌, List, [], ◌∷◌, ◌
 use Rattle.std.specs.List.{AllByRecursion}
 use Rattle.cam_log.specs.Image.{header, gated}
 use Rattle.cam_log.specs.Reading.{read_log}
+use Rattle.cam_log.specs.Laws.{AreEntries}
 use Rattle.cam_log.specs.Moments.{Opened, IsBeforeOrAfter}
 use Rattle.cam_bytes.specs.Reading.{◌>>=◌}
 use Rattle.cam_recman.specs.declared.Record.{Record}
@@ -88,6 +89,12 @@ pub record IsUpgraded (input output : List ℕ) : Type 0 where
   pub is_closed : gate ≡ 1 → ⊥
   pub is : output ≡ header ++ flat_map gated left ++ gate ∷ []
 
--- What is recovered of it is what is recovered of the image that was read.
+-- Read as a log, an image gives just these entries, and what is recovered of them is what is recovered of others.
+pub record ReadsAndRecovers (others entries : List (List ℕ)) (image : List ℕ) : Type 0 where
+  pub reads : read_log image ≡ Ok entries
+  pub recovers : recover entries ≡ recover others
+
+-- What an upgrade wrote is read as the migrated entries, and recovers what the image that was read does.
 abbrev pub UpgradeKeepsRecovery : Type 0
-UpgradeKeepsRecovery = (input output : List ℕ) (up : IsUpgraded input output) → recover up.left ≡ recover up.entries
+UpgradeKeepsRecovery =
+    (input output : List ℕ) (up : IsUpgraded input output) → AreEntries up.entries → ReadsAndRecovers up.entries up.left output

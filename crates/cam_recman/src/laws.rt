@@ -27,7 +27,7 @@ pub fn recovery()
 
 /// A log is brought to version 2 by one entry of a Version alone, which says nothing that is recovered. What is left recovers what was
 /// recovered before, and so does a log that was stopped meanwhile; where nothing could be recovered, the fault is the same. To migrate once
-/// is enough.
+/// is enough. An image that was written anew, migrated, is read as the migrated entries.
 pub fn migration()
     ensures recovery { MigrationKeepsRecovery }
     ensures fault { MigrationHasTheFault }
