@@ -1,10 +1,12 @@
 -- What each call answers, and what it does to the server.
-use Rattle.std.specs.Prelude.{◌≡◌, ℕ, eqb, Bool, true, false, not, ◌&&◌, ◌||◌, if◌then◌else◌, List, filter, Option, Some, None}
+use Rattle.std.specs.Prelude.{◌≡◌, ℕ, eqb, min, Bool, true, false, not, ◌&&◌, ◌||◌, if◌then◌else◌, List, filter, Option, Some, None}
 use Rattle.std.specs.List.{list_any}
+use Rattle.std.specs.HashMap.{get, spare}
 use Rattle.cam_names.specs.declared.name.Name.{Name}
 use Rattle.cam_names.specs.Names.{name_eq, ancestors}
 use Rattle.cam_names.specs.Dependencies.{pairs_of}
 use Rattle.cam_type.specs.declared.Op.{Op}
+use Rattle.cam_type.specs.declared.Answer.{Answer}
 use Rattle.cam_type.specs.declared.State.{State}
 use Rattle.cam_know.specs.Knowledge.{Knowledge}
 use Rattle.cam_know.specs.declared.Reason.{Reason}
@@ -20,7 +22,32 @@ use Rattle.cam_locks.specs.Calls.{grant, after_grant}
 use Rattle.cam_locks.specs.Served.{served}
 use Rattle.cam_server.specs.declared.Performed.{Performed}
 use Rattle.cam_server.specs.declared.Performed.TheVariants as performed
+use Rattle.cam_server.specs.declared.server.CallName.{CallName}
+use Rattle.cam_server.specs.declared.server.Server.{Server as Tables}
 use Rattle.cam_server.specs.Server.{Server}
+
+-- whether two calls are the same: of one action, under one number
+abbrev pub call_eq : CallName → CallName → Bool
+call_eq a b = name_eq a.action b.action && eqb a.number b.number
+
+-- the reply by the table of the calls that were performed, and then by that of those that were bounced
+abbrev pub reply_by : Option Answer → Option Name → Option Reply
+reply_by (Some answer) u = Some (replies.Done answer)
+reply_by None (Some u) = Some (replies.Busy u)
+reply_by None None = None
+
+abbrev pub reply_in : Tables → CallName → Option Reply
+reply_in t call = reply_by (get call_eq t.performed call) (get call_eq t.bounced call)
+
+-- what the tables answer
+abbrev pub answers : Tables → Server
+answers t =
+    record {
+      count = t.count;
+      table = t.table;
+      kept_reply = λ a n. reply_in t (record { action = a; number = n });
+      room = min (spare t.performed) (spare t.bounced);
+    }
 
 -- a call as it comes to its site: the count at which the site was addressed, and the pairs that its action has visited
 pub record Asked : Type 0 where

@@ -6,13 +6,16 @@
 //! It stands on `cam_locks` (the table), `cam_orphan` (the test) and `cam_event` (histories and rules).
 #![tactic(auto)]
 
+mod server;
+
 use cam_event::Reply;
 use cam_know::Reason;
 use cam_names::Name;
 use cam_type::Answer;
+pub use server::Server;
 
 /// What comes of a call at its site, in the order of the tests: the first that holds decides.
-#[derive(Clone, Copy, Debug)]
+#[derive(Clone, Copy, Debug, PartialEq, Eq)]
 pub enum Performed {
     /// It was addressed to another count.
     Missed,
