@@ -103,6 +103,10 @@ pub record AfterPerformed (asked : Asked) (result : Performed) (old new : Server
       → new.kept_reply a n
       ≡ (if is_served result && (name_eq asked.action a && eqb asked.number n) then reply_of result else old.kept_reply a n)
 
+-- the reply to a call is noted
+abbrev pub IsNoted : CallName → Option Reply → Tables → Tables → Type 0
+IsNoted noted reply old new = (c : CallName) → reply_in new c ≡ (if call_eq noted c then reply else reply_in old c)
+
 -- what the handed-in server holds then: the state behind a call that was performed, else what it held
 abbrev pub held_after : Performed → Asked → Server → State → State
 held_after result asked old state =

@@ -1,12 +1,24 @@
 //! The server of a site: its lock table, and the replies that were given, in tables of hashes.
-ghost use Rattle.std.specs.Prelude.{◌≡◌, ◌≤◌, OnOk};
-ghost use Rattle.cam_server.specs.Calls.{answers, AreSame, IsNew};
+ghost use Rattle.std.specs.Prelude.{◌≡◌, ◌≤◌, None, IsTrue, IfOk, OnOk, OnErr};
+ghost use Rattle.std.specs.List.{list_any};
+ghost use Rattle.cam_names.specs.Names.{ancestors};
+ghost use Rattle.cam_type.specs.Table.{kind_of};
+ghost use Rattle.cam_type.specs.Objects.{start_of};
+ghost use Rattle.cam_know.specs.Known.{knows_commit};
+ghost use Rattle.cam_locks.specs.Site.{fits_here};
+ghost use Rattle.cam_locks.specs.Calls.{grant, after_grant};
+ghost use Rattle.cam_locks.specs.Served.{served};
+ghost use Rattle.cam_server.specs.Calls.{answers, reply_in, call, granted, performed_by, reply_of, held_after};
+ghost use Rattle.cam_server.specs.Calls.{AfterPerformed, AreSame, IsNew, IsNoted};
 
+use crate::Performed;
 use cam_base::NoMemory;
 use cam_event::Reply;
-use cam_locks::LockTable;
-use cam_names::Name;
-use cam_type::Answer;
+use cam_know::Know;
+use cam_locks::{Grant, LockTable};
+use cam_names::{Deps, Name};
+use cam_orphan::orphan;
+use cam_type::{Answer, DataType, Op};
 use std::alloc::Global;
 use std::collections::HashMap;
 
@@ -65,5 +77,113 @@ impl Server {
             return Some(Reply::Done(*answer));
         }
         self.bounced.get(call).map(|holder| Reply::Busy(*holder))
+    }
+
+    /// A call comes to its site: of an action, under a number, on an object, addressed to the site at `count`; `visited` has the pairs
+    /// that its action has visited. The first test that holds decides, in the order of [`Performed`]: another count, a known commit of an
+    /// ancestor, a call that was answered before, an orphan, a lock in the way; else it is performed. The handed-in server does it, as in
+    /// [`LockTable::try_lock_and_apply`], whose wants are those of this call. What the letter brought is known, and the server was informed
+    /// of it. Want of memory changes nothing but the handed-in server. The rule stands in `docs/RULES.md`.
+    pub fn perform<T: DataType>(
+        &mut self,
+        know: &Know,
+        action: &Name,
+        number: u32,
+        object: u8,
+        op: &Op,
+        count: u32,
+        visited: &Deps,
+        server: &mut T,
+    ) -> Result<Performed, NoMemory>
+        requires fits { IsTrue (fits_here self.old.table.site.objects self.old.table.site.node object op.now) }
+        requires index { self.old.table.site.next ≤ 999999999 }
+        requires kind { T.kind server.old ≡ kind_of (start_of self.old.table.site.objects object) }
+        ensures value { IfOk result (λ done.
+            done ≡ performed_by know.now (answers self.old) (call action.now number object op.now count visited.now)) }
+        ensures new { IfOk result (λ done.
+            AfterPerformed (call action.now number object op.now count visited.now) done (answers self.old) (answers self.new)) }
+        ensures err { OnErr result (AreSame (answers self.old) (answers self.new)) }
+        ensures spare { (answers self.new).table.spare ≡ (answers self.old).table.spare }
+        ensures served { IfOk result (λ done. T.held server.new
+            ≡ held_after done (call action.now number object op.now count visited.now) (answers self.old) (T.held server.old)) }
+        ensures kind_stays { T.kind server.new ≡ T.kind server.old }
+    {
+        if count != self.count {
+            return Ok(Performed::Missed);
+        }
+        if is_ended(know, action) {
+            return Ok(Performed::Ended);
+        }
+        let call = CallName {
+            action: *action,
+            number,
+        };
+        if let Some(reply) = self.reply(&call) {
+            return Ok(Performed::Again(reply));
+        }
+        if let Some(reason) = orphan(know, action, visited) {
+            return Ok(Performed::Orphan(reason));
+        }
+        self.serve(&call, object, op, server)
+    }
+
+    /// A call that was not answered before comes to the lock table. Room for the reply is made first, so that nothing fails behind a grant.
+    fn serve<T: DataType>(
+        &mut self,
+        call: &CallName,
+        object: u8,
+        op: &Op,
+        server: &mut T,
+    ) -> Result<Performed, NoMemory>
+        requires fits { IsTrue (fits_here self.old.table.site.objects self.old.table.site.node object op.now) }
+        requires index { self.old.table.site.next ≤ 999999999 }
+        requires kind { T.kind server.old ≡ kind_of (start_of self.old.table.site.objects object) }
+        requires fresh { reply_in self.old call.now ≡ None }
+        ensures value { IfOk result (λ done. done ≡ granted (grant self.old.table.site call.now.action object op.now)) }
+        ensures count { self.new.count ≡ self.old.count }
+        ensures site { OnOk result (self.new.table.site ≡ after_grant self.old.table.site call.now.action object op.now) }
+        ensures replies { IfOk result (λ done. IsNoted call.now (reply_of done) self.old self.new) }
+        ensures err { OnErr result (AreSame (answers self.old) (answers self.new)) }
+        ensures spare { self.new.table.spare ≡ self.old.table.spare }
+        ensures served { OnOk result (T.held server.new ≡ served self.old.table.site call.now.action object op.now (T.held server.old)) }
+        ensures kind_stays { T.kind server.new ≡ T.kind server.old }
+    {
+        self.performed.reserve(1)?;
+        self.bounced.reserve(1)?;
+        let grant = self
+            .table
+            .try_lock_and_apply(&call.action, object, op, server)?;
+        Ok(self.note(call, &grant))
+    }
+
+    /// Notes the reply to a call that was not answered before. There is room, so it takes no memory.
+    fn note(&mut self, call: &CallName, grant: &Grant) -> Performed
+        requires fresh { reply_in self.old call.now ≡ None }
+        requires room { 1 ≤ (answers self.old).room }
+        ensures value { result ≡ granted grant.now }
+        ensures count { self.new.count ≡ self.old.count }
+        ensures table { self.new.table ≡ self.old.table }
+        ensures replies { IsNoted call.now (reply_of (granted grant.now)) self.old self.new }
+    {
+        match grant {
+            Grant::Done(answer) => {
+                let _ = self.performed.insert(*call, *answer);
+                Performed::Done(*answer)
+            }
+            Grant::Conflict(holder) => {
+                let _ = self.bounced.insert(*call, *holder);
+                Performed::Busy(*holder)
+            }
+        }
+    }
+}
+
+/// Whether the commit of an ancestor of the action is known.
+fn is_ended(know: &Know, action: &Name) -> bool
+    ensures { result ≡ list_any (knows_commit know.now) (ancestors action.now) }
+{
+    match action.parent() {
+        None => know.is_committed(action),
+        Some(parent) => know.is_committed(action) || is_ended(know, &parent),
     }
 }
