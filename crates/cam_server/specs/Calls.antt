@@ -10,7 +10,9 @@ use Rattle.cam_type.specs.declared.Answer.{Answer}
 use Rattle.cam_type.specs.declared.State.{State}
 use Rattle.cam_know.specs.Knowledge.{Knowledge}
 use Rattle.cam_know.specs.declared.Reason.{Reason}
-use Rattle.cam_know.specs.Known.{knows_commit}
+use Rattle.cam_know.specs.declared.Outcome.{Outcome}
+use Rattle.cam_know.specs.declared.Outcome.TheVariants.{Aborted, Committed}
+use Rattle.cam_know.specs.Known.{knows_commit, is_abort_of, is_commit_of}
 use Rattle.cam_know.specs.Orphans.{known_orphan}
 use Rattle.cam_event.specs.declared.Reply.{Reply}
 use Rattle.cam_event.specs.declared.Reply.TheVariants as replies
@@ -18,7 +20,7 @@ use Rattle.cam_locks.specs.declared.Grant.{Grant}
 use Rattle.cam_locks.specs.declared.Grant.TheVariants as grants
 use Rattle.cam_locks.specs.Names.{has_name}
 use Rattle.cam_locks.specs.Site.{Site}
-use Rattle.cam_locks.specs.Calls.{grant, after_grant}
+use Rattle.cam_locks.specs.Calls.{grant, after_grant, with_commit, with_abort}
 use Rattle.cam_locks.specs.Served.{served}
 use Rattle.cam_server.specs.declared.Performed.{Performed}
 use Rattle.cam_server.specs.declared.Performed.TheVariants as performed
@@ -117,6 +119,18 @@ pub record AreSame (one other : Server) : Type 0 where
   pub count : other.count ≡ one.count
   pub site : other.table.site ≡ one.table.site
   pub replies : (a : Name) (n : ℕ) → other.kept_reply a n ≡ one.kept_reply a n
+
+-- which of these outcomes are the action's aborts, and which its commits
+abbrev pub aborts_in : List Outcome → Name → Bool
+aborts_in os u = list_any (is_abort_of u) os
+
+abbrev pub commits_in : List Outcome → Name → Bool
+commits_in os u = list_any (is_commit_of u) os
+
+-- a site is informed of an outcome
+abbrev pub informed_of : Outcome → Site → Site
+informed_of (Aborted a) site = with_abort site a
+informed_of (Committed a counts) site = with_commit site a
 
 -- The site is informed of these aborts and commits: the operations of an aborted action and of all below it are dropped.
 pub record AreInformed (aborts commits : Name → Bool) (old new : Server) : Type 0 where

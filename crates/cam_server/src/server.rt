@@ -1,20 +1,21 @@
 //! The server of a site: its lock table, and the replies that were given, in tables of hashes.
-ghost use Rattle.std.specs.Prelude.{◌≡◌, ◌≤◌, None, IsTrue, IfOk, OnOk, OnErr};
+ghost use Rattle.std.specs.Prelude.{◌≡◌, ◌+◌, ◌≤◌, length, None, IsTrue, IfOk, OnOk, OnErr};
 ghost use Rattle.std.specs.List.{list_any};
 ghost use Rattle.cam_names.specs.Names.{ancestors};
 ghost use Rattle.cam_type.specs.Table.{kind_of};
 ghost use Rattle.cam_type.specs.Objects.{start_of};
-ghost use Rattle.cam_know.specs.Known.{knows_commit};
+ghost use Rattle.cam_know.specs.Known.{knows_abort, knows_commit};
 ghost use Rattle.cam_locks.specs.Site.{fits_here};
 ghost use Rattle.cam_locks.specs.Calls.{grant, after_grant};
 ghost use Rattle.cam_locks.specs.Served.{served};
 ghost use Rattle.cam_server.specs.Calls.{answers, reply_in, call, granted, performed_by, reply_of, held_after};
-ghost use Rattle.cam_server.specs.Calls.{AfterPerformed, AreSame, IsNew, IsNoted};
+ghost use Rattle.cam_server.specs.declared.server.CallName.{CallName as CallValue};
+ghost use Rattle.cam_server.specs.Calls.{AfterPerformed, AreInformed, AreSame, IsNew, IsNoted, aborts_in, commits_in, informed_of};
 
 use crate::Performed;
 use cam_base::NoMemory;
 use cam_event::Reply;
-use cam_know::Know;
+use cam_know::{Know, Outcome};
 use cam_locks::{Grant, LockTable};
 use cam_names::{Deps, Name};
 use cam_orphan::orphan;
@@ -125,6 +126,36 @@ impl Server {
             return Ok(Performed::Orphan(reason));
         }
         self.serve(&call, object, op, server)
+    }
+
+    /// The site is informed of these outcomes. It wants a spare of their number ([`Server::reserve`]), and takes no memory.
+    pub fn informed(&mut self, news: &Know)
+        requires { length news.now.outcomes ≤ (answers self.old).table.spare }
+        ensures { AreInformed (knows_abort news.now) (knows_commit news.now) (answers self.old) (answers self.new) }
+    {
+        self.inform_all(news.outcomes());
+    }
+
+    fn inform_all(&mut self, outcomes: &[Outcome])
+        requires { length outcomes.now ≤ self.old.table.spare }
+        ensures { AreInformed (aborts_in outcomes.now) (commits_in outcomes.now) (answers self.old) (answers self.new) }
+    {
+        for outcome in outcomes {
+            self.inform(outcome);
+        }
+    }
+
+    fn inform(&mut self, outcome: &Outcome)
+        requires { 1 ≤ self.old.table.spare }
+        ensures count { self.new.count ≡ self.old.count }
+        ensures site { self.new.table.site ≡ informed_of outcome.now self.old.table.site }
+        ensures spare { self.old.table.spare ≤ self.new.table.spare + 1 }
+        ensures replies { (c : CallValue) → reply_in self.new c ≡ reply_in self.old c }
+    {
+        match outcome {
+            Outcome::Aborted(name) => self.table.abort(name),
+            Outcome::Committed(name, _) => self.table.commit(name),
+        }
     }
 
     /// A call that was not answered before comes to the lock table. Room for the reply is made first, so that nothing fails behind a grant.
