@@ -13,7 +13,6 @@ use Rattle.cam_know.specs.declared.Outcome.TheVariants.{Aborted, Committed}
 use Rattle.cam_know.specs.Known.{is_abort_of, is_commit_of}
 use Rattle.cam_locks.specs.declared.LiveOp.{LiveOp}
 use Rattle.cam_locks.specs.Names.{has_name, with_name}
-use Rattle.cam_locks.specs.Site.{Site}
 use Rattle.cam_locks.specs.Calls.{with_commit, with_abort}
 use Rattle.cam_server.specs.Server.{Server}
 use Rattle.cam_server.specs.Calls.{AreInformed, aborts_in, commits_in, informed_of}

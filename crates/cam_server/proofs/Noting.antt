@@ -1,5 +1,5 @@
 -- The reply to a call is noted where there is room.
-use Rattle.std.proofs.Common.{◌≡◌, ℕ, Bool, true, false, cond, if◌then◌else◌, Option, Some, None, Result, Ok, Err, sym, ap, ◌∙◌, refl}
+use Rattle.std.proofs.Common.{◌≡◌, Bool, true, false, cond, if◌then◌else◌, Option, Some, None, Result, Ok, Err, sym, ap, ◌∙◌, refl}
 use Rattle.std.specs.Prelude.{IsOk, OnOk, OnErr}
 use Rattle.std.specs.HashMap.{get, Updates}
 use Rattle.std.proofs.lemmas.Bool.{and_parts}
@@ -7,7 +7,6 @@ use Rattle.std.proofs.lemmas.Bool.Decides.{Decides-eqb}
 use Rattle.cam_names.specs.declared.name.Name.{Name}
 use Rattle.cam_names.proofs.Names.{name_eq_same}
 use Rattle.cam_type.specs.declared.Answer.{Answer}
-use Rattle.cam_event.specs.declared.Reply.{Reply}
 use Rattle.cam_event.specs.declared.Reply.TheVariants as replies
 use Rattle.cam_server.specs.declared.server.CallName.{CallName}
 use Rattle.cam_server.specs.declared.server.Server.{Server as Tables}
