@@ -15,7 +15,7 @@ use std::test::Fail;
 
 /// What a restart keeps of three families that wrote the register, of which the first aborted, the second is undecided, and the third
 /// committed.
-fn restarted(place: u8) -> Option<Step> {
+fn restarted(place: u8) -> Option<Step<'static>> {
     Some(match place {
         0 => Register(3),
         1 => Secured("1.1.1", 0),
@@ -26,7 +26,7 @@ fn restarted(place: u8) -> Option<Step> {
 }
 
 /// Two families that both wrote the register, and of which nothing is known, stand in each other's way.
-fn two_writers(place: u8) -> Option<Step> {
+fn two_writers(place: u8) -> Option<Step<'static>> {
     Some(match place {
         0 => Busy("1.1.1", REGISTER, Op::Read, "1.1.2"),
         1 => Busy("1.1.2", REGISTER, Op::Read, "1.1.1"),
@@ -43,7 +43,7 @@ fn two_writers(place: u8) -> Option<Step> {
 }
 
 /// Two families work.
-fn work(place: u8) -> Option<Step> {
+fn work(place: u8) -> Option<Step<'static>> {
     Some(match place {
         0 => Done("1.1.1", REGISTER, Op::Read, Answer::Value(0)),
         1 => Done("1.1.2", QUEUE, Op::Put(6), Answer::Ok),
@@ -54,7 +54,7 @@ fn work(place: u8) -> Option<Step> {
 }
 
 /// They go on.
-fn more_work(place: u8) -> Option<Step> {
+fn more_work(place: u8) -> Option<Step<'static>> {
     Some(match place {
         0 => Busy("1.1.2", REGISTER, Op::Read, "1.1.1"),
         1 => Done("1.1.1", REGISTER, Op::Swap(7), Answer::Value(5)),
@@ -70,7 +70,7 @@ fn more_work(place: u8) -> Option<Step> {
 }
 
 /// Three families add to the counter.
-fn adds(place: u8) -> Option<Step> {
+fn adds(place: u8) -> Option<Step<'static>> {
     Some(match place {
         0 => Done("1.1.1/1.1.1", COUNTER, Op::Add(5), Answer::Ok),
         1 => Done("1.1.3", COUNTER, Op::Add(100), Answer::Ok),
@@ -81,7 +81,7 @@ fn adds(place: u8) -> Option<Step> {
 }
 
 /// The first and the second were secured, and what the third added is gone.
-fn secured_adds(place: u8) -> Option<Step> {
+fn secured_adds(place: u8) -> Option<Step<'static>> {
     Some(match place {
         0 => Secured("1.1.3", 0),
         1 => Counter(10),
@@ -164,7 +164,7 @@ fn secured(alloc: Global, table: &LockTable) -> Result<HeldList, Fail> {
 }
 
 /// The first step that a table does not answer as it has to, after a restart with these families.
-fn first_unlike_after<F: Fn(u8) -> Option<Step>>(
+fn first_unlike_after<'a, F: Fn(u8) -> Option<Step<'a>>>(
     alloc: Global,
     held: &HeldList,
     scene: F,

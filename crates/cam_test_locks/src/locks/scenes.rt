@@ -10,7 +10,7 @@ use std::alloc::Global;
 use std::test::Fail;
 
 /// Holders stand in the way, commits hand up, and aborts drop.
-fn hand_up(place: u8) -> Option<Step> {
+fn hand_up(place: u8) -> Option<Step<'static>> {
     Some(match place {
         0 => Done("1.1.1", REGISTER, Op::Read, Answer::Value(0)),
         1 => Done("1.1.2", REGISTER, Op::Read, Answer::Value(0)),
@@ -36,7 +36,7 @@ fn hand_up(place: u8) -> Option<Step> {
 }
 
 /// A writer keeps readers out until it ends.
-fn writer(place: u8) -> Option<Step> {
+fn writer(place: u8) -> Option<Step<'static>> {
     Some(match place {
         0 => Done("1.1.1", REGISTER, Op::Write(4), Answer::Ok),
         1 => Busy("1.1.2", REGISTER, Op::Read, "1.1.1"),
@@ -53,7 +53,7 @@ fn writer(place: u8) -> Option<Step> {
 }
 
 /// A child commits before its parent.
-fn child_first(place: u8) -> Option<Step> {
+fn child_first(place: u8) -> Option<Step<'static>> {
     Some(match place {
         0 => Done("1.1.1", REGISTER, Op::Write(1), Answer::Ok),
         1 => Done("1.1.1/1.1.1", REGISTER, Op::Swap(2), Answer::Value(1)),
@@ -71,7 +71,7 @@ fn child_first(place: u8) -> Option<Step> {
 }
 
 /// A parent commits before its child.
-fn parent_first(place: u8) -> Option<Step> {
+fn parent_first(place: u8) -> Option<Step<'static>> {
     Some(match place {
         0 => Done("1.1.1", REGISTER, Op::Write(1), Answer::Ok),
         1 => Done("1.1.1/1.1.1", REGISTER, Op::Swap(2), Answer::Value(1)),
@@ -86,7 +86,7 @@ fn parent_first(place: u8) -> Option<Step> {
 }
 
 /// A child aborts, and then its parent commits; a parent aborts, and then its child commits.
-fn aborts(place: u8) -> Option<Step> {
+fn aborts(place: u8) -> Option<Step<'static>> {
     Some(match place {
         0 => Done("1.1.1", REGISTER, Op::Write(1), Answer::Ok),
         1 => Done("1.1.1/1.1.1", REGISTER, Op::Swap(2), Answer::Value(1)),
@@ -106,7 +106,7 @@ fn aborts(place: u8) -> Option<Step> {
 }
 
 /// Both outcomes of an action come in, in either order.
-fn both_outcomes(place: u8) -> Option<Step> {
+fn both_outcomes(place: u8) -> Option<Step<'static>> {
     Some(match place {
         0 => Done("1.1.1", REGISTER, Op::Write(3), Answer::Ok),
         1 => Commit("1.1.1"),
@@ -125,7 +125,7 @@ fn both_outcomes(place: u8) -> Option<Step> {
 }
 
 /// Two families add to the counter, and one of them in a child that aborts; the sum wraps.
-fn adders(place: u8) -> Option<Step> {
+fn adders(place: u8) -> Option<Step<'static>> {
     Some(match place {
         0 => Done("1.1.1", COUNTER, Op::Add(5), Answer::Ok),
         1 => Done("1.1.2", COUNTER, Op::Add(7), Answer::Ok),
@@ -156,7 +156,7 @@ fn adders(place: u8) -> Option<Step> {
 }
 
 /// Siblings add side by side, and the first read that may be done meets both adds.
-fn siblings(place: u8) -> Option<Step> {
+fn siblings(place: u8) -> Option<Step<'static>> {
     Some(match place {
         0 => Done("1.1.1/1.1.1", COUNTER, Op::Add(5), Answer::Ok),
         1 => Done("1.1.1/1.1.2", COUNTER, Op::Add(7), Answer::Ok),
@@ -177,7 +177,7 @@ fn siblings(place: u8) -> Option<Step> {
 }
 
 /// What a child adds is handed up twice and then taken back with the action that had it; of another action both outcomes come in.
-fn taken_back(place: u8) -> Option<Step> {
+fn taken_back(place: u8) -> Option<Step<'static>> {
     Some(match place {
         0 => Done("1.1.1", COUNTER, Op::Add(1), Answer::Ok),
         1 => Done("1.1.1/1.1.1", COUNTER, Op::Add(2), Answer::Ok),
@@ -199,7 +199,7 @@ fn taken_back(place: u8) -> Option<Step> {
 }
 
 /// Whether a new table answers a scene as it has to.
-fn is_answered<F: Fn(u8) -> Option<Step>>(alloc: Global, scene: F) -> Result<bool, NoMemory>
+fn is_answered<'a, F: Fn(u8) -> Option<Step<'a>>>(alloc: Global, scene: F) -> Result<bool, NoMemory>
     requires { F.IsAlwaysCallable scene }
 {
     let objects = objects(alloc)?;

@@ -12,13 +12,13 @@ use std::alloc::Global;
 
 /// One step with a table, and what it has to answer.
 #[derive(Clone, Copy)]
-pub(super) enum Step {
+pub(super) enum Step<'a> {
     /// An operation of an action is done, with this answer.
-    Done(&'static str, u8, Op, Answer),
+    Done(&'a str, u8, Op, Answer),
     /// An operation of an action is refused, since this one stands in the way.
-    Busy(&'static str, u8, Op, &'static str),
-    Commit(&'static str),
-    Abort(&'static str),
+    Busy(&'a str, u8, Op, &'a str),
+    Commit(&'a str),
+    Abort(&'a str),
     /// From here on a copy goes on.
     Copy,
     /// What the register holds past the top.
@@ -26,12 +26,12 @@ pub(super) enum Step {
     /// What the counter holds past the top.
     Counter(i64),
     /// How many operations of a family are secured.
-    Secured(&'static str, usize),
+    Secured(&'a str, usize),
 }
 
 /// The first step of a scene that the table does not answer as it has to. Where memory runs out in a step it is done once more: the table
 /// is as it was.
-pub(super) fn first_unlike<F: Fn(u8) -> Option<Step>>(
+pub(super) fn first_unlike<'a, F: Fn(u8) -> Option<Step<'a>>>(
     alloc: Global,
     table: &mut LockTable,
     scene: F,
@@ -55,7 +55,11 @@ pub(super) fn first_unlike<F: Fn(u8) -> Option<Step>>(
 }
 
 /// Whether the table answers the step as it has to.
-fn answers(table: &mut LockTable, servers: &mut Servers, step: &Step) -> Result<bool, NoMemory> {
+fn answers(
+    table: &mut LockTable,
+    servers: &mut Servers,
+    step: &Step<'_>,
+) -> Result<bool, NoMemory> {
     match step {
         Step::Done(name, object, op, answer) => {
             asks(table, servers, name, *object, op, Told::Done(*answer))
