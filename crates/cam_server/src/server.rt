@@ -44,7 +44,8 @@ pub struct Server {
 impl Server {
     /// With this table of the site, at this count of the node: nothing is served yet. It takes no memory.
     pub fn new(alloc: Global, table: LockTable, count: u32) -> Server
-        ensures { IsNew count table.site (answers result) }
+        ensures new { IsNew count table.site (answers result) }
+        ensures spare { (answers result).table.spare ≡ table.spare }
     {
         Server {
             count,
@@ -131,14 +132,16 @@ impl Server {
     /// The site is informed of these outcomes. It wants a spare of their number ([`Server::reserve`]), and takes no memory.
     pub fn informed(&mut self, news: &Know)
         requires { length news.now.outcomes ≤ (answers self.old).table.spare }
-        ensures { AreInformed (knows_abort news.now) (knows_commit news.now) (answers self.old) (answers self.new) }
+        ensures informed { AreInformed (knows_abort news.now) (knows_commit news.now) (answers self.old) (answers self.new) }
+        ensures spare { (answers self.old).table.spare ≤ (answers self.new).table.spare + length news.now.outcomes }
     {
         self.inform_all(news.outcomes());
     }
 
     fn inform_all(&mut self, outcomes: &[Outcome])
         requires { length outcomes.now ≤ self.old.table.spare }
-        ensures { AreInformed (aborts_in outcomes.now) (commits_in outcomes.now) (answers self.old) (answers self.new) }
+        ensures informed { AreInformed (aborts_in outcomes.now) (commits_in outcomes.now) (answers self.old) (answers self.new) }
+        ensures spare { self.old.table.spare ≤ self.new.table.spare + length outcomes.now }
     {
         for outcome in outcomes {
             self.inform(outcome);
