@@ -27,7 +27,7 @@ use Rattle.cam_tranman.specs.declared.call.OpenCall.{OpenCall}
 use Rattle.cam_tranman.specs.declared.action.Action.{Action}
 use Rattle.cam_tranman.specs.Actions.{Actions, created, deps, address, open_call, open_address, is_open, MayRunHere}
 use Rattle.cam_tranman.specs.Calls.{changed, on, with_ask, one_call_more, as_ended, gaining, seeing, fresh, visiting, asked, called, finished, got, got_by, decided, begun, begun_child, next_top}
-use Rattle.cam_tranman.specs.Events.{call_to, begins, decides, IsNew, IsNamed, HasParent, MayCome, after_deed}
+use Rattle.cam_tranman.specs.Events.{call_to, begins, decides, IsNew, IsNamed, HasParent, CommitMayCome, MayCome, after_deed}
 use Rattle.cam_tranman.proofs.Changing.{without_among}
 use Rattle.cam_tranman.proofs.Gaining.{counts_append, gains_none, none_gains, counts_of_pairs}
 use Rattle.cam_tranman.proofs.Members.{one_parent, top_no_child}
@@ -93,9 +93,9 @@ parent_created q None counts old = refl
 parent_created q (Some p) counts old = created_kept p q (gaining counts) old
 
 runs_committed : (objects : List ObjectDecl) (s : ℕ) (L : List Deed) (mail : Option Mail) (pairs : Name → List (ℕ × ℕ)) (b : Name) (top : Bool) (old : Actions) → is_top b ≡ top
-    → length (finish_counts mail) ≡ 8 → HasParent (parent b) old → RunsBy objects s L pairs old
+    → CommitMayCome top b mail old → RunsBy objects s L pairs old
     → RunsBy objects s (Commit b ∷ L) (with_gained objects L mail (Commit b) pairs) (decides top b (Some (finish_counts mail)) old)
-runs_committed objects s L mail pairs b false old top long has runs =
+runs_committed objects s L mail pairs b false old top may runs =
     record {
       node = runs.node;
       count_is = runs.count_is;
@@ -109,9 +109,9 @@ runs_committed objects s L mail pairs b false old top long has runs =
       site_is = runs.site_is;
       child_is = λ q r here. closed q b r old.children (open_children L q) (runs.child_is q r here);
       deps_are = λ q here.
-          commit_gains (finish_counts mail) b q (parent b) (pairs q) old long (child_of q b (named_here L s q here)) has (runs.deps_are q here);
+          commit_gains (finish_counts mail) b q (parent b) (pairs q) old may.0 (child_of q b (named_here L s q here)) may.1 (runs.deps_are q here);
     }
-runs_committed objects s L mail pairs b true old top long has runs =
+runs_committed objects s L mail pairs b true old top may runs =
     record {
       node = runs.node;
       count_is = runs.count_is;
@@ -172,7 +172,7 @@ runs_deed objects s L mail pairs (Call a n x op c) old may runs = runs_called ob
 runs_deed objects s L mail pairs (Got a n seen) old may runs = runs_got objects s L mail pairs a n seen old may.0 may.1 runs
 runs_deed objects s L mail pairs (AskCommit a v) old may runs = runs_asked_commit objects s L mail pairs a v old may runs
 runs_deed objects s L mail pairs (AskAbort a) old may runs = runs_asked_abort objects s L mail pairs a old may runs
-runs_deed objects s L mail pairs (Commit b) old may runs = runs_committed objects s L mail pairs b (is_top b) old refl may.0 may.1 runs
+runs_deed objects s L mail pairs (Commit b) old may runs = runs_committed objects s L mail pairs b (is_top b) old refl may runs
 runs_deed objects s L mail pairs (Abort b) old may runs = runs_aborted objects s L mail pairs b (is_top b) old refl runs
 runs_deed objects s L mail pairs (Perform a n answer) old may runs = absurd may
 runs_deed objects s L mail pairs (Bounce a n u) old may runs = absurd may

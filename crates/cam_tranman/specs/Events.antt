@@ -70,6 +70,11 @@ abbrev pub HasParent : Option Name → Actions → Type 0
 HasParent None actions = Unit {0}
 HasParent (Some p) actions = created actions p ≡ true
 
+-- A child commits with the dependencies on its finish, and its parent was created here; a top action commits by a vote.
+abbrev pub CommitMayCome : Bool → Name → Option Mail → Actions → Type 0
+CommitMayCome true b mail actions = Unit {0}
+CommitMayCome false b mail actions = (length (finish_counts mail) ≡ 8) × HasParent (parent b) actions
+
 -- When a deed may come: it is of an action that was created here; an ask is for a child of it, an answer for its open call.
 abbrev pub MayCome : Option Mail → Deed → Actions → Type 0
 MayCome mail (Create a) actions = IsNew a actions × IsNamed (is_top a) a mail actions
@@ -78,7 +83,7 @@ MayCome mail (Call a n x op c) actions = created actions a ≡ true
 MayCome mail (Got a n seen) actions = (created actions a ≡ true) × (open_call actions a ≡ Some n)
 MayCome mail (AskCommit a v) actions = created actions a ≡ true
 MayCome mail (AskAbort a) actions = created actions a ≡ true
-MayCome mail (Commit b) actions = (length (finish_counts mail) ≡ 8) × HasParent (parent b) actions
+MayCome mail (Commit b) actions = CommitMayCome (is_top b) b mail actions
 MayCome mail (Abort b) actions = Unit {0}
 MayCome mail _ actions = ⊥
 
