@@ -62,8 +62,9 @@ pub fn ranges()
     ensures numbers { NumbersAreFew }
 {}
 
-/// Where a network (`cam_net`) has the letters of a run, each with its receiver and what was lost and delivered of it, the letter that it names
-/// next is the run's first letter that waits, and it has just the letters that the run can deliver.
+/// Where a network (`cam_net`) has the letters of a run, each with its receiver and whether it was lost or delivered, and the same nodes are
+/// halted, the letter that it names next is the run's least that waits for a node that is not halted, and it has just the letters of the run that
+/// are not lost.
 pub fn network()
     ensures next { NextWaits }
     ensures letters { HasRunLetters }

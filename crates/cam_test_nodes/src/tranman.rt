@@ -1,4 +1,4 @@
-//! What actions do at their home, worked by hand from the rules: each test of a rule once.
+//! An action's life at its home, and a child that starts once, worked by hand from the rules.
 use cam_event::{LineRefusal, Reply, Request, Seen, Want};
 use cam_names::{Deps, Name};
 use cam_tranman::{Homed, Started, Taken};

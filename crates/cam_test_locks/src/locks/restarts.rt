@@ -3,7 +3,7 @@ ghost use Rattle.std.specs.Prelude.{◌≡◌, [], ◌∷◌, IfOk};
 ghost use Rattle.cam_type.specs.declared.Op.TheVariants.{Write};
 
 use super::steps::Step::{Abort, Busy, Commit, Copy, Counter, Done, Register, Secured};
-use super::steps::{Step, first_unlike};
+use super::steps::{Scene, Step, first_unlike};
 use super::{COUNTER, QUEUE, REGISTER, objects};
 use cam_base::NoMemory;
 use cam_know::{Know, Outcome};
@@ -15,7 +15,7 @@ use std::test::Fail;
 
 /// What a restart keeps of three families that wrote the register, of which the first aborted, the second is undecided, and the third
 /// committed.
-fn restarted(place: u8) -> Option<Step<'static>> {
+pub(super) fn restarted(place: u8) -> Option<Step<'static>> {
     Some(match place {
         0 => Register(3),
         1 => Secured("1.1.1", 0),
@@ -26,7 +26,7 @@ fn restarted(place: u8) -> Option<Step<'static>> {
 }
 
 /// Two families that both wrote the register, and of which nothing is known, stand in each other's way.
-fn two_writers(place: u8) -> Option<Step<'static>> {
+pub(super) fn two_writers(place: u8) -> Option<Step<'static>> {
     Some(match place {
         0 => Busy("1.1.1", REGISTER, Op::Read, "1.1.2"),
         1 => Busy("1.1.2", REGISTER, Op::Read, "1.1.1"),
@@ -43,7 +43,7 @@ fn two_writers(place: u8) -> Option<Step<'static>> {
 }
 
 /// Two families work.
-fn work(place: u8) -> Option<Step<'static>> {
+pub(super) fn work(place: u8) -> Option<Step<'static>> {
     Some(match place {
         0 => Done("1.1.1", REGISTER, Op::Read, Answer::Value(0)),
         1 => Done("1.1.2", QUEUE, Op::Put(6), Answer::Ok),
@@ -54,7 +54,7 @@ fn work(place: u8) -> Option<Step<'static>> {
 }
 
 /// They go on.
-fn more_work(place: u8) -> Option<Step<'static>> {
+pub(super) fn more_work(place: u8) -> Option<Step<'static>> {
     Some(match place {
         0 => Busy("1.1.2", REGISTER, Op::Read, "1.1.1"),
         1 => Done("1.1.1", REGISTER, Op::Swap(7), Answer::Value(5)),
@@ -70,7 +70,7 @@ fn more_work(place: u8) -> Option<Step<'static>> {
 }
 
 /// Three families add to the counter.
-fn adds(place: u8) -> Option<Step<'static>> {
+pub(super) fn adds(place: u8) -> Option<Step<'static>> {
     Some(match place {
         0 => Done("1.1.1/1.1.1", COUNTER, Op::Add(5), Answer::Ok),
         1 => Done("1.1.3", COUNTER, Op::Add(100), Answer::Ok),
@@ -81,7 +81,7 @@ fn adds(place: u8) -> Option<Step<'static>> {
 }
 
 /// The first and the second were secured, and what the third added is gone.
-fn secured_adds(place: u8) -> Option<Step<'static>> {
+pub(super) fn secured_adds(place: u8) -> Option<Step<'static>> {
     Some(match place {
         0 => Secured("1.1.3", 0),
         1 => Counter(10),
@@ -149,9 +149,15 @@ fn table_of_two_writers(alloc: Global) -> Result<LockTable, Fail> {
 fn a_restart_keeps_what_was_secured_and_not_aborted(rt: HostRuntime) -> Result<(), Fail> {
     let mut table = table_after_a_restart(rt.alloc())?;
     assert_eq!(rt; table.next_index(), 10);
-    assert_eq!(rt; first_unlike(rt.alloc(), &mut table, restarted)?, None);
+    assert_eq!(rt;
+        first_unlike(rt.alloc(), &mut table, Scene::Restarted)?,
+        None
+    );
     let mut table = table_of_two_writers(rt.alloc())?;
-    assert_eq!(rt; first_unlike(rt.alloc(), &mut table, two_writers)?, None);
+    assert_eq!(rt;
+        first_unlike(rt.alloc(), &mut table, Scene::TwoWriters)?,
+        None
+    );
     Ok(())
 }
 
@@ -164,13 +170,7 @@ fn secured(alloc: Global, table: &LockTable) -> Result<HeldList, Fail> {
 }
 
 /// The first step that a table does not answer as it has to, after a restart with these families.
-fn first_unlike_after<'a, F: Fn(u8) -> Option<Step<'a>>>(
-    alloc: Global,
-    held: &HeldList,
-    scene: F,
-) -> Result<Option<u8>, Fail>
-    requires { F.IsAlwaysCallable scene }
-{
+fn first_unlike_after(alloc: Global, held: &HeldList, scene: Scene) -> Result<Option<u8>, Fail> {
     let know = Know::new(alloc);
     let objects = objects(alloc)?;
     if !may_restore(alloc, &objects, 1, held)? {
@@ -184,10 +184,16 @@ fn first_unlike_after<'a, F: Fn(u8) -> Option<Step<'a>>>(
 fn what_is_secured_and_restored_answers_as_before(rt: HostRuntime) -> Result<(), Fail> {
     let objects = objects(rt.alloc())?;
     let mut table = LockTable::new(rt.alloc(), &objects, 1)?;
-    assert_eq!(rt; first_unlike(rt.alloc(), &mut table, work)?, None);
+    assert_eq!(rt; first_unlike(rt.alloc(), &mut table, Scene::Work)?, None);
     let held = secured(rt.alloc(), &table)?;
-    assert_eq!(rt; first_unlike(rt.alloc(), &mut table, more_work)?, None);
-    assert_eq!(rt; first_unlike_after(rt.alloc(), &held, more_work)?, None);
+    assert_eq!(rt;
+        first_unlike(rt.alloc(), &mut table, Scene::MoreWork)?,
+        None
+    );
+    assert_eq!(rt;
+        first_unlike_after(rt.alloc(), &held, Scene::MoreWork)?,
+        None
+    );
     Ok(())
 }
 
@@ -195,9 +201,12 @@ fn what_is_secured_and_restored_answers_as_before(rt: HostRuntime) -> Result<(),
 fn adds_that_were_secured_are_added_after_a_restart(rt: HostRuntime) -> Result<(), Fail> {
     let objects = objects(rt.alloc())?;
     let mut table = LockTable::new(rt.alloc(), &objects, 1)?;
-    assert_eq!(rt; first_unlike(rt.alloc(), &mut table, adds)?, None);
+    assert_eq!(rt; first_unlike(rt.alloc(), &mut table, Scene::Adds)?, None);
     let held = secured(rt.alloc(), &table)?;
-    assert_eq!(rt; first_unlike_after(rt.alloc(), &held, secured_adds)?, None);
+    assert_eq!(rt;
+        first_unlike_after(rt.alloc(), &held, Scene::SecuredAdds)?,
+        None
+    );
     Ok(())
 }
 
@@ -235,13 +244,14 @@ fn second(place: u8) -> Option<(HeldOp, bool)> {
 #[test]
 fn only_what_fits_under_indices_of_its_own_can_be_restored(rt: HostRuntime) -> Result<(), Fail> {
     for place in 0..8u8 {
-        if let Some((op, may)) = second(place) {
-            assert_eq!(rt; may_be_restored(rt.alloc(), 1, &op)?, may, "case {place}");
-            assert!(rt;
-                !may_be_restored(rt.alloc(), 2, &op)?,
-                "case {place} at another node"
-            );
-        }
+        let Some((op, may)) = second(place) else {
+            return Err(Fail::new("a case is missing"));
+        };
+        assert_eq!(rt; may_be_restored(rt.alloc(), 1, &op)?, may, "case {place}");
+        assert!(rt;
+            !may_be_restored(rt.alloc(), 2, &op)?,
+            "case {place} at another node"
+        );
     }
     Ok(())
 }

@@ -1,7 +1,7 @@
 //! Scenes with a lock table, whose answers are worked out by hand.
 
 use super::steps::Step::{Abort, Busy, Commit, Copy, Counter, Done, Register, Secured};
-use super::steps::{Step, first_unlike};
+use super::steps::{Scene, Step, first_unlike};
 use super::{COUNTER, QUEUE, REGISTER, objects};
 use cam_base::NoMemory;
 use cam_locks::LockTable;
@@ -10,7 +10,7 @@ use std::alloc::Global;
 use std::test::Fail;
 
 /// Holders stand in the way, commits hand up, and aborts drop.
-fn hand_up(place: u8) -> Option<Step<'static>> {
+pub(super) fn hand_up(place: u8) -> Option<Step<'static>> {
     Some(match place {
         0 => Done("1.1.1", REGISTER, Op::Read, Answer::Value(0)),
         1 => Done("1.1.2", REGISTER, Op::Read, Answer::Value(0)),
@@ -36,7 +36,7 @@ fn hand_up(place: u8) -> Option<Step<'static>> {
 }
 
 /// A writer keeps readers out until it ends.
-fn writer(place: u8) -> Option<Step<'static>> {
+pub(super) fn writer(place: u8) -> Option<Step<'static>> {
     Some(match place {
         0 => Done("1.1.1", REGISTER, Op::Write(4), Answer::Ok),
         1 => Busy("1.1.2", REGISTER, Op::Read, "1.1.1"),
@@ -53,7 +53,7 @@ fn writer(place: u8) -> Option<Step<'static>> {
 }
 
 /// A child commits before its parent.
-fn child_first(place: u8) -> Option<Step<'static>> {
+pub(super) fn child_first(place: u8) -> Option<Step<'static>> {
     Some(match place {
         0 => Done("1.1.1", REGISTER, Op::Write(1), Answer::Ok),
         1 => Done("1.1.1/1.1.1", REGISTER, Op::Swap(2), Answer::Value(1)),
@@ -71,7 +71,7 @@ fn child_first(place: u8) -> Option<Step<'static>> {
 }
 
 /// A parent commits before its child.
-fn parent_first(place: u8) -> Option<Step<'static>> {
+pub(super) fn parent_first(place: u8) -> Option<Step<'static>> {
     Some(match place {
         0 => Done("1.1.1", REGISTER, Op::Write(1), Answer::Ok),
         1 => Done("1.1.1/1.1.1", REGISTER, Op::Swap(2), Answer::Value(1)),
@@ -86,7 +86,7 @@ fn parent_first(place: u8) -> Option<Step<'static>> {
 }
 
 /// A child aborts, and then its parent commits; a parent aborts, and then its child commits.
-fn aborts(place: u8) -> Option<Step<'static>> {
+pub(super) fn aborts(place: u8) -> Option<Step<'static>> {
     Some(match place {
         0 => Done("1.1.1", REGISTER, Op::Write(1), Answer::Ok),
         1 => Done("1.1.1/1.1.1", REGISTER, Op::Swap(2), Answer::Value(1)),
@@ -106,7 +106,7 @@ fn aborts(place: u8) -> Option<Step<'static>> {
 }
 
 /// Both outcomes of an action come in, in either order.
-fn both_outcomes(place: u8) -> Option<Step<'static>> {
+pub(super) fn both_outcomes(place: u8) -> Option<Step<'static>> {
     Some(match place {
         0 => Done("1.1.1", REGISTER, Op::Write(3), Answer::Ok),
         1 => Commit("1.1.1"),
@@ -125,7 +125,7 @@ fn both_outcomes(place: u8) -> Option<Step<'static>> {
 }
 
 /// Two families add to the counter, and one of them in a child that aborts; the sum wraps.
-fn adders(place: u8) -> Option<Step<'static>> {
+pub(super) fn adders(place: u8) -> Option<Step<'static>> {
     Some(match place {
         0 => Done("1.1.1", COUNTER, Op::Add(5), Answer::Ok),
         1 => Done("1.1.2", COUNTER, Op::Add(7), Answer::Ok),
@@ -156,7 +156,7 @@ fn adders(place: u8) -> Option<Step<'static>> {
 }
 
 /// Siblings add side by side, and the first read that may be done meets both adds.
-fn siblings(place: u8) -> Option<Step<'static>> {
+pub(super) fn siblings(place: u8) -> Option<Step<'static>> {
     Some(match place {
         0 => Done("1.1.1/1.1.1", COUNTER, Op::Add(5), Answer::Ok),
         1 => Done("1.1.1/1.1.2", COUNTER, Op::Add(7), Answer::Ok),
@@ -177,7 +177,7 @@ fn siblings(place: u8) -> Option<Step<'static>> {
 }
 
 /// What a child adds is handed up twice and then taken back with the action that had it; of another action both outcomes come in.
-fn taken_back(place: u8) -> Option<Step<'static>> {
+pub(super) fn taken_back(place: u8) -> Option<Step<'static>> {
     Some(match place {
         0 => Done("1.1.1", COUNTER, Op::Add(1), Answer::Ok),
         1 => Done("1.1.1/1.1.1", COUNTER, Op::Add(2), Answer::Ok),
@@ -199,9 +199,7 @@ fn taken_back(place: u8) -> Option<Step<'static>> {
 }
 
 /// Whether a new table answers a scene as it has to.
-fn is_answered<'a, F: Fn(u8) -> Option<Step<'a>>>(alloc: Global, scene: F) -> Result<bool, NoMemory>
-    requires { F.IsAlwaysCallable scene }
-{
+fn is_answered(alloc: Global, scene: Scene) -> Result<bool, NoMemory> {
     let objects = objects(alloc)?;
     let mut table = LockTable::new(alloc, &objects, 1)?;
     Ok(first_unlike(alloc, &mut table, scene)?.is_none())
@@ -209,24 +207,24 @@ fn is_answered<'a, F: Fn(u8) -> Option<Step<'a>>>(alloc: Global, scene: F) -> Re
 
 #[test]
 fn holders_stand_in_the_way_and_commits_hand_up(rt: HostRuntime) -> Result<(), Fail> {
-    assert!(rt; is_answered(rt.alloc(), hand_up)?);
-    assert!(rt; is_answered(rt.alloc(), writer)?);
+    assert!(rt; is_answered(rt.alloc(), Scene::HandUp)?);
+    assert!(rt; is_answered(rt.alloc(), Scene::Writer)?);
     Ok(())
 }
 
 #[test]
 fn outcomes_of_parents_and_children_come_in_any_order(rt: HostRuntime) -> Result<(), Fail> {
-    assert!(rt; is_answered(rt.alloc(), child_first)?);
-    assert!(rt; is_answered(rt.alloc(), parent_first)?);
-    assert!(rt; is_answered(rt.alloc(), aborts)?);
-    assert!(rt; is_answered(rt.alloc(), both_outcomes)?);
+    assert!(rt; is_answered(rt.alloc(), Scene::ChildFirst)?);
+    assert!(rt; is_answered(rt.alloc(), Scene::ParentFirst)?);
+    assert!(rt; is_answered(rt.alloc(), Scene::Aborts)?);
+    assert!(rt; is_answered(rt.alloc(), Scene::BothOutcomes)?);
     Ok(())
 }
 
 #[test]
 fn adders_stand_in_the_way_of_readers_alone(rt: HostRuntime) -> Result<(), Fail> {
-    assert!(rt; is_answered(rt.alloc(), adders)?);
-    assert!(rt; is_answered(rt.alloc(), siblings)?);
-    assert!(rt; is_answered(rt.alloc(), taken_back)?);
+    assert!(rt; is_answered(rt.alloc(), Scene::Adders)?);
+    assert!(rt; is_answered(rt.alloc(), Scene::Siblings)?);
+    assert!(rt; is_answered(rt.alloc(), Scene::TakenBack)?);
     Ok(())
 }

@@ -3,7 +3,7 @@
 use super::both::{ask, value_of};
 use super::plain_table::Told;
 use super::servers::Servers;
-use super::{COUNTER, REGISTER};
+use super::{COUNTER, REGISTER, restarts, scenes};
 use cam_base::NoMemory;
 use cam_locks::LockTable;
 use cam_names::Name;
@@ -29,18 +29,59 @@ pub(super) enum Step<'a> {
     Secured(&'a str, usize),
 }
 
+/// The scenes: each is a row of steps.
+#[derive(Clone, Copy)]
+pub(super) enum Scene {
+    HandUp,
+    Writer,
+    ChildFirst,
+    ParentFirst,
+    Aborts,
+    BothOutcomes,
+    Adders,
+    Siblings,
+    TakenBack,
+    Restarted,
+    TwoWriters,
+    Work,
+    MoreWork,
+    Adds,
+    SecuredAdds,
+}
+
+impl Scene {
+    /// The step at this place, and none after the last.
+    fn step(self, place: u8) -> Option<Step<'static>> {
+        match self {
+            Scene::HandUp => scenes::hand_up(place),
+            Scene::Writer => scenes::writer(place),
+            Scene::ChildFirst => scenes::child_first(place),
+            Scene::ParentFirst => scenes::parent_first(place),
+            Scene::Aborts => scenes::aborts(place),
+            Scene::BothOutcomes => scenes::both_outcomes(place),
+            Scene::Adders => scenes::adders(place),
+            Scene::Siblings => scenes::siblings(place),
+            Scene::TakenBack => scenes::taken_back(place),
+            Scene::Restarted => restarts::restarted(place),
+            Scene::TwoWriters => restarts::two_writers(place),
+            Scene::Work => restarts::work(place),
+            Scene::MoreWork => restarts::more_work(place),
+            Scene::Adds => restarts::adds(place),
+            Scene::SecuredAdds => restarts::secured_adds(place),
+        }
+    }
+}
+
 /// The first step of a scene that the table does not answer as it has to. Where memory runs out in a step it is done once more: the table
 /// is as it was.
-pub(super) fn first_unlike<'a, F: Fn(u8) -> Option<Step<'a>>>(
+pub(super) fn first_unlike(
     alloc: Global,
     table: &mut LockTable,
-    scene: F,
-) -> Result<Option<u8>, NoMemory>
-    requires { F.IsAlwaysCallable scene }
-{
+    scene: Scene,
+) -> Result<Option<u8>, NoMemory> {
     let mut servers = Servers::new(alloc);
     for place in 0..=u8::MAX {
-        let Some(step) = scene(place) else {
+        let Some(step) = scene.step(place) else {
             return Ok(None);
         };
         let is_right = match answers(table, &mut servers, &step) {
