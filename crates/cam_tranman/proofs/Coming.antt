@@ -1,46 +1,33 @@
 -- An action comes here new, gets what it sees of its call, or its child is decided: the actions go on answering as the history does.
-use Rattle.std.proofs.Common.{◌≡◌, ℕ, ℤ, ◌+◌, ◌≤◌, eqb, Bool, true, false, not, ◌&&◌, ◌||◌, if◌then◌else◌, List, [], ◌∷◌, ◌++◌, filter, length, Option, Some, None, IfSome, refl, sym, ap, ap₂, subst, ◌∙◌, arith, inl, inr}
+use Rattle.std.proofs.Common.{◌≡◌, ℕ, ◌+◌, eqb, Bool, true, false, ◌&&◌, ◌||◌, if◌then◌else◌, List, [], ◌∷◌, ◌++◌, length, Option, Some, None, IfSome, refl, sym, ap, ap₂, subst, ◌∙◌}
 use Rattle.std.specs.Prelude.{option_map, is_some, replicate}
-use Rattle.std.specs.List.{list_any}
 use Rattle.std.specs.Option.{option_map_or}
-use Rattle.std.proofs.lemmas.Bool.{cases_Bool, true≢false, eq-eqb}
-use borrow.Author.Tests.{eqb-true}
+use Rattle.std.proofs.lemmas.Bool.{eq-eqb}
 use Rattle.cam_names.specs.declared.name.Name.{Name}
-use Rattle.cam_names.specs.Names.{name_eq, is_child, is_top, parent, home_node, home_count}
+use Rattle.cam_names.specs.Names.{name_eq, is_top, home_node, home_count}
 use Rattle.cam_names.specs.Dependencies.{as_counts, pairs_of, greater_counts}
-use Rattle.cam_names.proofs.Names.{name_eq_same, name_eq_sym, name_eq_refl}
-use Rattle.cam_names.proofs.Children.{is_some_name, child_of}
+use Rattle.cam_names.proofs.Names.{name_eq_same, name_eq_sym}
 use Rattle.cam_type.specs.declared.ObjectDecl.{ObjectDecl}
-use Rattle.cam_type.specs.declared.Op.{Op}
-use Rattle.cam_type.specs.declared.Answer.{Answer}
 use Rattle.cam_event.specs.declared.Seen.{Seen}
 use Rattle.cam_event.specs.declared.Seen.TheVariants as seens
 use Rattle.cam_event.specs.declared.Deed.{Deed}
-use Rattle.cam_event.specs.declared.Deed.TheVariants.{Create, Ask, Call, Perform, Bounce, Got, AskCommit, AskAbort, Commit, Abort, Secure, Inform, Crash}
+use Rattle.cam_event.specs.declared.Deed.TheVariants.{Create, Got}
 use Rattle.cam_event.specs.History as history
 use Rattle.cam_event.specs.History.{Addressed, call_of, open_children}
 use Rattle.cam_event.specs.Gained.{home, visited}
 use Rattle.cam_event.specs.Live.{site_of}
 use Rattle.cam_event.specs.Inputs.{Mail}
-use Rattle.cam_event.specs.ByKnowledge.{gained_by, start_counts, finish_counts}
+use Rattle.cam_event.specs.ByKnowledge.{gained_by, start_counts}
 use Rattle.cam_tranman.specs.declared.call.OpenCall.{OpenCall}
 use Rattle.cam_tranman.specs.declared.action.Action.{Action}
-use Rattle.cam_tranman.specs.Actions.{Actions, created, deps, address, open_call, open_address, is_open, MayRunHere}
-use Rattle.cam_tranman.specs.Calls.{changed, on, with_ask, one_call_more, as_ended, gaining, seeing, fresh, visiting, asked, called, finished, got, got_by, decided, begun, begun_child, next_top}
-use Rattle.cam_tranman.specs.Events.{call_to, begins, decides, IsNew, IsNamed, HasParent, MayCome, after_deed}
-use Rattle.cam_tranman.proofs.Changing.{without_among}
-use Rattle.cam_tranman.proofs.Gaining.{counts_append, gains_none, none_gains, counts_of_pairs}
-use Rattle.cam_tranman.proofs.Members.{one_parent, top_no_child}
-use Rattle.cam_tranman.proofs.Running.{RunsBy, named_here, field_kept, created_kept, field_changed, field_put}
-use Rattle.cam_event.specs.ByKnowledge.{Carried, deeds_of, own_pairs}
+use Rattle.cam_tranman.specs.Actions.{Actions, created, deps, address, open_call, MayRunHere}
+use Rattle.cam_tranman.specs.Calls.{changed, seeing, fresh, visiting, asked, got, got_by}
+use Rattle.cam_tranman.specs.Events.{begins, IsNew, IsNamed}
+use Rattle.cam_tranman.proofs.Gaining.{counts_append, none_gains, counts_of_pairs}
+use Rattle.cam_tranman.proofs.Running.{RunsBy, field_kept, created_kept, field_changed, field_put}
 use Rattle.cam_event.specs.History.{after}
-use Rattle.std.specs.List.{flat_map}
-use Rattle.std.proofs.Common.{append-nil}
-use Rattle.cam_tranman.specs.Calls.{AreSame, parent_changed, without_child, begun_as, with_action}
-use Rattle.cam_tranman.specs.Events.{is_at_home, QuietKeeps, DeedKeeps}
-use Rattle.cam_tranman.proofs.Home.{SameHome, same_home, by_other, added_at_home}
-use Rattle.cam_tranman.proofs.Running.{runs_by, runs_actions, same_runs, same_answers}
-use Rattle.cam_tranman.proofs.Deeds.{with_gained, runs_asked, runs_called, runs_asked_commit, runs_asked_abort}
+use Rattle.cam_tranman.specs.Calls.{begun_as, with_action}
+use Rattle.cam_tranman.proofs.Deeds.{with_gained}
 
 -- What an action sees leaves all else of it.
 sees_field : {X : Type 0} (field : Action → X) (seen : Seen) (call : OpenCall) → ((k : Action) (ds : List ℕ) → field (record k { deps = ds }) ≡ field k)

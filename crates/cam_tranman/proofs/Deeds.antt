@@ -1,37 +1,27 @@
 -- One deed at home, and what the call does that stands for it: the actions go on answering as the history does.
-use Rattle.std.proofs.Common.{◌≡◌, ℕ, ℤ, ◌+◌, ◌≤◌, eqb, Bool, true, false, not, ◌&&◌, ◌||◌, if◌then◌else◌, List, [], ◌∷◌, ◌++◌, filter, length, Option, Some, None, IfSome, refl, sym, ap, ap₂, subst, ◌∙◌, arith, inl, inr}
-use Rattle.std.specs.Prelude.{option_map, is_some, replicate}
+use Rattle.std.proofs.Common.{◌≡◌, ℕ, ℤ, ◌+◌, eqb, Bool, true, false, ◌&&◌, ◌||◌, if◌then◌else◌, List, ◌∷◌, ◌++◌, Option, Some, IfSome, refl, sym, ap, ap₂, ◌∙◌, inl, inr}
+use Rattle.std.specs.Prelude.{option_map, replicate}
 use Rattle.std.specs.List.{list_any}
 use Rattle.std.specs.Option.{option_map_or}
 use Rattle.std.proofs.lemmas.Bool.{cases_Bool, true≢false, eq-eqb}
-use borrow.Author.Tests.{eqb-true}
 use Rattle.cam_names.specs.declared.name.Name.{Name}
-use Rattle.cam_names.specs.Names.{name_eq, is_child, is_top, parent, home_node, home_count}
-use Rattle.cam_names.specs.Dependencies.{as_counts, pairs_of, greater_counts}
+use Rattle.cam_names.specs.Names.{name_eq, is_child}
 use Rattle.cam_names.proofs.Names.{name_eq_same, name_eq_sym, name_eq_refl}
-use Rattle.cam_names.proofs.Children.{is_some_name, child_of}
 use Rattle.cam_type.specs.declared.ObjectDecl.{ObjectDecl}
 use Rattle.cam_type.specs.declared.Op.{Op}
-use Rattle.cam_type.specs.declared.Answer.{Answer}
-use Rattle.cam_event.specs.declared.Seen.{Seen}
-use Rattle.cam_event.specs.declared.Seen.TheVariants as seens
 use Rattle.cam_event.specs.declared.Deed.{Deed}
-use Rattle.cam_event.specs.declared.Deed.TheVariants.{Create, Ask, Call, Perform, Bounce, Got, AskCommit, AskAbort, Commit, Abort, Secure, Inform, Crash}
+use Rattle.cam_event.specs.declared.Deed.TheVariants.{Ask, Call, AskCommit, AskAbort}
 use Rattle.cam_event.specs.History as history
 use Rattle.cam_event.specs.History.{Addressed, call_of, open_children}
-use Rattle.cam_event.specs.Gained.{home, visited}
 use Rattle.cam_event.specs.Live.{site_of}
 use Rattle.cam_event.specs.Inputs.{Mail}
-use Rattle.cam_event.specs.ByKnowledge.{gained_by, start_counts, finish_counts}
+use Rattle.cam_event.specs.ByKnowledge.{gained_by}
 use Rattle.cam_tranman.specs.declared.call.OpenCall.{OpenCall}
-use Rattle.cam_tranman.specs.declared.action.Action.{Action}
-use Rattle.cam_tranman.specs.Actions.{Actions, created, deps, address, open_call, open_address, is_open, MayRunHere}
-use Rattle.cam_tranman.specs.Calls.{changed, on, with_ask, one_call_more, as_ended, gaining, seeing, fresh, visiting, asked, called, finished, got, got_by, decided, begun, begun_child, next_top}
-use Rattle.cam_tranman.specs.Events.{call_to, begins, decides, IsNew, IsNamed, HasParent, MayCome, after_deed}
-use Rattle.cam_tranman.proofs.Changing.{without_among}
-use Rattle.cam_tranman.proofs.Gaining.{counts_append, gains_none, none_gains, counts_of_pairs}
-use Rattle.cam_tranman.proofs.Members.{one_parent, top_no_child}
-use Rattle.cam_tranman.proofs.Running.{RunsBy, named_here, field_kept, created_kept, field_changed, field_put}
+use Rattle.cam_tranman.specs.Actions.{Actions, created, address, is_open}
+use Rattle.cam_tranman.specs.Calls.{changed, with_ask, one_call_more, as_ended, asked, called, finished}
+use Rattle.cam_tranman.specs.Events.{call_to}
+use Rattle.cam_tranman.proofs.Members.{one_parent}
+use Rattle.cam_tranman.proofs.Running.{RunsBy, field_kept, created_kept, field_changed}
 
 -- the pairs with what the deed adds
 abbrev pub with_gained : List ObjectDecl → List Deed → Option Mail → Deed → (Name → List (ℕ × ℕ)) → Name → List (ℕ × ℕ)

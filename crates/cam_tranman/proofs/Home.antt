@@ -1,5 +1,5 @@
 -- What a history has of the actions at home goes by the deeds that concern them.
-use Rattle.std.proofs.Common.{◌≡◌, ℕ, ◌+◌, eqb, Bool, true, false, not, ◌&&◌, ◌||◌, if◌then◌else◌, List, [], ◌∷◌, ◌++◌, filter, inl, inr, Option, Some, None, refl, sym, ap, subst, ◌∙◌}
+use Rattle.std.proofs.Common.{◌≡◌, ℕ, ◌+◌, eqb, Bool, false, not, ◌&&◌, ◌||◌, if◌then◌else◌, List, [], ◌∷◌, ◌++◌, filter, inl, inr, Option, Some, None, refl, sym, ap, ◌∙◌}
 use Rattle.std.specs.List.{list_any, flat_map}
 use Rattle.std.proofs.lemmas.Bool.{cases_Bool}
 use Rattle.cam_names.specs.declared.name.Name.{Name}
@@ -43,7 +43,7 @@ told_at_home step F steps other (d ∷ ds) L M same =
     ]
 
 -- whether a deed passes a test, and how many do
-any_at_home : (p : Deed → Bool) → ((d : Deed) → is_at_home d ≡ false → p d ≡ false) → (ds L : List Deed)
+pub any_at_home : (p : Deed → Bool) → ((d : Deed) → is_at_home d ≡ false → p d ≡ false) → (ds L : List Deed)
     → list_any p (after L ds) ≡ list_any p (after L (filter is_at_home ds))
 any_at_home p other ds L = told_at_home (λ d b. p d || b) (list_any p) (λ d M. refl) (λ d away x. ap (λ t. t || x) (other d away)) ds L L refl
 

@@ -1,45 +1,35 @@
 -- A child is decided, and the law of one more event.
-use Rattle.std.proofs.Common.{◌≡◌, ℕ, ℤ, ◌+◌, ◌≤◌, eqb, Bool, true, false, not, ◌&&◌, ◌||◌, if◌then◌else◌, List, [], ◌∷◌, ◌++◌, filter, length, Option, Some, None, IfSome, refl, sym, ap, ap₂, subst, ◌∙◌, arith, inl, inr}
-use Rattle.std.specs.Prelude.{option_map, is_some, replicate}
+use Rattle.std.proofs.Common.{◌≡◌, ℕ, Bool, true, false, not, ◌&&◌, if◌then◌else◌, List, [], ◌∷◌, ◌++◌, filter, length, Option, Some, None, refl, sym, ap, ap₂, subst, ◌∙◌}
+use Rattle.std.specs.Prelude.{is_some, replicate}
 use Rattle.std.specs.List.{list_any}
 use Rattle.std.specs.Option.{option_map_or}
-use Rattle.std.proofs.lemmas.Bool.{cases_Bool, true≢false, eq-eqb}
-use borrow.Author.Tests.{eqb-true}
 use Rattle.cam_names.specs.declared.name.Name.{Name}
-use Rattle.cam_names.specs.Names.{name_eq, is_child, is_top, parent, home_node, home_count}
+use Rattle.cam_names.specs.Names.{name_eq, is_child, is_top, parent}
 use Rattle.cam_names.specs.Dependencies.{as_counts, pairs_of, greater_counts}
-use Rattle.cam_names.proofs.Names.{name_eq_same, name_eq_sym, name_eq_refl}
+use Rattle.cam_names.proofs.Names.{name_eq_same, name_eq_sym}
 use Rattle.cam_names.proofs.Children.{is_some_name, child_of}
 use Rattle.cam_type.specs.declared.ObjectDecl.{ObjectDecl}
-use Rattle.cam_type.specs.declared.Op.{Op}
-use Rattle.cam_type.specs.declared.Answer.{Answer}
-use Rattle.cam_event.specs.declared.Seen.{Seen}
-use Rattle.cam_event.specs.declared.Seen.TheVariants as seens
 use Rattle.cam_event.specs.declared.Deed.{Deed}
 use Rattle.cam_event.specs.declared.Deed.TheVariants.{Create, Ask, Call, Perform, Bounce, Got, AskCommit, AskAbort, Commit, Abort, Secure, Inform, Crash}
-use Rattle.cam_event.specs.History as history
-use Rattle.cam_event.specs.History.{Addressed, call_of, open_children}
-use Rattle.cam_event.specs.Gained.{home, visited}
-use Rattle.cam_event.specs.Live.{site_of}
+use Rattle.cam_event.specs.History.{open_children}
 use Rattle.cam_event.specs.Inputs.{Mail}
-use Rattle.cam_event.specs.ByKnowledge.{gained_by, start_counts, finish_counts}
-use Rattle.cam_tranman.specs.declared.call.OpenCall.{OpenCall}
+use Rattle.cam_event.specs.ByKnowledge.{gained_by, finish_counts}
 use Rattle.cam_tranman.specs.declared.action.Action.{Action}
-use Rattle.cam_tranman.specs.Actions.{Actions, created, deps, address, open_call, open_address, is_open, MayRunHere}
-use Rattle.cam_tranman.specs.Calls.{changed, on, with_ask, one_call_more, as_ended, gaining, seeing, fresh, visiting, asked, called, finished, got, got_by, decided, begun, begun_child, next_top}
-use Rattle.cam_tranman.specs.Events.{call_to, begins, decides, IsNew, IsNamed, HasParent, CommitMayCome, MayCome, after_deed}
+use Rattle.cam_tranman.specs.Actions.{Actions, deps}
+use Rattle.cam_tranman.specs.Calls.{gaining}
+use Rattle.cam_tranman.specs.Events.{decides, HasParent, CommitMayCome, MayCome, after_deed}
 use Rattle.cam_tranman.proofs.Changing.{without_among}
-use Rattle.cam_tranman.proofs.Gaining.{counts_append, gains_none, none_gains, counts_of_pairs}
-use Rattle.cam_tranman.proofs.Members.{one_parent, top_no_child}
-use Rattle.cam_tranman.proofs.Running.{RunsBy, named_here, field_kept, created_kept, field_changed, field_put}
+use Rattle.cam_tranman.proofs.Gaining.{counts_append, counts_of_pairs}
+use Rattle.cam_tranman.proofs.Members.{top_no_child}
+use Rattle.cam_tranman.proofs.Running.{RunsBy, named_here, field_kept, created_kept, field_changed}
 use Rattle.cam_event.specs.ByKnowledge.{Carried, deeds_of, own_pairs}
 use Rattle.cam_event.specs.History.{after}
 use Rattle.std.specs.List.{flat_map}
 use Rattle.std.proofs.Common.{append-nil}
-use Rattle.cam_tranman.specs.Calls.{AreSame, parent_changed, without_child, begun_as, with_action}
+use Rattle.cam_tranman.specs.Calls.{parent_changed}
 use Rattle.cam_tranman.specs.Events.{is_at_home, QuietKeeps, DeedKeeps}
 use Rattle.cam_tranman.proofs.Home.{SameHome, same_home, by_other, added_at_home}
-use Rattle.cam_tranman.proofs.Running.{runs_by, runs_actions, same_runs, same_answers}
+use Rattle.cam_tranman.proofs.Running.{runs_by, answers_deeds, same_runs, same_answers}
 use Rattle.cam_tranman.proofs.Deeds.{with_gained, runs_asked, runs_called, runs_asked_commit, runs_asked_abort}
 use Rattle.cam_tranman.proofs.Coming.{runs_got, runs_created}
 
@@ -181,7 +171,7 @@ runs_deed objects s L mail pairs (Inform site a committed) old may runs = absurd
 runs_deed objects s L mail pairs (Crash site) old may runs = absurd may
 
 -- what an event adds is what its deeds at home add
-added : (objects : List ObjectDecl) (before : List Carried) (c : Carried) (hs : List Deed) → filter is_at_home c.event.deeds ≡ hs → (a : Name)
+pub added : (objects : List ObjectDecl) (before : List Carried) (c : Carried) (hs : List Deed) → filter is_at_home c.event.deeds ≡ hs → (a : Name)
     → own_pairs objects (c ∷ before) a ≡ flat_map (gained_by objects (deeds_of before) c.mail a) hs ++ own_pairs objects before a
 added objects before c hs is a =
     ap (λ (ps : List (ℕ × ℕ)). ps ++ own_pairs objects before a)
@@ -191,15 +181,15 @@ added objects before c hs is a =
 
 pub quiet_keeps : QuietKeeps
 quiet_keeps objects s before c old new none same runs =
-    runs_actions objects s (c ∷ before) new
+    answers_deeds objects s (deeds_of (c ∷ before)) (own_pairs objects (c ∷ before)) new
     (same_answers objects s (deeds_of (c ∷ before)) (own_pairs objects (c ∷ before)) old new same
     (same_runs objects s (deeds_of before) (deeds_of (c ∷ before)) (own_pairs objects before) (own_pairs objects (c ∷ before)) old
     (subst (λ (hs : List Deed). SameHome (after (deeds_of before) hs) (after (deeds_of before) c.event.deeds)) none (same_home c.event.deeds (deeds_of before)))
-    (λ a. ap as_counts (added objects before c [] none a)) (runs_by objects s before old runs)))
+    (λ a. ap as_counts (added objects before c [] none a)) (runs_by objects s (deeds_of before) (own_pairs objects before) old runs)))
 
 pub deed_keeps : DeedKeeps
 deed_keeps objects s before c d old new one may same runs =
-    runs_actions objects s (c ∷ before) new
+    answers_deeds objects s (deeds_of (c ∷ before)) (own_pairs objects (c ∷ before)) new
     (same_answers objects s (deeds_of (c ∷ before)) (own_pairs objects (c ∷ before)) (after_deed objects c.mail d old) new same
     (same_runs objects s (d ∷ deeds_of before) (deeds_of (c ∷ before)) (with_gained objects (deeds_of before) c.mail d (own_pairs objects before))
     (own_pairs objects (c ∷ before)) (after_deed objects c.mail d old)
@@ -208,4 +198,4 @@ deed_keeps objects s before c d old new one may same runs =
     ap as_counts
     (added objects before c (d ∷ []) one a
     ∙ ap (λ (ps : List (ℕ × ℕ)). ps ++ own_pairs objects before a) (append-nil (gained_by objects (deeds_of before) c.mail a d))))
-    (runs_deed objects s (deeds_of before) c.mail (own_pairs objects before) d old may (runs_by objects s before old runs))))
+    (runs_deed objects s (deeds_of before) c.mail (own_pairs objects before) d old may (runs_by objects s (deeds_of before) (own_pairs objects before) old runs))))

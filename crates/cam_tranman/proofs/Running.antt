@@ -1,9 +1,8 @@
 -- What the actions must answer, said of deeds and of the pairs on which each action depends.
-use Rattle.std.proofs.Common.{◌≡◌, ℕ, ◌+◌, ◌≤◌, Bool, true, false, not, ◌&&◌, ◌||◌, if◌then◌else◌, List, [], ◌∷◌, ◌++◌, length, Option, Some, None, IfSome, refl, sym, ap, ap₂, subst, ◌∙◌, arith, inl, inr}
+use Rattle.std.proofs.Common.{◌≡◌, ℕ, ◌+◌, ◌≤◌, Bool, true, false, ◌&&◌, ◌||◌, if◌then◌else◌, List, [], ◌∷◌, length, Option, Some, None, IfSome, refl, sym, ap, ap₂, subst, ◌∙◌, arith}
 use Rattle.std.specs.Prelude.{option_map, is_some, replicate}
-use Rattle.std.specs.List.{list_any, flat_map}
+use Rattle.std.specs.List.{list_any}
 use Rattle.std.specs.Option.{option_map_or}
-use Rattle.std.proofs.lemmas.Bool.{cases_Bool, true≢false}
 use Rattle.cam_names.specs.declared.name.Name.{Name}
 use Rattle.cam_names.specs.Names.{name_eq, is_child, home_count}
 use Rattle.cam_names.specs.Dependencies.{as_counts}
@@ -13,10 +12,9 @@ use Rattle.cam_event.specs.declared.Deed.{Deed}
 use Rattle.cam_event.specs.History as history
 use Rattle.cam_event.specs.History.{after, call_of, is_crash, open_children}
 use Rattle.cam_event.specs.Live.{site_of}
-use Rattle.cam_event.specs.ByKnowledge.{Carried, deeds_of, own_pairs}
 use Rattle.cam_tranman.specs.declared.call.OpenCall.{OpenCall}
 use Rattle.cam_tranman.specs.declared.action.Action.{Action}
-use Rattle.cam_tranman.specs.Actions.{Actions, created, ended, asks, calls, deps, open_call, address, open_address, is_open_child, MayRunHere, RunsActions}
+use Rattle.cam_tranman.specs.Actions.{Actions, created, ended, asks, calls, deps, open_call, address, open_address, is_open_child, MayRunHere, AnswersDeeds}
 use Rattle.cam_tranman.specs.Calls.{AreSame, changed}
 use Rattle.cam_tranman.proofs.Home.{SameHome}
 use Rattle.cam_tranman.proofs.Members.{any_from}
@@ -35,9 +33,9 @@ pub record RunsBy (objects : List ObjectDecl) (s : ℕ) (L : List Deed) (pairs :
   pub child_is : (a b : Name) → MayRunHere L s a → is_open_child actions a b ≡ history.is_open_child L a b
   pub deps_are : (a : Name) → MayRunHere L s a → deps actions a ≡ as_counts (pairs a)
 
-pub runs_by : (objects : List ObjectDecl) (s : ℕ) (before : List Carried) (actions : Actions) → RunsActions objects s before actions
-    → RunsBy objects s (deeds_of before) (own_pairs objects before) actions
-runs_by objects s before actions runs =
+pub runs_by : (objects : List ObjectDecl) (s : ℕ) (L : List Deed) (pairs : Name → List (ℕ × ℕ)) (actions : Actions)
+    → AnswersDeeds objects s L (λ a. as_counts (pairs a)) actions → RunsBy objects s L pairs actions
+runs_by objects s L pairs actions runs =
     record {
       node = runs.node;
       count_is = runs.count;
@@ -54,9 +52,9 @@ runs_by objects s before actions runs =
     }
 
 -- Whether any child is open follows from which are.
-pub runs_actions : (objects : List ObjectDecl) (s : ℕ) (before : List Carried) (actions : Actions)
-    → RunsBy objects s (deeds_of before) (own_pairs objects before) actions → RunsActions objects s before actions
-runs_actions objects s before actions runs =
+pub answers_deeds : (objects : List ObjectDecl) (s : ℕ) (L : List Deed) (pairs : Name → List (ℕ × ℕ)) (actions : Actions)
+    → RunsBy objects s L pairs actions → AnswersDeeds objects s L (λ a. as_counts (pairs a)) actions
+answers_deeds objects s L pairs actions runs =
     record {
       node = runs.node;
       count = runs.count_is;
@@ -69,7 +67,7 @@ runs_actions objects s before actions runs =
       open_address = runs.address_is;
       open_site = runs.site_is;
       open_child = runs.child_is;
-      any_open_child = λ a here. any_from a actions.children (open_children (deeds_of before) a) (λ b. runs.child_is a b here);
+      any_open_child = λ a here. any_from a actions.children (open_children L a) (λ b. runs.child_is a b here);
       deps = runs.deps_are;
     }
 

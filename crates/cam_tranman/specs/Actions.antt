@@ -11,6 +11,7 @@ use Rattle.cam_event.specs.declared.Deed.{Deed}
 use Rattle.cam_event.specs.History as history
 use Rattle.cam_event.specs.History.{Addressed, call_of}
 use Rattle.cam_event.specs.Live.{site_of}
+use Rattle.cam_event.specs.Sights.{Sight}
 use Rattle.cam_event.specs.ByKnowledge.{Carried, deeds_of, own_pairs}
 use Rattle.cam_tranman.specs.declared.call.OpenCall.{OpenCall}
 use Rattle.cam_tranman.specs.declared.action.Action.{Action}
@@ -72,19 +73,26 @@ has_open_child actions a = list_any (is_child a) actions.children
 abbrev pub MayRunHere : List Deed → ℕ → Name → Type 0
 MayRunHere own s a = (home_node a ≡ s) × (history.count own s ≤ home_count a)
 
-pub record RunsActions (objects : List ObjectDecl) (s : ℕ) (before : List Carried) (actions : Actions) : Type 0 where
+-- The actions answer as these deeds of the node, and as what each action depends on.
+pub record AnswersDeeds (objects : List ObjectDecl) (s : ℕ) (L : List Deed) (depends : Name → List ℕ) (actions : Actions) : Type 0 where
   pub node : actions.node ≡ s
-  pub count : actions.count ≡ history.count (deeds_of before) s
-  pub tops : actions.tops ≡ history.tops (deeds_of before) s (history.count (deeds_of before) s)
-  pub created : (a : Name) → MayRunHere (deeds_of before) s a → created actions a ≡ history.created (deeds_of before) a
-  pub ended : (a : Name) → MayRunHere (deeds_of before) s a → ended actions a ≡ history.ended (deeds_of before) a
-  pub asks : (a : Name) → MayRunHere (deeds_of before) s a → asks actions a ≡ history.asks (deeds_of before) a
-  pub calls : (a : Name) → MayRunHere (deeds_of before) s a → calls actions a ≡ history.calls (deeds_of before) a
-  pub open_call : (a : Name) → MayRunHere (deeds_of before) s a → open_call actions a ≡ history.open_call (deeds_of before) a
-  pub open_address :
-      (a : Name) (n : ℕ) → MayRunHere (deeds_of before) s a → history.open_call (deeds_of before) a ≡ Some n
-      → open_address actions a ≡ call_of (deeds_of before) a n
-  pub open_site : (a : Name) → MayRunHere (deeds_of before) s a → IfSome (actions.call a) (λ call. call.site ≡ site_of objects call.object)
-  pub open_child : (a b : Name) → MayRunHere (deeds_of before) s a → is_open_child actions a b ≡ history.is_open_child (deeds_of before) a b
-  pub any_open_child : (a : Name) → MayRunHere (deeds_of before) s a → has_open_child actions a ≡ history.has_open_child (deeds_of before) a
-  pub deps : (a : Name) → MayRunHere (deeds_of before) s a → deps actions a ≡ as_counts (own_pairs objects before a)
+  pub count : actions.count ≡ history.count L s
+  pub tops : actions.tops ≡ history.tops L s (history.count L s)
+  pub created : (a : Name) → MayRunHere L s a → created actions a ≡ history.created L a
+  pub ended : (a : Name) → MayRunHere L s a → ended actions a ≡ history.ended L a
+  pub asks : (a : Name) → MayRunHere L s a → asks actions a ≡ history.asks L a
+  pub calls : (a : Name) → MayRunHere L s a → calls actions a ≡ history.calls L a
+  pub open_call : (a : Name) → MayRunHere L s a → open_call actions a ≡ history.open_call L a
+  pub open_address : (a : Name) (n : ℕ) → MayRunHere L s a → history.open_call L a ≡ Some n → open_address actions a ≡ call_of L a n
+  pub open_site : (a : Name) → MayRunHere L s a → IfSome (actions.call a) (λ call. call.site ≡ site_of objects call.object)
+  pub open_child : (a b : Name) → MayRunHere L s a → is_open_child actions a b ≡ history.is_open_child L a b
+  pub any_open_child : (a : Name) → MayRunHere L s a → has_open_child actions a ≡ history.has_open_child L a
+  pub deps : (a : Name) → MayRunHere L s a → deps actions a ≡ depends a
+
+-- They answer as the history of their node,
+abbrev pub RunsActions : List ObjectDecl → ℕ → List Carried → Actions → Type 0
+RunsActions objects s before actions = AnswersDeeds objects s (deeds_of before) (λ a. as_counts (own_pairs objects before a)) actions
+
+-- and as what the node goes by.
+abbrev pub AnswersSight : List ObjectDecl → Sight → Actions → Type 0
+AnswersSight objects g actions = AnswersDeeds objects g.node g.deeds g.deps actions

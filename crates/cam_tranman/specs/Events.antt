@@ -1,5 +1,5 @@
 -- One more event of a node: what it does to the actions that run there, so that they go on answering as the node's history does.
-use Rattle.std.specs.Prelude.{◌≡◌, ℕ, ◌+◌, ◌<◌, ◌≤◌, Bool, true, false, List, [], ◌∷◌, filter, length, Option, Some, None}
+use Rattle.std.specs.Prelude.{◌≡◌, ℕ, ◌+◌, Bool, true, false, List, [], ◌∷◌, filter, length, Option, Some, None}
 use Rattle.cam_names.specs.declared.name.Name.{Name}
 use Rattle.cam_names.specs.Names.{is_top, is_child, parent, home_node, home_count}
 use Rattle.cam_type.specs.declared.ObjectDecl.{ObjectDecl}

@@ -4,3 +4,6 @@ pub mod Actions
 pub mod Tables
 pub mod Calls
 pub mod Events
+pub mod Steps
+pub mod Orderly
+pub mod Keeping

@@ -102,6 +102,13 @@ impl Homed {
         call_in(&self.calls, action)
     }
 
+    /// Whether an action was created here.
+    pub fn created(&self, action: &Name) -> bool
+        ensures { result ≡ created (answers self.now) action.now }
+    {
+        kept_in(&self.actions, action).is_some()
+    }
+
     /// Whether the answer to this call of an action is awaited: the action runs here and has not ended, and its open call has this number.
     pub fn awaits(&self, action: &Name, number: u32) -> bool
         ensures { result ≡ awaits_by (answers self.now) action.now number }
@@ -121,13 +128,6 @@ impl Homed {
 }
 
 impl Homed {
-    /// Whether an action was created here.
-    fn created(&self, action: &Name) -> bool
-        ensures { result ≡ created (answers self.now) action.now }
-    {
-        kept_in(&self.actions, action).is_some()
-    }
-
     fn ended(&self, action: &Name) -> bool
         ensures { result ≡ ended (answers self.now) action.now }
     {

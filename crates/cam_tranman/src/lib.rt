@@ -5,11 +5,14 @@
 //! commit or abort, decides a child. The tests that a rule makes first are calls too: `refusal`, `awaits`, `decides`. The orphan test comes
 //! between, and is that of `cam_orphan`. `reserve` makes all growth before a step; a call that has room takes no memory.
 //!
-//! Its law: after each event of a node, which is no restart, the actions answer as the node's history does (`one_more_event`). It stands on
-//! `cam_event` (histories and rules).
+//! Its laws: the calls are the rules (`calls_are_rules`), and after each step of a node the actions answer as the node's history does
+//! (`one_more_step`), after a restart too. It stands on `cam_event` (histories and rules).
 #![tactic(auto)]
 
 ghost use Rattle.cam_tranman.specs.Events.{QuietKeeps, DeedKeeps};
+ghost use Rattle.cam_tranman.specs.Steps.{SightIsAnswered, BegunIsRule, RefusalIsRule, WantedIsRule, StartedIsRule, TakenIsRule, FinishIsRule, QuitIsRule, DepsAreTheRules, ChildIsNoTop, GivenUpIsNoTop};
+ghost use Rattle.cam_tranman.specs.Orderly.{NoneIsOrderly, StepsStayOrderly, TakenStaysOrderly};
+ghost use Rattle.cam_tranman.specs.Keeping.{RulesMakeThem, DeedsMayCome, RestartKeeps, StepKeeps};
 
 mod action;
 mod asking;
@@ -34,7 +37,7 @@ pub enum Started {
 }
 
 /// What the answer to a call makes of it.
-#[derive(Clone, Copy, Debug)]
+#[derive(Clone, Copy, Debug, PartialEq, Eq)]
 pub enum Taken {
     /// The action sees this of its open call.
     Got(Seen),
@@ -47,4 +50,36 @@ pub enum Taken {
 pub fn one_more_event()
     ensures none { QuietKeeps }
     ensures one { DeedKeeps }
+{}
+
+/// What a node does with what is asked of its actions is what the calls answer, for actions that answer as its history does.
+pub fn calls_are_rules()
+    ensures sight { SightIsAnswered }
+    ensures begin { BegunIsRule }
+    ensures refusal { RefusalIsRule }
+    ensures request { WantedIsRule }
+    ensures start { StartedIsRule }
+    ensures answer { TakenIsRule }
+    ensures finish { FinishIsRule }
+    ensures quit { QuitIsRule }
+    ensures deps { DepsAreTheRules }
+    ensures child { ChildIsNoTop }
+    ensures given_up { GivenUpIsNoTop }
+{}
+
+/// A node's history is in order: it has nothing of actions of later counts, its top actions are numbered in turn, who asked for a child was
+/// created, and what is prepared is a top action. Each step keeps it so, and what was taken of a step at a halt.
+pub fn histories_are_orderly()
+    ensures none { NoneIsOrderly }
+    ensures steps { StepsStayOrderly }
+    ensures taken { TakenStaysOrderly }
+{}
+
+/// One step of a node, whatever it is: the rule makes one deed at most that concerns the actions, which may come then or is the restart's
+/// crash, and where the actions did what that deed does they answer as the longer history. After a restart, where nothing runs, they do.
+pub fn one_more_step()
+    ensures deeds { RulesMakeThem }
+    ensures may { DeedsMayCome }
+    ensures restart { RestartKeeps }
+    ensures step { StepKeeps }
 {}
