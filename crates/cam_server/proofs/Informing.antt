@@ -25,7 +25,7 @@ keeps_all : {X : Type 0} (xs : List X) → xs ≡ filter (λ x. true) xs
 keeps_all [] = refl
 keeps_all (x ∷ xs) = ap (λ ys. x ∷ ys) (keeps_all xs)
 
-any_each : (p q : Name → Bool) (us : List Name) → ((u : Name) → p u ≡ q u) → list_any p us ≡ list_any q us
+pub any_each : (p q : Name → Bool) (us : List Name) → ((u : Name) → p u ≡ q u) → list_any p us ≡ list_any q us
 any_each p q [] h = refl
 any_each p q (u ∷ us) h = ap₂ (λ a b. a || b) (h u) (any_each p q us h)
 

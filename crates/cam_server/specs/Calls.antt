@@ -12,7 +12,7 @@ use Rattle.cam_know.specs.Knowledge.{Knowledge}
 use Rattle.cam_know.specs.declared.Reason.{Reason}
 use Rattle.cam_know.specs.declared.Outcome.{Outcome}
 use Rattle.cam_know.specs.declared.Outcome.TheVariants.{Aborted, Committed}
-use Rattle.cam_know.specs.Known.{knows_commit, is_abort_of, is_commit_of}
+use Rattle.cam_know.specs.Known.{knows_abort, knows_commit, is_abort_of, is_commit_of}
 use Rattle.cam_know.specs.Orphans.{known_orphan}
 use Rattle.cam_event.specs.declared.Reply.{Reply}
 use Rattle.cam_event.specs.declared.Reply.TheVariants as replies
@@ -142,6 +142,13 @@ pub record AreInformed (aborts commits : Name → Bool) (old new : Server) : Typ
   pub aborts_are : (u : Name) → has_name new.table.site.aborted u ≡ (has_name old.table.site.aborted u || aborts u)
   pub next : new.table.site.next ≡ old.table.site.next
   pub replies : (a : Name) (n : ℕ) → new.kept_reply a n ≡ old.kept_reply a n
+
+-- It is informed of what is known, and of these outcomes.
+abbrev pub IsInformedOf : Knowledge → Server → Server → Type 0
+IsInformedOf k old new = AreInformed (knows_abort k) (knows_commit k) old new
+
+abbrev pub IsInformedOfAll : List Outcome → Server → Server → Type 0
+IsInformedOfAll os old new = AreInformed (aborts_in os) (commits_in os) old new
 
 -- a server that has served nothing since the restart
 pub record IsNew (count : ℕ) (site : Site) (new : Server) : Type 0 where

@@ -1,10 +1,13 @@
--- The call is the rule: what a site does with a call follows from what `perform` answers.
-use Rattle.std.specs.Prelude.{◌≡◌, ℕ, true, List, [], ◌∷◌, Some}
+-- The call is the rule: what a site does with a call follows from what `perform` answers. And what the events of a node are to its site.
+use Rattle.std.specs.Prelude.{◌≡◌, ℕ, Bool, true, false, List, [], ◌∷◌, Option, Some, None}
 use Rattle.cam_names.specs.declared.name.Name.{Name}
 use Rattle.cam_type.specs.declared.ObjectDecl.{ObjectDecl}
 use Rattle.cam_know.specs.Knowledge.{Knowledge}
 use Rattle.cam_know.specs.Known.{knows_commit, both}
 use Rattle.cam_know.specs.Orphans.{known_orphan}
+use Rattle.cam_event.specs.declared.Body.{Body}
+use Rattle.cam_event.specs.declared.Body.TheVariants as bodies
+use Rattle.cam_event.specs.declared.LetterId.{LetterId}
 use Rattle.cam_event.specs.declared.Note.TheVariants as notes
 use Rattle.cam_event.specs.declared.Reply.TheVariants as replies
 use Rattle.cam_event.specs.declared.Operation.{Operation}
@@ -13,14 +16,15 @@ use Rattle.cam_event.specs.Sights as sights
 use Rattle.cam_event.specs.Sights.{Sight, present}
 use Rattle.cam_event.specs.Rules as rules
 use Rattle.cam_event.specs.Rules.{Did, did, one, answers, nothing_but, reply_to, call_comes}
-use Rattle.cam_event.specs.ByKnowledge.{Carried, held, held_sight, held_informs}
+use Rattle.cam_event.specs.Inputs.{Input, Receives, Restarts, Mail}
+use Rattle.cam_event.specs.ByKnowledge.{Carried, held, held_sight, held_informs, node_step}
 use Rattle.cam_locks.specs.declared.LiveOp.{LiveOp}
 use Rattle.cam_locks.specs.Names.{has_name}
 use Rattle.cam_server.specs.declared.Performed.{Performed}
 use Rattle.cam_server.specs.declared.Performed.TheVariants as performed
 use Rattle.cam_server.specs.Server.{Server, ServesSite}
-use Rattle.cam_server.specs.Calls.{Asked, performed_by, AreInformed}
-use Rattle.cam_server.specs.Events.{informs_abort, informs_commit}
+use Rattle.cam_server.specs.Calls.{Asked, performed_by}
+use Rattle.cam_server.specs.Events.{AreQuiet, IsInformedBy, IsServing}
 
 -- a live operation of the table stands for one that the node goes by
 abbrev pub AreLive : List LiveOp → List Operation → Type 0
@@ -51,13 +55,45 @@ did_performed asked (performed.Done answer) = rules.performed asked.action asked
 
 abbrev pub PerformedIsRule : Type 0
 PerformedIsRule =
-    (objects : List ObjectDecl) (g : Sight) (k : Knowledge) (server : Server) (asked : Asked) → AnswersSight objects g k server
+    (objects : List ObjectDecl) (g : Sight) (k : Knowledge) (server : Server) (asked : Asked)
+    → AnswersSight objects g k server
     → call_comes objects g asked.action asked.number asked.object asked.op asked.count asked.visited
     ≡ did_performed asked (performed_by k server asked)
 
 -- A server that serves the site of a history, and was then informed of what a letter brings, answers as what the node goes by.
 abbrev pub SightIsAnswered : Type 0
 SightIsAnswered =
-    (objects : List ObjectDecl) (s : ℕ) (before : List Carried) (brought : Knowledge) (old mid : Server) → ServesSite objects s before old
-    → AreInformed (informs_abort s (held_informs objects s before brought)) (informs_commit s (held_informs objects s before brought)) old mid
+    (objects : List ObjectDecl) (s : ℕ) (before : List Carried) (brought : Knowledge) (old mid : Server)
+    → ServesSite objects s before old → IsInformedBy s (held_informs objects s before brought) old mid
     → AnswersSight objects (held_sight objects s before brought) (both (held objects before) brought) mid
+
+-- THE EVENTS OF A NODE. But for a call that comes and a restart each performs and bounces nothing.
+abbrev pub is_call : Body → Bool
+is_call (bodies.Call a n x op c counts) = true
+is_call _ = false
+
+abbrev pub calls_or_restarts : Input → Option Mail → Bool
+calls_or_restarts (Receives letter) None = false
+calls_or_restarts (Receives letter) (Some mail) = is_call mail.body
+calls_or_restarts (Restarts m) mail = true
+calls_or_restarts _ mail = false
+
+abbrev pub OthersAreQuiet : Type 0
+OthersAreQuiet =
+    (objects : List ObjectDecl) (s : ℕ) (before : List Carried) (input : Input) (mail : Option Mail)
+    (brought : Knowledge)
+    → calls_or_restarts input mail ≡ false → AreQuiet s (node_step objects s before input mail brought).deeds
+
+-- A call that comes is served behind the first Informs, as the server answers then.
+abbrev pub called : List ObjectDecl → ℕ → List Carried → LetterId → Mail → Knowledge → Carried
+called objects s before letter mail brought =
+    record { event = node_step objects s before (Receives letter) (Some mail) brought; mail = Some mail; brought = brought }
+
+abbrev pub CallsAreServed : Type 0
+CallsAreServed =
+    (objects : List ObjectDecl) (s : ℕ) (before : List Carried) (letter : LetterId) (mail : Mail)
+    (brought k : Knowledge) (server : Server) (asked : Asked)
+    → mail.body ≡ bodies.Call asked.action asked.number asked.object asked.op asked.count asked.visited
+    → AnswersSight objects (held_sight objects s before brought) k server
+    → IsServing s (called objects s before letter mail brought) (held_informs objects s before brought) asked
+    (performed_by k server asked)

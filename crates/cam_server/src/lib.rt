@@ -3,8 +3,12 @@
 //! [`Server`] has the site's lock table, and the replies of the node's present incarnation, by action and number. Its main call is
 //! `perform`, the rule of a call that comes to its site.
 //!
+//! Its law: what it answers a call is what the node does by the step rules (`calls_are_rules`).
+//!
 //! It stands on `cam_locks` (the table), `cam_orphan` (the test) and `cam_event` (histories and rules).
 #![tactic(auto)]
+
+ghost use Rattle.cam_server.specs.Steps.{PerformedIsRule, SightIsAnswered, OthersAreQuiet, CallsAreServed};
 
 mod server;
 
@@ -30,3 +34,17 @@ pub enum Performed {
     /// It was performed, with this answer.
     Done(Answer),
 }
+
+/// What a site does with a call by the step rules is what [`Server::perform`] answers (`perform`), for what the node goes by where its server was
+/// informed of the news that came with the call (`sight`).
+pub fn calls_are_rules()
+    ensures perform { PerformedIsRule }
+    ensures sight { SightIsAnswered }
+{}
+
+/// What the events of a node are to its site: but for a call that comes and a restart each performs and bounces nothing (`quiet`); a call is
+/// served behind the first Informs as the server answers then (`served`).
+pub fn kinds_of_steps()
+    ensures quiet { OthersAreQuiet }
+    ensures served { CallsAreServed }
+{}

@@ -4,13 +4,13 @@ ghost use Rattle.std.specs.List.{list_any};
 ghost use Rattle.cam_names.specs.Names.{ancestors};
 ghost use Rattle.cam_type.specs.Table.{kind_of};
 ghost use Rattle.cam_type.specs.Objects.{start_of};
-ghost use Rattle.cam_know.specs.Known.{knows_abort, knows_commit};
+ghost use Rattle.cam_know.specs.Known.{knows_commit};
 ghost use Rattle.cam_locks.specs.Site.{fits_here};
 ghost use Rattle.cam_locks.specs.Calls.{grant, after_grant};
 ghost use Rattle.cam_locks.specs.Served.{served};
 ghost use Rattle.cam_server.specs.Calls.{answers, reply_in, call, granted, performed_by, reply_of, held_after};
 ghost use Rattle.cam_server.specs.declared.server.CallName.{CallName as CallValue};
-ghost use Rattle.cam_server.specs.Calls.{AfterPerformed, AreInformed, AreSame, IsNew, IsNoted, aborts_in, commits_in, informed_of};
+ghost use Rattle.cam_server.specs.Calls.{AfterPerformed, IsInformedOf, IsInformedOfAll, AreSame, IsNew, IsNoted, informed_of};
 
 use crate::Performed;
 use cam_base::NoMemory;
@@ -97,17 +97,21 @@ impl Server {
         visited: &Deps,
         server: &mut T,
     ) -> Result<Performed, NoMemory>
-        requires fits { IsTrue (fits_here self.old.table.site.objects self.old.table.site.node object op.now) }
+        requires fits { IsTrue
+            (fits_here self.old.table.site.objects self.old.table.site.node object op.now) }
         requires index { self.old.table.site.next ≤ 999999999 }
-        requires kind { T.kind server.old ≡ kind_of (start_of self.old.table.site.objects object) }
-        ensures value { IfOk result (λ done.
-            done ≡ performed_by know.now (answers self.old) (call action.now number object op.now count visited.now)) }
+        requires kind { T.kind server.old
+            ≡ kind_of (start_of self.old.table.site.objects object) }
+        ensures value { IfOk result (λ done. done ≡ performed_by know.now (answers self.old)
+            (call action.now number object op.now count visited.now)) }
         ensures new { IfOk result (λ done.
-            AfterPerformed (call action.now number object op.now count visited.now) done (answers self.old) (answers self.new)) }
+            AfterPerformed (call action.now number object op.now count visited.now)
+            done (answers self.old) (answers self.new)) }
         ensures err { OnErr result (AreSame (answers self.old) (answers self.new)) }
         ensures spare { (answers self.new).table.spare ≡ (answers self.old).table.spare }
         ensures served { IfOk result (λ done. T.held server.new
-            ≡ held_after done (call action.now number object op.now count visited.now) (answers self.old) (T.held server.old)) }
+            ≡ held_after done (call action.now number object op.now count visited.now)
+            (answers self.old) (T.held server.old)) }
         ensures kind_stays { T.kind server.new ≡ T.kind server.old }
     {
         if count != self.count {
@@ -132,15 +136,16 @@ impl Server {
     /// The site is informed of these outcomes. It wants a spare of their number ([`Server::reserve`]), and takes no memory.
     pub fn informed(&mut self, news: &Know)
         requires { length news.now.outcomes ≤ (answers self.old).table.spare }
-        ensures informed { AreInformed (knows_abort news.now) (knows_commit news.now) (answers self.old) (answers self.new) }
-        ensures spare { (answers self.old).table.spare ≤ (answers self.new).table.spare + length news.now.outcomes }
+        ensures informed { IsInformedOf news.now (answers self.old) (answers self.new) }
+        ensures spare { (answers self.old).table.spare
+            ≤ (answers self.new).table.spare + length news.now.outcomes }
     {
         self.inform_all(news.outcomes());
     }
 
     fn inform_all(&mut self, outcomes: &[Outcome])
         requires { length outcomes.now ≤ self.old.table.spare }
-        ensures informed { AreInformed (aborts_in outcomes.now) (commits_in outcomes.now) (answers self.old) (answers self.new) }
+        ensures informed { IsInformedOfAll outcomes.now (answers self.old) (answers self.new) }
         ensures spare { self.old.table.spare ≤ self.new.table.spare + length outcomes.now }
     {
         for outcome in outcomes {
@@ -169,17 +174,22 @@ impl Server {
         op: &Op,
         server: &mut T,
     ) -> Result<Performed, NoMemory>
-        requires fits { IsTrue (fits_here self.old.table.site.objects self.old.table.site.node object op.now) }
+        requires fits { IsTrue
+            (fits_here self.old.table.site.objects self.old.table.site.node object op.now) }
         requires index { self.old.table.site.next ≤ 999999999 }
-        requires kind { T.kind server.old ≡ kind_of (start_of self.old.table.site.objects object) }
+        requires kind { T.kind server.old
+            ≡ kind_of (start_of self.old.table.site.objects object) }
         requires fresh { reply_in self.old call.now ≡ None }
-        ensures value { IfOk result (λ done. done ≡ granted (grant self.old.table.site call.now.action object op.now)) }
+        ensures value { IfOk result (λ done.
+            done ≡ granted (grant self.old.table.site call.now.action object op.now)) }
         ensures count { self.new.count ≡ self.old.count }
-        ensures site { OnOk result (self.new.table.site ≡ after_grant self.old.table.site call.now.action object op.now) }
+        ensures site { OnOk result (self.new.table.site
+            ≡ after_grant self.old.table.site call.now.action object op.now) }
         ensures replies { IfOk result (λ done. IsNoted call.now (reply_of done) self.old self.new) }
         ensures err { OnErr result (AreSame (answers self.old) (answers self.new)) }
         ensures spare { self.new.table.spare ≡ self.old.table.spare }
-        ensures served { OnOk result (T.held server.new ≡ served self.old.table.site call.now.action object op.now (T.held server.old)) }
+        ensures served { OnOk result (T.held server.new
+            ≡ served self.old.table.site call.now.action object op.now (T.held server.old)) }
         ensures kind_stays { T.kind server.new ≡ T.kind server.old }
     {
         self.performed.reserve(1)?;
