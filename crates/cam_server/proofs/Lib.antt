@@ -4,5 +4,7 @@ pub mod Informing
 pub mod QuietDeeds
 pub mod LiveOps
 pub mod Serving
+pub mod Performing
+pub mod NewsInforms
 pub mod RuleCalls
 pub mod QuietRules

@@ -3,11 +3,13 @@
 //! [`Server`] has the site's lock table, and the replies of the node's present incarnation, by action and number. Its main call is
 //! `perform`, the rule of a call that comes to its site.
 //!
-//! Its law: what it answers a call is what the node does by the step rules (`calls_are_rules`).
+//! Its law: after each event of a node the server serves the site of the node's history (`one_more_event`); what it answers a call is what the node does by the step rules (`calls_are_rules`).
 //!
 //! It stands on `cam_locks` (the table), `cam_orphan` (the test) and `cam_event` (histories and rules).
 #![tactic(auto)]
 
+ghost use Rattle.cam_server.specs.Events.{SameServes, InformsKeep, PerformKeeps};
+ghost use Rattle.cam_server.specs.Events.{NewsInform, DecisionInforms, NothingInforms, InformsJoin};
 ghost use Rattle.cam_server.specs.Steps.{PerformedIsRule, SightIsAnswered, OthersAreQuiet, CallsAreServed};
 
 mod server;
@@ -47,4 +49,21 @@ pub fn calls_are_rules()
 pub fn kinds_of_steps()
     ensures quiet { OthersAreQuiet }
     ensures served { CallsAreServed }
+{}
+
+/// After one more event of its node, which is no restart, the server serves the site of the longer history: where it was informed of what the
+/// event informs it of (`informs`), and did what `perform` says of the call (`perform`). What answers the same serves the same (`same`).
+pub fn one_more_event()
+    ensures same { SameServes }
+    ensures informs { InformsKeep }
+    ensures perform { PerformKeeps }
+{}
+
+/// Of what an event informs its site: of the letter's news (`news`), of a decision (`decision`), of nothing by other deeds (`nothing`), and
+/// one after the other of both (`joined`).
+pub fn news_are_informs()
+    ensures news { NewsInform }
+    ensures decision { DecisionInforms }
+    ensures nothing { NothingInforms }
+    ensures joined { InformsJoin }
 {}

@@ -1,5 +1,5 @@
 //! The server of a site: its lock table, and the replies that were given, in tables of hashes.
-ghost use Rattle.std.specs.Prelude.{◌≡◌, ◌+◌, ◌≤◌, length, None, IsTrue, IfOk, OnOk, OnErr};
+ghost use Rattle.std.specs.Prelude.{◌≡◌, ◌+◌, ◌≤◌, [], ◌∷◌, length, None, IsTrue, IfOk, OnOk, OnErr};
 ghost use Rattle.std.specs.List.{list_any};
 ghost use Rattle.cam_names.specs.Names.{ancestors};
 ghost use Rattle.cam_type.specs.Table.{kind_of};
@@ -22,6 +22,7 @@ use cam_orphan::orphan;
 use cam_type::{Answer, DataType, Op};
 use std::alloc::Global;
 use std::collections::HashMap;
+use std::slice;
 
 /// A call: whose it is, and which of the action's calls.
 #[derive(Clone, Copy, PartialEq, Eq, Hash)]
@@ -141,6 +142,15 @@ impl Server {
             ≤ (answers self.new).table.spare + length news.now.outcomes }
     {
         self.inform_all(news.outcomes());
+    }
+
+    /// The site is informed of an outcome that the node has decided. It wants a spare of 1, and takes no memory.
+    pub fn decided(&mut self, outcome: &Outcome)
+        requires { 1 ≤ (answers self.old).table.spare }
+        ensures informed { IsInformedOfAll (outcome.now ∷ []) (answers self.old) (answers self.new) }
+        ensures spare { (answers self.old).table.spare ≤ (answers self.new).table.spare + 1 }
+    {
+        self.inform_all(slice::from_ref(outcome));
     }
 
     fn inform_all(&mut self, outcomes: &[Outcome])
