@@ -7,4 +7,9 @@ pub mod Serving
 pub mod Performing
 pub mod NewsInforms
 pub mod RuleCalls
+pub mod PlacedOrder
+pub mod LogOrder
+pub mod SortedAlike
+pub mod LogAlike
+pub mod Restarting
 pub mod QuietRules

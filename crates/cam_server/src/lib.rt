@@ -3,12 +3,13 @@
 //! [`Server`] has the site's lock table, and the replies of the node's present incarnation, by action and number. Its main call is
 //! `perform`, the rule of a call that comes to its site.
 //!
-//! Its law: after each event of a node the server serves the site of the node's history (`one_more_event`); what it answers a call is what the node does by the step rules (`calls_are_rules`).
+//! Its law: after each event of a node the server serves the site of the node's history (`one_more_event`), and after a restart too
+//! (`after_restart`); what it answers a call is what the node does by the step rules (`calls_are_rules`).
 //!
 //! It stands on `cam_locks` (the table), `cam_orphan` (the test) and `cam_event` (histories and rules).
 #![tactic(auto)]
 
-ghost use Rattle.cam_server.specs.Events.{SameServes, InformsKeep, PerformKeeps};
+ghost use Rattle.cam_server.specs.Events.{SameServes, InformsKeep, PerformKeeps, RestartKeeps};
 ghost use Rattle.cam_server.specs.Events.{NewsInform, DecisionInforms, NothingInforms, InformsJoin};
 ghost use Rattle.cam_server.specs.Steps.{PerformedIsRule, SightIsAnswered, OthersAreQuiet, CallsAreServed};
 
@@ -66,4 +67,9 @@ pub fn news_are_informs()
     ensures decision { DecisionInforms }
     ensures nothing { NothingInforms }
     ensures joined { InformsJoin }
+{}
+
+/// After a restart, with the table that is restored from what the log held, the server serves the site of the history.
+pub fn after_restart()
+    ensures { RestartKeeps }
 {}
