@@ -153,6 +153,18 @@ impl Server {
         self.inform_all(slice::from_ref(outcome));
     }
 
+    /// An equal server, but for its room.
+    pub fn copy(&self) -> Result<Server, NoMemory>
+        ensures { IfOk result (λ copy. AreSame (answers self.now) (answers copy)) }
+    {
+        Ok(Server {
+            count: self.count,
+            table: self.table.copy()?,
+            performed: self.performed.clone()?,
+            bounced: self.bounced.clone()?,
+        })
+    }
+
     fn inform_all(&mut self, outcomes: &[Outcome])
         requires { length outcomes.now ≤ self.old.table.spare }
         ensures informed { IsInformedOfAll outcomes.now (answers self.old) (answers self.new) }
