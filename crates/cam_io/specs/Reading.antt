@@ -4,7 +4,7 @@ use Rattle.std.specs.declared.alloc.Global.{Global}
 use Rattle.cam_io.specs.declared.fault.ReadFault.{ReadFault}
 use Rattle.cam_io.specs.declared.fault.ReadFault.TheVariants.{Failed, TooLarge, NoMemory}
 
--- All of what was left; or a front of it was read, which is longer than the limit exactly where that is the fault.
+-- All of what was left; or a prefix of it was read, which is longer than the limit exactly where that is the fault.
 abbrev pub IsRead : ℕ → List ℕ → List ℕ → Result (Vec ℕ Global) ReadFault → Type 0
 IsRead limit old new (Ok bytes) = (bytes.items ≡ old) × (new ≡ [])
 IsRead limit old new (Err TooLarge) = (front : List ℕ) × (limit < length front) × (old ≡ front ++ new)

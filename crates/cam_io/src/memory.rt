@@ -85,7 +85,10 @@ impl Model for MemorySource {
 impl MemorySource {
     /// A source of these bytes that fails the calls of these numbers. All of the bytes are left, and no call was made.
     pub fn new(bytes: Vec<u8>, fail: Vec<u32>) -> MemorySource
-        ensures { result ≡ record { bytes = bytes.items; plan = record { fail = fail.items; calls = 0; faults = 0 } } }
+        ensures { result ≡ record {
+          bytes = bytes.items;
+          plan = record { fail = fail.items; calls = 0; faults = 0 };
+        } }
     {
         MemorySource {
             bytes,
@@ -103,12 +106,16 @@ impl Source for MemorySource {
     fn read(&mut self, into: &mut [u8]) -> Result<usize, Failed>
         requires { 0 < length into.old }
         ensures count { IfOk result (λ n. n ≤ length into.new) }
-        ensures bytes { MatchResult result (λ n. Moves self.old.bytes self.new.bytes (take n into.new)) (λ _. self.new.bytes ≡ self.old.bytes) }
+        ensures bytes { MatchResult result
+            (λ n. Moves self.old.bytes self.new.bytes (take n into.new))
+            (λ _. self.new.bytes ≡ self.old.bytes) }
         ensures cause { HasCause self.old.plan.faults self.new.plan.faults result }
         ensures steady { OnOk result (self.new.plan.faults ≡ self.old.plan.faults) }
-        ensures once { OnErr result (self.new.plan.faults ≡ min (self.old.plan.faults + 1) (2 ^ 64 - 1)) }
+        ensures once { OnErr result
+            (self.new.plan.faults ≡ min (self.old.plan.faults + 1) (2 ^ 64 - 1)) }
         ensures counted { IsCounted self.old.plan self.new.plan }
-        ensures planned { MatchResult result (λ _. ¬ (IsToFail self.new.plan)) (λ _. IsToFail self.new.plan) }
+        ensures planned { MatchResult result (λ _. ¬ (IsToFail self.new.plan))
+            (λ _. IsToFail self.new.plan) }
     {
         self.plan.call()?;
         let count = into.len().min(self.bytes.len() - self.at);
@@ -136,7 +143,10 @@ impl Model for MemorySink {
 impl MemorySink {
     /// A sink that fails the calls of these numbers. Nothing was written, and no call was made.
     pub fn new(alloc: Global, fail: Vec<u32>) -> MemorySink
-        ensures { result ≡ record { bytes = []; plan = record { fail = fail.items; calls = 0; faults = 0 } } }
+        ensures { result ≡ record {
+          bytes = [];
+          plan = record { fail = fail.items; calls = 0; faults = 0 };
+        } }
     {
         MemorySink {
             text: Vec::new(alloc),
@@ -160,10 +170,13 @@ impl Sink for MemorySink {
     fn write(&mut self, piece: &[u8]) -> Result<usize, Failed>
         requires { 0 < length piece.now }
         ensures count { IfOk result (λ n. (1 ≤ n) × (n ≤ length piece.now)) }
-        ensures bytes { MatchResult result (λ n. self.new.bytes ≡ self.old.bytes ++ take n piece.now) (λ _. self.new.bytes ≡ self.old.bytes) }
+        ensures bytes { MatchResult result
+            (λ n. self.new.bytes ≡ self.old.bytes ++ take n piece.now)
+            (λ _. self.new.bytes ≡ self.old.bytes) }
         ensures cause { HasCause self.old.plan.faults self.new.plan.faults result }
         ensures steady { OnOk result (self.new.plan.faults ≡ self.old.plan.faults) }
-        ensures once { OnErr result (self.new.plan.faults ≡ min (self.old.plan.faults + 1) (2 ^ 64 - 1)) }
+        ensures once { OnErr result
+            (self.new.plan.faults ≡ min (self.old.plan.faults + 1) (2 ^ 64 - 1)) }
         ensures counted { IsCounted self.old.plan self.new.plan }
         ensures planned { OnOk result (¬ (IsToFail self.new.plan)) }
     {

@@ -18,15 +18,18 @@ pub trait Sink {
     fn write(&mut self, piece: &[u8]) -> Result<usize, Failed>
         requires { 0 < length piece.now }
         ensures count { IfOk result (λ n. (1 ≤ n) × (n ≤ length piece.now)) }
-        ensures bytes { IfTold (written self.old) (written self.new) (λ old new. MatchResult result (λ n. new ≡ old ++ take n piece.now) (λ _. new ≡ old)) }
+        ensures bytes { IfTold (written self.old) (written self.new)
+            (λ old new. MatchResult result (λ n. new ≡ old ++ take n piece.now) (λ _. new ≡ old)) }
         ensures cause { HasCause (faults self.old) (faults self.new) result };
 }
 
 /// Writes the whole text. It fails where a write fails, and then only the text before that was written.
 /// It takes no memory.
 pub fn write_all<K: Sink>(sink: &mut K, text: &[u8]) -> Result<(), Failed>
-    ensures all { OnOk result (IfTold (K.written sink.old) (K.written sink.new) (λ old new. new ≡ old ++ text.now)) }
-    ensures front { IfTold (K.written sink.old) (K.written sink.new) (λ old new. (n : ℕ) × (n ≤ length text.now) × (new ≡ old ++ take n text.now)) }
+    ensures all { OnOk result (IfTold (K.written sink.old) (K.written sink.new)
+        (λ old new. new ≡ old ++ text.now)) }
+    ensures front { IfTold (K.written sink.old) (K.written sink.new)
+        (λ old new. (n : ℕ) × (n ≤ length text.now) × (new ≡ old ++ take n text.now)) }
     ensures cause { HasCause (K.faults sink.old) (K.faults sink.new) result }
 {
     let mut at = 0;

@@ -23,7 +23,9 @@ pub trait Source {
     fn read(&mut self, into: &mut [u8]) -> Result<usize, Failed>
         requires { 0 < length into.old }
         ensures count { IfOk result (λ n. n ≤ length into.new) }
-        ensures bytes { IfTold (left self.old) (left self.new) (λ old new. MatchResult result (λ n. Moves old new (take n into.new)) (λ _. new ≡ old)) }
+        ensures bytes { IfTold (left self.old) (left self.new)
+            (λ old new. MatchResult result (λ n. Moves old new (take n into.new))
+            (λ _. new ≡ old)) }
         ensures cause { HasCause (faults self.old) (faults self.new) result };
 }
 
@@ -35,9 +37,11 @@ pub fn read_all<S: Source>(
     source: &mut S,
     limit: usize,
 ) -> Result<Vec<u8>, ReadFault>
-    ensures read { IfTold (S.left source.old) (S.left source.new) (λ old new. IsRead limit old new result) }
+    ensures read { IfTold (S.left source.old) (S.left source.new)
+        (λ old new. IsRead limit old new result) }
     ensures within { IfOk result (λ bytes. vec_len bytes ≤ limit) }
-    ensures failed { IsErrOf result ReadFault.Failed → Rose (S.faults source.old) (S.faults source.new) }
+    ensures failed { IsErrOf result ReadFault.Failed
+        → Rose (S.faults source.old) (S.faults source.new) }
     ensures count { S.faults source.old ≤ S.faults source.new }
 {
     let mut bytes = Vec::new(alloc);
