@@ -1,10 +1,10 @@
 //! The first fault of a script.
 ghost use Rattle.std.specs.Prelude.{◌≡◌};
-ghost use Rattle.cam_words.specs.declared.fault.ScriptFault.TheVariants.{NoMemory};
+ghost use Rattle.cam_words.specs.declared.fault.ScriptFault.TheVariants.{NoMemory as OutOfMemory};
 ghost use Rattle.cam_words.specs.Faults.{unknown_line};
 
 use crate::Cause;
-use std::alloc::{AllocError, AllocFailed};
+use cam_base::NoMemory;
 use thiserror::Error;
 
 /// The first fault of a script: its line and column, from 1, and its cause.
@@ -40,26 +40,10 @@ impl ScriptFault {
     }
 }
 
-impl From<cam_base::NoMemory> for ScriptFault {
-    ghost from_gives = { λ _ e. e ≡ NoMemory };
+impl From<NoMemory> for ScriptFault {
+    ghost from_gives = { λ _ e. e ≡ OutOfMemory };
 
-    fn from(_: cam_base::NoMemory) -> ScriptFault {
-        ScriptFault::NoMemory
-    }
-}
-
-impl From<AllocError> for ScriptFault {
-    ghost from_gives = { λ _ e. e ≡ NoMemory };
-
-    fn from(_: AllocError) -> ScriptFault {
-        ScriptFault::NoMemory
-    }
-}
-
-impl<T: Drop> From<AllocFailed<T>> for ScriptFault {
-    ghost from_gives = { λ _ e. e ≡ NoMemory };
-
-    fn from(_: AllocFailed<T>) -> ScriptFault {
+    fn from(_: NoMemory) -> ScriptFault {
         ScriptFault::NoMemory
     }
 }
