@@ -1,5 +1,5 @@
 -- The words of a line, and faults at them. Places in a line count from 0, columns from 1; a word is the places where it begins and ends.
-use Rattle.std.specs.Prelude.{ℕ, ◌+◌, ◌==◌, ◌||◌, Bool, true, false, List, [], ◌∷◌, drop, slice_range, bytes_eq, Option, Some, None, Result, Ok, Err, if◌then◌else◌}
+use Rattle.std.specs.Prelude.{ℕ, ◌+◌, ◌==◌, ◌≤◌, ◌||◌, Bool, true, false, List, [], ◌∷◌, length, drop, slice_range, bytes_eq, Option, Some, None, Result, Ok, Err, if◌then◌else◌}
 use Rattle.cam_words.specs.declared.fault.ScriptFault.{ScriptFault}
 use Rattle.cam_words.specs.declared.cause.Cause.{Cause}
 use Rattle.cam_words.specs.declared.cause.Cause.TheVariants as causes
@@ -47,6 +47,14 @@ word_from start line = record { start = start; end = word_end start (drop start 
 -- the next word from `at` on: an empty one at the line's end where there is none
 abbrev pub next_word : ℕ → List ℕ → Word
 next_word at line = word_from (blanks_end at (drop at line)) line
+
+-- A word is within the line.
+abbrev pub IsInLine : List ℕ → Word → Type 0
+IsInLine line word = (word.start ≤ word.end) × (word.end ≤ length line)
+
+-- A place is not before this one, and within the line.
+abbrev pub IsFurther : ℕ → List ℕ → ℕ → Type 0
+IsFurther at line further = (at ≤ further) × (further ≤ length line)
 
 -- the bytes of a word
 abbrev pub text_of : Word → List ℕ → List ℕ

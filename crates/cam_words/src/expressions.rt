@@ -1,5 +1,6 @@
 //! Values in bodies: fixed, or of an earlier statement.
 ghost use Rattle.std.specs.Prelude.{◌≡◌, ◌≤◌, length, take, drop, Ok, Err, IfOk};
+ghost use Rattle.cam_words.specs.Words.{IsFurther};
 ghost use Rattle.cam_words.specs.Expressions.{digits_in_front, behind_digits, added_of, earlier_of, kept_of, expression_of, expression_at};
 
 use crate::line::Line;
@@ -19,7 +20,7 @@ impl Line<'_> {
     pub fn expression_at(&self, at: usize, earlier: u8) -> Result<(Expr, usize), ScriptFault>
         requires { at ≤ length self.now.bytes.now }
         ensures value { result ≡ expression_at earlier self.now.number at self.now.bytes.now }
-        ensures end { IfOk result (λ read. (at ≤ read.1) × (read.1 ≤ length self.now.bytes.now)) }
+        ensures end { IfOk result (λ read. IsFurther at self.now.bytes.now read.1) }
     {
         let word = self.word_at(at)?;
         let expr = self.expression_of(word.start, self.text(word), earlier)?;

@@ -65,7 +65,8 @@ impl Line<'_> {
     pub fn word_at(&self, at: usize) -> Result<Word, ScriptFault>
         requires { at ≤ length self.now.bytes.now }
         ensures value { result ≡ word_at self.now.number at self.now.bytes.now }
-        ensures word { IfOk result (λ word. (at ≤ word.start) × ((word.start < word.end) × (word.end ≤ length self.now.bytes.now))) }
+        ensures word { IfOk result (λ word. (at ≤ word.start) × (word.start < word.end)) }
+        ensures end { IfOk result (λ word. word.end ≤ length self.now.bytes.now) }
     {
         let word = self.next_word(at);
         if word.is_missing() {

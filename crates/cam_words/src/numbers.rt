@@ -1,6 +1,6 @@
 //! Numbers, nodes and values.
 ghost use Rattle.std.specs.Prelude.{◌≡◌, ◌≤◌, length, Ok, Err, IfOk, IfSome};
-ghost use Rattle.cam_words.specs.Words.{word_at};
+ghost use Rattle.cam_words.specs.Words.{word_at, IsFurther};
 ghost use Rattle.cam_words.specs.Numbers.{number_of, digits_on, number_at, node_at, value_of, value_at};
 
 use crate::line::Line;
@@ -13,7 +13,7 @@ impl Line<'_> {
         requires { at ≤ length self.now.bytes.now }
         ensures value { result ≡ number_at least most self.now.number at self.now.bytes.now }
         ensures range { IfOk result (λ read. (least ≤ read.0) × (read.0 ≤ most)) }
-        ensures end { IfOk result (λ read. (at ≤ read.1) × (read.1 ≤ length self.now.bytes.now)) }
+        ensures end { IfOk result (λ read. IsFurther at self.now.bytes.now read.1) }
     {
         let word = self.word_at(at)?;
         match number_of(self.text(word), most as u64) {
@@ -27,7 +27,7 @@ impl Line<'_> {
     pub fn node_at(&self, at: usize, nodes: u8) -> Result<(u8, usize), ScriptFault>
         requires { at ≤ length self.now.bytes.now }
         ensures value { result ≡ node_at nodes self.now.number at self.now.bytes.now }
-        ensures end { IfOk result (λ read. (at ≤ read.1) × (read.1 ≤ length self.now.bytes.now)) }
+        ensures end { IfOk result (λ read. IsFurther at self.now.bytes.now read.1) }
     {
         let word = self.word_at(at)?;
         match number_of(self.text(word), 8) {
@@ -46,7 +46,7 @@ impl Line<'_> {
     pub fn value_at(&self, at: usize) -> Result<(i64, usize), ScriptFault>
         requires { at ≤ length self.now.bytes.now }
         ensures value { result ≡ value_at self.now.number at self.now.bytes.now }
-        ensures end { IfOk result (λ read. (at ≤ read.1) × (read.1 ≤ length self.now.bytes.now)) }
+        ensures end { IfOk result (λ read. IsFurther at self.now.bytes.now read.1) }
     {
         let word = self.word_at(at)?;
         match value_of(self.text(word)) {
