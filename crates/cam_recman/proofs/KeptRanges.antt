@@ -1,8 +1,9 @@
 -- The records of a snapshot are in their ranges, so that they can be written.
-use Rattle.std.proofs.Common.{◌≡◌, ℕ, ◌≤◌, Bool, true, false, nat_lt, if◌then◌else◌, List, [], ◌∷◌, ◌++◌, map, All, refl, arith}
+use Rattle.std.proofs.Common.{◌≡◌, ℕ, zero, suc, ◌≤◌, ◌<◌, Bool, true, false, nat_lt, if◌then◌else◌, List, [], ◌∷◌, ◌++◌, length, slice_index, map, All, refl, arith}
 use Rattle.std.specs.List.{AllByRecursion}
 use Rattle.std.proofs.lemmas.Bool.{ltb-true}
 use Rattle.std.proofs.lemmas.List.Elements.{All-from_recursion}
+use Rattle.cam_names.specs.Dependencies.{AreCounts}
 use Rattle.cam_type.specs.declared.Held.{Held}
 use Rattle.cam_know.specs.declared.Outcome.{Outcome}
 use Rattle.cam_know.specs.declared.Outcome.TheVariants.{Aborted, Committed}
@@ -13,6 +14,14 @@ use Rattle.cam_recman.specs.Ranges.{IsHeld}
 use Rattle.cam_recman.specs.Writable.{IsWritable}
 use Rattle.cam_recman.specs.Snapshot.{own_record, outcome_record, seen_records, snapshot}
 use Rattle.cam_recman.proofs.InRange.{writable}
+
+-- counts in their range, one by one
+each_below : (counts : List ℕ) → ((k : ℕ) → k < length counts → slice_index counts k ≤ 1000000000) → AllByRecursion (λ count. count ≤ 1000000000) counts
+each_below [] to = tt
+each_below (c ∷ counts) to = (to zero (omega arith), each_below counts (λ k below. to (suc k) (omega (arith, below))))
+
+pub counts_below : (counts : List ℕ) → AreCounts 1 counts → AllByRecursion (λ count. count ≤ 1000000000) counts
+counts_below counts are = each_below counts (λ k below. are.to k (omega (arith, below, are.eight)))
 
 abbrev AreWritable : List Record → Type 0
 AreWritable records = AllByRecursion IsWritable records

@@ -89,7 +89,8 @@ ReadIsWritten =
 abbrev pub OneMoreEntryAdds : Type 0
 OneMoreEntryAdds =
     (entries : List (List ℕ)) (entry : List ℕ)
-    → said_by (entries ++ entry ∷ []) ≡ (said_by entries >>= (λ s. read_entry s.version (length entries) entry >>= (λ records. Ok (with_entry s records))))
+    → said_by (entries ++ entry ∷ [])
+    ≡ (said_by entries >>= (λ s. read_entry s.version (length entries) entry >>= (λ records. Ok (with_entry s records))))
 
 -- what was recovered, and what the records add to it
 abbrev pub adding : Result Recovered RecFault → List Record → Result Recovered RecFault

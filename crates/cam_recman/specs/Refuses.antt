@@ -1,4 +1,4 @@
--- What a fault says of entries, by what reading them gives: want of memory says nothing.
+-- What a fault says of entries, by what reading them gives: out of memory says nothing.
 use Rattle.std.specs.Prelude.{◌≡◌, Result, Err}
 use Rattle.cam_recman.specs.declared.RecFault.{RecFault}
 use Rattle.cam_recman.specs.declared.RecFault.TheVariants.{BadRecord, NoMemory}

@@ -24,10 +24,11 @@ abbrev pub seen_records : ℕ → List ℕ → List Record
 seen_records node [] = []
 seen_records node (c ∷ counts) = if nat_lt 1 c then Seen node c ∷ seen_records (node + 1) counts else seen_records (node + 1) counts
 
--- The records: the format's version 2, which has each operation; the own count, each outcome in the order in which they were learnt, each count
--- that was seen in order of nodes, and what each secured family holds.
+-- The records: the format's version 2, which has each operation; the own count, each outcome in the order in which they were learnt,
+-- each count that was seen in order of nodes, and what each secured family holds.
 abbrev pub snapshot : Recovered → List Record
-snapshot r = Version ∷ own_record r.count ++ map outcome_record r.know.outcomes ++ seen_records 1 r.know.counts ++ map (λ held. Secure held) r.held
+snapshot r =
+    Version ∷ own_record r.count ++ map outcome_record r.know.outcomes ++ seen_records 1 r.know.counts ++ map (λ held. Secure held) r.held
 
 -- What a node can keep so: no outcome stands twice, counts are 1 at least, and each number that goes into a record is in its range.
 pub record CanBeKept (r : Recovered) : Type 0 where

@@ -1,5 +1,5 @@
-// All that a node has, as the records of one entry.
-ghost use Rattle.std.specs.Prelude.{◌≡◌, ◌++◌, ◌+◌, ◌-◌, ◌≤◌, map, drop, All, IfOk, OnOk};
+//! All that a node has, as the records of one entry.
+ghost use Rattle.std.specs.Prelude.{◌≡◌, ◌++◌, ◌+◌, ◌≤◌, length, map, All, IfOk, OnOk};
 ghost use Rattle.std.specs.List.{AllByRecursion};
 ghost use Rattle.cam_recman.specs.declared.Record.TheVariants.{Secure};
 ghost use Rattle.cam_recman.specs.Ranges.{IsHeld};
@@ -16,6 +16,7 @@ use std::alloc::Global;
 /// order in which they were learnt, each count that was seen, in order of nodes, and what each secured
 /// family holds. [`crate::encode_entry`] may write them where the count and the families are in their
 /// ranges, as they are where [`crate::recover`] gave them.
+#[tactic(auto, using(crate::proofs::KeptRanges::counts_below))]
 pub fn snapshot(alloc: Global, kept: &Recovered) -> Result<Records, NoMemory>
     ensures exactly { IfOk result (λ records. records ≡ snapshot kept.now) }
     ensures writable { kept.now.count ≤ 1000000000 → AllByRecursion IsHeld kept.now.held
@@ -27,7 +28,7 @@ pub fn snapshot(alloc: Global, kept: &Recovered) -> Result<Records, NoMemory>
         records.push(Record::Count(kept.count))?;
     }
     add_outcomes(&mut records, &kept.know)?;
-    add_counts(&mut records, &kept.know, 1)?;
+    add_counts(&mut records, 1, &kept.know.counts())?;
     add_held(&mut records, &kept.held)?;
     Ok(records)
 }
@@ -52,24 +53,20 @@ fn add_outcomes(records: &mut Records, know: &Know) -> Result<(), NoMemory>
     Ok(())
 }
 
-/// Adds the counts of the nodes from this one on.
-fn add_counts(records: &mut Records, know: &Know, node: u8) -> Result<(), NoMemory>
-    requires { (1 ≤ node) × (node ≤ 9) }
-    ensures exactly { OnOk result
-        (records.new ≡ records.old ++ seen_records node (drop (node - 1) know.now.counts)) }
-    ensures range { OnOk result
-        (AllByRecursion IsWritable (seen_records node (drop (node - 1) know.now.counts))) }
+/// Adds these counts, which are those of the nodes from this one on.
+fn add_counts(records: &mut Records, node: u8, counts: &[u32]) -> Result<(), NoMemory>
+    requires nodes { (1 ≤ node) × (node + length counts.now ≤ 9) }
+    requires range { AllByRecursion (λ count. count ≤ 1000000000) counts.now }
+    ensures exactly { OnOk result (records.new ≡ records.old ++ seen_records node counts.now) }
+    ensures range { OnOk result (AllByRecursion IsWritable (seen_records node counts.now)) }
 {
-    if node > 8 {
-        // Only for the proof: it gives the fact that there are eight counts.
-        let _counts = know.counts();
+    let Some((count, behind)) = counts.split_first() else {
         return Ok(());
+    };
+    if *count > 1 {
+        records.push(Record::Seen(node, *count))?;
     }
-    let count = know.count(node);
-    if count > 1 {
-        records.push(Record::Seen(node, count))?;
-    }
-    add_counts(records, know, node + 1)
+    add_counts(records, node + 1, behind)
 }
 
 /// A copy of what a family holds.

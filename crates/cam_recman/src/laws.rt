@@ -1,3 +1,4 @@
+//! What holds of entries, of recovery, of snapshots and of migration.
 ghost use Rattle.cam_recman.specs.Snapshot.{SnapshotKeepsAll};
 ghost use Rattle.cam_recman.specs.Laws.{EntriesAreRead, ReadIsWritten, RecoveryIsOfTheRecords, OutcomesAreThoseSaid, HeldIsWhatWasSecured, CountsAreTheGreatest, CountIsTheLast, OneMoreEntryAdds, WrittenEntryAdds, StoppedAppendRecovers, FaultIsTheFirst, FirstIsTheFault};
 ghost use Rattle.cam_recman.specs.Migrating.{MigrationKeepsRecovery, MigrationHasTheFault, MigratedIsVersion2, MigrationIsOnce, WrittenIsMigrated, StoppedMigrationRecovers, UpgradeKeepsRecovery};
