@@ -18,7 +18,8 @@ pub(crate) type Names = BTreeSet<Name>;
 
 /// Keeps the action that a deed commits.
 fn note_commit(names: &mut Names, deed: &Deed) -> Result<(), NoMemory>
-    ensures { OnOk result ((L : List Deed) → TellsCommitted L names.old → TellsCommitted (deed.now ∷ L) names.new) }
+    ensures { OnOk result ((L : List Deed) → TellsCommitted L names.old
+        → TellsCommitted (deed.now ∷ L) names.new) }
 {
     if let Deed::Commit { action } = deed {
         names.insert(*action)?;
@@ -39,7 +40,8 @@ pub(crate) fn committed(alloc: Global, deeds: &[Deed]) -> Result<Names, NoMemory
 
 /// Whether the action is an ancestor of the reader, or in the set.
 fn is_above_or_in(names: &Names, reader: Option<&Name>, action: &Name) -> bool
-    ensures { result ≡ (is_above (option_copied reader.entry) action.now || contains name_cmp names.now action.now) }
+    ensures { result ≡ (is_above (option_copied reader.entry) action.now
+        || contains name_cmp names.now action.now) }
 {
     match reader {
         Some(reader) => action.is_ancestor(reader) || names.contains(action),

@@ -22,7 +22,9 @@ fn add(
     family: &Name,
     operation: &Operation,
 ) -> Result<(), NoMemory>
-    ensures { OnOk result ((f : NameFields) → group_in groups.new f ≡ group_in groups.old f ++ (if name_eq f family.now then operation.now ∷ [] else [])) }
+    ensures { OnOk result ((f : NameFields)
+        → group_in groups.new f ≡ group_in groups.old f
+        ++ (if name_eq f family.now then operation.now ∷ [] else [])) }
 {
     let mut group = groups.remove(family).unwrap_or(SerialList::new(alloc));
     group.push_copy(operation)?;

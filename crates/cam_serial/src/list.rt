@@ -27,9 +27,13 @@ pub fn serial(
     objects: &Objects,
     name: Option<&Name>,
 ) -> Result<SerialList, NoMemory>
-    ensures value { IfOk result (λ list. list ≡ serial objects.now (history deeds.now) (option_copied name.entry)) }
-    ensures replays { IfOk result (λ list. Legal objects.now (history deeds.now) → Replays objects.now list) }
-    ensures view_is_covered { IfOk result (λ list. Legal objects.now (history deeds.now) → ViewIsCovered objects.now (history deeds.now) (option_copied name.entry) list) }
+    ensures value { IfOk result
+        (λ list. list ≡ serial objects.now (history deeds.now) (option_copied name.entry)) }
+    ensures replays { IfOk result
+        (λ list. Legal objects.now (history deeds.now) → Replays objects.now list) }
+    ensures view_is_covered { IfOk result
+        (λ list. Legal objects.now (history deeds.now)
+        → ViewIsCovered objects.now (history deeds.now) (option_copied name.entry) list) }
 {
     let operations = live(alloc, deeds, objects)?;
     let committed = committed(alloc, deeds.as_slice())?;
@@ -41,7 +45,8 @@ pub fn serial(
 
 /// Adds the group of a top action that commits.
 fn add_group(list: &mut SerialList, groups: &Groups, deed: &Deed) -> Result<(), NoMemory>
-    ensures { OnOk result ((L : List Deed) → list.old ≡ joined groups.now L → list.new ≡ joined groups.now (deed.now ∷ L)) }
+    ensures { OnOk result ((L : List Deed) → list.old ≡ joined groups.now L
+        → list.new ≡ joined groups.now (deed.now ∷ L)) }
 {
     if let Deed::Commit { action } = deed {
         if action.depth() == 1 {
@@ -89,7 +94,8 @@ fn add_own(
     name: Option<&Name>,
     operations: &[Operation],
 ) -> Result<(), NoMemory>
-    ensures { OnOk result (list.new ≡ list.old ++ own_of committed.now (option_copied name.entry) operations.now) }
+    ensures { OnOk result (list.new ≡ list.old
+        ++ own_of committed.now (option_copied name.entry) operations.now) }
 {
     match name {
         Some(action) => {

@@ -27,8 +27,12 @@ fn kept_or_start(objects: &Objects, object: u8, kept: Option<State>) -> Result<S
 
 /// Does an operation, and tells whether its answer is the one that it has.
 fn answers(objects: &Objects, states: &mut States, operation: &Operation) -> Result<bool, NoMemory>
-    ensures same { IfOk result (λ same. same ≡ answer_eq operation.now.answer (answer_of (state_in objects.now states.old operation.now.object) operation.now.op)) }
-    ensures after { OnOk result ((x : ℕ) → state_in objects.now states.new x ≡ step (state_in objects.now states.old) operation.now x) }
+    ensures same { IfOk result
+        (λ same. same ≡ answer_eq operation.now.answer
+        (answer_of (state_in objects.now states.old operation.now.object) operation.now.op)) }
+    ensures after { OnOk result
+        ((x : ℕ) → state_in objects.now states.new x
+        ≡ step (state_in objects.now states.old) operation.now x) }
 {
     let kept = states.remove(&operation.object);
     let mut state = kept_or_start(objects, operation.object, kept)?;
