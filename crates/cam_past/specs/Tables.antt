@@ -21,7 +21,8 @@ abbrev pub latest : List Event → ℕ → ℕ → ℕ
 latest [] s j = 0
 latest (e ∷ before) s j =
     if eqb j (length before)
-    then (if eqb e.node s then length before + 1 else max (at_or_zero (latest before s) (last_of before e.node)) (at_or_zero (latest before s) (sender_of e.got)))
+    then (if eqb e.node s then length before + 1
+    else max (at_or_zero (latest before s) (last_of before e.node)) (at_or_zero (latest before s) (sender_of e.got)))
     else latest before s j
 
 -- the seat of a node, of 256: nodes 1 to 8 have the first eight

@@ -28,7 +28,9 @@ impl Clock {
 
     /// What either has seen.
     pub(crate) fn join(&self, other: &Clock) -> Clock
-        ensures { (place : ℕ) → place < 8 → get_or result.latest place 0 ≡ max (get_or self.now.latest place 0) (get_or other.now.latest place 0) }
+        ensures { (place : ℕ) → place < 8
+            → get_or result.latest place 0
+            ≡ max (get_or self.now.latest place 0) (get_or other.now.latest place 0) }
     {
         let mut latest = self.latest;
         for place in 0..8 {

@@ -87,7 +87,8 @@ fn walk(alloc: Global, trace: &Trace, table: usize) -> Result<Walked, NoMemory>
 /// node among them.
 fn next(clocks: &[Clock], table: usize, last: Option<usize>, event: &Event) -> Clock
     requires room { length clocks.now + 1 < 2 ^ 64 }
-    ensures { (place : ℕ) → place < 8 → get_or result.latest place 0 ≡ next_latest clocks.now table last event.now place }
+    ensures { (place : ℕ) → place < 8
+        → get_or result.latest place 0 ≡ next_latest clocks.now table last event.now place }
 {
     let own = clock_of(clocks, last);
     let sender = clock_of(clocks, event.got.map(|letter| letter.event as usize));
