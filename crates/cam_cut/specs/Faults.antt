@@ -7,7 +7,7 @@ use Rattle.cam_event.specs.Pasts.{plain_all}
 use Rattle.cam_cut.specs.declared.witnesses.CutFault.{CutFault}
 use Rattle.cam_cut.specs.declared.witnesses.CutFault.TheVariants.{NoSuchAction, NoMemory}
 
--- The action was not created in the trace; want of memory has no stated cause.
+-- The action was not created in the trace; out of memory has no stated cause.
 abbrev pub IsCause : List Event → Name → CutFault → Type 0
 IsCause t a NoSuchAction = created (plain_all t) a ≡ false
 IsCause t a NoMemory = Unit {0}

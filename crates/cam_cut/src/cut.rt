@@ -15,9 +15,12 @@ use std::alloc::Global;
 /// transactions. The time is linear in the deeds of the trace; it fails only where memory runs out.
 pub fn cut_deeds(alloc: Global, trace: &Trace, keep: &[bool]) -> Result<Deeds, NoMemory>
     requires flags { length keep.now ≡ length trace.now }
-    ensures exact { IfOk result (λ deeds. history deeds ≡ plain (reverse trace.now) (is_kept keep.now)) }
-    ensures legal { IfOk result (λ deeds. IsLegalCut (reverse trace.now) (is_kept keep.now) (history deeds)) }
-    ensures halted_legal { IfOk result (λ deeds. IsLegalHaltedCut (reverse trace.now) (is_kept keep.now) (history deeds)) }
+    ensures exact { IfOk result
+        (λ deeds. history deeds ≡ plain (reverse trace.now) (is_kept keep.now)) }
+    ensures legal { IfOk result
+        (λ deeds. IsLegalCut (reverse trace.now) (is_kept keep.now) (history deeds)) }
+    ensures halted_legal { IfOk result
+        (λ deeds. IsLegalHaltedCut (reverse trace.now) (is_kept keep.now) (history deeds)) }
 {
     let mut deeds = Deeds::new(alloc);
     for (number, event) in trace.as_slice().iter().enumerate() {

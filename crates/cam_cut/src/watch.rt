@@ -36,7 +36,8 @@ impl Watch {
 
     /// Whether one more deed gives a step of the action's view.
     fn gives_step(&self, deed: &Deed) -> bool
-        ensures { (L : List Deed) (a : Name) → Watches L a self.now → result ≡ is_some_step (step_of L deed.now a) }
+        ensures { (L : List Deed) (a : Name) → Watches L a self.now
+            → result ≡ is_some_step (step_of L deed.now a) }
     {
         match deed {
             Deed::Create { action }
@@ -57,7 +58,8 @@ impl Watch {
 
     /// Notes what one more deed says.
     fn note(&mut self, deed: &Deed) -> Result<(), NoMemory>
-        ensures { OnOk result ((L : List Deed) (a : Name) → Watches L a self.old → Watches (deed.now ∷ L) a self.new) }
+        ensures { OnOk result ((L : List Deed) (a : Name) → Watches L a self.old
+            → Watches (deed.now ∷ L) a self.new) }
     {
         match deed {
             Deed::Create { action } => {
@@ -76,7 +78,8 @@ impl Watch {
 
     /// Notes the deeds of one more event; whether one of them gives a step of the action's view.
     pub(crate) fn go_over(&mut self, deeds: &Deeds) -> Result<bool, NoMemory>
-        ensures { IfOk result (λ gives. (L : List Deed) (a : Name) → Watches L a self.old → (gives ≡ gives_step L deeds.now a) × Watches (after L deeds.now) a self.new) }
+        ensures { IfOk result (λ gives. (L : List Deed) (a : Name) → Watches L a self.old
+            → (gives ≡ gives_step L deeds.now a) × Watches (after L deeds.now) a self.new) }
     {
         let mut gives = false;
         for deed in deeds.as_slice() {

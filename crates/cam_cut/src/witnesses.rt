@@ -45,8 +45,10 @@ pub fn witness(alloc: Global, trace: &Trace, name: &Name) -> Result<Deeds, CutFa
     ensures exact { IfOk result (λ deeds. history deeds ≡ witness (reverse trace.now) name.now) }
     ensures created { OnOk result (created (plain_all (reverse trace.now)) name.now ≡ true) }
     ensures fault { IfErr result (IsCause (reverse trace.now) name.now) }
-    ensures view { IfOk result (λ deeds. IsWitnessOfRun (reverse trace.now) name.now (history deeds)) }
-    ensures halted_view { IfOk result (λ deeds. IsWitnessOfHaltedRun (reverse trace.now) name.now (history deeds)) }
+    ensures view { IfOk result
+        (λ deeds. IsWitnessOfRun (reverse trace.now) name.now (history deeds)) }
+    ensures halted_view { IfOk result
+        (λ deeds. IsWitnessOfHaltedRun (reverse trace.now) name.now (history deeds)) }
 {
     let Some(last) = last_step(alloc, trace, name)? else {
         return Err(CutFault::NoSuchAction);
@@ -58,7 +60,10 @@ pub fn witness(alloc: Global, trace: &Trace, name: &Name) -> Result<Deeds, CutFa
 
 /// The number of the last event that gives a step of the action's view, where it was created.
 fn last_step(alloc: Global, trace: &Trace, name: &Name) -> Result<Option<u64>, NoMemory>
-    ensures { IfOk result (λ last. MatchOption last (created (plain_all (reverse trace.now)) name.now ≡ false) (λ number. (created (plain_all (reverse trace.now)) name.now ≡ true) × (last_step (reverse trace.now) name.now ≡ Some number))) }
+    ensures { IfOk result (λ last.
+        MatchOption last (created (plain_all (reverse trace.now)) name.now ≡ false)
+        (λ number. (created (plain_all (reverse trace.now)) name.now ≡ true)
+        × (last_step (reverse trace.now) name.now ≡ Some number))) }
 {
     let mut watch = Watch::new(alloc, name);
     let mut last = None;
@@ -73,7 +78,9 @@ fn last_step(alloc: Global, trace: &Trace, name: &Name) -> Result<Option<u64>, N
 /// Of each event whether it is in the past of this one.
 fn past_of(alloc: Global, trace: &Trace, last: u64) -> Result<Vec<bool>, NoMemory>
     ensures flags { IfOk result (λ keep. length keep.items ≡ length trace.now) }
-    ensures past { IfOk result (λ keep. (i : ℕ) → i < length trace.now → is_kept keep.items i ≡ in_past (reverse trace.now) i last) }
+    ensures past { IfOk result
+        (λ keep. (i : ℕ) → i < length trace.now
+        → is_kept keep.items i ≡ in_past (reverse trace.now) i last) }
 {
     let clocks = clocks(alloc, trace)?;
     let mut keep = Vec::with_capacity(alloc, trace.len())?;
