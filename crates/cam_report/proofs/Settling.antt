@@ -9,7 +9,7 @@ use Rattle.cam_event.specs.Pasts.{plain_all}
 use Rattle.std.specs.List.{flat_map}
 use Rattle.cam_report.specs.Words.{line, state_text}
 use Rattle.cam_event.specs.Settled.{settled}
-use Rattle.cam_report.specs.Report.{values_from}
+use Rattle.cam_report.specs.Report.{value_text, values_from}
 
 -- the deeds in order, the last first
 after_back : (before ds : List Deed) → after before ds ≡ reverse ds ++ before
@@ -38,20 +38,20 @@ plain_deeds t = plain_back (reverse t) ∙ ap (λ es. reverse (flat_map (λ e. e
 values_last : (objects : List ObjectDecl) (L : List Deed) (x : ℕ) (labels : List (List ℕ)) (label : List ℕ)
     → values_from objects L x (labels ++ label ∷ []) ≡ values_from objects L x labels ++ line (codes "value" ∷ label ∷ state_text (settled objects L (x + length labels)) ∷ [])
 values_last objects L x [] label =
-    append-nil (line (codes "value" ∷ label ∷ state_text (settled objects L x) ∷ []))
-    ∙ ap (λ n. line (codes "value" ∷ label ∷ state_text (settled objects L n) ∷ [])) (omega arith)
+    append-nil (value_text label (settled objects L x))
+    ∙ ap (λ n. value_text label (settled objects L n)) (omega arith)
 values_last objects L x (other ∷ labels) label =
-    ap (λ r. line (codes "value" ∷ other ∷ state_text (settled objects L x) ∷ []) ++ r) (values_last objects L (x + 1) labels label)
-    ∙ sym (append_assoc (line (codes "value" ∷ other ∷ state_text (settled objects L x) ∷ [])) (values_from objects L (x + 1) labels) (line (codes "value" ∷ label ∷ state_text (settled objects L ((x + 1) + length labels)) ∷ [])))
-    ∙ ap (λ n. (line (codes "value" ∷ other ∷ state_text (settled objects L x) ∷ []) ++ values_from objects L (x + 1) labels) ++ line (codes "value" ∷ label ∷ state_text (settled objects L n) ∷ [])) (omega arith)
+    ap (λ r. value_text other (settled objects L x) ++ r) (values_last objects L (x + 1) labels label)
+    ∙ sym (append_assoc (value_text other (settled objects L x)) (values_from objects L (x + 1) labels) (line (codes "value" ∷ label ∷ state_text (settled objects L ((x + 1) + length labels)) ∷ [])))
+    ∙ ap (λ n. (value_text other (settled objects L x) ++ values_from objects L (x + 1) labels) ++ value_text label (settled objects L n)) (omega arith)
 
 pub values_more : (objects : List ObjectDecl) (L : List Deed) (labels : List (List ℕ)) (i : ℕ) (label : List ℕ) → i < length labels → label ≡ get_or labels i label
-    → values_from objects L 0 (take (i + 1) labels) ≡ values_from objects L 0 (take i labels) ++ line (codes "value" ∷ label ∷ state_text (settled objects L i) ∷ [])
+    → values_from objects L 0 (take (i + 1) labels) ≡ values_from objects L 0 (take i labels) ++ value_text label (settled objects L i)
 values_more objects L labels i label h e =
     let count : 0 + length (take i labels) ≡ i = omega (arith, length-take-le i labels (omega arith)) in
     ap (values_from objects L 0) (take_more labels i label h ∙ ap (λ l. take i labels ++ l ∷ []) (sym e))
     ∙ values_last objects L 0 (take i labels) label
-    ∙ ap (λ n. values_from objects L 0 (take i labels) ++ line (codes "value" ∷ label ∷ state_text (settled objects L n) ∷ [])) count
+    ∙ ap (λ n. values_from objects L 0 (take i labels) ++ value_text label (settled objects L n)) count
 
 -- texts one behind the other
 pub joined : (a b c d first second third whole : List ℕ) → first ≡ a → second ≡ first ++ b → third ≡ second ++ c → whole ≡ third ++ d → whole ≡ a ++ b ++ c ++ d

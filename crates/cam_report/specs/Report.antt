@@ -3,6 +3,7 @@ use Rattle.std.specs.Prelude.{ℕ, ◌+◌, Bool, true, false, if◌then◌else�
 use Rattle.std.specs.Fmt.{signed_decimal}
 use Rattle.cam_names.specs.declared.name.Name.{Name}
 use Rattle.cam_type.specs.declared.ObjectDecl.{ObjectDecl}
+use Rattle.cam_type.specs.declared.State.{State}
 use Rattle.cam_event.specs.declared.Event.{Event}
 use Rattle.cam_event.specs.declared.Note.{Note}
 use Rattle.cam_event.specs.declared.Note.TheVariants as notes
@@ -89,9 +90,14 @@ mark_text (marks.Refused n refusal) = line (codes "refused" ∷ decimal n ∷ (7
 mark_text (marks.Cut n letter fault at) = line (codes "cut" ∷ decimal n ∷ decimal letter ∷ fault_word fault ∷ decimal at ∷ [])
 mark_text (marks.Halted n node taken) = line (codes "halted" ∷ decimal n ∷ decimal node ∷ taken_word taken ∷ [])
 
+-- the line of an object: its label, and its settled value
+abbrev pub value_text : List ℕ → State → List ℕ
+value_text label state = line (codes "value" ∷ label ∷ state_text state ∷ [])
+
+-- the lines of the objects from this place on, with these labels
 abbrev pub values_from : List ObjectDecl → List Deed → ℕ → List (List ℕ) → List ℕ
 values_from objects L x [] = []
-values_from objects L x (label ∷ labels) = line (codes "value" ∷ label ∷ state_text (settled objects L x) ∷ []) ++ values_from objects L (x + 1) labels
+values_from objects L x (label ∷ labels) = value_text label (settled objects L x) ++ values_from objects L (x + 1) labels
 
 -- the actions with their views, the stops, the marks, the values
 abbrev pub report_of : List ObjectDecl → List (List ℕ) → List Event → List Mark → List Deed → List ℕ

@@ -56,7 +56,8 @@ sent_text k (m ∷ ms) = inner_line (codes "sent" ∷ decimal k ∷ codes "to" �
 -- an event with its deeds and letters
 abbrev pub event_text : List (List ℕ) → List Event → Event → List ℕ
 event_text labels before e =
-    line (codes "event" ∷ decimal (length before) ∷ codes "node" ∷ decimal e.node ∷ codes "letter" ∷ decimal (letter_number before e.got) ∷ codes "note" ∷ note_word e.note ∷ [])
+    line (codes "event" ∷ decimal (length before) ∷ codes "node" ∷ decimal e.node ∷ codes "letter" ∷ decimal (letter_number before e.got)
+    ∷ codes "note" ∷ note_word e.note ∷ [])
     ++ flat_map (λ d. inner_line (deed_words labels d)) e.deeds ++ sent_text (sent_before before (length before) + 1) e.sent
 
 abbrev pub events_text : List (List ℕ) → List Event → List ℕ

@@ -46,7 +46,9 @@ fn write_child(
     end: Option<i64>,
     out: &mut String,
 ) -> Result<(), NoMemory>
-    ensures { OnOk result ((labels : List (List ℕ)) → string_bytes out.new ≡ string_bytes out.old ++ words (step_words labels (Child child.now end))) }
+    ensures { OnOk result ((labels : List (List ℕ))
+        → string_bytes out.new ≡ string_bytes out.old
+        ++ words (step_words labels (Child child.now end))) }
 {
     write!(out, "child ")?;
     child.write_text(alloc, out)?;
@@ -65,7 +67,8 @@ fn write_step(
     step: &ViewStep,
     out: &mut String,
 ) -> Result<(), NoMemory>
-    ensures { OnOk result (string_bytes out.new ≡ string_bytes out.old ++ words (step_words labels.now step.now)) }
+    ensures { OnOk result (string_bytes out.new ≡ string_bytes out.old
+        ++ words (step_words labels.now step.now)) }
 {
     match step {
         ViewStep::Created => write!(out, "created")?,
@@ -95,7 +98,8 @@ fn write_view(
     view: &[ViewStep],
     out: &mut String,
 ) -> Result<(), NoMemory>
-    ensures { OnOk result (string_bytes out.new ≡ string_bytes out.old ++ flat_map (λ step. inner_line (step_words labels.now step)) view.now) }
+    ensures { OnOk result (string_bytes out.new ≡ string_bytes out.old
+        ++ flat_map (λ step. inner_line (step_words labels.now step)) view.now) }
 {
     for step in view {
         write!(out, "  ")?;
@@ -126,7 +130,8 @@ fn write_action(
     action: &Name,
     out: &mut String,
 ) -> Result<(), NoMemory>
-    ensures { OnOk result ((L : List Deed) → IsGathered L actions.now → string_bytes out.new ≡ string_bytes out.old ++ action_text labels.now L action.now) }
+    ensures { OnOk result ((L : List Deed) → IsGathered L actions.now
+        → string_bytes out.new ≡ string_bytes out.old ++ action_text labels.now L action.now) }
 {
     let depth = action.depth();
     prove!(depth >= 1);
@@ -144,7 +149,9 @@ pub fn write_actions(
     deeds: &[Deed],
     out: &mut String,
 ) -> Result<(), NoMemory>
-    ensures { OnOk result (string_bytes out.new ≡ string_bytes out.old ++ flat_map (action_text labels.now (reverse deeds.now)) (actions (reverse deeds.now))) }
+    ensures { OnOk result (string_bytes out.new ≡ string_bytes out.old
+        ++ flat_map (action_text labels.now (reverse deeds.now))
+        (actions (reverse deeds.now))) }
 {
     let actions = gather(alloc, deeds)?;
     for action in &actions.created {

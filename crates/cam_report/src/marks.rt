@@ -69,7 +69,8 @@ pub fn write_mark(mark: &Mark, out: &mut String) -> Result<(), NoMemory>
 
 /// Appends the line of each mark, in order.
 pub(crate) fn write_marks(marks: &Marks, out: &mut String) -> Result<(), NoMemory>
-    ensures { OnOk result (string_bytes out.new ≡ string_bytes out.old ++ flat_map mark_text marks.now) }
+    ensures { OnOk result (string_bytes out.new ≡ string_bytes out.old
+        ++ flat_map mark_text marks.now) }
 {
     for mark in marks.as_slice() {
         write_mark(mark, out)?;

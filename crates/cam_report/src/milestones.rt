@@ -37,7 +37,8 @@ pub(crate) fn all_reached(
     deeds: &[Deed],
     milestone: Milestone,
 ) -> Result<BTreeSet<Name>, NoMemory>
-    ensures { IfOk result (λ names. names.keys ≡ sorted_names (flat_map (reached milestone) (reverse deeds.now))) }
+    ensures { IfOk result (λ names. names.keys
+        ≡ sorted_names (flat_map (reached milestone) (reverse deeds.now))) }
 {
     let mut names = BTreeSet::new(alloc);
     for deed in deeds {

@@ -11,7 +11,8 @@ use std::fmt::Write;
 /// Appends the line of the event of this number, if it stopped an action.
 #[tactic(auto, using(crate::proofs::Spaced::words_reason))]
 fn write_stop(alloc: Global, number: usize, note: &Note, out: &mut String) -> Result<(), NoMemory>
-    ensures { OnOk result (string_bytes out.new ≡ string_bytes out.old ++ stop_text number note.now) }
+    ensures { OnOk result (string_bytes out.new ≡ string_bytes out.old
+        ++ stop_text number note.now) }
 {
     if let Note::Stopped(action, reason) = note {
         write!(out, "stop {number} ")?;
@@ -25,7 +26,8 @@ fn write_stop(alloc: Global, number: usize, note: &Note, out: &mut String) -> Re
 
 /// Appends the line of each event that stopped an action, in order.
 pub(crate) fn write_stops(alloc: Global, trace: &Trace, out: &mut String) -> Result<(), NoMemory>
-    ensures { OnOk result (string_bytes out.new ≡ string_bytes out.old ++ stops_text (reverse trace.now)) }
+    ensures { OnOk result (string_bytes out.new ≡ string_bytes out.old
+        ++ stops_text (reverse trace.now)) }
 {
     for (number, event) in trace.as_slice().iter().enumerate() {
         write_stop(alloc, number, &event.note, out)?;

@@ -5,7 +5,7 @@ ghost use Rattle.cam_event.specs.History.{after};
 ghost use Rattle.cam_event.specs.Settled.{settled};
 ghost use Rattle.cam_live.specs.Settled.{settled_operations};
 ghost use Rattle.cam_report.specs.Words.{line, state_text};
-ghost use Rattle.cam_report.specs.Report.{values_from};
+ghost use Rattle.cam_report.specs.Report.{value_text, values_from};
 
 use crate::words::write_state;
 use cam_base::NoMemory;
@@ -23,7 +23,10 @@ fn write_value(
     operations: &Operations,
     out: &mut String,
 ) -> Result<(), NoMemory>
-    ensures { OnOk result ((L : List Deed) → operations.now ≡ settled_operations script.now.objects L → string_bytes out.new ≡ string_bytes out.old ++ line (codes "value" ∷ label.now ∷ state_text (settled script.now.objects L object) ∷ [])) }
+    ensures { OnOk result ((L : List Deed)
+        → operations.now ≡ settled_operations script.now.objects L
+        → string_bytes out.new ≡ string_bytes out.old
+        ++ value_text label.now (settled script.now.objects L object)) }
 {
     let state = value_after(&script.objects, object, operations)?;
     write!(out, "value {} ", label.as_str())?;
@@ -39,7 +42,8 @@ pub fn write_values(
     deeds: &Deeds,
     out: &mut String,
 ) -> Result<(), NoMemory>
-    ensures { OnOk result (string_bytes out.new ≡ string_bytes out.old ++ values_from script.now.objects (after [] deeds.now) 0 script.now.labels) }
+    ensures { OnOk result (string_bytes out.new ≡ string_bytes out.old
+        ++ values_from script.now.objects (after [] deeds.now) 0 script.now.labels) }
 {
     let operations = settled(alloc, deeds, &script.objects)?;
     for (object, label) in script.labels.as_slice().iter().enumerate() {

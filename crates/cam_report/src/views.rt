@@ -65,7 +65,9 @@ fn add_step(
     action: &Name,
     step: &ViewStep,
 ) -> Result<(), NoMemory>
-    ensures { OnOk result ((a : NameFields) → view_in views.new a ≡ view_in views.old a ++ steps_for a (Some (action.now, step.now))) }
+    ensures { OnOk result ((a : NameFields)
+        → view_in views.new a ≡ view_in views.old a
+        ++ steps_for a (Some (action.now, step.now))) }
 {
     let mut view = views.remove(action).unwrap_or(View::new(alloc));
     view.push_copy(step)?;
@@ -75,7 +77,9 @@ fn add_step(
 
 /// Adds the step that a deed gives.
 fn note_step(alloc: Global, views: &mut Views, values: &Values, deed: &Deed) -> Result<(), NoMemory>
-    ensures { OnOk result ((a : NameFields) → view_in views.new a ≡ view_in views.old a ++ steps_for a (step_gained (get name_cmp values.now) deed.now)) }
+    ensures { OnOk result ((a : NameFields)
+        → view_in views.new a ≡ view_in views.old a
+        ++ steps_for a (step_gained (get name_cmp values.now) deed.now)) }
 {
     match step_gained(deed, values) {
         Some((action, step)) => add_step(alloc, views, &action, &step),
@@ -85,7 +89,8 @@ fn note_step(alloc: Global, views: &mut Views, values: &Values, deed: &Deed) -> 
 
 /// Keeps the value of a request to commit.
 fn note_value(values: &mut Values, deed: &Deed) -> Result<(), NoMemory>
-    ensures { OnOk result ((L : List Deed) → TellsValues L values.old → TellsValues (deed.now ∷ L) values.new) }
+    ensures { OnOk result ((L : List Deed) → TellsValues L values.old
+        → TellsValues (deed.now ∷ L) values.new) }
 {
     if let Deed::AskCommit { action, value } = deed {
         values.insert(*action, *value)?;

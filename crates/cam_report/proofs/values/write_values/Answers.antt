@@ -1,6 +1,6 @@
 use Rattle.std.proofs.Common.{◌∷◌, [], ◌++◌, List, ℕ, codes, string_bytes, sym, ap, ◌∙◌}
 use Rattle.std.proofs.lemmas.List.{append_assoc}
-use Rattle.cam_report.specs.Words.{line, state_text}
+use Rattle.cam_report.specs.Report.{value_text}
 use Rattle.cam_event.specs.History.{after}
 use Rattle.cam_event.specs.Settled.{settled}
 use Rattle.cam_report.proofs.Settling.{values_more}
@@ -11,7 +11,7 @@ loop-object-preserved c =
     let L = after [] c.args.deeds.now in
     let objects = c.args.script.now.objects in
     let labels = c.as_slice-label-items.result.now in
-    let value = line (codes "value" ∷ c.label-item.result ∷ state_text (settled objects L c.loop-object.object) ∷ []) in
+    let value = value_text c.label-item.result (settled objects L c.loop-object.object) in
     c.in_ok-write_value.ensures L c.in_ok-operations.ensures
     ∙ ap (λ (t : List ℕ). t ++ value) c.loop-object.invariant
     ∙ append_assoc (string_bytes c.args.out.now) _ value
