@@ -83,7 +83,7 @@ first_within (Crash t ∷ L) s f k h = omega (arith, first_within L s f k h, cra
 first_within (_ ∷ L) s f k h = first_within L s f k h
 
 -- a family is secured where there is such a count
-secured_first : (L : List Deed) (s : ℕ) (f : Name) → secured_at L f s ≡ is_some (first_secured L s f)
+pub secured_first : (L : List Deed) (s : ℕ) (f : Name) → secured_at L f s ≡ is_some (first_secured L s f)
 secured_first [] s f = refl
 secured_first (Secure g t c ∷ L) s f = ap (λ b. (name_eq f g && eqb s t) || b) (secured_first L s f) ∙ by (first_secured L s f) (eqb s t) (name_eq f g)
   where

@@ -16,8 +16,9 @@ use Rattle.cam_type.specs.declared.Answer.{Answer}
 use Rattle.cam_event.specs.declared.Deed.{Deed}
 use Rattle.cam_event.specs.declared.Deed.TheVariants.{Call, Perform, Secure}
 use Rattle.cam_event.specs.History.{count, Addressed, call_of}
-use Rattle.cam_live.specs.declared.tables.Asked.{Asked}
+use Rattle.cam_live.specs.declared.tables.AddressedCall.{AddressedCall}
 use Rattle.cam_live.specs.Counted.{performed}
+use Rattle.cam_live.specs.Ledger.{addressed}
 use Rattle.cam_live.specs.Tables.{site_name_cmp, call_cmp, asked_of, TellsCalls, first_secured, TellsSecured, AddsName}
 
 -- two keys tie where their parts do
@@ -36,7 +37,7 @@ call_ties : (b a : Name) (m n : ℕ) → is_eq (call_cmp (b, m) (a, n)) ≡ (nam
 call_ties b a m n = both_equal (name_cmp b a) (nat_cmp m n) ∙ (λ i. name_ties_back a b i && number_ties m n i)
 
 -- one more call
-pub calls_put : (L : List Deed) (b : Name) (m : ℕ) (call : Addressed) (old new : BTreeMap (Name × ℕ) Asked) → TellsCalls L old
+pub calls_put : (L : List Deed) (b : Name) (m : ℕ) (call : Addressed) (old new : BTreeMap (Name × ℕ) AddressedCall) → TellsCalls L old
     → ((q : Name × ℕ) → get call_cmp new q ≡ cond (is_eq (call_cmp (b, m) q)) (Some (asked_of call)) (get call_cmp old q))
     → TellsCalls (Call b m call.object call.op call.count ∷ L) new
 calls_put L b m call old new before put a n =
@@ -101,3 +102,11 @@ secured_same L t g c old before there s f = before s f ∙ by (eqb s t && name_e
 pub other_performed : (objects : List ObjectDecl) (L : List Deed) (d : Deed) → ((a : Name) (n : ℕ) (answer : Answer) → d ≡ Perform a n answer → ⊥) → performed objects L ≡ performed objects (d ∷ L)
 other_performed objects L (Perform a n answer) other = absurd (other a n answer refl)
 other_performed objects L _ other = refl
+
+-- what the table of calls has, as the deeds have it
+pub addressed_of : (o : Option AddressedCall) (call : Option Addressed) → o ≡ option_map asked_of call → addressed o ≡ call
+addressed_of o call is = ap addressed is ∙ back call
+  where
+    back : (p : Option Addressed) → addressed (option_map asked_of p) ≡ p
+    back None = refl
+    back (Some asked) = refl

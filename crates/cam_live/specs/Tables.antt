@@ -10,7 +10,7 @@ use Rattle.cam_names.specs.Names.{name_cmp, name_eq}
 use Rattle.cam_event.specs.declared.Deed.{Deed}
 use Rattle.cam_event.specs.declared.Deed.TheVariants.{Secure}
 use Rattle.cam_event.specs.History.{count, Addressed, call_of, informed}
-use Rattle.cam_live.specs.declared.tables.Asked.{Asked}
+use Rattle.cam_live.specs.declared.tables.AddressedCall.{AddressedCall}
 use Rattle.cam_live.specs.declared.tables.Tables.{Tables}
 
 -- the order of names at sites, and of calls
@@ -21,10 +21,10 @@ abbrev pub call_cmp : Name × ℕ → Name × ℕ → Ordering
 call_cmp x y = ordering_then (name_cmp x.0 y.0) (nat_cmp x.1 y.1)
 
 -- what a call asked, as the table has it
-abbrev pub asked_of : Addressed → Asked
-asked_of call = record { object = call.object; op = call.op }
+abbrev pub asked_of : Addressed → AddressedCall
+asked_of call = record { object = call.object; op = call.op; count = call.count }
 
-abbrev pub TellsCalls : List Deed → BTreeMap (Name × ℕ) Asked → Type 0
+abbrev pub TellsCalls : List Deed → BTreeMap (Name × ℕ) AddressedCall → Type 0
 TellsCalls L calls = (a : Name) (n : ℕ) → get call_cmp calls (a, n) ≡ option_map asked_of (call_of L a n)
 
 -- the count of a site, as the table has it: a site that it has not has never crashed

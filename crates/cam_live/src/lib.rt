@@ -24,4 +24,5 @@ mod values;
 
 pub use ledger::{Ledger, live, settled};
 pub use performed::Operations;
+pub use tables::AddressedCall;
 pub use values::value_after;

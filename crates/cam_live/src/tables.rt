@@ -16,15 +16,16 @@ use cam_type::Op;
 use std::alloc::Global;
 use std::collections::{BTreeMap, BTreeSet};
 
-/// What a call asked.
-#[derive(Clone, Copy)]
-pub(crate) struct Asked {
-    pub(crate) object: u8,
-    pub(crate) op: Op,
+/// What a call asked, and the count at which the object's site was addressed.
+#[derive(Clone, Copy, Debug)]
+pub struct AddressedCall {
+    pub object: u8,
+    pub op: Op,
+    pub count: u32,
 }
 
 /// What each call asked, by the action and the call's number.
-pub(crate) type Calls = BTreeMap<(Name, u32), Asked>;
+pub(crate) type Calls = BTreeMap<(Name, u32), AddressedCall>;
 
 /// The counts of the sites that have crashed.
 pub(crate) type Counts = BTreeMap<u8, u64>;
@@ -72,8 +73,15 @@ impl Tables {
                 number,
                 object,
                 op,
-                ..
-            } => note_call(&mut self.calls, action, *number, *object, *op),
+                count,
+            } => {
+                let call = AddressedCall {
+                    object: *object,
+                    op: *op,
+                    count: *count,
+                };
+                note_call(&mut self.calls, action, *number, &call)
+            }
             Deed::Secure { family, site, .. } => {
                 note_secure(&mut self.secured, &self.counts, *site, family)
             }
@@ -98,13 +106,13 @@ fn note_call(
     calls: &mut Calls,
     action: &Name,
     number: u32,
-    object: u8,
-    op: Op,
+    call: &AddressedCall,
 ) -> Result<(), NoMemory>
-    ensures noted { OnOk result ((L : List Deed) (count : ℕ) → TellsCalls L calls.old → TellsCalls (Call action.now number object op count ∷ L) calls.new) }
+    ensures noted { OnOk result ((L : List Deed) → TellsCalls L calls.old
+        → TellsCalls (Call action.now number call.now.object call.now.op call.now.count ∷ L) calls.new) }
     ensures failed { OnErr result ((L : List Deed) → TellsCalls L calls.old → TellsCalls L calls.new) }
 {
-    calls.insert((*action, number), Asked { object, op })?;
+    calls.insert((*action, number), *call)?;
     Ok(())
 }
 
