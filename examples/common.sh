@@ -1,0 +1,47 @@
+# What check and rewrite share: each example is run once, on the proved program or on one quick build.
+
+camelot=$here/../camelot
+program=$here/../crates/cam_cli
+
+# whether the proved program stands and is not older than its sources
+is_proved() {
+    "$camelot" --is-proved
+}
+
+# the words of an example, which are split at blanks
+words_of() {
+    if [ -f "$here/$1.words" ]; then cat "$here/$1.words"; else echo run; fi
+}
+
+# run_examples ROOM   leaves NAME.text and NAME.status of each example in the folder ROOM
+run_examples() {
+    if is_proved; then
+        for script in "$here"/*.cam; do
+            name=$(basename "$script" .cam)
+            status=0
+            # shellcheck disable=SC2046
+            "$camelot" $(words_of "$name") <"$script" >"$1/$name.text" 2>/dev/null || status=$?
+            echo $status >"$1/$name.status"
+        done
+        return
+    fi
+    command -v rt >/dev/null 2>&1 || PATH=$PATH:/opt/rattle/bin
+    echo "no proved program stands: all examples run on one quick build, in about a minute" >&2
+    mkdir "$1/cases"
+    for script in "$here"/*.cam; do
+        name=$(basename "$script" .cam)
+        cp "$script" "$1/cases/$name"
+        # shellcheck disable=SC2046
+        printf '%s\n' $(words_of "$name") >"$1/cases/$name.args"
+        # Where no text is expected yet, the kit prints the one that comes under `== NAME`.
+        : >"$1/$name.text"
+    done
+    (cd "$program" && rt try --cases "$1/cases") >"$1/told.text" 2>"$1/told" || true
+    if ! grep -q '^cases=' "$1/told"; then
+        cat "$1/told" >&2
+        exit 1
+    fi
+    awk -v room="$1" '/^== / { out = room "/" $2 ".text"; next } { print > out }' "$1/told.text"
+    sed -n 's/^case=\([^ ]*\) run=[a-z-]* status=\([0-9]*\) .*/\1 \2/p' "$1/told" |
+        while read -r name status; do echo "$status" >"$1/$name.status"; done
+}
