@@ -1,4 +1,4 @@
-//! An action's life at its home, and a child that starts once, worked by hand from the rules.
+//! Actions at their home: what stands against a request, what is seen of an answer, how children are decided. Worked by hand from the rules.
 use cam_event::{LineRefusal, Reply, Request, Seen, Want};
 use cam_names::{Deps, Name};
 use cam_tranman::{Homed, Started, Taken};
@@ -13,61 +13,202 @@ fn refused(homed: &Homed, action: &Name, want: &Want) -> Option<LineRefusal> {
     })
 }
 
-/// Node 1 at its count 2: a top action asks for a child, which commits, makes two calls, of which the second is gone, and finishes.
-#[test]
-fn an_action_runs_at_its_home(rt: HostRuntime) -> Result<(), Fail> {
-    let top = Name::parse("1.2.1")?;
-    let child = Name::parse("1.2.1/3.5.1")?;
-    let mut homed = Homed::new(rt.alloc(), 1, 2);
-    assert_eq!(rt;
-        refused(&homed, &top, &Want::Abort),
-        Some(LineRefusal::NotOpen)
-    );
-    assert!(rt; homed.tops() < 1_000_000_000);
-    assert_eq!(rt; homed.begin()?, top);
-    assert_eq!(rt; homed.deps(&top), Some(Deps::none().with(1, 2)));
+/// The next top action, where there is memory.
+fn begun(homed: &mut Homed) -> Option<Name> {
+    if homed.tops() >= 1_000_000_000 {
+        return None;
+    }
+    homed.begin().ok()
+}
 
+/// The next child of the action, at node 1 and count 1, where nothing stands against it.
+fn asked(homed: &mut Homed, action: &Name) -> Option<Name> {
     let request = Request {
-        action: top,
-        want: Want::Ask(3),
+        action: *action,
+        want: Want::Ask(1),
+    };
+    if homed.refusal(&request).is_some() || homed.asks(action) >= 1_000_000_000 {
+        return None;
+    }
+    homed.ask(action, 1, 1).ok()
+}
+
+/// The next call of the action, to an object of node 4 that is addressed at count 7, where nothing stands against it.
+fn called(homed: &mut Homed, action: &Name) -> Option<u32> {
+    let request = Request {
+        action: *action,
+        want: Want::Call(0, Op::Read),
+    };
+    if homed.refusal(&request).is_some() || homed.calls(action) >= 1_000_000_000 {
+        return None;
+    }
+    homed.call(action, 0, &Op::Read, 4, 7).ok()
+}
+
+/// Each refusal, for an action that calls, one with an open child, one that has ended, one of an older count, and one that was not created.
+#[test]
+fn the_first_test_that_holds_refuses(rt: HostRuntime) -> Result<(), Fail> {
+    let mut homed = Homed::new(rt.alloc(), 3, 2);
+    let free = Name::parse("3.2.1")?;
+    let calling = Name::parse("3.2.2")?;
+    let parent = Name::parse("3.2.3")?;
+    let ended = Name::parse("3.2.4")?;
+    let child = Name::parse("3.2.3/1.1.1")?;
+    let older = Name::parse("3.1.1")?;
+    let unknown = Name::parse("3.2.5")?;
+    for name in [free, calling, parent, ended] {
+        assert_eq!(rt; begun(&mut homed), Some(name));
+    }
+    assert_eq!(rt; called(&mut homed, &calling), Some(1));
+    assert_eq!(rt; asked(&mut homed, &parent), Some(child));
+    let request = Request {
+        action: ended,
+        want: Want::Abort,
     };
     assert!(rt; homed.refusal(&request).is_none());
-    assert!(rt; homed.asks(&top) < 1_000_000_000);
-    assert_eq!(rt; homed.ask(&top, 3, 5)?, child);
-    assert_eq!(rt;
-        refused(&homed, &top, &Want::Commit(0)),
-        Some(LineRefusal::OpenChild)
-    );
-    assert!(rt; homed.decides(&child));
-    homed.decide(&child, &Some(Deps::none().with(3, 5)));
-    assert!(rt; !homed.decides(&child));
-    assert_eq!(rt; homed.deps(&top), Some(Deps::none().with(1, 2).with(3, 5)));
-
-    for (number, known) in [(1, 7), (2, 8)] {
-        let request = Request {
-            action: top,
-            want: Want::Call(0, Op::Read),
-        };
-        assert!(rt; homed.refusal(&request).is_none());
-        assert!(rt; homed.calls(&top) < 1_000_000_000);
-        assert_eq!(rt; homed.call(&top, 0, &Op::Read, 4, 7)?, number);
-        assert_eq!(rt;
-            refused(&homed, &top, &Want::Ask(1)),
-            Some(LineRefusal::OpenCall)
-        );
-        assert!(rt; !homed.awaits(&top, number + 1));
-        let done = Reply::Done(Answer::Value(6));
-        let seen = match homed.answer(&top, number, &done, known) {
-            Taken::Got(Seen::Done(_)) => 1,
-            Taken::Got(Seen::Gone) => 2,
-            _ => 0,
-        };
-        assert_eq!(rt; seen, number);
-        assert!(rt; !homed.awaits(&top, number));
+    homed.quit(&ended);
+    let ask = Want::Ask(1);
+    let read = Want::Call(0, Op::Read);
+    let commit = Want::Commit(0);
+    let abort = Want::Abort;
+    let give_up = Want::GiveUp(child);
+    for (name, want, refusal) in [
+        (&free, &ask, None),
+        (&free, &read, None),
+        (&free, &commit, None),
+        (&free, &abort, None),
+        (&free, &give_up, Some(LineRefusal::NotOpen)),
+        (&calling, &ask, Some(LineRefusal::OpenCall)),
+        (&calling, &read, Some(LineRefusal::OpenCall)),
+        (&calling, &commit, Some(LineRefusal::OpenCall)),
+        (&calling, &abort, None),
+        (&parent, &ask, None),
+        (&parent, &read, Some(LineRefusal::OpenChild)),
+        (&parent, &commit, Some(LineRefusal::OpenChild)),
+        (&parent, &abort, None),
+        (&parent, &give_up, None),
+        (&ended, &ask, Some(LineRefusal::Ended)),
+        (&ended, &abort, Some(LineRefusal::Ended)),
+        (&older, &ask, Some(LineRefusal::Ended)),
+        (&older, &abort, Some(LineRefusal::Ended)),
+        (&unknown, &commit, Some(LineRefusal::NotOpen)),
+        (&unknown, &give_up, Some(LineRefusal::NotOpen)),
+    ] {
+        assert_eq!(rt; refused(&homed, name, want), refusal);
     }
-    let all = Deps::none().with(1, 2).with(3, 5).with(4, 7);
-    assert_eq!(rt; homed.deps(&top), Some(all));
+    Ok(())
+}
 
+/// An action whose name has eight parts asks for no child, and may end.
+#[test]
+fn a_name_has_eight_parts_at_most(rt: HostRuntime) -> Result<(), Fail> {
+    let deep = Name::parse("1.1.1/1.1.1/1.1.1/1.1.1/1.1.1/1.1.1/1.1.1/3.2.1")?;
+    let mut homed = Homed::new(rt.alloc(), 3, 2);
+    let (node, count) = deep.home();
+    assert!(rt; node == 3 && count == 2);
+    assert_eq!(rt; homed.start(&deep, &Deps::none())?, Started::New);
+    for (want, refusal) in &[
+        (Want::Ask(1), Some(LineRefusal::TooDeep)),
+        (Want::Call(0, Op::Read), None),
+        (Want::Commit(0), None),
+    ] {
+        assert_eq!(rt; refused(&homed, &deep, want), *refusal);
+    }
+    Ok(())
+}
+
+/// A top action's first call, at site 4 and its count 7, is answered; the site's count is known as 7, or as 8 after a crash.
+#[test]
+fn what_is_seen_of_an_answer(rt: HostRuntime) -> Result<(), Fail> {
+    let top = Name::parse("1.2.1")?;
+    let holder = Name::parse("2.1.1")?;
+    let done = Reply::Done(Answer::Value(6));
+    let busy = Reply::Busy(holder);
+    let value = Taken::Got(Seen::Done(Answer::Value(6)));
+    let held = Taken::Got(Seen::Busy(holder));
+    let gone = Taken::Got(Seen::Gone);
+    let late = Taken::Late;
+    let home = Deps::none().with(1, 2);
+    let both = home.with(4, 7);
+    for (reply, known, taken, deps, still) in [
+        (&done, 7, &value, &both, false),
+        (&busy, 7, &held, &home, false),
+        (&Reply::Missed, 7, &late, &home, true),
+        (&Reply::Refused, 7, &late, &home, true),
+        (&done, 8, &gone, &home, false),
+        (&busy, 8, &gone, &home, false),
+        (&Reply::Missed, 8, &gone, &home, false),
+        (&Reply::Refused, 8, &gone, &home, false),
+    ] {
+        let mut homed = Homed::new(rt.alloc(), 1, 2);
+        assert_eq!(rt; begun(&mut homed), Some(top));
+        assert_eq!(rt; homed.answer(&top, 1, &done, 8), Taken::Late);
+        assert_eq!(rt; called(&mut homed, &top), Some(1));
+        assert_eq!(rt; homed.answer(&top, 2, &done, 8), Taken::Late);
+        assert!(rt; homed.awaits(&top, 1));
+        assert_eq!(rt; homed.answer(&top, 1, reply, known), *taken);
+        assert_eq!(rt; homed.awaits(&top, 1), still);
+        assert_eq!(rt; homed.deps(&top), Some(*deps));
+    }
+    Ok(())
+}
+
+/// The answer to an earlier call, and to a call of an action that has ended, is late.
+#[test]
+fn only_the_open_call_is_answered(rt: HostRuntime) -> Result<(), Fail> {
+    let top = Name::parse("1.2.1")?;
+    let done = Reply::Done(Answer::Value(6));
+    let mut homed = Homed::new(rt.alloc(), 1, 2);
+    assert_eq!(rt; begun(&mut homed), Some(top));
+    assert_eq!(rt; called(&mut homed, &top), Some(1));
+    assert_eq!(rt;
+        homed.answer(&top, 1, &Reply::Busy(top), 7),
+        Taken::Got(Seen::Busy(top))
+    );
+    assert_eq!(rt; called(&mut homed, &top), Some(2));
+    assert_eq!(rt; homed.answer(&top, 1, &done, 7), Taken::Late);
+    assert!(rt; homed.awaits(&top, 2));
+    let request = Request {
+        action: top,
+        want: Want::Abort,
+    };
+    assert!(rt; homed.refusal(&request).is_none());
+    homed.quit(&top);
+    assert_eq!(rt; homed.answer(&top, 2, &done, 7), Taken::Late);
+    Ok(())
+}
+
+/// A top action asks for three children: one commits, one aborts, one is given up. Then nothing stands against its commit.
+#[test]
+fn children_are_decided_once(rt: HostRuntime) -> Result<(), Fail> {
+    let top = Name::parse("1.2.1")?;
+    let home = Deps::none().with(1, 2);
+    let more = Deps::none().with(3, 5);
+    let mut homed = Homed::new(rt.alloc(), 1, 2);
+    assert_eq!(rt; begun(&mut homed), Some(top));
+    let first = Name::parse("1.2.1/1.1.1")?;
+    let second = Name::parse("1.2.1/1.1.2")?;
+    let third = Name::parse("1.2.1/1.1.3")?;
+    for child in [first, second, third] {
+        assert_eq!(rt; asked(&mut homed, &top), Some(child));
+    }
+    for (child, commit, deps) in &[(first, None, home), (second, Some(more), home.with(3, 5))] {
+        assert!(rt; homed.decides(child));
+        homed.decide(child, commit);
+        assert!(rt; !homed.decides(child));
+        assert_eq!(rt; homed.deps(&top), Some(*deps));
+    }
+    let request = Request {
+        action: top,
+        want: Want::GiveUp(third),
+    };
+    assert!(rt; homed.refusal(&request).is_none());
+    homed.give_up(&top, &third);
+    assert!(rt; !homed.decides(&third));
+    assert_eq!(rt;
+        refused(&homed, &top, &Want::GiveUp(third)),
+        Some(LineRefusal::NotOpen)
+    );
     let request = Request {
         action: top,
         want: Want::Commit(9),
@@ -75,13 +216,13 @@ fn an_action_runs_at_its_home(rt: HostRuntime) -> Result<(), Fail> {
     assert!(rt; homed.refusal(&request).is_none());
     homed.finish(&top, 9);
     assert_eq!(rt;
-        refused(&homed, &top, &Want::Abort),
+        refused(&homed, &top, &Want::Commit(9)),
         Some(LineRefusal::Ended)
     );
     Ok(())
 }
 
-/// A child starts once at its home, with what its parent depended on. An action of an older count has ended.
+/// A child starts once at its home, with what its parent depended on and the home. Room that is made is used by the next call.
 #[test]
 fn a_child_starts_once(rt: HostRuntime) -> Result<(), Fail> {
     let child = Name::parse("1.2.1/3.5.1")?;
@@ -89,16 +230,11 @@ fn a_child_starts_once(rt: HostRuntime) -> Result<(), Fail> {
     let deps = Deps::none().with(1, 2).with(2, 4);
     let (node, count) = child.home();
     assert!(rt; node == 3 && count == 5);
+    assert!(rt; homed.deps(&child).is_none());
+    homed.reserve()?;
     assert_eq!(rt; homed.start(&child, &deps)?, Started::New);
-    assert_eq!(rt; homed.start(&child, &deps)?, Started::Known);
-    assert_eq!(rt;
-        homed.deps(&child),
-        Some(Deps::none().with(1, 2).with(2, 4).with(3, 5))
-    );
-    let older = Name::parse("3.4.1")?;
-    assert_eq!(rt;
-        refused(&homed, &older, &Want::Ask(1)),
-        Some(LineRefusal::Ended)
-    );
+    assert_eq!(rt; homed.start(&child, &Deps::none())?, Started::Known);
+    assert_eq!(rt; homed.deps(&child), Some(deps.with(3, 5)));
+    assert_eq!(rt; homed.tops(), 0);
     Ok(())
 }
