@@ -1,11 +1,10 @@
 -- The order of the live operations by the names of their actions: what is below an action stands together.
 use Rattle.std.proofs.Common.{◌≡◌, ℕ, ◌+◌, Bool, true, false, not, [], ◌∷◌, refl, sym, ap, subst, ◌∙◌, arith}
 use Rattle.std.specs.Bool.{◌==◌}
-use Rattle.std.specs.Cmp.{IsTotalOrder}
 use Rattle.std.specs.Ordering.{nat_cmp, is_lt, is_eq, ordering_then, ordering_reverse}
 use Rattle.std.specs.declared.cmp.Ordering.{Ordering}
 use Rattle.std.specs.declared.cmp.Ordering.TheVariants.{Less, Equal, Greater}
-use Rattle.std.proofs.lemmas.Cmp.{nat_cmp_total, on_total, then_total, tied_itself}
+use Rattle.std.proofs.lemmas.Cmp.{tied_itself}
 use Rattle.std.proofs.lemmas.Bool.{and_parts, and_from}
 use Rattle.cam_names.specs.declared.name.Name.{Name}
 use Rattle.cam_names.specs.Part.{PartFields, part_eq, part_cmp}
@@ -14,10 +13,7 @@ use Rattle.cam_names.proofs.Names.{name_eq_same, name_eq_refl, part_eq_same}
 use Rattle.cam_names.proofs.Order.{name_total, name_tied}
 use Rattle.cam_locks.specs.declared.placed.Placed.{Placed}
 use Rattle.cam_locks.specs.Placed.{placed_eq, placed_cmp, is_before}
-
--- the order of places is total
-pub placed_total : IsTotalOrder placed_cmp
-placed_total = then_total (on_total (λ p. p.name) name_total) (on_total (λ p. p.index) nat_cmp_total)
+use Rattle.cam_locks.specs.PlacedLaws.{placed_total}
 
 -- places that the order does not part are the same
 both_tied : (o p : Ordering) → ordering_then o p ≡ Equal → (o ≡ Equal) × (p ≡ Equal)

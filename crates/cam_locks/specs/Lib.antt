@@ -2,6 +2,7 @@ pub mod Names
 pub mod Site
 pub mod Members
 pub mod Placed
+pub mod PlacedLaws
 pub mod Live
 pub mod Moss
 pub mod Calls

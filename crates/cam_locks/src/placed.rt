@@ -1,12 +1,10 @@
 //! Where the live operations stand by the names of their actions: what is of an action or below it stands together.
 ghost use Rattle.std.specs.Prelude.{◌≡◌, ◌≤◌};
-ghost use Rattle.std.specs.Cmp.{partial_order_from_agreeing_total, then_total, on_total, nat_cmp_total, both_tied, unsigned_ties};
-ghost use Rattle.std.specs.Ordering.{as_partial_cmp, nat_cmp};
+ghost use Rattle.std.specs.Cmp.{partial_order_from_agreeing_total};
+ghost use Rattle.std.specs.Ordering.{as_partial_cmp};
 ghost use Rattle.std.proofs.Common.{refl};
-ghost use Rattle.cam_names.specs.Names.{name_cmp};
-ghost use Rattle.cam_names.proofs.Names.{name_ties};
-ghost use Rattle.cam_names.proofs.Order.{name_total};
 ghost use Rattle.cam_locks.specs.Placed.{placed_cmp, placed_of, behind, IsFirstFrom};
+ghost use Rattle.cam_locks.specs.PlacedLaws.{placed_total, placed_ties};
 
 use crate::LiveOp;
 use cam_names::Name;
@@ -47,11 +45,11 @@ impl Placed {
 impl Ord for Placed {
     ghost cmp = { placed_cmp };
 
-    ghost total = { then_total (on_total (λ p. p.name) name_total) (on_total (λ p. p.index) nat_cmp_total) };
+    ghost total = { placed_total };
 
     ghost matches_partial_cmp = { λ x y. refl };
 
-    ghost matches_eq = { λ x y. both_tied _ _ (name_cmp x.name y.name) (nat_cmp x.index y.index) (name_ties x.name y.name) (unsigned_ties x.index y.index) };
+    ghost matches_eq = { placed_ties };
 
     fn cmp(&self, other: &Placed) -> Ordering {
         self.name
@@ -63,7 +61,8 @@ impl Ord for Placed {
 impl PartialOrd for Placed {
     ghost partial_cmp = { as_partial_cmp placed_cmp };
 
-    ghost laws = { partial_order_from_agreeing_total placed_cmp (then_total (on_total (λ p. p.name) name_total) (on_total (λ p. p.index) nat_cmp_total)) (λ x y. refl) (λ x y. both_tied _ _ (name_cmp x.name y.name) (nat_cmp x.index y.index) (name_ties x.name y.name) (unsigned_ties x.index y.index)) };
+    ghost laws = { partial_order_from_agreeing_total
+        placed_cmp placed_total (λ x y. refl) placed_ties };
 
     fn partial_cmp(&self, other: &Placed) -> Option<Ordering> {
         Some(self.cmp(other))

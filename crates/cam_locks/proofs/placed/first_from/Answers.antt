@@ -9,7 +9,7 @@ use Rattle.std.specs.BTreeSet.{BTreeSet, contains, IsKeyRangeOf, IsKeyInRange}
 use Rattle.std.specs.BTreeMap.Range.{IsLeBy}
 use Rattle.cam_locks.specs.declared.placed.Placed.{Placed}
 use Rattle.cam_locks.specs.Placed.{placed_cmp, is_before, IsFirstFrom}
-use Rattle.cam_locks.proofs.PlacedOrder.{placed_total}
+use Rattle.cam_locks.specs.PlacedLaws.{placed_total}
 use Rattle.cam_locks.proofs.placed.first_from.Goals as goal
 
 -- not before is the same as not behind, the other way round
