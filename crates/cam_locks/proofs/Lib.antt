@@ -16,6 +16,7 @@ pub mod Lifts
 pub mod ClimbingLifts
 pub mod Modes
 mod SumLaws
+mod ObjectSums
 mod MetStates
 pub mod LeaderLaws
 pub mod LastVersions
