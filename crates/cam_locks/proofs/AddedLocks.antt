@@ -10,18 +10,10 @@ use Rattle.cam_type.specs.declared.Op.{Op}
 use Rattle.cam_type.specs.Table.{kind_of, fits, mode_of, answer_of}
 use Rattle.cam_locks.specs.declared.LiveOp.{LiveOp}
 use Rattle.cam_locks.specs.declared.versions.Version.{Version}
-use Rattle.cam_locks.specs.Holding.{LocksView, leaders_of, KeepsLeaders, KeepsVersions}
-use Rattle.cam_locks.specs.Changes.{with_leader, with_write, added_by, last_state, met, LastIsLive, Tidied, IsDone}
+use Rattle.cam_locks.specs.Holding.{LocksView, leaders_of, KeepsLeaders}
+use Rattle.cam_locks.specs.Changes.{with_leader, with_write, added_by, last_state, met, LastIsLive, LeadersStay, VersionsStay, Tidied, IsDone}
 use Rattle.cam_locks.specs.Sums.{sum_on, IsStart}
 use Rattle.cam_locks.proofs.Modes.{counters_have_no_writes}
-
--- leaders and versions that need not be kept are left out
-abbrev pub LeadersStay : List Name → List LiveOp → List LiveOp → List LiveOp → Type 0
-LeadersStay ns os old new = (x : ℕ) (m : Mode) (next : ℕ) → KeepsLeaders x m ns os next old → KeepsLeaders x m ns os next new
-
--- What is kept of versions stays right from one list of them to the other.
-abbrev pub VersionsStay : List Name → List LiveOp → List Version → List Version → Type 0
-VersionsStay ns os old new = (x : ℕ) (start : State) (next : ℕ) → KeepsVersions x start ns os next old → KeepsVersions x start ns os next new
 
 -- Lists of leaders and versions that stay right make what is kept of the object tidied.
 pub tidied : (ns : List Name) (os : List LiveOp) (l : LocksView) (readers writers adders : List LiveOp) (versions : List Version)

@@ -1,5 +1,5 @@
 -- A grant, by what is kept: who stands in the way, what is answered, and what is kept behind it.
-use Rattle.std.proofs.Common.{◌≡◌, ℕ, ◌+◌, ◌≤◌, ◌<◌, true, false, List, [], ◌∷◌, ◌++◌, length, get_or, Option, None, sym, ap, subst, ◌∙◌}
+use Rattle.std.proofs.Common.{◌≡◌, ℕ, ◌+◌, ◌≤◌, ◌<◌, true, false, List, [], ◌∷◌, ◌++◌, length, get_or, Option, None, sym, ap, subst, ◌∙◌, arith}
 use Rattle.std.specs.Prelude.{option_and_then}
 use Rattle.cam_names.specs.declared.name.Name.{Name}
 use Rattle.cam_type.specs.declared.ObjectDecl.{ObjectDecl}
@@ -8,7 +8,6 @@ use Rattle.cam_type.specs.declared.Answer.{Answer}
 use Rattle.cam_type.specs.Table.{kind_of, fits, answer_of}
 use Rattle.cam_locks.specs.declared.LiveOp.{LiveOp}
 use Rattle.cam_locks.specs.declared.kept.Kept.{Kept}
-use Rattle.cam_locks.specs.Names.{NamesView}
 use Rattle.cam_locks.specs.Granted.{IsKept}
 use Rattle.cam_locks.specs.Site.{IndicesRise}
 use Rattle.cam_type.specs.Objects.{start_of}
@@ -47,34 +46,38 @@ holder_kept objects ns os next old new a x op r rise within not_stale tidy all f
     still : x < length new
     still = subst (λ (n : ℕ). x < n) (sym tidy.len) within
 
--- what is kept is right of what it stands for, however that is spelled
-pub kept_at : (objects : List ObjectDecl) (committed : NamesView) (os : List LiveOp) (next : ℕ) (new : Kept)
-    → new.objects ≡ objects → new.committed ≡ committed → new.live.ops ≡ os → new.live.next ≡ next
-    → AllLocks objects committed.names os next new.locks.items → IsKept new
-kept_at objects committed os next new objects_is committed_is ops_is next_is all =
-    subst (λ (ds : List ObjectDecl). AllLocks ds new.committed.names new.live.ops new.live.next new.locks.items) (sym objects_is)
-    (subst (λ (v : NamesView). AllLocks objects v.names new.live.ops new.live.next new.locks.items) (sym committed_is)
-    (subst (λ (ps : List LiveOp). AllLocks objects committed.names ps new.live.next new.locks.items) (sym ops_is)
-    (subst (λ (n : ℕ). AllLocks objects committed.names os n new.locks.items) (sym next_is) all)))
+-- What a table goes by is right where that is said of what it is equal to.
+pub kept_at : (objects : List ObjectDecl) (ns : List Name) (os : List LiveOp) (next : ℕ) (new : Kept)
+    → new.objects ≡ objects → new.committed.names ≡ ns → new.live.ops ≡ os → new.live.next ≡ next
+    → IndicesRise 0 os next → next ≤ 1000000000 → AllLocks objects ns os next new.locks.items → IsKept new
+kept_at objects ns os next new objects_is names_is ops_is next_is rise range all = record {
+  rising = subst (λ (ps : List LiveOp). IndicesRise 0 ps new.live.next) (sym ops_is) (subst (λ (n : ℕ). IndicesRise 0 os n) (sym next_is) rise);
+  range = subst (λ (n : ℕ). n ≤ 1000000000) (sym next_is) range;
+  locks =
+      subst (λ (ds : List ObjectDecl). AllLocks ds new.committed.names new.live.ops new.live.next new.locks.items) (sym objects_is)
+      (subst (λ (ms : List Name). AllLocks objects ms new.live.ops new.live.next new.locks.items) (sym names_is)
+      (subst (λ (ps : List LiveOp). AllLocks objects ns ps new.live.next new.locks.items) (sym ops_is)
+      (subst (λ (n : ℕ). AllLocks objects ns os n new.locks.items) (sym next_is) all)));
+}
 
--- after an operation that was done
-pub kept_done : (objects : List ObjectDecl) (ns : List Name) (os ops : List LiveOp) (next end : ℕ) (old mid new : List LocksView) (n : LiveOp) (answer : Answer)
+-- With one more operation at the end, under an index in its range, the next index is in its own.
+pub next_in_range : (index : ℕ) → index ≤ 999999999 → index + 1 ≤ 1000000000
+next_in_range index le = omega (arith, le)
+
+-- What is kept is right after an operation that was done.
+pub kept_done : (objects : List ObjectDecl) (ns : List Name) (os : List LiveOp) (next : ℕ) (old mid new : List LocksView) (n : LiveOp) (answer : Answer)
     → IndicesRise 0 os next → next ≤ n.index → holder_of ns os n.action n.object n.op ≡ None
     → EachTo (TidiedTo ns os) old mid → EachTo (DoneTo ns os n answer) mid new → AllLocks objects ns os next old
-    → ops ≡ os ++ n ∷ [] → end ≡ n.index + 1 → AllLocks objects ns ops end new
-kept_done objects ns os ops next end old mid new n answer rise le none tidy done all ops_is end_is =
-    subst (λ (ps : List LiveOp). AllLocks objects ns ps end new) (sym ops_is)
-    (subst (λ (k : ℕ). AllLocks objects ns (os ++ n ∷ []) k new) (sym end_is)
-    (all_done objects ns os next mid new n answer rise le (sym (holder_first ns os n.action n.object n.op) ∙ none) done (all_tidied objects ns os next old mid tidy all)))
+    → AllLocks objects ns (os ++ n ∷ []) (n.index + 1) new
+kept_done objects ns os next old mid new n answer rise le none tidy done all =
+    all_done objects ns os next mid new n answer rise le (sym (holder_first ns os n.action n.object n.op) ∙ none) done (all_tidied objects ns os next old mid tidy all)
 
--- or one that was done but not added
-pub kept_undone : (objects : List ObjectDecl) (ns : List Name) (os ops : List LiveOp) (next end : ℕ) (old mid done_to new : List LocksView) (n : LiveOp) (answer : Answer)
+-- And after one that was done but not added, where nothing is kept of its object from now on.
+pub kept_undone : (objects : List ObjectDecl) (ns : List Name) (os : List LiveOp) (next : ℕ) (old mid done_to new : List LocksView) (n : LiveOp) (answer : Answer)
     → EachTo (TidiedTo ns os) old mid → EachTo (DoneTo ns os n answer) mid done_to → EachTo (SpoiledAt n.object) done_to new → AllLocks objects ns os next old
-    → ops ≡ os → end ≡ next → AllLocks objects ns ops end new
-kept_undone objects ns os ops next end old mid done_to new n answer tidy done spoiled all ops_is end_is =
-    subst (λ (ps : List LiveOp). AllLocks objects ns ps end new) (sym ops_is)
-    (subst (λ (k : ℕ). AllLocks objects ns os k new) (sym end_is)
-    (all_undone objects ns os next mid done_to new n answer done spoiled (all_tidied objects ns os next old mid tidy all)))
+    → AllLocks objects ns os next new
+kept_undone objects ns os next old mid done_to new n answer tidy done spoiled all =
+    all_undone objects ns os next mid done_to new n answer done spoiled (all_tidied objects ns os next old mid tidy all)
 
 -- The answer is that at the value which the operation meets.
 pub answer_kept : (objects : List ObjectDecl) (ns : List Name) (os : List LiveOp) (next : ℕ) (old mid new : List LocksView) (n : LiveOp) (answer : Answer)

@@ -1,5 +1,5 @@
 -- Indices rise on, whatever is left out or put at the end.
-use Rattle.std.proofs.Common.{◌≡◌, ℕ, ◌+◌, ◌≤◌, ◌<◌, Bool, true, false, List, [], ◌∷◌, ◌++◌, length, drop, get_or, zero, suc, arith, ap, subst, cond, refl}
+use Rattle.std.proofs.Common.{◌≡◌, ℕ, ◌+◌, ◌≤◌, ◌<◌, Bool, true, false, List, [], ◌∷◌, ◌++◌, length, drop, get_or, zero, suc, arith, ap, sym, subst, cond, refl}
 use Rattle.std.specs.Prelude.{filter}
 use Rattle.cam_locks.specs.declared.LiveOp.{LiveOp}
 use Rattle.cam_locks.specs.Site.{IndicesRise}
@@ -8,6 +8,10 @@ use Rattle.cam_locks.specs.Site.{IndicesRise}
 pub rise_from_lower : (low lower : ℕ) (os : List LiveOp) (next : ℕ) → lower ≤ low → IndicesRise low os next → IndicesRise lower os next
 rise_from_lower low lower [] next le h = omega arith
 rise_from_lower low lower (o ∷ os) next le h = let from : low ≤ o.index = h.0 in (omega arith, h.1)
+
+-- Of no operations the indices rise, whatever the next one is.
+pub rise_none : (os : List LiveOp) (next : ℕ) → os ≡ [] → IndicesRise 0 os next
+rise_none os next none = subst (λ (ps : List LiveOp). IndicesRise 0 ps next) (sym none) (omega arith)
 
 -- they rise where some operations are left out
 pub rise_filter : (test : LiveOp → Bool) (low : ℕ) (os : List LiveOp) (next : ℕ) → IndicesRise low os next → IndicesRise low (filter test os) next

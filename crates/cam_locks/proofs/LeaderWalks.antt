@@ -7,14 +7,10 @@ use Rattle.cam_locks.specs.declared.LiveOp.{LiveOp}
 use Rattle.cam_locks.specs.Moss.{lift_in}
 use Rattle.cam_type.specs.Moss.{is_in_the_way}
 use Rattle.cam_locks.specs.Holding.{has_op, KeepsLeaders}
-use Rattle.cam_locks.specs.Changes.{holder_in}
+use Rattle.cam_locks.specs.Changes.{holder_in, stands}
 use Rattle.cam_locks.proofs.Lists.{find_none, find_some}
 use Rattle.cam_locks.proofs.LastElements.{split_at, take_removed}
 use Rattle.cam_locks.proofs.TidiedLocks.{is_idle, leaders_drop}
-
--- whether a leader is live and stands in the way of the action
-abbrev pub stands : List Name → List LiveOp → Name → LiveOp → Bool
-stands ns os a t = has_op os t.index && is_in_the_way a (lift_in ns t.action)
 
 -- an idle one is left out
 pub walk_kept : (x : ℕ) (m : Mode) (ns : List Name) (os : List LiveOp) (next : ℕ) (ts : List LiveOp) (p : ℕ) (t : LiveOp) → p < length ts → t ≡ get_or ts p t

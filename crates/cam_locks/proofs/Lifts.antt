@@ -7,7 +7,7 @@ use Rattle.std.specs.Option.{option_or}
 use Rattle.std.proofs.lemmas.List.{map-append, reverse-append, append_assoc}
 use Rattle.std.proofs.lemmas.List.Folds.{find-append}
 use Rattle.cam_names.specs.Part.{PartFields}
-use Rattle.cam_names.specs.Names.{name_eq, is_ancestor, is_prefix, ancestors}
+use Rattle.cam_names.specs.Names.{name_eq, is_ancestor, is_prefix, ancestors, parent, before_last}
 use Rattle.cam_names.proofs.Names.{name_eq_refl, name_eq_same, is_prefix_append, is_prefix_split, ancestors_any}
 use Rattle.cam_know.proofs.Climbs.{lift_here}
 use Rattle.cam_locks.specs.Members.{In}
@@ -91,6 +91,16 @@ pub in_map : (u v : Name) (ws : List Name) → In v (map (λ w. u ++ w) ws) → 
 in_map u v [] h = absurd h
 in_map u v (w ∷ ws) (inl e) = (w, inl refl, e)
 in_map u v (w ∷ ws) (inr h) = let r = in_map u v ws h in (r.0, inr r.1, r.2)
+
+-- A parent has one part less.
+pub parent_length : (a p : Name) → Some p ≡ parent a → length p + 1 ≡ length a
+parent_length [] p h = cc
+parent_length (q ∷ []) p h = cc
+parent_length (q ∷ r ∷ b) p h = let is : p ≡ before_last (q ∷ r ∷ b) = cc in ap (λ (u : Name). length u + 1) is ∙ shorter q (r ∷ b)
+  where
+    shorter : (q : PartFields) (b : Name) → length (before_last (q ∷ b)) + 1 ≡ length (q ∷ b)
+    shorter q [] = refl
+    shorter q (r ∷ b) = let rest : length (before_last (r ∷ b)) + 1 ≡ length (r ∷ b) = shorter r b in omega (arith, rest)
 
 -- an ancestor has a part
 pub ancestor_part : (w z : Name) → In w (ancestors z) → 1 ≤ length w

@@ -11,10 +11,10 @@ use Rattle.cam_type.specs.Objects.{start_of}
 use Rattle.cam_locks.specs.Moss.{value_of}
 use Rattle.cam_locks.specs.Holding.{LocksView, KeepsLocks, AllLocks}
 use Rattle.cam_locks.specs.Sums.{sum_on, IsStart}
-use Rattle.cam_locks.specs.Changes.{met, LastIsLive, EachTo, TidiedTo}
+use Rattle.cam_locks.specs.Changes.{met, LastIsLive, VersionsStay, EachTo, TidiedTo}
 use Rattle.cam_locks.specs.Served.{IsServed}
 use Rattle.cam_locks.proofs.MetStates.{met_is}
-use Rattle.cam_locks.proofs.AddedLocks.{VersionsStay, tidied, same}
+use Rattle.cam_locks.proofs.AddedLocks.{tidied, same}
 use Rattle.cam_locks.proofs.AllLocks.{all_tidied}
 use Rattle.cam_locks.proofs.Grants.{fresh_tidied}
 

@@ -10,12 +10,15 @@ use Rattle.cam_locks.specs.declared.Grant.{Grant}
 use Rattle.cam_locks.specs.declared.kept.Kept.{Kept}
 use Rattle.cam_locks.specs.Moss.{holder_of, value_of}
 use Rattle.cam_locks.specs.Calls.{grant_by, is_below}
+use Rattle.cam_locks.specs.Site.{IndicesRise}
 use Rattle.cam_locks.specs.Holding.{AllLocks}
 use Rattle.cam_locks.specs.Changes.{by_holder}
 
--- What is kept of each object is right, unless it is stale.
-abbrev pub IsKept : Kept → Type 0
-IsKept k = AllLocks k.objects k.committed.names k.live.ops k.live.next k.locks.items
+-- The live operations are in order of their indices, and what is kept of each object is right, unless it is stale.
+pub record IsKept (k : Kept) : Type 0 where
+  pub rising : IndicesRise 0 k.live.ops k.live.next
+  pub range : k.live.next ≤ 1000000000
+  pub locks : AllLocks k.objects k.committed.names k.live.ops k.live.next k.locks.items
 
 -- who stands in the way of an operation, and the value that it meets
 abbrev pub holder_in : Kept → LiveOp → Option Name

@@ -8,3 +8,7 @@ use Rattle.cam_locks.specs.Members.{In}
 -- the states behind writes are of the kind
 abbrev pub AreOfKind : Kind → List Version → Type 0
 AreOfKind k versions = (v : Version) → In v versions → kind_of v.state ≡ k
+
+-- they stay of their kind from one list of versions to the other
+abbrev pub KindsStay : List Version → List Version → Type 0
+KindsStay old new = (k : Kind) → AreOfKind k old → AreOfKind k new

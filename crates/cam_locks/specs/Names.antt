@@ -1,5 +1,5 @@
 -- Names of actions, none of them twice, in the order in which they came in.
-use Rattle.std.specs.Prelude.{ℕ, Bool, not, if◌then◌else◌, List, [], ◌∷◌, ◌++◌, filter}
+use Rattle.std.specs.Prelude.{◌≡◌, ℕ, Bool, not, if◌then◌else◌, List, [], ◌∷◌, ◌++◌, filter}
 use Rattle.std.specs.List.{list_any}
 use Rattle.cam_names.specs.declared.name.Name.{Name}
 use Rattle.cam_names.specs.Names.{name_eq}
@@ -20,3 +20,11 @@ with_name names a = if has_name names a then names else names ++ a ∷ []
 abbrev pub once : List Name → List Name
 once [] = []
 once (a ∷ names) = a ∷ filter (λ b. not (name_eq a b)) (once names)
+
+-- Where the old names were some names, each once, the new ones are these and the next, each once.
+abbrev pub TakesIn : List Name → List Name → List Name → Type 0
+TakesIn next old new = (before : List Name) → old ≡ once before → new ≡ once (before ++ next)
+
+-- the keys of a table are these names
+abbrev pub AreKeys : List Name → List Name → Type 0
+AreKeys keys names = (a : Name) → list_any (name_eq a) keys ≡ has_name names a

@@ -1,9 +1,9 @@
 //! What the definitions say, read off the list of live operations: for objects of which nothing else is kept.
-ghost use Rattle.std.specs.Prelude.{◌≡◌, ◌&&◌, true, filter, find, is_none, map, option_and_then, IfOk, OnOk};
+ghost use Rattle.std.specs.Prelude.{◌≡◌, true, filter, find, map, option_and_then, IfOk, OnOk};
 ghost use Rattle.std.specs.List.{list_any};
 ghost use Rattle.cam_type.specs.Objects.{start_of};
 ghost use Rattle.cam_type.specs.Table.{kind_of, fits, state_after, answer_of};
-ghost use Rattle.cam_locks.specs.Moss.{is_on, replay, value_of, conflicts_on, holder_of, lift_in};
+ghost use Rattle.cam_locks.specs.Moss.{value_of, settled_of, is_settled_on, conflicts_on, holder_of, lift_in};
 ghost use Rattle.cam_locks.specs.Calls.{is_of, held_op};
 
 use crate::leaders::is_in_the_way;
@@ -65,7 +65,7 @@ pub(crate) fn value(
     objects: &Objects,
     object: u8,
 ) -> Result<State, NoMemory>
-    ensures { IfOk result (λ state. state ≡ replay (start_of objects.now object) (filter (is_on object) live.now)) }
+    ensures { IfOk result (λ state. state ≡ value_of objects.now live.now object) }
 {
     let mut operations = LiveOps::new(alloc);
     for operation in live {
@@ -85,7 +85,8 @@ pub(crate) fn serve<T: DataType>(
     alloc: Global,
 ) -> Result<Answer, NoMemory>
     requires kind { T.kind server.old ≡ kind_of (start_of objects.now operation.now.object) }
-    requires fits { fits (kind_of (start_of objects.now operation.now.object)) operation.now.op ≡ true }
+    requires fits { fits (kind_of (start_of objects.now operation.now.object)) operation.now.op
+        ≡ true }
     ensures kind_stays { T.kind server.new ≡ T.kind server.old }
     ensures after { OnOk result (T.held server.new
         ≡ state_after (value_of objects.now live.now operation.now.object) operation.now.op) }
@@ -105,7 +106,8 @@ pub(crate) fn settled(
     objects: &Objects,
     object: u8,
 ) -> Result<State, NoMemory>
-    ensures { IfOk result (λ state. state ≡ replay (start_of objects.now object) (filter (λ o. is_on object o && is_none (lift_in committed.now.names o.action)) live.now)) }
+    ensures { IfOk result (λ state. state
+        ≡ settled_of objects.now committed.now.names live.now object) }
 {
     let mut operations = LiveOps::new(alloc);
     for operation in live {
@@ -118,7 +120,7 @@ pub(crate) fn settled(
 
 /// Whether an operation is on the object and handed up past the top.
 fn is_settled(committed: &Names, object: u8, operation: &LiveOp) -> bool
-    ensures { result ≡ (is_on object operation.now && is_none (lift_in committed.now.names operation.now.action)) }
+    ensures { result ≡ is_settled_on committed.now.names object operation.now }
 {
     operation.object == object && committed.lift(&operation.action).is_none()
 }

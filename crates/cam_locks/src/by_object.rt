@@ -2,6 +2,7 @@
 ghost use Rattle.std.specs.Prelude.{◌≡◌, ◌<◌, true, false, List, map, get_or, vec_len, IfOk, OnOk, OnErr};
 ghost use Rattle.cam_type.specs.declared.ObjectDecl.{ObjectDecl as ObjectDeclValue};
 ghost use Rattle.cam_type.specs.Table.{kind_of, fits};
+ghost use Rattle.cam_locks.specs.Site.{IndicesRise};
 ghost use Rattle.cam_locks.specs.Moss.{holder_of};
 ghost use Rattle.cam_locks.specs.Holding.{fresh, leaders_of, LocksView, AllLocks};
 ghost use Rattle.cam_locks.specs.Sums.{is_counter};
@@ -42,7 +43,8 @@ pub(crate) fn is_kept(locks: &Vec<Locks>, object: u8) -> bool
 /// Whether the value of the object that is handed up can be told by its versions: it can be gone by, and is no counter.
 pub(crate) fn is_versioned(locks: &Vec<Locks>, object: u8) -> bool
     ensures fresh { result ≡ true → IsFresh locks.now.items object }
-    ensures kind { (l : LocksView) → result ≡ true → is_counter (get_or locks.now.items object l).start ≡ false }
+    ensures kind { (l : LocksView) → result ≡ true
+        → is_counter (get_or locks.now.items object l).start ≡ false }
 {
     match locks.get(object as usize) {
         Some(one) => !one.is_stale() && !one.is_counter(),
@@ -58,13 +60,14 @@ pub(crate) fn holder(
     committed: &Names,
 ) -> Option<Name>
     requires { IsFresh locks.old.items asked.now.object }
-    ensures tidied { EachTo (TidiedTo committed.now.names live.now.ops) locks.old.items locks.new.items }
+    ensures tidied { EachTo (TidiedTo committed.now.names live.now.ops)
+        locks.old.items locks.new.items }
     ensures value { (objects : List ObjectDeclValue)
+        → IndicesRise 0 live.now.ops live.now.next
         → AllLocks objects committed.now.names live.now.ops live.now.next locks.old.items
-        → result ≡ holder_of committed.now.names live.now.ops asked.now.action asked.now.object asked.now.op }
+        → result ≡ holder_of committed.now.names live.now.ops
+        asked.now.action asked.now.object asked.now.op }
 {
-    // Indices rise, and stay in their range.
-    let _next = live.next();
     let first = first_conflict(locks, asked, live, committed);
     by_list::lift_of(committed, &first)
 }
@@ -77,7 +80,8 @@ fn first_conflict(
     committed: &Names,
 ) -> Option<LiveOp>
     requires { asked.now.object < vec_len locks.old }
-    ensures tidied { EachTo (TidiedTo committed.now.names live.now.ops) locks.old.items locks.new.items }
+    ensures tidied { EachTo (TidiedTo committed.now.names live.now.ops)
+        locks.old.items locks.new.items }
     ensures value { (l : LocksView) → result ≡ first_over (λ m.
         standing committed.now.names live.now.ops asked.now.action asked.now.op m
         (leaders_of (get_or locks.new.items asked.now.object l) m)) }
@@ -97,12 +101,16 @@ pub(crate) fn perform<T: DataType>(
     requires kind { (l : LocksView) → T.kind server.old
         ≡ kind_of (get_or locks.old.items operation.now.object l).start }
     requires fits { (l : LocksView)
-        → fits (kind_of (get_or locks.old.items operation.now.object l).start) operation.now.op ≡ true }
+        → fits (kind_of (get_or locks.old.items operation.now.object l).start) operation.now.op
+        ≡ true }
     ensures kind_stays { T.kind server.new ≡ T.kind server.old }
     ensures served { (l : LocksView) → OnOk result (IsServed committed.now.names live.now.ops
         operation.now (T.held server.new) (get_or locks.old.items operation.now.object l)) }
-    ensures done { IfOk result (λ answer. EachTo (DoneTo committed.now.names live.now.ops operation.now answer) locks.old.items locks.new.items) }
-    ensures err { OnErr result (EachTo (TidiedTo committed.now.names live.now.ops) locks.old.items locks.new.items) }
+    ensures done { IfOk result (λ answer. EachTo
+        (DoneTo committed.now.names live.now.ops operation.now answer)
+        locks.old.items locks.new.items) }
+    ensures err { OnErr result (EachTo (TidiedTo committed.now.names live.now.ops)
+        locks.old.items locks.new.items) }
 {
     locks[operation.object as usize].perform(operation, live, committed, server)
 }

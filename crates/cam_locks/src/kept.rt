@@ -30,8 +30,6 @@ impl Kept {
         ensures { IfOk result (λ state. state
             ≡ settled_of self.now.objects self.now.committed.names self.now.live.ops object) }
     {
-        // Indices rise, and stay in their range.
-        let _next = self.live.next();
         if by_object::is_versioned(&self.locks, object) {
             return self.locks[object as usize].settled(&self.live, &self.committed);
         }
@@ -85,8 +83,6 @@ impl Kept {
             result self.new (T.held server.new) }
         ensures kind_stays { T.kind server.new ≡ T.kind server.old }
     {
-        // Indices rise, and stay in their range.
-        let _next = self.live.next();
         let holder = by_object::holder(&mut self.locks, operation, &self.live, &self.committed);
         if let Some(holder) = holder {
             return Ok(Grant::Conflict(holder));
@@ -129,8 +125,6 @@ impl Kept {
         requires follows { MayFollow self.old operation.now }
         ensures { IsAdded self.old operation.now result self.new }
     {
-        // Indices rise, and stay in their range.
-        let _next = self.live.next();
         self.live.push(operation)?;
         by_object::spoil_at(&mut self.locks, operation.object);
         Ok(())
@@ -144,8 +138,6 @@ impl Kept {
     {
         let live = &mut self.live;
         let locks = &mut self.locks;
-        // Indices rise, and stay in their range.
-        let _next = live.next();
         let spoils = self.committed.contains(name);
         while let Some(operation) = live.one_below(name) {
             if spoils {

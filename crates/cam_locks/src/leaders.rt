@@ -1,11 +1,8 @@
 //! The locks of one mode on one object: of each holder its first operation, in order.
-ghost use Rattle.std.specs.Prelude.{◌≡◌, ℕ, ◌≤◌, ◌<◌, filter, find, not, ◌&&◌, OnOk};
+ghost use Rattle.std.specs.Prelude.{◌≡◌, ◌≤◌, ◌<◌, filter, not, OnOk};
 ghost use Rattle.std.specs.VecDeque.{deque_len, deque_capacity};
-ghost use Rattle.cam_type.specs.declared.Mode.{Mode};
-ghost use Rattle.cam_locks.specs.Moss.{lift_in};
 ghost use Rattle.cam_type.specs.Moss.{is_in_the_way};
-ghost use Rattle.cam_locks.specs.Holding.{has_op, KeepsLeaders};
-ghost use Rattle.cam_locks.specs.Changes.{lift_eq, leads, holder_in, has_ended, depth_of, with_leader};
+ghost use Rattle.cam_locks.specs.Changes.{lift_eq, leads, holder_in, has_ended, depth_of, first_standing, with_leader, LeadersStay};
 
 use crate::LiveOp;
 use crate::live::Live;
@@ -72,9 +69,10 @@ pub(crate) fn first_in_the_way(
     committed: &Names,
     name: &Name,
 ) -> Option<LiveOp>
-    ensures kept { (x : ℕ) (m : Mode) (next : ℕ) → KeepsLeaders x m committed.now.names live.now.ops next leaders.old.items
-        → KeepsLeaders x m committed.now.names live.now.ops next leaders.new.items }
-    ensures value { result ≡ find (λ t. has_op live.now.ops t.index && is_in_the_way name.now (lift_in committed.now.names t.action)) leaders.new.items }
+    ensures kept { LeadersStay committed.now.names live.now.ops
+        leaders.old.items leaders.new.items }
+    ensures value { result
+        ≡ first_standing committed.now.names live.now.ops name.now leaders.new.items }
 {
     // By depth, whether a lock of the holder there was gone past. A lock that has ended has depth 0, and is left out.
     let mut is_past = [false; 9];
@@ -106,7 +104,8 @@ fn has_ended(live: &Live, committed: &Names, leader: &LiveOp) -> bool
 
 /// Leaves out the locks that have ended.
 fn drop_ended(leaders: &mut VecDeque<LiveOp>, live: &Live, committed: &Names)
-    ensures { leaders.new.items ≡ filter (λ t. not (has_ended committed.now.names live.now.ops t)) leaders.old.items }
+    ensures { leaders.new.items
+        ≡ filter (λ t. not (has_ended committed.now.names live.now.ops t)) leaders.old.items }
 {
     leaders.retain(|leader| !has_ended(live, committed, leader));
 }
@@ -118,8 +117,8 @@ pub(crate) fn make_room(
     live: &Live,
     committed: &Names,
 ) -> Result<(), NoMemory>
-    ensures kept { (x : ℕ) (m : Mode) (next : ℕ) → KeepsLeaders x m committed.now.names live.now.ops next leaders.old.items
-        → KeepsLeaders x m committed.now.names live.now.ops next leaders.new.items }
+    ensures kept { LeadersStay committed.now.names live.now.ops
+        leaders.old.items leaders.new.items }
     ensures ok { OnOk result (deque_len leaders.new < deque_capacity leaders.new) }
 {
     if leaders.len() < leaders.capacity() {
@@ -138,7 +137,8 @@ pub(crate) fn add(
     committed: &Names,
 )
     requires { deque_len leaders.old < deque_capacity leaders.old }
-    ensures { leaders.new.items ≡ with_leader committed.now.names live.now.ops leaders.old.items operation.now }
+    ensures { leaders.new.items
+        ≡ with_leader committed.now.names live.now.ops leaders.old.items operation.now }
 {
     let lift = committed.lift(&operation.action);
     let is_led = match leaders.back() {

@@ -1,12 +1,9 @@
 //! The locks on one object.
-ghost use Rattle.std.specs.Prelude.{◌≡◌, ℕ, true, ◌&&◌, if◌then◌else◌, find, IfOk, OnOk, OnErr};
-ghost use Rattle.cam_type.specs.declared.Mode.{Mode as ModeValue};
+ghost use Rattle.std.specs.Prelude.{◌≡◌, true, if◌then◌else◌, IfOk, OnOk, OnErr};
 ghost use Rattle.cam_type.specs.Table.{kind_of, fits};
-ghost use Rattle.cam_type.specs.Moss.{is_in_the_way};
-ghost use Rattle.cam_locks.specs.Moss.{lift_in};
-ghost use Rattle.cam_locks.specs.Holding.{has_op, fresh, leaders_of, KeepsLeaders};
+ghost use Rattle.cam_locks.specs.Holding.{fresh, leaders_of};
 ghost use Rattle.cam_locks.specs.Sums.{is_counter};
-ghost use Rattle.cam_locks.specs.Changes.{standing, earlier, first_over, state_of, is_current, last_current, Tidied, IsDone};
+ghost use Rattle.cam_locks.specs.Changes.{standing, first_standing, earlier, first_over, state_of, last_settled, LeadersStay, Tidied, IsDone};
 ghost use Rattle.cam_locks.specs.Served.{IsServed};
 
 use crate::live::Live;
@@ -40,7 +37,14 @@ impl Model for Locks {
 
     ghost Value = { LocksView };
 
-    ghost view = { λ l. record { start = l.start; readers = l.readers.items; writers = l.writers.items; adders = l.adders.items; versions = l.versions.items; stale = l.stale } };
+    ghost view = { λ l. record {
+      start = l.start;
+      readers = l.readers.items;
+      writers = l.writers.items;
+      adders = l.adders.items;
+      versions = l.versions.items;
+      stale = l.stale;
+    } };
 
     ghost invariant = { λ l. AreOfKind (kind_of l.start) l.versions.items };
 }
@@ -92,7 +96,8 @@ impl Locks {
         op: &Op,
     ) -> Option<LiveOp>
         ensures tidied { Tidied committed.now.names live.now.ops self.old self.new }
-        ensures value { result ≡ first_over (λ m. standing committed.now.names live.now.ops name.now op.now m (leaders_of self.new m)) }
+        ensures value { result ≡ first_over (λ m.
+            standing committed.now.names live.now.ops name.now op.now m (leaders_of self.new m)) }
     {
         let joins_readers = compatible(Mode::Read, mode_of(op));
         let joins_writers = compatible(Mode::Write, mode_of(op));
@@ -116,11 +121,10 @@ impl Locks {
         ensures kind_stays { T.kind server.new ≡ T.kind server.old }
         ensures served { OnOk result (IsServed committed.now.names live.now.ops operation.now
             (T.held server.new) self.old) }
-        ensures done { IfOk result (λ answer. IsDone committed.now.names live.now.ops operation.now answer self.old self.new) }
+        ensures done { IfOk result (λ answer.
+            IsDone committed.now.names live.now.ops operation.now answer self.old self.new) }
         ensures err { OnErr result (Tidied committed.now.names live.now.ops self.old self.new) }
     {
-        // A number has 64 bits.
-        versions::keep_range(&self.start);
         versions::tidy(&mut self.versions, live, committed);
         let start = &self.start;
         let op = &operation.op;
@@ -150,7 +154,8 @@ impl Locks {
 
     /// The state behind the last live write that is past the top; else the start state.
     pub(crate) fn settled(&self, live: &Live, committed: &Names) -> Result<State, NoMemory>
-        ensures { IfOk result (λ state. state ≡ state_of self.now.start (last_current (is_current committed.now.names live.now.ops true) self.now.versions)) }
+        ensures { IfOk result (λ state. state ≡ state_of self.now.start
+            (last_settled committed.now.names live.now.ops self.now.versions)) }
     {
         versions::settled(self.versions.as_slice(), live, committed, &self.start)
     }
@@ -179,9 +184,10 @@ fn standing(
     name: &Name,
     compatible: bool,
 ) -> Option<LiveOp>
-    ensures kept { (x : ℕ) (m : ModeValue) (next : ℕ) → KeepsLeaders x m committed.now.names live.now.ops next leaders.old.items
-        → KeepsLeaders x m committed.now.names live.now.ops next leaders.new.items }
-    ensures value { result ≡ (if compatible then None else find (λ t. has_op live.now.ops t.index && is_in_the_way name.now (lift_in committed.now.names t.action)) leaders.new.items) }
+    ensures kept { LeadersStay committed.now.names live.now.ops
+        leaders.old.items leaders.new.items }
+    ensures value { result ≡ (if compatible then None else
+        first_standing committed.now.names live.now.ops name.now leaders.new.items) }
 {
     if compatible {
         return None;

@@ -1,9 +1,6 @@
 ghost use Rattle.std.specs.Prelude.{◌≡◌, ◌+◌, ◌≤◌, [], OnOk, IfOk};
 ghost use Rattle.cam_know.specs.Known.{lift_by};
-ghost use Rattle.std.specs.List.{list_any};
-ghost use Rattle.cam_names.specs.declared.name.Name.{Name as NameValue};
-ghost use Rattle.cam_names.specs.Names.{name_eq};
-ghost use Rattle.cam_locks.specs.Names.{has_name, with_name};
+ghost use Rattle.cam_locks.specs.Names.{has_name, with_name, AreKeys};
 
 use cam_base::NoMemory;
 use cam_names::Name;
@@ -20,19 +17,19 @@ pub(crate) struct Names {
 }
 
 impl Model for Names {
-    ghost use Rattle.std.specs.Prelude.{◌≡◌, ◌-◌, min, vec_len};
+    ghost use Rattle.std.specs.Prelude.{◌-◌, min, vec_len};
     ghost use Rattle.std.specs.Vec.{vec_capacity};
     ghost use Rattle.std.specs.HashSet.{spare};
-    ghost use Rattle.std.specs.List.{list_any};
-    ghost use Rattle.cam_names.specs.declared.name.Name.{Name as NameValue};
-    ghost use Rattle.cam_names.specs.Names.{name_eq};
-    ghost use Rattle.cam_locks.specs.Names.{NamesView, has_name};
+    ghost use Rattle.cam_locks.specs.Names.{NamesView, AreKeys};
 
     ghost Value = { NamesView };
 
-    ghost view = { λ n. record { names = n.names.items; spare = min (vec_capacity n.names - vec_len n.names) (spare n.keys) } };
+    ghost view = { λ n. record {
+      names = n.names.items;
+      spare = min (vec_capacity n.names - vec_len n.names) (spare n.keys);
+    } };
 
-    ghost invariant = { λ n. (a : NameValue) → list_any (name_eq a) n.keys.keys ≡ has_name n.names.items a };
+    ghost invariant = { λ n. AreKeys n.keys.keys n.names.items };
 }
 
 impl Names {
@@ -100,21 +97,23 @@ impl Names {
     pub(crate) fn lift(&self, name: &Name) -> Option<Name>
         ensures { result ≡ lift_by (has_name self.now.names) name.now }
     {
-        // A name has a part.
-        let _parts = name.parts();
-        if !self.contains(name) {
-            return Some(*name);
+        let mut present = *name;
+        for _ in 1..name.depth() {
+            if !self.contains(&present) {
+                return Some(present);
+            }
+            present = present.parent()?;
         }
-        match name.parent() {
-            Some(parent) => self.lift(&parent),
-            None => None,
+        if self.contains(&present) {
+            return None;
         }
+        Some(present)
     }
 }
 
 /// The table of hashes of these names.
 fn keys_of(alloc: Global, names: &[Name]) -> Result<HashSet<Name>, NoMemory>
-    ensures { IfOk result (λ keys. (a : NameValue) → list_any (name_eq a) keys.keys ≡ has_name names.now a) }
+    ensures { IfOk result (λ keys. AreKeys keys.keys names.now) }
 {
     let mut keys = HashSet::new(alloc);
     for name in names {

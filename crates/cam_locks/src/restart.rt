@@ -25,7 +25,8 @@ impl LockTable {
         know: &Know,
     ) -> Result<LockTable, NoMemory>
         requires { CanRestore objects.now node held.now }
-        ensures { IfOk result (λ table. table.site ≡ restored objects.now node held.now know.now) }
+        ensures { IfOk result (λ table. table.site
+            ≡ restored objects.now node held.now know.now) }
     {
         let kept = kept_operations(alloc, held.as_slice(), know)?;
         let ordered = in_order(alloc, kept.as_slice())?;

@@ -52,7 +52,8 @@ fn may_be_held(alloc: Global, objects: &Objects, node: u8, ops: &[HeldOp]) -> Re
 
 /// Whether an operation is on an object of the node and fits it, under an index in its range.
 fn is_right(objects: &Objects, node: u8, op: &HeldOp) -> bool
-    ensures { result ≡ (fits_here objects.now node op.now.object op.now.op && nat_le op.now.index 999999999) }
+    ensures { result ≡ (fits_here objects.now node op.now.object op.now.op
+        && nat_le op.now.index 999999999) }
 {
     fits_here(objects, node, op.object, &op.op) && op.index <= 999_999_999
 }

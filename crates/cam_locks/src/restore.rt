@@ -1,8 +1,7 @@
 //! What a restart reads off the held operations and the known outcomes.
-ghost use Rattle.std.specs.Prelude.{◌≡◌, ◌+◌, ◌≤◌, ◌++◌, List, max, OnOk, IfOk, flat_map, map};
-ghost use Rattle.cam_names.specs.declared.name.Name.{Name as NameValue};
+ghost use Rattle.std.specs.Prelude.{◌≡◌, ◌+◌, ◌≤◌, ◌++◌, max, OnOk, IfOk, flat_map, map};
 ghost use Rattle.cam_know.specs.Known.{committed_name, aborted_name};
-ghost use Rattle.cam_locks.specs.Names.{once};
+ghost use Rattle.cam_locks.specs.Names.{once, TakesIn};
 ghost use Rattle.cam_locks.specs.Restored.{of_family, ops_of, in_order, next_of, all_held, EachOnce, InRange};
 
 use crate::names::Names;
@@ -84,7 +83,7 @@ pub(crate) fn committed_names(alloc: Global, outcomes: &[Outcome]) -> Result<Nam
 
 /// Adds the action of which the outcome is a commit.
 fn add_if_committed(names: &mut Names, outcome: &Outcome) -> Result<(), NoMemory>
-    ensures { OnOk result ((before : List NameValue) → names.old.names ≡ once before → names.new.names ≡ once (before ++ committed_name outcome.now)) }
+    ensures { OnOk result (TakesIn (committed_name outcome.now) names.old.names names.new.names) }
 {
     match outcome {
         Outcome::Committed(name, _) => names.add(name),
@@ -105,7 +104,7 @@ pub(crate) fn aborted_names(alloc: Global, outcomes: &[Outcome]) -> Result<Names
 
 /// Adds the action of which the outcome is an abort.
 fn add_if_aborted(names: &mut Names, outcome: &Outcome) -> Result<(), NoMemory>
-    ensures { OnOk result ((before : List NameValue) → names.old.names ≡ once before → names.new.names ≡ once (before ++ aborted_name outcome.now)) }
+    ensures { OnOk result (TakesIn (aborted_name outcome.now) names.old.names names.new.names) }
 {
     match outcome {
         Outcome::Aborted(name) => names.add(name),

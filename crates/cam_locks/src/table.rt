@@ -72,8 +72,10 @@ impl LockTable {
         requires fits { IsTrue (fits_here self.old.site.objects self.old.site.node object op.now) }
         requires index { self.old.site.next ≤ 999999999 }
         requires kind { T.kind server.old ≡ kind_of (start_of self.old.site.objects object) }
-        ensures grant { IfOk result (λ granted. granted ≡ grant self.old.site name.now object op.now) }
-        ensures ok { OnOk result (self.new.site ≡ after_grant self.old.site name.now object op.now) }
+        ensures grant { IfOk result (λ granted. granted
+            ≡ grant self.old.site name.now object op.now) }
+        ensures ok { OnOk result (self.new.site
+            ≡ after_grant self.old.site name.now object op.now) }
         ensures err { OnErr result (self.new.site ≡ self.old.site) }
         ensures spare { self.new.spare ≡ self.old.spare }
         ensures served { OnOk result (T.held server.new
@@ -165,8 +167,6 @@ impl LockTable {
         ensures well_formed { IsWellFormed self.now.site }
         ensures restorable { SecuredCanBeRestored self.now.site }
     {
-        // Indices rise, and stay in their range.
-        let _next = self.kept.live.next();
         let live = self.kept.live.of_family(family)?;
         let ops = by_list::held(self.kept.live.allocator(), live.as_slice(), family)?;
         Ok(Held {

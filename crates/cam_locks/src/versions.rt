@@ -1,13 +1,12 @@
 //! The versions of one object: of each holder of a write lock the state behind its last write, in order.
-ghost use Rattle.std.specs.Prelude.{◌≡◌, ℕ, true, [], ◌∷◌, ◌++◌, slice_get, option_and_then, IfOk, OnOk, OnErr, ◌≤◌, ◌<◌, vec_len};
+ghost use Rattle.std.specs.Prelude.{◌≡◌, true, [], ◌∷◌, ◌++◌, slice_get, option_and_then, IfOk, OnOk, OnErr, ◌≤◌, ◌<◌, vec_len};
 ghost use Rattle.std.specs.Vec.{vec_capacity};
 ghost use Rattle.cam_type.specs.declared.State.{State as StateValue};
-ghost use Rattle.cam_type.specs.declared.Kind.{Kind as KindValue};
 ghost use Rattle.cam_type.specs.declared.Mode.TheVariants.{Write as WriteMode};
 ghost use Rattle.cam_type.specs.Table.{kind_of, fits, mode_of, state_after, answer_of};
-ghost use Rattle.cam_locks.specs.Holding.{has_op, KeepsVersions};
-ghost use Rattle.cam_locks.specs.Changes.{is_current, is_outdated, last_current, state_of, last_state, met, LastIsLive, with_write};
-ghost use Rattle.cam_locks.specs.Kinds.{AreOfKind};
+ghost use Rattle.cam_locks.specs.Holding.{has_op};
+ghost use Rattle.cam_locks.specs.Changes.{is_current, is_outdated, last_settled, state_of, last_state, met, LastIsLive, with_write, VersionsStay};
+ghost use Rattle.cam_locks.specs.Kinds.{AreOfKind, KindsStay};
 ghost use Rattle.cam_locks.specs.Sums.{IsStart};
 
 use crate::LiveOp;
@@ -56,7 +55,8 @@ fn is_settled(live: &Live, committed: &Names, version: &Version) -> bool
 
 /// The place of the last version of a live write that is past the top.
 fn last_settled(versions: &[Version], live: &Live, committed: &Names) -> Option<usize>
-    ensures { last_current (is_current committed.now.names live.now.ops true) versions.now ≡ option_and_then (slice_get versions.now) result }
+    ensures { last_settled committed.now.names live.now.ops versions.now
+        ≡ option_and_then (slice_get versions.now) result }
 {
     let mut place = versions.len();
     while place > 0 {
@@ -75,7 +75,8 @@ pub(crate) fn settled(
     committed: &Names,
     start: &State,
 ) -> Result<State, NoMemory>
-    ensures { IfOk result (λ state. state ≡ state_of start.now (last_current (is_current committed.now.names live.now.ops true) versions.now)) }
+    ensures { IfOk result (λ state. state
+        ≡ state_of start.now (last_settled committed.now.names live.now.ops versions.now)) }
 {
     let Some(place) = last_settled(versions, live, committed) else {
         return Ok(start.copy()?);
@@ -83,15 +84,6 @@ pub(crate) fn settled(
     match versions.get(place) {
         Some(version) => Ok(version.state.copy()?),
         None => Ok(start.copy()?),
-    }
-}
-
-/// Whatever the state is, a number in it has 64 bits.
-pub(crate) fn keep_range(state: &State)
-    ensures { IsStart state.now }
-{
-    if let State::Counter(value) = state {
-        let _value = *value;
     }
 }
 
@@ -123,14 +115,11 @@ fn load_met<T: DataType>(
     requires kinds { AreOfKind (kind_of start.now) versions.now }
     ensures kind_stays { T.kind server.new ≡ T.kind server.old }
     ensures ok { OnOk result (T.held server.new ≡ met start.now versions.now sum) }
+    ensures range { IsStart start.now }
 {
     match start {
         State::Register(_) | State::Queue(_) => load_last(versions, start, server),
-        State::Counter(_) => {
-            server.load(start)?;
-            server.apply(&Op::Add(sum))?;
-            Ok(())
-        }
+        State::Counter(value) => server.load(&State::Counter(value.wrapping_add(sum))),
     }
 }
 
@@ -150,6 +139,7 @@ pub(crate) fn serve<T: DataType>(
         ≡ state_after (met start.now versions.now sum) op.now) }
     ensures answer { IfOk result (λ answer. answer
         ≡ answer_of (met start.now versions.now sum) op.now) }
+    ensures range { OnOk result (IsStart start.now) }
 {
     load_met(versions, start, sum, server)?;
     server.apply(op)
@@ -176,6 +166,7 @@ pub(crate) fn write<T: DataType>(
     ensures err { OnErr result (versions.new.items ≡ versions.old.items) }
     ensures answer { IfOk result (λ answer. answer
         ≡ answer_of (met start.now versions.old.items sum) operation.now.op) }
+    ensures range { OnOk result (IsStart start.now) }
 {
     versions.reserve(1)?;
     let answer = serve(versions.as_slice(), start, sum, &operation.op, server)?;
@@ -189,7 +180,8 @@ fn put(versions: &mut Vec<Version>, operation: &LiveOp, state: State, committed:
     requires { vec_len versions.old < vec_capacity versions.old }
     ensures { (start : StateValue)
         → state ≡ state_after (last_state start versions.old.items) operation.now.op
-        → versions.new.items ≡ with_write committed.now.names start versions.old.items operation.now }
+        → versions.new.items
+        ≡ with_write committed.now.names start versions.old.items operation.now }
 {
     let version = Version {
         last: *operation,
@@ -220,10 +212,10 @@ fn is_outdated(live: &Live, committed: &Names, version: &Version, later: &Versio
 
 /// Leaves out the last versions as long as they are dead, and then those before the last as long as they need not be kept.
 pub(crate) fn tidy(versions: &mut Vec<Version>, live: &Live, committed: &Names)
-    ensures kept { (x : ℕ) (start : StateValue) (next : ℕ) → KeepsVersions x start committed.now.names live.now.ops next versions.old.items
-        → KeepsVersions x start committed.now.names live.now.ops next versions.new.items }
+    ensures kept { VersionsStay committed.now.names live.now.ops
+        versions.old.items versions.new.items }
     ensures last { LastIsLive live.now.ops versions.new.items }
-    ensures kinds { (k : KindValue) → AreOfKind k versions.old.items → AreOfKind k versions.new.items }
+    ensures kinds { KindsStay versions.old.items versions.new.items }
 {
     while let Some(last) = versions.pop() {
         if live.has(last.last.index) {
@@ -237,11 +229,11 @@ pub(crate) fn tidy(versions: &mut Vec<Version>, live: &Live, committed: &Names)
 /// Leaves out versions as long as they need not be kept beside a later one.
 fn drop_older(versions: &mut Vec<Version>, live: &Live, committed: &Names, later: &Version)
     requires { has_op live.now.ops later.now.last.index ≡ true }
-    ensures kept { (x : ℕ) (start : StateValue) (next : ℕ) → KeepsVersions x start committed.now.names live.now.ops next (versions.old.items ++ later.now ∷ [])
-        → KeepsVersions x start committed.now.names live.now.ops next (versions.new.items ++ later.now ∷ []) }
+    ensures kept { VersionsStay committed.now.names live.now.ops
+        (versions.old.items ++ later.now ∷ []) (versions.new.items ++ later.now ∷ []) }
     ensures len { vec_len versions.new ≤ vec_len versions.old }
     ensures capacity { vec_capacity versions.new ≡ vec_capacity versions.old }
-    ensures kinds { (k : KindValue) → AreOfKind k versions.old.items → AreOfKind k versions.new.items }
+    ensures kinds { KindsStay versions.old.items versions.new.items }
 {
     while let Some(version) = versions.pop() {
         if !is_outdated(live, committed, &version, later) {

@@ -3,10 +3,10 @@ use Rattle.std.specs.Prelude.{find}
 use Rattle.cam_locks.specs.declared.LiveOp.{LiveOp}
 use Rattle.cam_type.specs.Moss.{is_in_the_way}
 use Rattle.cam_locks.specs.Holding.{KeepsLeaders}
-use Rattle.cam_locks.specs.Changes.{holder_in, depth_of}
+use Rattle.cam_locks.specs.Changes.{holder_in, depth_of, stands}
 use Rattle.cam_locks.proofs.Bools.{on_some}
 use Rattle.cam_locks.proofs.LastElements.{take_removed}
-use Rattle.cam_locks.proofs.LeaderWalks.{stands, walk_kept, walk_none, walk_within, walk_found, walk_passed}
+use Rattle.cam_locks.proofs.LeaderWalks.{walk_kept, walk_none, walk_within, walk_found, walk_passed}
 use Rattle.cam_locks.proofs.LeadersPassed.{ArePast, led_past, past_more}
 use Rattle.cam_locks.proofs.leaders.first_in_the_way.Goals as goal
 

@@ -4,6 +4,7 @@ use Rattle.cam_locks.specs.declared.LiveOp.{LiveOp}
 use Rattle.cam_locks.specs.Members.{In}
 use Rattle.cam_locks.specs.Calls.{is_below}
 use Rattle.cam_locks.specs.Live.{other}
+use Rattle.cam_locks.proofs.Indices.{rise_filter}
 use Rattle.cam_locks.proofs.Members.{in_filter}
 use Rattle.cam_locks.proofs.FewerOperations.{fewer}
 use Rattle.cam_locks.proofs.DroppedSlots.{dropped_below, none_below}
@@ -33,7 +34,7 @@ loop-operation-preserved c =
     let ops = c.loop-operation.live.ops in
     let f = c.in-Some.operation in
     let there = c.in-Some.ensures.found.0 in
-    let rise = c.next-next.ensures.order in
+    let rise = c.requires.rising in
     let b = c.contains-spoils.result in
     let old = c.args.self.now.locks.items in
     let mid = c.loop-operation.locks.items in
@@ -63,10 +64,11 @@ returns c =
     let none = subst (λ r. IfNone r ((o : LiveOp) → In o ops → is_below n o ≡ false)) c.in_default.is c.one_below.ensures.none in
     let ops_is = sym (none_below n ops none) ∙ inv.above in
     record {
-      kept = kept_at old.objects old.committed (filter (λ o. not (is_below n o)) os) old.live.next
+      kept = kept_at old.objects ns (filter (λ o. not (is_below n o)) os) old.live.next
           (record { objects = old.objects; committed = old.committed; live = c.loop-operation.live; locks = new }) refl refl ops_is inv.next
+          (rise_filter (λ o. not (is_below n o)) 0 os old.live.next c.requires.rising) c.requires.range
           (all_gone c.contains-spoils.result old.objects ns os ops old.live.next old.locks.items new.items n c.contains-spoils.ensures inv.spoiled none
-          c.next-next.ensures.order c.requires);
+          c.requires.rising c.requires.locks);
       objects = refl;
       committed = refl;
       ops = ops_is;

@@ -19,7 +19,7 @@ returns-then-is_versioned c =
     let next = c.args.self.now.live.next in
     let l = c.index.result.now in
     let fresh : l.stale ≡ false = ap (λ (k : LocksView). k.stale) c.index.ensures ∙ (c.is_versioned.ensures.fresh c.if-is_versioned.true).not_stale l in
-    let keeps : KeepsLocks x start ns os next l = at_place c.args.self.now.objects ns os next c.args.self.now.locks.items x l (c.is_versioned.ensures.fresh c.if-is_versioned.true).within c.index.ensures c.requires fresh in
+    let keeps : KeepsLocks x start ns os next l = at_place c.args.self.now.objects ns os next c.args.self.now.locks.items x l (c.is_versioned.ensures.fresh c.if-is_versioned.true).within c.index.ensures c.requires.locks fresh in
     let kind : is_counter start ≡ false = ap is_counter (sym keeps.start_is ∙ ap (λ (k : LocksView). k.start) c.index.ensures) ∙ c.is_versioned.ensures.kind l c.if-is_versioned.true in
     IfOk-weaker c.settled.result (λ s. s ≡ state_of l.start (last_current (is_current ns os true) l.versions)) (λ s. s ≡ settled_of c.args.self.now.objects ns os x)
-    (λ s h. h ∙ ap (λ (t : State). state_of t (last_current (is_current ns os true) l.versions)) keeps.start_is ∙ settled_kept x start ns os next l kind c.next-next.ensures.order keeps) c.settled.ensures
+    (λ s h. h ∙ ap (λ (t : State). state_of t (last_current (is_current ns os true) l.versions)) keeps.start_is ∙ settled_kept x start ns os next l kind c.requires.rising keeps) c.settled.ensures

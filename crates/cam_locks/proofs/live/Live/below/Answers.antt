@@ -18,14 +18,14 @@ loop-operation-init c =
 pub behind-start-requires : goal.behind-start-requires
 behind-start-requires c =
     let lt : c.in-Some.operation.index < c.args.self.now.next =
-    below 0 c.args.self.now.ops c.args.self.now.next c.in-Some.operation c.next-next.ensures.order c.in-Some.ensures.0 in
-    omega (arith, lt, c.next-next.ensures.value, c.next-next.ensures.range)
+    below 0 c.args.self.now.ops c.args.self.now.next c.in-Some.operation c.next_below.ensures.order c.in-Some.ensures.value.0 in
+    omega (arith, lt, c.next_below.ensures.range)
 
 pub loop-operation-smaller : goal.loop-operation-smaller
 loop-operation-smaller c =
     let os = c.args.self.now.ops in
     subst (λ (p : Placed). length (filter (late p) os) < length (filter (late c.loop-operation.start) os)) (sym c.behind-start.ensures)
-    (fewer_late os c.args.name.now c.loop-operation.start c.in-Some.operation c.in-Some.ensures)
+    (fewer_late os c.args.name.now c.loop-operation.start c.in-Some.operation c.in-Some.ensures.value)
 
 pub loop-operation-preserved : goal.loop-operation-preserved
 loop-operation-preserved c =
@@ -35,7 +35,7 @@ loop-operation-preserved c =
     let found = c.loop-operation.found.items in
     subst (λ (p : Placed). IsFoundBelow os n p c.push.new.self.items) (sym c.behind-start.ensures)
     (subst (λ (ps : List LiveOp). IsFoundBelow os n (behind o) ps) (sym c.in_ok-push.ensures.items)
-    (found_more os c.args.self.now.next n c.loop-operation.start found o c.next-next.ensures.order c.loop-operation.invariant c.in-Some.ensures))
+    (found_more os c.args.self.now.next n c.loop-operation.start found o c.next_below.ensures.order c.loop-operation.invariant c.in-Some.ensures.value))
 
 pub returns : goal.returns
 returns c =
@@ -43,5 +43,5 @@ returns c =
     let n = c.args.name.now in
     IfOk-weaker c.in_order.result (λ v. v.items ≡ in_order c.as_slice.result.now) (λ v. v.items ≡ filter (is_below n) os)
     (λ v h. h ∙ ap in_order c.as_slice.ensures.value
-    ∙ found_all os c.args.self.now.next n c.loop-operation.start c.loop-operation.found.items c.next-next.ensures.order c.loop-operation.invariant
-    (subst (IsNextBelow os n c.loop-operation.start) c.in_default.is c.next_below.ensures)) c.in_order.ensures
+    ∙ found_all os c.args.self.now.next n c.loop-operation.start c.loop-operation.found.items c.next_below.ensures.order c.loop-operation.invariant
+    (subst (IsNextBelow os n c.loop-operation.start) c.in_default.is c.next_below.ensures.value)) c.in_order.ensures

@@ -6,4 +6,4 @@ pub next_below-requires : goal.next_below-requires
 next_below-requires c = not_before_itself (record { name = c.args.name.now; index = 0 })
 
 pub returns-clause-none : goal.returns-clause-none
-returns-clause-none c = nothing_below c.args.self.now.ops c.args.name.now c.next_below.result c.next_below.ensures
+returns-clause-none c = nothing_below c.args.self.now.ops c.args.name.now c.next_below.result c.next_below.ensures.value

@@ -23,8 +23,7 @@ pub returns-in_err-make_room-in-Read-clause-err : goal.returns-in_err-make_room-
 returns-in_err-make_room-in-Read-clause-err g c =
     let ns = c.args.committed.now.names in
     let os = c.args.live.now.ops in
-    let t = c.self.inside in
-    let old : LocksView = the_view t in
+    let t = c.self.inside in let old : LocksView = the_view t in
     any_err c.from_residual.result (Tidied ns os c.args.self.now (record old { readers = c.make_room.new.leaders.items; versions = c.tidy.new.versions.items }))
     (subst (λ (v : LocksView). Tidied ns os v (record old { readers = c.make_room.new.leaders.items; versions = c.tidy.new.versions.items })) c.self.view_is
     (not_done ns os old (c.make_room.new.leaders.items) t.writers.items t.adders.items c.tidy.new.versions.items c.tidy.new.versions.items c.tidy.ensures.kept c.make_room.ensures.kept (same ns os t.writers.items) (same ns os t.adders.items) refl))
@@ -41,8 +40,7 @@ pub returns-in_err-answer-in-Read-clause-err : goal.returns-in_err-answer-in-Rea
 returns-in_err-answer-in-Read-clause-err g c =
     let ns = c.args.committed.now.names in
     let os = c.args.live.now.ops in
-    let t = c.self.inside in
-    let old : LocksView = the_view t in
+    let t = c.self.inside in let old : LocksView = the_view t in
     any_err c.from_residual-in_err-answer-in-Read.result (Tidied ns os c.args.self.now (record old { readers = c.make_room.new.leaders.items; versions = c.tidy.new.versions.items }))
     (subst (λ (v : LocksView). Tidied ns os v (record old { readers = c.make_room.new.leaders.items; versions = c.tidy.new.versions.items })) c.self.view_is
     (not_done ns os old (c.make_room.new.leaders.items) t.writers.items t.adders.items c.tidy.new.versions.items c.tidy.new.versions.items c.tidy.ensures.kept c.make_room.ensures.kept (same ns os t.writers.items) (same ns os t.adders.items) refl))
@@ -56,11 +54,10 @@ returns-in_ok-answer-in-Read-clause-done g c =
     let ns = c.args.committed.now.names in
     let os = c.args.live.now.ops in
     let o = c.args.operation.now in
-    let t = c.self.inside in
-    let old : LocksView = the_view t in
+    let t = c.self.inside in let old : LocksView = the_view t in
     subst (λ (v : LocksView). IsDone ns os o c.in_ok-answer-in-Read.answer v (record old { readers = c.add.new.leaders.items; versions = c.tidy.new.versions.items })) c.self.view_is
     (done_read ns os o c.in_ok-answer-in-Read.answer old c.make_room.new.leaders.items c.add.new.leaders.items c.tidy.new.versions.items (sym c.mode_of.ensures ∙ c.in-Read.is)
-    c.keep_range.ensures c.make_room.ensures.kept c.tidy.ensures.kept c.tidy.ensures.last
+    c.in_ok-answer-in-Read.ensures.range c.make_room.ensures.kept c.tidy.ensures.kept c.tidy.ensures.last
     (c.in_ok-answer-in-Read.ensures.answer
     ∙ met_read (λ (s : State). answer_of s o.op) t.start c.tidy.new.versions.items _ (filter (is_on o.object) os) _ c.as_slice.ensures.value c.sum-sum.ensures) c.add.ensures)
 
@@ -72,8 +69,7 @@ pub returns-in_err-make_room-in-Write-clause-err : goal.returns-in_err-make_room
 returns-in_err-make_room-in-Write-clause-err g c =
     let ns = c.args.committed.now.names in
     let os = c.args.live.now.ops in
-    let t = c.self.inside in
-    let old : LocksView = the_view t in
+    let t = c.self.inside in let old : LocksView = the_view t in
     any_err c.from_residual-in_err-make_room-in-Write.result (Tidied ns os c.args.self.now (record old { writers = c.make_room-in-Write.new.leaders.items; versions = c.tidy.new.versions.items }))
     (subst (λ (v : LocksView). Tidied ns os v (record old { writers = c.make_room-in-Write.new.leaders.items; versions = c.tidy.new.versions.items })) c.self.view_is
     (not_done ns os old t.readers.items (c.make_room-in-Write.new.leaders.items) t.adders.items c.tidy.new.versions.items c.tidy.new.versions.items c.tidy.ensures.kept (same ns os t.readers.items) c.make_room-in-Write.ensures.kept (same ns os t.adders.items) refl))
@@ -90,8 +86,7 @@ pub returns-in_err-answer-in-Write-clause-err : goal.returns-in_err-answer-in-Wr
 returns-in_err-answer-in-Write-clause-err g c =
     let ns = c.args.committed.now.names in
     let os = c.args.live.now.ops in
-    let t = c.self.inside in
-    let old : LocksView = the_view t in
+    let t = c.self.inside in let old : LocksView = the_view t in
     any_err c.from_residual-in_err-answer-in-Write.result (Tidied ns os c.args.self.now (record old { writers = c.make_room-in-Write.new.leaders.items; versions = c.write.new.versions.items }))
     (subst (λ (v : LocksView). Tidied ns os v (record old { writers = c.make_room-in-Write.new.leaders.items; versions = c.write.new.versions.items })) c.self.view_is
     (not_done ns os old t.readers.items (c.make_room-in-Write.new.leaders.items) t.adders.items c.tidy.new.versions.items c.write.new.versions.items c.tidy.ensures.kept (same ns os t.readers.items) c.make_room-in-Write.ensures.kept (same ns os t.adders.items) c.in_err-answer-in-Write.ensures.err))
@@ -107,11 +102,10 @@ returns-in_ok-answer-in-Write-clause-done g c =
     let ns = c.args.committed.now.names in
     let os = c.args.live.now.ops in
     let o = c.args.operation.now in
-    let t = c.self.inside in
-    let old : LocksView = the_view t in
+    let t = c.self.inside in let old : LocksView = the_view t in
     subst (λ (v : LocksView). IsDone ns os o c.in_ok-answer-in-Write.answer v (record old { writers = c.add-in-Write.new.leaders.items; versions = c.write.new.versions.items })) c.self.view_is
     (done_write ns os o c.in_ok-answer-in-Write.answer old c.make_room-in-Write.new.leaders.items c.add-in-Write.new.leaders.items c.tidy.new.versions.items c.write.new.versions.items (sym c.mode_of.ensures ∙ c.in-Write.is)
-    c.keep_range.ensures c.make_room-in-Write.ensures.kept c.tidy.ensures.kept c.tidy.ensures.last
+    c.in_ok-answer-in-Write.ensures.range c.make_room-in-Write.ensures.kept c.tidy.ensures.kept c.tidy.ensures.last
     (c.in_ok-answer-in-Write.ensures.answer
     ∙ met_read (λ (s : State). answer_of s o.op) t.start c.tidy.new.versions.items c.tidy.new.versions.items (filter (is_on o.object) os) _ refl c.sum-sum.ensures) c.in_ok-answer-in-Write.ensures.ok c.add-in-Write.ensures)
 
@@ -123,8 +117,7 @@ pub returns-in_err-make_room-in-Add-clause-err : goal.returns-in_err-make_room-i
 returns-in_err-make_room-in-Add-clause-err g c =
     let ns = c.args.committed.now.names in
     let os = c.args.live.now.ops in
-    let t = c.self.inside in
-    let old : LocksView = the_view t in
+    let t = c.self.inside in let old : LocksView = the_view t in
     any_err c.from_residual-in_err-make_room-in-Add.result (Tidied ns os c.args.self.now (record old { adders = c.make_room-in-Add.new.leaders.items; versions = c.tidy.new.versions.items }))
     (subst (λ (v : LocksView). Tidied ns os v (record old { adders = c.make_room-in-Add.new.leaders.items; versions = c.tidy.new.versions.items })) c.self.view_is
     (not_done ns os old t.readers.items t.writers.items (c.make_room-in-Add.new.leaders.items) c.tidy.new.versions.items c.tidy.new.versions.items c.tidy.ensures.kept (same ns os t.readers.items) (same ns os t.writers.items) c.make_room-in-Add.ensures.kept refl))
@@ -141,8 +134,7 @@ pub returns-in_err-answer-in-Add-clause-err : goal.returns-in_err-answer-in-Add-
 returns-in_err-answer-in-Add-clause-err g c =
     let ns = c.args.committed.now.names in
     let os = c.args.live.now.ops in
-    let t = c.self.inside in
-    let old : LocksView = the_view t in
+    let t = c.self.inside in let old : LocksView = the_view t in
     any_err c.from_residual-in_err-answer-in-Add.result (Tidied ns os c.args.self.now (record old { adders = c.make_room-in-Add.new.leaders.items; versions = c.tidy.new.versions.items }))
     (subst (λ (v : LocksView). Tidied ns os v (record old { adders = c.make_room-in-Add.new.leaders.items; versions = c.tidy.new.versions.items })) c.self.view_is
     (not_done ns os old t.readers.items t.writers.items (c.make_room-in-Add.new.leaders.items) c.tidy.new.versions.items c.tidy.new.versions.items c.tidy.ensures.kept (same ns os t.readers.items) (same ns os t.writers.items) c.make_room-in-Add.ensures.kept refl))
@@ -156,11 +148,10 @@ returns-in_ok-answer-in-Add-clause-done g c =
     let ns = c.args.committed.now.names in
     let os = c.args.live.now.ops in
     let o = c.args.operation.now in
-    let t = c.self.inside in
-    let old : LocksView = the_view t in
+    let t = c.self.inside in let old : LocksView = the_view t in
     subst (λ (v : LocksView). IsDone ns os o c.in_ok-answer-in-Add.answer v (record old { adders = c.add-in-Add.new.leaders.items; versions = c.tidy.new.versions.items })) c.self.view_is
     (done_add ns os o c.in_ok-answer-in-Add.answer old c.make_room-in-Add.new.leaders.items c.add-in-Add.new.leaders.items c.tidy.new.versions.items (sym c.mode_of.ensures ∙ c.in-Add.is)
-    c.keep_range.ensures c.make_room-in-Add.ensures.kept c.tidy.ensures.kept c.tidy.ensures.last
+    c.in_ok-answer-in-Add.ensures.range c.make_room-in-Add.ensures.kept c.tidy.ensures.kept c.tidy.ensures.last
     (c.in_ok-answer-in-Add.ensures.answer
     ∙ met_read (λ (s : State). answer_of s o.op) t.start c.tidy.new.versions.items _ (filter (is_on o.object) os) _ c.as_slice-in-Add.ensures.value c.sum-sum.ensures) c.add-in-Add.ensures)
 
@@ -169,10 +160,9 @@ returns-in_ok-answer-in-Read-clause-served g c =
     let ns = c.args.committed.now.names in
     let os = c.args.live.now.ops in
     let o = c.args.operation.now in
-    let t = c.self.inside in
-    let old : LocksView = the_view t in
+    let t = c.self.inside in let old : LocksView = the_view t in
     subst (λ (v : LocksView). IsServed ns os o (g.T.DataType.held c.serve.new.server) v) c.self.view_is
-    (is_served ns os o (g.T.DataType.held c.serve.new.server) old c.tidy.new.versions.items c.keep_range.ensures c.tidy.ensures.kept c.tidy.ensures.last
+    (is_served ns os o (g.T.DataType.held c.serve.new.server) old c.tidy.new.versions.items c.in_ok-answer-in-Read.ensures.range c.tidy.ensures.kept c.tidy.ensures.last
     (c.in_ok-answer-in-Read.ensures.after
     ∙ met_read (λ (s : State). state_after s o.op) t.start c.tidy.new.versions.items _ (filter (is_on o.object) os) _ c.as_slice.ensures.value c.sum-sum.ensures))
 
@@ -181,10 +171,9 @@ returns-in_ok-answer-in-Write-clause-served g c =
     let ns = c.args.committed.now.names in
     let os = c.args.live.now.ops in
     let o = c.args.operation.now in
-    let t = c.self.inside in
-    let old : LocksView = the_view t in
+    let t = c.self.inside in let old : LocksView = the_view t in
     subst (λ (v : LocksView). IsServed ns os o (g.T.DataType.held c.write.new.server) v) c.self.view_is
-    (is_served ns os o (g.T.DataType.held c.write.new.server) old c.tidy.new.versions.items c.keep_range.ensures c.tidy.ensures.kept c.tidy.ensures.last
+    (is_served ns os o (g.T.DataType.held c.write.new.server) old c.tidy.new.versions.items c.in_ok-answer-in-Write.ensures.range c.tidy.ensures.kept c.tidy.ensures.last
     (c.in_ok-answer-in-Write.ensures.after
     ∙ met_read (λ (s : State). state_after s o.op) t.start c.tidy.new.versions.items c.tidy.new.versions.items (filter (is_on o.object) os) _ refl c.sum-sum.ensures))
 
@@ -193,9 +182,8 @@ returns-in_ok-answer-in-Add-clause-served g c =
     let ns = c.args.committed.now.names in
     let os = c.args.live.now.ops in
     let o = c.args.operation.now in
-    let t = c.self.inside in
-    let old : LocksView = the_view t in
+    let t = c.self.inside in let old : LocksView = the_view t in
     subst (λ (v : LocksView). IsServed ns os o (g.T.DataType.held c.serve-in-Add.new.server) v) c.self.view_is
-    (is_served ns os o (g.T.DataType.held c.serve-in-Add.new.server) old c.tidy.new.versions.items c.keep_range.ensures c.tidy.ensures.kept c.tidy.ensures.last
+    (is_served ns os o (g.T.DataType.held c.serve-in-Add.new.server) old c.tidy.new.versions.items c.in_ok-answer-in-Add.ensures.range c.tidy.ensures.kept c.tidy.ensures.last
     (c.in_ok-answer-in-Add.ensures.after
     ∙ met_read (λ (s : State). state_after s o.op) t.start c.tidy.new.versions.items _ (filter (is_on o.object) os) _ c.as_slice-in-Add.ensures.value c.sum-sum.ensures))

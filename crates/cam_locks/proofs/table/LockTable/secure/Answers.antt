@@ -18,25 +18,25 @@ returns-clause-held c =
     ∙ ap (map held_op) (kept_once (is_of f) c.self.inside.kept.live.ops ∙ ap (λ v. filter (is_of f) v.site.live) c.self.view_is))
 
 -- whatever the call answers, what is seen of the table is well formed
-seen_well_formed : (site : Site) (spare n : ℕ) (seen : TableView) → record { site = site; spare = spare } ≡ seen
-    → IndicesRise 0 site.live site.next → n ≡ site.next → n ≤ 1000000000 → AreFit site.objects site.node site.live → IsWellFormed seen.site
-seen_well_formed site spare n seen is order same range fit =
-    subst (λ (v : TableView). IsWellFormed v.site) is (record { rising = order; range = subst (λ (m : ℕ). m ≤ 1000000000) same range; fits = fit })
+seen_well_formed : (site : Site) (spare : ℕ) (seen : TableView) → record { site = site; spare = spare } ≡ seen
+    → IndicesRise 0 site.live site.next → site.next ≤ 1000000000 → AreFit site.objects site.node site.live → IsWellFormed seen.site
+seen_well_formed site spare seen is order range fit =
+    subst (λ (v : TableView). IsWellFormed v.site) is (record { rising = order; range = range; fits = fit })
 
 pub returns-in_err-live-clause-well_formed : goal.returns-in_err-live-clause-well_formed
-returns-in_err-live-clause-well_formed c = seen_well_formed _ _ _ _ c.self.view_is c.next-next.ensures.order c.next-next.ensures.value c.next-next.ensures.range c.self.invariant.1
+returns-in_err-live-clause-well_formed c = seen_well_formed _ _ _ c.self.view_is c.self.invariant.0.rising c.self.invariant.0.range c.self.invariant.1
 
 pub returns-in_err-live-clause-restorable : goal.returns-in_err-live-clause-restorable
-returns-in_err-live-clause-restorable c = can_restore _ (seen_well_formed _ _ _ _ c.self.view_is c.next-next.ensures.order c.next-next.ensures.value c.next-next.ensures.range c.self.invariant.1)
+returns-in_err-live-clause-restorable c = can_restore _ (seen_well_formed _ _ _ c.self.view_is c.self.invariant.0.rising c.self.invariant.0.range c.self.invariant.1)
 
 pub returns-in_err-ops-clause-well_formed : goal.returns-in_err-ops-clause-well_formed
-returns-in_err-ops-clause-well_formed c = seen_well_formed _ _ _ _ c.self.view_is c.next-next.ensures.order c.next-next.ensures.value c.next-next.ensures.range c.self.invariant.1
+returns-in_err-ops-clause-well_formed c = seen_well_formed _ _ _ c.self.view_is c.self.invariant.0.rising c.self.invariant.0.range c.self.invariant.1
 
 pub returns-in_err-ops-clause-restorable : goal.returns-in_err-ops-clause-restorable
-returns-in_err-ops-clause-restorable c = can_restore _ (seen_well_formed _ _ _ _ c.self.view_is c.next-next.ensures.order c.next-next.ensures.value c.next-next.ensures.range c.self.invariant.1)
+returns-in_err-ops-clause-restorable c = can_restore _ (seen_well_formed _ _ _ c.self.view_is c.self.invariant.0.rising c.self.invariant.0.range c.self.invariant.1)
 
 pub returns-clause-well_formed : goal.returns-clause-well_formed
-returns-clause-well_formed c = seen_well_formed _ _ _ _ c.self.view_is c.next-next.ensures.order c.next-next.ensures.value c.next-next.ensures.range c.self.invariant.1
+returns-clause-well_formed c = seen_well_formed _ _ _ c.self.view_is c.self.invariant.0.rising c.self.invariant.0.range c.self.invariant.1
 
 pub returns-clause-restorable : goal.returns-clause-restorable
-returns-clause-restorable c = can_restore _ (seen_well_formed _ _ _ _ c.self.view_is c.next-next.ensures.order c.next-next.ensures.value c.next-next.ensures.range c.self.invariant.1)
+returns-clause-restorable c = can_restore _ (seen_well_formed _ _ _ c.self.view_is c.self.invariant.0.rising c.self.invariant.0.range c.self.invariant.1)
