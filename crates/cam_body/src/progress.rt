@@ -24,7 +24,8 @@ pub(crate) struct Progress {
 impl Progress {
     /// At the beginning of a body.
     fn new() -> Progress
-        ensures at { (body : List Statement) → (wanted : ℕ) → IsAt (start_of body) body wanted result }
+        ensures at { (body : List Statement) → (wanted : ℕ)
+            → IsAt (start_of body) body wanted result }
         ensures none { (result.done ≡ 0) × (result.failed ≡ 0) }
     {
         Progress {
@@ -37,7 +38,8 @@ impl Progress {
 
     /// After a new try of the statement at work.
     fn opened(self) -> Progress
-        ensures at { (body : List Statement) → (place : Place) → (wanted : ℕ) → IsAt place body wanted self → IsAt (after_try place Open) body wanted result }
+        ensures at { (body : List Statement) → (place : Place) → (wanted : ℕ)
+            → IsAt place body wanted self → IsAt (after_try place Open) body wanted result }
         ensures same { (result.done ≡ self.done) × (result.failed ≡ self.failed) }
     {
         Progress {
@@ -50,7 +52,8 @@ impl Progress {
     fn closed(self, worked: Option<i64>, wanted: usize) -> Progress
         requires done { self.done + 1 < 2 ^ 64 }
         requires failed { self.failed + 1 < 2 ^ 64 }
-        ensures at { (body : List Statement) → (place : Place) → IsAt place body wanted self → IsAt (closed place (child_result worked)) body wanted result }
+        ensures at { (body : List Statement) → (place : Place) → IsAt place body wanted self
+            → IsAt (closed place (child_result worked)) body wanted result }
         ensures grows { (result.done ≤ self.done + 1) × (result.failed ≤ self.failed + 1) }
     {
         if !self.is_open {
@@ -69,7 +72,12 @@ impl Progress {
     /// After a try that worked and left this value.
     fn worked(self, value: i64, wanted: usize) -> Progress
         requires { self.done + 1 < 2 ^ 64 }
-        ensures { result ≡ record { done = self.done + 1; failed = 0; is_open = false; kept = (if self.done == wanted then value else self.kept) } }
+        ensures { result ≡ record {
+          done = self.done + 1;
+          failed = 0;
+          is_open = false;
+          kept = (if self.done == wanted then value else self.kept);
+        } }
     {
         Progress {
             done: self.done + 1,
@@ -87,7 +95,8 @@ impl Progress {
     fn after(self, step: &ViewStep, wanted: usize) -> Progress
         requires done { self.done + 1 < 2 ^ 64 }
         requires failed { self.failed + 1 < 2 ^ 64 }
-        ensures at { (body : List Statement) → (place : Place) → IsAt place body wanted self → IsAt (after_step place step.now) body wanted result }
+        ensures at { (body : List Statement) → (place : Place) → IsAt place body wanted self
+            → IsAt (after_step place step.now) body wanted result }
         ensures grows { (result.done ≤ self.done + 1) × (result.failed ≤ self.failed + 1) }
     {
         match step {

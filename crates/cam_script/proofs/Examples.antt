@@ -9,7 +9,7 @@ use Rattle.cam_words.specs.declared.cause.Cause.TheVariants as causes
 use Rattle.cam_script.specs.declared.Script.{Script}
 use Rattle.cam_script.specs.declared.Act.TheVariants as acts
 use Rattle.cam_script.specs.declared.Statement.TheVariants as statements
-use Rattle.cam_script.specs.declared.BodyOp.TheVariants as body_ops
+use Rattle.cam_script.specs.declared.OpWith.TheVariants as body_ops
 use Rattle.cam_script.specs.Built.{with_stops}
 use Rattle.cam_script.proofs.Read.{read, read_by, text}
 

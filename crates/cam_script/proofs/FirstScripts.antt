@@ -9,7 +9,7 @@ use Rattle.cam_script.specs.declared.Form.{Form}
 use Rattle.cam_script.specs.declared.Form.TheVariants as forms
 use Rattle.cam_words.specs.Lines.{bad_byte}
 use Rattle.cam_words.specs.Words.{refuse, or_refuse, refuse_if, next_word, text_of, is_missing, end_at, looked_up}
-use Rattle.cam_words.specs.Numbers.{number_at, node_at, new_name_at, declared_at}
+use Rattle.cam_words.specs.Numbers.{number_at, node_at, value_at, new_name_at, declared_at}
 use Rattle.cam_script.specs.Operations.{kind_at, op_at}
 use Rattle.cam_script.specs.Variables.{variable_at}
 use Rattle.cam_script.specs.declared.Use.TheVariants as uses
@@ -52,7 +52,7 @@ unfolding call_line
 call_first d number at line =
     then_any _ (variable_at uses.Request d.variables number at line) _ (λ action.
     then_any _ (declared_at d.script.labels number action.1 line) _ (λ object.
-    then_any _ (op_at (kind_at d.script.objects object.0) number object.1 line) _ (λ op.
+    then_any _ (op_at value_at (kind_at d.script.objects object.0) number object.1 line) _ (λ op.
     then_any _ (end_at number op.1 line) _ (λ _. refl))))
 
 deliver_first : (number at : ℕ) (line : List ℕ) → Holds (λ act. is_first_act act ≡ true) (deliver_line number at line)

@@ -16,7 +16,9 @@ pub record Grows (small large : Built) : Type 0 where
 
 -- What the first accepts, the second accepts as the same script.
 abbrev pub AcceptedStays : Type 0
-AcceptedStays = (small large : Built) → Grows small large → (bytes : List ℕ) (script : Script) → read_script small bytes ≡ Ok script → read_script large bytes ≡ Ok script
+AcceptedStays =
+    (small large : Built) → Grows small large → (bytes : List ℕ) (script : Script) → read_script small bytes ≡ Ok script
+    → read_script large bytes ≡ Ok script
 
 -- The whole grammar has all of each stage.
 abbrev pub StagesGrow : Type 0

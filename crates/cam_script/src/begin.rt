@@ -1,6 +1,6 @@
 //! `begin`.
 ghost use Rattle.std.specs.Prelude.{◌≡◌, ◌≤◌, length, Ok, Err, IfOk, IsTrue};
-ghost use Rattle.cam_words.specs.Words.{text_of};
+ghost use Rattle.cam_words.specs.Words.{text_of, IsInLine};
 ghost use Rattle.cam_words.specs.Numbers.{is_name};
 ghost use Rattle.cam_script.specs.SoFar.{step_cost};
 ghost use Rattle.cam_script.specs.Steps.{begin_line};
@@ -16,7 +16,7 @@ impl SoFar {
     pub fn begin_line(&self, line: &Line, at: usize) -> Result<(Word, Act), ScriptFault>
         requires { at ≤ length line.now.bytes.now }
         ensures value { result ≡ begin_line self.now line.now.number at line.now.bytes.now }
-        ensures word { IfOk result (λ said. (said.0.start ≤ said.0.end) × (said.0.end ≤ length line.now.bytes.now)) }
+        ensures word { IfOk result (λ said. IsInLine line.now.bytes.now said.0) }
         ensures name { IfOk result (λ said. IsTrue (is_name (text_of said.0 line.now.bytes.now))) }
         ensures cost { IfOk result (λ said. step_cost self.now.sizes said.1 ≡ 1) }
     {

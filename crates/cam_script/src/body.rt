@@ -1,6 +1,6 @@
 //! `body`, and the statements of the body that is being written.
 ghost use Rattle.std.specs.Prelude.{◌≡◌, ◌≤◌, length, Some, Ok, Err, IfOk, IsTrue, OnOk};
-ghost use Rattle.cam_words.specs.Words.{text_of};
+ghost use Rattle.cam_words.specs.Words.{text_of, IsInLine};
 ghost use Rattle.cam_words.specs.Numbers.{is_name};
 ghost use Rattle.cam_script.specs.SoFar.{Writing as AnyWriting, with_body, with_statement};
 ghost use Rattle.cam_script.specs.Declarations.{body_line};
@@ -17,8 +17,9 @@ impl SoFar {
     #[tactic(auto, unfolding(crate::specs::Declarations::body_line))]
     pub fn body_line(&self, line: &Line, at: usize) -> Result<Word, ScriptFault>
         requires { at ≤ length line.now.bytes.now }
-        ensures value { result ≡ body_line self.now.body_names line.now.number at line.now.bytes.now }
-        ensures word { IfOk result (λ name. (name.start ≤ name.end) × (name.end ≤ length line.now.bytes.now)) }
+        ensures value { result
+            ≡ body_line self.now.body_names line.now.number at line.now.bytes.now }
+        ensures word { IfOk result (λ name. IsInLine line.now.bytes.now name) }
         ensures name { IfOk result (λ name. IsTrue (is_name (text_of name line.now.bytes.now))) }
     {
         let name = new_name_at(line, at, self.bodies.names())?;
@@ -41,7 +42,8 @@ impl SoFar {
 
     /// After a statement of the body that is being written.
     pub fn push_statement(&mut self, statement: Statement) -> Result<(), NoMemory>
-        ensures { (w : AnyWriting) → self.old.writing ≡ Some w → OnOk result (self.new ≡ with_statement self.old w statement) }
+        ensures { (w : AnyWriting) → self.old.writing ≡ Some w
+            → OnOk result (self.new ≡ with_statement self.old w statement) }
     {
         if let Some(mut writing) = self.writing.take() {
             writing.statements.push_copy(&statement)?;

@@ -64,7 +64,11 @@ impl Model for BodyTable {
 
     ghost Value = { Seen };
 
-    ghost view = { λ t. record { names = t.names; bodies = t.bodies; sizes = sizes_behind [] t.bodies } };
+    ghost view = { λ t. record {
+      names = t.names;
+      bodies = t.bodies;
+      sizes = sizes_behind [] t.bodies;
+    } };
 
     ghost invariant = { λ t. t.sizes.items ≡ map capped (sizes_behind [] t.bodies) };
 }
@@ -147,7 +151,8 @@ impl BodyTable {
 
 /// The size at this place; 0 where there is none.
 fn size_at(sizes: &[Size], body: usize) -> Size
-    ensures { (all : List AnySize) → sizes.now ≡ map capped all → result ≡ capped (size_at all body) }
+    ensures { (all : List AnySize) → sizes.now ≡ map capped all
+        → result ≡ capped (size_at all body) }
 {
     match sizes.get(body) {
         Some(size) => *size,
@@ -160,7 +165,8 @@ fn size_at(sizes: &[Size], body: usize) -> Size
 
 /// The size of a body of these statements, by the sizes of the bodies above it.
 fn size_of(statements: &[Statement], sizes: &[Size]) -> Size
-    ensures { (all : List AnySize) → sizes.now ≡ map capped all → result ≡ capped (size_of all statements.now) }
+    ensures { (all : List AnySize) → sizes.now ≡ map capped all
+        → result ≡ capped (size_of all statements.now) }
 {
     let mut size = Size {
         cost: 1,
@@ -174,7 +180,8 @@ fn size_of(statements: &[Statement], sizes: &[Size]) -> Size
 
 /// The size with one statement more.
 fn size_with(size: Size, statement: Statement, sizes: &[Size]) -> Size
-    ensures { (all : List AnySize) → (exact : AnySize) → sizes.now ≡ map capped all → size ≡ capped exact → result ≡ capped (size_with all exact statement) }
+    ensures { (all : List AnySize) → (exact : AnySize) → sizes.now ≡ map capped all
+        → size ≡ capped exact → result ≡ capped (size_with all exact statement) }
 {
     match statement {
         Statement::Call {

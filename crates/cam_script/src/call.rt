@@ -6,10 +6,11 @@ ghost use Rattle.cam_script.specs.Statements.{call_statement};
 ghost use Rattle.cam_script.specs.Parse.{IsWithin};
 
 use crate::name_table::declared_at;
-use crate::operations::{body_op_at, kind_at, op_at};
+use crate::operations::{Expressions, Numbers, kind_at, op_at};
 use crate::so_far::SoFar;
 use crate::variables::variable_at;
 use crate::{Act, Statement, Use};
+use cam_type::Op;
 use cam_words::{Line, ScriptFault};
 
 impl SoFar {
@@ -23,9 +24,10 @@ impl SoFar {
     {
         let (action, at) = variable_at(line, at, &self.variables, Use::Request)?;
         let (object, at) = declared_at(line, at, &self.labels)?;
-        let (op, at) = op_at(line, at, kind_at(&self.objects, object))?;
+        let (op, at) = op_at(line, at, kind_at(&self.objects, object), &Numbers)?;
         line.end_at(at)?;
         let object = object as u8;
+        let op = Op::from(op);
         Ok(Act::Call { action, object, op })
     }
 
@@ -39,11 +41,13 @@ impl SoFar {
     ) -> Result<Statement, ScriptFault>
         requires place { at ≤ length line.now.bytes.now }
         requires within { IsWithin self.now }
-        ensures { result ≡ call_statement self.now.script.labels self.now.script.objects earlier line.now.number at line.now.bytes.now }
+        ensures { result ≡ call_statement self.now.script.labels self.now.script.objects earlier
+            line.now.number at line.now.bytes.now }
     {
         let (tries, at) = line.number_at(at, 1, 9)?;
         let (object, at) = declared_at(line, at, &self.labels)?;
-        let (op, at) = body_op_at(line, at, kind_at(&self.objects, object), earlier)?;
+        let values = Expressions { earlier };
+        let (op, at) = op_at(line, at, kind_at(&self.objects, object), &values)?;
         line.end_at(at)?;
         let tries = tries as u8;
         let object = object as u8;

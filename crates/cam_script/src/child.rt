@@ -14,7 +14,8 @@ impl SoFar {
     pub fn child_statement(&self, line: &Line, at: usize) -> Result<Statement, ScriptFault>
         requires place { at ≤ length line.now.bytes.now }
         requires within { IsWithin self.now }
-        ensures { result ≡ child_statement self.now.body_names self.now.script.nodes line.now.number at line.now.bytes.now }
+        ensures { result ≡ child_statement self.now.body_names self.now.script.nodes
+            line.now.number at line.now.bytes.now }
     {
         let (tries, at) = line.number_at(at, 1, 9)?;
         let (node, at) = line.node_at(at, self.nodes)?;

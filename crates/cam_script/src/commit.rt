@@ -14,7 +14,8 @@ impl SoFar {
     #[tactic(auto, unfolding(crate::specs::Steps::commit_line))]
     pub fn commit_line(&self, line: &Line, at: usize, top_commit: bool) -> Result<Act, ScriptFault>
         requires { at ≤ length line.now.bytes.now }
-        ensures value { result ≡ commit_line top_commit self.now line.now.number at line.now.bytes.now }
+        ensures value { result
+            ≡ commit_line top_commit self.now line.now.number at line.now.bytes.now }
         ensures cost { IfOk result (λ act. step_cost self.now.sizes act ≡ 1) }
     {
         let (action, at) = variable_at(line, at, &self.variables, Use::Commit { top: top_commit })?;

@@ -18,7 +18,8 @@ pub(crate) fn end_line(line: &Line, at: usize) -> Result<(), ScriptFault>
 impl SoFar {
     /// After the `end` of the body that is being written.
     pub fn close_body(&mut self) -> Result<(), NoMemory>
-        ensures { (w : AnyWriting) → self.old.writing ≡ Some w → OnOk result (self.new ≡ with_written self.old w) }
+        ensures { (w : AnyWriting) → self.old.writing ≡ Some w
+            → OnOk result (self.new ≡ with_written self.old w) }
     {
         if let Some(writing) = self.writing.take() {
             self.bodies.push(writing)?;

@@ -1,6 +1,6 @@
 //! Names and their places.
 ghost use Rattle.std.specs.Prelude.{◌≡◌, ◌≤◌, ◌<◌, [], ◌∷◌, ◌++◌, List, ℕ, bytes_eq, length, Ok, Err, IfOk, IfSome, IsTrue, OnOk, OnErr};
-ghost use Rattle.cam_words.specs.Words.{text_of, place_of};
+ghost use Rattle.cam_words.specs.Words.{text_of, place_of, IsFurther, IsInLine};
 ghost use Rattle.cam_words.specs.Numbers.{is_name, new_name_at, declared_at};
 ghost use Rattle.cam_script.specs.NameTable.{place_in, or_at};
 
@@ -27,7 +27,8 @@ impl Model for NameTable {
 
     ghost view = { λ n. n.list.items };
 
-    ghost invariant = { λ n. (name : List ℕ) → place_in n.places name ≡ place_of n.list.items name };
+    ghost invariant = { λ n. (name : List ℕ)
+        → place_in n.places name ≡ place_of n.list.items name };
 }
 
 impl NameTable {
@@ -87,7 +88,8 @@ fn put(
     name: &[u8],
     place: usize,
 ) -> Result<(), NoMemory>
-    ensures ok { OnOk result ((q : List ℕ) → place_in places.new q ≡ or_at place (bytes_eq name.now q) (place_in places.old q)) }
+    ensures ok { OnOk result ((q : List ℕ)
+        → place_in places.new q ≡ or_at place (bytes_eq name.now q) (place_in places.old q)) }
     ensures err { OnErr result ((q : List ℕ) → place_in places.new q ≡ place_in places.old q) }
 {
     if places.contains_key(name) {
@@ -103,7 +105,7 @@ fn put(
 pub(crate) fn new_name_at(line: &Line, at: usize, names: &NameTable) -> Result<Word, ScriptFault>
     requires { at ≤ length line.now.bytes.now }
     ensures value { result ≡ new_name_at names.now line.now.number at line.now.bytes.now }
-    ensures word { IfOk result (λ word. (at ≤ word.start) × ((word.start ≤ word.end) × (word.end ≤ length line.now.bytes.now))) }
+    ensures word { IfOk result (λ word. (at ≤ word.start) × IsInLine line.now.bytes.now word) }
     ensures name { IfOk result (λ word. IsTrue (is_name (text_of word line.now.bytes.now))) }
 {
     let word = line.word_at(at)?;
@@ -126,7 +128,7 @@ pub(crate) fn declared_at(
     requires { at ≤ length line.now.bytes.now }
     ensures value { result ≡ declared_at names.now line.now.number at line.now.bytes.now }
     ensures place { IfOk result (λ read. read.0 < length names.now) }
-    ensures end { IfOk result (λ read. (at ≤ read.1) × (read.1 ≤ length line.now.bytes.now)) }
+    ensures end { IfOk result (λ read. IsFurther at line.now.bytes.now read.1) }
 {
     let word = line.word_at(at)?;
     match names.place_of(line.text(word)) {

@@ -15,7 +15,7 @@ use cam_words::{Cause, Line, first_line};
 use std::alloc::Global;
 
 /// The most bytes of a script.
-const MOST_BYTES: usize = 262_144;
+pub const MOST_BYTES: usize = 262_144;
 
 /// The script that the bytes spell, or its first fault, by the lines that the stage has.
 ///

@@ -25,7 +25,8 @@ impl SoFar {
     #[tactic(auto, unfolding(crate::specs::Grammar::read_line))]
     pub fn read_line(&mut self, stage: Stage, line: &Line) -> Result<(), ScriptFault>
         requires { IsWithin self.old }
-        ensures { Leads result self.new (read_line (built_of stage) self.old line.now.number line.now.bytes.now) }
+        ensures { Leads result self.new
+            (read_line (built_of stage) self.old line.now.number line.now.bytes.now) }
     {
         if let Some(at) = bad_byte(line.bytes) {
             return Err(line.fault(at, Cause::ByteNotAllowed));
@@ -43,7 +44,8 @@ impl SoFar {
         requires within { IsWithin self.old }
         requires start { first.start ≤ first.end }
         requires end { first.end ≤ length line.now.bytes.now }
-        ensures { Leads result self.new (with_word (built_of stage) self.old line.now.number first line.now.bytes.now) }
+        ensures { Leads result self.new
+            (with_word (built_of stage) self.old line.now.number first line.now.bytes.now) }
     {
         let Some(form) = stage.form_of(line.text(first)) else {
             return Err(line.fault(first.start, Cause::UnknownWord));
@@ -68,7 +70,8 @@ impl SoFar {
         requires within { IsWithin self.old }
         requires room { IsFalse (is_too_many self.old form at line.now.bytes.now) }
         requires place { at ≤ length line.now.bytes.now }
-        ensures { Leads result self.new (by_place self.old.writing (built_of stage) self.old form line.now.number at line.now.bytes.now) }
+        ensures { Leads result self.new (by_place self.old.writing (built_of stage) self.old form
+            line.now.number at line.now.bytes.now) }
     {
         match &self.writing {
             Some(writing) => {
@@ -89,7 +92,8 @@ impl SoFar {
     ) -> Result<(), ScriptFault>
         requires within { IsWithin self.old }
         requires place { at ≤ length line.now.bytes.now }
-        ensures { (w : AnyWriting) → self.old.writing ≡ Some w → length w.statements ≡ earlier → Leads result self.new (in_body self.old w form line.now.number at line.now.bytes.now) }
+        ensures { (w : AnyWriting) → self.old.writing ≡ Some w → length w.statements ≡ earlier
+            → Leads result self.new (in_body self.old w form line.now.number at line.now.bytes.now) }
     {
         match form {
             Form::End => {
@@ -115,7 +119,8 @@ impl SoFar {
     ) -> Result<Statement, ScriptFault>
         requires within { IsWithin self.now }
         requires place { at ≤ length line.now.bytes.now }
-        ensures { (w : AnyWriting) → length w.statements ≡ earlier → result ≡ statement_of self.now w form line.now.number at line.now.bytes.now }
+        ensures { (w : AnyWriting) → length w.statements ≡ earlier
+            → result ≡ statement_of self.now w form line.now.number at line.now.bytes.now }
     {
         match form {
             Form::Call => self.call_statement(line, at, earlier),
@@ -138,7 +143,8 @@ impl SoFar {
         requires outside { self.old.writing ≡ None }
         requires room { IsFalse (is_too_many self.old form at line.now.bytes.now) }
         requires place { at ≤ length line.now.bytes.now }
-        ensures { Leads result self.new (outside (built_of stage) self.old form line.now.number at line.now.bytes.now) }
+        ensures { Leads result self.new
+            (outside (built_of stage) self.old form line.now.number at line.now.bytes.now) }
     {
         match form {
             Form::Nodes => {
@@ -175,7 +181,8 @@ impl SoFar {
         requires step { IsTrue (is_step form) }
         requires room { IsFalse (is_too_many self.old form at line.now.bytes.now) }
         requires place { at ≤ length line.now.bytes.now }
-        ensures { Leads result self.new (outside (built_of stage) self.old form line.now.number at line.now.bytes.now) }
+        ensures { Leads result self.new
+            (outside (built_of stage) self.old form line.now.number at line.now.bytes.now) }
     {
         match form {
             Form::Begin => {
@@ -205,7 +212,8 @@ impl SoFar {
     fn act_line(&self, stage: Stage, form: Form, line: &Line, at: usize) -> Result<Act, ScriptFault>
         requires within { IsWithin self.now }
         requires place { at ≤ length line.now.bytes.now }
-        ensures value { result ≡ act_line (built_of stage) self.now form line.now.number at line.now.bytes.now }
+        ensures value { result
+            ≡ act_line (built_of stage) self.now form line.now.number at line.now.bytes.now }
         ensures cost { IfOk result (λ act. step_cost self.now.sizes act ≡ 1) }
         ensures one { IfOk result (λ act. IsTrue (costs_one form)) }
     {

@@ -34,7 +34,20 @@ impl Model for SoFar {
 
     ghost Value = { Seen };
 
-    ghost view = { λ d. record { script = record { nodes = d.nodes; objects = d.objects; labels = d.labels; bodies = d.bodies.bodies; steps = d.steps }; body_names = d.bodies.names; sizes = d.bodies.sizes; variables = d.variables; spent = d.spent; writing = d.writing } };
+    ghost view = { λ d. record {
+      script = record {
+        nodes = d.nodes;
+        objects = d.objects;
+        labels = d.labels;
+        bodies = d.bodies.bodies;
+        steps = d.steps;
+      };
+      body_names = d.bodies.names;
+      sizes = d.bodies.sizes;
+      variables = d.variables;
+      spent = d.spent;
+      writing = d.writing;
+    } };
 }
 
 impl SoFar {

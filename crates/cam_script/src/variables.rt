@@ -1,5 +1,6 @@
 //! Variables: the steps that bind them, and where they may be used.
 ghost use Rattle.std.specs.Prelude.{◌≡◌, ◌≤◌, [], ◌∷◌, ◌++◌, length, option_map, Ok, Err, IfOk, OnOk, OnErr};
+ghost use Rattle.cam_words.specs.Words.{IsFurther};
 ghost use Rattle.cam_script.specs.SoFar.{variable_names};
 ghost use Rattle.cam_script.specs.Variables.{against, variable_of, variable_at};
 ghost use Rattle.cam_script.specs.VariableTable.{bound_of, named};
@@ -85,7 +86,7 @@ pub(crate) fn variable_at(
 ) -> Result<(u32, usize), ScriptFault>
     requires { at ≤ length line.now.bytes.now }
     ensures value { result ≡ variable_at used variables.now line.now.number at line.now.bytes.now }
-    ensures end { IfOk result (λ read. (at ≤ read.1) × (read.1 ≤ length line.now.bytes.now)) }
+    ensures end { IfOk result (λ read. IsFurther at line.now.bytes.now read.1) }
 {
     let word = line.word_at(at)?;
     match variables.find(line.text(word)) {

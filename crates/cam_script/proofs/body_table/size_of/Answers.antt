@@ -1,5 +1,5 @@
 use Rattle.std.proofs.Common.{take, ◌∙◌}
-use Rattle.cam_script.specs.declared.BodyOp.TheVariants.{Read}
+use Rattle.cam_script.specs.declared.OpWith.TheVariants.{Read}
 use Rattle.cam_script.specs.declared.Statement.TheVariants.{Call}
 use Rattle.cam_script.specs.BodyTable.{size_of}
 use Rattle.cam_script.proofs.Sizes.{one_more}
