@@ -17,7 +17,7 @@ use Rattle.cam_script.specs.Built.{first_forms, first_path}
 use Rattle.cam_script.specs.SoFar.{SoFar, Writing, variable_names, with_statement}
 use Rattle.cam_script.specs.Declarations.{nodes_line, object_line}
 use Rattle.cam_script.specs.Steps.{begin_line, call_line, deliver_line}
-use Rattle.cam_script.specs.Order.{part_of, may_stand, is_too_many}
+use Rattle.cam_script.specs.Order.{section_of, may_stand, is_too_many}
 use Rattle.cam_script.specs.Grammar.{statement_of, in_body, outside, by_place, with_word, begins_with_hash, all_allowed, read_line, script_by, read_lines}
 use Rattle.cam_script.specs.FirstPath.{is_first_form, is_first_act, is_first_step, IsFirstPath}
 use Rattle.cam_script.proofs.Holds.{Holds, IfThere, then_holds, then_any, read_there}
@@ -90,7 +90,7 @@ unfolding with_word
 word_first d number first line h =
     then_holds (λ form. is_first_form form ≡ true) AreFirst (or_refuse (looked_up first_forms (text_of first line)) number first.start causes.UnknownWord) _
     (read_there (λ form. is_first_form form ≡ true) (looked_up first_forms (text_of first line)) number first.start causes.UnknownWord (first_form (text_of first line))) (λ form f.
-    then_any AreFirst (refuse_if (not (may_stand (part_of d) form)) number first.start causes.Misplaced) _ (λ _.
+    then_any AreFirst (refuse_if (not (may_stand (section_of d) form)) number first.start causes.Misplaced) _ (λ _.
     then_any AreFirst (refuse_if (is_too_many d form first.end line) number first.start causes.TooMany) _ (λ _.
     place_first d.writing d form number first.end line f h)))
 

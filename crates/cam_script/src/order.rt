@@ -1,11 +1,11 @@
 //! Which lines may stand where, and how many.
 ghost use Rattle.std.specs.Prelude.{◌≡◌, ◌≤◌, length};
-ghost use Rattle.cam_script.specs.Order.{part_of, is_step, is_statement, may_stand, cost_ahead, nests_too_deep, is_full_script, is_too_many};
+ghost use Rattle.cam_script.specs.Order.{section_of, is_step, is_statement, may_stand, cost_ahead, nests_too_deep, is_full_script, is_too_many};
 ghost use Rattle.cam_script.specs.Parse.{IsWithin};
 
 use crate::body_table::is_closed;
 use crate::so_far::SoFar;
-use crate::{Form, Part};
+use crate::{Form, Section};
 use cam_words::Line;
 
 /// The most objects of a script.
@@ -25,24 +25,24 @@ const MOST_STEPS: u32 = 512;
 
 impl SoFar {
     /// Where the next line stands.
-    pub fn part(&self) -> Part
-        ensures { result ≡ part_of self.now }
+    pub fn section(&self) -> Section
+        ensures { result ≡ section_of self.now }
     {
         match &self.writing {
             Some(writing) => {
                 if is_closed(&writing.statements) {
-                    Part::BehindBody
+                    Section::BehindBody
                 } else {
-                    Part::InBody
+                    Section::InBody
                 }
             }
             None => {
                 if self.nodes == 0 {
-                    Part::AtNodes
+                    Section::AtNodes
                 } else if self.steps.is_empty() {
-                    Part::AtDeclarations
+                    Section::AtDeclarations
                 } else {
-                    Part::AtSteps
+                    Section::AtSteps
                 }
             }
         }
@@ -99,15 +99,15 @@ impl SoFar {
 }
 
 /// Which lines may stand where.
-pub(crate) fn may_stand(part: Part, form: Form) -> bool
-    ensures { result ≡ may_stand part form }
+pub(crate) fn may_stand(section: Section, form: Form) -> bool
+    ensures { result ≡ may_stand section form }
 {
-    match part {
-        Part::AtNodes => form == Form::Nodes,
-        Part::AtDeclarations => form == Form::Object || form == Form::Body || is_step(form),
-        Part::InBody => is_statement(form),
-        Part::BehindBody => form == Form::End,
-        Part::AtSteps => is_step(form),
+    match section {
+        Section::AtNodes => form == Form::Nodes,
+        Section::AtDeclarations => form == Form::Object || form == Form::Body || is_step(form),
+        Section::InBody => is_statement(form),
+        Section::BehindBody => form == Form::End,
+        Section::AtSteps => is_step(form),
     }
 }
 

@@ -50,7 +50,7 @@ impl SoFar {
         let Some(form) = stage.form_of(line.text(first)) else {
             return Err(line.fault(first.start, Cause::UnknownWord));
         };
-        if !may_stand(self.part(), form) {
+        if !may_stand(self.section(), form) {
             return Err(line.fault(first.start, Cause::Misplaced));
         }
         if self.is_full(form, line, first.end) {
