@@ -8,11 +8,11 @@ use Rattle.std.specs.Prelude.{All, Contains, Option, Some, None, MatchOption, sl
 use Rattle.std.specs.Option.{option_to_list}
 use mathlib.Core.Logic.{dite}
 use native.Mathlib.Decide.{ℕ_discrete}
-use Rattle.cam_journal.specs.declared.entry.Entry.{Entry}
-use Rattle.cam_journal.specs.declared.entry.Step.{Step}
-use Rattle.cam_journal.specs.declared.view.Held.{Held}
-use Rattle.cam_journal.specs.declared.view.View.{View}
-use Rattle.cam_journal.specs.declared.view.View.TheVariants.{Maker, Node, Posted, Gatherer, Whole, Spent}
+use Rattle.cam_journal.specs.declared.entry.NumberedEvent.{NumberedEvent}
+use Rattle.cam_journal.specs.declared.entry.RunStep.{RunStep}
+use Rattle.cam_journal.specs.declared.view.NodeHistory.{NodeHistory}
+use Rattle.cam_journal.specs.declared.view.SeatView.{SeatView}
+use Rattle.cam_journal.specs.declared.view.SeatView.TheVariants.{Maker, Node, Posted, Gatherer, Whole, Spent}
 use Rattle.cam_journal.specs.Trace.{entry_of, history_from, numbered_from}
 use Rattle.cam_journal.specs.Seats.{numbered}
 use Rattle.cam_journal.specs.Gathered.{IsApart, trace_in, lists_from, IsLeft, front_of}
@@ -65,35 +65,35 @@ front_taken [] rest None number long left is cases count front = absurd (cc)
 front_taken (x ∷ list) rest None number long left is cases count front = let none = cases.0 in absurd (omega arith)
 
 module _ {E L : Type 0} where
-  front_later : (node n : ℕ) (steps : List (Step E L)) (number : ℕ) → front_of (map numbered (history_from node n steps)) ≡ Some number → n ≤ number
+  front_later : (node n : ℕ) (steps : List (RunStep E L)) (number : ℕ) → front_of (map numbered (history_from node n steps)) ≡ Some number → n ≤ number
   front_later node n [] number front = absurd (cc)
   front_later node n (s ∷ steps) number front =
       dite (ℕ_discrete s.node node)
       (λ same.
-      let here = ap (λ (h : List (Entry E L)). front_of (map numbered h)) (if_here (s.node == node) (entry_of n s ∷ history_from node (n + 1) steps) (history_from node (n + 1) steps) (grind (arith, nat_tests))) in
+      let here = ap (λ (h : List (NumberedEvent E L)). front_of (map numbered h)) (if_here (s.node == node) (entry_of n s ∷ history_from node (n + 1) steps) (history_from node (n + 1) steps) (grind (arith, nat_tests))) in
       let is : n ≡ number = Some-injective n number (sym here ∙ front) in
       omega arith)
       (λ other.
-      let rest = ap (λ (h : List (Entry E L)). front_of (map numbered h)) (if_else (s.node == node) (entry_of n s ∷ history_from node (n + 1) steps) (history_from node (n + 1) steps) (grind (arith, nat_tests))) in
+      let rest = ap (λ (h : List (NumberedEvent E L)). front_of (map numbered h)) (if_else (s.node == node) (entry_of n s ∷ history_from node (n + 1) steps) (history_from node (n + 1) steps) (grind (arith, nat_tests))) in
       let later = front_later node (n + 1) steps number (sym rest ∙ front) in
       omega arith)
 
   -- the list of a node, before its own step and before another's
-  list_same : (node n : ℕ) (s : Step E L) (steps : List (Step E L)) → s.node ≡ node → map numbered (history_from node n (s ∷ steps)) ≡ (n, s.event) ∷ map numbered (history_from node (n + 1) steps)
+  list_same : (node n : ℕ) (s : RunStep E L) (steps : List (RunStep E L)) → s.node ≡ node → map numbered (history_from node n (s ∷ steps)) ≡ (n, s.event) ∷ map numbered (history_from node (n + 1) steps)
   list_same node n s steps same = ap (map numbered) (if_here (s.node == node) (entry_of n s ∷ history_from node (n + 1) steps) (history_from node (n + 1) steps) (grind (arith, nat_tests)))
 
-  list_other : (node n : ℕ) (s : Step E L) (steps : List (Step E L)) → s.node ≢ node → map numbered (history_from node n (s ∷ steps)) ≡ map numbered (history_from node (n + 1) steps)
+  list_other : (node n : ℕ) (s : RunStep E L) (steps : List (RunStep E L)) → s.node ≢ node → map numbered (history_from node n (s ∷ steps)) ≡ map numbered (history_from node (n + 1) steps)
   list_other node n s steps other = ap (map numbered) (if_else (s.node == node) (entry_of n s ∷ history_from node (n + 1) steps) (history_from node (n + 1) steps) (grind (arith, nat_tests)))
 
   -- the list of each node, before and after a step
-  lists_after : (n : ℕ) (s : Step E L) (steps : List (Step E L)) (nodes : List ℕ) (at : ℕ) → IsApart nodes → slice_get nodes at ≡ Some s.node
+  lists_after : (n : ℕ) (s : RunStep E L) (steps : List (RunStep E L)) (nodes : List ℕ) (at : ℕ) → IsApart nodes → slice_get nodes at ≡ Some s.node
       → set (lists_from n (s ∷ steps) nodes) at (map numbered (history_from s.node (n + 1) steps)) ≡ lists_from (n + 1) steps nodes
   lists_after n s steps nodes at apart there =
       set_apart (λ node. map numbered (history_from node n (s ∷ steps))) (λ node. map numbered (history_from node (n + 1) steps)) nodes at s.node apart there
       (λ other apart_here. list_other other n s steps (λ same. apart_here (sym same)))
 
   -- a list that begins with the next number is that of the next step's node
-  front_is : (n : ℕ) (s : Step E L) (steps : List (Step E L)) (nodes : List ℕ) (at : ℕ) (list : List (ℕ × E)) → slice_get (lists_from n (s ∷ steps) nodes) at ≡ Some list → front_of list ≡ Some n
+  front_is : (n : ℕ) (s : RunStep E L) (steps : List (RunStep E L)) (nodes : List ℕ) (at : ℕ) (list : List (ℕ × E)) → slice_get (lists_from n (s ∷ steps) nodes) at ≡ Some list → front_of list ≡ Some n
       → (slice_get nodes at ≡ Some s.node) × (list ≡ (n, s.event) ∷ map numbered (history_from s.node (n + 1) steps))
   front_is n s steps nodes at list there front =
       let node = mapped_at (λ node. map numbered (history_from node n (s ∷ steps))) nodes at list there in
@@ -107,21 +107,21 @@ module _ {E L : Type 0} where
       absurd (omega arith))
 
   -- while a step is left, its node's list begins with its number
-  front_there : (n : ℕ) (s : Step E L) (steps : List (Step E L)) (nodes : List ℕ) → Contains nodes s.node → All (λ list. front_of list ≢ Some n) (lists_from n (s ∷ steps) nodes) → ⊥
+  front_there : (n : ℕ) (s : RunStep E L) (steps : List (RunStep E L)) (nodes : List ℕ) → Contains nodes s.node → All (λ list. front_of list ≢ Some n) (lists_from n (s ∷ steps) nodes) → ⊥
   front_there n s steps nodes has none =
       All-contains (λ node. front_of (map numbered (history_from node n (s ∷ steps))) ≢ Some n) nodes s.node
       (All-unmap (λ node. map numbered (history_from node n (s ∷ steps))) (λ (list : List (ℕ × E)). front_of list ≢ Some n) nodes none)
       has
       (ap front_of (list_same s.node n s steps refl))
 
-  none_left : (n : ℕ) (trace rest : List (Step E L)) (nodes : List ℕ) (lists : List (List (ℕ × E))) → drop n trace ≡ rest → lists ≡ lists_from n rest nodes → All (λ step. Contains nodes step.node) trace → All (λ list. front_of list ≢ Some n) lists → numbered_from n rest ≡ []
+  none_left : (n : ℕ) (trace rest : List (RunStep E L)) (nodes : List ℕ) (lists : List (List (ℕ × E))) → drop n trace ≡ rest → lists ≡ lists_from n rest nodes → All (λ step. Contains nodes step.node) trace → All (λ list. front_of list ≢ Some n) lists → numbered_from n rest ≡ []
   none_left n trace [] nodes lists is same each none = refl
   none_left n trace (s ∷ steps) nodes lists is same each none =
-      absurd (front_there n s steps nodes (All-slice_get (λ (step : Step E L). Contains nodes step.node) trace n s each (at_drop trace n s steps is)) (subst (λ (ls : List (List (ℕ × E))). All (λ list. front_of list ≢ Some n) ls) same none))
+      absurd (front_there n s steps nodes (All-slice_get (λ (step : RunStep E L). Contains nodes step.node) trace n s each (at_drop trace n s steps is)) (subst (λ (ls : List (List (ℕ × E))). All (λ list. front_of list ≢ Some n) ls) same none))
 
   -- no event is left where no list begins with the next number
-  pub take_none : (n : ℕ) (lists : List (List (ℕ × E))) (view : View E L) → IsLeft n lists view → All (λ list. front_of list ≢ Some n) lists → numbered_from n (drop n (trace_in view)) ≡ []
-  take_none n lists (Whole gathered trace) is none = none_left n trace (drop n trace) (map (λ (held : Held E L). held.node) gathered) lists refl is.2 is.4 none
+  pub take_none : (n : ℕ) (lists : List (List (ℕ × E))) (view : SeatView E L) → IsLeft n lists view → All (λ list. front_of list ≢ Some n) lists → numbered_from n (drop n (trace_in view)) ≡ []
+  take_none n lists (Whole gathered trace) is none = none_left n trace (drop n trace) (map (λ (held : NodeHistory E L). held.node) gathered) lists refl is.2 is.4 none
   take_none n lists (Maker count next) is none = absurd is
   take_none n lists (Node node history taken) is none = absurd is
   take_none n lists (Posted sent) is none = absurd is
@@ -129,23 +129,23 @@ module _ {E L : Type 0} where
   take_none n lists Spent is none = absurd is
 
   -- what is left after the first event
-  abbrev pub Hands : ℕ → List (List (ℕ × E)) → View E L → ℕ → ℕ × E → List (ℕ × E) → Type 0
+  abbrev pub Hands : ℕ → List (List (ℕ × E)) → SeatView E L → ℕ → ℕ × E → List (ℕ × E) → Type 0
   Hands n lists view at first rest =
       (n + 1 < 18446744073709551616)
       × IsLeft (n + 1) (set lists at rest) view
       × (numbered_from n (drop n (trace_in view)) ≡ first ∷ numbered_from (n + 1) (drop (n + 1) (trace_in view)))
 
-  some_left : (n : ℕ) (gathered : List (Held E L)) (trace steps : List (Step E L)) (lists : List (List (ℕ × E))) (at : ℕ) (first : ℕ × E) (rest : List (ℕ × E))
+  some_left : (n : ℕ) (gathered : List (NodeHistory E L)) (trace steps : List (RunStep E L)) (lists : List (List (ℕ × E))) (at : ℕ) (first : ℕ × E) (rest : List (ℕ × E))
       → IsLeft n lists (Whole gathered trace) → drop n trace ≡ steps → slice_get lists at ≡ Some (first ∷ rest) → first.0 ≡ n → Hands n lists (Whole gathered trace) at first rest
   some_left n gathered trace [] lists at first rest is none there begins =
-      let empty = ap (λ (steps : List (Step E L)). lists_from n steps (map (λ (held : Held E L). held.node) gathered)) none in
+      let empty = ap (λ (steps : List (RunStep E L)). lists_from n steps (map (λ (held : NodeHistory E L). held.node) gathered)) none in
       let f : ℕ → List (ℕ × E) = λ node. map numbered (history_from {E = E} {L = L} node n []) in
-      let node = mapped_at f (map (λ (held : Held E L). held.node) gathered) at (first ∷ rest) (ap (λ (ls : List (List (ℕ × E))). slice_get ls at) (sym (is.2 ∙ empty)) ∙ there) in
+      let node = mapped_at f (map (λ (held : NodeHistory E L). held.node) gathered) at (first ∷ rest) (ap (λ (ls : List (List (ℕ × E))). slice_get ls at) (sym (is.2 ∙ empty)) ∙ there) in
       let impossible : [] ≡ first ∷ rest = node.2 in
       absurd (cc)
   some_left n gathered trace (s ∷ steps) lists at first rest is some there begins =
-      let nodes = map (λ (held : Held E L). held.node) gathered in
-      let lists_are : lists ≡ lists_from n (s ∷ steps) nodes = is.2 ∙ ap (λ (steps : List (Step E L)). lists_from n steps nodes) some in
+      let nodes = map (λ (held : NodeHistory E L). held.node) gathered in
+      let lists_are : lists ≡ lists_from n (s ∷ steps) nodes = is.2 ∙ ap (λ (steps : List (RunStep E L)). lists_from n steps nodes) some in
       let front = front_is n s steps nodes at (first ∷ rest) (ap (λ (ls : List (List (ℕ × E))). slice_get ls at) (sym lists_are) ∙ there) (ap (λ (k : ℕ). Some k) begins) in
       let rest_is : rest ≡ map numbered (history_from s.node (n + 1) steps) = cc in
       let first_is : first ≡ (n, s.event) = cc in
@@ -156,7 +156,7 @@ module _ {E L : Type 0} where
         (
           omega arith,
           is.1,
-          (λ i. set (lists_are i) at (rest_is i)) ∙ lists_after n s steps nodes at is.3 front.0 ∙ ap (λ (steps : List (Step E L)). lists_from (n + 1) steps nodes) (sym after),
+          (λ i. set (lists_are i) at (rest_is i)) ∙ lists_after n s steps nodes at is.3 front.0 ∙ ap (λ (steps : List (RunStep E L)). lists_from (n + 1) steps nodes) (sym after),
           is.3,
           is.4,
         ),
@@ -164,7 +164,7 @@ module _ {E L : Type 0} where
       )
 
   -- the first event is handed out
-  pub take_some : (n : ℕ) (lists : List (List (ℕ × E))) (view : View E L) (at : ℕ) (first : ℕ × E) (rest : List (ℕ × E)) → IsLeft n lists view → slice_get lists at ≡ Some (first ∷ rest) → first.0 ≡ n → Hands n lists view at first rest
+  pub take_some : (n : ℕ) (lists : List (List (ℕ × E))) (view : SeatView E L) (at : ℕ) (first : ℕ × E) (rest : List (ℕ × E)) → IsLeft n lists view → slice_get lists at ≡ Some (first ∷ rest) → first.0 ≡ n → Hands n lists view at first rest
   take_some n lists (Whole gathered trace) at first rest is there begins = some_left n gathered trace (drop n trace) lists at first rest is refl there begins
   take_some n lists (Maker count next) at first rest is there begins = absurd is
   take_some n lists (Node node history taken) at first rest is there begins = absurd is
@@ -173,10 +173,10 @@ module _ {E L : Type 0} where
   take_some n lists Spent at first rest is there begins = absurd is
 
   -- what a pop from the list that begins with the next number leaves
-  abbrev pub Handed : {D : Type 0} → (D → List (ℕ × E)) → List D → ℕ → View E L → ℕ → D → Option (ℕ × E) → Type 0
+  abbrev pub Handed : {D : Type 0} → (D → List (ℕ × E)) → List D → ℕ → SeatView E L → ℕ → D → Option (ℕ × E) → Type 0
   Handed items slots n view at after r = (first : ℕ × E) × (r ≡ Some first) × Hands n (map items slots) view at first (items after)
 
-  pub handed : {D : Type 0} (items : D → List (ℕ × E)) (slots slice : List D) (n at : ℕ) (view : View E L) (before after : D) (r : Option (ℕ × E)) (long left : ℕ)
+  pub handed : {D : Type 0} (items : D → List (ℕ × E)) (slots slice : List D) (n at : ℕ) (view : SeatView E L) (before after : D) (r : Option (ℕ × E)) (long left : ℕ)
       → IsLeft n (map items slots) view → slice ≡ slots → slice_get (map (λ d. front_of (items d)) slice) at ≡ Some (Some n) → before ≡ get_or slots at before
       → items before ≡ option_to_list r ++ items after → MatchOption r ((long ≡ 0) × (left ≡ 0)) (λ _. left + 1 ≡ long) → long ≡ length (items before) → Handed items slots n view at after r
   handed items slots slice n at view before after r long left is same there read popped cases count =

@@ -5,14 +5,15 @@ use Rattle.std.proofs.lemmas.List.{take-append-le, map-append, length-map}
 use Rattle.std.proofs.lemmas.List.Elements.{All-nil, All-head, All-tail}
 use Rattle.std.proofs.Math.Seq.{take-append_seam}
 use Rattle.atomic_table.specs.Seated.{TableId}
-use Rattle.cam_journal.specs.declared.entry.Sent.{Sent}
-use Rattle.cam_journal.specs.declared.entry.Entry.{Entry}
-use Rattle.cam_journal.specs.declared.view.View.{View}
-use Rattle.cam_journal.specs.declared.view.View.TheVariants.{Maker, Node, Posted, Gatherer, Whole, Spent}
+use Rattle.cam_journal.specs.declared.entry.SentLetter.{SentLetter}
+use Rattle.cam_journal.specs.declared.entry.NumberedEvent.{NumberedEvent}
+use Rattle.cam_journal.specs.declared.view.SeatView.{SeatView}
+use Rattle.cam_journal.specs.declared.view.SeatView.TheVariants.{Maker, Node, Posted, Gatherer, Whole, Spent}
 use Rattle.cam_journal.specs.Taking.{IsNext, entry}
 use Rattle.cam_journal.specs.Rule.{recorded, IsBelow, CanRecord}
 use Rattle.cam_journal.specs.Seats.{Sitting, AreNew, history_in, sitting, with_event, numbered, IsHistory, IsRising, IsSeat}
 use Rattle.cam_journal.proofs.Lists.{slice_get-push}
+use Rattle.cam_journal.specs.Trace.{EventLaw}
 
 module _ {A : Type 0} where
   -- what holds of each element holds of the one at a place
@@ -21,19 +22,19 @@ module _ {A : Type 0} where
   All-slice_get P (x ∷ xs) zero a each e = let is : x ≡ a = cc in subst P is (All-head P x xs each)
   All-slice_get P (x ∷ xs) (suc k) a each e = All-slice_get P xs k a (All-tail P x xs each) e
 
-module _ {E L : Type 0} (names : E → Option (ℕ × ℕ)) (lawful : ℕ → List (Entry E L) → Option (Sent L) → E → Type 0) where
-  IsHistory-push : (node : ℕ) (history : List (Entry E L)) (last : Entry E L) → IsHistory lawful node history → lawful node history last.received last.event → IsHistory lawful node (history ++ last ∷ [])
+module _ {E L : Type 0} (names : E → Option (ℕ × ℕ)) (lawful : EventLaw E L) where
+  IsHistory-push : (node : ℕ) (history : List (NumberedEvent E L)) (last : NumberedEvent E L) → IsHistory lawful node history → lawful node history last.received last.event → IsHistory lawful node (history ++ last ∷ [])
   IsHistory-push node history last each here at one there =
       ⊎_elim
       (λ (t : (at < length history) × (slice_get history at ≡ Some one)).
       let below = t.0 in
-      subst (λ (front : List (Entry E L)). lawful node front one.received one.event) (sym (take-append-le at history (last ∷ []) (omega arith))) (each at one t.1))
+      subst (λ (front : List (NumberedEvent E L)). lawful node front one.received one.event) (sym (take-append-le at history (last ∷ []) (omega arith))) (each at one t.1))
       (λ (t : (at ≡ length history) × (last ≡ one)).
       let front : take at (history ++ last ∷ []) ≡ history = ap (λ (k : ℕ). take k (history ++ last ∷ [])) t.0 ∙ take-append_seam history (last ∷ []) in
-      subst (λ (p : List (Entry E L) × Entry E L). lawful node p.0 p.1.received p.1.event) (λ i. (sym front i, t.1 i)) here)
+      subst (λ (p : List (NumberedEvent E L) × NumberedEvent E L). lawful node p.0 p.1.received p.1.event) (λ i. (sym front i, t.1 i)) here)
       (slice_get-push history last one at there)
 
-  IsRising-push : (history : List (Entry E L)) (last : Entry E L) → IsRising history → All (λ e. e.number < last.number) history → IsRising (history ++ last ∷ [])
+  IsRising-push : (history : List (NumberedEvent E L)) (last : NumberedEvent E L) → IsRising history → All (λ e. e.number < last.number) history → IsRising (history ++ last ∷ [])
   IsRising-push history last rising below at later one other before first second =
       ⊎_elim
       (λ (s : (later < length history) × (slice_get history later ≡ Some other)).
@@ -44,13 +45,13 @@ module _ {E L : Type 0} (names : E → Option (ℕ × ℕ)) (lawful : ℕ → Li
       (λ (s : (later ≡ length history) × (last ≡ other)).
       ⊎_elim
       (λ (t : (at < length history) × (slice_get history at ≡ Some one)).
-      subst (λ (e : Entry E L). one.number < e.number) s.1 (All-slice_get (λ (e : Entry E L). e.number < last.number) history at one below t.1))
+      subst (λ (e : NumberedEvent E L). one.number < e.number) s.1 (All-slice_get (λ (e : NumberedEvent E L). e.number < last.number) history at one below t.1))
       (λ (t : (at ≡ length history) × (last ≡ one)). let end = t.0 in let there = s.0 in absurd (omega arith))
       (slice_get-push history last one at first))
       (slice_get-push history last other later second)
 
   -- a seat with one more event
-  pub IsSeat-record : (view : View E L) (entries : List (ℕ × E)) (event : E) (number : ℕ) → IsSeat lawful entries view → CanRecord names lawful view event → IsBelow number view → IsSeat lawful (entries ++ (number, event) ∷ []) (recorded names event number view)
+  pub IsSeat-record : (view : SeatView E L) (entries : List (ℕ × E)) (event : E) (number : ℕ) → IsSeat lawful entries view → CanRecord names lawful view event → IsBelow number view → IsSeat lawful (entries ++ (number, event) ∷ []) (recorded names event number view)
   IsSeat-record (Node node history taken) entries event number seat may below =
       let last = entry names number taken event in
       let room = may.1 in (
@@ -66,7 +67,7 @@ module _ {E L : Type 0} (names : E → Option (ℕ × ℕ)) (lawful : ℕ → Li
   IsSeat-record Spent entries event number seat may below = absurd seat
 
   -- a seat with room whose next event this may be can record it
-  pub can_record : (view : View E L) (journal : TableId) (capacity count : ℕ) (entries : List (ℕ × E)) (seat : Sitting E L) (event : E)
+  pub can_record : (view : SeatView E L) (journal : TableId) (capacity count : ℕ) (entries : List (ℕ × E)) (seat : Sitting E L) (event : E)
       → sitting journal (min capacity 500000000 - count) view ≡ seat → count ≡ length entries → IsSeat lawful entries view → 0 < seat.spare → IsNext names lawful seat.node seat.history seat.taken event → CanRecord names lawful view event
   can_record (Node node history taken) journal capacity count entries seat event is counted kept spare may =
       let room : 0 < min capacity 500000000 - count = subst (λ (s : Sitting E L). 0 < s.spare) (sym is) spare in
@@ -81,7 +82,7 @@ module _ {E L : Type 0} (names : E → Option (ℕ × ℕ)) (lawful : ℕ → Li
   can_record Spent journal capacity count entries seat event is counted kept spare may = absurd kept
 
   -- how contracts see the seat after an event
-  pub sitting-record : (view after : View E L) (journal now : TableId) (spare left : ℕ) (entries : List (ℕ × E)) (seat : Sitting E L) (event : E) (number : ℕ)
+  pub sitting-record : (view after : SeatView E L) (journal now : TableId) (spare left : ℕ) (entries : List (ℕ × E)) (seat : Sitting E L) (event : E) (number : ℕ)
       → sitting journal spare view ≡ seat → IsSeat lawful entries view → after ≡ recorded names event number view → now ≡ journal → left ≡ spare - 1 → sitting now left after ≡ with_event names number event seat
   sitting-record (Node node history taken) after journal now spare left entries seat event number is kept changed same less =
       let moved : sitting now left after ≡ sitting journal (spare - 1) (recorded names event number (Node node history taken)) = λ i. sitting (same i) (less i) (changed i) in
@@ -93,13 +94,13 @@ module _ {E L : Type 0} (names : E → Option (ℕ × ℕ)) (lawful : ℕ → Li
   sitting-record Spent after journal now spare left entries seat event number is kept changed same less = absurd kept
 
 -- the events that contracts see of a seat have numbers below this one
-pub below_in : {E L : Type 0} (view : View E L) (number : ℕ) → IsBelow number view → All (λ entry. entry.number < number) (history_in view)
+pub below_in : {E L : Type 0} (view : SeatView E L) (number : ℕ) → IsBelow number view → All (λ entry. entry.number < number) (history_in view)
 below_in (Node node history taken) number below = below
-below_in {E} {L} (Maker nodes next) number below = All-nil (λ (e : Entry E L). e.number < number)
-below_in {E} {L} (Posted sent) number below = All-nil (λ (e : Entry E L). e.number < number)
-below_in {E} {L} (Gatherer nodes gathered) number below = All-nil (λ (e : Entry E L). e.number < number)
-below_in {E} {L} (Whole gathered trace) number below = All-nil (λ (e : Entry E L). e.number < number)
-below_in {E} {L} Spent number below = All-nil (λ (e : Entry E L). e.number < number)
+below_in {E} {L} (Maker nodes next) number below = All-nil (λ (e : NumberedEvent E L). e.number < number)
+below_in {E} {L} (Posted sent) number below = All-nil (λ (e : NumberedEvent E L). e.number < number)
+below_in {E} {L} (Gatherer nodes gathered) number below = All-nil (λ (e : NumberedEvent E L). e.number < number)
+below_in {E} {L} (Whole gathered trace) number below = All-nil (λ (e : NumberedEvent E L). e.number < number)
+below_in {E} {L} Spent number below = All-nil (λ (e : NumberedEvent E L). e.number < number)
 
 -- the spare after one more entry that took no memory
 pub spare_less : (capacity now count longer spare : ℕ) → min capacity 500000000 - count ≡ spare → now ≡ capacity → longer ≡ count + 1 → min now 500000000 - longer ≡ min capacity 500000000 - count - 1
@@ -126,6 +127,6 @@ module _ {E L : Type 0} where
   }
 
   -- the seat of a node that has no event yet
-  pub IsSeat-new : (lawful : ℕ → List (Entry E L) → Option (Sent L) → E → Type 0) (entries : List (ℕ × E)) (view : View E L) (node : ℕ) → view ≡ Node node [] None → entries ≡ [] → IsSeat lawful entries view
+  pub IsSeat-new : (lawful : EventLaw E L) (entries : List (ℕ × E)) (view : SeatView E L) (node : ℕ) → view ≡ Node node [] None → entries ≡ [] → IsSeat lawful entries view
   IsSeat-new lawful entries view node is none =
-      subst (λ (p : List (ℕ × E) × View E L). IsSeat lawful p.0 p.1) (λ i. (sym none i, sym is i)) (refl, omega arith, (λ at one there. absurd (cc)), (λ at later one other before first second. absurd (cc)))
+      subst (λ (p : List (ℕ × E) × SeatView E L). IsSeat lawful p.0 p.1) (λ i. (sym none i, sym is i)) (refl, omega arith, (λ at one there. absurd (cc)), (λ at later one other before first second. absurd (cc)))

@@ -1,11 +1,11 @@
 -- What is gathered from the seats of a journal.
 use Rattle.std.specs.Prelude.{◌≡◌, ◌≢◌, ◌<◌, ◌≤◌, ℕ, All, Contains, List, [], ◌∷◌, map, length, drop, Option, Some, None}
-use Rattle.cam_journal.specs.declared.entry.Sent.{Sent}
-use Rattle.cam_journal.specs.declared.entry.Entry.{Entry}
-use Rattle.cam_journal.specs.declared.entry.Step.{Step}
-use Rattle.cam_journal.specs.declared.view.View.{View}
-use Rattle.cam_journal.specs.declared.view.View.TheVariants.{Whole}
-use Rattle.cam_journal.specs.Trace.{history_from, history_of, numbered_from, IsRun}
+use Rattle.cam_journal.specs.declared.entry.SentLetter.{SentLetter}
+use Rattle.cam_journal.specs.declared.entry.NumberedEvent.{NumberedEvent}
+use Rattle.cam_journal.specs.declared.entry.RunStep.{RunStep}
+use Rattle.cam_journal.specs.declared.view.SeatView.{SeatView}
+use Rattle.cam_journal.specs.declared.view.SeatView.TheVariants.{Whole}
+use Rattle.cam_journal.specs.Trace.{EventLaw, history_from, history_of, numbered_from, IsRun}
 use Rattle.cam_journal.specs.Rule.{IsNode}
 use Rattle.cam_journal.specs.Seats.{Opened, Sitting, numbered}
 
@@ -22,25 +22,27 @@ module _ {E L : Type 0} where
     pub apart : IsApart (map (λ seat. seat.node) seats)
     pub each : (node : ℕ) → IsNode journal.nodes node → Contains (map (λ seat. seat.node) seats) node
 
-  -- The events are those of one lawful run of these nodes, each under its place in the run, and the history of each seat is that of its node in that run.
-  pub record AreGathered (names : E → Option (ℕ × ℕ)) (sends : E → List L) (lawful : ℕ → List (Entry E L) → Option (Sent L) → E → Type 0) (nodes : ℕ) (seats : List (Sitting E L)) (events : List (ℕ × E)) : Type 0 where
-    pub trace : List (Step E L)
+  -- The events are those of one lawful run of these nodes, each under its place in the run, and the history of each seat is that of
+  -- its node in that run.
+  pub record AreGathered (names : E → Option (ℕ × ℕ)) (sends : E → List L) (lawful : EventLaw E L) (nodes : ℕ) (seats : List (Sitting E L))
+      (events : List (ℕ × E)) : Type 0 where
+    pub trace : List (RunStep E L)
     pub run : IsRun names sends lawful trace
     pub nodes_only : All (λ step. IsNode nodes step.node) trace
     pub events_are : events ≡ numbered_from 0 trace
     pub histories : All (λ seat. seat.history ≡ history_of seat.node trace) seats
 
   -- the run that a view knows
-  abbrev pub trace_in : View E L → List (Step E L)
+  abbrev pub trace_in : SeatView E L → List (RunStep E L)
   trace_in (Whole gathered trace) = trace
   trace_in _ = []
 
   -- the numbers and events of each of these nodes, in steps that are numbered from here on
-  abbrev pub lists_from : ℕ → List (Step E L) → List ℕ → List (List (ℕ × E))
+  abbrev pub lists_from : ℕ → List (RunStep E L) → List ℕ → List (List (ℕ × E))
   lists_from next steps nodes = map (λ node. map numbered (history_from node next steps)) nodes
 
   -- the lists are what is left of a run from this number on, by nodes
-  abbrev pub IsLeft : ℕ → List (List (ℕ × E)) → View E L → Type 0
+  abbrev pub IsLeft : ℕ → List (List (ℕ × E)) → SeatView E L → Type 0
   IsLeft next lists (Whole gathered trace) =
       (next ≤ length trace)
       × (length trace < 18446744073709551616)

@@ -1,3 +1,4 @@
+//! Why a seat may get no room.
 ghost use Rattle.std.specs.Prelude.{◌≡◌};
 ghost use Rattle.cam_journal.specs.declared.fault.ReserveFault.TheVariants.{NoMemory};
 

@@ -30,7 +30,8 @@ impl<C: Core> Model for Gathered<C> {
 impl<C: Core> Gathered<C> {
     /// Hands out the first event with its number; none exactly where none is left. It takes no memory.
     pub fn take(&mut self) -> Option<(u64, C::Event)>
-        ensures { MatchOption result ((self.old ≡ []) × (self.new ≡ [])) (λ first. self.old ≡ first ∷ self.new) }
+        ensures { MatchOption result ((self.old ≡ []) × (self.new ≡ []))
+            (λ first. self.old ≡ first ∷ self.new) }
     {
         let Some(at) = first_at(self.lists.as_slice(), self.next) else {
             return None;
@@ -44,7 +45,8 @@ impl<C: Core> Gathered<C> {
 
 // The first list that begins with this number.
 fn first_at<E>(lists: &[VecDeque<(u64, E)>], number: u64) -> Option<usize>
-    ensures { MatchOption result (All (λ list. front_of list.items ≢ Some number) lists.now) (λ at. slice_get (map (λ list. front_of list.items) lists.now) at ≡ Some (Some number)) }
+    ensures { MatchOption result (All (λ list. front_of list.items ≢ Some number) lists.now)
+        (λ at. slice_get (map (λ list. front_of list.items) lists.now) at ≡ Some (Some number)) }
 {
     for (at, list) in lists.iter().enumerate() {
         if begins(list, number) {

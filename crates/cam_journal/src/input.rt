@@ -16,7 +16,7 @@ pub enum CoreFault {
     /// The core's disk failed, and its count of faults rose.
     #[error("the disk failed")]
     DiskFault,
-    /// The core wanted memory and got none.
+    /// The core ran out of memory.
     #[error("out of memory")]
     NoMemory,
 }

@@ -35,15 +35,17 @@ impl<C: Core> Model for Journal<C> {
 
     ghost view = { λ j. record { id = j.table.shared.table_id; nodes = j.table.shared.key } };
 
-    ghost invariant = { λ j. (j.table.shared.table_id.words ≡ 1) × (j.lists.items ≡ []) × (j.table.shared.key ≤ vec_capacity j.lists) };
+    ghost invariant = { λ j. (j.table.shared.table_id.words ≡ 1) × (j.lists.items ≡ [])
+        × (j.table.shared.key ≤ vec_capacity j.lists) };
 }
 
 impl<C: Core> Journal<C> {
-    /// A journal for so many nodes, 1 to 8, with a seat for each node, in order, whose history is empty. It fails for want of memory
-    /// alone.
+    /// A journal for so many nodes, 1 to 8, with a seat for each node, in order, whose history is empty. It fails only when out of
+    /// memory.
     pub fn open(alloc: Global, nodes: u8) -> Result<(Journal<C>, Seats<C>), NoMemory>
         requires { (0 < nodes) × (nodes ≤ 8) }
-        ensures { IfOk result (λ opened. (opened.0.nodes ≡ nodes) × AreNew opened.0.id nodes opened.1.items) }
+        ensures { IfOk result (λ opened. (opened.0.nodes ≡ nodes)
+            × AreNew opened.0.id nodes opened.1.items) }
     {
         let lists = Vec::with_capacity(alloc, usize::from(nodes))?;
         let (table, mut maker) = Views::<C>::of_words(alloc, &[0], &nodes)?;

@@ -20,7 +20,7 @@ mod note;
 mod seat;
 mod view;
 
-pub use entry::{Entry, Sent, Step};
+pub use entry::{NumberedEvent, RunStep, SentLetter};
 pub use fault::ReserveFault;
 pub use gathered::Gathered;
 pub use input::{CoreFault, CoreInput};

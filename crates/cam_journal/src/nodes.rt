@@ -1,7 +1,7 @@
 //! What a node must be, so that its events can be recorded.
 ghost use Rattle.std.specs.Prelude.{◌≡◌, ◌<◌, ◌≤◌, ◌↔◌, ℕ, Bool, List, length, slice_get, Option, IsTrue, IsNone, IfOk};
-ghost use Rattle.cam_journal.specs.declared.entry.Entry.{Entry};
-ghost use Rattle.cam_journal.specs.declared.entry.Sent.{Sent};
+ghost use Rattle.cam_journal.specs.declared.entry.NumberedEvent.{NumberedEvent};
+ghost use Rattle.cam_journal.specs.declared.entry.SentLetter.{SentLetter};
 ghost use Rattle.cam_journal.specs.declared.input.CoreInput.{CoreInput};
 ghost use Rattle.cam_journal.specs.Taking.{CanStep, IsStep, FaultsWithCause};
 
@@ -32,10 +32,12 @@ pub trait Core: Drop {
     ghost copied: { Self.Letter → ℕ };
 
     /// Whether an event is lawful for a node, after its history and a letter that it received, or none.
-    ghost lawful: { ℕ → List (Entry Self.Event Self.Letter) → Option (Sent Self.Letter) → Self.Event → Type 0 };
+    ghost lawful: { ℕ → List (NumberedEvent Self.Event Self.Letter)
+        → Option (SentLetter Self.Letter) → Self.Event
+        → Type 0 };
 
     /// Whether the core is the replay of a node's history.
-    ghost is_replay: { Self → ℕ → List (Entry Self.Event Self.Letter) → Type 0 };
+    ghost is_replay: { Self → ℕ → List (NumberedEvent Self.Event Self.Letter) → Type 0 };
 
     /// Whether the core has nothing to do with an input.
     ghost is_idle: { Self → CoreInput Self.Letter → Bool };

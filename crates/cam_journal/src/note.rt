@@ -4,7 +4,7 @@ ghost use Rattle.cam_journal.specs.Taking.{IsFromLawful};
 ghost use Rattle.cam_journal.specs.Rule.{HasSent, note_of};
 ghost use Rattle.cam_journal.specs.Seats.{letter_at, with_taken, AreRising};
 
-use crate::entry::Sent;
+use crate::entry::SentLetter;
 use crate::journal::Journal;
 use crate::nodes::Core;
 use crate::seat::NodeSeat;
@@ -17,13 +17,13 @@ use std::marker::{Brand, Model};
 /// it and its place.
 #[derive(Drop)]
 pub struct Note<C: Core> {
-    sent: Sent<C::Letter>,
+    sent: SentLetter<C::Letter>,
     token: Token<C>,
 }
 
 impl<C: Core> Model for Note<C> {
     ghost use Rattle.std.specs.Prelude.{◌≡◌, []};
-    ghost use Rattle.cam_journal.specs.declared.view.View.TheVariants.{Posted};
+    ghost use Rattle.cam_journal.specs.declared.view.SeatView.TheVariants.{Posted};
     ghost use Rattle.cam_journal.specs.Taking.{IsFromLawful};
     ghost use Rattle.cam_journal.specs.Seats.{Mention};
 
@@ -31,7 +31,8 @@ impl<C: Core> Model for Note<C> {
 
     ghost view = { λ n. record { journal = n.token.table_id; sent = n.sent } };
 
-    ghost invariant = { λ n. (n.token.me ≡ (Posted n.sent, [])) × IsFromLawful C.sends C.lawful n.sent };
+    ghost invariant = { λ n. (n.token.me ≡ (Posted n.sent, []))
+        × IsFromLawful C.sends C.lawful n.sent };
 }
 
 impl<C: Core> Note<C> {
@@ -51,20 +52,22 @@ impl<C: Core> Note<C> {
 }
 
 impl<C: Core> Journal<C> {
-    /// A note of the letter that an event of the seat sent, at a place. The seat stays as it is. It fails for want of memory alone.
+    /// A note of the letter that an event of the seat sent, at a place. The seat stays as it is. It fails only when out of memory.
     pub fn note(&self, seat: &mut NodeSeat<C>, number: u64, place: u32) -> Result<Note<C>, NoMemory>
         requires own { seat.old.journal ≡ self.now.id }
         requires sent { IsSome (letter_at C.sends seat.old.history number place) }
         ensures journal { IfOk result (λ note. note.journal ≡ self.now.id) }
-        ensures name { IfOk result (λ note. (note.sent.number ≡ number) × (note.sent.place ≡ place)) }
-        ensures letter { IfOk result (λ note. letter_at C.sends seat.old.history number place ≡ Some note.sent.letter) }
+        ensures name { IfOk result
+            (λ note. (note.sent.number ≡ number) × (note.sent.place ≡ place)) }
+        ensures letter { IfOk result
+            (λ note. letter_at C.sends seat.old.history number place ≡ Some note.sent.letter) }
         ensures same { seat.new ≡ seat.old }
     {
         let Some(event) = event_of(&seat.entries, number) else {
             unreachable!();
         };
         let letter = C::letter(event, place)?;
-        let sent = Sent {
+        let sent = SentLetter {
             number,
             place,
             letter,
@@ -73,14 +76,14 @@ impl<C: Core> Journal<C> {
         Ok(Note { sent, token })
     }
 
-    /// Another note of the same letter. The note stays as it is. It fails for want of memory alone.
+    /// Another note of the same letter. The note stays as it is. It fails only when out of memory.
     pub fn copy_note(&self, note: &mut Note<C>) -> Result<Note<C>, NoMemory>
         requires { note.old.journal ≡ self.now.id }
         ensures copy { IfOk result (λ copy. copy ≡ note.old) }
         ensures same { note.new ≡ note.old }
     {
         let letter = C::copy(&note.sent.letter)?;
-        let sent = Sent {
+        let sent = SentLetter {
             number: note.sent.number,
             place: note.sent.place,
             letter,
@@ -100,7 +103,7 @@ impl<C: Core> Journal<C> {
     {
         let Note { sent, token } = note;
         self.table.shared.join_seat::<Takes>(&mut seat.token, token);
-        let Sent {
+        let SentLetter {
             number: _,
             place: _,
             letter,
@@ -110,15 +113,16 @@ impl<C: Core> Journal<C> {
 }
 
 // Cuts off the note of a letter, which the step is told.
-fn note_as<C: Core, N: Told<Sent<C::Letter>>>(
+fn note_as<C: Core, N: Told<SentLetter<C::Letter>>>(
     shared: &Rules<C>,
     token: &mut Token<C>,
-    sent: &Sent<C::Letter>,
+    sent: &SentLetter<C::Letter>,
 ) -> Token<C>
     requires told { N.told ≡ Some sent.now }
     requires table { (token.old.table_id ≡ shared.now.table_id) × (shared.now.table_id.words ≡ 1) }
     requires sent { HasSent C.sends token.old.me.0 sent.now }
-    ensures table { (token.new.table_id ≡ token.old.table_id) × (result.table_id ≡ token.old.table_id) }
+    ensures table { (token.new.table_id ≡ token.old.table_id)
+        × (result.table_id ≡ token.old.table_id) }
     ensures same { token.new.me ≡ token.old.me }
     ensures note { result.me ≡ (note_of N.told, []) }
 {
@@ -129,7 +133,8 @@ fn note_as<C: Core, N: Told<Sent<C::Letter>>>(
 // The event with this number, among events whose numbers rise.
 fn event_of<E>(entries: &VecDeque<(u64, E)>, number: u64) -> Option<&E>
     requires { AreRising entries.now.items }
-    ensures { MatchOption result (All (λ entry. entry.0 ≢ number) entries.now.items) (λ event. (at : ℕ) × (slice_get entries.now.items at ≡ Some (number, event.now))) }
+    ensures { MatchOption result (All (λ entry. entry.0 ≢ number) entries.now.items)
+        (λ event. (at : ℕ) × (slice_get entries.now.items at ≡ Some (number, event.now))) }
 {
     let Ok(at) = entries.binary_search_by_key(&number, |entry| entry.0) else {
         return None;

@@ -26,7 +26,8 @@ impl<C: Core> Model for NodeSeat<C> {
 
     ghost Value = { Sitting C.Event C.Letter };
 
-    ghost view = { λ s. sitting s.token.table_id (min (deque_capacity s.entries) 500000000 - deque_len s.entries) s.token.me.0 };
+    ghost view = { λ s. sitting s.token.table_id
+        (min (deque_capacity s.entries) 500000000 - deque_len s.entries) s.token.me.0 };
 
     ghost invariant = { λ s. (s.token.me.1 ≡ []) × IsSeat C.lawful s.entries.items s.token.me.0 };
 }
@@ -43,7 +44,8 @@ impl<C: Core> NodeSeat<C> {
     /// The event at a place of the history, from 0, with its number; none exactly where the history has no such place. It takes no
     /// memory.
     pub fn get(&self, at: u64) -> Option<(u64, &C::Event)>
-        ensures { MatchOption result (length self.now.history ≤ at) (λ entry. slice_get (map numbered self.now.history) at ≡ Some (entry.0, entry.1.now)) }
+        ensures { MatchOption result (length self.now.history ≤ at)
+            (λ entry. slice_get (map numbered self.now.history) at ≡ Some (entry.0, entry.1.now)) }
     {
         let (number, event) = self.entries.get(at as usize)?;
         Some((*number, event))

@@ -11,7 +11,7 @@ use Rattle.cam_event.specs.ByKnowledge.{held_sight}
 use Rattle.cam_event.specs.ByDeltas.{Received, as_carried}
 use Rattle.cam_know.specs.Known.{nothing}
 use Rattle.cam_node.specs.Lawful.{MayBePut}
-use Rattle.cam_journal.specs.declared.entry.Sent.{Sent as Taken}
+use Rattle.cam_journal.specs.declared.entry.SentLetter.{SentLetter as Taken}
 use Rattle.cam_journal.specs.declared.input.CoreInput.{CoreInput}
 use Rattle.cam_journal.specs.declared.input.CoreInput.TheVariants.{Letter, Drive}
 use Rattle.cam_journal.specs.Trace.{Receives as Named}

@@ -13,7 +13,7 @@ use Rattle.cam_know.specs.Order.{told_in_order}
 use Rattle.cam_event.specs.Runs.{IsRun}
 use Rattle.cam_delta.proofs.Growing.{history, newest_received}
 use Rattle.cam_delta.proofs.SameReadings.{events_agree}
-use Rattle.cam_journal.specs.declared.entry.Step.{Step}
+use Rattle.cam_journal.specs.declared.entry.RunStep.{RunStep}
 use Rattle.cam_journal.specs.Trace.{IsRun as Run}
 use Rattle.cam_gen.specs.Storms.{Words, objects_of, tops_of, restarts_at}
 use Rattle.cam_storm.specs.declared.Copied.{Copied}
@@ -30,7 +30,7 @@ use Rattle.std.proofs.lemmas.List.{reverse-reverse}
 use Rattle.cam_storm.proofs.GatheredInputs.{storm_is_run, Holds, step_of, Put, letter_copies, put_input}
 
 -- with one more step all of it holds
-more_holds : (words : Words) (before : List (Step Stepped Copied)) (x : Step Stepped Copied) → IsTurned words before x → Holds words before → Holds words (x ∷ before)
+more_holds : (words : Words) (before : List (RunStep Stepped Copied)) (x : RunStep Stepped Copied) → IsTurned words before x → Holds words before → Holds words (x ∷ before)
 more_holds words before x is holds = record { own = owns; letters = letters; storm = (storm_next, holds.storm) }
   where
     objects : List ObjectDecl
@@ -113,7 +113,7 @@ more_holds words before x is holds = record { own = owns; letters = letters; sto
       is_next = event_is;
     }
 
-pub all_hold : (words : Words) (xs : List (Step Stepped Copied)) → AreTurned words xs → Holds words xs
+pub all_hold : (words : Words) (xs : List (RunStep Stepped Copied)) → AreTurned words xs → Holds words xs
 all_hold words [] are = record {
   own = λ s. refl;
   letters = λ i p y c at there. cc;
@@ -125,7 +125,7 @@ all_hold words (x ∷ before) are = more_holds words before x are.0 (all_hold wo
 pub gathered_turned : (words : Words) (seats : List (Sitting Stepped Copied)) (gathered : List (ℕ × Stepped)) (all : IsGathered words seats gathered) → AreTurned words (reverse all.trace) × (events_of gathered ≡ trace_of (reverse all.trace))
 gathered_turned words seats gathered all =
     let back : reverse (reverse all.trace) ≡ all.trace = reverse-reverse all.trace in (
-      turned words (reverse all.trace) (subst (λ (trace : List (Step Stepped Copied)). Run names sends (lawful words) trace) (sym back) all.run) (subst OnlyNodes (sym back) (only_nodes all.trace all.nodes_only)),
+      turned words (reverse all.trace) (subst (λ (trace : List (RunStep Stepped Copied)). Run names sends (lawful words) trace) (sym back) all.run) (subst OnlyNodes (sym back) (only_nodes all.trace all.nodes_only)),
       ap (λ (es : List (ℕ × Stepped)). reverse (map (λ (p : ℕ × Stepped). p.1.event) es)) all.events_are ∙ ap (λ (es : List Event). reverse es) (numbered_events 0 all.trace) ∙ sym (map_reverse ev all.trace),
     )
 

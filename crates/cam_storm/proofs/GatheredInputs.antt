@@ -17,8 +17,8 @@ use Rattle.cam_event.specs.Runs.{MayCome, IsRun}
 use Rattle.cam_node.specs.Lawful.{MayBePut}
 use Rattle.cam_delta.proofs.Growing.{history}
 use Rattle.cam_delta.proofs.SameReadings.{refusals_agree}
-use Rattle.cam_journal.specs.declared.entry.Step.{Step}
-use Rattle.cam_journal.specs.declared.entry.Sent.{Sent as Taken}
+use Rattle.cam_journal.specs.declared.entry.RunStep.{RunStep}
+use Rattle.cam_journal.specs.declared.entry.SentLetter.{SentLetter as Taken}
 use Rattle.cam_journal.specs.Trace.{Receives as Named, IsSent}
 use Rattle.cam_gen.specs.Storms.{Words, objects_of}
 use Rattle.cam_storm.specs.declared.Copied.{Copied}
@@ -37,14 +37,14 @@ storm_is_run words [] storm = tt
 storm_is_run words (e ∷ t) storm = (record { input = storm.0.input; may = storm.0.may; is_next = storm.0.is_next }, storm_is_run words t storm.1)
 
 -- what holds of the steps of a gathered run
-pub record Holds (words : Words) (xs : List (Step Stepped Copied)) : Type 0 where
+pub record Holds (words : Words) (xs : List (RunStep Stepped Copied)) : Type 0 where
   -- each node's own history is that of the run
   pub own : (s : ℕ) → own_of s xs ≡ history (objects_of words) (trace_of xs) s
   pub letters : LettersHold words xs
   pub storm : StormRun words (trace_of xs)
 
 -- the next step, after the node's own history
-pub step_of : (words : Words) (before : List (Step Stepped Copied)) (x : Step Stepped Copied) → IsTurned words before x → IsStormStep words x.node (own_of x.node before) x.received x.event
+pub step_of : (words : Words) (before : List (RunStep Stepped Copied)) (x : RunStep Stepped Copied) → IsTurned words before x → IsStormStep words x.node (own_of x.node before) x.received x.event
 step_of words before x is = subst (λ (h : List Received). IsStormStep words x.node h x.received x.event) (own_turned x.node before) is.lawful.allowed.1
 
 -- what an input comes to in the run
@@ -54,11 +54,11 @@ pub record Put (words : Words) (t : List Event) (s : ℕ) (input : Input) : Type
   pub so : IsStormInput words t input
 
 -- the copies of the letter that was received
-abbrev LetterCopies : Words → List (Step Stepped Copied) → LetterId → Option (Taken Copied) → Type 0
+abbrev LetterCopies : Words → List (RunStep Stepped Copied) → LetterId → Option (Taken Copied) → Type 0
 LetterCopies words before letter None = Unit {0}
 LetterCopies words before letter (Some k) = k.letter.copies ≡ copies words (trace_of before) letter
 
-pub letter_copies : (words : Words) (before : List (Step Stepped Copied)) (letter : LetterId) (got : Option LetterId) (taken : Option (Taken Copied)) → LettersHold words before → Named (named got) taken → IfSome taken (IsSent sends (reverse before)) → got ≡ Some letter → LetterCopies words before letter taken
+pub letter_copies : (words : Words) (before : List (RunStep Stepped Copied)) (letter : LetterId) (got : Option LetterId) (taken : Option (Taken Copied)) → LettersHold words before → Named (named got) taken → IfSome taken (IsSent sends (reverse before)) → got ≡ Some letter → LetterCopies words before letter taken
 letter_copies words before letter got None holds is sent e = tt
 letter_copies words before letter None (Some k) holds is sent e = absurd is
 letter_copies words before letter (Some l) (Some k) holds is sent e =
@@ -67,7 +67,7 @@ letter_copies words before letter (Some l) (Some k) holds is sent e =
     h.copies ∙ ap (copies words (trace_of before)) (same ∙ same_Some l letter e)
 
 -- a letter that may be received was sent, to this node, and comes less often so far than it has copies
-put_letter : (words : Words) (before : List (Step Stepped Copied)) (s : ℕ) (letter : LetterId) (taken : Option (Taken Copied)) → Holds words before
+put_letter : (words : Words) (before : List (RunStep Stepped Copied)) (s : ℕ) (letter : LetterId) (taken : Option (Taken Copied)) → Holds words before
     → ((mail_in taken ≡ letter_at (trace_of before) letter) × LetterCopies words before letter taken)
     → MayBePut (objects_of words) s (held_sight (objects_of words) s (map as_carried (own_of s before)) nothing) (Receives letter) (mail_in taken) (load_in taken)
     → IsLeft (received (map event_in (own_of s before)) letter) taken → Put words (trace_of before) s (Receives letter)
@@ -87,7 +87,7 @@ put_letter words before s letter (Some k) holds came may left =
     }
 
 -- each input that a lawful event is of
-pub put_input : (words : Words) (before : List (Step Stepped Copied)) (s : ℕ) (input : Input) (taken : Option (Taken Copied)) → Holds words before → (1 ≤ s) × (s ≤ 4)
+pub put_input : (words : Words) (before : List (RunStep Stepped Copied)) (s : ℕ) (input : Input) (taken : Option (Taken Copied)) → Holds words before → (1 ≤ s) × (s ≤ 4)
     → ((letter : LetterId) → got_of input ≡ Some letter → (mail_in taken ≡ letter_at (trace_of before) letter) × LetterCopies words before letter taken)
     → MayBePut (objects_of words) s (held_sight (objects_of words) s (map as_carried (own_of s before)) nothing) input (mail_in taken) (load_in taken)
     → IsPut words s (own_of s before) taken input → Put words (trace_of before) s input

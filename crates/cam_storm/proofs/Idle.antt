@@ -10,7 +10,7 @@ use Rattle.cam_event.specs.declared.LetterId.{LetterId}
 use Rattle.cam_event.specs.Inputs.{Input, Begins, Requests, Restarts}
 use Rattle.cam_event.specs.ByDeltas.{Received}
 use Rattle.cam_node.specs.Lawful.{IsLawful}
-use Rattle.cam_journal.specs.declared.entry.Entry.{Entry}
+use Rattle.cam_journal.specs.declared.entry.NumberedEvent.{NumberedEvent}
 use Rattle.cam_journal.specs.declared.input.CoreInput.TheVariants.{Letter, Drive}
 use Rattle.cam_gen.specs.Storms.{Words, objects_of, tops_of, restarts_at}
 use Rattle.cam_storm.specs.declared.Copied.{Copied}
@@ -20,7 +20,7 @@ use Rattle.cam_storm.specs.Lawful.{carried_in, own_history, IsStormHistory}
 use Rattle.cam_storm.specs.Core.{Cell, Keeps, IsReplay, IsLeastDrive, MakesRequest, IsDriven}
 use Rattle.cam_storm.specs.Laws.{HistoriesAreLawful, IdleIsQuiet, IdleHasReceived, BusyHasAnswer}
 
-lawful_own : (words : Words) (s : ℕ) (h : List (Entry Stepped Copied)) → IsStormHistory words s h → IsLawful (objects_of words) s (map carried_in h)
+lawful_own : (words : Words) (s : ℕ) (h : List (NumberedEvent Stepped Copied)) → IsStormHistory words s h → IsLawful (objects_of words) s (map carried_in h)
 lawful_own words s [] all = all
 lawful_own words s (entry ∷ before) all =
     (record { input = all.0.input; may = all.0.may; is_next = all.0.is_next }, lawful_own words s before all.1)
@@ -29,7 +29,7 @@ pub histories_lawful : HistoriesAreLawful
 histories_lawful words s history all = lawful_own words s (reverse history) all
 
 -- it keeps its history, where it is not halted
-pub keeps_of : (words : Words) (cell : Cell) (s : ℕ) (history : List (Entry Stepped Copied)) → IsReplay words cell s history → cell.is_halted ≡ false → Keeps words s (own_history history) cell
+pub keeps_of : (words : Words) (cell : Cell) (s : ℕ) (history : List (NumberedEvent Stepped Copied)) → IsReplay words cell s history → cell.is_halted ≡ false → Keeps words s (own_history history) cell
 keeps_of words cell s history replay runs = by replay.keeps
   where
     by : (cell.is_halted ≡ true) ⊎ Keeps words s (own_history history) cell → Keeps words s (own_history history) cell

@@ -10,8 +10,8 @@ use Rattle.cam_event.specs.declared.Sent.{Sent}
 use Rattle.cam_event.specs.Inputs.{mail_of, event_at, letter_at, mail_got}
 use Rattle.cam_event.specs.ByDeltas.{Received, load_for, of_node, up_to, load_by, received_of}
 use Rattle.cam_cut.proofs.Families.{letter_older}
-use Rattle.cam_journal.specs.declared.entry.Step.{Step}
-use Rattle.cam_journal.specs.declared.entry.Sent.{Sent as Taken}
+use Rattle.cam_journal.specs.declared.entry.RunStep.{RunStep}
+use Rattle.cam_journal.specs.declared.entry.SentLetter.{SentLetter as Taken}
 use Rattle.cam_journal.specs.Trace.{Receives, IsSent}
 use Rattle.cam_journal.proofs.Lists.{slice_get-push}
 use Rattle.cam_gen.specs.Storms.{Words, objects_of, copies_of}
@@ -32,8 +32,8 @@ pub record LetterHolds (words : Words) (t : List Event) (letter : LetterId) (c :
 abbrev pub id_of : ℕ → ℕ → LetterId
 id_of i p = record { event = i; place = p }
 
-abbrev pub LettersHold : Words → List (Step Stepped Copied) → Type 0
-LettersHold words xs = (i p : ℕ) (y : Step Stepped Copied) (c : Copied) → slice_get (reverse xs) i ≡ Some y → slice_get y.event.letters p ≡ Some c → LetterHolds words (trace_of xs) (id_of i p) c
+abbrev pub LettersHold : Words → List (RunStep Stepped Copied) → Type 0
+LettersHold words xs = (i p : ℕ) (y : RunStep Stepped Copied) (c : Copied) → slice_get (reverse xs) i ≡ Some y → slice_get y.event.letters p ≡ Some c → LetterHolds words (trace_of xs) (id_of i p) c
 
 -- the letter at a place is the copy of what was sent there
 pub copied_at : (words : Words) (s : ℕ) (h : List Received) (n : ℕ) (sent : List Sent) (letters : List Copied) (p : ℕ) (c : Copied) → AreCopied words s h n sent letters → slice_get letters p ≡ Some c
@@ -97,11 +97,11 @@ old_letter words e t i p c below h = record {
     front : up_to (received_of objects (e ∷ t)) i ≡ up_to (received_of objects t) i
     front = ap (λ (b : Bool). if b then received_of objects (e ∷ t) else up_to (received_of objects t) i) (ap (eqb i) (received_length objects t) ∙ other)
 
-pub trace_length : (xs : List (Step Stepped Copied)) → length (trace_of xs) ≡ length (reverse xs)
+pub trace_length : (xs : List (RunStep Stepped Copied)) → length (trace_of xs) ≡ length (reverse xs)
 trace_length xs = length-map xs ev ∙ sym (length-reverse xs)
 
 -- so all letters hold with one more step
-pub letters_more : (words : Words) (x : Step Stepped Copied) (before : List (Step Stepped Copied)) → LettersHold words before
+pub letters_more : (words : Words) (x : RunStep Stepped Copied) (before : List (RunStep Stepped Copied)) → LettersHold words before
     → ((p : ℕ) (c : Copied) → slice_get x.event.letters p ≡ Some c → LetterHolds words (trace_of (x ∷ before)) (id_of (length (trace_of before)) p) c)
     → LettersHold words (x ∷ before)
 letters_more words x before old new i p y c at there =
@@ -112,11 +112,11 @@ letters_more words x before old new i p y c at there =
     let below = l.0 in
     old_letter words (ev x) t i p c (omega arith) (old i p y c l.1 there))
     (λ (r : (i ≡ length (reverse before)) × (x ≡ y)).
-    subst (λ (k : ℕ). LetterHolds words (ev x ∷ t) (id_of k p) c) (len ∙ sym r.0) (new p c (ap (λ (z : Step Stepped Copied). slice_get z.event.letters p) r.1 ∙ there)))
-    (slice_get-push (reverse before) x y i (subst (λ (l : List (Step Stepped Copied)). slice_get l i ≡ Some y) (reverse_more x before) at))
+    subst (λ (k : ℕ). LetterHolds words (ev x ∷ t) (id_of k p) c) (len ∙ sym r.0) (new p c (ap (λ (z : RunStep Stepped Copied). slice_get z.event.letters p) r.1 ∙ there)))
+    (slice_get-push (reverse before) x y i (subst (λ (l : List (RunStep Stepped Copied)). slice_get l i ≡ Some y) (reverse_more x before) at))
 
 -- what an event received is what its letter says and carries
-pub comes : (words : Words) (before : List (Step Stepped Copied)) (got : Option LetterId) (taken : Option (Taken Copied)) → LettersHold words before → Receives (named got) taken → IfSome taken (IsSent sends (reverse before))
+pub comes : (words : Words) (before : List (RunStep Stepped Copied)) (got : Option LetterId) (taken : Option (Taken Copied)) → LettersHold words before → Receives (named got) taken → IfSome taken (IsSent sends (reverse before))
     → (mail_in taken ≡ mail_got (trace_of before) got) × (load_in taken ≡ load_by (objects_of words) (received_of (objects_of words) (trace_of before)) got (mail_got (trace_of before) got))
 comes words before None None holds is sent = (refl, refl)
 comes words before None (Some k) holds is sent = absurd is

@@ -5,7 +5,7 @@ use Rattle.std.proofs.Math.Nat.{mul-suc}
 use Rattle.std.proofs.lemmas.Nat.{mul-le}
 use Rattle.std.proofs.lemmas.Bool.{eq-eqb}
 use Rattle.cam_event.specs.declared.LetterId.{LetterId}
-use Rattle.cam_journal.specs.declared.entry.Entry.{Entry}
+use Rattle.cam_journal.specs.declared.entry.NumberedEvent.{NumberedEvent}
 use Rattle.cam_journal.specs.Trace.{Receives as Named}
 use Rattle.cam_storm.specs.declared.Copied.{Copied}
 use Rattle.cam_storm.specs.declared.Stepped.{Stepped}
@@ -19,7 +19,7 @@ record OneMore (old new : ℕ) (here : Bool) : Type 0 where
   hit : here ≡ true → new ≡ old + 1
   miss : here ≡ false → new ≡ old
 
-times_more : (before behind : List (Entry Stepped Copied)) (x : Entry Stepped Copied) (l : LetterId) → OneMore (times (before ++ behind) l) (times (before ++ x ∷ behind) l) (is_letter l (event_at_entry x).got)
+times_more : (before behind : List (NumberedEvent Stepped Copied)) (x : NumberedEvent Stepped Copied) (l : LetterId) → OneMore (times (before ++ behind) l) (times (before ++ x ∷ behind) l) (is_letter l (event_at_entry x).got)
 times_more [] behind x l = record {
   hit = λ h. ap (λ (b : Bool). if b then times behind l + 1 else times behind l) h;
   miss = λ h. ap (λ (b : Bool). if b then times behind l + 1 else times behind l) h;
@@ -36,7 +36,7 @@ times_more (y ∷ before) behind x l =
     by true m n h = omega (arith, h)
     by false m n h = h
 
-times_grow : (before behind : List (Entry Stepped Copied)) (x : Entry Stepped Copied) (l : LetterId) → times (before ++ behind) l ≤ times (before ++ x ∷ behind) l
+times_grow : (before behind : List (NumberedEvent Stepped Copied)) (x : NumberedEvent Stepped Copied) (l : LetterId) → times (before ++ behind) l ≤ times (before ++ x ∷ behind) l
 times_grow before behind x l = by (is_letter l (event_at_entry x).got) refl
   where
     more : OneMore (times (before ++ behind) l) (times (before ++ x ∷ behind) l) (is_letter l (event_at_entry x).got)
@@ -96,14 +96,14 @@ left_of_lower came now n p (suc q) (d ∷ cs) c grow at is less =
     let here : copy_weight d.letter.body * (d.copies - now l) ≤ copy_weight d.letter.body * (d.copies - came l) = mul-le (copy_weight d.letter.body) (d.copies - now l) (copy_weight d.letter.body) (d.copies - came l) (omega arith) (omega (arith, more)) in
     omega (arith, rest, here)
 
-left_from_less : (came now : LetterId → ℕ) (xs : List (Entry Stepped Copied)) → ((l : LetterId) → came l ≤ now l) → left_from now xs ≤ left_from came xs
+left_from_less : (came now : LetterId → ℕ) (xs : List (NumberedEvent Stepped Copied)) → ((l : LetterId) → came l ≤ now l) → left_from now xs ≤ left_from came xs
 left_from_less came now [] grow = omega arith
 left_from_less came now (x ∷ xs) grow =
     let here = left_of_less came now x.number 0 x.event.letters grow in
     let rest = left_from_less came now xs grow in
     omega (arith, here, rest)
 
-left_from_lower : (came now : LetterId → ℕ) (xs : List (Entry Stepped Copied)) (at q : ℕ) (sender : Entry Stepped Copied) (c : Copied) → ((l : LetterId) → came l ≤ now l) → slice_get xs at ≡ Some sender → slice_get sender.event.letters q ≡ Some c
+left_from_lower : (came now : LetterId → ℕ) (xs : List (NumberedEvent Stepped Copied)) (at q : ℕ) (sender : NumberedEvent Stepped Copied) (c : Copied) → ((l : LetterId) → came l ≤ now l) → slice_get xs at ≡ Some sender → slice_get sender.event.letters q ≡ Some c
     → now (record { event = sender.number; place = q }) ≡ came (record { event = sender.number; place = q }) + 1 → came (record { event = sender.number; place = q }) < c.copies
     → left_from now xs + copy_weight c.letter.body ≤ left_from came xs
 left_from_lower came now [] at q sender c grow there letter is less = absurd (cc)
@@ -111,7 +111,7 @@ left_from_lower came now (x ∷ xs) zero q sender c grow there letter is less =
     let same : sender ≡ x = cc in
     let place : q ≡ 0 + q = omega arith in
     let here : left_of now x.number 0 x.event.letters + copy_weight c.letter.body ≤ left_of came x.number 0 x.event.letters =
-    subst (λ (y : Entry Stepped Copied). left_of now y.number 0 y.event.letters + copy_weight c.letter.body ≤ left_of came y.number 0 y.event.letters) same
+    subst (λ (y : NumberedEvent Stepped Copied). left_of now y.number 0 y.event.letters + copy_weight c.letter.body ≤ left_of came y.number 0 y.event.letters) same
     (left_of_lower came now sender.number 0 q sender.event.letters c grow letter
     (subst (λ (k : ℕ). now (record { event = sender.number; place = k }) ≡ came (record { event = sender.number; place = k }) + 1) place is)
     (subst (λ (k : ℕ). came (record { event = sender.number; place = k }) < c.copies) place less)) in
@@ -122,13 +122,13 @@ left_from_lower came now (x ∷ xs) (suc at) q sender c grow there letter is les
     let here = left_of_less came now x.number 0 x.event.letters grow in
     omega (arith, here, rest)
 
-left_with : (came : LetterId → ℕ) (before behind : List (Entry Stepped Copied)) (x : Entry Stepped Copied) → left_from came (before ++ x ∷ behind) ≡ left_from came (before ++ behind) + left_of came x.number 0 x.event.letters
+left_with : (came : LetterId → ℕ) (before behind : List (NumberedEvent Stepped Copied)) (x : NumberedEvent Stepped Copied) → left_from came (before ++ x ∷ behind) ≡ left_from came (before ++ behind) + left_of came x.number 0 x.event.letters
 left_with came [] behind x = omega arith
 left_with came (y ∷ before) behind x = let rest = left_with came before behind x in omega (arith, rest)
 
 pub receipts_lower : ReceiptsLower
 receipts_lower words before behind s history sent e number r =
-    let x : Entry Stepped Copied = record { number = number; event = e; received = Some sent } in
+    let x : NumberedEvent Stepped Copied = record { number = number; event = e; received = Some sent } in
     let came : LetterId → ℕ = times (before ++ behind) in
     let now : LetterId → ℕ = times (before ++ x ∷ behind) in
     let l : LetterId = record { event = sent.number; place = sent.place } in

@@ -17,8 +17,8 @@ use Rattle.cam_event.specs.Runs.{IsRun}
 use Rattle.cam_know.specs.Known.{nothing}
 use Rattle.cam_cut.proofs.Families.{SentBy, sent_by}
 use Rattle.cam_delta.proofs.SameReadings.{refusals_agree}
-use Rattle.cam_journal.specs.declared.entry.Entry.{Entry}
-use Rattle.cam_journal.specs.declared.entry.Step.{Step}
+use Rattle.cam_journal.specs.declared.entry.NumberedEvent.{NumberedEvent}
+use Rattle.cam_journal.specs.declared.entry.RunStep.{RunStep}
 use Rattle.cam_journal.specs.Trace.{entry_of, history_of}
 use Rattle.cam_journal.specs.Seats.{Sitting}
 use Rattle.cam_gen.specs.Storms.{objects_of, tops_of}
@@ -46,10 +46,10 @@ gathered_are_settled words journal seats gathered four are all left =
     objects : List ObjectDecl
     objects = objects_of words
 
-    trace : List (Step Stepped Copied)
+    trace : List (RunStep Stepped Copied)
     trace = all.trace
 
-    xs : List (Step Stepped Copied)
+    xs : List (RunStep Stepped Copied)
     xs = reverse trace
 
     is : AreTurned words xs × (events_of gathered ≡ trace_of xs)
@@ -68,7 +68,7 @@ gathered_are_settled words journal seats gathered four are all left =
     run = storm_is_run words t holds.storm
 
     own_is : (s : ℕ) → own_history (history_of s trace) ≡ own_of s xs
-    own_is s = ap (λ (l : List (Step Stepped Copied)). own_history (history_of s l)) (sym back) ∙ own_turned s xs
+    own_is s = ap (λ (l : List (RunStep Stepped Copied)). own_history (history_of s l)) (sym back) ∙ own_turned s xs
 
     has : (s : ℕ) → 1 ≤ s → s ≤ 4 → Contains (map (λ (seat : Sitting Stepped Copied). seat.node) seats) s
     has s low high = are.each s (omega (arith, low), omega (arith, high, four))
@@ -98,17 +98,17 @@ gathered_are_settled words journal seats gathered four are all left =
       | inr out ↦ no_drives words t a want (sym (holds.own (home_node a)) ∙ own_none words xs (home_node a) is.0 out) d
     ]
 
-    came : (i p : ℕ) (y : Step Stepped Copied) (c : Copied) → slice_get trace i ≡ Some y → slice_get y.event.letters p ≡ Some c → received t (id_of i p) ≡ copies words t (id_of i p)
+    came : (i p : ℕ) (y : RunStep Stepped Copied) (c : Copied) → slice_get trace i ≡ Some y → slice_get y.event.letters p ≡ Some c → received t (id_of i p) ≡ copies words t (id_of i p)
     came i p y c at there =
         let near = is_near i y at in
-        let h : LetterHolds words t (id_of i p) c = holds.letters i p y c (subst (λ (l : List (Step Stepped Copied)). slice_get l i ≡ Some y) (sym back) at) there in
+        let h : LetterHolds words t (id_of i p) c = holds.letters i p y c (subst (λ (l : List (RunStep Stepped Copied)). slice_get l i ≡ Some y) (sym back) at) there in
         let entry = entry_found y.node 0 trace i y at refl in
         let place : slice_get (history_of y.node trace) entry.0 ≡ Some (entry_of i y) = entry.1 ∙ ap (λ (k : ℕ). Some (entry_of k y)) (from_none i) in
         let to = letters_inside words t (id_of i p) (letter_mail c.letter) holds.storm h.mail in
         let m : ℕ = c.letter.to in
-        let all_times = at_node trace seats (λ n l. All (λ (other : Sitting Stepped Copied). (k q : ℕ) (x : Entry Stepped Copied) (b : Copied) → slice_get l k ≡ Some x → slice_get x.event.letters q ≡ Some b → b.letter.to ≡ other.node → b.copies ≤ received (map event_in (own_history other.history)) (record { event = x.number; place = q })) seats)
+        let all_times = at_node trace seats (λ n l. All (λ (other : Sitting Stepped Copied). (k q : ℕ) (x : NumberedEvent Stepped Copied) (b : Copied) → slice_get l k ≡ Some x → slice_get x.event.letters q ≡ Some b → b.letter.to ≡ other.node → b.copies ≤ received (map event_in (own_history other.history)) (record { event = x.number; place = q })) seats)
         all.histories left.delivered y.node (has y.node near.0 near.1) in
-        let times = at_node trace seats (λ n l. (k q : ℕ) (x : Entry Stepped Copied) (b : Copied) → slice_get (history_of y.node trace) k ≡ Some x → slice_get x.event.letters q ≡ Some b → b.letter.to ≡ n → b.copies ≤ received (map event_in (own_history l)) (record { event = x.number; place = q }))
+        let times = at_node trace seats (λ n l. (k q : ℕ) (x : NumberedEvent Stepped Copied) (b : Copied) → slice_get (history_of y.node trace) k ≡ Some x → slice_get x.event.letters q ≡ Some b → b.letter.to ≡ n → b.copies ≤ received (map event_in (own_history l)) (record { event = x.number; place = q }))
         all.histories all_times m (has m to.0 to.1) entry.0 p (entry_of i y) c place there refl in
         let own : received (map event_in (own_history (history_of m trace))) (id_of i p) ≡ received t (id_of i p) =
         ap (λ (es : List Event). received es (id_of i p)) (ap (λ (l : List Received). map event_in l) (own_is m) ∙ ap (map event_in) (holds.own m) ∙ events_own objects t m)
@@ -117,7 +117,7 @@ gathered_are_settled words journal seats gathered four are all left =
         let all_copies : c.copies ≡ copies words t (id_of i p) = h.copies in
         omega (arith, times, own, most, all_copies)
       where
-        is_near : (i : ℕ) (y : Step Stepped Copied) → slice_get trace i ≡ Some y → (1 ≤ y.node) × (y.node ≤ 4)
+        is_near : (i : ℕ) (y : RunStep Stepped Copied) → slice_get trace i ≡ Some y → (1 ≤ y.node) × (y.node ≤ 4)
         is_near i y at = only_nodes trace all.nodes_only i y at
 
     delivered : (letter : LetterId) → is_some (letter_at t letter) ≡ true → received t letter ≡ copies words t letter
@@ -128,8 +128,8 @@ gathered_are_settled words journal seats gathered four are all left =
         by (Some mail) at h =
             let from : SentBy t letter mail = sent_by t letter mail at in
             let found = event_found xs letter.event from.event from.at in
-            let y : Step Stepped Copied = found.0 in
-            let there : slice_get trace letter.event ≡ Some y = subst (λ (l : List (Step Stepped Copied)). slice_get l letter.event ≡ Some y) back found.1 in
+            let y : RunStep Stepped Copied = found.0 in
+            let there : slice_get trace letter.event ≡ Some y = subst (λ (l : List (RunStep Stepped Copied)). slice_get l letter.event ≡ Some y) back found.1 in
             let step = (all.run letter.event y there).allowed.1 in
             let copy = sent_copied words y.node _ _ (ev y).sent y.event.letters letter.place from.sent step.letters (ap (λ (e : Event). slice_get e.sent letter.place) found.2 ∙ from.place) in
             came letter.event letter.place y copy.0 there copy.1

@@ -24,8 +24,8 @@ use Rattle.cam_delta.proofs.SameReadings.{events_agree}
 use Rattle.cam_agree.proofs.OrphanFacts.{sent_of}
 use Rattle.cam_runs.specs.Playing.{is_stop_of}
 use Rattle.cam_runs.proofs.OneEvent.{first_none}
-use Rattle.cam_journal.specs.declared.entry.Entry.{Entry}
-use Rattle.cam_journal.specs.declared.entry.Step.{Step}
+use Rattle.cam_journal.specs.declared.entry.NumberedEvent.{NumberedEvent}
+use Rattle.cam_journal.specs.declared.entry.RunStep.{RunStep}
 use Rattle.cam_journal.specs.Trace.{entry_of, history_from, history_of}
 use Rattle.cam_journal.specs.Seats.{Sitting}
 use Rattle.cam_journal.proofs.Lists.{slice_get-longer, slice_get-end}
@@ -58,28 +58,28 @@ pub gathered_by_knowledge : GatheredByKnowledge
 gathered_by_knowledge words seats gathered all = storm_held words (events_of gathered) (gathered_are_storms words seats gathered all)
 
 -- what holds at each seat holds of each node's history in the run
-pub at_node : (trace : List (Step Stepped Copied)) (seats : List (Sitting Stepped Copied)) (R : ℕ → List (Entry Stepped Copied) → Type 0) → All (λ (seat : Sitting Stepped Copied). seat.history ≡ history_of seat.node trace) seats
+pub at_node : (trace : List (RunStep Stepped Copied)) (seats : List (Sitting Stepped Copied)) (R : ℕ → List (NumberedEvent Stepped Copied) → Type 0) → All (λ (seat : Sitting Stepped Copied). seat.history ≡ history_of seat.node trace) seats
     → All (λ (seat : Sitting Stepped Copied). R seat.node seat.history) seats → (s : ℕ) → Contains (map (λ (seat : Sitting Stepped Copied). seat.node) seats) s → R s (history_of s trace)
 at_node trace seats R histories each s has =
     All-contains (λ n. R n (history_of n trace)) (map (λ (seat : Sitting Stepped Copied). seat.node) seats) s
     (All-map (λ n. R n (history_of n trace)) (λ (seat : Sitting Stepped Copied). seat.node) seats
-    (λ k d below. subst (λ (h : List (Entry Stepped Copied)). R (slice_index_or seats k d).node h) (histories k d below) (each k d below))) has
+    (λ k d below. subst (λ (h : List (NumberedEvent Stepped Copied)). R (slice_index_or seats k d).node h) (histories k d below) (each k d below))) has
 
 -- an event of the run is one of its steps
-pub event_found : (xs : List (Step Stepped Copied)) (i : ℕ) (e : Event) → event_at (trace_of xs) i ≡ Some e → (y : Step Stepped Copied) × (slice_get (reverse xs) i ≡ Some y) × (ev y ≡ e)
+pub event_found : (xs : List (RunStep Stepped Copied)) (i : ℕ) (e : Event) → event_at (trace_of xs) i ≡ Some e → (y : RunStep Stepped Copied) × (slice_get (reverse xs) i ≡ Some y) × (ev y ≡ e)
 event_found [] i e at = absurd (cc)
 event_found (x ∷ before) i e at = elim (eqb_tells i (length (trace_of before))) [
   | inl y ↦
       let here : Some (ev x) ≡ Some e = sym (ap (λ (b : Bool). if b then Some (ev x) else event_at (trace_of before) i) y.0) ∙ at in
       let place : length (reverse before) ≡ i = sym (trace_length before) ∙ sym y.1 in (
         x,
-        subst (λ (l : List (Step Stepped Copied)). slice_get l i ≡ Some x) (sym (reverse_more x before)) (subst (λ (k : ℕ). slice_get (reverse before ++ x ∷ []) k ≡ Some x) place (slice_get-end (reverse before) x)),
+        subst (λ (l : List (RunStep Stepped Copied)). slice_get l i ≡ Some x) (sym (reverse_more x before)) (subst (λ (k : ℕ). slice_get (reverse before ++ x ∷ []) k ≡ Some x) place (slice_get-end (reverse before) x)),
         same_Some (ev x) e here,
       )
   | inr n ↦
       let rest = event_found before i e (sym (ap (λ (b : Bool). if b then Some (ev x) else event_at (trace_of before) i) n.0) ∙ at) in (
         rest.0,
-        subst (λ (l : List (Step Stepped Copied)). slice_get l i ≡ Some rest.0) (sym (reverse_more x before)) (slice_get-longer (reverse before) (x ∷ []) i rest.0 rest.1),
+        subst (λ (l : List (RunStep Stepped Copied)). slice_get l i ≡ Some rest.0) (sym (reverse_more x before)) (slice_get-longer (reverse before) (x ∷ []) i rest.0 rest.1),
         rest.2,
       )
 ]
@@ -93,13 +93,13 @@ sent_copied words s h n [] (c ∷ letters) p m all at = absurd all
 sent_copied words s h n (k ∷ sent) [] p m all at = absurd all
 
 -- a step of a node is an entry of its history
-pub entry_found : (node n : ℕ) (trace : List (Step Stepped Copied)) (k : ℕ) (y : Step Stepped Copied) → slice_get trace k ≡ Some y → y.node ≡ node → (at : ℕ) × (slice_get (history_from node n trace) at ≡ Some (entry_of (n + k) y))
+pub entry_found : (node n : ℕ) (trace : List (RunStep Stepped Copied)) (k : ℕ) (y : RunStep Stepped Copied) → slice_get trace k ≡ Some y → y.node ≡ node → (at : ℕ) × (slice_get (history_from node n trace) at ≡ Some (entry_of (n + k) y))
 entry_found node n [] k y at here = absurd (cc)
 entry_found node n (x ∷ trace) zero y at here =
     let same : x ≡ y = cc in
-    let is : (x.node == node) ≡ true = eq-eqb x.node node (ap (λ (z : Step Stepped Copied). z.node) same ∙ here) in (
+    let is : (x.node == node) ≡ true = eq-eqb x.node node (ap (λ (z : RunStep Stepped Copied). z.node) same ∙ here) in (
       0,
-      ap (λ (l : List (Entry Stepped Copied)). slice_get l 0) (if_here (x.node == node) (entry_of n x ∷ history_from node (n + 1) trace) (history_from node (n + 1) trace) is)
+      ap (λ (l : List (NumberedEvent Stepped Copied)). slice_get l 0) (if_here (x.node == node) (entry_of n x ∷ history_from node (n + 1) trace) (history_from node (n + 1) trace) is)
           ∙ (λ i. Some (entry_of (place i) (same i))),
     )
   where
@@ -117,7 +117,7 @@ pub from_none : (i : ℕ) → 0 + i ≡ i
 from_none i = omega arith
 
 -- a node outside has no events
-pub own_none : (words : Words) (xs : List (Step Stepped Copied)) (s : ℕ) → AreTurned words xs → ((1 ≤ s) × (s ≤ 4) → ⊥) → own_of s xs ≡ []
+pub own_none : (words : Words) (xs : List (RunStep Stepped Copied)) (s : ℕ) → AreTurned words xs → ((1 ≤ s) × (s ≤ 4) → ⊥) → own_of s xs ≡ []
 own_none words [] s are out = refl
 own_none words (x ∷ before) s are out = elim (eqb_tells x.node s) [
   | inl y ↦ absurd (out (subst (λ (n : ℕ). (1 ≤ n) × (n ≤ 4)) y.1 are.0.node))

@@ -32,7 +32,7 @@ use Rattle.cam_cut.proofs.LegalFacts.{call_in}
 use Rattle.cam_cut.proofs.Lists.{flat_in}
 use Rattle.cam_cut.proofs.Pairs.{pairs_in}
 use Rattle.cam_agree.proofs.DepsLearned.{in_both_known, learned}
-use Rattle.cam_journal.specs.declared.entry.Sent.{Sent as Taken}
+use Rattle.cam_journal.specs.declared.entry.SentLetter.{SentLetter as Taken}
 use Rattle.cam_gen.specs.Storms.{Words, objects_of}
 use Rattle.cam_know.specs.Order.{told_in_order}
 use Rattle.cam_event.specs.Loads.{Load}

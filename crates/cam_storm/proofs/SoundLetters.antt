@@ -21,7 +21,7 @@ use Rattle.cam_event.proofs.Members.{In}
 use Rattle.cam_node.specs.Lawful.{IsForNode, body_counts, are_known, is_known_outcome}
 use Rattle.cam_cut.proofs.Lists.{slice_in, all_in}
 use Rattle.cam_cut.proofs.Pairs.{pairs_in}
-use Rattle.cam_journal.specs.declared.entry.Entry.{Entry}
+use Rattle.cam_journal.specs.declared.entry.NumberedEvent.{NumberedEvent}
 use Rattle.cam_gen.specs.Storms.{Words, objects_of}
 use Rattle.cam_know.specs.Order.{told_in_order}
 use Rattle.cam_event.specs.Loads.{Load}
@@ -41,7 +41,7 @@ use Rattle.cam_storm.proofs.Sound.{sound_more}
 one_known : (s : ℕ) → 1 ≤ s → s ≤ 8 → 1 ≤ known_count nothing s
 one_known s low high = let e = get_or-replicate {A = ℕ} 8 (s - 1) 1 0 (omega (arith, low, high)) in omega (arith, e)
 
-sound_history : (words : Words) (s : ℕ) (h : List (Entry Stepped Copied)) → 1 ≤ s → s ≤ 8 → IsStormHistory words s h → Sound (objects_of words) s (map as_carried (map carried_in h))
+sound_history : (words : Words) (s : ℕ) (h : List (NumberedEvent Stepped Copied)) → 1 ≤ s → s ≤ 8 → IsStormHistory words s h → Sound (objects_of words) s (map as_carried (map carried_in h))
 sound_history words s [] low high all = record {
   long = omega arith;
   present = one_known s low high;

@@ -17,7 +17,7 @@ use Rattle.cam_event.specs.Rules.{Did, rule, top_name}
 use Rattle.cam_event.specs.ByKnowledge.{Carried, deeds_of, held, held_informs, held_sight}
 use Rattle.cam_event.proofs.Members.{In, in_append, any_in}
 use Rattle.cam_cut.proofs.Informs.{IsInformAt, in_informs, keep_informs}
-use Rattle.cam_journal.specs.declared.entry.Sent.{Sent as Taken}
+use Rattle.cam_journal.specs.declared.entry.SentLetter.{SentLetter as Taken}
 use Rattle.cam_gen.specs.Storms.{Words, objects_of}
 use Rattle.cam_know.specs.Order.{told_in_order}
 use Rattle.cam_event.specs.Loads.{Load}

@@ -7,8 +7,8 @@ use Rattle.std.proofs.lemmas.Option.{slice_get_within, get_or_from_slice_get}
 use Rattle.std.proofs.lemmas.Bool.Decides.{eqb_tells}
 use Rattle.cam_event.specs.declared.Event.{Event}
 use Rattle.cam_event.specs.ByDeltas.{Received}
-use Rattle.cam_journal.specs.declared.entry.Entry.{Entry}
-use Rattle.cam_journal.specs.declared.entry.Step.{Step}
+use Rattle.cam_journal.specs.declared.entry.NumberedEvent.{NumberedEvent}
+use Rattle.cam_journal.specs.declared.entry.RunStep.{RunStep}
 use Rattle.cam_journal.specs.Trace.{entry_of, history_of, numbered_from, IsLawful, IsRun}
 use Rattle.cam_journal.specs.Rule.{IsNode}
 use Rattle.cam_journal.proofs.Lists.{slice_get-longer, slice_get-end}
@@ -25,73 +25,73 @@ pub reverse_last : {X : Type 0} (x : X) (xs : List X) → reverse (xs ++ x ∷ [
 reverse_last x xs = reverse-append xs (x ∷ [])
 
 -- a step that is lawful after those before it, of one of the four nodes
-pub record IsTurned (words : Words) (before : List (Step Stepped Copied)) (x : Step Stepped Copied) : Type 0 where
+pub record IsTurned (words : Words) (before : List (RunStep Stepped Copied)) (x : RunStep Stepped Copied) : Type 0 where
   pub lawful : IsLawful names sends (lawful words) (reverse before) x
   pub node : (1 ≤ x.node) × (x.node ≤ 4)
 
 -- each of them is, the newest first
-abbrev pub AreTurned : Words → List (Step Stepped Copied) → Type 0
+abbrev pub AreTurned : Words → List (RunStep Stepped Copied) → Type 0
 AreTurned words [] = Unit {0}
 AreTurned words (x ∷ before) = IsTurned words before x × AreTurned words before
 
 -- the steps are of these nodes
-abbrev pub OnlyNodes : List (Step Stepped Copied) → Type 0
-OnlyNodes trace = (n : ℕ) (x : Step Stepped Copied) → slice_get trace n ≡ Some x → (1 ≤ x.node) × (x.node ≤ 4)
+abbrev pub OnlyNodes : List (RunStep Stepped Copied) → Type 0
+OnlyNodes trace = (n : ℕ) (x : RunStep Stepped Copied) → slice_get trace n ≡ Some x → (1 ≤ x.node) × (x.node ≤ 4)
 
-pub only_nodes : (trace : List (Step Stepped Copied)) → All (λ step. IsNode 4 step.node) trace → OnlyNodes trace
+pub only_nodes : (trace : List (RunStep Stepped Copied)) → All (λ step. IsNode 4 step.node) trace → OnlyNodes trace
 only_nodes trace all n x at =
     let here : slice_index_or trace n x ≡ x = get_or_from_slice_get trace n x x at in
-    let is : IsNode 4 x.node = subst (λ (y : Step Stepped Copied). IsNode 4 y.node) here (all n x (slice_get_within trace n x at)) in
+    let is : IsNode 4 x.node = subst (λ (y : RunStep Stepped Copied). IsNode 4 y.node) here (all n x (slice_get_within trace n x at)) in
     (let low = is.0 in omega arith, is.1)
 
-pub turned : (words : Words) (xs : List (Step Stepped Copied)) → IsRun names sends (lawful words) (reverse xs) → OnlyNodes (reverse xs) → AreTurned words xs
+pub turned : (words : Words) (xs : List (RunStep Stepped Copied)) → IsRun names sends (lawful words) (reverse xs) → OnlyNodes (reverse xs) → AreTurned words xs
 turned words [] run only = tt
 turned words (x ∷ before) run only =
     let is : reverse (x ∷ before) ≡ reverse before ++ x ∷ [] = reverse_more x before in
-    let whole : IsRun names sends (lawful words) (reverse before ++ x ∷ []) = subst (λ (trace : List (Step Stepped Copied)). IsRun names sends (lawful words) trace) is run in
+    let whole : IsRun names sends (lawful words) (reverse before ++ x ∷ []) = subst (λ (trace : List (RunStep Stepped Copied)). IsRun names sends (lawful words) trace) is run in
     let nodes : OnlyNodes (reverse before ++ x ∷ []) = subst OnlyNodes is only in
     let front : take (length (reverse before)) (reverse before ++ x ∷ []) ≡ reverse before = take-append_seam (reverse before) (x ∷ []) in (
       record {
-        lawful = subst (λ (b : List (Step Stepped Copied)). IsLawful names sends (lawful words) b x) front (whole (length (reverse before)) x (slice_get-end (reverse before) x));
+        lawful = subst (λ (b : List (RunStep Stepped Copied)). IsLawful names sends (lawful words) b x) front (whole (length (reverse before)) x (slice_get-end (reverse before) x));
         node = nodes (length (reverse before)) x (slice_get-end (reverse before) x);
       },
       turned words before
           (λ n y at.
           let below : n < length (reverse before) = slice_get_within (reverse before) n y at in
-          subst (λ (b : List (Step Stepped Copied)). IsLawful names sends (lawful words) b y) (take-append-le n (reverse before) (x ∷ []) (omega arith)) (whole n y (slice_get-longer (reverse before) (x ∷ []) n y at)))
+          subst (λ (b : List (RunStep Stepped Copied)). IsLawful names sends (lawful words) b y) (take-append-le n (reverse before) (x ∷ []) (omega arith)) (whole n y (slice_get-longer (reverse before) (x ∷ []) n y at)))
           (λ n y at. nodes n y (slice_get-longer (reverse before) (x ∷ []) n y at)),
     )
 
 -- the events, and a node's own history
-abbrev pub ev : Step Stepped Copied → Event
+abbrev pub ev : RunStep Stepped Copied → Event
 ev x = x.event.event
 
-abbrev pub trace_of : List (Step Stepped Copied) → List Event
+abbrev pub trace_of : List (RunStep Stepped Copied) → List Event
 trace_of xs = map ev xs
 
-abbrev pub own_of : ℕ → List (Step Stepped Copied) → List Received
+abbrev pub own_of : ℕ → List (RunStep Stepped Copied) → List Received
 own_of s [] = []
 own_of s (x ∷ before) = if eqb x.node s then carried x.event x.received ∷ own_of s before else own_of s before
 
 -- it is that of the seat
-pub own_turned : (s : ℕ) (xs : List (Step Stepped Copied)) → own_history (history_of s (reverse xs)) ≡ own_of s xs
+pub own_turned : (s : ℕ) (xs : List (RunStep Stepped Copied)) → own_history (history_of s (reverse xs)) ≡ own_of s xs
 own_turned s [] = refl
 own_turned s (x ∷ before) = elim (eqb_tells x.node s) [
   | inl y ↦
-      ap (λ (trace : List (Step Stepped Copied)). own_history (history_of s trace)) (reverse_more x before)
+      ap (λ (trace : List (RunStep Stepped Copied)). own_history (history_of s trace)) (reverse_more x before)
       ∙ ap own_history (history_of-same s (reverse before) x y.1)
-      ∙ ap (λ (h : List (Entry Stepped Copied)). map carried_in h) (reverse_last (entry_of (length (reverse before)) x) (history_of s (reverse before)))
+      ∙ ap (λ (h : List (NumberedEvent Stepped Copied)). map carried_in h) (reverse_last (entry_of (length (reverse before)) x) (history_of s (reverse before)))
       ∙ ap (λ (h : List Received). carried x.event x.received ∷ h) (own_turned s before)
       ∙ ap (λ (b : Bool). if b then carried x.event x.received ∷ own_of s before else own_of s before) (sym y.0)
   | inr n ↦
-      ap (λ (trace : List (Step Stepped Copied)). own_history (history_of s trace)) (reverse_more x before)
+      ap (λ (trace : List (RunStep Stepped Copied)). own_history (history_of s trace)) (reverse_more x before)
       ∙ ap own_history (history_of-other s (reverse before) x n.1)
       ∙ own_turned s before
       ∙ ap (λ (b : Bool). if b then carried x.event x.received ∷ own_of s before else own_of s before) (sym n.0)
 ]
 
 -- the numbers fall away
-pub numbered_events : (n : ℕ) (trace : List (Step Stepped Copied)) → map (λ (p : ℕ × Stepped). p.1.event) (numbered_from n trace) ≡ trace_of trace
+pub numbered_events : (n : ℕ) (trace : List (RunStep Stepped Copied)) → map (λ (p : ℕ × Stepped). p.1.event) (numbered_from n trace) ≡ trace_of trace
 numbered_events n [] = refl
 numbered_events n (x ∷ trace) = ap (λ (es : List Event). ev x ∷ es) (numbered_events (n + 1) trace)
 

@@ -14,7 +14,7 @@ use Rattle.cam_event.specs.ByDeltas.{Received, as_carried}
 use Rattle.cam_tranman.specs.Actions.{MayRunHere}
 use Rattle.cam_node.specs.Represents.{Node, Represents}
 use Rattle.cam_runs.specs.Playing.{is_stop_of}
-use Rattle.cam_journal.specs.declared.entry.Sent.{Sent as Taken}
+use Rattle.cam_journal.specs.declared.entry.SentLetter.{SentLetter as Taken}
 use Rattle.cam_journal.specs.Taking.{received_of, letter_in}
 use Rattle.cam_journal.specs.declared.input.CoreInput.{CoreInput}
 use Rattle.cam_journal.specs.declared.input.CoreInput.TheVariants.{Letter, Drive}

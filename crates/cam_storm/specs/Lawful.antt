@@ -18,8 +18,8 @@ use Rattle.cam_event.specs.Loads.{Load, no_load}
 use Rattle.cam_event.specs.ByKnowledge.{deeds_of, node_step}
 use Rattle.cam_event.specs.ByDeltas.{Received, as_carried, load_for}
 use Rattle.cam_node.specs.Lawful.{MayBePut}
-use Rattle.cam_journal.specs.declared.entry.Entry.{Entry}
-use Rattle.cam_journal.specs.declared.entry.Sent.{Sent as Taken}
+use Rattle.cam_journal.specs.declared.entry.NumberedEvent.{NumberedEvent}
+use Rattle.cam_journal.specs.declared.entry.SentLetter.{SentLetter as Taken}
 use Rattle.cam_gen.specs.Storms.{Words, objects_of, tops_of, copies_of, restarts_at}
 use Rattle.cam_storm.specs.declared.Copied.{Copied}
 use Rattle.cam_storm.specs.declared.Stepped.{Stepped}
@@ -28,7 +28,7 @@ use Rattle.cam_storm.specs.Own.{event_in, own_sent, sight_at, OwnDrives}
 
 -- the history of a seat of the journal: its events, each with its letters and what it received
 abbrev pub SeatHistory : Type 0
-SeatHistory = List (Entry Stepped Copied)
+SeatHistory = List (NumberedEvent Stepped Copied)
 
 -- which letter an event received, by number and place
 abbrev pub named : Option LetterId → Option (ℕ × ℕ)
@@ -70,7 +70,7 @@ load_in (Some sent) = letter_load sent.letter.letter
 abbrev pub carried : Stepped → Option (Taken Copied) → Received
 carried e received = record { event = e.event; mail = mail_in received; load = load_in received }
 
-abbrev pub carried_in : Entry Stepped Copied → Received
+abbrev pub carried_in : NumberedEvent Stepped Copied → Received
 carried_in entry = carried entry.event entry.received
 
 -- the history of a seat, the newest event first

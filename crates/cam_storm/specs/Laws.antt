@@ -13,8 +13,8 @@ use Rattle.cam_event.specs.Runs.{IsWant, IsRun}
 use Rattle.cam_event.specs.Agreement.{IsSent}
 use Rattle.cam_type.specs.declared.ObjectDecl.{ObjectDecl}
 use Rattle.cam_node.specs.Lawful.{IsLetter, IsLawful}
-use Rattle.cam_journal.specs.declared.entry.Entry.{Entry}
-use Rattle.cam_journal.specs.declared.entry.Sent.{Sent as Taken}
+use Rattle.cam_journal.specs.declared.entry.NumberedEvent.{NumberedEvent}
+use Rattle.cam_journal.specs.declared.entry.SentLetter.{SentLetter as Taken}
 use Rattle.cam_journal.specs.declared.input.CoreInput.{CoreInput}
 use Rattle.cam_journal.specs.declared.input.CoreInput.TheVariants.{Letter, Drive}
 use Rattle.cam_journal.specs.Taking.{letter_in, IsNext, IsFromLawful}
@@ -112,7 +112,7 @@ pub record NothingLeft (words : Words) (seats : Seats) : Type 0 where
       → OwnRequest words seat.node (own_history seat.history) a want → ⊥) seats
   pub delivered :
       All (λ seat. All (λ other.
-      (at place : ℕ) (entry : Entry Stepped Copied) (c : Copied)
+      (at place : ℕ) (entry : NumberedEvent Stepped Copied) (c : Copied)
       → slice_get seat.history at ≡ Some entry → slice_get entry.event.letters place ≡ Some c
       → c.letter.to ≡ other.node
       → c.copies

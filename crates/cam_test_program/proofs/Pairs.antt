@@ -5,7 +5,7 @@ use Rattle.std.proofs.lemmas.Bool.{cases_lt}
 use Rattle.std.proofs.lemmas.Bool.Decides.{nat_tests}
 use Rattle.std.proofs.lemmas.List.Elements.{All-nil, All-cons, Contains-get_or}
 use Rattle.atomic_table.specs.Seated.{TableId}
-use Rattle.cam_journal.specs.declared.entry.Entry.{Entry}
+use Rattle.cam_journal.specs.declared.entry.NumberedEvent.{NumberedEvent}
 use Rattle.cam_journal.specs.Seats.{Opened, Sitting, AreNew, letter_at}
 use Rattle.cam_journal.specs.Gathered.{AreSeats}
 use Rattle.cam_journal.proofs.Lists.{slice_get-longer, slice_get-end}
@@ -47,7 +47,7 @@ two_are_seats {E} {L} journal seats one two are nodes one_own one_node two_own t
     }
 
 -- the letter of the one event of a history
-pub first_letter : {E L : Type 0} (sends : E → List L) (history : List (Entry E L)) (entry : Entry E L) (number : ℕ) → history ≡ entry ∷ [] → entry.number ≡ number → IsSome (slice_get (sends entry.event) 0) → IsSome (letter_at sends history number 0)
+pub first_letter : {E L : Type 0} (sends : E → List L) (history : List (NumberedEvent E L)) (entry : NumberedEvent E L) (number : ℕ) → history ≡ entry ∷ [] → entry.number ≡ number → IsSome (slice_get (sends entry.event) 0) → IsSome (letter_at sends history number 0)
 first_letter sends history entry number is same sent =
     subst (λ h. IsSome (letter_at sends h number 0)) (sym is)
     (subst IsSome (sym (if_here (entry.number == number) (slice_get (sends entry.event) 0) None (grind (arith, nat_tests)))) sent)

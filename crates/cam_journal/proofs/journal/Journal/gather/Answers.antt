@@ -2,7 +2,7 @@ use Rattle.std.proofs.Common.{◌≡◌, [], ◌∷◌, map, length, refl, sym, 
 use Rattle.std.proofs.lemmas.List.{map-append}
 use Rattle.std.proofs.lemmas.List.Elements.{All-rest, All-head, All-same}
 use Rattle.atomic_table.specs.Table.{keeps}
-use Rattle.cam_journal.specs.declared.view.View.TheVariants.{Gatherer}
+use Rattle.cam_journal.specs.declared.view.SeatView.TheVariants.{Gatherer}
 use Rattle.cam_journal.specs.Seats.{Sitting}
 use Rattle.cam_journal.proofs.Joining.{starts, gathers, learns}
 use Rattle.cam_journal.proofs.Gathering.{held_of, gathered_in, gathering_none, gathering_is, gathering_more, gathering_end, nothing_left}

@@ -1,6 +1,6 @@
 use Rattle.std.proofs.Common.{List, sym, ap, ◌∙◌, subst}
 use Rattle.std.specs.Prelude.{IsSome}
-use Rattle.cam_journal.specs.declared.entry.Entry.{Entry}
+use Rattle.cam_journal.specs.declared.entry.NumberedEvent.{NumberedEvent}
 use Rattle.cam_journal.specs.Seats.{letter_at}
 use Rattle.cam_journal.proofs.Letters.{seat_rises, sender_kept, letter_of, place_within, has_sent}
 use Rattle.cam_journal.proofs.journal.Journal.note.Goals as goal
@@ -11,13 +11,13 @@ event_of-requires g c = seat_rises g.C.Core.sends g.C.Core.lawful c.seat.inside.
 pub unreachable-requires : goal.unreachable-requires
 unreachable-requires g c =
     let core = g.C.Core in
-    let Is : List (Entry g.row.C-Event.Denot g.row.C-Letter.Denot) → Type 0 = λ h. IsSome (letter_at core.sends h c.args.number c.args.place) in
+    let Is : List (NumberedEvent g.row.C-Event.Denot g.row.C-Letter.Denot) → Type 0 = λ h. IsSome (letter_at core.sends h c.args.number c.args.place) in
     sender_kept core.sends core.lawful c.seat.inside.entries.items c.seat.inside.token.me.0 c.args.number c.args.place c.seat.invariant.1 (subst Is (sym (ap (λ s. s.history) c.seat.view_is)) c.requires.sent) c.in_default.ensures
 
 pub letter-requires : goal.letter-requires
 letter-requires g c =
     let core = g.C.Core in
-    let Is : List (Entry g.row.C-Event.Denot g.row.C-Letter.Denot) → Type 0 = λ h. IsSome (letter_at core.sends h c.args.number c.args.place) in
+    let Is : List (NumberedEvent g.row.C-Event.Denot g.row.C-Letter.Denot) → Type 0 = λ h. IsSome (letter_at core.sends h c.args.number c.args.place) in
     place_within core.sends core.lawful c.seat.inside.entries.items c.seat.inside.token.me.0 c.args.number c.args.place c.in-Some.ensures.0 c.in-Some.event.now c.seat.invariant.1 c.in-Some.ensures.1 (subst Is (sym (ap (λ s. s.history) c.seat.view_is)) c.requires.sent)
 
 pub note_as-token-requires-clause-sent : goal.note_as-token-requires-clause-sent

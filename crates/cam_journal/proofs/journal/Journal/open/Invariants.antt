@@ -1,5 +1,5 @@
 use Rattle.std.proofs.Common.{◌≡◌, ◌+◌, []}
-use Rattle.cam_journal.specs.declared.view.View.TheVariants.{Maker}
+use Rattle.cam_journal.specs.declared.view.SeatView.TheVariants.{Maker}
 use Rattle.cam_journal.specs.Seats.{AreNew}
 use Rattle.cam_journal.proofs.journal.Journal.open.Given as goal
 

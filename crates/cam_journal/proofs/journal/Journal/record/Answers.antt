@@ -1,7 +1,7 @@
 use Rattle.std.proofs.Common.{List, ℕ, refl, sym, ap, ◌∙◌, ◌<◌, subst}
 use Rattle.std.specs.Prelude.{All}
-use Rattle.cam_journal.specs.declared.entry.Entry.{Entry}
-use Rattle.cam_journal.specs.declared.view.View.{View}
+use Rattle.cam_journal.specs.declared.entry.NumberedEvent.{NumberedEvent}
+use Rattle.cam_journal.specs.declared.view.SeatView.{SeatView}
 use Rattle.cam_journal.specs.Seats.{IsSeat}
 use Rattle.cam_journal.proofs.Seating.{can_record, IsSeat-record, below_in, sitting-record, spare_less, room_left}
 use Rattle.cam_journal.proofs.journal.Journal.record.Goals as goal
@@ -23,7 +23,7 @@ invariant_of-seat g c =
     let step = c.record_as-number.ensures in
     let own = can_record core.names core.lawful seat.token.me.0 seat.token.table_id _ _ seat.entries.items c.args.seat.now c.args.event c.seat.view_is seat.entries.ok.0 c.seat.invariant.1 c.requires.room c.requires.next in
     let kept = IsSeat-record core.names core.lawful seat.token.me.0 seat.entries.items c.args.event c.record_as-number.result c.seat.invariant.1 own step.above in
-    let P : List (ℕ × g.row.C-Event.Denot) × View g.row.C-Event.Denot g.row.C-Letter.Denot → Type 0 = λ p. IsSeat core.lawful p.0 p.1 in (
+    let P : List (ℕ × g.row.C-Event.Denot) × SeatView g.row.C-Event.Denot g.row.C-Letter.Denot → Type 0 = λ p. IsSeat core.lawful p.0 p.1 in (
       ap (λ me. me.1) step.me ∙ c.seat.invariant.0,
       subst P (λ i. (sym c.in-Ok.ensures.items i, sym (ap (λ me. me.0) step.me) i)) kept,
     )
@@ -41,5 +41,5 @@ returns-clause-seat g c =
 pub returns-clause-above : goal.returns-clause-above
 returns-clause-above g c =
     let number = c.record_as-number.result in
-    let Below : List (Entry g.row.C-Event.Denot g.row.C-Letter.Denot) → Type 0 = λ h. All (λ e. e.number < number) h in
+    let Below : List (NumberedEvent g.row.C-Event.Denot g.row.C-Letter.Denot) → Type 0 = λ h. All (λ e. e.number < number) h in
     subst Below (ap (λ s. s.history) c.seat.view_is) (below_in c.seat.inside.token.me.0 number c.record_as-number.ensures.above)

@@ -1,5 +1,5 @@
 use Rattle.std.proofs.Common.{sym, ap, ◌∙◌, subst, arith}
-use Rattle.cam_journal.specs.declared.view.View.{View}
+use Rattle.cam_journal.specs.declared.view.SeatView.{SeatView}
 use Rattle.cam_journal.specs.Rule.{with_letter}
 use Rattle.cam_journal.specs.Seats.{IsSeat}
 use Rattle.cam_journal.proofs.Joining.{takes}
@@ -27,5 +27,5 @@ invariant_of-seat g c =
     let note = c.note.inside in
     let after = ap (λ me. me.0) c.join_seat.ensures.2 ∙ ap (with_letter seat.token.me.0) (ap (λ me. me.0) c.note.invariant.0) in (
       ap (λ me. me.1) c.join_seat.ensures.2 ∙ c.seat.invariant.0,
-      subst (λ (v : View g.row.C-Event.Denot g.row.C-Letter.Denot). IsSeat core.lawful seat.entries.items v) (sym after) (IsSeat-letter core.sends core.lawful seat.entries.items seat.token.me.0 note.sent c.seat.invariant.1),
+      subst (λ (v : SeatView g.row.C-Event.Denot g.row.C-Letter.Denot). IsSeat core.lawful seat.entries.items v) (sym after) (IsSeat-letter core.sends core.lawful seat.entries.items seat.token.me.0 note.sent c.seat.invariant.1),
     )
