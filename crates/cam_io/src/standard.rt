@@ -1,5 +1,7 @@
 //! std's readers and writers as sources and sinks.
-ghost use Rattle.std.specs.Prelude.{◌≡◌, None};
+ghost use Rattle.std.specs.Prelude.{◌≡◌, ◌≤◌, ◌<◌, ◌+◌, ◌-◌, ◌^◌, min, length, None, IfOk, OnOk, OnErr};
+ghost use Rattle.std.specs.Io.KnownBytes.{ReadConsumes, WriteAppends};
+ghost use Rattle.cam_base.specs.Causes.{HasCause};
 
 use crate::fault::Failed;
 use crate::sink::Sink;
@@ -28,7 +30,16 @@ impl<R: Read> Source for StdSource<R> {
 
     ghost faults = { λ s. s.faults };
 
-    fn read(&mut self, into: &mut [u8]) -> Result<usize, Failed> {
+    /// Moves what the reader moves: of a reader whose bytes are known, just its next ones.
+    fn read(&mut self, into: &mut [u8]) -> Result<usize, Failed>
+        requires { 0 < length into.old }
+        ensures count { IfOk result (λ n. n ≤ length into.new) }
+        ensures reader { ReadConsumes (R.remaining self.old.inner) (R.remaining self.new.inner)
+            result into.new }
+        ensures cause { HasCause self.old.faults self.new.faults result }
+        ensures steady { OnOk result (self.new.faults ≡ self.old.faults) }
+        ensures once { OnErr result (self.new.faults ≡ min (self.old.faults + 1) (2 ^ 64 - 1)) }
+    {
         match self.inner.read(into) {
             Ok(count) => Ok(count),
             Err(_) => {
@@ -61,7 +72,16 @@ impl<W: Write> Sink for StdSink<W> {
 
     ghost faults = { λ s. s.faults };
 
-    fn write(&mut self, piece: &[u8]) -> Result<usize, Failed> {
+    /// Writes what the writer writes: one whose bytes are known holds just the bytes of the piece that were taken.
+    fn write(&mut self, piece: &[u8]) -> Result<usize, Failed>
+        requires { 0 < length piece.now }
+        ensures count { IfOk result (λ n. (1 ≤ n) × (n ≤ length piece.now)) }
+        ensures writer { WriteAppends (W.contents self.old.inner) (W.contents self.new.inner)
+            result piece.now }
+        ensures cause { HasCause self.old.faults self.new.faults result }
+        ensures steady { OnOk result (self.new.faults ≡ self.old.faults) }
+        ensures once { OnErr result (self.new.faults ≡ min (self.old.faults + 1) (2 ^ 64 - 1)) }
+    {
         match self.inner.write(piece) {
             Ok(count) if count > 0 => Ok(count),
             _ => {
