@@ -82,7 +82,8 @@ impl<C: Core> Journal<C> {
     pub fn record(&self, seat: &mut NodeSeat<C>, event: C::Event) -> u64
         requires own { seat.old.journal ≡ self.now.id }
         requires room { 0 < seat.old.spare }
-        requires next { IsNext C.names C.lawful seat.old.node seat.old.history seat.old.taken event }
+        requires next { IsNext C.names C.lawful seat.old.node seat.old.history seat.old.taken
+            event }
         ensures seat { seat.new ≡ with_event C.names result event seat.old }
         ensures above { All (λ entry. entry.number < result) seat.old.history }
     {
