@@ -75,6 +75,38 @@ fn many_outcomes_are_joined(rt: HostRuntime) -> Result<(), Fail> {
     Ok(())
 }
 
+/// A child of an action.
+fn child(top: &Name, number: u32) -> Option<Name> {
+    top.child(Part::new(2, 1, number)?)
+}
+
+/// Forty children each abort and commit, and are told from the last to the first. The aborts are learnt first, then the commits, each from
+/// the first child to the last.
+#[test]
+fn what_is_told_in_any_order_is_learnt_in_one(rt: HostRuntime) -> Result<(), Fail> {
+    let top = Name::parse("1.1.1")?;
+    let mut learnt = Sequence::new(rt.alloc());
+    for number in 1..41 {
+        if let Some(child) = child(&top, number) {
+            learnt.push_copy(&Outcome::Aborted(child))?;
+        }
+    }
+    for number in 1..41 {
+        if let Some(child) = child(&top, number) {
+            learnt.push_copy(&Outcome::Committed(child, Deps::none()))?;
+        }
+    }
+    let learnt = learnt.as_slice();
+    let mut told = Know::new(rt.alloc());
+    for place in (0..learnt.len()).rev() {
+        told.add(&learnt[place])?;
+    }
+    let news = Know::new(rt.alloc()).news_of(&told)?;
+    assert_eq!(rt; news.len(), 80);
+    assert_eq!(rt; news.outcomes(), learnt);
+    Ok(())
+}
+
 /// One name is known aborted, and committed with two dependency sets. All is learnt at once.
 #[test]
 fn outcomes_are_known_at_once(rt: HostRuntime) -> Result<(), Fail> {
