@@ -4,8 +4,8 @@
 -- 2 the usage text, where the words are no form
 -- 3 where the script is refused: the line of its first fault
 -- 4 `read fault`, where the source failed
--- 5 a front of one of these texts, where the sink failed
--- 7 nothing, where memory was wanting
+-- 5 a prefix of one of these texts, where the sink failed
+-- 7 nothing, where memory ran out
 use Rattle.std.specs.Prelude.{ℕ, ◌≡◌, ◌≤◌, ◌⊎◌, List, [], ◌∷◌, ◌++◌, length, take, codes, Result, Ok, Err}
 use Rattle.cam_script.specs.declared.Script.{Script}
 use Rattle.cam_words.specs.declared.fault.ScriptFault.{ScriptFault}
@@ -53,11 +53,12 @@ IsAnswer words HasFailed input status text =
     ((¬ IsForm words) × IsOfWords status text)
     ⊎ (IsForm words × ((HasFailed × IsOfFault status text) ⊎ IsOfScript (script_of input) status text))
 
--- What was written behind what stood there: the whole text of the answer; where the sink failed a front of some answer's text; where
--- memory was wanting nothing.
+-- What was written after what stood there: the whole text of the answer; where the sink failed a prefix of some answer's text; where
+-- memory ran out nothing.
 pub record IsWritten (words : List (List ℕ)) (HasFailed : Type 0) (input : List ℕ) (status : ℕ) (before after : List ℕ) : Type 0 where
   pub whole : (status ≡ 5 → ⊥) → (status ≡ 7 → ⊥) → (text : List ℕ) × IsAnswer words HasFailed input status text × (after ≡ before ++ text)
-  pub front : status ≡ 5 → (meant : ℕ) × (text : List ℕ) × (n : ℕ) × IsAnswer words HasFailed input meant text × (n ≤ length text) × (after ≡ before ++ take n text)
+  pub front : status ≡ 5 → (meant : ℕ) × (text : List ℕ) × (n : ℕ) × IsAnswer words HasFailed input meant text × (n ≤ length text)
+      × (after ≡ before ++ take n text)
   pub nothing : status ≡ 7 → after ≡ before
 
 -- the status of a script that was read, where nothing fails

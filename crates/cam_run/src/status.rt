@@ -15,7 +15,7 @@ pub enum Status {
     ReadFault,
     /// The sink failed.
     WriteFault,
-    /// Memory was wanting.
+    /// Out of memory.
     NoMemory,
 }
 

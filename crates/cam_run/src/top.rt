@@ -12,16 +12,13 @@ use crate::running::report;
 use crate::status::Status;
 use cam_base::NoMemory;
 use cam_io::{ReadFault, Sink, Source, read_all, write_all};
-use cam_script::{Cause, ScriptFault, Stage, parse};
+use cam_script::{Cause, MOST_BYTES, ScriptFault, Stage, parse};
 use std::alloc::Global;
-
-/// The most bytes of a script.
-const LIMIT: usize = 262_144;
 
 /// Does what the words say: `run` reads a script from the source, runs it, and writes the report to the sink.
 ///
 /// The answer is the status of the program: 0 the report was written; 2 the words are no form; 3 the script was refused; 4 the source
-/// failed; 5 the sink failed, and a front of the text was written; 7 memory was wanting, and nothing was written. The text is made
+/// failed; 5 the sink failed, and a prefix of the text was written; 7 out of memory, and nothing was written. The text is made
 /// whole before the first write. What the run of each accepted script owes is told in `docs/HEADLINE.md`.
 #[tactic(auto, using(cam_headline::proofs::Whole::headline_as_shown))]
 pub fn camelot<S: Source, K: Sink>(
@@ -31,15 +28,24 @@ pub fn camelot<S: Source, K: Sink>(
     sink: &mut K,
 ) -> u8
     // Which statuses there are, and when each comes.
-    ensures statuses { (result ≡ 0) ⊎ ((result ≡ 2) ⊎ ((result ≡ 3) ⊎ ((result ≡ 4) ⊎ ((result ≡ 5) ⊎ (result ≡ 7))))) }
+    ensures statuses { (result ≡ 0)
+        ⊎ ((result ≡ 2) ⊎ ((result ≡ 3) ⊎ ((result ≡ 4) ⊎ ((result ≡ 5) ⊎ (result ≡ 7))))) }
     ensures usage { result ≡ 2 → ¬ (IsForm (map string_bytes words.now)) }
-    ensures no_form { ¬ (IsForm (map string_bytes words.now)) → (result ≡ 2) ⊎ ((result ≡ 5) ⊎ (result ≡ 7)) }
+    ensures no_form { ¬ (IsForm (map string_bytes words.now))
+        → (result ≡ 2) ⊎ ((result ≡ 5) ⊎ (result ≡ 7)) }
     ensures read_fault { result ≡ 4 → Rose (S.faults source.old) (S.faults source.new) }
     ensures write_fault { result ≡ 5 → Rose (K.faults sink.old) (K.faults sink.new) }
 
     // What was written, and that nothing else keeps an accepted or a refused script from its answer.
-    ensures written { IfTold (S.left source.old) (S.left source.new) (λ input _. IfTold (K.written sink.old) (K.written sink.new) (λ before after. IsWritten (map string_bytes words.now) (Rose (S.faults source.old) (S.faults source.new)) input result before after)) }
-    ensures complete { IfTold (S.left source.old) (S.left source.new) (λ input _. IsForm (map string_bytes words.now) → ¬ (Rose (S.faults source.old) (S.faults source.new)) → ¬ (Rose (K.faults sink.old) (K.faults sink.new)) → (result ≡ status_of (script_of input)) ⊎ (result ≡ 7)) }
+    ensures written { IfTold (S.left source.old) (S.left source.new) (λ input _.
+        IfTold (K.written sink.old) (K.written sink.new) (λ before after.
+        IsWritten (map string_bytes words.now) (Rose (S.faults source.old) (S.faults source.new))
+        input result before after)) }
+    ensures complete { IfTold (S.left source.old) (S.left source.new) (λ input _.
+        IsForm (map string_bytes words.now)
+        → ¬ (Rose (S.faults source.old) (S.faults source.new))
+        → ¬ (Rose (K.faults sink.old) (K.faults sink.new))
+        → (result ≡ status_of (script_of input)) ⊎ (result ≡ 7)) }
 
     // Of every script that is accepted: the run that is reported is the one run of the step rules; each action in it, orphan or not, has
     // its view in a legal execution in which it is no orphan; committed top actions replay serially in commit order; and no two nodes
@@ -47,7 +53,8 @@ pub fn camelot<S: Source, K: Sink>(
     ensures headline { (input : List ℕ) → IfOk (script_of input) HasOneRun }
 
     // The source: read to its end for a report, and not at all for the usage text.
-    ensures read { result ≡ 0 → IfTold (S.left source.old) (S.left source.new) (λ _ rest. rest ≡ []) }
+    ensures read { result ≡ 0
+        → IfTold (S.left source.old) (S.left source.new) (λ _ rest. rest ≡ []) }
     ensures unread { ¬ (IsForm (map string_bytes words.now)) → source.new ≡ source.old }
 {
     let Ok(answer) = answer_to(alloc, words, source) else {
@@ -68,11 +75,20 @@ struct Answer {
 
 /// The answer to the words and the input.
 fn answer_to<S: Source>(alloc: Global, words: &[String], source: &mut S) -> Result<Answer, NoMemory>
-    ensures answer { IfTold (S.left source.old) (S.left source.new) (λ input _. IfOk result (λ a. IsAnswer (map string_bytes words.now) (Rose (S.faults source.old) (S.faults source.new)) input (number a.status) (string_bytes a.text))) }
-    ensures statuses { IfOk result (λ a. (a.status ≡ statuses.Done) ⊎ ((a.status ≡ statuses.Usage) ⊎ ((a.status ≡ statuses.Refused) ⊎ (a.status ≡ statuses.ReadFault)))) }
-    ensures usage { IfOk result (λ a. (a.status ≡ statuses.Usage) ↔ (¬ (IsForm (map string_bytes words.now)))) }
-    ensures read_fault { IfOk result (λ a. a.status ≡ statuses.ReadFault → Rose (S.faults source.old) (S.faults source.new)) }
-    ensures read { IfTold (S.left source.old) (S.left source.new) (λ _ rest. IfOk result (λ a. a.status ≡ statuses.Done → rest ≡ [])) }
+    ensures answer { IfTold (S.left source.old) (S.left source.new) (λ input _.
+        IfOk result (λ a.
+        IsAnswer (map string_bytes words.now) (Rose (S.faults source.old) (S.faults source.new))
+        input (number a.status) (string_bytes a.text))) }
+    ensures statuses { IfOk result
+        (λ a. (a.status ≡ statuses.Done)
+        ⊎ ((a.status ≡ statuses.Usage)
+        ⊎ ((a.status ≡ statuses.Refused) ⊎ (a.status ≡ statuses.ReadFault)))) }
+    ensures usage { IfOk result
+        (λ a. (a.status ≡ statuses.Usage) ↔ (¬ (IsForm (map string_bytes words.now)))) }
+    ensures read_fault { IfOk result
+        (λ a. a.status ≡ statuses.ReadFault → Rose (S.faults source.old) (S.faults source.new)) }
+    ensures read { IfTold (S.left source.old) (S.left source.new)
+        (λ _ rest. IfOk result (λ a. a.status ≡ statuses.Done → rest ≡ [])) }
     ensures unread { ¬ (IsForm (map string_bytes words.now)) → source.new ≡ source.old }
 {
     if is_form(words) {
@@ -103,12 +119,20 @@ fn usage(alloc: Global) -> Result<Answer, NoMemory>
 
 /// The answer to what the source gives.
 fn read_and_run<S: Source>(alloc: Global, source: &mut S) -> Result<Answer, NoMemory>
-    ensures answer { IfTold (S.left source.old) (S.left source.new) (λ input _. IfOk result (λ a. ((Rose (S.faults source.old) (S.faults source.new)) × IsOfFault (number a.status) (string_bytes a.text)) ⊎ IsOfScript (script_of input) (number a.status) (string_bytes a.text))) }
-    ensures statuses { IfOk result (λ a. (a.status ≡ statuses.Done) ⊎ ((a.status ≡ statuses.Refused) ⊎ (a.status ≡ statuses.ReadFault))) }
-    ensures read_fault { IfOk result (λ a. a.status ≡ statuses.ReadFault → Rose (S.faults source.old) (S.faults source.new)) }
-    ensures read { IfTold (S.left source.old) (S.left source.new) (λ _ rest. IfOk result (λ a. a.status ≡ statuses.Done → rest ≡ [])) }
+    ensures answer { IfTold (S.left source.old) (S.left source.new) (λ input _.
+        IfOk result (λ a.
+        ((Rose (S.faults source.old) (S.faults source.new))
+        × IsOfFault (number a.status) (string_bytes a.text))
+        ⊎ IsOfScript (script_of input) (number a.status) (string_bytes a.text))) }
+    ensures statuses { IfOk result
+        (λ a. (a.status ≡ statuses.Done)
+        ⊎ ((a.status ≡ statuses.Refused) ⊎ (a.status ≡ statuses.ReadFault))) }
+    ensures read_fault { IfOk result
+        (λ a. a.status ≡ statuses.ReadFault → Rose (S.faults source.old) (S.faults source.new)) }
+    ensures read { IfTold (S.left source.old) (S.left source.new)
+        (λ _ rest. IfOk result (λ a. a.status ≡ statuses.Done → rest ≡ [])) }
 {
-    match read_all(alloc, source, LIMIT) {
+    match read_all(alloc, source, MOST_BYTES) {
         Ok(bytes) => run_bytes(alloc, &bytes),
         Err(ReadFault::TooLarge) => refusal(
             alloc,
@@ -136,8 +160,10 @@ fn read_fault(alloc: Global) -> Result<Answer, NoMemory>
 
 /// The answer to a script: the report of its run, or its first fault.
 fn run_bytes(alloc: Global, bytes: &[u8]) -> Result<Answer, NoMemory>
-    ensures answer { IfOk result (λ a. IsOfScript (script_of bytes.now) (number a.status) (string_bytes a.text)) }
-    ensures statuses { IfOk result (λ a. (a.status ≡ statuses.Done) ⊎ (a.status ≡ statuses.Refused)) }
+    ensures answer { IfOk result
+        (λ a. IsOfScript (script_of bytes.now) (number a.status) (string_bytes a.text)) }
+    ensures statuses { IfOk result
+        (λ a. (a.status ≡ statuses.Done) ⊎ (a.status ≡ statuses.Refused)) }
 {
     match parse(alloc, Stage::FirstPath, bytes) {
         Ok(script) => Ok(Answer {
@@ -150,7 +176,8 @@ fn run_bytes(alloc: Global, bytes: &[u8]) -> Result<Answer, NoMemory>
 
 /// The answer to a script with this first fault.
 fn refusal(alloc: Global, fault: ScriptFault) -> Result<Answer, NoMemory>
-    ensures answer { IfOk result (λ a. IsOfScript (as_unknown_line (Err fault)) (number a.status) (string_bytes a.text)) }
+    ensures answer { IfOk result
+        (λ a. IsOfScript (as_unknown_line (Err fault)) (number a.status) (string_bytes a.text)) }
     ensures status { IfOk result (λ a. a.status ≡ statuses.Refused) }
 {
     match fault.as_unknown_line() {
