@@ -1,6 +1,8 @@
 #!/bin/sh
 # How long a letter takes to be sent, written, read and noted where 10, 100 and 1,000 outcomes are known and it brings ten more, and how
-# much of the first run's time that is. Its receiver has acknowledged all but these ten.
+# much of the first run's time that is. Its receiver has acknowledged all but these ten. What ten new outcomes take is the mean of
+# the letters that come until twice as much is known: in that time each table grows once, wherever it began. The script fails where a
+# letter does not carry or bring its ten outcomes.
 # A figure is such a ratio: the nanoseconds are those of one machine on one day. Each time is the least of several rounds.
 # bench/letters.sh           proves the crates and the program, and runs it
 # bench/letters.sh --quick   runs a build of the same sources that nothing has proved
@@ -13,7 +15,7 @@ cat > src/main.rt <<'PROGRAM'
 ghost use Rattle.cam_comman.specs.Letters.{IsWithin};
 ghost use Rattle.cam_wire.specs.Writable.{IsWritable};
 
-use anyhow::Error;
+use anyhow::{Error, ensure};
 use cam_comman::{Places, arrive, send};
 use cam_event::{Body, Letter};
 use cam_know::{Know, Outcome};
@@ -23,8 +25,7 @@ use std::time::Instant;
 
 const ROUNDS: u32 = 20;
 const TIMES: u32 = 500;
-const NODES: u32 = 5;
-const LETTERS: u32 = 20;
+const LETTERS: u32 = 100;
 const BROUGHT: u32 = 10;
 
 /// The outcome of a child of a top action: each second one commits.
@@ -94,29 +95,52 @@ fn as_bytes(rt: &HostRuntime, letter: &Letter) -> Result<[u128; 2], Error>
 /// The time of the arrival of a letter that brings ten outcomes, which are known.
 fn noted_again(rt: &HostRuntime, know: &mut Know, letter: Know) -> Result<u128, Error> {
     let letter = news(0, letter);
+    let before = know.len();
     let mut places = Places::new();
     let start = Instant::now(rt)?;
     for _ in 0..TIMES {
         let _ = arrive(know, &mut places, &letter)?;
     }
-    Ok(start.elapsed(rt)?.as_nanos() / TIMES as u128)
+    let nanos = start.elapsed(rt)?.as_nanos() / TIMES as u128;
+    ensure!(know.len() == before, "known outcomes were learnt again");
+    Ok(nanos)
 }
 
-/// The time of the arrival of a letter that brings ten new outcomes: the mean of letters that come one after another.
+/// The time in which letters come, each with ten new outcomes, until twice as much is known.
+fn doubled(rt: &HostRuntime, top: &Name, known: u32) -> Result<u128, Error> {
+    let mut know = family(rt, top, 1, known)?;
+    let mut places = Places::new();
+    let mut nanos = 0u128;
+    for i in 0..known / BROUGHT {
+        let before = known.saturating_add(i.saturating_mul(BROUGHT));
+        let brought = family(rt, top, before.saturating_add(1), before.saturating_add(BROUGHT))?;
+        let letter = news(0, brought);
+        let start = Instant::now(rt)?;
+        let _ = arrive(&mut know, &mut places, &letter)?;
+        nanos = nanos.saturating_add(start.elapsed(rt)?.as_nanos());
+        for outcome in letter.know.outcomes() {
+            ensure!(is_known(&know, outcome), "a letter did not bring an outcome");
+        }
+        ensure!(know.len() == before as u64 + BROUGHT as u64, "a letter did not bring ten outcomes");
+    }
+    Ok(nanos)
+}
+
+/// Whether how an action ended is known.
+fn is_known(know: &Know, outcome: &Outcome) -> bool {
+    match outcome {
+        Outcome::Aborted(name) => know.is_aborted(name),
+        Outcome::Committed(name, _) => know.is_committed(name),
+    }
+}
+
+/// The time of the arrival of a letter that brings ten new outcomes: the mean of a hundred.
 fn noted(rt: &HostRuntime, top: &Name, known: u32) -> Result<u128, Error> {
     let mut nanos = 0u128;
-    for _ in 0..NODES {
-        let mut know = family(rt, top, 1, known)?;
-        let mut places = Places::new();
-        for i in 0..LETTERS {
-            let before = known.saturating_add(i.saturating_mul(BROUGHT));
-            let letter = news(0, family(rt, top, before.saturating_add(1), before.saturating_add(BROUGHT))?);
-            let start = Instant::now(rt)?;
-            let _ = arrive(&mut know, &mut places, &letter)?;
-            nanos = nanos.saturating_add(start.elapsed(rt)?.as_nanos());
-        }
+    for _ in 0..LETTERS.saturating_mul(BROUGHT) / known.max(1) {
+        nanos = nanos.saturating_add(doubled(rt, top, known)?);
     }
-    Ok(nanos / NODES as u128 / LETTERS as u128)
+    Ok(nanos / LETTERS as u128)
 }
 
 /// What was measured: to send, to write, to read, to note what is known, to note what is new.
@@ -127,6 +151,7 @@ fn measure_once(rt: &HostRuntime, known: u32) -> Result<[u128; 5], Error> {
     let _ = arrive(&mut know, &mut places, &news(known as u64, Know::new(rt.alloc())))?;
     let sent = sent(rt, &know, &places)?;
     let letter = send(&know, &places, 1, 1, 2, Body::News)?;
+    ensure!(letter.know.len() == BROUGHT as u64, "a letter does not carry ten outcomes");
     let [written, read] = as_bytes(rt, &letter)?;
     let again = noted_again(rt, &mut know, letter.know)?;
     Ok([sent, written, read, again, noted(rt, &top, known)?])
@@ -166,7 +191,7 @@ fn main(rt: HostRuntime) -> Result<(), Error> {
 PROGRAM
 if [ "${1-}" = --quick ]; then
     # That build checks each step as it runs, and is a thousand times slower.
-    sed -i 's/ROUNDS: u32 = 20;/ROUNDS: u32 = 1;/; s/= 500;/= 10;/; s/NODES: u32 = 5;/NODES: u32 = 1;/' src/main.rt
+    sed -i 's/ROUNDS: u32 = 20;/ROUNDS: u32 = 1;/; s/= 500;/= 10;/' src/main.rt
     rt try --steps 1
 else
     rt run
