@@ -1,7 +1,7 @@
 -- A child is decided, and the law of one more event.
 use Rattle.std.proofs.Common.{◌≡◌, ℕ, Bool, true, false, not, ◌&&◌, if◌then◌else◌, List, [], ◌∷◌, ◌++◌, filter, length, Option, Some, None, refl, sym, ap, ap₂, subst, ◌∙◌}
 use Rattle.std.specs.Prelude.{is_some, replicate}
-use Rattle.std.specs.List.{list_any}
+use Rattle.std.specs.List.{list_any, flat_map}
 use Rattle.std.specs.Option.{option_map_or}
 use Rattle.cam_names.specs.declared.name.Name.{Name}
 use Rattle.cam_names.specs.Names.{name_eq, is_child, is_top, parent}
@@ -11,25 +11,19 @@ use Rattle.cam_names.proofs.Children.{is_some_name, child_of}
 use Rattle.cam_type.specs.declared.ObjectDecl.{ObjectDecl}
 use Rattle.cam_event.specs.declared.Deed.{Deed}
 use Rattle.cam_event.specs.declared.Deed.TheVariants.{Create, Ask, Call, Perform, Bounce, Got, AskCommit, AskAbort, Commit, Abort, Secure, Inform, Crash}
-use Rattle.cam_event.specs.History.{open_children}
+use Rattle.cam_event.specs.History.{after, open_children}
 use Rattle.cam_event.specs.Inputs.{Mail}
-use Rattle.cam_event.specs.ByKnowledge.{gained_by, finish_counts}
+use Rattle.cam_event.specs.ByKnowledge.{Carried, deeds_of, own_pairs, gained_by, finish_counts}
 use Rattle.cam_tranman.specs.declared.action.Action.{Action}
 use Rattle.cam_tranman.specs.Actions.{Actions, deps}
-use Rattle.cam_tranman.specs.Calls.{gaining}
-use Rattle.cam_tranman.specs.Events.{decides, HasParent, CommitMayCome, MayCome, after_deed}
+use Rattle.cam_tranman.specs.Calls.{parent_changed, gaining}
+use Rattle.cam_tranman.specs.Events.{is_at_home, decides, HasParent, CommitMayCome, MayCome, after_deed, QuietKeeps, DeedKeeps}
 use Rattle.cam_tranman.proofs.Changing.{without_among}
 use Rattle.cam_tranman.proofs.Gaining.{counts_append, counts_of_pairs}
 use Rattle.cam_tranman.proofs.Members.{top_no_child}
-use Rattle.cam_tranman.proofs.Running.{RunsBy, named_here, field_kept, created_kept, field_changed}
-use Rattle.cam_event.specs.ByKnowledge.{Carried, deeds_of, own_pairs}
-use Rattle.cam_event.specs.History.{after}
-use Rattle.std.specs.List.{flat_map}
+use Rattle.cam_tranman.proofs.Running.{RunsBy, runs_by, answers_deeds, same_runs, same_answers, named_here, field_kept, created_kept, field_changed}
 use Rattle.std.proofs.Common.{append-nil}
-use Rattle.cam_tranman.specs.Calls.{parent_changed}
-use Rattle.cam_tranman.specs.Events.{is_at_home, QuietKeeps, DeedKeeps}
 use Rattle.cam_tranman.proofs.Home.{SameHome, same_home, by_other, added_at_home}
-use Rattle.cam_tranman.proofs.Running.{runs_by, answers_deeds, same_runs, same_answers}
 use Rattle.cam_tranman.proofs.Deeds.{with_gained, runs_asked, runs_called, runs_asked_commit, runs_asked_abort}
 use Rattle.cam_tranman.proofs.Coming.{runs_got, runs_created}
 

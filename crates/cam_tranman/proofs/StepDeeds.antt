@@ -26,42 +26,12 @@ use Rattle.cam_event.specs.ByKnowledge.{Carried, entry_of, deeds_of, start_count
 use Rattle.cam_tranman.specs.Events.{is_at_home}
 use Rattle.cam_tranman.specs.Orderly.{IsOrderly, MailIsForHome, MayBeAsked, stepped, taken, NoneIsOrderly, StepsStayOrderly, TakenStaysOrderly}
 use Rattle.cam_tranman.specs.Keeping.{home_deeds, RulesMakeThem}
-use Rattle.cam_tranman.proofs.Requests.{rest, is_rest, first_none, rest_none, so_none}
+use Rattle.cam_tranman.proofs.Asks.{asks_run}
 use Rattle.cam_tranman.proofs.Sights.{held_away, same_sight}
 use Rattle.cam_tranman.proofs.Ordering.{InOrder, in_order_home, HasRun, has_run_too, had_run, Came, came_before}
 use Rattle.cam_tranman.proofs.StaysInOrder.{comes_in_order}
 use Rattle.cam_tranman.proofs.AnswerDeeds.{One, PreparesTop, Fine, request_fine}
 use Rattle.cam_tranman.proofs.RuleDeeds.{arrives_fine}
-
--- Nothing stands against the request: the action was created, and its count is not older.
-not_away : (b : Bool) → where_so (not b) refusals.NotOpen ≡ None → b ≡ true
-not_away b h = not-false b (so_none (not b) refusals.NotOpen h)
-
-asks_there : (g : Sight) (a : Name) (want : Want) → rest g a want ≡ None → created g.deeds a ≡ true
-asks_there g a (wants.Ask m) h =
-    not_away (created g.deeds a)
-    (first_none (is_not_open g a) (where_so (nat_le 8 (length a)) refusals.TooDeep)
-    (rest_none (has_call g a) (first_of_two (is_not_open g a) (where_so (nat_le 8 (length a)) refusals.TooDeep)) h))
-asks_there g a (wants.Call x op) h =
-    not_away (created g.deeds a)
-    (rest_none (has_child g a) (is_not_open g a) (rest_none (has_call g a) (first_of_two (has_child g a) (is_not_open g a)) h))
-asks_there g a (wants.Commit v) h =
-    not_away (created g.deeds a)
-    (rest_none (has_child g a) (is_not_open g a) (rest_none (has_call g a) (first_of_two (has_child g a) (is_not_open g a)) h))
-asks_there g a wants.Abort h = not_away (created g.deeds a) h
-asks_there g a (wants.GiveUp b) h =
-    let parts =
-    or_parts (not (created g.deeds a)) (not (is_open_child g.deeds a b))
-    (so_none (not (created g.deeds a) || not (is_open_child g.deeds a b)) refusals.NotOpen h)
-    in
-    not-false (created g.deeds a) parts.0
-
-asks_run : (g : Sight) (a : Name) (want : Want) → home_node a ≡ g.node → refusal g a want ≡ None → HasRun g.node g.deeds a
-asks_run g a want home free =
-    let whole = sym (is_rest g a want) ∙ free in
-    let first = first_none (has_ended g a) (rest g a want) whole in
-    let parts = or_parts (ended g.deeds a) (nat_lt (home_count a) (present g)) (so_none (ended g.deeds a || nat_lt (home_count a) (present g)) refusals.Ended first) in
-    record { home = home; recent = ltb-false (home_count a) (present g) parts.1; there = asks_there g a want (rest_none (has_ended g a) (rest g a want) whole) }
 
 -- what an input has for the rule of it
 abbrev InputFine : Sight → Input → Option Mail → Type 0

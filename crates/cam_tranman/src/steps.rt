@@ -3,7 +3,7 @@
 ghost use Rattle.std.specs.Prelude.{◌≡◌, ◌≤◌, ◌<◌, true, Some, None, OnOk, OnErr, IsOk, IfOk};
 ghost use Rattle.cam_names.specs.Names.{home_node, home_count};
 ghost use Rattle.cam_event.specs.declared.Want.TheVariants as wants;
-ghost use Rattle.cam_tranman.specs.Actions.{asks, calls};
+ghost use Rattle.cam_tranman.specs.Actions.{created, asks, calls};
 ghost use Rattle.cam_tranman.specs.Tables.{answers};
 ghost use Rattle.cam_tranman.specs.Calls.{AreSame, IsFree, next_top, next_child, next_call, started_by, taken_by, decides_by, begun, begun_child, after_start, asked, called, finished, got, seen_of, taken_at, after_taken, decided};
 
@@ -38,13 +38,14 @@ impl Homed {
     }
 
     /// A child whose home is this node, at its present count, is created here, with what its parent depended on when it asked for it. One
-    /// that was created before stays as it is.
+    /// that was created before stays as it is, and needs no memory.
     pub fn start(&mut self, child: &Name, deps: &Deps) -> Result<Started, NoMemory>
         requires { (home_node child.now ≡ (answers self.old).node) × (home_count child.now ≡ (answers self.old).count) }
         ensures value { IfOk result (λ started. started ≡ started_by (answers self.old) child.now) }
         ensures ok { OnOk result (AreSame (after_start child.now deps.now (answers self.old)) (answers self.new)) }
         ensures err { OnErr result (AreSame (answers self.old) (answers self.new)) }
         ensures room { 1 ≤ (answers self.old).room → IsOk result }
+        ensures known { created (answers self.old) child.now ≡ true → IsOk result }
     {
         if kept_in(&self.actions, child).is_some() {
             return Ok(Started::Known);
