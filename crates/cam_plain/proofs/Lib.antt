@@ -1,5 +1,4 @@
 pub mod Histories
-pub mod Finding
 pub mod LastPart
 pub mod Dependent
 pub mod Arriving
@@ -17,3 +16,13 @@ pub mod Conflicts
 pub mod Decided
 pub mod Fates
 pub mod Answered
+pub mod Changing
+pub mod Replying
+pub mod Topping
+pub mod Children
+pub mod SecuredOnce
+pub mod Alike
+pub mod Sited
+pub mod Crashing
+pub mod Siting
+pub mod Granting

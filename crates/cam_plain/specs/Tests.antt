@@ -16,16 +16,19 @@ use Rattle.cam_event.specs.declared.Deed.{Deed}
 use Rattle.cam_event.specs.declared.Deed.TheVariants.{Create, Ask, Call, Perform, Bounce, Got, AskCommit, AskAbort, Commit, Abort, Secure, Inform, Crash}
 use Rattle.cam_event.specs.History.{count, created, decided, asked_commit, runs, asked, informed, secured, secured_at, tops, asks, calls, open_call, has_open_child, Addressed, call_of}
 use Rattle.cam_event.specs.declared.Operation.{Operation}
-use Rattle.cam_event.specs.Live.{site_of, is_fit, live_at, lift, is_conflict, first_conflict, holder, value}
+use Rattle.cam_event.specs.Live.{site_of, is_fit, live_at, lift, first_conflict, holder, value}
 use Rattle.cam_event.specs.Gained.{deps}
 use Rattle.cam_plain.specs.Lines.{asked_for, replied, is_perform, is_bounce, outcome_in, is_lift}
 
 abbrev pub is_at_home : List Deed → Name → Bool
 is_at_home L a = eqb (count L (home_node a)) (home_count a)
 
+-- a child was asked for, and a top action has the next number
+abbrev pub is_placed : List Deed → Name → Bool
+is_placed L a = if is_top a then eqb (last_part a).number (tops L (home_node a) (home_count a) + 1) else asked_for L a
+
 abbrev pub create_test : List Deed → Name → Bool
-create_test L a =
-    not (created L a) && (is_at_home L a && (if is_top a then eqb (last_part a).number (tops L (home_node a) (home_count a) + 1) else asked_for L a))
+create_test L a = not (created L a) && (is_at_home L a && is_placed L a)
 
 abbrev pub ask_test : List Deed → Name → Name → Bool
 ask_test L a b =
@@ -39,10 +42,6 @@ call_test objects L a n x op c =
 abbrev pub arrival_test : List ObjectDecl → List Deed → Name → ℕ → (Addressed → Bool) → Bool
 arrival_test objects L a n test =
     not (replied L a n) && option_map_or (λ call. eqb call.count (count L (site_of objects call.object)) && test call) (call_of L a n) false
-
--- an operation on the object conflicts with an op of the action
-abbrev pub stands_against : List ObjectDecl → List Deed → Name → ℕ → Op → Operation → Bool
-stands_against objects L a x op o = eqb o.object x && is_conflict objects L a op o
 
 -- the call meets no conflict, and this is its answer
 abbrev pub is_performed : List ObjectDecl → List Deed → Name → Answer → Addressed → Bool

@@ -1,37 +1,41 @@
 //! Whether a call may be performed or bounced at its site.
-
-ghost use Rattle.std.specs.Prelude.{◌≡◌, IfOk, false, List, Bool};
+ghost use Rattle.std.specs.Prelude.{◌≡◌, ◌∷◌, true, false, Bool, IfOk, IfSome};
 ghost use Rattle.std.specs.Option.{option_map_or};
-ghost use Rattle.cam_event.specs.declared.Deed.{Deed};
-ghost use Rattle.cam_event.specs.History.{Addressed};
-ghost use Rattle.cam_event.specs.Live.{first_conflict, live};
-ghost use Rattle.cam_live.specs.Ledger.{Keeps};
-ghost use Rattle.cam_plain.specs.Facts.{addressed};
+ghost use Rattle.cam_type.specs.Objects.{is_fit};
+ghost use Rattle.cam_event.specs.declared.Deed.TheVariants.{Perform};
+ghost use Rattle.cam_event.specs.History.{Addressed, call_of};
+ghost use Rattle.cam_live.specs.Ledger.{addressed};
 ghost use Rattle.cam_plain.specs.Legal.{history};
-ghost use Rattle.cam_plain.specs.Tests.{arrival_test, stands_against, is_performed, perform_test, is_bounced, bounce_test};
+ghost use Rattle.cam_plain.specs.Tests.{arrival_test, perform_test, bounce_test};
+ghost use Rattle.cam_plain.specs.Kept.{IsKnown};
+ghost use Rattle.cam_plain.specs.Sites.{KeepsSites};
 
 use crate::before::Before;
-use crate::calls::{AddressedCall, call_of};
-use crate::fact::Fact;
-use crate::standing::count;
+use crate::sites::{Sites, attempt};
 use cam_base::NoMemory;
-use cam_event::{Deed, Operation};
-use cam_live::{Ledger, Operations, value_after};
+use cam_live::AddressedCall;
+use cam_locks::Grant;
 use cam_names::Name;
-use cam_type::{Answer, Objects, apply, compatible, mode_of, site_of};
+use cam_type::{Answer, site_of};
 use std::alloc::Global;
 
 /// The call that comes to its site, where no reply to it was made and the site stands at the
 /// addressed count.
-fn arriving(objects: &Objects, before: &[Deed], action: &Name, number: u32) -> Option<AddressedCall>
-    ensures { (test : Addressed → Bool) → arrival_test objects.now (history before.now) action.now number test ≡ option_map_or test (addressed result) false }
+fn arriving(before: &Before, action: &Name, number: u32) -> Option<AddressedCall>
+    requires { IsKnown before.now.objects.now (history before.now.deeds.now) before.now.tables.now }
+    ensures test { (test : Addressed → Bool)
+        → arrival_test before.now.objects.now (history before.now.deeds.now) action.now number test
+        ≡ option_map_or test (addressed result) false }
+    ensures fits { IfSome result (λ call. is_fit before.now.objects.now call.object call.op ≡ true) }
+    ensures called { IfSome result (λ call.
+        call_of (history before.now.deeds.now) action.now number ≡ addressed (Some call)) }
 {
-    if Fact::Replied(*action, number).is_in(before) {
+    if before.replied(action, number) {
         return None;
     }
-    match call_of(before, action, number) {
+    match before.call(action, number) {
         Some(call) => {
-            if call.count as usize == count(before, site_of(objects, call.object)) {
+            if call.count as u64 == before.count(site_of(before.objects, call.object)) {
                 Some(call)
             } else {
                 None
@@ -41,116 +45,54 @@ fn arriving(objects: &Objects, before: &[Deed], action: &Name, number: u32) -> O
     }
 }
 
-/// Whether the operation is on the object of the call, and conflicts with it.
-fn stands_against(
-    objects: &Objects,
-    ledger: &Ledger,
-    action: &Name,
-    call: &AddressedCall,
-    operation: &Operation,
-) -> bool
-    ensures { (L : List Deed) → Keeps objects.now L ledger.now → result ≡ stands_against objects.now L action.now call.now.object call.now.op operation.now }
-{
-    let site = site_of(objects, operation.object);
-    let in_the_way = match ledger.lift(site, &operation.action) {
-        Some(holder) => !holder.is_ancestor(action),
-        None => false,
-    };
-    operation.object == call.object
-        && in_the_way
-        && !compatible(mode_of(&operation.op), mode_of(&call.op))
-}
-
-/// The first of the live operations on the object of the call that conflicts with it.
-fn first_conflict(
-    objects: &Objects,
-    ledger: &Ledger,
-    action: &Name,
-    call: &AddressedCall,
-    operations: &Operations,
-) -> Option<Operation>
-    ensures { (L : List Deed) → Keeps objects.now L ledger.now → operations.now ≡ live objects.now L → result ≡ first_conflict objects.now L action.now call.now.object call.now.op }
-{
-    for operation in operations.as_slice() {
-        if stands_against(objects, ledger, action, call, operation) {
-            return Some(*operation);
-        }
-    }
-    None
-}
-
-/// Whether the call meets no conflict, and this is its answer.
-fn is_performed(
-    alloc: Global,
-    objects: &Objects,
-    ledger: &Ledger,
-    action: &Name,
-    call: &AddressedCall,
-    answer: &Answer,
-) -> Result<bool, NoMemory>
-    ensures { IfOk result (λ may. (L : List Deed) → Keeps objects.now L ledger.now → may ≡ is_performed objects.now L action.now answer.now (record { object = call.now.object; op = call.now.op; count = call.now.count })) }
-{
-    let live = ledger.live(alloc, objects)?;
-    let conflict = first_conflict(objects, ledger, action, call, &live);
-    let mut state = value_after(objects, call.object as usize, &live)?;
-    let given = apply(&mut state, &call.op)?;
-    Ok(conflict.is_none() && *answer == given)
-}
-
+/// Whether the call comes to its site, meets no conflict there, and this is its answer. Then its
+/// operation is done.
 pub(crate) fn may_perform(
     alloc: Global,
     before: &Before,
+    sites: &mut Sites,
     action: &Name,
     number: u32,
     answer: &Answer,
 ) -> Result<bool, NoMemory>
-    requires { Keeps before.now.objects.now (history before.now.deeds.now) before.now.ledger.now }
-    ensures { IfOk result (λ may. may ≡ perform_test before.now.objects.now (history before.now.deeds.now) action.now number answer.now) }
+    requires known { IsKnown before.now.objects.now (history before.now.deeds.now) before.now.tables.now }
+    requires kept { KeepsSites before.now.objects.now (history before.now.deeds.now) sites.old }
+    ensures value { IfOk result (λ may. may ≡ perform_test before.now.objects.now (history before.now.deeds.now)
+        action.now number answer.now) }
+    ensures done { IfOk result (λ may. may ≡ true → KeepsSites before.now.objects.now
+        (Perform action.now number answer.now ∷ history before.now.deeds.now) sites.new) }
 {
-    let (objects, ledger) = (before.objects, before.ledger);
-    match arriving(objects, before.deeds, action, number) {
-        Some(call) => is_performed(alloc, objects, ledger, action, &call, answer),
+    match arriving(before, action, number) {
+        Some(call) => match attempt(sites, alloc, before, action, &call)? {
+            Grant::Done(given) => Ok(*answer == given),
+            Grant::Conflict(_) => Ok(false),
+        },
         None => Ok(false),
     }
 }
 
-/// Whether the call meets a conflict, and this is the lift of the first operation that conflicts.
-fn is_bounced(
-    alloc: Global,
-    objects: &Objects,
-    ledger: &Ledger,
-    action: &Name,
-    call: &AddressedCall,
-    holder: &Name,
-) -> Result<bool, NoMemory>
-    ensures { IfOk result (λ may. (L : List Deed) → Keeps objects.now L ledger.now → may ≡ is_bounced objects.now L action.now holder.now (record { object = call.now.object; op = call.now.op; count = call.now.count })) }
-{
-    let live = ledger.live(alloc, objects)?;
-    match first_conflict(objects, ledger, action, call, &live) {
-        Some(operation) => {
-            let site = site_of(objects, operation.object);
-            match ledger.lift(site, &operation.action) {
-                Some(lifted) => Ok(lifted == *holder),
-                None => Ok(false),
-            }
-        }
-        None => Ok(false),
-    }
-}
-
+/// Whether the call comes to its site, meets a conflict there, and this is the lift of the first
+/// operation that conflicts.
 pub(crate) fn may_bounce(
     alloc: Global,
     before: &Before,
+    sites: &mut Sites,
     action: &Name,
     number: u32,
     holder: &Name,
 ) -> Result<bool, NoMemory>
-    requires { Keeps before.now.objects.now (history before.now.deeds.now) before.now.ledger.now }
-    ensures { IfOk result (λ may. may ≡ bounce_test before.now.objects.now (history before.now.deeds.now) action.now number holder.now) }
+    requires known { IsKnown before.now.objects.now (history before.now.deeds.now) before.now.tables.now }
+    requires kept { KeepsSites before.now.objects.now (history before.now.deeds.now) sites.old }
+    ensures value { IfOk result (λ may. may ≡ bounce_test before.now.objects.now (history before.now.deeds.now)
+        action.now number holder.now) }
+    ensures same { IfOk result (λ may. may ≡ true
+        → KeepsSites before.now.objects.now (history before.now.deeds.now) sites.new) }
 {
-    let (objects, ledger) = (before.objects, before.ledger);
-    match arriving(objects, before.deeds, action, number) {
-        Some(call) => is_bounced(alloc, objects, ledger, action, &call, holder),
+    match arriving(before, action, number) {
+        Some(call) => match attempt(sites, alloc, before, action, &call)? {
+            Grant::Done(_) => Ok(false),
+            Grant::Conflict(named) => Ok(named == *holder),
+        },
         None => Ok(false),
     }
 }

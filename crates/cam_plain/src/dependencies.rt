@@ -7,13 +7,12 @@ ghost use Rattle.cam_type.specs.declared.ObjectDecl.{ObjectDecl};
 ghost use Rattle.cam_event.specs.declared.Deed.{Deed};
 ghost use Rattle.cam_event.specs.declared.Deed.TheVariants.{Create, Ask, Commit};
 ghost use Rattle.cam_event.specs.Gained.{visited};
-ghost use Rattle.cam_plain.specs.Facts.{addressed};
+ghost use Rattle.cam_live.specs.Ledger.{Keeps, addressed};
 ghost use Rattle.cam_plain.specs.Depending.{pairs_in, AddsPairs, DependsOn};
-ghost use Rattle.cam_plain.specs.Legal.{history};
 
-use crate::calls::{AddressedCall, call_of};
 use cam_base::{NoMemory, Sequence};
 use cam_event::{Deed, Seen};
+use cam_live::{AddressedCall, Ledger};
 use cam_names::Name;
 use cam_type::{Objects, site_of};
 use std::alloc::Global;
@@ -175,10 +174,11 @@ pub(crate) fn take_deed(
     alloc: Global,
     dependencies: &mut Dependencies,
     objects: &Objects,
-    before: &[Deed],
+    ledger: &Ledger,
     deed: &Deed,
 ) -> Result<(), NoMemory>
-    ensures { OnOk result (DependsOn objects.now (history before.now) dependencies.old → DependsOn objects.now (deed.now ∷ history before.now) dependencies.new) }
+    ensures { OnOk result ((L : List Deed) → Keeps objects.now L ledger.now → DependsOn objects.now L dependencies.old
+        → DependsOn objects.now (deed.now ∷ L) dependencies.new) }
 {
     match deed {
         Deed::Create { action } => take_create(alloc, dependencies, action),
@@ -188,7 +188,7 @@ pub(crate) fn take_deed(
             number,
             seen: Seen::Done(_),
         } => {
-            let call = call_of(before, action, *number);
+            let call = ledger.call(action, *number);
             take_done(alloc, dependencies, objects, call, action)
         }
         Deed::Commit { action } => take_commit(alloc, dependencies, action),

@@ -4,33 +4,33 @@ ghost use Rattle.std.specs.Prelude.{◌≡◌, IfOk, List};
 ghost use Rattle.std.specs.List.{list_all};
 ghost use Rattle.cam_names.specs.Names.{parent};
 ghost use Rattle.cam_names.specs.Dependencies.{has_pair};
-ghost use Rattle.cam_type.specs.declared.ObjectDecl.{ObjectDecl};
 ghost use Rattle.cam_event.specs.declared.Deed.{Deed};
 ghost use Rattle.cam_event.specs.History.{secured};
 ghost use Rattle.cam_event.specs.Live.{live};
 ghost use Rattle.cam_live.specs.Ledger.{Keeps};
-ghost use Rattle.cam_plain.specs.Depending.{pairs_in, DependsOn};
+ghost use Rattle.cam_plain.specs.Depending.{pairs_in};
 ghost use Rattle.cam_plain.specs.Legal.{history};
 ghost use Rattle.cam_plain.specs.Tests.{may_commit_test, commit_test, is_held_below, handed_up, secure_test};
+ghost use Rattle.cam_plain.specs.Kept.{IsKnown};
 
 use crate::before::Before;
 use crate::dependencies::{Dependencies, Pairs, has_pair};
-use crate::fact::Fact;
 use crate::lines::is_decided;
-use crate::standing::{count, is_at_home, runs};
+use crate::standing::{is_at_home, runs};
 use cam_base::NoMemory;
-use cam_event::{Deed, Operation};
+use cam_event::Operation;
 use cam_live::{Ledger, Operations};
 use cam_names::Name;
 use cam_type::{Objects, site_of};
 use std::alloc::Global;
 
 /// Whether the family is secured at each pair.
-fn all_secured(before: &[Deed], family: &Name, pairs: &Pairs) -> bool
-    ensures { result ≡ list_all (λ p. secured (history before.now) family.now p.0 p.1) pairs.now }
+fn all_secured(before: &Before, family: &Name, pairs: &Pairs) -> bool
+    requires { IsKnown before.now.objects.now (history before.now.deeds.now) before.now.tables.now }
+    ensures { result ≡ list_all (λ p. secured (history before.now.deeds.now) family.now p.0 p.1) pairs.now }
 {
     for pair in pairs.as_slice() {
-        if !Fact::Secured(*family, pair.0, pair.1).is_in(before) {
+        if !before.is_secured(family, pair.0, pair.1) {
             return false;
         }
     }
@@ -38,10 +38,12 @@ fn all_secured(before: &[Deed], family: &Name, pairs: &Pairs) -> bool
 }
 
 /// Whether the family is secured at each pair on which it depends.
-fn is_secured(before: &[Deed], dependencies: &Dependencies, family: &Name) -> bool
-    ensures { result ≡ list_all (λ p. secured (history before.now) family.now p.0 p.1) (pairs_in dependencies.now family.now) }
+fn is_secured(before: &Before, family: &Name) -> bool
+    requires { IsKnown before.now.objects.now (history before.now.deeds.now) before.now.tables.now }
+    ensures { result ≡ list_all (λ p. secured (history before.now.deeds.now) family.now p.0 p.1)
+        (pairs_in before.now.tables.now.dependencies family.now) }
 {
-    match dependencies.get(family) {
+    match before.tables.dependencies.get(family) {
         Some(pairs) => all_secured(before, family, pairs),
         None => true,
     }
@@ -58,8 +60,10 @@ fn depends(dependencies: &Dependencies, action: &Name, node: u8, count: u32) -> 
 }
 
 /// Whether the action's parent, or for a top action what it depends on, lets it commit.
-fn is_let_commit(before: &[Deed], dependencies: &Dependencies, action: &Name) -> bool
-    ensures { (objects : List ObjectDecl) → DependsOn objects (history before.now) dependencies.now → result ≡ may_commit_test objects (history before.now) action.now (parent action.now) }
+fn is_let_commit(before: &Before, action: &Name) -> bool
+    requires { IsKnown before.now.objects.now (history before.now.deeds.now) before.now.tables.now }
+    ensures { result ≡ may_commit_test before.now.objects.now (history before.now.deeds.now)
+        action.now (parent action.now) }
 {
     // A name has a part.
     prove!(action.depth() > 0);
@@ -67,18 +71,19 @@ fn is_let_commit(before: &[Deed], dependencies: &Dependencies, action: &Name) ->
         Some(parent) => runs(before, &parent),
         None => {
             let at_home = is_at_home(before, action);
-            let secured = is_secured(before, dependencies, action);
+            let secured = is_secured(before, action);
             at_home && secured
         }
     }
 }
 
-pub(crate) fn may_commit(before: &[Deed], dependencies: &Dependencies, action: &Name) -> bool
-    ensures { (objects : List ObjectDecl) → DependsOn objects (history before.now) dependencies.now → result ≡ commit_test objects (history before.now) action.now }
+pub(crate) fn may_commit(before: &Before, action: &Name) -> bool
+    requires { IsKnown before.now.objects.now (history before.now.deeds.now) before.now.tables.now }
+    ensures { result ≡ commit_test before.now.objects.now (history before.now.deeds.now) action.now }
 {
-    let asked = Fact::AskedCommit(*action).is_in(before);
+    let asked = before.action(action).asked_commit;
     let decided = is_decided(before, action);
-    let may = is_let_commit(before, dependencies, action);
+    let may = is_let_commit(before, action);
     asked && !decided && may
 }
 
@@ -126,16 +131,17 @@ pub(crate) fn may_secure(
     site: u8,
     secured_count: u32,
 ) -> Result<bool, NoMemory>
-    requires live { Keeps before.now.objects.now (history before.now.deeds.now) before.now.ledger.now }
-    requires depending { DependsOn before.now.objects.now (history before.now.deeds.now) before.now.dependencies.now }
-    ensures { IfOk result (λ may. may ≡ secure_test before.now.objects.now (history before.now.deeds.now) family.now site secured_count) }
+    requires { IsKnown before.now.objects.now (history before.now.deeds.now) before.now.tables.now }
+    ensures { IfOk result (λ may. may ≡ secure_test before.now.objects.now (history before.now.deeds.now)
+        family.now site secured_count) }
 {
+    let ledger = &before.tables.ledger;
     let is_top = family.depth() == 1;
-    let asked = Fact::AskedCommit(*family).is_in(before.deeds);
-    let depends = depends(before.dependencies, family, site, secured_count);
-    let present = secured_count as usize == count(before.deeds, site);
-    let secured = Fact::SecuredAt(*family, site).is_in(before.deeds);
-    let live = before.ledger.live(alloc, before.objects)?;
-    let handed_up = is_handed_up(before.objects, before.ledger, &live, family, site);
+    let asked = before.action(family).asked_commit;
+    let depends = depends(&before.tables.dependencies, family, site, secured_count);
+    let present = secured_count as u64 == before.count(site);
+    let secured = before.is_secured_at(family, site);
+    let live = ledger.live(alloc, before.objects)?;
+    let handed_up = is_handed_up(before.objects, ledger, &live, family, site);
     Ok(is_top && asked && depends && present && !secured && handed_up)
 }

@@ -1,17 +1,12 @@
-use Rattle.std.proofs.Common.{◌≡◌, sym, ◌∙◌}
-use Rattle.std.proofs.lemmas.Result.{IfOk-weaker}
+use Rattle.std.proofs.Common.{sym, ◌∙◌}
+use Rattle.cam_type.specs.declared.Answer.TheVariants as answers
 use Rattle.cam_plain.specs.Legal.{history}
-use Rattle.cam_plain.specs.Tests.{is_bounced}
+use Rattle.cam_plain.proofs.Granting.{attempted_conflict}
 use Rattle.cam_plain.proofs.arrivals.may_bounce.Goals as goal
 
-pub returns-in-Some : goal.returns-in-Some
-returns-in-Some c =
+pub returns-in-Conflict-clause-same : goal.returns-in-Conflict-clause-same
+returns-in-Conflict-clause-same c = λ passed.
     let objects = c.args.before.now.objects.now in
     let L = history c.args.before.now.deeds.now in
-    IfOk-weaker c.is_bounced.result _ _
-    (λ may is. is L c.requires ∙ sym (c.in-Some.ensures (is_bounced objects L c.args.action.now c.args.holder.now)))
-    c.is_bounced.ensures
-
-pub returns-in-None : goal.returns-in-None
-returns-in-None c =
-    sym (c.in-None.ensures (is_bounced c.args.before.now.objects.now (history c.args.before.now.deeds.now) c.args.action.now c.args.holder.now))
+    attempted_conflict objects L c.args.action.now c.args.number answers.Empty _ c.in-Conflict.named _ c.attempt.new.sites
+    (sym c.in-Conflict.is ∙ c.in_ok-attempt-in-Some.ensures.value) (c.in_ok-attempt-in-Some.ensures.kept c.args.number answers.Empty c.in-Some.ensures.called)

@@ -1,9 +1,10 @@
-use Rattle.std.proofs.Common.{◌≡◌, List, [], take, true, false, sym, ◌∙◌, subst, arith, rules}
+use Rattle.std.proofs.Common.{◌≡◌, ℕ, List, [], take, true, false, Option, Some, None, refl, sym, ◌∙◌, subst, arith, rules}
 use Rattle.cam_event.specs.declared.Deed.{Deed}
 use Rattle.cam_event.proofs.Snoc.{further}
-use Rattle.cam_live.specs.Ledger.{Keeps}
+use Rattle.cam_plain.specs.declared.site.Site.{Site}
 use Rattle.cam_plain.specs.Legal.{IsFirstIllegal, Legal, history}
-use Rattle.cam_plain.specs.Depending.{DependsOn}
+use Rattle.cam_plain.specs.Kept.{IsKept, IsKnown}
+use Rattle.cam_plain.specs.Sites.{KeepsIfSome, KeepsSites, site_in}
 use Rattle.cam_plain.proofs.Checking.{legal_next, first_illegal}
 use Rattle.cam_plain.proofs.legality.check.Goals as goal
 
@@ -12,7 +13,7 @@ returns-then-not-legal-clause-illegal c =
     let failed : c.in_ok-legal.legal ≡ false = grind arith in
     subst (λ (ds : List Deed). IsFirstIllegal c.args.objects.now ds c.loop-at.at c.of.result) c.as_slice-list.ensures
     (first_illegal c.args.objects.now c.as_slice-list.result.now c.loop-at.at c.of.result c.index-list-at.result c.loop-at-test.true c.index-list-at.is
-    c.loop-at.invariant.legal (sym c.in_ok-legal.ensures ∙ failed) c.of.ensures)
+    c.loop-at.invariant.known.legal (sym c.in_ok-legal.ensures.value ∙ failed) c.of.ensures)
 
 pub loop-at-preserved : goal.loop-at-preserved
 loop-at-preserved c =
@@ -22,12 +23,18 @@ loop-at-preserved c =
     let before = c.loop-at.invariant in
     let passed : c.in_ok-legal.legal ≡ true = grind arith in
     record {
-      ledger = subst (λ (M : List Deed). Keeps objects M c.note.new.self) (sym more) (c.in_ok-note.ensures.noted L before.ledger);
-      dependencies = subst (λ (M : List Deed). DependsOn objects M c.take_deed.new.dependencies) (sym more) (c.in_ok-take_deed.ensures before.dependencies);
-      legal = subst (λ (M : List Deed). Legal objects M) (sym more) (legal_next objects L c.index-list-at.result before.legal (sym c.in_ok-legal.ensures ∙ passed));
+      known = subst (λ (M : List Deed). IsKnown objects M c.note.new.self) (sym more) (record {
+        legal = legal_next objects L c.index-list-at.result before.known.legal (sym c.in_ok-legal.ensures.value ∙ passed);
+        kept = c.in_ok-note.ensures L before.known.kept;
+      });
+      sites = subst (λ (M : List Deed). KeepsSites objects M c.note_at_site.new.sites) (sym more)
+          (c.in_ok-note_at_site.ensures L before.known.kept.ledger (c.in_ok-legal.ensures.sites passed));
     }
 
 pub loop-at-init : goal.loop-at-init
 loop-at-init c =
-    let empty : DependsOn c.args.objects.now [] c.new-dependencies.result = search rules in
-    record { ledger = c.new-ledger.ensures c.args.objects.now; dependencies = empty; legal = tt }
+    let none : (s : ℕ) → site_in c.new-sites.result s ≡ None = search rules in
+    record {
+      known = record { legal = tt; kept = c.new-tables.ensures c.args.objects.now };
+      sites = λ s. subst (KeepsIfSome c.args.objects.now [] s) (sym (none s)) (record { none = refl; commits = λ u. refl });
+    }

@@ -6,4 +6,4 @@ use Rattle.cam_plain.proofs.securing.all_secured.Given as goal
 
 abbrev pub invariant-loop-pair : goal.invariant-loop-pair
 invariant-loop-pair l =
-    list_all (λ p. secured (history l.before) l.family p.0 p.1) (drop l.pair-index l.pair-items) ≡ list_all (λ p. secured (history l.before) l.family p.0 p.1) l.pair-items
+    list_all (λ p. secured (history l.before.deeds.now) l.family p.0 p.1) (drop l.pair-index l.pair-items) ≡ list_all (λ p. secured (history l.before.deeds.now) l.family p.0 p.1) l.pair-items

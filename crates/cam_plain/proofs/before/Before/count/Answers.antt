@@ -1,0 +1,5 @@
+use Rattle.cam_plain.specs.Legal.{history}
+use Rattle.cam_plain.proofs.before.Before.count.Goals as goal
+
+pub returns : goal.returns
+returns c = c.count.ensures c.args.self.now.objects.now (history c.args.self.now.deeds.now) c.requires.kept.ledger
