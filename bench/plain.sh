@@ -1,7 +1,9 @@
 #!/bin/sh
-# How long the check of the plain machine takes on legal lists of 96, 192, 384 and 768 deeds, and how often that is the time of the first.
-# A figure is such a ratio: the nanoseconds are those of one machine on one day. Each time is the least of four rounds.
-# Twice the deeds in four times the time is the square.
+# How long the check of the plain machine takes on legal lists of 1,000, 10,000 and 50,000 deeds, and how often that is the time of the
+# first. A figure is such a ratio: the nanoseconds are those of one machine on one day. Each time is the least of four rounds. At the square
+# ten times the deeds would take a hundred times as long.
+# Two lists: actions one after another that write one register and commit, and actions that add to one counter, of which hundreds run at
+# a time.
 # bench/plain.sh           proves the crates and the program, and runs it
 # bench/plain.sh --quick   runs a build of the same sources that nothing has proved
 . "$(dirname "$0")/common.sh"
@@ -17,15 +19,15 @@ use cam_plain::check;
 use cam_type::{Answer, ObjectDecl, Objects, Op, State};
 use std::time::Instant;
 
-/// One action that writes and commits, in eight deeds.
-fn a_write(action: Name) -> [Deed; 8] {
+/// The start of an action, and its call of an operation that answers `Ok`.
+fn first_half(action: Name, op: Op) -> [Deed; 4] {
     [
         Deed::Create { action },
         Deed::Call {
             action,
             number: 1,
             object: 0,
-            op: Op::Write(5),
+            op,
             count: 1,
         },
         Deed::Perform {
@@ -38,6 +40,12 @@ fn a_write(action: Name) -> [Deed; 8] {
             number: 1,
             seen: Seen::Done(Answer::Ok),
         },
+    ]
+}
+
+/// Its commit.
+fn second_half(action: Name) -> [Deed; 4] {
+    [
         Deed::AskCommit { action, value: 0 },
         Deed::Secure {
             family: action,
@@ -53,13 +61,24 @@ fn a_write(action: Name) -> [Deed; 8] {
     ]
 }
 
-/// So many actions, one after another, at one register.
-fn writes(rt: &HostRuntime, actions: u32) -> Result<Deeds, Error> {
+/// So many actions, of which so many run at a time.
+fn actions(rt: &HostRuntime, count: u32, at_a_time: u32, op: Op) -> Result<Deeds, Error> {
     let mut deeds = Deeds::new(rt.alloc());
-    for number in 1..=actions {
-        if let Some(part) = Part::new(1, 1, number) {
-            for deed in &a_write(Name::top(part)) {
-                deeds.push_copy(deed)?;
+    for round in 0..count / at_a_time.max(1) {
+        for half in 0..2 {
+            for place in 1..=at_a_time {
+                let number = (round as u64 * at_a_time as u64 + place as u64) as u32;
+                if let Some(part) = Part::new(1, 1, number) {
+                    let action = Name::top(part);
+                    let deeds_of_half = if half == 0 {
+                        first_half(action, op)
+                    } else {
+                        second_half(action)
+                    };
+                    for deed in &deeds_of_half {
+                        deeds.push_copy(deed)?;
+                    }
+                }
             }
         }
     }
@@ -67,40 +86,48 @@ fn writes(rt: &HostRuntime, actions: u32) -> Result<Deeds, Error> {
 }
 
 /// The time of one check.
-fn check_once(rt: &HostRuntime, deeds: &Deeds) -> Result<u128, Error> {
+fn check_once(rt: &HostRuntime, deeds: &Deeds, start_state: State) -> Result<u128, Error> {
     let mut objects = Objects::new(rt.alloc());
     objects.push(ObjectDecl {
         node: 1,
-        start: State::Register(0),
+        start: start_state,
     })?;
     let start = Instant::now(rt)?;
     check(rt.alloc(), deeds, &objects)?;
     Ok(start.elapsed(rt)?.as_nanos())
 }
 
-/// The least time of some checks.
-fn measure(rt: &HostRuntime, deeds: &Deeds) -> Result<u128, Error> {
-    let mut time = check_once(rt, deeds)?;
-    for _ in 0..3 {
-        time = time.min(check_once(rt, deeds)?);
+/// The least time of four checks of the writers, or of the adders.
+fn measure(rt: &HostRuntime, deeds: &Deeds, is_counter: bool) -> Result<u128, Error> {
+    let mut time = u128::MAX;
+    for _ in 0..4 {
+        let state = if is_counter { State::Counter(0) } else { State::Register(0) };
+        time = time.min(check_once(rt, deeds, state)?);
     }
     Ok(time)
 }
 
 fn main(rt: HostRuntime) -> Result<(), Error> {
-    let first = measure(&rt, &writes(&rt, 12)?)?;
-    for actions in [12, 24, 48, 96] {
-        let deeds = writes(&rt, actions)?;
-        let time = if actions == 12 { first } else { measure(&rt, &deeds)? };
-        let tenths = time.saturating_mul(10) / first.max(1);
-        println!(rt; "{} deeds: {time} ns, {tenths} tenths of the first", deeds.len())?;
+    for is_counter in [false, true] {
+        let mut first = 0;
+        for count in [125, 1250, 6250] {
+            let (at_a_time, op) = if is_counter { (count / 5, Op::Add(1)) } else { (1, Op::Write(5)) };
+            let deeds = actions(&rt, count, at_a_time, op)?;
+            let time = measure(&rt, &deeds, is_counter)?;
+            if first == 0 {
+                first = time.max(1);
+            }
+            let tenths = time.saturating_mul(10) / first;
+            let what = if is_counter { "adders" } else { "writers" };
+            println!(rt; "{what}: {} deeds: {time} ns, {tenths} tenths of the first", deeds.len())?;
+        }
     }
     Ok(())
 }
 PROGRAM
 if [ "${1-}" = --quick ]; then
-    # That build checks each step as it runs, and is some hundred times slower: it does not take the longest list.
-    sed -i 's/12, 24, 48, 96/12, 24, 48/' src/main.rt
+    # That build checks each step as it runs, and is some hundred times slower: it takes short lists.
+    sed -i 's/125, 1250, 6250/25, 50, 100/' src/main.rt
     rt try --steps 1
 else
     rt run
