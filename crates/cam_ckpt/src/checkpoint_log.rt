@@ -1,9 +1,9 @@
 // What callers see of a log whose list of entries can be replaced.
-ghost use Rattle.std.specs.Prelude.{◌≡◌, ◌≤◌, ◌+◌, ◌^◌, List, ℕ, Bool, IsTrue, IsFalse, OnOk, OnErr, IsErrOf, Some};
+ghost use Rattle.std.specs.Prelude.{◌≡◌, ◌≤◌, ◌+◌, ◌^◌, List, ℕ, Bool, IsTrue, IsFalse, OnOk, OnErr, IsErrOf, Ok as Opens, Err as IsNone, Some, None};
 ghost use Rattle.cam_base.specs.Causes.{Rose};
 ghost use Rattle.cam_disk.specs.Stop.{Untouched};
 ghost use Rattle.cam_log.specs.declared.fault.LogFault.TheVariants.{DiskFault, NotALog};
-ghost use Rattle.cam_log.specs.Moments.{Grows, Stays};
+ghost use Rattle.cam_log.specs.Moments.{Grows, AddsNothing, Stays};
 ghost use Rattle.cam_log.specs.Spent.{Spent};
 ghost use Rattle.cam_ckpt.specs.Moments.{IsOldOrNew};
 ghost use Rattle.cam_ckpt.specs.Opening.{can_follow};
@@ -63,4 +63,36 @@ pub trait CheckpointLog: EntryLog {
         ensures disk_fault { IsErrOf result DiskFault
             → Rose (Self.faults self.old) (Self.faults self.new) × IsTrue (Self.broken self.new) }
         ensures is_a_log { (at : ℕ) → IsErrOf result (NotALog at) → ⊥ };
+
+    /// Opens the log of its disk again, as a crash or the log left it: it syncs the disk and reads it, and a
+    /// crash meanwhile leaves what was there. `NotALog` says from which place on the bytes are no log. After
+    /// an error it is broken, and may be opened again.
+    fn reopen(&mut self) -> Result<(), LogFault>
+        ensures read { IsTrue (Self.tells self.old) → OnOk result
+            (Self.opens_since self.old (Self.moment self.old) (Opens (Self.listed self.new))) }
+        ensures refused { IsTrue (Self.tells self.old) → (at : ℕ) → IsErrOf result (NotALog at)
+            → Self.opens_since self.old (Self.moment self.old) (IsNone (NotALog at)) }
+        ensures whole { OnOk result (IsFalse (Self.broken self.new)) }
+        ensures not_read { OnErr result (IsTrue (Self.broken self.new)) }
+        ensures any_moment { IsTrue (Self.tells self.old)
+            → AddsNothing (Self.moment self.old) (Self.moment self.new)
+            (Self.opens_since self.old) (Self.opens_since self.new) }
+        ensures unbounded { Self.passes self.old ≡ None → Self.passes self.new ≡ None }
+        ensures tells { Self.tells self.new ≡ Self.tells self.old }
+        ensures later { Self.faults self.old ≤ Self.faults self.new }
+        ensures disk_fault { IsErrOf result DiskFault
+            → Rose (Self.faults self.old) (Self.faults self.new) };
+
+    /// Says that the disk gave bytes that it cannot have held, which counts as a fault of a disk that does
+    /// not tell what it holds. The log is broken then.
+    fn spoil(&mut self)
+        ensures rose { IsFalse (Self.tells self.old)
+            → Rose (Self.faults self.old) (Self.faults self.new) }
+        ensures broken { IsTrue (Self.broken self.new) }
+        ensures any_moment { IsTrue (Self.tells self.old)
+            → AddsNothing (Self.moment self.old) (Self.moment self.new)
+            (Self.opens_since self.old) (Self.opens_since self.new) }
+        ensures passes { Self.passes self.new ≡ Self.passes self.old }
+        ensures tells { Self.tells self.new ≡ Self.tells self.old }
+        ensures later { Self.faults self.old ≤ Self.faults self.new };
 }

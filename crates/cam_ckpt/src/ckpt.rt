@@ -225,4 +225,16 @@ impl<D: Disk> CheckpointLog for Ckpt<D> {
         self.broken = false;
         Ok(())
     }
+
+    fn reopen(&mut self) -> Result<(), LogFault> {
+        self.broken = true;
+        self.state = read_in(self.alloc, &mut self.disk)?;
+        self.broken = false;
+        Ok(())
+    }
+
+    fn spoil(&mut self) {
+        self.broken = true;
+        self.disk.spoil();
+    }
 }
