@@ -22,7 +22,7 @@ use Rattle.cam_recman.specs.Versions.{version_behind, IsOpOf, AreOf}
 use Rattle.cam_recman.proofs.Versioning.{behind_more, are_of_both}
 use Rattle.cam_recman.proofs.Folding.{with_more, recovery_is_of_the_records}
 
-abbrev has : ℕ → List Outcome → List ℕ → List Held → Recovered
+abbrev pub has : ℕ → List Outcome → List ℕ → List Held → Recovered
 has c outcomes counts held = record { count = c; know = record { outcomes = outcomes; counts = counts }; held = held }
 
 -- the own count
@@ -51,7 +51,7 @@ learnt : (c : ℕ) (counts : List ℕ) (held : List Held) (xs : List Outcome) (o
 learnt c counts held xs (Aborted a) none = ap (λ (b : Bool). has c (xs ++ (if not b then Aborted a ∷ [] else [])) counts held) none
 learnt c counts held xs (Committed a d) none = ap (λ (b : Bool). has c (xs ++ (if not b then Committed a d ∷ [] else [])) counts held) none
 
-outcomes_keep : (c : ℕ) (counts : List ℕ) (held : List Held) (xs os : List Outcome) → NoTwice (xs ++ os) → with_records (has c xs counts held) (map outcome_record os) ≡ has c (xs ++ os) counts held
+pub outcomes_keep : (c : ℕ) (counts : List ℕ) (held : List Held) (xs os : List Outcome) → NoTwice (xs ++ os) → with_records (has c xs counts held) (map outcome_record os) ≡ has c (xs ++ os) counts held
 outcomes_keep c counts held xs [] h = ap (λ (ys : List Outcome). has c ys counts held) (sym (append-nil xs))
 outcomes_keep c counts held xs (o ∷ os) h =
     let same : (xs ++ o ∷ []) ++ os ≡ xs ++ o ∷ os = append_assoc xs (o ∷ []) os in
@@ -102,12 +102,12 @@ from_one [] h = tt
 from_one (c ∷ cs) h = (h 0 (omega arith), from_one cs (λ k less. h (suc k) (omega (arith, less))))
 
 -- what the families hold
-held_keep : (c : ℕ) (outcomes : List Outcome) (counts : List ℕ) (xs hs : List Held) → with_records (has c outcomes counts xs) (map (λ held. Secure held) hs) ≡ has c outcomes counts (xs ++ hs)
+pub held_keep : (c : ℕ) (outcomes : List Outcome) (counts : List ℕ) (xs hs : List Held) → with_records (has c outcomes counts xs) (map (λ held. Secure held) hs) ≡ has c outcomes counts (xs ++ hs)
 held_keep c outcomes counts xs [] = ap (λ (ys : List Held). has c outcomes counts ys) (sym (append-nil xs))
 held_keep c outcomes counts xs (h ∷ hs) = held_keep c outcomes counts (xs ++ h ∷ []) hs ∙ ap (λ (ys : List Held). has c outcomes counts ys) (append_assoc xs (h ∷ []) hs)
 
 -- all together
-snapshot_is : (r : Recovered) → CanBeKept r → with_records fresh (snapshot r) ≡ r
+pub snapshot_is : (r : Recovered) → CanBeKept r → with_records fresh (snapshot r) ≡ r
 snapshot_is r h =
     let outs : List Record = map outcome_record r.know.outcomes in
     let seen : List Record = seen_records 1 r.know.counts in
@@ -123,10 +123,10 @@ snapshot_is r h =
     with_more fresh (own ++ outs ++ seen) secs ∙ ap (λ (q : Recovered). with_records q secs) two ∙ held_keep r.count r.know.outcomes r.know.counts [] r.held
 
 -- version 2 has each operation, so what is no Version may stand behind one
-abbrev Follows : List Record → Type 0
+abbrev pub Follows : List Record → Type 0
 Follows records = AreOf 2 records × (version_behind 2 records ≡ 2)
 
-both_follow : (one more : List Record) → Follows one → Follows more → Follows (one ++ more)
+pub both_follow : (one more : List Record) → Follows one → Follows more → Follows (one ++ more)
 both_follow one more first rest = (
   are_of_both 2 one more first.0 (subst (λ (v : ℕ). AreOf v more) (sym first.1) rest.0),
   behind_more 2 one more ∙ ap (λ (v : ℕ). version_behind v more) first.1 ∙ rest.1,
@@ -135,7 +135,7 @@ both_follow one more first rest = (
 own_follows : (c : ℕ) → Follows (own_record c)
 own_follows c = elim (nat_lt 1 c) as (λ (b : Bool). Follows (if b then Count c ∷ [] else [])) [ true ↦ ((tt, tt), refl) | false ↦ (tt, refl) ]
 
-outcomes_follow : (os : List Outcome) → Follows (map outcome_record os)
+pub outcomes_follow : (os : List Outcome) → Follows (map outcome_record os)
 outcomes_follow [] = (tt, refl)
 outcomes_follow (Aborted a ∷ os) = let rest = outcomes_follow os in ((tt, rest.0), rest.1)
 outcomes_follow (Committed a d ∷ os) = let rest = outcomes_follow os in ((tt, rest.0), rest.1)
@@ -155,7 +155,7 @@ second_has (ops.Put w) = tt
 second_has ops.Take = tt
 second_has (ops.Add w) = λ (e : 2 ≡ 1). absurd (omega (arith, e))
 
-all_second : (hs : List HeldOp) → AllByRecursion (λ (o : HeldOp). IsOpOf 2 o.op) hs
+pub all_second : (hs : List HeldOp) → AllByRecursion (λ (o : HeldOp). IsOpOf 2 o.op) hs
 all_second [] = tt
 all_second (o ∷ hs) = (second_has o.op, all_second hs)
 
@@ -163,7 +163,7 @@ held_follow : (hs : List Held) → Follows (map (λ held. Secure held) hs)
 held_follow [] = (tt, refl)
 held_follow (h ∷ hs) = let rest = held_follow hs in ((all_second h.ops, rest.0), rest.1)
 
-snapshot_of : (r : Recovered) → AreOf 1 (snapshot r)
+pub snapshot_of : (r : Recovered) → AreOf 1 (snapshot r)
 snapshot_of r =
     let outs : List Record = map outcome_record r.know.outcomes in
     let seen : List Record = seen_records 1 r.know.counts in

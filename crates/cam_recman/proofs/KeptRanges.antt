@@ -23,10 +23,10 @@ each_below (c ∷ counts) to = (to zero (omega arith), each_below counts (λ k b
 pub counts_below : (counts : List ℕ) → AreCounts 1 counts → AllByRecursion (λ count. count ≤ 1000000000) counts
 counts_below counts are = each_below counts (λ k below. are.to k (omega (arith, below, are.eight)))
 
-abbrev AreWritable : List Record → Type 0
+abbrev pub AreWritable : List Record → Type 0
 AreWritable records = AllByRecursion IsWritable records
 
-both : (one more : List Record) → AreWritable one → AreWritable more → AreWritable (one ++ more)
+pub both : (one more : List Record) → AreWritable one → AreWritable more → AreWritable (one ++ more)
 both [] more are rest = rest
 both (x ∷ one) more are rest = (are.0, both one more are.1 rest)
 
@@ -37,7 +37,7 @@ own_writable c h = by (nat_lt 1 c) refl
     by true above = ((omega (arith, ltb-true 1 c above), h), tt)
     by false first = tt
 
-outcomes_writable : (os : List Outcome) → AreWritable (map outcome_record os)
+pub outcomes_writable : (os : List Outcome) → AreWritable (map outcome_record os)
 outcomes_writable [] = tt
 outcomes_writable (Aborted a ∷ os) = (tt, outcomes_writable os)
 outcomes_writable (Committed a d ∷ os) = (tt, outcomes_writable os)

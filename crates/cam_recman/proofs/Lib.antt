@@ -14,3 +14,4 @@ pub mod Firsts
 pub mod Upgrading
 pub mod KeptAll
 pub mod KeptRanges
+pub mod Said

@@ -10,3 +10,4 @@ pub mod Inspect
 pub mod Laws
 pub mod Migrating
 pub mod Snapshot
+pub mod Says

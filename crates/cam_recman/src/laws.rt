@@ -1,6 +1,7 @@
 //! What holds of entries, of recovery, of snapshots and of migration.
 ghost use Rattle.cam_recman.specs.Snapshot.{SnapshotKeepsAll};
 ghost use Rattle.cam_recman.specs.Laws.{EntriesAreRead, ReadIsWritten, RecoveryIsOfTheRecords, OutcomesAreThoseSaid, HeldIsWhatWasSecured, CountsAreTheGreatest, CountIsTheLast, OneMoreEntryAdds, WrittenEntryAdds, StoppedAppendRecovers, FaultIsTheFirst, FirstIsTheFault};
+ghost use Rattle.cam_recman.specs.Says.{FirstSays, EntrySays, SnapshotSays, MigratedSays, Version2IsLeft, Version2IsRecovered, Version2Says, SaidIsRecovered};
 ghost use Rattle.cam_recman.specs.Migrating.{MigrationKeepsRecovery, MigrationHasTheFault, MigratedIsVersion2, MigrationIsOnce, WrittenIsMigrated, StoppedMigrationRecovers, UpgradeKeepsRecovery};
 
 /// An entry that was written is read as its records, where the format has their version, and what is read as records is their bytes.
@@ -42,4 +43,17 @@ pub fn migration()
 /// One entry can keep all that a node has: recovery of it gives that again.
 pub fn snapshots()
     ensures keeps { SnapshotKeepsAll }
+{}
+
+/// Entries of version 2 can be recovered, and are left by a migration, behind which all are such. A Version alone says nothing, one more entry
+/// adds what its records say, and the entry that keeps all says all, alone.
+pub fn version2()
+    ensures first { FirstSays }
+    ensures entry { EntrySays }
+    ensures snapshot { SnapshotSays }
+    ensures migrated { MigratedSays }
+    ensures left { Version2IsLeft }
+    ensures recovered { Version2IsRecovered }
+    ensures says { Version2Says }
+    ensures said { SaidIsRecovered }
 {}

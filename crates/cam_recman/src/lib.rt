@@ -42,7 +42,7 @@ use cam_names::{Deps, Name};
 use cam_type::{Held, HeldList};
 pub use entry::decode_entry;
 pub use keeping::snapshot;
-pub use laws::{entries, migration, recovery, snapshots};
+pub use laws::{entries, migration, recovery, snapshots, version2};
 pub use migrating::migrate;
 pub use recovering::{recover, restart};
 use thiserror::Error;
