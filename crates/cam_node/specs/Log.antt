@@ -1,5 +1,5 @@
 -- What the log of a node keeps of its history, as a restart reads it.
-use Rattle.std.specs.Prelude.{◌≡◌, ◌≢◌, ℕ, ◌≤◌, eqb, if◌then◌else◌, List, [], ◌∷◌, ◌++◌, map, reverse}
+use Rattle.std.specs.Prelude.{◌≡◌, ◌≢◌, ℕ, ◌≤◌, eqb, max, if◌then◌else◌, List, [], ◌∷◌, ◌++◌, map, reverse}
 use Rattle.cam_type.specs.declared.ObjectDecl.{ObjectDecl}
 use Rattle.cam_type.specs.declared.Held.{Held}
 use Rattle.cam_know.specs.Knowledge.{Knowledge}
@@ -29,6 +29,8 @@ pub record KeepsLog (objects : List ObjectDecl) (s : ℕ) (history : List Receiv
   pub count : logged.count ≡ count_in (deeds_of (map as_carried history)) s
   pub outcomes : logged.know.outcomes ≡ (known objects history).outcomes
   pub other_counts : (m : ℕ) → 1 ≤ m → m ≤ 8 → m ≢ s → known_count logged.know m ≡ known_count (known objects history) m
+  -- of its own count the node knows what the log has seen of it, and the count that it has
+  pub own_known : 1 ≤ s → s ≤ 8 → max (known_count logged.know s) logged.count ≡ known_count (known objects history) s
   pub secured : AreHeld logged.held (reverse (site (map as_carried history)).secured)
   pub counts : map (λ (h : Held). h.count) logged.held ≡ secure_counts s (deeds_of (map as_carried history))
   pub order : OrderIsKept (beside logged.held (reverse (site (map as_carried history)).secured))

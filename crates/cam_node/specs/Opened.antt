@@ -1,0 +1,109 @@
+-- What a node's log opens as: entries from which a restart recovers what a history keeps.
+use Rattle.std.specs.Prelude.{◌≡◌, ◌⊎◌, ℕ, ◌+◌, ◌<◌, ◌≤◌, ◌*◌, eqb, nat_le, nat_lt, Bool, true, false, not, ◌&&◌, if◌then◌else◌, List, [], ◌∷◌, ◌++◌, Result, Ok, Err}
+use Rattle.std.specs.List.{list_all}
+use Rattle.cam_names.specs.Dependencies.{AreCounts}
+use Rattle.cam_type.specs.declared.ObjectDecl.{ObjectDecl}
+use Rattle.cam_type.specs.declared.HeldOp.{HeldOp}
+use Rattle.cam_know.specs.Knowledge.{Knowledge}
+use Rattle.cam_know.specs.Known.{with_count}
+use Rattle.cam_know.specs.Invariant.{NoTwice}
+use Rattle.cam_event.specs.ByDeltas.{Received}
+use Rattle.cam_log.specs.Moments.{Opened}
+use Rattle.cam_locks.specs.Restored.{CanRestore, all_held}
+use Rattle.cam_recman.specs.declared.Record.{Record}
+use Rattle.cam_recman.specs.declared.Record.TheVariants as records
+use Rattle.cam_recman.specs.declared.Recovered.{Recovered}
+use Rattle.cam_recman.specs.Records.{entry_bytes}
+use Rattle.cam_recman.specs.Recovery.{with_records, recover}
+use Rattle.cam_recman.specs.Says.{Says, are_version2}
+use Rattle.cam_recman.specs.Snapshot.{snapshot}
+use Rattle.cam_node.specs.Log.{Logged, KeepsLog}
+
+abbrev pub logged_of : Recovered → Logged
+logged_of r = record { count = r.count; know = r.know; held = r.held }
+
+abbrev pub is_readable : Opened → Bool
+is_readable (Ok entries) = are_version2 entries
+is_readable (Err fault) = false
+
+-- entries that keep a history
+pub record KeepsHistory (objects : List ObjectDecl) (s : ℕ) (history : List Received) (entries : List (List ℕ)) : Type 0 where
+  pub recovered : Recovered
+  pub says : Says entries recovered
+  pub keeps : KeepsLog objects s history (logged_of recovered)
+
+-- What may be read from a disk: what is recovered of what it opens as after a crash at some moment since this one.
+pub record MayRead (opens_since : ℕ → Opened → Type 0) (t : ℕ) (logged : Logged) : Type 0 where
+  pub entries : List (List ℕ)
+  pub opens : opens_since t (Ok entries)
+  pub recovered : Recovered
+  pub recovers : recover entries ≡ Ok recovered
+  pub is : logged ≡ logged_of recovered
+
+-- knowledge as every value that holds it is: no outcome twice, and eight counts
+pub record IsKnowledge (k : Knowledge) : Type 0 where
+  pub distinct : NoTwice k.outcomes
+  pub counts : AreCounts 1 k.counts
+
+-- the entries with an entry of these records behind them; an empty one is not written
+abbrev pub with_entry_of : List (List ℕ) → List Record → List (List ℕ)
+with_entry_of entries [] = entries
+with_entry_of entries (one ∷ rest) = entries ++ entry_bytes (one ∷ rest) ∷ []
+
+-- What a restart makes of what it reads: the count is one more, and the node knows it.
+abbrev pub raised : ℕ → Recovered → Recovered
+raised s r = record { count = r.count + 1; know = with_count s (r.count + 1) r.know; held = r.held }
+
+-- What a restart puts in place of the entries: one entry of all that is kept then. Where the log's list cannot be replaced, as the number
+-- of its generation is the last, the raised count goes behind them.
+abbrev pub kept_entries : Bool → List (List ℕ) → Recovered → List (List ℕ)
+kept_entries true entries kept = entry_bytes (snapshot kept) ∷ []
+kept_entries false entries kept = entries ++ entry_bytes (records.Count kept.count ∷ []) ∷ []
+
+-- what they say then, where the entries said this before
+abbrev pub kept_by : Bool → Recovered → Recovered → Recovered
+kept_by true r kept = kept
+kept_by false r kept = with_records r (records.Count kept.count ∷ [])
+
+-- It opens with the entries that were read, or with those that a restart leaves, which say what is kept.
+abbrev pub IsReadOrKept : Bool → List (List ℕ) → Recovered → Recovered → Opened → Type 0
+IsReadOrKept replaced entries r kept opened =
+    (opened ≡ Ok entries) ⊎ ((opened ≡ Ok (kept_entries replaced entries kept)) × Says (kept_entries replaced entries kept) (kept_by replaced r kept))
+
+-- What a restart takes: a count that can be raised; and operations of the node's own objects, each index once and in the lower half of its
+-- range.
+abbrev pub is_low : HeldOp → Bool
+is_low h = nat_le h.index 499999999
+
+pub record CanRestart (objects : List ObjectDecl) (s : ℕ) (r : Recovered) : Type 0 where
+  pub count : r.count < 1000000000
+  pub held : CanRestore objects s r.held
+  pub indices : list_all is_low (all_held r.held) ≡ true
+
+-- whatever it opens as, a restart takes
+abbrev pub MayRestart : List ObjectDecl → ℕ → Opened → Type 0
+MayRestart objects s opened =
+    (entries : List (List ℕ)) (r : Recovered) → opened ≡ Ok entries → recover entries ≡ Ok r → CanRestart objects s r
+
+-- A restart that read one of these, and what it left: the entries, and what is kept, with the raised count.
+pub record IsRestarted (objects : List ObjectDecl) (s : ℕ) (read : List (List ℕ)) (now : List (List ℕ)) (kept : Recovered) : Type 0 where
+  pub recovered : Recovered
+  pub says : Says read recovered
+  pub can : CanRestart objects s recovered
+  pub is : kept ≡ raised s recovered
+  pub replaced : Bool
+  pub left : now ≡ kept_entries replaced read kept
+  pub says_now : Says now (kept_by replaced recovered kept)
+
+-- what was opened before is read, where the disk tells what it holds
+pub record Restarts (objects : List ObjectDecl) (s : ℕ) (tells : Bool) (before : Opened → Type 0) (now : List (List ℕ)) (kept : Recovered) : Type 0 where
+  pub read : List (List ℕ)
+  pub was : tells ≡ true → before (Ok read)
+  pub restarted : IsRestarted objects s read now kept
+
+-- it opens as a restart leaves it that read one of these
+pub record OpensRestarted (objects : List ObjectDecl) (s : ℕ) (before : Opened → Type 0) (opened : Opened) : Type 0 where
+  pub now : List (List ℕ)
+  pub opens : opened ≡ Ok now
+  pub kept : Recovered
+  pub restarts : Restarts objects s true before now kept
