@@ -1,0 +1,27 @@
+-- What a node knows and has noted, and how much of it stands while a step that has learnt something may still fail.
+use Rattle.std.specs.Prelude.{ℕ, ◌≤◌, List, length, take, Option, Some, None}
+use Rattle.cam_names.specs.Dependencies.{AreCounts}
+use Rattle.cam_know.specs.Knowledge.{Knowledge}
+use Rattle.cam_event.specs.Loads.{PlacesFields}
+use Rattle.cam_comman.specs.Letters.{IsWithin}
+use Rattle.cam_node.specs.declared.knowing.Mark.{Mark}
+
+-- what is known now, what of it stands, and what is noted
+pub record KnowingView : Type 0 where
+  pub known : Knowledge
+  pub stands : Knowledge
+  pub places : PlacesFields
+
+-- All stands, or the first outcomes and the counts of a mark.
+abbrev pub standing : Option Mark → Knowledge → Knowledge
+standing None k = k
+standing (Some mark) k = record { outcomes = take mark.outcomes k.outcomes; counts = mark.counts }
+
+-- what a mark may be
+abbrev pub IsMark : Option Mark → Knowledge → Type 0
+IsMark None k = Unit {0}
+IsMark (Some mark) k = (mark.outcomes ≤ length k.outcomes) × AreCounts 1 mark.counts
+
+pub record IsKnowing (mark : Option Mark) (known : Knowledge) (places : PlacesFields) : Type 0 where
+  pub marked : IsMark mark known
+  pub within : IsWithin (standing mark known) places
