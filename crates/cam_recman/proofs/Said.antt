@@ -83,3 +83,9 @@ version2_says entries r two is = said_as (said_by entries) r two is
 
 pub said_is_recovered : SaidIsRecovered
 said_is_recovered entries r says = (ap recovered_of says, ap is_version2 says)
+
+-- entries behind which the format has version 1 are not of version 2
+pub not_first : (entries : List (List ℕ)) (s : SoFar) → said_by entries ≡ Ok s → s.version ≡ 1 → are_version2 entries ≡ true → ⊥
+not_first entries s said one two =
+    let version : s.version ≡ 2 = eqb-true s.version 2 (sym (ap is_version2 said) ∙ two) in
+    omega (arith, one, version)
