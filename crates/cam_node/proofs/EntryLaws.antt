@@ -1,6 +1,6 @@
 -- With an event's records a log keeps the longer history.
-use Rattle.std.proofs.Common.{◌≡◌, ◌≢◌, inl, inr, ℕ, ◌+◌, ◌-◌, ◌≤◌, max, nat_lt, Bool, true, false, not, ◌&&◌, if◌then◌else◌, List, [], ◌∷◌, ◌++◌, map, length, refl, sym, ap, ◌∙◌, subst, arith, get_or-set_same, get_or-set_other, length-set, eq-eqb}
-use Rattle.std.specs.Prelude.{slice_index, reverse, filter, eqb, Option}
+use Rattle.std.proofs.Common.{◌≡◌, ◌≢◌, inl, inr, ℕ, ◌+◌, ◌-◌, ◌≤◌, max, nat_lt, Bool, true, if◌then◌else◌, List, [], ◌∷◌, map, length, refl, sym, ap, ◌∙◌, subst, arith, get_or-set_same, get_or-set_other, eq-eqb}
+use Rattle.std.specs.Prelude.{slice_index, reverse, eqb, Option}
 use Rattle.std.specs.List.{list_all}
 use Rattle.std.proofs.lemmas.Bool.{cases_lt, lt-ltb, le-ltb}
 use Rattle.cam_node.proofs.Bools.{second_of}
@@ -13,17 +13,17 @@ use Rattle.cam_event.specs.declared.Deed.{Deed}
 use Rattle.cam_event.specs.declared.Deed.TheVariants.{Create, Ask, Call, Perform, Bounce, Got, AskCommit, AskAbort, Commit, Abort, Secure, Inform, Crash}
 use Rattle.cam_event.specs.Inputs.{Mail}
 use Rattle.cam_event.specs.History.{after, count}
-use Rattle.cam_event.specs.ByKnowledge.{Carried, Site, deeds_of, site, site_after_all, learned_by}
-use Rattle.cam_event.specs.ByDeltas.{Received, as_carried, known}
+use Rattle.cam_event.specs.ByKnowledge.{Carried, deeds_of, site, site_after_all, learned_by}
+use Rattle.cam_event.specs.ByDeltas.{as_carried, known}
 use Rattle.cam_recman.specs.declared.Record.{Record}
 use Rattle.cam_recman.specs.declared.Recovered.{Recovered}
 use Rattle.cam_recman.specs.Recovery.{with_records}
 use Rattle.cam_recman.proofs.Folding.{with_more}
-use Rattle.cam_node.specs.Log.{KeepsLog, secure_counts}
+use Rattle.cam_node.specs.Log.{KeepsLog}
 use Rattle.cam_server.specs.Recovered.{AreHeld, beside, OrderIsKept}
-use Rattle.cam_node.specs.Entries.{Holding, learnt_records, deed_records, entry_records, AreHoldings, AreOwn, is_own}
-use Rattle.cam_node.specs.Opened.{logged_of, IsKnowledge}
-use Rattle.cam_node.specs.LogLaws.{MayBeLogged, EntryKeeps, NoEntryKeeps}
+use Rattle.cam_node.specs.Entries.{Holding, learnt_records, deed_records, AreHoldings, AreOwn, is_own}
+use Rattle.cam_node.specs.Opened.{logged_of}
+use Rattle.cam_node.specs.LogLaws.{EntryKeeps, NoEntryKeeps}
 use Rattle.cam_node.proofs.DeedRecords.{Keeps, own_deeds_keep, own_deeds_counts}
 use Rattle.cam_node.proofs.NewsRecords.{LearntKeeps, learnt_keeps, no_less}
 

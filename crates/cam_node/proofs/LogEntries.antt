@@ -1,5 +1,5 @@
 -- The log that was formatted keeps the empty history; what was taken of an event has its records.
-use Rattle.std.proofs.Common.{◌≡◌, ℕ, ◌+◌, ◌-◌, ◌≤◌, Bool, true, false, if◌then◌else◌, List, [], ◌∷◌, ◌++◌, length, map, Ok, refl, sym, ap, ◌∙◌, subst, arith, append-nil}
+use Rattle.std.proofs.Common.{◌≡◌, ℕ, ◌+◌, ◌-◌, ◌≤◌, List, [], ◌∷◌, ◌++◌, map, refl, sym, ap, arith}
 use Rattle.std.specs.Prelude.{filter, Option}
 use Rattle.std.proofs.lemmas.List.{get_or-replicate}
 use Rattle.cam_type.specs.declared.ObjectDecl.{ObjectDecl}
@@ -10,12 +10,11 @@ use Rattle.cam_event.specs.declared.Deed.TheVariants.{Create, Ask, Call, Perform
 use Rattle.cam_event.specs.History.{count}
 use Rattle.cam_event.specs.Inputs.{Mail}
 use Rattle.cam_event.specs.ByKnowledge.{Carried, deeds_of, commit_counts}
-use Rattle.cam_event.specs.ByDeltas.{Received, as_carried, known}
+use Rattle.cam_event.specs.ByDeltas.{as_carried, known}
 use Rattle.cam_event.specs.Taken.{is_entered}
 use Rattle.cam_recman.specs.declared.Record.{Record}
 use Rattle.cam_recman.specs.declared.Record.TheVariants as records
-use Rattle.cam_node.specs.Log.{KeepsLog}
-use Rattle.cam_node.specs.Entries.{Holding, learnt_records, deed_records, entry_records}
+use Rattle.cam_node.specs.Entries.{Holding, learnt_records, deed_records}
 use Rattle.cam_recman.proofs.Said.{first_says}
 use Rattle.cam_node.specs.LogLaws.{FormattedKeeps, TakenIsTheSame}
 

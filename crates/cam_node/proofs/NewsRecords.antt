@@ -1,29 +1,24 @@
 -- What the records of a letter's news add: the new outcomes, and of each node the greater count.
-use Rattle.std.proofs.Common.{◌≡◌, inl, inr, ℕ, zero, suc, ◌+◌, ◌-◌, ◌≤◌, ◌<◌, max, nat_lt, Bool, true, false, not, ◌||◌, if◌then◌else◌, List, [], ◌∷◌, ◌++◌, map, filter, length, get_or, refl, sym, ap, ◌∙◌, subst, arith}
-use Rattle.std.specs.Prelude.{slice_index, eqb}
-use Rattle.std.specs.List.{list_any, AllByRecursion}
-use Rattle.std.proofs.lemmas.Bool.{cases_lt, lt-ltb, le-ltb, eq-eqb, ne_eqb, ltb-true}
-use Rattle.std.proofs.lemmas.List.Folds.{list_any-append}
-use Rattle.cam_names.specs.Dependencies.{AreCounts, greater_counts}
+use Rattle.std.proofs.Common.{◌≡◌, ℕ, zero, suc, ◌+◌, ◌-◌, ◌≤◌, ◌<◌, max, nat_lt, Bool, true, false, not, ◌||◌, if◌then◌else◌, List, [], ◌∷◌, ◌++◌, map, length, refl, sym, ap, ◌∙◌, arith}
+use Rattle.std.specs.Prelude.{slice_index}
+use Rattle.std.specs.List.{list_any}
+use Rattle.std.proofs.lemmas.Bool.{eq-eqb, ne_eqb, ltb-true}
 use Rattle.cam_names.proofs.Dependencies.{greater_counts_at}
-use Rattle.cam_type.specs.declared.Held.{Held}
 use Rattle.cam_know.specs.declared.Outcome.{Outcome}
 use Rattle.cam_know.specs.Knowledge.{Knowledge}
 use Rattle.cam_know.specs.Known.{knows, unknown, both, news, known_count, outcome_eq}
-use Rattle.cam_know.specs.Invariant.{NoTwice}
 use Rattle.cam_know.proofs.Outcomes.{outcome_eq_refl}
-use Rattle.cam_bytes.specs.Ranges.{IsFrom}
 use Rattle.cam_recman.specs.declared.Record.{Record}
 use Rattle.cam_recman.specs.declared.Record.TheVariants as records
 use Rattle.cam_recman.specs.declared.Recovered.{Recovered}
 use Rattle.cam_recman.specs.Recovery.{with_record, with_records}
-use Rattle.cam_recman.specs.Ranges.{IsRecord, AreRecords}
+use Rattle.cam_recman.specs.Ranges.{AreRecords}
 use Rattle.cam_recman.specs.Snapshot.{outcome_record}
-use Rattle.cam_recman.specs.Laws.{greatest_seen, seen_by}
+use Rattle.cam_recman.specs.Laws.{greatest_seen}
 use Rattle.cam_recman.proofs.KeptAll.{has, outcomes_keep, Follows}
 use Rattle.cam_recman.proofs.Counts.{counts_from}
 use Rattle.cam_recman.proofs.Folding.{with_more}
-use Rattle.cam_node.specs.Entries.{greater_records, news_records, learnt_records}
+use Rattle.cam_node.specs.Entries.{greater_records, learnt_records}
 use Rattle.cam_node.specs.Opened.{IsKnowledge}
 
 -- records of greater counts, each in its range

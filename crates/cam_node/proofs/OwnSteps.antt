@@ -26,17 +26,15 @@ use Rattle.cam_event.specs.declared.Deed.TheVariants.{Create, Ask, Call, Perform
 use Rattle.cam_event.specs.History.{Addressed, created, call_of, secured_at}
 use Rattle.cam_event.specs.Inputs.{Input, Begins, Requests, Receives, Tells, Queries, Restarts, Mail}
 use Rattle.cam_event.specs.Live.{site_of}
-use Rattle.cam_event.specs.Loads.{Load, no_load}
+use Rattle.cam_event.specs.Loads.{Load}
 use Rattle.cam_event.specs.Sights.{Sight, present, is_present, knows_outcome, is_preparing, votes, kept_reply}
 use Rattle.cam_event.specs.Rules.{Did, did, stopped_by, aborts, wanted, request, with_home, start_comes, lift_here, is_conflict_here, on_object, bounced, served, refused_or_served, again_or, call_comes, awaits, got_reply, gone_or, answer_comes, decides_child, commits_or_aborts, child_finishes, child_quits, prepares, finish_comes, quit_comes, prepare_comes, all_yes, vote_comes, query_comes, arrives, arrives_mail, rule, sorted_names, informs}
 use Rattle.cam_event.specs.ByKnowledge.{Carried, Site, deeds_of, site, site_after, held, held_informs, held_sight, sight_with, node_step}
 use Rattle.cam_event.specs.ByDeltas.{Received, as_carried}
 use Rattle.cam_event.specs.Taken.{is_entered}
-use Rattle.cam_recman.specs.declared.Recovered.{Recovered}
 use Rattle.cam_node.specs.Lawful.{MayBePut, IsStepOf}
-use Rattle.cam_node.specs.Halting.{taken}
 use Rattle.cam_node.specs.Entries.{Holding, AreHoldings, AreOwn, is_own}
-use Rattle.cam_node.specs.LogLaws.{MayBeLogged, StepsAreOwn, TakenMayBeLogged}
+use Rattle.cam_node.specs.LogLaws.{StepsAreOwn, TakenMayBeLogged}
 
 -- deeds without a Secure and a crash
 abbrev is_quiet : Deed → Bool

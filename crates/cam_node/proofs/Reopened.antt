@@ -1,10 +1,25 @@
 -- What a node's log opens as while it is restarted.
-use Rattle.std.proofs.Common.{◌≡◌, ◌⊎◌, inl, inr, ℕ, ◌≤◌, Bool, true, IsTrue, List, Ok, refl, sym, ap, ◌∙◌, subst, arith}
+use Rattle.std.proofs.Common.{◌≡◌, ◌⊎◌, inl, inr, ℕ, ◌≤◌, Bool, true, false, IsTrue, List, [], ◌∷◌, ◌++◌, Result, Ok, refl, sym, ap, ◌∙◌, subst, arith}
+use Rattle.std.proofs.lemmas.Bool.{true≢false}
+use Rattle.cam_base.specs.Causes.{Rose}
+use Rattle.cam_names.specs.Dependencies.{AreCounts}
+use Rattle.cam_know.specs.declared.Outcome.{Outcome}
+use Rattle.cam_know.specs.Invariant.{NoTwice}
+use Rattle.cam_bytes.specs.Ranges.{IsFrom}
 use Rattle.cam_type.specs.declared.ObjectDecl.{ObjectDecl}
-use Rattle.cam_log.specs.Moments.{Opened, Grows, AddsNothing}
+use Rattle.cam_log.specs.Moments.{Opened, Grows, AddsNothing, IsBeforeOrAfter}
 use Rattle.cam_recman.specs.declared.Recovered.{Recovered}
+use Rattle.cam_recman.specs.declared.Record.{Record}
+use Rattle.cam_recman.specs.declared.Record.TheVariants.{Count}
+use Rattle.cam_recman.specs.declared.RecFault.{RecFault}
+use Rattle.cam_recman.specs.Records.{entry_bytes}
+use Rattle.cam_recman.specs.Ranges.{AreRecords}
+use Rattle.cam_recman.specs.Faults.{IsRecovery}
+use Rattle.cam_recman.specs.Recovery.{with_records, recover}
+use Rattle.cam_recman.specs.Snapshot.{snapshot}
 use Rattle.cam_recman.specs.Says.{Says}
-use Rattle.cam_node.specs.Opened.{is_readable, kept_entries, kept_by, raised, IsReadOrKept, CanRestart, IsRestarted, Restarts, OpensRestarted}
+use Rattle.cam_recman.proofs.Said.{entry_says, snapshot_says}
+use Rattle.cam_node.specs.Opened.{is_readable, kept_entries, kept_by, raised, IsReadOrKept, CanRestart, Restarts, OpensRestarted}
 use Rattle.cam_node.proofs.Moments.{says_readable, added_then, now_was}
 
 -- What a restart reads could be opened before, and what it leaves is the restart of that.
@@ -27,6 +42,13 @@ restart_grows objects s b m n past mid since read r replaced says can was back n
       };
     })
 
+pub restart_grows_as : (objects : List ObjectDecl) (s b m n : ℕ) (past mid since : ℕ → Opened → Type 0) (read : List (List ℕ)) (r kept : Recovered) (replaced : Bool)
+    → kept ≡ raised s r → Says read r → CanRestart objects s r → past b (Ok read) → ((t : ℕ) → t ≤ b → past b (Ok read) → past t (Ok read))
+    → AddsNothing b m past mid → Grows m n mid since (IsReadOrKept replaced read r kept) → Grows b n past since (OpensRestarted objects s (past b))
+restart_grows_as objects s b m n past mid since read r kept replaced is says can was back none grows =
+    restart_grows objects s b m n past mid since read r replaced says can was back none
+    (subst (λ (q : Recovered). Grows m n mid since (IsReadOrKept replaced read r q)) is grows)
+
 -- All of it is readable, where all was.
 pub restarted_readable : (objects : List ObjectDecl) (s b n : ℕ) (past since : ℕ → Opened → Type 0) (o : Opened)
     → Grows b n past since (OpensRestarted objects s (past b)) → ((p : Opened) → past b p → IsTrue (is_readable p))
@@ -45,3 +67,57 @@ pub restarts_as : (objects : List ObjectDecl) (s : ℕ) (tells : Bool) (before :
     → Restarts objects s tells before now kept
 restarts_as objects s tells before read now r kept replaced was says can is left says_now =
     record { read = read; was = was; restarted = record { recovered = r; says = says; can = can; is = is; replaced = replaced; left = left; says_now = says_now } }
+
+-- where the disk tells, this never comes; else it was spoiled
+pub rose_from : (x y z : ℕ) → x ≤ y → Rose y z → Rose x z
+rose_from x y z le rose = omega (arith, le, rose)
+
+pub spoiled_rose : (tells : Bool) (x y z : ℕ) → (tells ≡ true → ⊥) → x ≤ y → (tells ≡ false → Rose y z) → Rose x z
+spoiled_rose true x y z never le rose = absurd (never refl)
+spoiled_rose false x y z never le rose = rose_from x y z le (rose refl)
+
+-- what was recovered of a log that was brought to version 2
+pub ok_read : (entries : List (List ℕ)) (result : Result Recovered RecFault) (r : Recovered) → IsRecovery entries result → result ≡ Ok r → recover entries ≡ Ok r
+ok_read entries result r recovery is = (subst (IsRecovery entries) is recovery).read
+
+-- the one entry of all that is kept says it
+pub all_says : (kept : Recovered) (entries : List (List ℕ)) (all : List Record) (outcomes : List Outcome) (counts : List ℕ)
+    → entries ≡ entry_bytes all ∷ [] → all ≡ snapshot kept → AreRecords all → outcomes ≡ kept.know.outcomes → NoTwice outcomes
+    → counts ≡ kept.know.counts → AreCounts 1 counts → 1 ≤ kept.count → Says entries kept
+all_says kept entries all outcomes counts is are range same distinct counts_are counted least =
+    subst (λ (es : List (List ℕ)). Says es kept) (sym (is ∙ ap (λ (rs : List Record). entry_bytes rs ∷ []) are))
+    (snapshot_says kept (record {
+      count = least;
+      distinct = subst NoTwice same distinct;
+      counts = subst (AreCounts 1) counts_are counted;
+      range = subst AreRecords are range;
+    }))
+
+-- the raised count goes behind the entries
+pub count_grows : (b n : ℕ) (past since : ℕ → Opened → Type 0) (entries : List (List ℕ)) (entry : List ℕ) (r kept : Recovered) (replaced : Bool)
+    → replaced ≡ false → entry ≡ entry_bytes (Count kept.count ∷ []) → IsFrom 2 1000000000 kept.count → Says entries r
+    → Grows b n past since (IsBeforeOrAfter entries entry) → Grows b n past since (IsReadOrKept replaced entries r kept)
+count_grows b n past since entries entry r kept true is entry_is range says grows = absurd (true≢false is)
+count_grows b n past since entries entry r kept false is entry_is range says grows = record {
+  later = grows.later;
+  keeps = grows.keeps;
+  nothing_else = λ t o le left. by o (grows.nothing_else t o le left);
+}
+  where
+    by : {X : Type 0} (o : Opened) → X ⊎ IsBeforeOrAfter entries entry o → X ⊎ IsReadOrKept false entries r kept o
+    by o (inl was) = inl was
+    by o (inr (inl old)) = inr (inl old)
+    by o (inr (inr new)) =
+        inr (inr (new ∙ ap (λ (e : List ℕ). Ok (entries ++ e ∷ [])) entry_is, entry_says entries r (Count kept.count ∷ []) (range, tt) (tt, tt) says))
+
+pub count_says : (entries now : List (List ℕ)) (entry : List ℕ) (r kept : Recovered) (replaced : Bool)
+    → replaced ≡ false → now ≡ entries ++ entry ∷ [] → entry ≡ entry_bytes (Count kept.count ∷ []) → IsFrom 2 1000000000 kept.count → Says entries r
+    → Says now (kept_by replaced r kept)
+count_says entries now entry r kept true is grown entry_is range says = absurd (true≢false is)
+count_says entries now entry r kept false is grown entry_is range says =
+    subst (λ (es : List (List ℕ)). Says es (with_records r (Count kept.count ∷ []))) (sym (grown ∙ ap (λ (e : List ℕ). entries ++ e ∷ []) entry_is))
+    (entry_says entries r (Count kept.count ∷ []) (range, tt) (tt, tt) says)
+
+-- a test does not answer both
+pub not_both : (b : Bool) → b ≡ false → b ≡ true → ⊥
+not_both b failed met = true≢false (sym met ∙ failed)

@@ -1,6 +1,6 @@
 -- After a restart the log keeps the history with it, and what it recovers is what the node knows.
-use Rattle.std.proofs.Common.{◌≡◌, ◌≢◌, inl, inr, ℕ, ◌+◌, ◌-◌, ◌≤◌, ◌<◌, max, Bool, if◌then◌else◌, List, [], ◌∷◌, ◌++◌, map, length, get_or, refl, sym, ap, ◌∙◌, subst, arith, append-nil, eq-eqb, get_or-set_same, get_or-set_other, length-set}
-use Rattle.std.specs.Prelude.{slice_index, reverse, replicate}
+use Rattle.std.proofs.Common.{◌≡◌, ◌≢◌, inl, inr, ℕ, ◌+◌, ◌-◌, ◌≤◌, ◌<◌, max, Bool, if◌then◌else◌, List, ◌∷◌, map, length, get_or, refl, sym, ap, ◌∙◌, arith, append-nil, eq-eqb, get_or-set_same, get_or-set_other, length-set}
+use Rattle.std.specs.Prelude.{slice_index, replicate}
 use Rattle.std.proofs.lemmas.Bool.Decides.{eqb_tells}
 use Rattle.std.proofs.lemmas.List.{get_or-replicate}
 use Rattle.cam_names.specs.Dependencies.{AreCounts, greater_counts}
@@ -9,14 +9,9 @@ use Rattle.cam_type.specs.declared.ObjectDecl.{ObjectDecl}
 use Rattle.cam_know.specs.Knowledge.{Knowledge}
 use Rattle.cam_know.specs.Known.{nothing, both, known_count, counts_raised, with_count}
 use Rattle.cam_event.specs.History.{count}
-use Rattle.cam_event.specs.ByKnowledge.{Carried, deeds_of, site}
+use Rattle.cam_event.specs.ByKnowledge.{deeds_of}
 use Rattle.cam_event.specs.ByDeltas.{Received, as_carried, known}
-use Rattle.cam_recman.specs.declared.Record.TheVariants as records
-use Rattle.cam_recman.specs.declared.Recovered.{Recovered}
-use Rattle.cam_recman.specs.Recovery.{with_records}
-use Rattle.cam_node.specs.Log.{KeepsLog}
 use Rattle.cam_node.specs.Halting.{restarted}
-use Rattle.cam_node.specs.Opened.{IsKnowledge, logged_of, raised}
 use Rattle.cam_node.specs.LogLaws.{RestartKeeps, RestartKnows}
 
 -- nothing adds nothing

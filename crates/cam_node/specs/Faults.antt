@@ -1,5 +1,4 @@
 -- What a node's fault says of a log's.
-use Rattle.std.specs.Prelude.{ℕ}
 use Rattle.cam_log.specs.declared.fault.LogFault.{LogFault}
 use Rattle.cam_log.specs.declared.fault.LogFault.TheVariants as log_faults
 use Rattle.cam_node.specs.declared.fault.NodeFault.{NodeFault}

@@ -1,15 +1,13 @@
 -- What a node's log opens as: entries from which a restart recovers what a history keeps.
-use Rattle.std.specs.Prelude.{◌≡◌, ◌⊎◌, ℕ, ◌+◌, ◌<◌, ◌≤◌, ◌*◌, eqb, nat_le, nat_lt, Bool, true, false, not, ◌&&◌, if◌then◌else◌, List, [], ◌∷◌, ◌++◌, Result, Ok, Err}
-use Rattle.std.specs.List.{list_all}
+use Rattle.std.specs.Prelude.{◌≡◌, ◌⊎◌, ℕ, ◌+◌, ◌<◌, Bool, true, false, List, [], ◌∷◌, ◌++◌, Ok, Err}
 use Rattle.cam_names.specs.Dependencies.{AreCounts}
 use Rattle.cam_type.specs.declared.ObjectDecl.{ObjectDecl}
-use Rattle.cam_type.specs.declared.HeldOp.{HeldOp}
 use Rattle.cam_know.specs.Knowledge.{Knowledge}
 use Rattle.cam_know.specs.Known.{with_count}
 use Rattle.cam_know.specs.Invariant.{NoTwice}
 use Rattle.cam_event.specs.ByDeltas.{Received}
 use Rattle.cam_log.specs.Moments.{Opened}
-use Rattle.cam_locks.specs.Restored.{CanRestore, all_held}
+use Rattle.cam_locks.specs.Restored.{CanRestore}
 use Rattle.cam_recman.specs.declared.Record.{Record}
 use Rattle.cam_recman.specs.declared.Record.TheVariants as records
 use Rattle.cam_recman.specs.declared.Recovered.{Recovered}
@@ -70,15 +68,9 @@ abbrev pub IsReadOrKept : Bool → List (List ℕ) → Recovered → Recovered �
 IsReadOrKept replaced entries r kept opened =
     (opened ≡ Ok entries) ⊎ ((opened ≡ Ok (kept_entries replaced entries kept)) × Says (kept_entries replaced entries kept) (kept_by replaced r kept))
 
--- What a restart takes: a count that can be raised; and operations of the node's own objects, each index once and in the lower half of its
--- range.
-abbrev pub is_low : HeldOp → Bool
-is_low h = nat_le h.index 499999999
-
-pub record CanRestart (objects : List ObjectDecl) (s : ℕ) (r : Recovered) : Type 0 where
-  pub count : r.count < 1000000000
-  pub held : CanRestore objects s r.held
-  pub indices : list_all is_low (all_held r.held) ≡ true
+-- What a restart takes: a count that can be raised, and operations of the node's own objects, each index once and in its range.
+abbrev pub CanRestart : List ObjectDecl → ℕ → Recovered → Type 0
+CanRestart objects s r = (r.count < 1000000000) × CanRestore objects s r.held
 
 -- whatever it opens as, a restart takes
 abbrev pub MayRestart : List ObjectDecl → ℕ → Opened → Type 0

@@ -1,4 +1,4 @@
-use Rattle.std.proofs.Common.{◌≡◌, ◌∙◌, IsTrue, IsFalse, List, ℕ, sym}
+use Rattle.std.proofs.Common.{◌≡◌, ◌∙◌, IsTrue, sym}
 use Rattle.cam_recman.specs.Records.{entry_bytes}
 use Rattle.cam_node.proofs.Moments.{grown_readable, grown_says, still_readable}
 use Rattle.cam_node.proofs.log.NodeLog.append.Goals as goal
