@@ -1,5 +1,5 @@
 // What callers see of a log whose list of entries can be replaced.
-ghost use Rattle.std.specs.Prelude.{◌≡◌, ◌≤◌, ◌+◌, ◌^◌, List, ℕ, Bool, IsTrue, IsFalse, OnOk, OnErr, IsErrOf, Ok as Opens, Err as IsNone, Some, None};
+ghost use Rattle.std.specs.Prelude.{◌≡◌, ◌≤◌, ◌+◌, ◌^◌, List, ℕ, Bool, IsTrue, IsFalse, OnOk, OnErr, IsErrOf, Ok as Opens, Err as NoLog, Some, None};
 ghost use Rattle.cam_base.specs.Causes.{Rose};
 ghost use Rattle.cam_disk.specs.Stop.{Untouched};
 ghost use Rattle.cam_log.specs.declared.fault.LogFault.TheVariants.{DiskFault, NotALog};
@@ -71,7 +71,7 @@ pub trait CheckpointLog: EntryLog {
         ensures read { IsTrue (Self.tells self.old) → OnOk result
             (Self.opens_since self.old (Self.moment self.old) (Opens (Self.listed self.new))) }
         ensures refused { IsTrue (Self.tells self.old) → (at : ℕ) → IsErrOf result (NotALog at)
-            → Self.opens_since self.old (Self.moment self.old) (IsNone (NotALog at)) }
+            → Self.opens_since self.old (Self.moment self.old) (NoLog (NotALog at)) }
         ensures whole { OnOk result (IsFalse (Self.broken self.new)) }
         ensures not_read { OnErr result (IsTrue (Self.broken self.new)) }
         ensures any_moment { IsTrue (Self.tells self.old)
