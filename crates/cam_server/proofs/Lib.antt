@@ -5,6 +5,7 @@ pub mod QuietDeeds
 pub mod LiveOps
 pub mod Serving
 pub mod Performing
+pub mod ToldOutcomes
 pub mod NewsInforms
 pub mod RuleCalls
 pub mod PlacedOrder

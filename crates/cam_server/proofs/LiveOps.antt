@@ -12,7 +12,8 @@ use Rattle.cam_server.proofs.QuietDeeds.{is_down, left}
 abbrev pub left_live : (Name → Bool) → List LiveOp → List LiveOp
 left_live down ks = filter (λ k. not (list_any down (ancestors k.action))) ks
 
-pub are_left : (down : Name → Bool) (ks : List LiveOp) (ps : List Placed) → AreLiveOps ks ps → AreLiveOps (left_live down ks) (left down ps)
+pub are_left : (down : Name → Bool) (ks : List LiveOp) (ps : List Placed) → AreLiveOps ks ps
+    → AreLiveOps (left_live down ks) (left down ps)
 are_left down [] [] are = tt
 are_left down [] (p ∷ ps) are = absurd are
 are_left down (k ∷ ks) [] are = absurd are
@@ -27,13 +28,15 @@ are_left down (k ∷ ks) (p ∷ ps) are =
     by true false is rest = cc
     by false true is rest = cc
 
-pub are_more : (ks : List LiveOp) (ps : List Placed) (k : LiveOp) (p : Placed) → AreLiveOps ks ps → IsLiveOp k p → AreLiveOps (ks ++ k ∷ []) (ps ++ p ∷ [])
+pub are_more : (ks : List LiveOp) (ps : List Placed) (k : LiveOp) (p : Placed) → AreLiveOps ks ps → IsLiveOp k p
+    → AreLiveOps (ks ++ k ∷ []) (ps ++ p ∷ [])
 are_more [] [] k p are is = (is, tt)
 are_more [] (q ∷ ps) k p are is = absurd are
 are_more (j ∷ ks) [] k p are is = absurd are
 are_more (j ∷ ks) (q ∷ ps) k p are is = (are.0, are_more ks ps k p are.1 is)
 
-pub are_operations : (ks : List LiveOp) (ps : List Placed) → AreLiveOps ks ps → AreLive ks (map (λ p. p.operation) ps)
+pub are_operations : (ks : List LiveOp) (ps : List Placed) → AreLiveOps ks ps
+    → AreLive ks (map (λ p. p.operation) ps)
 are_operations [] [] are = tt
 are_operations [] (p ∷ ps) are = absurd are
 are_operations (k ∷ ks) [] are = absurd are

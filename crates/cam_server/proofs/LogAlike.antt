@@ -37,11 +37,13 @@ kept_groups L s (g ∷ gs) = by (informed L s g.0 false) (kept_groups L s gs)
     by false is = ap (λ (ps : List Placed). map (for_family g.0) g.1 ++ ps) is
 
 -- pairs that are in order with each of two lists
-pub each_left : (b : HeldOp × Placed) (xs ys : List (HeldOp × Placed)) → EachOrdered b (xs ++ ys) → EachOrdered b xs
+pub each_left : (b : HeldOp × Placed) (xs ys : List (HeldOp × Placed)) → EachOrdered b (xs ++ ys)
+    → EachOrdered b xs
 each_left b [] ys each = tt
 each_left b (x ∷ xs) ys each = (each.0, each_left b xs ys each.1)
 
-pub each_right : (b : HeldOp × Placed) (xs ys : List (HeldOp × Placed)) → EachOrdered b (xs ++ ys) → EachOrdered b ys
+pub each_right : (b : HeldOp × Placed) (xs ys : List (HeldOp × Placed)) → EachOrdered b (xs ++ ys)
+    → EachOrdered b ys
 each_right b [] ys each = each
 each_right b (x ∷ xs) ys each = each_right b xs ys each.1
 
@@ -50,7 +52,8 @@ all_right [] ys all = all
 all_right (x ∷ xs) ys all = all_right xs ys all.1
 
 -- an operation is in place among those of a family, and of all that are left
-ops_place : (f e : Name) (k : LiveOp) (p : Placed) (b : HeldOp × Placed) (hs : List HeldOp) (ps : List Placed) → k.index ≡ b.0.index → p.index ≡ b.1.index
+ops_place : (f e : Name) (k : LiveOp) (p : Placed) (b : HeldOp × Placed) (hs : List HeldOp) (ps : List Placed)
+    → k.index ≡ b.0.index → p.index ≡ b.1.index
     → AreHeldOps hs ps → EachOrdered b (zip hs ps) → InPlace k p (map (of_family f) hs) (map (for_family e) ps)
 ops_place f e k p b [] [] ki pi held each = tt
 ops_place f e k p b [] (q ∷ ps) ki pi held each = absurd held
@@ -64,7 +67,8 @@ ops_place f e k p b (h ∷ hs) (q ∷ ps) ki pi held each = (
 abbrev pub Tells : List Deed → ℕ → Knowledge → Type 0
 Tells L s know = (u : Name) → knows_abort know u ≡ informed L s u false
 
-log_place : (L : List Deed) (s : ℕ) (know : Knowledge) → Tells L s know → (k : LiveOp) (p : Placed) (b : HeldOp × Placed) → k.index ≡ b.0.index → p.index ≡ b.1.index
+log_place : (L : List Deed) (s : ℕ) (know : Knowledge) → Tells L s know
+    → (k : LiveOp) (p : Placed) (b : HeldOp × Placed) → k.index ≡ b.0.index → p.index ≡ b.1.index
     → (hs : List Held) (gs : List (Name × List Placed)) → AreHeld hs gs → EachOrdered b (beside hs gs)
     → InPlace k p (flat_map (ops_of know) hs) (groups L s gs)
 log_place L s know tells k p b ki pi [] [] held each = tt
@@ -75,14 +79,16 @@ log_place L s know tells k p b ki pi (h ∷ hs) (g ∷ gs) held each =
     (by (knows_abort know h.family) (informed L s g.0 false) (tells h.family ∙ ap (λ (u : Name). informed L s u false) held.0))
     (log_place L s know tells k p b ki pi hs gs held.2 (each_right b (zip h.ops g.1) (beside hs gs) each))
   where
-    by : (x y : Bool) → x ≡ y → InPlace k p (if x then [] else map (of_family h.family) h.ops) (if y then [] else map (for_family g.0) g.1)
+    by : (x y : Bool) → x ≡ y
+        → InPlace k p (if x then [] else map (of_family h.family) h.ops) (if y then [] else map (for_family g.0) g.1)
     by true true e = tt
     by false false e = ops_place h.family g.0 k p b h.ops g.1 ki pi held.1 (each_left b (zip h.ops g.1) (beside hs gs) each)
     by true false e = absurd (true≢false e)
     by false true e = absurd (true≢false (sym e))
 
 -- all of them are alike in their orders,
-family_alike : (f e : Name) (hs : List HeldOp) (ps : List Placed) (bs : List (HeldOp × Placed)) (ks : List LiveOp) (qs : List Placed) → AreHeldOps hs ps → AllOrdered (zip hs ps ++ bs)
+family_alike : (f e : Name) (hs : List HeldOp) (ps : List Placed) (bs : List (HeldOp × Placed)) (ks : List LiveOp) (qs : List Placed)
+    → AreHeldOps hs ps → AllOrdered (zip hs ps ++ bs)
     → ((k : LiveOp) (p : Placed) (b : HeldOp × Placed) → k.index ≡ b.0.index → p.index ≡ b.1.index → EachOrdered b bs → InPlace k p ks qs)
     → AreAlike ks qs → AreAlike (map (of_family f) hs ++ ks) (map (for_family e) ps ++ qs)
 family_alike f e [] [] bs ks qs held all rest alike = alike
@@ -95,7 +101,8 @@ family_alike f e (h ∷ hs) (p ∷ ps) bs ks qs held all rest alike = (
   family_alike f e hs ps bs ks qs held.1 all.1 rest alike,
 )
 
-pub log_alike : (L : List Deed) (s : ℕ) (know : Knowledge) → Tells L s know → (hs : List Held) (gs : List (Name × List Placed)) → AreHeld hs gs → AllOrdered (beside hs gs)
+pub log_alike : (L : List Deed) (s : ℕ) (know : Knowledge) → Tells L s know
+    → (hs : List Held) (gs : List (Name × List Placed)) → AreHeld hs gs → AllOrdered (beside hs gs)
     → AreAlike (flat_map (ops_of know) hs) (groups L s gs)
 log_alike L s know tells [] [] held all = tt
 log_alike L s know tells [] (g ∷ gs) held all = absurd held
@@ -113,14 +120,16 @@ log_alike L s know tells (h ∷ hs) (g ∷ gs) held all =
     by true false e rest = absurd (true≢false e)
     by false true e rest = absurd (true≢false (sym e))
 
-family_live : (f e : Name) (hs : List HeldOp) (ps : List Placed) → f ≡ e → AreHeldOps hs ps → AreLiveOps (map (of_family f) hs) (map (for_family e) ps)
+family_live : (f e : Name) (hs : List HeldOp) (ps : List Placed) → f ≡ e → AreHeldOps hs ps
+    → AreLiveOps (map (of_family f) hs) (map (for_family e) ps)
 family_live f e [] [] same held = tt
 family_live f e [] (p ∷ ps) same held = absurd held
 family_live f e (h ∷ hs) [] same held = absurd held
 family_live f e (h ∷ hs) (p ∷ ps) same held = (record { action = same; object = held.0.0; op = held.0.1 }, family_live f e hs ps same held.1)
 
 -- and each stands for the one beside it.
-pub log_live : (L : List Deed) (s : ℕ) (know : Knowledge) → Tells L s know → (hs : List Held) (gs : List (Name × List Placed)) → AreHeld hs gs
+pub log_live : (L : List Deed) (s : ℕ) (know : Knowledge) → Tells L s know
+    → (hs : List Held) (gs : List (Name × List Placed)) → AreHeld hs gs
     → AreLiveOps (flat_map (ops_of know) hs) (groups L s gs)
 log_live L s know tells [] [] held = tt
 log_live L s know tells [] (g ∷ gs) held = absurd held
@@ -130,7 +139,8 @@ log_live L s know tells (h ∷ hs) (g ∷ gs) held =
     (by (knows_abort know h.family) (informed L s g.0 false) (tells h.family ∙ ap (λ (u : Name). informed L s u false) held.0))
     (log_live L s know tells hs gs held.2)
   where
-    by : (x y : Bool) → x ≡ y → AreLiveOps (if x then [] else map (of_family h.family) h.ops) (if y then [] else map (for_family g.0) g.1)
+    by : (x y : Bool) → x ≡ y
+        → AreLiveOps (if x then [] else map (of_family h.family) h.ops) (if y then [] else map (for_family g.0) g.1)
     by true true e = tt
     by false false e = family_live h.family g.0 h.ops g.1 held.0 held.1
     by true false e = absurd (true≢false e)

@@ -23,7 +23,8 @@ abbrev pub AllOrdered : List (HeldOp × Placed) → Type 0
 AllOrdered [] = Unit {0}
 AllOrdered (b ∷ bs) = EachOrdered b bs × AllOrdered bs
 
-by_numbers : (i j x y : ℕ) → eqb j i ≡ false → nat_lt j i ≡ nat_lt y x → nat_lt i j ≡ nat_lt x y → (nat_lt j i ≡ not (nat_lt x y)) × (eqb x y ≡ false)
+by_numbers : (i j x y : ℕ) → eqb j i ≡ false → nat_lt j i ≡ nat_lt y x → nat_lt i j ≡ nat_lt x y
+    → (nat_lt j i ≡ not (nat_lt x y)) × (eqb x y ≡ false)
 by_numbers i j x y apart back on = (grind arith, grind arith)
 
 -- a member is contained
@@ -32,7 +33,8 @@ contained [] b h = absurd h
 contained (c ∷ bs) b (inl e) = (zero, omega arith, sym e)
 contained (c ∷ bs) b (inr h) = let rest = contained bs b h in (suc rest.0, omega (arith, rest.1), rest.2)
 
-each_ordered : (b : HeldOp × Placed) (bs : List (HeldOp × Placed)) → has_index (map (λ p. p.0) bs) b.0.index ≡ false
+each_ordered : (b : HeldOp × Placed) (bs : List (HeldOp × Placed))
+    → has_index (map (λ p. p.0) bs) b.0.index ≡ false
     → ((c : HeldOp × Placed) → In c bs → (nat_lt c.0.index b.0.index ≡ nat_lt c.1.index b.1.index) × (nat_lt b.0.index c.0.index ≡ nat_lt b.1.index c.1.index))
     → EachOrdered b bs
 each_ordered b [] absent kept = tt
@@ -42,7 +44,8 @@ each_ordered b (c ∷ bs) absent kept =
     let facts = by_numbers b.0.index c.0.index b.1.index c.1.index parts.0 same.0 same.1 in
     (record { order = facts.0; apart = facts.1 }, each_ordered b bs parts.1 (λ d h. kept d (inr h)))
 
-all_ordered : (objects : List ObjectDecl) (s : ℕ) (bs : List (HeldOp × Placed)) → MayBeHeld objects s (map (λ p. p.0) bs)
+all_ordered : (objects : List ObjectDecl) (s : ℕ) (bs : List (HeldOp × Placed))
+    → MayBeHeld objects s (map (λ p. p.0) bs)
     → ((one other : HeldOp × Placed) → In one bs → In other bs → nat_lt one.0.index other.0.index ≡ nat_lt one.1.index other.1.index)
     → AllOrdered bs
 all_ordered objects s [] may kept = tt
@@ -50,20 +53,23 @@ all_ordered objects s (b ∷ bs) may kept =
     (each_ordered b bs may.2 (λ c h. (kept c b (inr h) (inl refl), kept b c (inl refl) (inr h))), all_ordered objects s bs may.3 (λ c d h k. kept c d (inr h) (inr k)))
 
 -- the logged operations are those of the log
-ops_beside : (hs : List HeldOp) (ps : List Placed) (bs : List (HeldOp × Placed)) (gs : List HeldOp) → AreHeldOps hs ps → map (λ p. p.0) bs ≡ gs
+ops_beside : (hs : List HeldOp) (ps : List Placed) (bs : List (HeldOp × Placed)) (gs : List HeldOp)
+    → AreHeldOps hs ps → map (λ p. p.0) bs ≡ gs
     → map (λ p. p.0) (zip hs ps ++ bs) ≡ hs ++ gs
 ops_beside [] [] bs gs held is = is
 ops_beside [] (p ∷ ps) bs gs held is = absurd held
 ops_beside (h ∷ hs) [] bs gs held is = absurd held
 ops_beside (h ∷ hs) (p ∷ ps) bs gs held is = ap (λ (xs : List HeldOp). h ∷ xs) (ops_beside hs ps bs gs held.1 is)
 
-held_beside : (hs : List Held) (gs : List (Name × List Placed)) → AreHeld hs gs → map (λ p. p.0) (beside hs gs) ≡ all_held hs
+held_beside : (hs : List Held) (gs : List (Name × List Placed)) → AreHeld hs gs
+    → map (λ p. p.0) (beside hs gs) ≡ all_held hs
 held_beside [] [] held = refl
 held_beside [] (g ∷ gs) held = absurd held
 held_beside (h ∷ hs) [] held = absurd held
 held_beside (h ∷ hs) (g ∷ gs) held = ops_beside h.ops g.1 (beside hs gs) (all_held hs) held.1 (held_beside hs gs held.2)
 
-pub log_ordered : (objects : List ObjectDecl) (s : ℕ) (hs : List Held) (gs : List (Name × List Placed)) → AreHeld hs gs → OrderIsKept (beside hs gs)
+pub log_ordered : (objects : List ObjectDecl) (s : ℕ) (hs : List Held) (gs : List (Name × List Placed))
+    → AreHeld hs gs → OrderIsKept (beside hs gs)
     → MayBeHeld objects s (all_held hs) → AllOrdered (beside hs gs)
 log_ordered objects s hs gs held kept may =
     all_ordered objects s (beside hs gs) (subst (λ (xs : List HeldOp). MayBeHeld objects s xs) (sym (held_beside hs gs held)) may)

@@ -47,25 +47,29 @@ site_append L mail at [] es = refl
 site_append L mail at (d ∷ ds) es = site_append (d ∷ L) mail (site_after L mail at d) ds es
 
 -- What comes as far as the table is what the table grants.
-pub served_is_granted : (k : Knowledge) (server : Server) (asked : Asked) (r : Performed) → performed_by k server asked ≡ r → is_served r ≡ true
+pub served_is_granted : (k : Knowledge) (server : Server) (asked : Asked) (r : Performed)
+    → performed_by k server asked ≡ r → is_served r ≡ true
     → r ≡ granted (grant server.table.site asked.action asked.object asked.op)
 served_is_granted k server asked r is served =
     by (not (eqb asked.count server.count)) (list_any (knows_commit k) (ancestors asked.action)) (server.kept_reply asked.action asked.number)
     (known_orphan k asked.action (pairs_of asked.visited)) (granted (grant server.table.site asked.action asked.object asked.op)) is
   where
     by : (missed ended : Bool) (kept : Option Reply) (why : Option Reason) (other : Performed)
-        → (if missed then performed.Missed else if ended then performed.Ended else again_or kept (orphan_or why other)) ≡ r → r ≡ other
+        → (if missed then performed.Missed else if ended then performed.Ended else again_or kept (orphan_or why other)) ≡ r
+        → r ≡ other
     by true ended kept why other e = absurd (true≢false (sym served ∙ ap is_served (sym e)))
     by false true kept why other e = absurd (true≢false (sym served ∙ ap is_served (sym e)))
     by false false (Some reply) why other e = absurd (true≢false (sym served ∙ ap is_served (sym e)))
     by false false None (Some reason) other e = absurd (true≢false (sym served ∙ ap is_served (sym e)))
     by false false None None other e = sym e
 
-none_in_the_way : (h : Option Name) (answer given : Answer) → performed.Done given ≡ granted (grant_by h answer) → h ≡ None
+none_in_the_way : (h : Option Name) (answer given : Answer) → performed.Done given ≡ granted (grant_by h answer)
+    → h ≡ None
 none_in_the_way None answer given is = refl
 none_in_the_way (Some u) answer given is = cc
 
-one_in_the_way : (h : Option Name) (answer : Answer) (v : Name) → performed.Busy v ≡ granted (grant_by h answer) → h ≡ Some v
+one_in_the_way : (h : Option Name) (answer : Answer) (v : Name) → performed.Busy v ≡ granted (grant_by h answer)
+    → h ≡ Some v
 one_in_the_way None answer v is = cc
 one_in_the_way (Some u) answer v is = cc
 
@@ -77,13 +81,15 @@ reply_first asked reply mine old a n is =
     is ∙ ap₂ (λ b c. if b && c then Some reply else old) (name_eq_sym asked.action a) (eqb_sym asked.number n)
 
 -- the operation that the letter asked for
-called : (s : ℕ) (c : Carried) (first : List Deed) (asked : Asked) (r : Performed) (answer : Answer) → IsServing s c first asked r
+called : (s : ℕ) (c : Carried) (first : List Deed) (asked : Asked) (r : Performed) (answer : Answer)
+    → IsServing s c first asked r
     → performed_op answer c.mail ≡ record { action = asked.action; number = asked.number; object = asked.object; op = asked.op; answer = answer } ∷ []
 called s c first asked r answer serving =
     ap (performed_op answer) serving.mail.1 ∙ ap (λ (b : Body). called_op answer b) serving.mail.2
 
 -- a call that does not come as far as the table changes nothing
-stays : (objects : List ObjectDecl) (s : ℕ) (M : List Deed) (at : Site) (asked : Asked) (mid new : Server) (r : Performed) → is_served r ≡ false
+stays : (objects : List ObjectDecl) (s : ℕ) (M : List Deed) (at : Site) (asked : Asked) (mid new : Server) (r : Performed)
+    → is_served r ≡ false
     → AfterPerformed asked r mid new → Serves objects s M at.live mid → Serves objects s M at.live new
 stays objects s M at asked mid new r is did goes =
     let site_is : new.table.site ≡ mid.table.site =
@@ -100,8 +106,10 @@ stays objects s M at asked mid new r is did goes =
 
 -- One call more, after the site was informed.
 call_serves : (objects : List ObjectDecl) (s : ℕ) (M : List Deed) (at : Site) (c : Carried) (first : List Deed) (asked : Asked) (k : Knowledge) (mid new : Server)
-    → (r : Performed) → performed_by k mid asked ≡ r → IsServing s c first asked r → AfterPerformed asked r mid new
-    → Serves objects s M at.live mid → Serves objects s (after M (served_deed asked r)) (site_after_all M c.mail at (served_deed asked r)).live new
+    → (r : Performed) → performed_by k mid asked ≡ r → IsServing s c first asked r
+    → AfterPerformed asked r mid new
+    → Serves objects s M at.live mid
+    → Serves objects s (after M (served_deed asked r)) (site_after_all M c.mail at (served_deed asked r)).live new
 call_serves objects s M at c first asked k mid new (performed.Done answer) is serving did goes =
     let granted_is = served_is_granted k mid asked (performed.Done answer) is refl in
     let free : holder mid.table.site asked.action asked.object asked.op ≡ None =

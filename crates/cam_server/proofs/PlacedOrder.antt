@@ -27,7 +27,8 @@ or_back i j h k = grind arith
 between : (i j k : ℕ) → nat_lt i k ≡ true → nat_lt j k ≡ false → nat_lt j i ≡ false
 between i j k h l = grind arith
 
-put_swap : (p q : Placed) (rs : List Placed) → eqb p.index q.index ≡ false → put_placed p (put_placed q rs) ≡ put_placed q (put_placed p rs)
+put_swap : (p q : Placed) (rs : List Placed) → eqb p.index q.index ≡ false
+    → put_placed p (put_placed q rs) ≡ put_placed q (put_placed p rs)
 put_swap p q [] apart =
     elim (cases_Bool (nat_lt p.index q.index)) [
       | inl less ↦ simp (less, not_back p.index q.index less) refl
@@ -48,11 +49,13 @@ put_swap p q (r ∷ rs) apart =
       ]
     ]
 
-put_one : (p : Placed) (qs rest : List Placed) → IsAway p qs → put_placed p (put_all qs rest) ≡ put_all qs (put_placed p rest)
+put_one : (p : Placed) (qs rest : List Placed) → IsAway p qs
+    → put_placed p (put_all qs rest) ≡ put_all qs (put_placed p rest)
 put_one p [] rest away = refl
 put_one p (q ∷ qs) rest away = put_swap p q (put_all qs rest) away.0 ∙ ap (put_placed q) (put_one p qs rest away.1)
 
-put_both : (ps qs rest : List Placed) → AreAway ps qs → put_all ps (put_all qs rest) ≡ put_all qs (put_all ps rest)
+put_both : (ps qs rest : List Placed) → AreAway ps qs
+    → put_all ps (put_all qs rest) ≡ put_all qs (put_all ps rest)
 put_both [] qs rest away = refl
 put_both (p ∷ ps) qs rest away = ap (put_placed p) (put_both ps qs rest away.1) ∙ put_one p qs (put_all ps rest) away.0
 
@@ -73,11 +76,13 @@ abbrev pub AreApart : {X : Type 0} → (X → List Placed) → List X → Type 0
 AreApart f [] = Unit {0}
 AreApart f (g ∷ gs) = IsApart f g gs × AreApart f gs
 
-apart_last : {X : Type 0} (f : X → List Placed) (g : X) (gs : List X) (h : X) → IsApart f g gs → AreAway (f g) (f h) → IsApart f g (gs ++ h ∷ [])
+apart_last : {X : Type 0} (f : X → List Placed) (g : X) (gs : List X) (h : X) → IsApart f g gs
+    → AreAway (f g) (f h) → IsApart f g (gs ++ h ∷ [])
 apart_last f g [] h apart away = (away, tt)
 apart_last f g (k ∷ gs) h apart away = (apart.0, apart_last f g gs h apart.1 away)
 
-apart_reverse : {X : Type 0} (f : X → List Placed) (g : X) (gs : List X) → IsApart f g gs → IsApart f g (reverse gs)
+apart_reverse : {X : Type 0} (f : X → List Placed) (g : X) (gs : List X) → IsApart f g gs
+    → IsApart f g (reverse gs)
 apart_reverse f g [] apart = tt
 apart_reverse {X} f g (h ∷ gs) apart =
     subst (λ (ks : List X). IsApart f g ks) (sym (reverse-append (h ∷ []) gs)) (apart_last f g (reverse gs) h (apart_reverse f g gs apart.1) apart.0)
@@ -92,13 +97,15 @@ put_group f g (h ∷ gs) rest apart =
     ∙ ap (put_all (f h)) (put_group f g gs rest apart.1)
     ∙ sym (put_append (f h) (flat_map f gs) (put_all (f g) rest))
 
-flat_last : {X : Type 0} (f : X → List Placed) (gs : List X) (g : X) (rest : List Placed) → put_all (flat_map f (gs ++ g ∷ [])) rest ≡ put_all (flat_map f gs) (put_all (f g) rest)
+flat_last : {X : Type 0} (f : X → List Placed) (gs : List X) (g : X) (rest : List Placed)
+    → put_all (flat_map f (gs ++ g ∷ [])) rest ≡ put_all (flat_map f gs) (put_all (f g) rest)
 flat_last f [] g rest = put_append (f g) [] rest
 flat_last f (h ∷ gs) g rest =
     put_append (f h) (flat_map f (gs ++ g ∷ [])) rest ∙ ap (put_all (f h)) (flat_last f gs g rest)
     ∙ sym (put_append (f h) (flat_map f gs) (put_all (f g) rest))
 
-put_reverse : {X : Type 0} (f : X → List Placed) (gs : List X) → AreApart f gs → put_all (flat_map f (reverse gs)) [] ≡ put_all (flat_map f gs) []
+put_reverse : {X : Type 0} (f : X → List Placed) (gs : List X) → AreApart f gs
+    → put_all (flat_map f (reverse gs)) [] ≡ put_all (flat_map f gs) []
 put_reverse f [] apart = refl
 put_reverse {X} f (g ∷ gs) apart =
     ap (λ (ks : List X). put_all (flat_map f ks) []) (reverse-append (g ∷ []) gs)
@@ -108,5 +115,6 @@ put_reverse {X} f (g ∷ gs) apart =
     ∙ sym (put_append (f g) (flat_map f gs) [])
 
 -- Groups put in order are the same backwards.
-pub order_backwards : {X : Type 0} (f : X → List Placed) (gs : List X) → AreApart f gs → in_order (flat_map f (reverse gs)) ≡ in_order (flat_map f gs)
+pub order_backwards : {X : Type 0} (f : X → List Placed) (gs : List X) → AreApart f gs
+    → in_order (flat_map f (reverse gs)) ≡ in_order (flat_map f gs)
 order_backwards f gs apart = in_order_all (flat_map f (reverse gs)) ∙ put_reverse f gs apart ∙ sym (in_order_all (flat_map f gs))

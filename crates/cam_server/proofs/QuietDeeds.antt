@@ -97,7 +97,8 @@ count_one s r (Secure f site c) L quiet = refl
 count_one s r (Inform site b committed) L quiet = refl
 count_one s r (Crash site) L quiet = cc
 
-reply_one : (s : ℕ) (d : Deed) (L : List Deed) (a : Name) (n : ℕ) → is_quiet s d ≡ true → kept_reply (d ∷ L) a n ≡ kept_reply L a n
+reply_one : (s : ℕ) (d : Deed) (L : List Deed) (a : Name) (n : ℕ) → is_quiet s d ≡ true
+    → kept_reply (d ∷ L) a n ≡ kept_reply L a n
 reply_one s (Create b) L a n quiet = refl
 reply_one s (Ask b c) L a n quiet = refl
 reply_one s (Call b m x op c) L a n quiet = refl
@@ -118,14 +119,16 @@ quiet_count s r (d ∷ ds) L quiet =
     let parts = and_parts (is_quiet s d) (list_all (is_quiet s) ds) quiet in
     quiet_count s r ds (d ∷ L) parts.1 ∙ count_one s r d L parts.0
 
-pub quiet_reply : (s : ℕ) (ds L : List Deed) (a : Name) (n : ℕ) → AreQuiet s ds → kept_reply (after L ds) a n ≡ kept_reply L a n
+pub quiet_reply : (s : ℕ) (ds L : List Deed) (a : Name) (n : ℕ) → AreQuiet s ds
+    → kept_reply (after L ds) a n ≡ kept_reply L a n
 quiet_reply s [] L a n quiet = refl
 quiet_reply s (d ∷ ds) L a n quiet =
     let parts = and_parts (is_quiet s d) (list_all (is_quiet s) ds) quiet in
     quiet_reply s ds (d ∷ L) a n parts.1 ∙ reply_one s d L a n parts.0
 
 -- Informs of the own site are quiet,
-all_inform : (s : ℕ) (committed : Bool) (names : List Name) (ds : List Deed) → AreQuiet s ds → AreQuiet s (map (λ a. Inform s a committed) names ++ ds)
+all_inform : (s : ℕ) (committed : Bool) (names : List Name) (ds : List Deed) → AreQuiet s ds
+    → AreQuiet s (map (λ a. Inform s a committed) names ++ ds)
 all_inform s committed [] ds quiet = quiet
 all_inform s committed (a ∷ names) ds quiet = ap (λ b. b && list_all (is_quiet s) (map (λ a. Inform s a committed) names ++ ds)) (eq-eqb s s refl) ∙ all_inform s committed names ds quiet
 
@@ -139,26 +142,31 @@ informs_quiet s aborts commits =
     (ap (λ (ds : List Deed). list_all (is_quiet s) ds) (sym (none_more (map (λ a. Inform s a true) (sorted_names commits)))) ∙ all_inform s true (sorted_names commits) [] refl)
 
 -- and inform it of these names.
-map_same : (s : ℕ) (u : Name) (committed : Bool) (names : List Name) → list_any (is_inform s u committed) (map (λ a. Inform s a committed) names) ≡ list_any (name_eq u) names
+map_same : (s : ℕ) (u : Name) (committed : Bool) (names : List Name)
+    → list_any (is_inform s u committed) (map (λ a. Inform s a committed) names) ≡ list_any (name_eq u) names
 map_same s u committed [] = refl
 map_same s u true (a ∷ names) = λ i. (eq-eqb s s refl i && name_eq u a) || map_same s u true names i
 map_same s u false (a ∷ names) = λ i. (eq-eqb s s refl i && name_eq u a) || map_same s u false names i
 
-map_abort : (s : ℕ) (u : Name) (names : List Name) → list_any (is_inform s u true) (map (λ a. Inform s a false) names) ≡ false
+map_abort : (s : ℕ) (u : Name) (names : List Name)
+    → list_any (is_inform s u true) (map (λ a. Inform s a false) names) ≡ false
 map_abort s u [] = refl
 map_abort s u (a ∷ names) = map_abort s u names
 
-map_commit : (s : ℕ) (u : Name) (names : List Name) → list_any (is_inform s u false) (map (λ a. Inform s a true) names) ≡ false
+map_commit : (s : ℕ) (u : Name) (names : List Name)
+    → list_any (is_inform s u false) (map (λ a. Inform s a true) names) ≡ false
 map_commit s u [] = refl
 map_commit s u (a ∷ names) = map_commit s u names
 
-pub aborts_informed : (s : ℕ) (aborts commits : List Name) (u : Name) → informs_abort s (informs s aborts commits) u ≡ list_any (name_eq u) aborts
+pub aborts_informed : (s : ℕ) (aborts commits : List Name) (u : Name)
+    → informs_abort s (informs s aborts commits) u ≡ list_any (name_eq u) aborts
 aborts_informed s aborts commits u =
     list_any-append (is_inform s u false) (map (λ a. Inform s a false) (sorted_names aborts)) (map (λ a. Inform s a true) (sorted_names commits))
     ∙ (λ i. map_same s u false (sorted_names aborts) i || map_commit s u (sorted_names commits) i)
     ∙ sym (or_nothing (list_any (name_eq u) (sorted_names aborts))) ∙ sorted_any (name_eq u) aborts
 
-pub commits_informed : (s : ℕ) (aborts commits : List Name) (u : Name) → informs_commit s (informs s aborts commits) u ≡ list_any (name_eq u) commits
+pub commits_informed : (s : ℕ) (aborts commits : List Name) (u : Name)
+    → informs_commit s (informs s aborts commits) u ≡ list_any (name_eq u) commits
 commits_informed s aborts commits u =
     list_any-append (is_inform s u true) (map (λ a. Inform s a false) (sorted_names aborts)) (map (λ a. Inform s a true) (sorted_names commits))
     ∙ (λ i. map_abort s u (sorted_names aborts) i || map_same s u true (sorted_names commits) i)

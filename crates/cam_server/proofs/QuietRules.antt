@@ -38,7 +38,8 @@ if_quiet : (g : Sight) (b : Bool) (x y : Did) → Quiet g x → Quiet g y → Qu
 if_quiet g true x y h k = h
 if_quiet g false x y h k = k
 
-stopped_quiet : (g : Sight) (a : Name) (reason : Option Reason) (other : Did) → Quiet g other → Quiet g (stopped_by a reason other)
+stopped_quiet : (g : Sight) (a : Name) (reason : Option Reason) (other : Did) → Quiet g other
+    → Quiet g (stopped_by a reason other)
 stopped_quiet g a None other h = h
 stopped_quiet g a (Some reason) other h = refl
 
@@ -46,14 +47,16 @@ stopped_quiet g a (Some reason) other h = refl
 own_inform : (g : Sight) (b : Name) (committed : Bool) → AreQuiet g.node (Inform g.node b committed ∷ [])
 own_inform g b committed = ap (λ t. t && true) (eq-eqb g.node g.node refl)
 
-wanted_quiet : (objects : List ObjectDecl) (g : Sight) (a : Name) (want : Want) → Quiet g (wanted objects g a want)
+wanted_quiet : (objects : List ObjectDecl) (g : Sight) (a : Name) (want : Want)
+    → Quiet g (wanted objects g a want)
 wanted_quiet objects g a (wants.Ask m) = refl
 wanted_quiet objects g a (wants.Call x op) = refl
 wanted_quiet objects g a (wants.Commit v) = refl
 wanted_quiet objects g a wants.Abort = refl
 wanted_quiet objects g a (wants.GiveUp b) = own_inform g b false
 
-request_quiet : (objects : List ObjectDecl) (g : Sight) (a : Name) (want : Want) → Quiet g (request objects g a want)
+request_quiet : (objects : List ObjectDecl) (g : Sight) (a : Name) (want : Want)
+    → Quiet g (request objects g a want)
 request_quiet objects g a want = stopped_quiet g a (g.orphan a (pairs_of (g.deps a))) (wanted objects g a want) (wanted_quiet objects g a want)
 
 start_quiet : (g : Sight) (from : ℕ) (b : Name) (counts : List ℕ) → Quiet g (start_comes g from b counts)
@@ -67,11 +70,13 @@ reply_quiet g a n (replies.Busy u) = refl
 reply_quiet g a n replies.Missed = refl
 reply_quiet g a n replies.Refused = refl
 
-gone_quiet : (objects : List ObjectDecl) (g : Sight) (a : Name) (n : ℕ) (call : Option Addressed) (other : Did) → Quiet g other → Quiet g (gone_or objects g a n call other)
+gone_quiet : (objects : List ObjectDecl) (g : Sight) (a : Name) (n : ℕ) (call : Option Addressed) (other : Did)
+    → Quiet g other → Quiet g (gone_or objects g a n call other)
 gone_quiet objects g a n None other h = refl
 gone_quiet objects g a n (Some call) other h = if_quiet g (nat_lt call.count (g.known_count (site_of objects call.object))) _ other refl h
 
-answer_quiet : (objects : List ObjectDecl) (g : Sight) (a : Name) (n : ℕ) (reply : Reply) → Quiet g (answer_comes objects g a n reply)
+answer_quiet : (objects : List ObjectDecl) (g : Sight) (a : Name) (n : ℕ) (reply : Reply)
+    → Quiet g (answer_comes objects g a n reply)
 answer_quiet objects g a n reply =
     if_quiet g (not (awaits g a n)) _ _ refl
     (stopped_quiet g a (g.orphan a (pairs_of (g.deps a))) (gone_or objects g a n (call_of g.deeds a n) (got_reply a n reply))
@@ -110,7 +115,8 @@ vote_quiet g from f c agrees =
 query_quiet : (g : Sight) (from : ℕ) (f : Name) → Quiet g (query_comes g from f)
 query_quiet g from f = if_quiet g (knows_outcome g f) _ _ refl (if_quiet g (nat_lt (home_count f) (present g)) _ _ (own_inform g f false) refl)
 
-arrives_quiet : (objects : List ObjectDecl) (g : Sight) (from : ℕ) (body : Body) → is_call body ≡ false → Quiet g (arrives objects g from body)
+arrives_quiet : (objects : List ObjectDecl) (g : Sight) (from : ℕ) (body : Body) → is_call body ≡ false
+    → Quiet g (arrives objects g from body)
 arrives_quiet objects g from (bodies.Start b counts) other = start_quiet g from b counts
 arrives_quiet objects g from (bodies.Call a n x op c counts) other = cc
 arrives_quiet objects g from (bodies.Answer a n reply) other = answer_quiet objects g a n reply
@@ -121,7 +127,8 @@ arrives_quiet objects g from (bodies.Vote f c agrees) other = vote_quiet g from 
 arrives_quiet objects g from (bodies.Query f) other = query_quiet g from f
 arrives_quiet objects g from bodies.News other = refl
 
-rule_quiet : (objects : List ObjectDecl) (g : Sight) (mail : Option Mail) (input : Input) → calls_or_restarts input mail ≡ false → Quiet g (rule objects g mail input)
+rule_quiet : (objects : List ObjectDecl) (g : Sight) (mail : Option Mail) (input : Input)
+    → calls_or_restarts input mail ≡ false → Quiet g (rule objects g mail input)
 rule_quiet objects g mail (Begins m) other = refl
 rule_quiet objects g mail (Requests r) other = request_quiet objects g r.action r.want
 rule_quiet objects g None (Receives letter) other = refl

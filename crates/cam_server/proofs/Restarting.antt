@@ -21,7 +21,7 @@ use Rattle.cam_locks.proofs.HeldIndices.{restored_rise}
 use Rattle.cam_server.specs.Server.{IsSiteOf}
 use Rattle.cam_server.specs.Recovered.{AreHeldOps, AreHeld, beside}
 use Rattle.cam_server.specs.Events.{RestartKeeps}
-use Rattle.cam_server.proofs.NewsInforms.{any_kept}
+use Rattle.cam_server.proofs.ToldOutcomes.{any_kept}
 use Rattle.cam_server.proofs.PlacedOrder.{IsAway, AreAway, IsApart, AreApart, order_backwards}
 use Rattle.cam_server.proofs.LogOrder.{EachOrdered, AllOrdered, log_ordered}
 use Rattle.cam_server.proofs.SortedAlike.{sorted_alike}
@@ -46,14 +46,16 @@ cross_right [] xs ys all = tt
 cross_right (z ∷ zs) xs ys all = (each_right z xs ys all.0, cross_right zs xs ys all.1)
 
 -- so no two groups share a place
-one_away : (e : Name) (p : Placed) (b : HeldOp × Placed) (hs : List HeldOp) (ps : List Placed) → p.index ≡ b.1.index → AreHeldOps hs ps → EachOrdered b (zip hs ps)
+one_away : (e : Name) (p : Placed) (b : HeldOp × Placed) (hs : List HeldOp) (ps : List Placed)
+    → p.index ≡ b.1.index → AreHeldOps hs ps → EachOrdered b (zip hs ps)
     → IsAway p (map (for_family e) ps)
 one_away e p b [] [] pi held each = tt
 one_away e p b [] (q ∷ ps) pi held each = absurd held
 one_away e p b (h ∷ hs) [] pi held each = absurd held
 one_away e p b (h ∷ hs) (q ∷ ps) pi held each = (ap (λ (i : ℕ). eqb i q.index) pi ∙ each.0.apart, one_away e p b hs ps pi held.1 each.1)
 
-ops_away : (f e : Name) (hs is : List HeldOp) (ps qs : List Placed) → AreHeldOps hs ps → AreHeldOps is qs → Cross (zip hs ps) (zip is qs)
+ops_away : (f e : Name) (hs is : List HeldOp) (ps qs : List Placed) → AreHeldOps hs ps → AreHeldOps is qs
+    → Cross (zip hs ps) (zip is qs)
     → AreAway (map (for_family f) ps) (map (for_family e) qs)
 ops_away f e [] is [] qs held more all = tt
 ops_away f e [] is (p ∷ ps) qs held more all = absurd held
@@ -65,12 +67,14 @@ away_none : (ps : List Placed) → AreAway ps []
 away_none [] = tt
 away_none (p ∷ ps) = (tt, away_none ps)
 
-group_away : (x y : Bool) (ps qs : List Placed) → AreAway ps qs → AreAway (if x then [] else ps) (if y then [] else qs)
+group_away : (x y : Bool) (ps qs : List Placed) → AreAway ps qs
+    → AreAway (if x then [] else ps) (if y then [] else qs)
 group_away true y ps qs away = tt
 group_away false true ps qs away = away_none ps
 group_away false false ps qs away = away
 
-group_apart : (L : List Deed) (s : ℕ) (h : Held) (g : Name × List Placed) (hs : List Held) (gs : List (Name × List Placed)) → AreHeldOps h.ops g.1 → AreHeld hs gs
+group_apart : (L : List Deed) (s : ℕ) (h : Held) (g : Name × List Placed) (hs : List Held) (gs : List (Name × List Placed))
+    → AreHeldOps h.ops g.1 → AreHeld hs gs
     → Cross (zip h.ops g.1) (beside hs gs) → IsApart (group L s) g gs
 group_apart L s h g [] [] ops held all = tt
 group_apart L s h g [] (e ∷ gs) ops held all = absurd held
@@ -81,7 +85,8 @@ group_apart L s h g (i ∷ hs) (e ∷ gs) ops held all = (
   group_apart L s h g hs gs ops held.2 (cross_right (zip h.ops g.1) (zip i.ops e.1) (beside hs gs) all),
 )
 
-groups_apart : (L : List Deed) (s : ℕ) (hs : List Held) (gs : List (Name × List Placed)) → AreHeld hs gs → AllOrdered (beside hs gs) → AreApart (group L s) gs
+groups_apart : (L : List Deed) (s : ℕ) (hs : List Held) (gs : List (Name × List Placed)) → AreHeld hs gs
+    → AllOrdered (beside hs gs) → AreApart (group L s) gs
 groups_apart L s [] [] held all = tt
 groups_apart L s [] (g ∷ gs) held all = absurd held
 groups_apart L s (h ∷ hs) [] held all = absurd held

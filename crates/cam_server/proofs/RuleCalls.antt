@@ -64,7 +64,8 @@ same_found test other x (k ∷ ks) [] same are = absurd are
 same_found test other x (k ∷ ks) (o ∷ os) same are =
     by (eqb k.object x) (eqb o.object x) (ap (λ (y : ℕ). eqb y x) are.0.1) (same_found test other x ks os same are.1)
   where
-    found : (c d : Bool) → test k ≡ c → c ≡ d → AreFound test (find test (filter (is_on x) ks)) (find other (on_object x os))
+    found : (c d : Bool) → test k ≡ c → c ≡ d
+        → AreFound test (find test (filter (is_on x) ks)) (find other (on_object x os))
         → AreFound test (cond c (Some k) (find test (filter (is_on x) ks))) (cond d (Some o) (find other (on_object x os)))
     found true true is e rest = (are.0.0, is)
     found false false is e rest = rest
@@ -79,7 +80,8 @@ same_found test other x (k ∷ ks) (o ∷ os) same are =
     by false true e rest = absurd (true≢false (sym e))
 
 -- the grant is what the rule serves
-same_served : (objects : List ObjectDecl) (g : Sight) (k : Knowledge) (server : Server) (asked : Asked) → AnswersSight objects g k server
+same_served : (objects : List ObjectDecl) (g : Sight) (k : Knowledge) (server : Server) (asked : Asked)
+    → AnswersSight objects g k server
     → rules.served objects g asked.action asked.number asked.object asked.op (find (is_conflict_here g asked.action asked.op) (on_object asked.object g.live))
     ≡ did_performed asked (granted (grant server.table.site asked.action asked.object asked.op))
 same_served objects g k server asked is =
@@ -95,7 +97,8 @@ same_served objects g k server asked is =
     test : LiveOp → Bool
     test o = conflicts asked.action asked.op (lift o.action) o.op
 
-    same_test : (o : LiveOp) (p : Operation) → o.action ≡ p.action → o.op ≡ p.op → test o ≡ is_conflict_here g asked.action asked.op p
+    same_test : (o : LiveOp) (p : Operation) → o.action ≡ p.action → o.op ≡ p.op
+        → test o ≡ is_conflict_here g asked.action asked.op p
     same_test o p action op = ap₂ (λ (l : Option Name) (done : Op). conflicts asked.action asked.op l done) (ap lift action ∙ same_lift p.action) op
 
     same_value : answer_of (live.replay (start_of objects asked.object) (on_object asked.object g.live)) asked.op ≡ answer_of (value server.table.site asked.object) asked.op

@@ -27,7 +27,8 @@ pub record Serves (objects : List ObjectDecl) (s : ℕ) (L : List Deed) (live : 
   pub site : IsSiteOf objects s live server.table.site
   pub commits : (u : Name) → has_name server.table.site.committed u ≡ informed L s u true
 
-pub serves : (objects : List ObjectDecl) (s : ℕ) (before : List Carried) (server : Server) → ServesSite objects s before server
+pub serves : (objects : List ObjectDecl) (s : ℕ) (before : List Carried) (server : Server)
+    → ServesSite objects s before server
     → Serves objects s (deeds_of before) (site before).live server
 serves objects s before server is = record { count_is = is.count_is; replies = is.replies; site = is.site; commits = is.commits }
 
@@ -41,7 +42,8 @@ same_serves objects s before old new same is =
     }
 
 pub serves_after : (objects : List ObjectDecl) (s : ℕ) (before : List Carried) (c : Carried) (server : Server) (L : List Deed) (live : List Placed)
-    → L ≡ deeds_of (c ∷ before) → live ≡ (site (c ∷ before)).live → Serves objects s L live server → ServesSite objects s (c ∷ before) server
+    → L ≡ deeds_of (c ∷ before) → live ≡ (site (c ∷ before)).live → Serves objects s L live server
+    → ServesSite objects s (c ∷ before) server
 serves_after objects s before c server L live deeds lives is =
     record {
       count_is = is.count_is ∙ ap (λ (ds : List Deed). count ds s) deeds;
@@ -51,7 +53,8 @@ serves_after objects s before c server L live deeds lives is =
     }
 
 -- Quiet deeds, of whose Informs the site was informed.
-pub informed_serves : (objects : List ObjectDecl) (s : ℕ) (L ds : List Deed) (live : List Placed) (old new : Server) → AreQuiet s ds
+pub informed_serves : (objects : List ObjectDecl) (s : ℕ) (L ds : List Deed) (live : List Placed) (old new : Server)
+    → AreQuiet s ds
     → AreInformed (informs_abort s ds) (informs_commit s ds) old new
     → Serves objects s L live old → Serves objects s (after L ds) (left (informs_abort s ds) live) new
 informed_serves objects s L ds live old new quiet are is =

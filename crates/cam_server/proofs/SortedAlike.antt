@@ -19,7 +19,8 @@ AreAlike (k ∷ ks) (p ∷ ps) = InPlace k p ks ps × AreAlike ks ps
 AreAlike [] (p ∷ ps) = ⊥
 AreAlike (k ∷ ks) [] = ⊥
 
-put_in_place : (k j : LiveOp) (p q : Placed) (ks : List LiveOp) (ps : List Placed) → (nat_lt j.index k.index ≡ not (nat_lt p.index q.index))
+put_in_place : (k j : LiveOp) (p q : Placed) (ks : List LiveOp) (ps : List Placed)
+    → (nat_lt j.index k.index ≡ not (nat_lt p.index q.index))
     → InPlace j q ks ps → InPlace k p ks ps → InPlace k p (put_in_order j ks) (put_placed q ps)
 put_in_place k j p q [] [] is at place = (is, tt)
 put_in_place k j p q [] (r ∷ ps) is at place = absurd at
@@ -34,7 +35,8 @@ put_in_place k j p q (i ∷ ks) (r ∷ ps) is at place =
     by true true e rest = absurd (true≢false e)
     by false false e rest = absurd (true≢false (sym e))
 
-place_in_order : (k : LiveOp) (p : Placed) (ks : List LiveOp) (ps : List Placed) → AreAlike ks ps → InPlace k p ks ps
+place_in_order : (k : LiveOp) (p : Placed) (ks : List LiveOp) (ps : List Placed) → AreAlike ks ps
+    → InPlace k p ks ps
     → InPlace k p (restored.in_order ks) (in_order ps)
 place_in_order k p [] [] alike place = tt
 place_in_order k p [] (q ∷ ps) alike place = absurd place
@@ -42,7 +44,8 @@ place_in_order k p (j ∷ ks) [] alike place = absurd place
 place_in_order k p (j ∷ ks) (q ∷ ps) alike place =
     put_in_place k j p q (restored.in_order ks) (in_order ps) place.0 (place_in_order j q ks ps alike.1 alike.0) (place_in_order k p ks ps alike.1 place.1)
 
-put_live : (k : LiveOp) (p : Placed) (ks : List LiveOp) (ps : List Placed) → IsLiveOp k p → InPlace k p ks ps → AreLiveOps ks ps
+put_live : (k : LiveOp) (p : Placed) (ks : List LiveOp) (ps : List Placed) → IsLiveOp k p → InPlace k p ks ps
+    → AreLiveOps ks ps
     → AreLiveOps (put_in_order k ks) (put_placed p ps)
 put_live k p [] [] is at are = (is, tt)
 put_live k p [] (q ∷ ps) is at are = absurd at
@@ -56,7 +59,8 @@ put_live k p (j ∷ ks) (q ∷ ps) is at are = by (nat_lt j.index k.index) (nat_
     by true true e rest = absurd (true≢false e)
     by false false e rest = absurd (true≢false (sym e))
 
-pub sorted_alike : (ks : List LiveOp) (ps : List Placed) → AreLiveOps ks ps → AreAlike ks ps → AreLiveOps (restored.in_order ks) (in_order ps)
+pub sorted_alike : (ks : List LiveOp) (ps : List Placed) → AreLiveOps ks ps → AreAlike ks ps
+    → AreLiveOps (restored.in_order ks) (in_order ps)
 sorted_alike [] [] are alike = tt
 sorted_alike [] (p ∷ ps) are alike = absurd are
 sorted_alike (k ∷ ks) [] are alike = absurd are
@@ -64,13 +68,15 @@ sorted_alike (k ∷ ks) (p ∷ ps) are alike =
     put_live k p (restored.in_order ks) (in_order ps) are.0 (place_in_order k p ks ps alike.1 alike.0) (sorted_alike ks ps are.1 alike.1)
 
 -- one list after another
-pub live_append : (ks js : List LiveOp) (ps qs : List Placed) → AreLiveOps ks ps → AreLiveOps js qs → AreLiveOps (ks ++ js) (ps ++ qs)
+pub live_append : (ks js : List LiveOp) (ps qs : List Placed) → AreLiveOps ks ps → AreLiveOps js qs
+    → AreLiveOps (ks ++ js) (ps ++ qs)
 live_append [] js [] qs are rest = rest
 live_append [] js (p ∷ ps) qs are rest = absurd are
 live_append (k ∷ ks) js [] qs are rest = absurd are
 live_append (k ∷ ks) js (p ∷ ps) qs are rest = (are.0, live_append ks js ps qs are.1 rest)
 
-pub place_append : (k : LiveOp) (p : Placed) (ks js : List LiveOp) (ps qs : List Placed) → InPlace k p ks ps → InPlace k p js qs → InPlace k p (ks ++ js) (ps ++ qs)
+pub place_append : (k : LiveOp) (p : Placed) (ks js : List LiveOp) (ps qs : List Placed) → InPlace k p ks ps
+    → InPlace k p js qs → InPlace k p (ks ++ js) (ps ++ qs)
 place_append k p [] js [] qs at rest = rest
 place_append k p [] js (q ∷ ps) qs at rest = absurd at
 place_append k p (j ∷ ks) js [] qs at rest = absurd at
