@@ -33,6 +33,10 @@ enum Step {
     Called(Call, Performed),
     /// A letter tells an outcome.
     Told(Outcome),
+    /// The node decides it.
+    Decided(Outcome),
+    /// The server is replaced by a copy.
+    Copied,
     /// A letter tells that node 4 has restarted.
     Restarted,
 }
@@ -102,6 +106,19 @@ impl Site {
         }
     }
 
+    fn decide(&mut self, outcome: &Outcome) -> Result<(), NoMemory> {
+        self.know.add(outcome)?;
+        self.server.reserve(1)?;
+        self.server.decided(outcome);
+        Ok(())
+    }
+
+    fn copy_server(&mut self) -> Result<(), NoMemory> {
+        let copy = self.server.copy()?;
+        self.server = copy;
+        Ok(())
+    }
+
     /// The outcome is learnt, and the site is informed of it.
     fn tell(&mut self, alloc: Global, outcome: &Outcome) -> Result<(), NoMemory> {
         let mut news = Know::new(alloc);
@@ -162,6 +179,8 @@ fn first_other(
                 }
             }
             Step::Told(outcome) => site.tell(alloc, outcome)?,
+            Step::Decided(outcome) => site.decide(outcome)?,
+            Step::Copied => site.copy_server()?,
             Step::Restarted => site.know.raise(4, 2),
         }
     }
@@ -177,7 +196,7 @@ fn a_repeat_stays_busy_after_the_holder_has_ended(rt: HostRuntime) -> Result<(),
     let steps = [
         called(&a, 1, Op::Write(7), Performed::Done(Answer::Ok)),
         called(&b, 1, Op::Read, Performed::Busy(a)),
-        Step::Told(Outcome::Committed(a, Deps::none().with(1, 1))),
+        Step::Decided(Outcome::Committed(a, Deps::none().with(1, 1))),
         called(&b, 1, Op::Read, Performed::Again(Reply::Busy(a))),
         called(&b, 2, Op::Read, seven),
         called(&a, 1, Op::Write(7), Performed::Ended),
@@ -210,6 +229,7 @@ fn a_call_is_performed_once(rt: HostRuntime) -> Result<(), Fail> {
     let steps = [
         called(&a, 1, Op::Put(9), Performed::Done(Answer::Ok)),
         called(&a, 1, Op::Put(9), again),
+        Step::Copied,
         called(&a, 1, Op::Put(9), again),
         called(&a, 2, Op::Size, Performed::Done(Answer::Value(1))),
     ];
