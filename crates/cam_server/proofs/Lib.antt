@@ -14,3 +14,5 @@ pub mod SortedAlike
 pub mod LogAlike
 pub mod Restarting
 pub mod QuietRules
+pub mod Untouched
+pub mod GoingAhead

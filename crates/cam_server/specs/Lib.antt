@@ -3,3 +3,4 @@ pub mod Calls
 pub mod Events
 pub mod Steps
 pub mod Recovered
+pub mod Ahead

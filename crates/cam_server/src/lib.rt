@@ -9,6 +9,7 @@
 //! It stands on `cam_locks` (the table), `cam_orphan` (the test) and `cam_event` (histories and rules).
 #![tactic(auto)]
 
+ghost use Rattle.cam_server.specs.Ahead.{CallsGoAhead};
 ghost use Rattle.cam_server.specs.Events.{SameServes, InformsKeep, PerformKeeps, RestartKeeps};
 ghost use Rattle.cam_server.specs.Events.{NewsInform, DecisionInforms, NothingInforms, InformsJoin};
 ghost use Rattle.cam_server.specs.Steps.{PerformedIsRule, SightIsAnswered, OthersAreQuiet, CallsAreServed};
@@ -67,6 +68,12 @@ pub fn news_are_informs()
     ensures decision { DecisionInforms }
     ensures nothing { NothingInforms }
     ensures joined { InformsJoin }
+{}
+
+/// Where the news that came with a call speak of no family with live operations here, the call may be performed before the site is informed of
+/// them: all is as if it had been informed first. So want of memory in [`Server::perform`] leaves all as before, without a copy.
+pub fn calls_go_ahead()
+    ensures { CallsGoAhead }
 {}
 
 /// After a restart, with the table that is restored from what the log held, the server serves the site of the history.
