@@ -1,5 +1,5 @@
 -- What one more deed changes of what is kept of actions.
-use Rattle.std.proofs.Common.{◌≡◌, inl, inr, ℕ, ℤ, ◌+◌, ◌≤◌, Bool, true, false, ◌||◌, if◌then◌else◌, cond, List, ◌∷◌, length, Option, Some, None, unwrap_or, refl, sym, ap, ◌∙◌, subst}
+use Rattle.std.proofs.Common.{◌≡◌, inl, inr, ℕ, ℤ, ◌+◌, ◌≤◌, Bool, true, false, ◌||◌, if◌then◌else◌, cond, List, ◌∷◌, length, Some, None, unwrap_or, refl, sym, ap, ◌∙◌}
 use Rattle.std.specs.HashMap.{HashMap, get}
 use Rattle.std.proofs.lemmas.Bool.{cases_Bool}
 use Rattle.cam_names.specs.declared.name.Name.{Name}
@@ -9,7 +9,7 @@ use Rattle.cam_names.proofs.Children.{is_some_name, child_of}
 use Rattle.cam_type.specs.declared.Op.{Op}
 use Rattle.cam_event.specs.declared.Seen.{Seen}
 use Rattle.cam_event.specs.declared.Deed.{Deed}
-use Rattle.cam_event.specs.declared.Deed.TheVariants.{Create, Ask, Call, Got, AskCommit, AskAbort, Commit, Abort}
+use Rattle.cam_event.specs.declared.Deed.TheVariants.{Create, Ask, Call, Got, AskCommit, AskAbort}
 use Rattle.cam_event.specs.History.{created, asked_commit, asked_abort, committed, aborted, asks, calls, open_call}
 use Rattle.cam_plain.specs.declared.actions.Action.{Action}
 use Rattle.cam_plain.specs.declared.actions.Change.{Change}

@@ -1,10 +1,10 @@
 -- In a legal history the open children of an action are those that it asked for, less those that are decided.
-use Rattle.std.proofs.Common.{◌≡◌, inl, inr, ℕ, ◌+◌, ◌<◌, ◌≤◌, eqb, Bool, true, false, not, ◌&&◌, ◌||◌, if◌then◌else◌, List, [], ◌∷◌, length, filter, Option, Some, None, refl, sym, ap, ◌∙◌, subst, cond, arith}
+use Rattle.std.proofs.Common.{◌≡◌, inl, inr, ℕ, ◌+◌, ◌<◌, ◌≤◌, eqb, Bool, true, false, not, ◌||◌, if◌then◌else◌, List, [], ◌∷◌, length, filter, Option, Some, None, refl, sym, ap, ◌∙◌, subst, cond, arith}
 use Rattle.std.specs.List.{list_any}
-use Rattle.std.proofs.lemmas.Bool.{and_parts, cases_Bool, true≢false, or_cases, or_right, eqb-true, eq-eqb, ne_eqb}
+use Rattle.std.proofs.lemmas.Bool.{and_parts, cases_Bool, true≢false, or_cases, or_right, eq-eqb, ne_eqb}
 use Rattle.cam_names.specs.declared.name.Name.{Name}
 use Rattle.cam_names.specs.Names.{name_eq, is_child, parent, last_part}
-use Rattle.cam_names.proofs.Names.{name_eq_same, name_eq_refl}
+use Rattle.cam_names.proofs.Names.{name_eq_same}
 use Rattle.cam_names.proofs.Ancestry.{parent_is}
 use Rattle.cam_names.proofs.Any.{any_weaker}
 use Rattle.cam_names.proofs.Children.{is_some_name, child_of}

@@ -1,7 +1,7 @@
 -- What the news of an outcome and a crash do to what is kept of their site.
-use Rattle.std.proofs.Common.{◌≡◌, inl, inr, ℕ, ◌≤◌, eqb, Bool, true, false, not, ◌&&◌, ◌||◌, if◌then◌else◌, cond, List, [], ◌∷◌, ◌++◌, length, filter, Some, None, refl, sym, ap, ◌∙◌, subst, arith}
+use Rattle.std.proofs.Common.{◌≡◌, inl, inr, ℕ, eqb, Bool, true, false, not, ◌&&◌, ◌||◌, if◌then◌else◌, List, [], ◌∷◌, ◌++◌, length, filter, None, refl, sym, ap, ◌∙◌, subst, arith}
 use Rattle.std.specs.List.{list_any, list_all}
-use Rattle.std.proofs.lemmas.Bool.{and_parts, and_from, cases_Bool, true≢false, eqb-true, eq-eqb, or_left, or_right, or_cases}
+use Rattle.std.proofs.lemmas.Bool.{and_parts, and_from, true≢false, eqb-true, eq-eqb, or_cases}
 use Rattle.cam_names.specs.declared.name.Name.{Name}
 use Rattle.cam_names.specs.Names.{name_eq, is_ancestor, family, is_top, parent}
 use Rattle.cam_names.proofs.Names.{name_eq_same}
@@ -20,9 +20,9 @@ use Rattle.cam_event.specs.Live.{site_of, is_kept, live, live_at}
 use Rattle.cam_event.proofs.Snoc.{filter_filter, filter_same}
 use Rattle.cam_event.proofs.LiveLaws.{live_abort, live_crash, is_below}
 use Rattle.cam_plain.specs.declared.site.Site.{Site}
-use Rattle.cam_plain.specs.Sites.{IsLiveOp, AreLiveOps, is_noted, KeepsSite, crashed_family, crashed_families}
+use Rattle.cam_plain.specs.Sites.{AreLiveOps, is_noted, KeepsSite, crashed_family, crashed_families}
 use Rattle.cam_plain.proofs.Alike.{alike_filter}
-use Rattle.cam_plain.proofs.Sited.{all_parts, all_true, noted_more}
+use Rattle.cam_plain.proofs.Sited.{all_parts, all_true}
 
 -- of the operations at a site the news of an abort drops those of the action and below it
 aborted_at : (objects : List ObjectDecl) (L : List Deed) (s : ℕ) (a : Name) → live_at objects (Inform s a false ∷ L) s ≡ filter (λ o. not (is_ancestor a o.action)) (live_at objects L s)

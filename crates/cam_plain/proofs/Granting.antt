@@ -1,5 +1,5 @@
 -- What a grant says of a call that comes to its site, and what is kept then.
-use Rattle.std.proofs.Common.{◌≡◌, ℕ, ◌≤◌, eqb, Bool, true, false, ◌&&◌, List, [], ◌∷◌, ◌++◌, length, Option, Some, None, refl, sym, ap, ◌∙◌, subst, eq-eqb}
+use Rattle.std.proofs.Common.{◌≡◌, ℕ, ◌≤◌, eqb, true, false, ◌&&◌, List, [], ◌∷◌, ◌++◌, length, Option, Some, None, refl, sym, ap, ◌∙◌, subst, eq-eqb}
 use Rattle.std.specs.Prelude.{find, is_none, slice_get}
 use Rattle.std.specs.Option.{option_map_or}
 use Rattle.std.specs.HashMap.{HashMap}
@@ -19,7 +19,7 @@ use Rattle.cam_locks.specs.Calls.{grant, grant_by, site_by, after_grant, with_op
 use Rattle.cam_event.specs.declared.Deed.{Deed}
 use Rattle.cam_event.specs.declared.Deed.TheVariants.{Perform}
 use Rattle.cam_event.specs.History.{informed, Addressed, call_of}
-use Rattle.cam_event.specs.Live.{live_on, lift_of, op_of, first_conflict, holder, value}
+use Rattle.cam_event.specs.Live.{live_on, lift_of, op_of, holder, value}
 use Rattle.cam_plain.specs.Tests.{is_performed, is_name, is_bounced}
 use Rattle.cam_plain.specs.declared.site.Site.{Site}
 use Rattle.cam_plain.specs.Sites.{KeepsSite, AfterAttempt, Attempted, KeepsSites, with_abort_of}

@@ -15,19 +15,19 @@ use Rattle.cam_type.specs.declared.Answer.{Answer}
 use Rattle.cam_type.specs.Moss as moss
 use Rattle.cam_know.specs.Known.{lift_by}
 use Rattle.cam_locks.specs.declared.LiveOp.{LiveOp}
-use Rattle.cam_locks.specs.Names.{has_name, with_name}
+use Rattle.cam_locks.specs.Names.{has_name}
 use Rattle.cam_locks.specs.Site as locks
 use Rattle.cam_locks.specs.Moss as held
 use Rattle.cam_locks.specs.Calls.{new_site, with_operation}
 use Rattle.cam_event.specs.declared.Operation.{Operation}
 use Rattle.cam_event.specs.declared.Deed.{Deed}
-use Rattle.cam_event.specs.declared.Deed.TheVariants.{Perform, Inform, Crash}
+use Rattle.cam_event.specs.declared.Deed.TheVariants.{Perform}
 use Rattle.cam_event.specs.History.{informed, secured_at, Addressed, call_of}
-use Rattle.cam_event.specs.Live.{site_of, start_of, of_call, surviving, is_dropped, is_kept, live, live_at, live_on, lift, lift_of, op_of, replay, holder, value}
+use Rattle.cam_event.specs.Live.{site_of, start_of, of_call, surviving, is_dropped, live, live_at, live_on, lift, lift_of, op_of, replay, holder, value}
 use Rattle.cam_event.proofs.Snoc.{filter_filter, filter_same}
-use Rattle.cam_event.proofs.LiveLaws.{live_perform, live_abort, live_crash, is_below}
+use Rattle.cam_event.proofs.LiveLaws.{live_perform}
 use Rattle.cam_plain.specs.declared.site.Site.{Site}
-use Rattle.cam_plain.specs.Sites.{IsLiveOp, AreLiveOps, is_noted, KeepsSite, IsUntouched, with_abort_of, crashed_family, crashed_families}
+use Rattle.cam_plain.specs.Sites.{IsLiveOp, AreLiveOps, is_noted, KeepsSite, IsUntouched, with_abort_of}
 use Rattle.cam_plain.proofs.Alike.{alike_append, alike_filter, holder_alike, replay_alike}
 
 -- tests of all of a list, and of what a filter keeps

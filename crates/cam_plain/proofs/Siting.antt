@@ -2,13 +2,12 @@
 use Rattle.std.proofs.Common.{◌≡◌, ℕ, eqb, Bool, true, false, not, ◌&&◌, ◌||◌, if◌then◌else◌, cond, List, [], ◌∷◌, ◌++◌, filter, Option, Some, None, refl, sym, ap, ◌∙◌, subst}
 use Rattle.std.specs.HashMap.{HashMap}
 use Rattle.std.specs.List.{list_all}
-use Rattle.std.proofs.lemmas.Bool.{and_parts, true≢false, eqb-true, eq-eqb, ne_eqb, or_right}
+use Rattle.std.proofs.lemmas.Bool.{true≢false, eqb-true, eq-eqb, ne_eqb, or_right}
 use Rattle.std.proofs.lemmas.List.Elements.{filter-append}
 use Rattle.cam_names.specs.declared.name.Name.{Name}
 use Rattle.cam_names.specs.Names.{name_eq, is_ancestor, family}
 use Rattle.cam_type.specs.declared.ObjectDecl.{ObjectDecl}
 use Rattle.cam_type.specs.declared.Answer.{Answer}
-use Rattle.cam_locks.specs.Names.{has_name}
 use Rattle.cam_event.specs.declared.Operation.{Operation}
 use Rattle.cam_event.specs.declared.Deed.{Deed}
 use Rattle.cam_event.specs.declared.Deed.TheVariants.{Create, Ask, Call, Perform, Bounce, Got, AskCommit, AskAbort, Commit, Abort, Secure, Inform, Crash}
@@ -17,7 +16,7 @@ use Rattle.cam_event.specs.Live.{site_of, of_call, is_dropped, is_kept, live, li
 use Rattle.cam_event.proofs.Snoc.{filter_filter, filter_same}
 use Rattle.cam_event.proofs.LiveLaws.{live_perform, live_abort, live_crash, is_below}
 use Rattle.cam_plain.specs.declared.site.Site.{Site}
-use Rattle.cam_plain.specs.Sites.{AreLiveOps, is_noted, KeepsSite, IsUntouched, KeepsIfSome, site_in, KeepsSites, Attempted, AfterAttempt, Between}
+use Rattle.cam_plain.specs.Sites.{AreLiveOps, is_noted, KeepsSite, KeepsIfSome, site_in, KeepsSites, Attempted, AfterAttempt, Between}
 use Rattle.cam_plain.proofs.Sited.{all_weaker, noted_more}
 
 -- what a deed leaves of a site

@@ -1,7 +1,7 @@
 -- What one more top action adds.
-use Rattle.std.proofs.Common.{◌≡◌, inl, inr, ℕ, ◌+◌, eqb, Bool, true, false, ◌&&◌, if◌then◌else◌, cond, List, ◌∷◌, Some, unwrap_or, refl, sym, ap, ◌∙◌, arith}
+use Rattle.std.proofs.Common.{◌≡◌, ℕ, ◌+◌, eqb, Bool, true, false, ◌&&◌, if◌then◌else◌, cond, List, ◌∷◌, Some, unwrap_or, refl, sym, ap, ◌∙◌}
 use Rattle.std.specs.HashMap.{HashMap, get}
-use Rattle.std.proofs.lemmas.Bool.{cases_Bool, and_parts, eqb-true}
+use Rattle.std.proofs.lemmas.Bool.{and_parts, eqb-true}
 use Rattle.cam_names.specs.declared.name.Name.{Name}
 use Rattle.cam_names.specs.Names.{is_top, home_node, home_count}
 use Rattle.cam_event.specs.declared.Deed.{Deed}

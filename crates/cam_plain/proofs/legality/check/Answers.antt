@@ -1,9 +1,8 @@
-use Rattle.std.proofs.Common.{◌≡◌, ℕ, List, [], take, true, false, Option, Some, None, refl, sym, ◌∙◌, subst, arith, rules}
+use Rattle.std.proofs.Common.{◌≡◌, ℕ, List, [], take, true, false, None, refl, sym, ◌∙◌, subst, arith, rules}
 use Rattle.cam_event.specs.declared.Deed.{Deed}
 use Rattle.cam_event.proofs.Snoc.{further}
-use Rattle.cam_plain.specs.declared.site.Site.{Site}
-use Rattle.cam_plain.specs.Legal.{IsFirstIllegal, Legal, history}
-use Rattle.cam_plain.specs.Kept.{IsKept, IsKnown}
+use Rattle.cam_plain.specs.Legal.{IsFirstIllegal, history}
+use Rattle.cam_plain.specs.Kept.{IsKnown}
 use Rattle.cam_plain.specs.Sites.{KeepsIfSome, KeepsSites, site_in}
 use Rattle.cam_plain.proofs.Checking.{legal_next, first_illegal}
 use Rattle.cam_plain.proofs.legality.check.Goals as goal

@@ -1,4 +1,4 @@
-use Rattle.std.proofs.Common.{Bool, false, refl, sym, ◌∙◌}
+use Rattle.std.proofs.Common.{false, refl, sym, ◌∙◌}
 use Rattle.cam_event.specs.History.{informed}
 use Rattle.cam_know.proofs.Climbs.{find_top, find_above, find_here}
 use Rattle.cam_plain.proofs.site.+aborted_ancestor.Goals as goal

@@ -1,5 +1,4 @@
 use Rattle.std.proofs.Common.{sym, ap, ◌+◌, ◌∙◌}
-use Rattle.cam_plain.specs.Tops.{tops_in}
 use Rattle.cam_plain.proofs.Topping.{top_put}
 use Rattle.cam_plain.proofs.tops.note_top_action.Goals as goal
 

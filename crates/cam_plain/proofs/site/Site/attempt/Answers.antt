@@ -1,4 +1,4 @@
-use Rattle.std.proofs.Common.{◌≤◌, List, ◌∷◌, ◌++◌, [], length, refl, sym, ap, ◌∙◌, arith}
+use Rattle.std.proofs.Common.{◌≤◌, ◌∷◌, ◌++◌, [], length, refl, sym, ap, ◌∙◌, arith}
 use Rattle.cam_names.specs.declared.name.Name.{Name}
 use Rattle.cam_locks.specs.declared.Grant.TheVariants.{Done, Conflict}
 use Rattle.cam_event.specs.History.{Addressed}
