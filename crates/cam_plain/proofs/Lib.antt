@@ -26,3 +26,4 @@ pub mod Sited
 pub mod Crashing
 pub mod Siting
 pub mod Granting
+pub mod Marking

@@ -90,7 +90,7 @@ fn is_legal(
         Deed::Commit { action } => Ok(may_commit(before, action)),
         Deed::Abort { action } => Ok(may_abort(before, action)),
         Deed::Secure { .. } | Deed::Inform { .. } | Deed::Crash { .. } => {
-            is_legal_at_site(alloc, before, deed)
+            Ok(is_legal_at_site(before, deed))
         }
         _ => is_legal_of_call(alloc, before, sites, deed),
     }
@@ -145,22 +145,21 @@ fn is_legal_of_call(
 }
 
 /// Whether a deed that a site does on its own meets its line; any other passes.
-fn is_legal_at_site(alloc: Global, before: &Before, deed: &Deed) -> Result<bool, NoMemory>
+fn is_legal_at_site(before: &Before, deed: &Deed) -> bool
     requires { IsKnown before.now.objects.now (history before.now.deeds.now) before.now.tables.now }
-    ensures { IfOk result (λ legal.
-        legal ≡ site_meets before.now.objects.now (history before.now.deeds.now) deed.now) }
+    ensures { result ≡ site_meets before.now.objects.now (history before.now.deeds.now) deed.now }
 {
     match deed {
         Deed::Secure {
             family,
             site,
             count,
-        } => may_secure(alloc, before, family, *site, *count),
+        } => may_secure(before, family, *site, *count),
         Deed::Inform {
             site,
             name,
             committed,
-        } => Ok(may_inform(before, *site, name, *committed)),
-        _ => Ok(true),
+        } => may_inform(before, *site, name, *committed),
+        _ => true,
     }
 }

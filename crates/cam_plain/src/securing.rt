@@ -1,28 +1,23 @@
 //! Whether families may be secured and committed.
 
-ghost use Rattle.std.specs.Prelude.{◌≡◌, IfOk, List};
+ghost use Rattle.std.specs.Prelude.{◌≡◌, ◌&&◌, not, false};
 ghost use Rattle.std.specs.List.{list_all};
 ghost use Rattle.cam_names.specs.Names.{parent};
 ghost use Rattle.cam_names.specs.Dependencies.{has_pair};
-ghost use Rattle.cam_event.specs.declared.Deed.{Deed};
-ghost use Rattle.cam_event.specs.History.{secured};
-ghost use Rattle.cam_event.specs.Live.{live};
-ghost use Rattle.cam_live.specs.Ledger.{Keeps};
+ghost use Rattle.cam_event.specs.History.{secured, secured_at};
 ghost use Rattle.cam_plain.specs.Depending.{pairs_in};
 ghost use Rattle.cam_plain.specs.Legal.{history};
-ghost use Rattle.cam_plain.specs.Tests.{may_commit_test, commit_test, is_held_below, handed_up, secure_test};
+ghost use Rattle.cam_plain.specs.Tests.{may_commit_test, commit_test, handed_up, secure_test};
+ghost use Rattle.cam_plain.specs.Marks.{is_clear, marks_in};
 ghost use Rattle.cam_plain.specs.Kept.{IsKnown};
 
 use crate::before::Before;
 use crate::dependencies::{Dependencies, Pairs, has_pair};
 use crate::lines::is_decided;
+use crate::marks::{Mark, Marks, Place};
+use crate::site::has_lost;
 use crate::standing::{is_at_home, runs};
-use cam_base::NoMemory;
-use cam_event::Operation;
-use cam_live::{Ledger, Operations};
 use cam_names::Name;
-use cam_type::{Objects, site_of};
-use std::alloc::Global;
 
 /// Whether the family is secured at each pair.
 fn all_secured(before: &Before, family: &Name, pairs: &Pairs) -> bool
@@ -87,61 +82,81 @@ pub(crate) fn may_commit(before: &Before, action: &Name) -> bool
     asked && !decided && may
 }
 
-/// Whether the operation is one of the family at the site that has not been handed up to it.
-fn is_held_below(
-    objects: &Objects,
-    ledger: &Ledger,
-    family: &Name,
-    site: u8,
-    operation: &Operation,
-) -> bool
-    ensures { (L : List Deed) → Keeps objects.now L ledger.now → result ≡ is_held_below objects.now L family.now site operation.now }
+/// Whether an operation of the family at the site is gone, by a crash or an abort, or has been handed up to the family.
+fn is_clear(before: &Before, family: &Name, site: u8, mark: &Mark) -> bool
+    requires { IsKnown before.now.objects.now (history before.now.deeds.now) before.now.tables.now }
+    ensures { result ≡ is_clear (history before.now.deeds.now) site family.now mark.now }
 {
-    let here = site_of(objects, operation.object) == site;
-    let of_family = *family == operation.action.family();
-    let lifted = match ledger.lift(site, &operation.action) {
+    let ledger = &before.tables.ledger;
+    let crashed = mark.count != ledger.count(site);
+    let lost = has_lost(ledger, site, &mark.action);
+    let lifted = match ledger.lift(site, &mark.action) {
         Some(holder) => *family == holder,
         None => false,
     };
-    here && of_family && !lifted
+    crashed || lost || lifted
 }
 
-/// Whether all live operations of the family at the site have been handed up to it.
-fn is_handed_up(
-    objects: &Objects,
-    ledger: &Ledger,
-    operations: &Operations,
-    family: &Name,
-    site: u8,
-) -> bool
-    ensures { (L : List Deed) → Keeps objects.now L ledger.now → operations.now ≡ live objects.now L → result ≡ handed_up objects.now L family.now site }
+/// Whether all of these operations of the family at the site are so.
+fn all_clear(before: &Before, family: &Name, site: u8, marks: &Marks) -> bool
+    requires { IsKnown before.now.objects.now (history before.now.deeds.now) before.now.tables.now }
+    ensures { result ≡ list_all (is_clear (history before.now.deeds.now) site family.now) marks.now }
 {
-    for operation in operations.as_slice() {
-        if is_held_below(objects, ledger, family, site, operation) {
+    for mark in marks.as_slice() {
+        if !is_clear(before, family, site, mark) {
             return false;
         }
     }
     true
 }
 
-pub(crate) fn may_secure(
-    alloc: Global,
-    before: &Before,
-    family: &Name,
-    site: u8,
-    secured_count: u32,
-) -> Result<bool, NoMemory>
+/// Whether all operations of the family at the site are so.
+fn is_place_clear(before: &Before, place: &Place) -> bool
     requires { IsKnown before.now.objects.now (history before.now.deeds.now) before.now.tables.now }
-    ensures { IfOk result (λ may. may ≡ secure_test before.now.objects.now (history before.now.deeds.now)
-        family.now site secured_count) }
+    ensures { result ≡ list_all (is_clear (history before.now.deeds.now) place.now.site place.now.family)
+        (marks_in before.now.tables.now.marks place.now) }
 {
-    let ledger = &before.tables.ledger;
+    match before.tables.marks.get(place) {
+        Some(marks) => all_clear(before, &place.family, place.site, marks),
+        None => true,
+    }
+}
+
+/// Whether all live operations of a family have been handed up to it, at a site where it is not secured.
+fn is_handed_up(before: &Before, family: &Name, site: u8) -> bool
+    requires known { IsKnown before.now.objects.now (history before.now.deeds.now) before.now.tables.now }
+    requires unsecured { secured_at (history before.now.deeds.now) family.now site ≡ false }
+    ensures { result ≡ handed_up before.now.objects.now (history before.now.deeds.now) family.now site }
+{
+    let place = Place {
+        site,
+        family: *family,
+    };
+    is_place_clear(before, &place)
+}
+
+/// Whether the family is not secured at the site, and all its live operations there have been handed up to it.
+fn is_ready(before: &Before, family: &Name, site: u8) -> bool
+    requires { IsKnown before.now.objects.now (history before.now.deeds.now) before.now.tables.now }
+    ensures { result ≡ (not (secured_at (history before.now.deeds.now) family.now site)
+        && handed_up before.now.objects.now (history before.now.deeds.now) family.now site) }
+{
+    let secured = before.is_secured_at(family, site);
+    if secured {
+        return false;
+    }
+    is_handed_up(before, family, site)
+}
+
+pub(crate) fn may_secure(before: &Before, family: &Name, site: u8, secured_count: u32) -> bool
+    requires { IsKnown before.now.objects.now (history before.now.deeds.now) before.now.tables.now }
+    ensures { result ≡ secure_test before.now.objects.now (history before.now.deeds.now)
+        family.now site secured_count }
+{
     let is_top = family.depth() == 1;
     let asked = before.action(family).asked_commit;
     let depends = depends(&before.tables.dependencies, family, site, secured_count);
     let present = secured_count as u64 == before.count(site);
-    let secured = before.is_secured_at(family, site);
-    let live = ledger.live(alloc, before.objects)?;
-    let handed_up = is_handed_up(before.objects, ledger, &live, family, site);
-    Ok(is_top && asked && depends && present && !secured && handed_up)
+    let ready = is_ready(before, family, site);
+    is_top && asked && depends && present && ready
 }

@@ -1,5 +1,6 @@
 //! What is kept of a site: its lock table tells who stands in the way of a call, and what it answers.
 ghost use Rattle.std.specs.Prelude.{◌≡◌, ◌∷◌, ◌++◌, [], false, find, if◌then◌else◌, Bool, ℕ, List, Some, IsTrue, IfOk, OnOk};
+ghost use Rattle.std.specs.List.{list_any};
 ghost use Rattle.cam_names.specs.Names.{ancestors, family};
 ghost use Rattle.cam_type.specs.declared.ObjectDecl.{ObjectDecl};
 ghost use Rattle.cam_type.specs.declared.Answer.{Answer as AnswerValue};
@@ -157,6 +158,14 @@ fn aborted_ancestor(ledger: &Ledger, site: u8, action: &Name) -> Option<Name>
         },
         None => own,
     }
+}
+
+/// Whether the site was informed of the abort of an ancestor of the action.
+pub(crate) fn has_lost(ledger: &Ledger, site: u8, action: &Name) -> bool
+    ensures { (objects : List ObjectDecl) (L : List Deed) → Keeps objects L ledger.now
+        → result ≡ list_any (λ u. informed L site u false) (ancestors action.now) }
+{
+    aborted_ancestor(ledger, site, action).is_some()
 }
 
 /// The action, where the site was informed of its abort.

@@ -6,6 +6,7 @@ ghost use Rattle.cam_plain.specs.Kept.{IsKept};
 
 use crate::actions::{Actions, note_action};
 use crate::dependencies::{Dependencies, take_deed};
+use crate::marks::{MarkTable, note_mark};
 use crate::replies::Replies;
 use crate::tops::{Tops, note_top};
 use cam_base::NoMemory;
@@ -17,8 +18,10 @@ use std::alloc::Global;
 /// What is kept of the deeds so far.
 #[derive(Drop)]
 pub(crate) struct Tables {
-    /// Calls, counts of sites, secured families, Informs, and the operations that were performed.
+    /// Calls, counts of sites, secured families and Informs.
     pub(crate) ledger: Ledger,
+    /// The operations that were performed.
+    pub(crate) marks: MarkTable,
     pub(crate) actions: Actions,
     pub(crate) tops: Tops,
     pub(crate) replies: Replies,
@@ -32,12 +35,14 @@ impl Tables {
         ensures { (objects : List ObjectDecl) → IsKept objects [] result }
     {
         let ledger = Ledger::new(alloc);
+        let marks = MarkTable::new(alloc);
         let actions = Actions::new(alloc);
         let tops = Tops::new(alloc);
         let replies = Replies::new(alloc);
         let dependencies = Dependencies::new(alloc);
         Tables {
             ledger,
+            marks,
             actions,
             tops,
             replies,
@@ -56,6 +61,7 @@ impl Tables {
             → IsKept objects.now (deed.now ∷ L) self.new) }
     {
         take_deed(alloc, &mut self.dependencies, objects, &self.ledger, deed)?;
+        note_mark(&mut self.marks, alloc, objects, &self.ledger, deed)?;
         self.ledger.note(objects, deed)?;
         note_action(&mut self.actions, deed)?;
         note_top(&mut self.tops, deed)?;
