@@ -1,10 +1,10 @@
 -- After an event of its own that concerns its actions at home alone, a node stands for the longer history.
-use Rattle.std.proofs.Common.{◌≡◌, ℕ, Bool, true, false, true≢false, ◌&&◌, ◌||◌, List, [], ◌∷◌, ◌++◌, map, Option, Some, None, refl, sym, ap, ◌∙◌, subst}
+use Rattle.std.proofs.Common.{◌≡◌, ℕ, Bool, true, false, ◌&&◌, ◌||◌, List, [], ◌∷◌, map, Option, None, refl, sym, ap, ◌∙◌, subst}
 use Rattle.std.specs.Prelude.{filter}
 use Rattle.std.specs.List.{list_any, list_all}
 use Rattle.std.proofs.lemmas.Bool.{and_parts}
 use Rattle.cam_names.specs.declared.name.Name.{Name}
-use Rattle.cam_names.specs.Dependencies.{AreCounts, has_pair}
+use Rattle.cam_names.specs.Dependencies.{AreCounts}
 use Rattle.cam_type.specs.declared.ObjectDecl.{ObjectDecl}
 use Rattle.cam_know.specs.Knowledge.{Knowledge}
 use Rattle.cam_know.specs.Known.{nothing, both}
@@ -12,10 +12,9 @@ use Rattle.cam_event.specs.declared.Deed.{Deed}
 use Rattle.cam_event.specs.declared.Deed.TheVariants.{Create, Ask, Call, Perform, Bounce, Got, AskCommit, AskAbort, Commit, Abort, Secure, Inform, Crash}
 use Rattle.cam_event.specs.History.{after, count, is_crash, is_secure_at}
 use Rattle.cam_event.specs.Inputs.{Input, Mail}
-use Rattle.cam_event.specs.Sights.{yes_for, is_preparing_note}
+use Rattle.cam_event.specs.Sights.{is_preparing_note}
 use Rattle.cam_event.specs.Rules.{Did, rule}
-use Rattle.cam_event.specs.ByPast.{event_of}
-use Rattle.cam_event.specs.ByKnowledge.{Carried, deeds_of, held, held_sight, learned_by, node_step}
+use Rattle.cam_event.specs.ByKnowledge.{Carried, deeds_of, held_sight, learned_by, node_step}
 use Rattle.cam_event.specs.Loads.{no_load}
 use Rattle.cam_event.specs.ByDeltas.{Received, as_carried, known}
 use Rattle.cam_tranman.specs.Actions.{RunsActions}
@@ -27,7 +26,6 @@ use Rattle.cam_tranman.proofs.StepKeeping.{step_keeps}
 use Rattle.cam_commit.specs.Families.{CommitsFamilies}
 use Rattle.cam_commit.proofs.Calling as commit
 use Rattle.cam_server.specs.Server.{ServesSite}
-use Rattle.cam_server.specs.Calls as server
 use Rattle.cam_server.specs.Events.{is_quiet, is_any_inform}
 use Rattle.cam_server.proofs.QuietDeeds.{quiet_count}
 use Rattle.cam_server.proofs.NewsInforms.{nothing_informs}

@@ -8,7 +8,7 @@ use Rattle.cam_event.specs.declared.Deed.TheVariants.{Create}
 use Rattle.cam_event.specs.Inputs.{Begins}
 use Rattle.cam_event.specs.Rules.{Did, did, one, begins}
 use Rattle.cam_event.specs.ByPast.{event_of}
-use Rattle.cam_event.specs.ByKnowledge.{Carried, held_sight, node_step}
+use Rattle.cam_event.specs.ByKnowledge.{held_sight}
 use Rattle.cam_event.specs.Loads.{no_load}
 use Rattle.cam_event.specs.ByDeltas.{Received, as_carried}
 use Rattle.cam_tranman.specs.Calls.{next_top}
@@ -16,7 +16,7 @@ use Rattle.cam_tranman.proofs.Sights.{sight_is_answered}
 use Rattle.cam_tranman.proofs.Requests.{begun_is_rule}
 use Rattle.cam_node.specs.Represents.{Node, Represents}
 use Rattle.cam_node.specs.Halting.{IsStepThrough}
-use Rattle.cam_node.specs.AtHome.{IsAtHome, DidAtHome}
+use Rattle.cam_node.specs.AtHome.{DidAtHome}
 use Rattle.cam_node.proofs.Orderly.{put_is_asked, through_orderly}
 use Rattle.cam_node.proofs.AtHome.{home_keeps}
 

@@ -1,5 +1,5 @@
 -- A node to which nothing has happened stands for the history without an event.
-use Rattle.std.proofs.Common.{◌≡◌, ℕ, ◌≤◌, Bool, true, false, true≢false, ◌&&◌, ◌||◌, List, [], ◌∷◌, Option, Some, None, IfSome, replicate, refl, sym, ap, ◌∙◌, subst, arith}
+use Rattle.std.proofs.Common.{◌≡◌, ℕ, Bool, true, false, true≢false, ◌&&◌, List, [], ◌∷◌, Option, IfSome, replicate, refl, sym, ap, ◌∙◌, subst, arith}
 use Rattle.std.specs.Prelude.{option_map, is_some}
 use Rattle.std.specs.List.{list_any}
 use Rattle.std.specs.Option.{option_map_or}
@@ -14,7 +14,7 @@ use Rattle.cam_event.specs.Live.{site_of}
 use Rattle.cam_event.specs.Loads.{PlacesFields, no_places}
 use Rattle.cam_tranman.specs.declared.action.Action.{Action}
 use Rattle.cam_tranman.specs.declared.call.OpenCall.{OpenCall}
-use Rattle.cam_tranman.specs.Actions.{Actions, RunsActions, address}
+use Rattle.cam_tranman.specs.Actions.{Actions, RunsActions}
 use Rattle.cam_tranman.specs.Calls.{AreSame, none_run}
 use Rattle.cam_commit.specs.Families.{Families}
 use Rattle.cam_commit.specs.Calls.{AreNone}

@@ -10,7 +10,7 @@ use Rattle.cam_event.specs.declared.Note.TheVariants as notes
 use Rattle.cam_event.specs.Inputs.{Tells, Queries}
 use Rattle.cam_event.specs.Rules.{send}
 use Rattle.cam_event.specs.Loads.{no_load}
-use Rattle.cam_node.specs.Represents.{Node, Represents}
+use Rattle.cam_node.specs.Represents.{Node}
 use Rattle.cam_node.specs.Calls.{AreSame}
 use Rattle.cam_node.specs.Halting.{IsStepThrough}
 use Rattle.cam_node.specs.Quiet.{IsIdle}

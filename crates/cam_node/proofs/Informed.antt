@@ -1,5 +1,5 @@
 -- Of what a node knows its site was informed, and of nothing else.
-use Rattle.std.proofs.Common.{◌≡◌, inl, inr, ℕ, eqb, Bool, true, false, not, ◌&&◌, ◌||◌, List, [], ◌∷◌, ◌++◌, map, Option, refl, sym, ap, ◌∙◌, subst}
+use Rattle.std.proofs.Common.{◌≡◌, inl, inr, ℕ, Bool, true, false, not, ◌&&◌, ◌||◌, List, [], ◌∷◌, ◌++◌, map, Option, refl, sym, ap, ◌∙◌, subst}
 use Rattle.std.specs.Prelude.{filter, flat_map}
 use Rattle.std.specs.List.{list_any}
 use Rattle.std.proofs.lemmas.Bool.{eq-eqb}
@@ -20,14 +20,14 @@ use Rattle.cam_event.specs.History.{after, informed, is_inform}
 use Rattle.cam_event.specs.Inputs.{Mail}
 use Rattle.cam_event.specs.Rules.{rule, sorted_names, informs}
 use Rattle.cam_event.specs.ByKnowledge.{Carried, deeds_of, held, held_sight, learned_by, commit_counts, new_informs}
-use Rattle.cam_event.specs.ByDeltas.{Received, as_carried, known}
+use Rattle.cam_event.specs.ByDeltas.{Received, as_carried}
 use Rattle.cam_event.specs.Taken.{is_entered}
 use Rattle.cam_event.proofs.SameInforms.{among_aborted, among_committed}
 use Rattle.cam_server.proofs.QuietDeeds.{aborts_informed, commits_informed}
 use Rattle.cam_delta.proofs.SameSteps.{among_kept}
 use Rattle.cam_delta.proofs.OwnNamed.{skip_first}
 use Rattle.cam_node.specs.Lawful.{IsStepOf}
-use Rattle.cam_node.specs.Halting.{IsThrough, IsTakenOf, taken}
+use Rattle.cam_node.specs.Halting.{IsTakenOf, taken}
 use Rattle.cam_node.specs.Shapes.{is_mute, IsShaped, Quiet, Single, Commits, Aborts, KnownIsInformed}
 use Rattle.cam_node.proofs.Shapes.{rules_are_shaped}
 

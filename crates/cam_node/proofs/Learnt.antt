@@ -1,17 +1,16 @@
 -- What one more event does to what is known and noted.
-use Rattle.std.proofs.Common.{◌≡◌, ℕ, true, false, List, [], ◌∷◌, ◌++◌, map, Option, Some, None, refl, sym, ap, ◌∙◌}
+use Rattle.std.proofs.Common.{◌≡◌, ℕ, false, List, map, Option, Some, None, refl, ◌∙◌}
 use Rattle.cam_type.specs.declared.ObjectDecl.{ObjectDecl}
-use Rattle.cam_know.specs.Known.{new_aborts, new_commits, both}
+use Rattle.cam_know.specs.Known.{new_aborts, new_commits}
 use Rattle.cam_know.specs.Order.{told_in_order}
 use Rattle.cam_event.specs.Inputs.{Input, Mail}
-use Rattle.cam_event.specs.ByKnowledge.{held}
 use Rattle.cam_event.specs.Loads.{Load, with_load}
 use Rattle.cam_event.specs.ByDeltas.{Received, as_carried, known, crashed}
 use Rattle.cam_commit.specs.Steps.{is_restarting}
 use Rattle.cam_commit.proofs.StepKinds.{steps_are_of_kind}
 use Rattle.cam_delta.proofs.OwnNamed.{skip_first}
 use Rattle.cam_delta.proofs.NotedPlaces.{nothing_is_noted_without_letter, letters_are_noted, loads_follow}
-use Rattle.cam_node.specs.Learning.{stepped, ruled, KnowledgeGrows, PlacesGrow, IsSentByNode, LoadsFollow}
+use Rattle.cam_node.specs.Learning.{stepped, ruled, KnowledgeGrows, PlacesGrow, LoadsFollow}
 
 pub knowledge_grows : KnowledgeGrows
 knowledge_grows objects s history input mail load =

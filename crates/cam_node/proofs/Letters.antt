@@ -1,5 +1,5 @@
 -- After an event with a letter that concerns the actions at home alone, a node stands for the longer history.
-use Rattle.std.proofs.Common.{◌≡◌, ℕ, Bool, true, false, ◌&&◌, ◌||◌, List, [], ◌∷◌, ◌++◌, length, map, Option, Some, None, refl, sym, ap, ◌∙◌, subst}
+use Rattle.std.proofs.Common.{◌≡◌, ℕ, Bool, true, false, ◌&&◌, ◌||◌, List, [], ◌∷◌, ◌++◌, length, map, Some, refl, sym, ap, ◌∙◌, subst}
 use Rattle.std.specs.Prelude.{filter}
 use Rattle.std.specs.List.{list_any, list_all}
 use Rattle.std.proofs.lemmas.List.Folds.{list_any-append}
@@ -11,13 +11,13 @@ use Rattle.cam_know.specs.Order.{told_in_order}
 use Rattle.cam_event.specs.declared.LetterId.{LetterId}
 use Rattle.cam_event.specs.declared.Deed.{Deed}
 use Rattle.cam_event.specs.declared.Deed.TheVariants.{Inform}
-use Rattle.cam_event.specs.History.{after, count, is_crash, is_secure_at}
+use Rattle.cam_event.specs.History.{after, count, is_secure_at}
 use Rattle.cam_event.specs.Inputs.{Receives, Mail}
 use Rattle.cam_event.specs.Sights.{is_preparing_note}
 use Rattle.cam_event.specs.Rules.{Did, rule, sorted_names, informs}
-use Rattle.cam_event.specs.ByKnowledge.{Carried, deeds_of, held_sight, learned_by, new_informs}
-use Rattle.cam_event.specs.Loads.{Load, PlacesFields, noted_at, with_load}
-use Rattle.cam_event.specs.ByDeltas.{Received, as_carried, known, places_of}
+use Rattle.cam_event.specs.ByKnowledge.{Carried, deeds_of, held_sight, new_informs}
+use Rattle.cam_event.specs.Loads.{Load, noted_at, with_load}
+use Rattle.cam_event.specs.ByDeltas.{Received, as_carried, known}
 use Rattle.cam_tranman.specs.Actions.{RunsActions}
 use Rattle.cam_tranman.specs.Orderly.{IsOrderly, MayBeAsked}
 use Rattle.cam_tranman.specs.Keeping.{MailHasCounts, after_deeds}
@@ -27,8 +27,7 @@ use Rattle.cam_tranman.proofs.StepKeeping.{step_keeps}
 use Rattle.cam_commit.specs.Families.{CommitsFamilies}
 use Rattle.cam_commit.proofs.Calling as commit
 use Rattle.cam_commit.proofs.StepKinds.{steps_are_of_kind}
-use Rattle.cam_locks.specs.Names.{has_name}
-use Rattle.cam_server.specs.Server.{Server, ServesSite}
+use Rattle.cam_server.specs.Server.{ServesSite}
 use Rattle.cam_server.specs.Calls as server
 use Rattle.cam_server.specs.Events.{is_quiet, is_any_inform, informs_abort, informs_commit}
 use Rattle.cam_server.proofs.QuietDeeds.{quiet_count, informs_quiet}

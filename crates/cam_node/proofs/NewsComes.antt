@@ -1,5 +1,5 @@
 -- News comes: the event is the definition's, and the node that it makes stands for the longer history.
-use Rattle.std.proofs.Common.{◌≡◌, ℕ, ◌≤◌, not, ◌||◌, List, [], ◌∷◌, ◌++◌, length, map, Some, refl, sym, ap, ◌∙◌, subst}
+use Rattle.std.proofs.Common.{◌≡◌, ℕ, ◌≤◌, not, ◌||◌, List, [], ◌∷◌, length, map, Some, refl, sym, ap, ◌∙◌, subst}
 use Rattle.std.specs.Prelude.{filter}
 use Rattle.std.specs.List.{list_any}
 use Rattle.std.proofs.lemmas.List.{append-nil}
@@ -21,7 +21,7 @@ use Rattle.cam_event.specs.Rules.{arrives, nothing_but}
 use Rattle.cam_event.specs.ByPast.{event_of}
 use Rattle.cam_event.specs.ByKnowledge.{held_sight, node_step, new_informs}
 use Rattle.cam_event.specs.Loads.{Load, PlacesFields, noted_at, with_load}
-use Rattle.cam_event.specs.ByDeltas.{Received, as_carried, known}
+use Rattle.cam_event.specs.ByDeltas.{Received, as_carried}
 use Rattle.cam_tranman.specs.Keeping.{HasCounts}
 use Rattle.cam_tranman.specs.Calls as tranman
 use Rattle.cam_commit.specs.Calls as commit
@@ -30,7 +30,7 @@ use Rattle.cam_locks.specs.Names.{has_name}
 use Rattle.cam_server.specs.Server.{Server}
 use Rattle.cam_server.specs.Calls as server
 use Rattle.cam_node.specs.Represents.{Node, Represents}
-use Rattle.cam_node.specs.Halting.{IsThrough, IsStepThrough}
+use Rattle.cam_node.specs.Halting.{IsStepThrough}
 use Rattle.cam_node.specs.Calls.{HasLearnt}
 use Rattle.cam_node.specs.AtHome.{IsNoVote, LearntAtHome}
 use Rattle.cam_node.proofs.Letters.{letter_keeps}

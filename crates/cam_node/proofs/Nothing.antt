@@ -1,5 +1,5 @@
 -- To be told nothing changes nothing.
-use Rattle.std.proofs.Common.{◌≡◌, ℕ, zero, suc, ◌≤◌, ◌<◌, max, List, [], ◌∷◌, ◌++◌, length, get_or, replicate, refl, sym, ap, ap₂, ◌∙◌, arith}
+use Rattle.std.proofs.Common.{◌≡◌, ℕ, zero, suc, ◌≤◌, ◌<◌, List, [], ◌∷◌, length, get_or, replicate, refl, ap₂, arith}
 use Rattle.std.proofs.lemmas.List.{append-nil}
 use Rattle.cam_names.specs.Dependencies.{AreCounts, greater_counts}
 use Rattle.cam_know.specs.Knowledge.{Knowledge}

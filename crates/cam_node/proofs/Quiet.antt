@@ -1,8 +1,7 @@
 -- After an event without a deed, for which no letter came, a node stands for the longer history as it is.
-use Rattle.std.proofs.Common.{◌≡◌, ℕ, true, false, List, [], ◌∷◌, map, refl, sym, ap, ◌∙◌, subst}
+use Rattle.std.proofs.Common.{◌≡◌, ℕ, true, List, [], ◌∷◌, map, sym, ap, ◌∙◌, subst}
 use Rattle.std.specs.Prelude.{filter}
 use Rattle.std.specs.List.{list_any}
-use Rattle.cam_names.specs.declared.name.Name.{Name}
 use Rattle.cam_names.specs.Dependencies.{AreCounts, has_pair}
 use Rattle.cam_type.specs.declared.ObjectDecl.{ObjectDecl}
 use Rattle.cam_know.specs.Knowledge.{Knowledge}
@@ -12,7 +11,7 @@ use Rattle.cam_event.specs.declared.Deed.{Deed}
 use Rattle.cam_event.specs.History.{after, count, informed, is_crash, is_secure_at}
 use Rattle.cam_event.specs.Sights.{kept_reply, yes_for}
 use Rattle.cam_event.specs.ByKnowledge.{Carried, deeds_of, site, site_after_all, learned_by}
-use Rattle.cam_event.specs.ByDeltas.{Received, as_carried, known}
+use Rattle.cam_event.specs.ByDeltas.{as_carried, known}
 use Rattle.cam_tranman.specs.Actions.{RunsActions}
 use Rattle.cam_tranman.specs.Events.{is_at_home}
 use Rattle.cam_tranman.proofs.Keeping as tranman
@@ -23,9 +22,7 @@ use Rattle.cam_server.specs.Calls as server
 use Rattle.cam_locks.specs.Site.{Site}
 use Rattle.cam_locks.specs.Names.{has_name}
 use Rattle.cam_delta.proofs.NotedPlaces.{nothing_is_noted_without_letter}
-use Rattle.cam_node.specs.Represents.{Node, Represents}
-use Rattle.cam_node.specs.Calls.{AreSame}
-use Rattle.cam_node.specs.Quiet.{IsIdle, IdleKeeps}
+use Rattle.cam_node.specs.Quiet.{IdleKeeps}
 use Rattle.cam_node.proofs.Nothing.{both_nothing}
 
 -- a site is served after an event without a deed

@@ -1,6 +1,5 @@
 -- Requests of actions at their home: the event is the definition's, and the node stands for the longer history.
-use Rattle.std.proofs.Common.{◌≡◌, ℕ, true, List, [], ◌∷◌, map, Option, Some, None, refl, sym, ap, ◌∙◌, subst}
-use Rattle.std.specs.Prelude.{filter}
+use Rattle.std.proofs.Common.{◌≡◌, ℕ, List, [], ◌∷◌, map, Some, None, refl, sym, ap, ◌∙◌, subst}
 use Rattle.cam_names.specs.declared.name.Name.{Name}
 use Rattle.cam_names.specs.Names.{home_node}
 use Rattle.cam_names.specs.Dependencies.{AreCounts, pairs_of}
@@ -26,7 +25,7 @@ use Rattle.cam_tranman.specs.Steps.{did_wanted}
 use Rattle.cam_tranman.proofs.Sights.{sight_is_answered}
 use Rattle.cam_tranman.proofs.RuleCalls.{wanted_is_rule}
 use Rattle.cam_node.specs.Represents.{Node, Represents}
-use Rattle.cam_node.specs.Halting.{IsThrough, IsStepThrough}
+use Rattle.cam_node.specs.Halting.{IsStepThrough}
 use Rattle.cam_node.specs.Requests.{wanted_by, requested_by}
 use Rattle.cam_node.specs.AtHome.{IsAtHome, DidAtHome}
 use Rattle.cam_node.proofs.Nothing.{both_nothing}

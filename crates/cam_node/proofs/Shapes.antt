@@ -1,5 +1,5 @@
 -- The deeds of each rule are none, one that neither decides nor informs, or a decision and the Inform of it.
-use Rattle.std.proofs.Common.{◌≡◌, ℕ, eqb, Bool, true, false, not, ◌||◌, if◌then◌else◌, List, [], ◌∷◌, find, Option, Some, None, refl}
+use Rattle.std.proofs.Common.{ℕ, eqb, Bool, true, false, not, ◌||◌, if◌then◌else◌, List, [], ◌∷◌, find, Option, Some, None, refl}
 use Rattle.std.specs.Prelude.{nat_lt, unwrap_or}
 use Rattle.std.specs.List.{list_any}
 use Rattle.cam_names.specs.declared.name.Name.{Name}
@@ -17,11 +17,11 @@ use Rattle.cam_event.specs.declared.Want.TheVariants as wants
 use Rattle.cam_event.specs.declared.Operation.{Operation}
 use Rattle.cam_event.specs.declared.Deed.TheVariants.{Create, Ask, Call, Perform, Bounce, Got, AskCommit, AskAbort, Secure, Crash}
 use Rattle.cam_event.specs.declared.Seen.TheVariants as seens
-use Rattle.cam_event.specs.History.{Addressed, created, call_of, secured_at, calls}
+use Rattle.cam_event.specs.History.{Addressed, created, call_of, secured_at}
 use Rattle.cam_event.specs.Live.{site_of}
-use Rattle.cam_event.specs.Inputs.{Input, Begins, Requests, Receives, Tells, Queries, Restarts, Mail}
+use Rattle.cam_event.specs.Inputs.{Begins, Requests, Receives, Tells, Queries, Restarts}
 use Rattle.cam_event.specs.Sights.{Sight, present, is_present, knows_outcome, is_preparing, votes, kept_reply}
-use Rattle.cam_event.specs.Rules.{Did, did, aborts, stopped_by, top_name, child_name, wanted, request, with_home, start_comes, lift_here, bounced, served, refused_or_served, again_or, is_conflict_here, on_object, call_comes, awaits, got_reply, gone_or, answer_comes, decides_child, commits_or_aborts, child_finishes, prepares, finish_comes, quit_comes, prepare_comes, all_yes, vote_comes, query_comes, arrives, rule}
+use Rattle.cam_event.specs.Rules.{Did, did, aborts, stopped_by, top_name, child_name, wanted, with_home, start_comes, lift_here, bounced, served, refused_or_served, again_or, is_conflict_here, on_object, call_comes, awaits, got_reply, gone_or, answer_comes, decides_child, commits_or_aborts, prepares, finish_comes, quit_comes, prepare_comes, all_yes, vote_comes, query_comes, arrives}
 use Rattle.cam_node.specs.Shapes.{IsShaped, Quiet, Single, Commits, Aborts, RulesAreShaped}
 
 abbrev Shaped : ℕ → Did → Type 0

@@ -1,6 +1,6 @@
 -- Events that concern a node's actions at home alone: they decide nothing, secure nothing, and the site has no part in them but that it is
 -- informed of what a letter brings.
-use Rattle.std.specs.Prelude.{◌≡◌, ℕ, Bool, true, false, List, [], ◌∷◌, length, filter, Some, None}
+use Rattle.std.specs.Prelude.{◌≡◌, ℕ, Bool, true, false, List, length, filter, Some, None}
 use Rattle.std.specs.List.{list_all}
 use Rattle.cam_names.specs.declared.name.Name.{Name}
 use Rattle.cam_names.specs.Dependencies.{has_pair}

@@ -1,5 +1,5 @@
 -- What a node knows and has noted, and how much of it stands while a step that has learnt something may still fail.
-use Rattle.std.specs.Prelude.{ℕ, ◌≤◌, List, length, take, Option, Some, None}
+use Rattle.std.specs.Prelude.{◌≤◌, length, take, Option, Some, None}
 use Rattle.cam_names.specs.Dependencies.{AreCounts}
 use Rattle.cam_know.specs.Knowledge.{Knowledge}
 use Rattle.cam_event.specs.Loads.{PlacesFields}

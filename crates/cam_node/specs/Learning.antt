@@ -1,18 +1,11 @@
 -- What one more event of a node does to what it knows and has noted, so that both go on being what its history says.
-use Rattle.std.specs.Prelude.{◌≡◌, ℕ, ◌+◌, ◌≤◌, Bool, true, false, ◌||◌, List, [], ◌∷◌, map, length, Option, Some, None, nat_le}
-use Rattle.std.specs.List.{list_any}
-use Rattle.cam_names.specs.declared.name.Name.{Name}
+use Rattle.std.specs.Prelude.{◌≡◌, ℕ, ◌≤◌, false, List, ◌∷◌, map, length, Option, Some, None}
 use Rattle.cam_type.specs.declared.ObjectDecl.{ObjectDecl}
-use Rattle.cam_know.specs.declared.Outcome.TheVariants.{Aborted, Committed}
-use Rattle.cam_know.specs.Knowledge.{Knowledge}
-use Rattle.cam_know.specs.Known.{both, with_outcome, with_count}
 use Rattle.cam_know.specs.Order.{told_in_order}
 use Rattle.cam_event.specs.declared.Deed.{Deed}
-use Rattle.cam_event.specs.declared.Deed.TheVariants.{Commit, Abort, Crash, Inform}
-use Rattle.cam_event.specs.History.{count}
-use Rattle.cam_event.specs.Inputs.{Input, Receives, Mail}
+use Rattle.cam_event.specs.Inputs.{Input, Mail}
 use Rattle.cam_event.specs.Rules.{rule}
-use Rattle.cam_event.specs.ByKnowledge.{Carried, deeds_of, held_sight, node_step, commit_counts, learned_by}
+use Rattle.cam_event.specs.ByKnowledge.{held_sight, node_step, learned_by}
 use Rattle.cam_event.specs.Loads.{Load, PlacesFields, noted_at, with_load, load_to}
 use Rattle.cam_event.specs.ByDeltas.{Received, as_carried, known, places_of, load_for}
 use Rattle.cam_commit.specs.Steps.{is_restarting}

@@ -1,5 +1,5 @@
 -- An event of a node without a deed, for which no letter came: what is kept stays.
-use Rattle.std.specs.Prelude.{◌≡◌, ℕ, false, List, [], ◌∷◌, None}
+use Rattle.std.specs.Prelude.{◌≡◌, false, List, [], ◌∷◌, None}
 use Rattle.cam_names.specs.declared.name.Name.{Name}
 use Rattle.cam_names.specs.Dependencies.{AreCounts}
 use Rattle.cam_type.specs.declared.ObjectDecl.{ObjectDecl}

@@ -1,6 +1,5 @@
 -- Both lists are the first Informs.
-use Rattle.std.proofs.Common.{List, map, reverse, false, true, ◌++◌, ap, ◌∙◌}
-use Rattle.cam_know.specs.declared.Outcome.{Outcome}
+use Rattle.std.proofs.Common.{List, map, reverse, false, ◌++◌, ap, ◌∙◌}
 use Rattle.cam_event.specs.declared.Deed.{Deed}
 use Rattle.cam_event.specs.declared.Deed.TheVariants.{Inform}
 use Rattle.cam_node.specs.Informs.{aborts_from, commits_from}

@@ -1,5 +1,5 @@
 -- A commit that is new is put in front, and one that is known is passed by.
-use Rattle.std.proofs.Common.{◌≡◌, ◌∷◌, List, ℕ, true, false, reverse, sym, subst, arith}
+use Rattle.std.proofs.Common.{◌≡◌, ◌∷◌, true, false, reverse, sym, subst, arith}
 use Rattle.cam_know.specs.declared.Outcome.{Outcome}
 use Rattle.cam_know.specs.Known.{knows_commit}
 use Rattle.cam_node.specs.Informs.{commits_from}

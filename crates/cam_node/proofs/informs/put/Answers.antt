@@ -1,7 +1,7 @@
 -- The name goes down past the names that are below it, to its place.
-use Rattle.std.proofs.Common.{◌≡◌, ℕ, List, ◌-◌, ◌<◌, length, get_or, reverse, refl, sym, ap, subst, false, ◌∙◌, arith}
+use Rattle.std.proofs.Common.{◌≡◌, ◌-◌, reverse, refl, sym, ap, ◌∙◌, arith}
 use Rattle.cam_names.specs.declared.name.Name.{Name}
-use Rattle.cam_names.specs.Names.{name_lt, name_eq}
+use Rattle.cam_names.specs.Names.{name_lt}
 use Rattle.cam_node.proofs.Falling.{put_on, put_found, put_in, put_last, same_at}
 use Rattle.cam_node.proofs.informs.put.Goals.{then-loop-place-test+else-lt, else-loop-place-test, else-place-gt0-via-then-place-gt0+else-eq, else-place-gt0-via-else-place-gt0}
 use Rattle.cam_node.proofs.informs.put.Goals as goal

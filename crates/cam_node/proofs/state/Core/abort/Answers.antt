@@ -1,10 +1,9 @@
 -- An action asks to abort.
-use Rattle.std.proofs.Common.{◌≡◌}
 use Rattle.cam_event.specs.declared.Want.TheVariants as wants
 use Rattle.cam_tranman.specs.Tables as tranman
 use Rattle.cam_node.specs.Calls.{answers, AreSame}
 use Rattle.cam_node.proofs.Idle.{same_of}
-use Rattle.cam_node.proofs.Steps.{failed, with_actions, free_then, is_stopped, aborts_on}
+use Rattle.cam_node.proofs.Steps.{failed, free_then, is_stopped, aborts_on}
 use Rattle.cam_node.proofs.state.Core.abort.Goals as goal
 
 pub returns-in_err-settle-clause-err : goal.returns-in_err-settle-clause-err

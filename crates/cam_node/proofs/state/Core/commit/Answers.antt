@@ -11,7 +11,7 @@ use Rattle.cam_event.specs.declared.Want.TheVariants as wants
 use Rattle.cam_tranman.specs.Tables as tranman
 use Rattle.cam_node.specs.Calls.{answers, AreSame}
 use Rattle.cam_node.proofs.Idle.{same_of}
-use Rattle.cam_node.proofs.Steps.{failed, with_actions, free_then, is_stopped, commits_on}
+use Rattle.cam_node.proofs.Steps.{failed, free_then, is_stopped, commits_on}
 use Rattle.cam_node.proofs.state.Core.commit.Goals as goal
 
 pub returns-in_err-settle-clause-err : goal.returns-in_err-settle-clause-err
