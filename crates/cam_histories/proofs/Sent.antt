@@ -4,6 +4,7 @@ use Rattle.std.specs.Prelude.{slice_get, option_map, option_and_then}
 use Rattle.std.proofs.lemmas.Bool.Decides.{eqb_tells}
 use Rattle.std.proofs.lemmas.Option.{same_Some}
 use Rattle.cam_names.specs.Names.{home_node}
+use Rattle.cam_names.proofs.Names.{name_eq_refl}
 use Rattle.cam_type.specs.declared.ObjectDecl.{ObjectDecl}
 use Rattle.cam_event.specs.declared.LetterId.{LetterId}
 use Rattle.cam_event.specs.declared.Event.{Event}
@@ -11,6 +12,7 @@ use Rattle.cam_event.specs.declared.Sent.{Sent}
 use Rattle.cam_event.specs.declared.Body.{Body}
 use Rattle.cam_event.specs.declared.Body.TheVariants as bodies
 use Rattle.cam_event.specs.declared.Deed.{Deed}
+use Rattle.cam_event.specs.declared.Deed.TheVariants.{Ask}
 use Rattle.cam_event.specs.Inputs.{Input, Mail, mail_of, event_at, letter_at, mail_got, node_of, got_of}
 use Rattle.cam_event.specs.Pasts.{in_past}
 use Rattle.cam_event.specs.Loads.{Load}
@@ -19,9 +21,11 @@ use Rattle.cam_event.specs.DeltasByPast.{past_of}
 use Rattle.cam_event.specs.Readings.{by_whole_letters}
 use Rattle.cam_event.specs.Runs.{MayCome}
 use Rattle.cam_event.specs.Sights.{Sight}
-use Rattle.cam_event.proofs.Members.{In}
+use Rattle.cam_event.proofs.Members.{In, in_any}
 use Rattle.cam_plain.specs.Legal.{Legal}
+use Rattle.cam_plain.specs.Lines.{is_ask_for}
 use Rattle.cam_plain.proofs.Called.{call_fits}
+use Rattle.cam_cut.proofs.BeginGood.{asked_for_child}
 use Rattle.cam_cut.proofs.LegalFacts.{in_call}
 use Rattle.cam_cut.proofs.Lists.{slice_in}
 use Rattle.cam_cut.proofs.NextEvent.{sight_of, did_of}
@@ -105,7 +109,8 @@ all_go_home objects =
 
 -- by what stands in the past of its event each letter is for its node
 is_for : (objects : List ObjectDecl) (L : List Deed) (from to : ℕ) (body : Body) → Legal objects L → BodyOk objects L from to body → GoesHome to body → IsForNode objects to body
-is_for objects L from to (bodies.Start b counts) legal ok home = sym ok.2
+is_for objects L from to (bodies.Start b counts) legal ok home =
+    (sym ok.2, asked_for_child objects L b legal (in_any (is_ask_for b) L (Ask ok.0 b) ok.1 (name_eq_refl b)))
 is_for objects L from to (bodies.Call a n x op c counts) legal ok home =
     (sym ok.1, call_fits objects L a n (record { object = x; op = op; count = c }) legal (in_call objects L a n x op c legal ok.0))
 is_for objects L from to (bodies.Answer a n reply) legal ok home = home
