@@ -1,8 +1,9 @@
 -- What a rule makes of a letter or request that may be put to a node is as it should be: what is
 -- created, called and crashed, and of its letters where they go and what they depend on.
-use Rattle.std.proofs.Common.{◌≡◌, ◌⊎◌, inl, inr, ℕ, ◌≤◌, eqb, Bool, true, false, not, if◌then◌else◌, List, [], map, filter, Option, Some, None, refl, sym, ap, ◌∙◌, subst, arith}
+use Rattle.std.proofs.Common.{◌≡◌, ◌⊎◌, inl, inr, ℕ, ◌+◌, ◌≤◌, eqb, Bool, true, false, not, if◌then◌else◌, List, [], ◌∷◌, ◌++◌, length, map, filter, Option, Some, None, refl, sym, ap, ◌∙◌, subst, arith}
+use Rattle.std.proofs.lemmas.List.{length-append}
 use Rattle.cam_names.specs.declared.name.Name.{Name}
-use Rattle.cam_names.specs.Names.{is_ancestor, home_node}
+use Rattle.cam_names.specs.Names.{is_ancestor, is_top, home_node}
 use Rattle.cam_names.specs.Part.{PartFields}
 use Rattle.cam_names.specs.Dependencies.{pairs_of}
 use Rattle.cam_type.specs.declared.ObjectDecl.{ObjectDecl}
@@ -50,6 +51,11 @@ pub record LetterFine (objects : List ObjectDecl) (g : Sight) (m : Sent) : Type 
 pub record Fine (objects : List ObjectDecl) (g : Sight) (mail : Option Mail) (input : Input) (d : Did) : Type 0 where
   pub deeds : (x : Deed) → In x d.deeds → DeedFine objects g mail input x
   pub sent : (m : Sent) → In m d.sent → LetterFine objects g m
+
+-- one part more than a name has makes no top action
+no_top : (a : Name) (p : PartFields) → is_ancestor a a ≡ true → is_top (a ++ p ∷ []) ≡ false
+no_top [] p named = cc
+no_top (q ∷ a) p named = let long : length (q ∷ a ++ p ∷ []) ≡ length (q ∷ a) + 1 = length-append (q ∷ a) (p ∷ []) in grind (arith, long)
 
 module _ (objects : List ObjectDecl) (g : Sight) (mail : Option Mail) (input : Input) where
   pub if_fine : (b : Bool) (d e : Did) → (b ≡ true → Fine objects g mail input d) → (b ≡ false → Fine objects g mail input e) → Fine objects g mail input (if b then d else e)
@@ -110,7 +116,7 @@ module _ (objects : List ObjectDecl) (g : Sight) (mail : Option Mail) (input : I
       let named : is_ancestor a a ≡ true = named_at a (omega (arith, low, home)) in
       both_fine (Ask a (child_name g a m)) (send m (bodies.Start (child_name g a m) (g.deps a))) tt
       (record {
-        for_node = ap (λ (x : PartFields). x.node) (last_more a _);
+        for_node = (ap (λ (x : PartFields). x.node) (last_more a _), no_top a _ named);
         counts = inr (a, refl);
         from = child_decider a (child_name g a m) named (child_more a _) ∙ home;
       })

@@ -103,7 +103,7 @@ sound_more words s own taken e low high step was = record { long = long; present
         by : (o : Option Mail) → Brings objects s o load → StartOf g o b → Covers K2 (home b)
         by None is st = absurd st
         by (Some m) is st =
-            let here : home_node b ≡ s = subst (λ (body : Body). IsForNode objects s body) st.1 is.for_node in
+            let here : home_node b ≡ s = (subst (λ (body : Body). IsForNode objects s body) st.1 is.for_node).0 in
             own_home b here (eqb-true (home_count b) (present g) st.2)
 
     gained : (a : Name) (p : ℕ × ℕ) (d : Deed) → IsInformAt s d ⊎ DeedFine objects g mail step.input d → In p (gained_by objects (deeds_of past) mail a d) → Covers K2 p
