@@ -36,12 +36,13 @@ One P [] = Unit {0}
 One P (d ∷ []) = P d
 One P (d ∷ e ∷ ds) = ⊥
 
-abbrev pub PreparesTop : Note → Type 0
-PreparesTop (notes.Preparing f) = is_top f ≡ true
-PreparesTop _ = Unit {0}
+-- what is prepared is a top action of the present count
+abbrev pub PreparesTop : Sight → Note → Type 0
+PreparesTop g (notes.Preparing f) = (is_top f ≡ true) × (is_present g f ≡ true)
+PreparesTop g _ = Unit {0}
 
 abbrev pub Fine : Sight → Option Mail → Did → Type 0
-Fine g mail d = One (Came g.node g.deeds mail) (did_at_home d) × PreparesTop d.note
+Fine g mail d = One (Came g.node g.deeds mail) (did_at_home d) × PreparesTop g d.note
 
 pub if_fine : (g : Sight) (mail : Option Mail) (b : Bool) (x y : Did) → (b ≡ true → Fine g mail x) → (b ≡ false → Fine g mail y) → Fine g mail (if b then x else y)
 if_fine g mail true x y h k = h refl

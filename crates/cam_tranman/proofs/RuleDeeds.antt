@@ -91,16 +91,17 @@ present_named : (g : Sight) (a : Name) → is_present g a ≡ true → 1 ≤ len
 present_named g [] now = let e = eqb-true 0 (present g) now in let f = counted g.deeds g.node in absurd (omega (arith, e, f))
 present_named g (p ∷ a) now = omega arith
 
-prepares_fine : (g : Sight) (mail : Option Mail) (a : Name) (reason : Option Reason) → is_top a ≡ true → Fine g mail (prepares g a reason)
-prepares_fine g mail a None top = (tt, top)
-prepares_fine g mail a (Some reason) top = (tt, tt)
+prepares_fine : (g : Sight) (mail : Option Mail) (a : Name) (reason : Option Reason) → is_top a ≡ true → is_present g a ≡ true → Fine g mail (prepares g a reason)
+prepares_fine g mail a None top here = (tt, (top, here))
+prepares_fine g mail a (Some reason) top here = (tt, tt)
 
 top_fine : (g : Sight) (mail : Option Mail) (a : Name) → parent a ≡ None → Fine g mail (top_finishes g a)
 top_fine g mail a none =
     if_fine g mail (not (is_present g a) || knows_outcome g a || is_preparing g a) _ _ (λ e. (tt, tt))
     (λ e. let one_part = or_parts (not (is_present g a) || knows_outcome g a) (is_preparing g a) e in
     let two = or_parts (not (is_present g a)) (knows_outcome g a) one_part.0 in
-    prepares_fine g mail a (g.orphan a (pairs_of (g.deps a))) (named_top a (present_named g a (not-false (is_present g a) two.0)) none))
+    let here = not-false (is_present g a) two.0 in
+    prepares_fine g mail a (g.orphan a (pairs_of (g.deps a))) (named_top a (present_named g a here) none) here)
 
 finish_fine : (g : Sight) (mail : Option Mail) (b : Name) (o : Option Name) (counts : List ℕ) → parent b ≡ o → decider_of b o ≡ g.node
     → (MailHasCounts mail → length (finish_counts mail) ≡ 8) → Fine g mail (finish_comes g b o counts)

@@ -1,30 +1,28 @@
 -- Each step of the rules: its deeds at home may come, and the history stays in order.
-use Rattle.std.proofs.Common.{◌≡◌, ℕ, Bool, true, false, not, ◌&&◌, ◌||◌, if◌then◌else◌, List, [], ◌∷◌, ◌++◌, map, filter, length, Option, Some, None, refl, sym, ap, subst, ◌∙◌}
-use Rattle.std.specs.Prelude.{nat_lt, nat_le, option_map, is_some}
+use Rattle.std.proofs.Common.{◌≡◌, ℕ, Bool, true, false, ◌&&◌, if◌then◌else◌, List, [], ◌∷◌, ◌++◌, map, filter, Option, Some, None, refl, sym, ap, subst, ◌∙◌}
+use Rattle.std.specs.Prelude.{option_map, is_some}
 use Rattle.std.specs.List.{list_any}
-use Rattle.std.proofs.lemmas.Bool.{true≢false, or_parts, not-false, ltb-false}
+use Rattle.std.proofs.lemmas.Bool.{true≢false}
 use Rattle.std.proofs.lemmas.List.Elements.{filter-append}
+use borrow.Author.Tests.{eqb-true}
 use Rattle.cam_names.specs.declared.name.Name.{Name}
-use Rattle.cam_names.specs.Names.{is_top, home_node, home_count}
+use Rattle.cam_names.specs.Names.{is_top, home_count}
 use Rattle.cam_names.proofs.Names.{name_eq_same}
 use Rattle.cam_type.specs.declared.ObjectDecl.{ObjectDecl}
 use Rattle.cam_know.specs.Knowledge.{Knowledge}
 use Rattle.cam_know.specs.Known.{nothing}
 use Rattle.cam_event.specs.declared.Note.{Note}
 use Rattle.cam_event.specs.declared.Note.TheVariants as notes
-use Rattle.cam_event.specs.declared.LineRefusal.TheVariants as refusals
-use Rattle.cam_event.specs.declared.Want.{Want}
-use Rattle.cam_event.specs.declared.Want.TheVariants as wants
 use Rattle.cam_event.specs.declared.Deed.{Deed}
-use Rattle.cam_event.specs.History.{after, created, ended, is_open_child, is_crash}
+use Rattle.cam_event.specs.History.{after, is_crash}
 use Rattle.cam_event.specs.Inputs.{Input, Begins, Requests, Receives, Tells, Queries, Restarts, Mail}
 use Rattle.cam_event.specs.Sights.{Sight, present, votes, yes_for, is_preparing, is_preparing_note}
-use Rattle.cam_event.specs.Refusals.{first_of_two, where_so, has_ended, has_call, has_child, is_not_open, refusal}
 use Rattle.cam_event.specs.Rules.{rule}
 use Rattle.cam_event.specs.Taken.{is_entered}
 use Rattle.cam_event.specs.ByKnowledge.{Carried, entry_of, deeds_of, start_counts, held_sight, held_informs}
 use Rattle.cam_tranman.specs.Events.{is_at_home}
-use Rattle.cam_tranman.specs.Orderly.{IsOrderly, MailIsForHome, MayBeAsked, stepped, taken, NoneIsOrderly, StepsStayOrderly, TakenStaysOrderly}
+use Rattle.cam_event.proofs.Agree.{count_after_other}
+use Rattle.cam_tranman.specs.Orderly.{present_count, IsTopOf, IsOrderly, MailIsForHome, MayBeAsked, stepped, taken, NoneIsOrderly, StepsStayOrderly, TakenStaysOrderly}
 use Rattle.cam_tranman.specs.Keeping.{home_deeds, RulesMakeThem}
 use Rattle.cam_tranman.proofs.Asks.{asks_run}
 use Rattle.cam_tranman.proofs.Sights.{held_away, same_sight}
@@ -81,9 +79,9 @@ one_before s L ds mail (d ∷ e ∷ hs) away came = absurd came
 
 pub home_came : (objects : List ObjectDecl) (s : ℕ) (before : List Carried) (input : Input) (mail : Option Mail) (brought : Knowledge) → IsOrderly s before
     → MayBeAsked s (held_sight objects s before nothing) input mail
-    → One (Came s (deeds_of before) mail) (home_deeds objects s before input mail brought) × PreparesTop (rule objects (held_sight objects s before brought) mail input).note
+    → One (Came s (deeds_of before) mail) (home_deeds objects s before input mail brought) × PreparesTop (held_sight objects s before brought) (rule objects (held_sight objects s before brought) mail input).note
 home_came objects s before input mail brought ord may =
-    let fine = rule_fine objects (held_sight objects s before brought) mail input ord.prepared (input_fine objects s before input mail brought may) in (
+    let fine = rule_fine objects (held_sight objects s before brought) mail input (λ f some. (ord.prepared f some).0) (input_fine objects s before input mail brought may) in (
       one_before s (deeds_of before) (held_informs objects s before brought) mail (home_deeds objects s before input mail brought)
           (held_away objects s before brought) fine.0,
       fine.1,
@@ -98,21 +96,24 @@ ordered_after s L mail (d ∷ e ∷ hs) came ord = absurd came
 in_order : (s : ℕ) (before : List Carried) → IsOrderly s before → InOrder s (deeds_of before)
 in_order s before ord = record { reached = ord.reached; numbered = ord.numbered; asked = ord.asked }
 
--- and what is prepared stays a top action.
-note_top : (f : Name) (note : Note) → PreparesTop note → is_preparing_note f note ≡ true → is_top f ≡ true
-note_top f (notes.Preparing g) top is = ap is_top (name_eq_same f g is) ∙ top
-note_top f _ top is = absurd (true≢false (sym is))
+-- and what is prepared stays a top action of the present count.
+note_top : (g : Sight) (f : Name) (note : Note) → PreparesTop g note → is_preparing_note f note ≡ true → IsTopOf (present g) f
+note_top g f (notes.Preparing h) top is =
+    subst (λ (a : Name). IsTopOf (present g) a) (sym (name_eq_same f h is)) (top.0, eqb-true (home_count h) (present g) top.1)
+note_top g f _ top is = absurd (true≢false (sym is))
 
-prepared_then : (f : Name) (crash note : Bool) (v : Option (List (ℕ × ℕ))) (more : List (ℕ × ℕ)) → (note ≡ true → is_top f ≡ true) → (is_some v ≡ true → is_top f ≡ true)
-    → is_some (if crash then None else if note then Some [] else option_map (λ earlier. more ++ earlier) v) ≡ true → is_top f ≡ true
-prepared_then f true note v more new before is = absurd (true≢false (sym is))
-prepared_then f false true v more new before is = new refl
-prepared_then f false false None more new before is = absurd (true≢false (sym is))
-prepared_then f false false (Some vs) more new before is = before refl
+prepared_then : (f : Name) (crash note : Bool) (v : Option (List (ℕ × ℕ))) (more : List (ℕ × ℕ)) (old new : ℕ) → (crash ≡ false → old ≡ new)
+    → (note ≡ true → IsTopOf old f) → (is_some v ≡ true → IsTopOf old f)
+    → is_some (if crash then None else if note then Some [] else option_map (λ earlier. more ++ earlier) v) ≡ true → IsTopOf new f
+prepared_then f true note v more old new same begun before is = absurd (true≢false (sym is))
+prepared_then f false true v more old new same begun before is = subst (λ (c : ℕ). IsTopOf c f) (same refl) (begun refl)
+prepared_then f false false None more old new same begun before is = absurd (true≢false (sym is))
+prepared_then f false false (Some vs) more old new same begun before is = subst (λ (c : ℕ). IsTopOf c f) (same refl) (before refl)
 
-orderly_after : (s : ℕ) (before : List Carried) (c : Carried) → IsOrderly s before → PreparesTop c.event.note
+orderly_after : (s : ℕ) (before : List Carried) (c : Carried) → IsOrderly s before → c.event.node ≡ s
+    → ((f : Name) → is_preparing_note f c.event.note ≡ true → IsTopOf (present_count s before) f)
     → InOrder s (after (deeds_of before) (filter is_at_home c.event.deeds)) → IsOrderly s (c ∷ before)
-orderly_after s before c ord top deeds =
+orderly_after s before c ord at top deeds =
     let is = in_order_home s (deeds_of before) c.event.deeds deeds in
     record {
       reached = is.reached;
@@ -120,8 +121,11 @@ orderly_after s before c ord top deeds =
       asked = is.asked;
       prepared = λ f.
           prepared_then f (list_any (is_crash c.event.node) c.event.deeds) (is_preparing_note f c.event.note) (votes (map entry_of before) f) (yes_for f c.mail)
-          (note_top f c.event.note top) (ord.prepared f);
+          (present_count s before) (present_count s (c ∷ before)) same (top f) (ord.prepared f);
     }
+  where
+    same : list_any (is_crash c.event.node) c.event.deeds ≡ false → present_count s before ≡ present_count s (c ∷ before)
+    same none = sym (count_after_other c.event.deeds (deeds_of before) s (ap (λ (n : ℕ). list_any (is_crash n) c.event.deeds) (sym at) ∙ none))
 
 pub none_is_orderly : NoneIsOrderly
 none_is_orderly s =
@@ -130,7 +134,10 @@ none_is_orderly s =
 pub steps_stay_orderly : StepsStayOrderly
 steps_stay_orderly objects s before input mail brought ord may =
     let came = home_came objects s before input mail brought ord may in
-    orderly_after s before (stepped objects s before input mail brought) ord came.1
+    let g = held_sight objects s before brought in
+    let now : present g ≡ present_count s before = (same_sight objects s before brought).count_is s in
+    orderly_after s before (stepped objects s before input mail brought) ord refl
+    (λ f is. subst (λ (c : ℕ). IsTopOf c f) now (note_top g f (rule objects g mail input).note came.1 is))
     (subst (λ (hs : List Deed). InOrder s (after (deeds_of before) hs)) (sym (rules_make_them objects s before input mail brought))
     (ordered_after s (deeds_of before) mail (home_deeds objects s before input mail brought) came.0 (in_order s before ord)))
 
@@ -167,7 +174,7 @@ taken_stays_orderly objects s before input mail brought ord may =
     let came = home_came objects s before input mail brought ord may in
     let c = stepped objects s before input mail brought in
     let is = filter_swap is_at_home is_entered c.event.deeds ∙ ap (filter is_entered) (rules_make_them objects s before input mail brought) in
-    orderly_after s before (taken c) ord tt
+    orderly_after s before (taken c) ord refl (λ f is. absurd (true≢false (sym is)))
     (subst (λ (hs : List Deed). InOrder s (after (deeds_of before) hs)) (sym is)
     (ordered_after s (deeds_of before) mail (filter is_entered (home_deeds objects s before input mail brought))
     (fewer (Came s (deeds_of before) mail) (home_deeds objects s before input mail brought) came.0) (in_order s before ord)))

@@ -48,6 +48,10 @@ present_count s before = history.count (deeds_of before) s
 abbrev pub present_tops : ℕ → List Carried → ℕ
 present_tops s before = history.tops (deeds_of before) s (present_count s before)
 
+-- a top action of this count
+abbrev pub IsTopOf : ℕ → Name → Type 0
+IsTopOf c f = (is_top f ≡ true) × (home_count f ≡ c)
+
 pub record IsOrderly (s : ℕ) (before : List Carried) : Type 0 where
   -- no deed is of an action of a later count
   pub reached : list_any (is_of_later s (present_count s before)) (deeds_of before) ≡ false
@@ -55,8 +59,8 @@ pub record IsOrderly (s : ℕ) (before : List Carried) : Type 0 where
   pub numbered : list_any (is_numbered_above s (present_count s before) (present_tops s before)) (deeds_of before) ≡ false
   -- who asked for a child was created
   pub asked : (a : Name) → list_any (is_ask_of a) (deeds_of before) ≡ true → history.created (deeds_of before) a ≡ true
-  -- what is being prepared is a top action
-  pub prepared : (f : Name) → is_some (votes (map entry_of before) f) ≡ true → is_top f ≡ true
+  -- what is being prepared is a top action of the present count
+  pub prepared : (f : Name) → is_some (votes (map entry_of before) f) ≡ true → IsTopOf (present_count s before) f
 
 -- What a letter says is of this node's actions: a start of a child at its home, an answer to an action at its home, a finish or a quit at the
 -- node that decides.

@@ -68,7 +68,7 @@ pub fn calls_are_rules()
 {}
 
 /// A node's history is in order: it has nothing of actions of later counts, its top actions are numbered in turn, who asked for a child was
-/// created, and what is prepared is a top action. Each step keeps it so, and what was taken of a step at a halt.
+/// created, and what is prepared is a top action of the present count. Each step keeps it so, and what was taken of a step at a halt.
 pub fn histories_are_orderly()
     ensures none { NoneIsOrderly }
     ensures steps { StepsStayOrderly }
