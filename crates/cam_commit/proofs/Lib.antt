@@ -7,3 +7,4 @@ pub mod Recovering
 pub mod RuleCalls
 pub mod RuleKinds
 pub mod StepKinds
+pub mod Sights

@@ -147,6 +147,10 @@ informs_plain s aborts commits =
     ∙ ap (λ b. b || list_any is_marking (map (λ a. Inform s a true) (sorted_names commits))) (map_plain s false (sorted_names aborts))
     ∙ map_plain s true (sorted_names commits)
 
+pub informs_secure_none : (f : Name) (s : ℕ) (aborts commits : List Name) → list_any (is_secure_at f s) (informs s aborts commits) ≡ false
+informs_secure_none f s aborts commits =
+    none_marked (is_secure_at f s) (λ x h. (unmarked f s x h).1) (informs s aborts commits) (informs_plain s aborts commits)
+
 -- behind deeds that mark nothing the same is asked
 behind : (q : Deed → Bool) (first ds : List Deed) → list_any q first ≡ false → list_any q (first ++ ds) ≡ list_any q ds
 behind q first ds none = list_any-append q first ds ∙ ap (λ b. b || list_any q ds) none

@@ -1,10 +1,10 @@
--- The calls are the rules: what a node does with a prepare, a vote or a query follows from their answers; and which kind each event of a
--- node is.
-use Rattle.std.specs.Prelude.{◌≡◌, ℕ, Bool, true, false, List, [], Option, Some, None, unwrap_or}
+-- The calls are the rules: what a node does with a finish or a quit of a top action, with a prepare, a vote or a query follows from what the
+-- families answer; and which kind each event of a node is.
+use Rattle.std.specs.Prelude.{◌≡◌, ℕ, ℤ, Bool, true, false, not, ◌||◌, if◌then◌else◌, List, [], Option, Some, None, unwrap_or}
 use Rattle.std.specs.List.{list_any}
 use Rattle.cam_names.specs.declared.name.Name.{Name}
-use Rattle.cam_names.specs.Names.{name_eq}
-use Rattle.cam_names.specs.Dependencies.{has_pair}
+use Rattle.cam_names.specs.Names.{name_eq, is_top}
+use Rattle.cam_names.specs.Dependencies.{pairs_of, has_pair}
 use Rattle.cam_type.specs.declared.ObjectDecl.{ObjectDecl}
 use Rattle.cam_know.specs.Knowledge.{Knowledge}
 use Rattle.cam_event.specs.declared.Body.{Body}
@@ -14,17 +14,56 @@ use Rattle.cam_event.specs.declared.Note.TheVariants as notes
 use Rattle.cam_event.specs.History.{secured_at, is_secure_at}
 use Rattle.cam_event.specs.Inputs.{Input, Receives, Restarts, Mail}
 use Rattle.cam_event.specs.Sights.{Sight, votes, present, is_present, is_preparing, is_preparing_note, knows_outcome}
-use Rattle.cam_event.specs.Rules.{Did, did, one, send, answers, nothing_but, commits, aborts, news, vote, prepare_comes, vote_comes, query_comes}
-use Rattle.cam_event.specs.ByKnowledge.{Carried, node_step}
+use Rattle.cam_event.specs.Rules.{Did, did, one, send, answers, nothing_but, commits, aborts, news, prepares, vote, prepare_comes, vote_comes, query_comes, arrives}
+use Rattle.cam_event.specs.ByKnowledge.{Carried, held_sight, node_step}
 use Rattle.cam_commit.specs.declared.Voted.{Voted}
 use Rattle.cam_commit.specs.declared.Voted.TheVariants as voted
 use Rattle.cam_commit.specs.declared.Asked.{Asked}
 use Rattle.cam_commit.specs.declared.Asked.TheVariants as asked
 use Rattle.cam_commit.specs.declared.Queried.{Queried}
 use Rattle.cam_commit.specs.declared.Queried.TheVariants as queried
-use Rattle.cam_commit.specs.Families.{Families}
+use Rattle.cam_commit.specs.Families.{Families, CommitsFamilies}
 use Rattle.cam_commit.specs.Calls.{yes, voted_by, asked_by, queried_by}
 use Rattle.cam_commit.specs.Events.{is_restart, is_elsewhere}
+
+-- The families answer as what the node goes by, of one family: whether it is preparing, its votes, and whether it is secured here;
+pub record AnswersOf (g : Sight) (f : Name) (families : Families) : Type 0 where
+  pub preparing : families.is_preparing f ≡ is_preparing g f
+  pub voted : (m c : ℕ) → families.has_vote f m c ≡ has_pair (unwrap_or (votes g.events f) []) m c
+  pub secured : families.is_secured f ≡ secured_at g.deeds f g.node
+
+-- and of each family whose outcome it does not know.
+abbrev pub AnswersSight : Sight → Families → Type 0
+AnswersSight g families = (f : Name) → knows_outcome g f ≡ false → AnswersOf g f families
+
+-- Families that answer as a node's history does answer as what the node goes by, whatever a letter brings.
+abbrev pub SightIsAnswered : Type 0
+SightIsAnswered =
+    (objects : List ObjectDecl) (s : ℕ) (before : List Carried) (brought : Knowledge) (families : Families)
+    → CommitsFamilies objects s before families → AnswersSight (held_sight objects s before brought) families
+
+-- A home hears of a family late where it is of another count than the present one, or its outcome is known.
+abbrev pub is_late : Sight → Name → Bool
+is_late g f = not (is_present g f) || knows_outcome g f
+
+-- A top action finishes: it is prepared at each node on which it depends, or is aborted for an orphan. Once it is preparing that is late.
+abbrev pub did_finish : Sight → Families → Name → Did
+did_finish g families f =
+    if is_late g f || families.is_preparing f then nothing_but notes.Late else prepares g f (g.orphan f (pairs_of (g.deps f)))
+
+abbrev pub TopFinishIsRule : Type 0
+TopFinishIsRule =
+    (objects : List ObjectDecl) (g : Sight) (families : Families) (from : ℕ) (f : Name) (v : ℤ) (counts : List ℕ)
+    → is_top f ≡ true → AnswersSight g families → arrives objects g from (bodies.Finish f v counts) ≡ did_finish g families f
+
+-- A top action quits: it is aborted, also where it is preparing.
+abbrev pub did_quit : Sight → Name → Did
+did_quit g f = if is_late g f then nothing_but notes.Late else did (aborts g f) (news g f)
+
+abbrev pub TopQuitIsRule : Type 0
+TopQuitIsRule =
+    (objects : List ObjectDecl) (g : Sight) (from : ℕ) (f : Name)
+    → is_top f ≡ true → arrives objects g from (bodies.Quit f) ≡ did_quit g f
 
 -- what a site does by its answer to a prepare
 abbrev pub did_asked : Sight → Name → ℕ → Asked → Did
@@ -35,8 +74,8 @@ did_asked g f c asked.Secure = did (one (Secure f g.node c)) (vote f c true)
 
 abbrev pub AskedIsRule : Type 0
 AskedIsRule =
-    (g : Sight) (f : Name) (c : ℕ)
-    → prepare_comes g f c ≡ did_asked g f c (asked_by (knows_outcome g f) (secured_at g.deeds f g.node) c (present g))
+    (g : Sight) (families : Families) (f : Name) (c : ℕ) → AnswersSight g families
+    → prepare_comes g f c ≡ did_asked g f c (asked_by (knows_outcome g f) (families.is_secured f) c (present g))
 
 -- what a home does by what a vote makes of the family
 abbrev pub did_voted : Sight → Name → Voted → Did
@@ -45,16 +84,15 @@ did_voted g f voted.No = did (aborts g f) (news g f)
 did_voted g f voted.All = did (commits g f) (news g f)
 did_voted g f voted.Some = nothing_but notes.Voted
 
--- the families answer as what the node goes by: which of them is preparing, and its votes
-pub record AnswersSight (g : Sight) (f : Name) (families : Families) : Type 0 where
-  pub preparing : families.is_preparing f ≡ is_preparing g f
-  pub voted : (m c : ℕ) → families.has_vote f m c ≡ has_pair (unwrap_or (votes g.events f) []) m c
+-- The families are asked of a vote only where it is not late.
+abbrev pub did_vote : Sight → Families → ℕ → Name → ℕ → Bool → Did
+did_vote g families from f c agrees =
+    if is_late g f then nothing_but notes.Late else did_voted g f (voted_by families (yes f from c) agrees (g.deps f))
 
--- A vote for a family of the present count whose outcome is not known.
 abbrev pub VotedIsRule : Type 0
 VotedIsRule =
-    (g : Sight) (families : Families) (from : ℕ) (f : Name) (c : ℕ) (agrees : Bool) → is_present g f ≡ true → knows_outcome g f ≡ false
-    → AnswersSight g f families → vote_comes g from f c agrees ≡ did_voted g f (voted_by families (yes f from c) agrees (g.deps f))
+    (g : Sight) (families : Families) (from : ℕ) (f : Name) (c : ℕ) (agrees : Bool) → AnswersSight g families
+    → vote_comes g from f c agrees ≡ did_vote g families from f c agrees
 
 -- what a home does by its answer to a query
 abbrev pub did_queried : Sight → ℕ → Name → Queried → Did

@@ -13,7 +13,7 @@ ghost use Rattle.std.specs.List.{list_all};
 ghost use Rattle.cam_names.specs.Dependencies.{pairs_of};
 ghost use Rattle.cam_commit.specs.Calls.{yes, answers, AreNone, AreSame, IsPrepared, IsSecured, IsVoted, voted_by, asked_of, queried_of};
 ghost use Rattle.cam_commit.specs.Events.{KeepsOverEvent, QuietKeeps, PrepareKeeps, VoteKeeps, SecureKeeps, AreRecovered, RecoversFamilies};
-ghost use Rattle.cam_commit.specs.Steps.{AskedIsRule, VotedIsRule, QueriedIsRule, StepsAreOfKind};
+ghost use Rattle.cam_commit.specs.Steps.{SightIsAnswered, TopFinishIsRule, TopQuitIsRule, AskedIsRule, VotedIsRule, QueriedIsRule, StepsAreOfKind};
 
 use cam_base::NoMemory;
 use cam_know::Know;
@@ -231,8 +231,12 @@ pub fn after_restart()
     ensures { RecoversFamilies }
 {}
 
-/// What a node does with a prepare, a vote or a query is what the call answers.
+/// Families that answer as a node's history does answer as what the node goes by, whatever a letter brings; and then what the node does with
+/// a finish or a quit of a top action, with a prepare, a vote or a query is what they answer.
 pub fn calls_are_rules()
+    ensures sight { SightIsAnswered }
+    ensures finish { TopFinishIsRule }
+    ensures quit { TopQuitIsRule }
     ensures asked { AskedIsRule }
     ensures voted { VotedIsRule }
     ensures queried { QueriedIsRule }
