@@ -58,7 +58,11 @@ pub record IsSecured (f : Name) (old new : Families) : Type 0 where
   pub votes : (g : Name) (m c : ℕ) → new.has_vote g m c ≡ old.has_vote g m c
   pub secured : (g : Name) → new.is_secured g ≡ (name_eq f g || old.is_secured g)
 
--- Each node on which the family depends has voted yes at its count, this vote yes with them.
+-- Each node on which the family depends has voted yes at its count.
+abbrev pub has_each_vote : Families → Name → List ℕ → Bool
+has_each_vote families f counts = list_all (λ p. families.has_vote f p.0 p.1) (pairs_of counts)
+
+-- The same, this vote yes with them.
 abbrev pub is_last : Families → Yes → List ℕ → Bool
 is_last old v counts = list_all (λ p. yes_eq v (yes v.family p.0 p.1) || old.has_vote v.family p.0 p.1) (pairs_of counts)
 
@@ -81,6 +85,13 @@ pub record IsVoted (v : Yes) (agrees : Bool) (result : Voted) (old new : Familie
   pub votes :
       (g : Name) (m c : ℕ) → new.has_vote g m c ≡ ((old.is_preparing v.family && (agrees && yes_eq v (yes g m c))) || old.has_vote g m c)
   pub secured : (g : Name) → new.is_secured g ≡ old.is_secured g
+
+-- both by the tables themselves
+abbrev pub voted_in : Tables → Yes → Bool → List ℕ → Voted
+voted_in old v agrees counts = voted_by (answers old) v agrees counts
+
+abbrev pub IsVotedIn : Yes → Bool → Voted → Tables → Tables → Type 0
+IsVotedIn v agrees result old new = IsVoted v agrees result (answers old) (answers new)
 
 abbrev pub is_decided : Knowledge → Name → Bool
 is_decided k f = knows_commit k f || knows_abort k f

@@ -5,6 +5,7 @@ use Rattle.cam_names.specs.declared.name.Name.{Name}
 use Rattle.cam_names.specs.Names.{name_eq}
 use Rattle.cam_names.specs.Dependencies.{has_pair}
 use Rattle.cam_type.specs.declared.ObjectDecl.{ObjectDecl}
+use Rattle.cam_type.specs.declared.Held.{Held}
 use Rattle.cam_event.specs.declared.Body.TheVariants as bodies
 use Rattle.cam_event.specs.declared.Deed.{Deed}
 use Rattle.cam_event.specs.declared.Deed.TheVariants.{Secure}
@@ -102,6 +103,10 @@ SecureKeeps =
     (objects : List ObjectDecl) (s : ℕ) (before : List Carried) (c : Carried) (f : Name) (old new : Families)
     → IsSecuring objects s before f c old → IsSecured f old new
     → CommitsFamilies objects s before old → CommitsFamilies objects s (c ∷ before) new
+
+-- the families that a log holds as secured
+abbrev pub families_of : List Held → List Name
+families_of held = map (λ h. h.family) held
 
 -- The families that a log recovered: none is preparing, and just these are secured.
 pub record AreRecovered (secured : List Name) (new : Families) : Type 0 where

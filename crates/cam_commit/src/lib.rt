@@ -8,11 +8,9 @@
 //! restart too (`after_restart`). It stands on `cam_event` (histories and rules) and `cam_know` (knowledge).
 #![tactic(auto)]
 
-ghost use Rattle.std.specs.Prelude.{◌≡◌, ◌≤◌, false, map, IfOk, OnOk};
-ghost use Rattle.std.specs.List.{list_all};
-ghost use Rattle.cam_names.specs.Dependencies.{pairs_of};
-ghost use Rattle.cam_commit.specs.Calls.{yes, answers, AreNone, AreSame, IsPrepared, IsSecured, IsVoted, voted_by, asked_of, queried_of};
-ghost use Rattle.cam_commit.specs.Events.{KeepsOverEvent, QuietKeeps, PrepareKeeps, VoteKeeps, SecureKeeps, AreRecovered, RecoversFamilies};
+ghost use Rattle.std.specs.Prelude.{◌≡◌, ◌≤◌, false, map, IfOk, IsOk, OnOk};
+ghost use Rattle.cam_commit.specs.Calls.{yes, answers, has_each_vote, AreNone, AreSame, IsPrepared, IsSecured, IsVotedIn, voted_in, asked_of, queried_of};
+ghost use Rattle.cam_commit.specs.Events.{KeepsOverEvent, QuietKeeps, PrepareKeeps, VoteKeeps, SecureKeeps, families_of, AreRecovered, RecoversFamilies};
 ghost use Rattle.cam_commit.specs.Steps.{SightIsAnswered, TopFinishIsRule, TopQuitIsRule, AskedIsRule, VotedIsRule, QueriedIsRule, StepsAreOfKind};
 
 use cam_base::NoMemory;
@@ -89,7 +87,7 @@ impl Families {
 
     /// What a log recovered: these families are secured, and none is preparing.
     pub fn of(alloc: Global, held: &[Held]) -> Result<Families, NoMemory>
-        ensures { IfOk result (λ families. AreRecovered (map (λ h. h.family) held.now) (answers families)) }
+        ensures { IfOk result (λ families. AreRecovered (families_of held.now) (answers families)) }
     {
         let mut families = Families::new(alloc);
         for one in held {
@@ -102,6 +100,7 @@ impl Families {
     pub fn reserve(&mut self) -> Result<(), NoMemory>
         ensures same { AreSame (answers self.old) (answers self.new) }
         ensures ok { OnOk result (1 ≤ (answers self.new).room) }
+        ensures succeeds { 1 ≤ (answers self.old).room → IsOk result }
     {
         self.preparing.reserve(1)?;
         self.votes.reserve(1)?;
@@ -136,8 +135,8 @@ impl Families {
     /// A node at a count votes for a family, which depends on `deps`. There is room, so it takes no memory.
     pub fn vote(&mut self, family: &Name, node: u8, count: u32, agrees: bool, deps: &Deps) -> Voted
         requires { 1 ≤ (answers self.old).room }
-        ensures value { result ≡ voted_by (answers self.old) (yes family.now node count) agrees deps.now }
-        ensures new { IsVoted (yes family.now node count) agrees result (answers self.old) (answers self.new) }
+        ensures value { result ≡ voted_in self.old (yes family.now node count) agrees deps.now }
+        ensures new { IsVotedIn (yes family.now node count) agrees result self.old self.new }
     {
         if !self.is_preparing(family) {
             return Voted::Late;
@@ -160,12 +159,11 @@ impl Families {
 
     /// Each node on which the family depends has voted yes at its count.
     fn have_all(&self, family: &Name, deps: &Deps) -> bool
-        ensures { result ≡ list_all (λ p. (answers self.now).has_vote family.now p.0 p.1) (pairs_of deps.now) }
+        ensures { result ≡ has_each_vote (answers self.now) family.now deps.now }
     {
-        // Only for the proof: these are eight.
-        let _counts = deps.counts();
+        let counts = deps.counts();
         for node in 1..9 {
-            let count = deps.count_of(node);
+            let count = counts[node as usize - 1];
             if count != 0 && !self.has_yes(family, node, count) {
                 return false;
             }
