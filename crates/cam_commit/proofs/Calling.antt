@@ -68,7 +68,7 @@ or_false true = refl
 or_false false = refl
 
 -- the pairs of a vote, for its own family and for others
-vote_pair : (f g : Name) (from n m k : ℕ) (agrees here : Bool) → name_eq f g ≡ here
+pub vote_pair : (f g : Name) (from n m k : ℕ) (agrees here : Bool) → name_eq f g ≡ here
     → has_pair (yes_in g from (bodies.Vote f n agrees)) m k ≡ (agrees && (here && (eqb from m && eqb n k)))
 vote_pair f g from n m k false here is = refl
 vote_pair f g from n m k true here is = by (name_eq g f) here (name_eq_sym g f ∙ is)

@@ -1,5 +1,5 @@
 -- What a node holds only grows, and what it decides it holds.
-use Rattle.std.proofs.Common.{inl, inr, ◌≡◌, ◌+◌, Bool, true, false, ◌||◌, List, [], ◌∷◌, Option, sym, ap, ◌∙◌}
+use Rattle.std.proofs.Common.{inl, inr, ◌≡◌, ◌+◌, Bool, true, false, ◌||◌, List, [], ◌∷◌, Option, sym, ap, ap₂, ◌∙◌}
 use Rattle.std.specs.List.{list_any}
 use Rattle.std.proofs.lemmas.Bool.{cases_Bool, true≢false, or_left, or_right}
 use Rattle.cam_names.specs.declared.name.Name.{Name}
@@ -8,7 +8,7 @@ use Rattle.cam_type.specs.declared.ObjectDecl.{ObjectDecl}
 use Rattle.cam_know.specs.declared.Outcome.{Outcome}
 use Rattle.cam_know.specs.declared.Outcome.TheVariants.{Aborted, Committed}
 use Rattle.cam_know.specs.Knowledge.{Knowledge}
-use Rattle.cam_know.specs.Known.{both, with_outcome, with_count, is_abort_of, is_commit_of}
+use Rattle.cam_know.specs.Known.{knows_abort, knows_commit, both, with_outcome, with_count, is_abort_of, is_commit_of}
 use Rattle.cam_know.proofs.Union.{any_both}
 use Rattle.cam_event.specs.declared.Deed.{Deed}
 use Rattle.cam_event.specs.declared.Deed.TheVariants.{Create, Ask, Call, Perform, Bounce, Got, AskCommit, AskAbort, Commit, Abort, Secure, Inform, Crash}
@@ -60,6 +60,18 @@ was_undecided objects before c f undecided = (keeps (is_abort_of f) undecided.0,
               let joined = any_both p (held objects before) c.brought ∙ or_left (has p (held objects before)) (has p c.brought) was in
               absurd (true≢false (sym (learned_keeps objects before c.mail p c.event.deeds (both (held objects before) c.brought) joined) ∙ not_now))
           | inr was ↦ was
+        ]
+
+-- What is undecided after an event its letter did not tell.
+pub untold : (objects : List ObjectDecl) (before : List Carried) (c : Carried) (f : Name) → IsUndecided objects (c ∷ before) f
+    → (knows_commit (both (held objects before) c.brought) f || knows_abort (both (held objects before) c.brought) f) ≡ false
+untold objects before c f undecided = ap₂ (λ a b. a || b) (kept (is_commit_of f) undecided.1) (kept (is_abort_of f) undecided.0)
+  where
+    kept : (p : Outcome → Bool) → has p (held objects (c ∷ before)) ≡ false → has p (both (held objects before) c.brought) ≡ false
+    kept p not_now =
+        elim (cases_Bool (has p (both (held objects before) c.brought))) [
+          | inl told ↦ absurd (true≢false (sym (learned_keeps objects before c.mail p c.event.deeds (both (held objects before) c.brought) told) ∙ not_now))
+          | inr none ↦ none
         ]
 
 -- a commit among the deeds is held after them, and an abort

@@ -8,3 +8,7 @@ pub mod RuleCalls
 pub mod RuleKinds
 pub mod StepKinds
 pub mod Sights
+pub mod LateVotes
+pub mod Stepping
+pub mod PrepareSteps
+pub mod OtherSteps

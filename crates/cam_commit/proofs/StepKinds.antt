@@ -61,7 +61,7 @@ none_marked q less (d ∷ ds) h =
     ap (λ b. b || list_any q ds) (less d (first_false (is_marking d) (list_any is_marking ds) h))
     ∙ none_marked q less ds (second_false (is_marking d) (list_any is_marking ds) h)
 
-begins_none : (f : Name) (note : Note) → is_beginning note ≡ false → is_preparing_note f note ≡ false
+pub begins_none : (f : Name) (note : Note) → is_beginning note ≡ false → is_preparing_note f note ≡ false
 begins_none f notes.Plain h = refl
 begins_none f (notes.Stopped a reason) h = refl
 begins_none f notes.Missed h = refl
@@ -150,6 +150,10 @@ informs_plain s aborts commits =
 pub informs_secure_none : (f : Name) (s : ℕ) (aborts commits : List Name) → list_any (is_secure_at f s) (informs s aborts commits) ≡ false
 informs_secure_none f s aborts commits =
     none_marked (is_secure_at f s) (λ x h. (unmarked f s x h).1) (informs s aborts commits) (informs_plain s aborts commits)
+
+pub informs_crash_none : (s : ℕ) (aborts commits : List Name) → list_any (is_crash s) (informs s aborts commits) ≡ false
+informs_crash_none s aborts commits =
+    none_marked (is_crash s) (λ x h. (unmarked [] s x h).0) (informs s aborts commits) (informs_plain s aborts commits)
 
 -- behind deeds that mark nothing the same is asked
 behind : (q : Deed → Bool) (first ds : List Deed) → list_any q first ≡ false → list_any q (first ++ ds) ≡ list_any q ds

@@ -4,13 +4,14 @@
 //! What a family depends on is handed to `vote`, since the actions' layer keeps it. `reserve` makes all growth before a step; what follows
 //! takes no memory. Tables of hashes, so that a call costs some look-ups and not what is kept.
 //!
-//! Its law: after each event of a node the families answer as the node's history does (`one_more_event`, `one_more_call`), and after a
-//! restart too (`after_restart`). It stands on `cam_event` (histories and rules) and `cam_know` (knowledge).
+//! Its law: after each event of a node the families answer as the node's history does (`one_more_event`, `one_more_call`, `one_more_step`),
+//! and after a restart too (`after_restart`). It stands on `cam_event` (histories and rules) and `cam_know` (knowledge).
 #![tactic(auto)]
 
 ghost use Rattle.std.specs.Prelude.{◌≡◌, ◌≤◌, false, map, IfOk, IsOk, OnOk};
 ghost use Rattle.cam_commit.specs.Calls.{yes, answers, has_each_vote, AreNone, AreSame, IsPrepared, IsSecured, IsVotedIn, voted_in, asked_of, queried_of};
 ghost use Rattle.cam_commit.specs.Events.{KeepsOverEvent, QuietKeeps, PrepareKeeps, VoteKeeps, SecureKeeps, families_of, AreRecovered, RecoversFamilies};
+ghost use Rattle.cam_commit.specs.Stepping.{FinishStepKeeps, PrepareStepKeeps, VoteStepKeeps, OtherStepKeeps};
 ghost use Rattle.cam_commit.specs.Steps.{SightIsAnswered, TopFinishIsRule, TopQuitIsRule, AskedIsRule, VotedIsRule, QueriedIsRule, StepsAreOfKind};
 
 use cam_base::NoMemory;
@@ -222,6 +223,15 @@ pub fn one_more_call()
     ensures prepare { PrepareKeeps }
     ensures vote { VoteKeeps }
     ensures secured { SecureKeeps }
+{}
+
+/// After one more step the families answer as the longer history does: at a finish of a top action, a prepare and a vote where the node made
+/// the call that stands for it, or none where it is late, and else where it made none. What a node is preparing is of its present count.
+pub fn one_more_step()
+    ensures finish { FinishStepKeeps }
+    ensures prepare { PrepareStepKeeps }
+    ensures vote { VoteStepKeeps }
+    ensures other { OtherStepKeeps }
 {}
 
 /// After a restart the families that the log recovered answer as the node's history does.
