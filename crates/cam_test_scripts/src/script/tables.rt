@@ -8,8 +8,17 @@ pub const DECLARED: &str =
     "nodes 2\nobject x 1 register 0\nobject q 2 queue\nbody b\ncall 1 x read\ncommit 0\nend\n";
 
 /// The same, two variables, and a variable of `start`, on ten lines.
-pub const STARTED: &str =
-    "nodes 2\nobject x 1 register 0\nobject q 2 queue\nbody b\ncall 1 x read\ncommit 0\nend\nbegin A 1\nask A B 2\nstart S 1 b\n";
+pub const STARTED: &str = "nodes 2
+object x 1 register 0
+object q 2 queue
+body b
+call 1 x read
+commit 0
+end
+begin A 1
+ask A B 2
+start S 1 b
+";
 
 /// A counter, in a stage that has none.
 pub const COUNTER: &str = "2 12 3|nodes 1/object c 1 counter 0/";
@@ -222,8 +231,36 @@ pub const LIMITS: &str = "0 0 0|nodes 1/;64*object x@ 1 queue/
 1 1 1|nodes 9/;262137*/";
 
 /// A second body and steps behind `DECLARED`: each statement and each step once.
-pub const FORMS: &str =
-    "# a second body\r\n\n \t\nbody c\ncall 9 q take\ncall 1 x swap $1-0\nchild 2 1 b\ncall 1 q put $03+9223372036854775807\ncall 1 x write -9223372036854775808\ncommit $4-9223372036854775807\nend\nbegin A 1\nstart S 2 b\nask A B 2\ncall A x write -7\ncall B q put 08\ncall B q size\ncommit A 4\nabort B\ngiveup A B\ngo S\ndeliver 0004294967295\ncut 1 0\nlose 007\r\n\trestart  1 \ndrain\nplay\ntell 1 2\nquery 2 S\nstop 2 01000";
+pub const FORMS: &str = "# a second body\r
+
+ \t
+body c
+call 9 q take
+call 1 x swap $1-0
+child 2 1 b
+call 1 q put $03+9223372036854775807
+call 1 x write -9223372036854775808
+commit $4-9223372036854775807
+end
+begin A 1
+start S 2 b
+ask A B 2
+call A x write -7
+call B q put 08
+call B q size
+commit A 4
+abort B
+giveup A B
+go S
+deliver 0004294967295
+cut 1 0
+lose 007\r
+\trestart  1 \t
+drain
+play
+tell 1 2
+query 2 S
+stop 2 01000";
 
 /// What the statements of both bodies and the steps, with the numbers of their lines, say.
 pub const SAID: &str = "Call { tries: 1, object: 0, op: Read }
