@@ -17,16 +17,6 @@ pub(super) enum Told {
     Unfit,
 }
 
-impl Told {
-    /// Who stands in the way.
-    pub(super) fn holder(self) -> Option<Name> {
-        match self {
-            Told::Busy(holder) => Some(holder),
-            Told::Done(_) | Told::Unfit => None,
-        }
-    }
-}
-
 /// The live operations of a site in order, the commits that the site was informed of, and the next index.
 #[derive(Drop)]
 pub(super) struct PlainTable {

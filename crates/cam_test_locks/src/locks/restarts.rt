@@ -3,7 +3,7 @@ ghost use Rattle.std.specs.Prelude.{◌≡◌, [], ◌∷◌, IfOk};
 ghost use Rattle.cam_type.specs.declared.Op.TheVariants.{Write};
 
 use super::steps::Step::{Abort, Busy, Commit, Copy, Counter, Done, Register, Secured};
-use super::steps::{Scene, Step, first_unlike};
+use super::steps::{Played, Scene, Step, play};
 use super::{COUNTER, QUEUE, REGISTER, objects};
 use cam_base::NoMemory;
 use cam_know::{Know, Outcome};
@@ -150,13 +150,13 @@ fn a_restart_keeps_what_was_secured_and_not_aborted(rt: HostRuntime) -> Result<(
     let mut table = table_after_a_restart(rt.alloc())?;
     assert_eq!(rt; table.next_index(), 10);
     assert_eq!(rt;
-        first_unlike(rt.alloc(), &mut table, Scene::Restarted)?,
-        None
+        play(rt.alloc(), &mut table, Scene::Restarted)?,
+        Played::Whole(4)
     );
     let mut table = table_of_two_writers(rt.alloc())?;
     assert_eq!(rt;
-        first_unlike(rt.alloc(), &mut table, Scene::TwoWriters)?,
-        None
+        play(rt.alloc(), &mut table, Scene::TwoWriters)?,
+        Played::Whole(10)
     );
     Ok(())
 }
@@ -169,30 +169,33 @@ fn secured(alloc: Global, table: &LockTable) -> Result<HeldList, Fail> {
     Ok(held)
 }
 
-/// The first step that a table does not answer as it has to, after a restart with these families.
-fn first_unlike_after(alloc: Global, held: &HeldList, scene: Scene) -> Result<Option<u8>, Fail> {
+/// How a scene goes after a restart with these families.
+fn played_after(alloc: Global, held: &HeldList, scene: Scene) -> Result<Played, Fail> {
     let know = Know::new(alloc);
     let objects = objects(alloc)?;
     if !may_restore(alloc, &objects, 1, held)? {
         return Err(Fail::new("cannot be restored"));
     }
     let mut table = LockTable::restore(alloc, &objects, 1, held, &know)?;
-    Ok(first_unlike(alloc, &mut table, scene)?)
+    play(alloc, &mut table, scene)
 }
 
 #[test]
 fn what_is_secured_and_restored_answers_as_before(rt: HostRuntime) -> Result<(), Fail> {
     let objects = objects(rt.alloc())?;
     let mut table = LockTable::new(rt.alloc(), &objects, 1)?;
-    assert_eq!(rt; first_unlike(rt.alloc(), &mut table, Scene::Work)?, None);
+    assert_eq!(rt;
+        play(rt.alloc(), &mut table, Scene::Work)?,
+        Played::Whole(4)
+    );
     let held = secured(rt.alloc(), &table)?;
     assert_eq!(rt;
-        first_unlike(rt.alloc(), &mut table, Scene::MoreWork)?,
-        None
+        play(rt.alloc(), &mut table, Scene::MoreWork)?,
+        Played::Whole(9)
     );
     assert_eq!(rt;
-        first_unlike_after(rt.alloc(), &held, Scene::MoreWork)?,
-        None
+        played_after(rt.alloc(), &held, Scene::MoreWork)?,
+        Played::Whole(9)
     );
     Ok(())
 }
@@ -201,11 +204,14 @@ fn what_is_secured_and_restored_answers_as_before(rt: HostRuntime) -> Result<(),
 fn adds_that_were_secured_are_added_after_a_restart(rt: HostRuntime) -> Result<(), Fail> {
     let objects = objects(rt.alloc())?;
     let mut table = LockTable::new(rt.alloc(), &objects, 1)?;
-    assert_eq!(rt; first_unlike(rt.alloc(), &mut table, Scene::Adds)?, None);
+    assert_eq!(rt;
+        play(rt.alloc(), &mut table, Scene::Adds)?,
+        Played::Whole(4)
+    );
     let held = secured(rt.alloc(), &table)?;
     assert_eq!(rt;
-        first_unlike_after(rt.alloc(), &held, Scene::SecuredAdds)?,
-        None
+        played_after(rt.alloc(), &held, Scene::SecuredAdds)?,
+        Played::Whole(11)
     );
     Ok(())
 }

@@ -1,9 +1,8 @@
 //! Scenes with a lock table, whose answers are worked out by hand.
 
-use super::steps::Step::{Abort, Busy, Commit, Copy, Counter, Done, Register, Secured};
-use super::steps::{Scene, Step, first_unlike};
+use super::steps::Step::{Abort, Asked, Busy, Commit, Copy, Counter, Done, Register, Secured};
+use super::steps::{Played, Scene, Step, play};
 use super::{COUNTER, QUEUE, REGISTER, objects};
-use cam_base::NoMemory;
 use cam_locks::LockTable;
 use cam_type::{Answer, Op};
 use std::alloc::Global;
@@ -31,6 +30,22 @@ pub(super) fn hand_up(place: u8) -> Option<Step<'static>> {
         16 => Done("1.1.1", QUEUE, Op::Put(7), Answer::Ok),
         17 => Done("1.1.2", QUEUE, Op::Take, Answer::Value(7)),
         18 => Secured("1.1.1/1.1.1", 0),
+        _ => return None,
+    })
+}
+
+/// A commit hands locks up to the parent, and no further.
+pub(super) fn one_level(place: u8) -> Option<Step<'static>> {
+    Some(match place {
+        0 => Done("1.1.1/1.1.1/1.1.1", REGISTER, Op::Write(5), Answer::Ok),
+        1 => Commit("1.1.1/1.1.1/1.1.1"),
+        2 => Busy("1.1.1/1.1.2", REGISTER, Op::Read, "1.1.1/1.1.1"),
+        3 => Busy("1.1.1", REGISTER, Op::Read, "1.1.1/1.1.1"),
+        4 => Done("1.1.1/1.1.1/1.1.2", REGISTER, Op::Read, Answer::Value(5)),
+        5 => Commit("1.1.1/1.1.1"),
+        6 => Busy("1.1.1/1.1.2", REGISTER, Op::Write(6), "1.1.1/1.1.1/1.1.2"),
+        7 => Done("1.1.1/1.1.2", REGISTER, Op::Read, Answer::Value(5)),
+        8 => Register(0),
         _ => return None,
     })
 }
@@ -198,33 +213,64 @@ pub(super) fn taken_back(place: u8) -> Option<Step<'static>> {
     })
 }
 
-/// Whether a new table answers a scene as it has to.
-fn is_answered(alloc: Global, scene: Scene) -> Result<bool, NoMemory> {
+/// A refused operation is asked of no server, and one that is granted once, whatever its object's kind and however much stands before it.
+pub(super) fn asked_once(place: u8) -> Option<Step<'static>> {
+    Some(match place {
+        0 => Done("1.1.1", REGISTER, Op::Write(5), Answer::Ok),
+        1 => Asked(1),
+        2 => Busy("1.1.2", REGISTER, Op::Write(6), "1.1.1"),
+        3 => Busy("1.1.2", REGISTER, Op::Read, "1.1.1"),
+        4 => Asked(1),
+        5 => Done("1.1.1/1.1.1", REGISTER, Op::Swap(7), Answer::Value(5)),
+        6 => Busy("1.1.1", REGISTER, Op::Read, "1.1.1/1.1.1"),
+        7 => Asked(2),
+        8 => Done("1.1.1", COUNTER, Op::Add(3), Answer::Ok),
+        9 => Done("1.1.1", COUNTER, Op::Add(4), Answer::Ok),
+        10 => Busy("1.1.2", COUNTER, Op::Read, "1.1.1"),
+        11 => Asked(4),
+        12 => Done("1.1.1", COUNTER, Op::Read, Answer::Value(17)),
+        13 => Done("1.1.1", QUEUE, Op::Put(1), Answer::Ok),
+        14 => Done("1.1.1", QUEUE, Op::Take, Answer::Value(1)),
+        15 => Busy("1.1.2", QUEUE, Op::Size, "1.1.1"),
+        16 => Asked(7),
+        _ => return None,
+    })
+}
+
+/// How a scene goes with a new table.
+fn played(alloc: Global, scene: Scene) -> Result<Played, Fail> {
     let objects = objects(alloc)?;
     let mut table = LockTable::new(alloc, &objects, 1)?;
-    Ok(first_unlike(alloc, &mut table, scene)?.is_none())
+    play(alloc, &mut table, scene)
 }
 
 #[test]
 fn holders_stand_in_the_way_and_commits_hand_up(rt: HostRuntime) -> Result<(), Fail> {
-    assert!(rt; is_answered(rt.alloc(), Scene::HandUp)?);
-    assert!(rt; is_answered(rt.alloc(), Scene::Writer)?);
+    assert_eq!(rt; played(rt.alloc(), Scene::HandUp)?, Played::Whole(19));
+    assert_eq!(rt; played(rt.alloc(), Scene::OneLevel)?, Played::Whole(9));
+    assert_eq!(rt; played(rt.alloc(), Scene::Writer)?, Played::Whole(10));
     Ok(())
 }
 
 #[test]
 fn outcomes_of_parents_and_children_come_in_any_order(rt: HostRuntime) -> Result<(), Fail> {
-    assert!(rt; is_answered(rt.alloc(), Scene::ChildFirst)?);
-    assert!(rt; is_answered(rt.alloc(), Scene::ParentFirst)?);
-    assert!(rt; is_answered(rt.alloc(), Scene::Aborts)?);
-    assert!(rt; is_answered(rt.alloc(), Scene::BothOutcomes)?);
+    assert_eq!(rt; played(rt.alloc(), Scene::ChildFirst)?, Played::Whole(11));
+    assert_eq!(rt; played(rt.alloc(), Scene::ParentFirst)?, Played::Whole(8));
+    assert_eq!(rt; played(rt.alloc(), Scene::Aborts)?, Played::Whole(13));
+    assert_eq!(rt; played(rt.alloc(), Scene::BothOutcomes)?, Played::Whole(12));
     Ok(())
 }
 
 #[test]
 fn adders_stand_in_the_way_of_readers_alone(rt: HostRuntime) -> Result<(), Fail> {
-    assert!(rt; is_answered(rt.alloc(), Scene::Adders)?);
-    assert!(rt; is_answered(rt.alloc(), Scene::Siblings)?);
-    assert!(rt; is_answered(rt.alloc(), Scene::TakenBack)?);
+    assert_eq!(rt; played(rt.alloc(), Scene::Adders)?, Played::Whole(19));
+    assert_eq!(rt; played(rt.alloc(), Scene::Siblings)?, Played::Whole(14));
+    assert_eq!(rt; played(rt.alloc(), Scene::TakenBack)?, Played::Whole(15));
+    Ok(())
+}
+
+#[test]
+fn only_what_is_granted_is_asked_of_a_server(rt: HostRuntime) -> Result<(), Fail> {
+    assert_eq!(rt; played(rt.alloc(), Scene::AskedOnce)?, Played::Whole(17));
     Ok(())
 }

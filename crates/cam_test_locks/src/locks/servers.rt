@@ -1,4 +1,4 @@
-//! The servers that tables are tried with, of which that of the register counts what it is asked and may want memory.
+//! The servers that tables are tried with: they count what they are asked, and may want memory.
 
 use super::both::{ask_with, value_of};
 use super::plain_table::Told;
@@ -10,36 +10,33 @@ use cam_type::{Answer, CounterServer, DataType, Kind, Op, QueueServer, RegisterS
 use std::alloc::Global;
 use std::test::Fail;
 
-/// A server of registers that counts how often it is asked, and that may want memory.
+/// A server that counts how often it is asked for an operation, and that may want memory.
 #[derive(Drop)]
-pub(super) struct Counting {
-    inner: RegisterServer,
+pub(super) struct Counting<T: DataType> {
+    inner: T,
     asked: u32,
     wants_memory: bool,
 }
 
-impl Counting {
-    fn new() -> Counting {
+impl<T: DataType> Counting<T> {
+    fn new(inner: T) -> Counting<T> {
         Counting {
-            inner: RegisterServer::new(),
+            inner,
             asked: 0,
             wants_memory: false,
         }
     }
 }
 
-impl DataType for Counting {
-    ghost use Rattle.std.specs.Prelude.{refl};
-    ghost use Rattle.cam_type.specs.declared.Kind.TheVariants as kinds;
+impl<T: DataType> DataType for Counting<T> {
+    ghost kind = { λ server. T.kind server.inner };
 
-    ghost kind = { λ _. kinds.Register };
+    ghost held = { λ server. T.held server.inner };
 
-    ghost held = { λ server. ⟦<RegisterServer as DataType>⟧.held server.inner };
-
-    ghost held_is_of_its_kind = { λ server. refl };
+    ghost held_is_of_its_kind = { λ server. T.held_is_of_its_kind server.inner };
 
     fn kind(&self) -> Kind {
-        Kind::Register
+        self.inner.kind()
     }
 
     fn load(&mut self, state: &State) -> Result<(), NoMemory> {
@@ -62,62 +59,34 @@ impl DataType for Counting {
 /// A server of each kind. They hold what they were last asked of, whoever asked.
 #[derive(Drop)]
 pub(super) struct Servers {
-    pub(super) register: Counting,
-    pub(super) queue: QueueServer,
-    pub(super) counter: CounterServer,
+    pub(super) register: Counting<RegisterServer>,
+    pub(super) queue: Counting<QueueServer>,
+    pub(super) counter: Counting<CounterServer>,
 }
 
 impl Servers {
     pub(super) fn new(alloc: Global) -> Servers {
         Servers {
-            register: Counting::new(),
-            queue: QueueServer::new(alloc),
-            counter: CounterServer::new(),
+            register: Counting::new(RegisterServer::new()),
+            queue: Counting::new(QueueServer::new(alloc)),
+            counter: Counting::new(CounterServer::new()),
         }
     }
-}
 
-/// An operation on the register, who stands in its way, and how often the server was asked after it.
-fn asked(place: u8) -> Option<(&'static str, Op, Option<&'static str>, u32)> {
-    Some(match place {
-        0 => ("1.1.1", Op::Write(5), None, 1),
-        1 => ("1.1.2", Op::Write(6), Some("1.1.1"), 1),
-        2 => ("1.1.2", Op::Read, Some("1.1.1"), 1),
-        3 => ("1.1.1/1.1.1", Op::Swap(7), None, 2),
-        4 => ("1.1.1", Op::Read, Some("1.1.1/1.1.1"), 2),
-        _ => return None,
-    })
-}
-
-/// Whether that holds of the table and the server.
-fn is_asked(table: &mut LockTable, server: &mut Counting, place: u8) -> Result<bool, Fail> {
-    let Some((name, op, holder, count)) = asked(place) else {
-        return Ok(true);
-    };
-    let expected = match holder {
-        Some(holder) => Some(Name::parse(holder)?),
-        None => None,
-    };
-    let told = ask_with(table, &Name::parse(name)?, REGISTER, &op, server)?;
-    Ok(told.holder() == expected && server.asked == count)
-}
-
-#[test]
-fn a_refused_operation_is_asked_of_no_server(rt: HostRuntime) -> Result<(), Fail> {
-    let objects = objects(rt.alloc())?;
-    let mut table = LockTable::new(rt.alloc(), &objects, 1)?;
-    let mut server = Counting::new();
-    for place in 0..5u8 {
-        assert!(rt; is_asked(&mut table, &mut server, place)?, "step {place}");
+    /// How often they were asked for an operation.
+    pub(super) fn asked(&self) -> u32 {
+        self.register
+            .asked
+            .saturating_add(self.queue.asked)
+            .saturating_add(self.counter.asked)
     }
-    Ok(())
 }
 
 #[test]
 fn a_server_that_wants_memory_leaves_the_table(rt: HostRuntime) -> Result<(), Fail> {
     let objects = objects(rt.alloc())?;
     let mut table = LockTable::new(rt.alloc(), &objects, 1)?;
-    let mut server = Counting::new();
+    let mut server = Counting::new(RegisterServer::new());
     let one = Name::parse("1.1.1")?;
     let other = Name::parse("1.1.2")?;
     server.wants_memory = true;

@@ -1,4 +1,4 @@
-//! Steps with a lock table, and whether it answers them as it has to.
+//! Steps with a lock table: what it has to answer at each, and what it is seen to answer.
 
 use super::both::{ask, value_of};
 use super::plain_table::Told;
@@ -6,9 +6,10 @@ use super::servers::Servers;
 use super::{COUNTER, REGISTER, restarts, scenes};
 use cam_base::NoMemory;
 use cam_locks::LockTable;
-use cam_names::Name;
+use cam_names::{Name, NameFault};
 use cam_type::{Answer, Op, State};
 use std::alloc::Global;
+use std::test::Fail;
 
 /// One step with a table, and what it has to answer.
 #[derive(Clone, Copy)]
@@ -27,12 +28,43 @@ pub(super) enum Step<'a> {
     Counter(i64),
     /// How many operations of a family are secured.
     Secured(&'a str, usize),
+    /// How often the servers were asked for an operation since the scene began.
+    Asked(u32),
+}
+
+/// What is seen of a table at a step.
+#[derive(Debug, PartialEq, Drop)]
+pub(super) enum Seen {
+    Told(Told),
+    /// What an object holds past the top: none where it is not of the table's node.
+    Holds(Option<State>),
+    /// How many operations of a family are secured, and whether one of it is live.
+    Secured { ops: usize, is_here: bool },
+    Asked(u32),
+    /// A call that answers nothing was made.
+    Made,
+    /// The text in the step is no name.
+    NoName(NameFault),
+}
+
+/// How a scene went.
+#[derive(Debug, PartialEq, Drop)]
+pub(super) enum Played {
+    /// Each of its steps, so many, was answered as it has to be.
+    Whole(u8),
+    /// The first step that was not.
+    Unlike {
+        place: u8,
+        seen: Seen,
+        expected: Seen,
+    },
 }
 
 /// The scenes: each is a row of steps.
 #[derive(Clone, Copy)]
 pub(super) enum Scene {
     HandUp,
+    OneLevel,
     Writer,
     ChildFirst,
     ParentFirst,
@@ -41,6 +73,7 @@ pub(super) enum Scene {
     Adders,
     Siblings,
     TakenBack,
+    AskedOnce,
     Restarted,
     TwoWriters,
     Work,
@@ -54,6 +87,7 @@ impl Scene {
     fn step(self, place: u8) -> Option<Step<'static>> {
         match self {
             Scene::HandUp => scenes::hand_up(place),
+            Scene::OneLevel => scenes::one_level(place),
             Scene::Writer => scenes::writer(place),
             Scene::ChildFirst => scenes::child_first(place),
             Scene::ParentFirst => scenes::parent_first(place),
@@ -62,6 +96,7 @@ impl Scene {
             Scene::Adders => scenes::adders(place),
             Scene::Siblings => scenes::siblings(place),
             Scene::TakenBack => scenes::taken_back(place),
+            Scene::AskedOnce => scenes::asked_once(place),
             Scene::Restarted => restarts::restarted(place),
             Scene::TwoWriters => restarts::two_writers(place),
             Scene::Work => restarts::work(place),
@@ -72,73 +107,63 @@ impl Scene {
     }
 }
 
-/// The first step of a scene that the table does not answer as it has to. Where memory runs out in a step it is done once more: the table
-/// is as it was.
-pub(super) fn first_unlike(
-    alloc: Global,
-    table: &mut LockTable,
-    scene: Scene,
-) -> Result<Option<u8>, NoMemory> {
+/// Plays a scene. Where memory runs out in a step it is done once more: the table is as it was.
+pub(super) fn play(alloc: Global, table: &mut LockTable, scene: Scene) -> Result<Played, Fail> {
     let mut servers = Servers::new(alloc);
     for place in 0..=u8::MAX {
         let Some(step) = scene.step(place) else {
-            return Ok(None);
+            return Ok(Played::Whole(place));
         };
-        let is_right = match answers(table, &mut servers, &step) {
-            Ok(is_right) => is_right,
-            Err(NoMemory) => answers(table, &mut servers, &step)?,
+        let expected = expected_at(&step)?;
+        let seen = match seen_at(table, &mut servers, &step) {
+            Ok(seen) => seen,
+            Err(NoMemory) => seen_at(table, &mut servers, &step)?,
         };
-        if !is_right {
-            return Ok(Some(place));
+        if seen != expected {
+            return Ok(Played::Unlike {
+                place,
+                seen,
+                expected,
+            });
         }
     }
-    Ok(None)
+    Err(Fail::new("a scene has too many steps"))
 }
 
-/// Whether the table answers the step as it has to.
-fn answers(
+/// What the table has to answer.
+fn expected_at(step: &Step<'_>) -> Result<Seen, Fail> {
+    Ok(match step {
+        Step::Done(_, _, _, answer) => Seen::Told(Told::Done(*answer)),
+        Step::Busy(_, _, _, holder) => Seen::Told(Told::Busy(Name::parse(holder)?)),
+        Step::Commit(_) | Step::Abort(_) | Step::Copy => Seen::Made,
+        Step::Register(value) => Seen::Holds(Some(State::Register(*value))),
+        Step::Counter(value) => Seen::Holds(Some(State::Counter(*value))),
+        Step::Secured(_, ops) => Seen::Secured {
+            ops: *ops,
+            is_here: *ops > 0,
+        },
+        Step::Asked(count) => Seen::Asked(*count),
+    })
+}
+
+/// What it answers.
+fn seen_at(
     table: &mut LockTable,
     servers: &mut Servers,
     step: &Step<'_>,
-) -> Result<bool, NoMemory> {
+) -> Result<Seen, NoMemory> {
     match step {
-        Step::Done(name, object, op, answer) => {
-            asks(table, servers, name, *object, op, Told::Done(*answer))
-        }
-        Step::Busy(name, object, op, holder) => {
-            is_refused(table, servers, name, *object, op, holder)
+        Step::Done(name, object, op, _) | Step::Busy(name, object, op, _) => {
+            asks(table, servers, name, *object, op)
         }
         Step::Commit(name) => commits(table, name),
         Step::Abort(name) => aborts(table, name),
         Step::Copy => goes_on_with_a_copy(table),
-        Step::Register(value) => holds(table, REGISTER, State::Register(*value)),
-        Step::Counter(value) => holds(table, COUNTER, State::Counter(*value)),
-        Step::Secured(name, count) => secures(table, name, *count),
+        Step::Register(_) => Ok(Seen::Holds(value_of(table, REGISTER)?)),
+        Step::Counter(_) => Ok(Seen::Holds(value_of(table, COUNTER)?)),
+        Step::Secured(name, _) => secures(table, name),
+        Step::Asked(_) => Ok(Seen::Asked(servers.asked())),
     }
-}
-
-fn is_refused(
-    table: &mut LockTable,
-    servers: &mut Servers,
-    name: &str,
-    object: u8,
-    op: &Op,
-    holder: &str,
-) -> Result<bool, NoMemory> {
-    match Name::parse(holder) {
-        Ok(holder) => asks(table, servers, name, object, op, Told::Busy(holder)),
-        Err(_) => Ok(false),
-    }
-}
-
-fn goes_on_with_a_copy(table: &mut LockTable) -> Result<bool, NoMemory> {
-    *table = table.copy()?;
-    Ok(true)
-}
-
-/// Whether an object holds this past the top.
-fn holds(table: &LockTable, object: u8, value: State) -> Result<bool, NoMemory> {
-    Ok(value_of(table, object)? == Some(value))
 }
 
 fn asks(
@@ -147,37 +172,46 @@ fn asks(
     name: &str,
     object: u8,
     op: &Op,
-    expected: Told,
-) -> Result<bool, NoMemory> {
+) -> Result<Seen, NoMemory> {
     match Name::parse(name) {
-        Ok(name) => Ok(ask(table, servers, &name, object, op)? == expected),
-        Err(_) => Ok(false),
+        Ok(name) => Ok(Seen::Told(ask(table, servers, &name, object, op)?)),
+        Err(fault) => Ok(Seen::NoName(fault)),
     }
 }
 
-fn commits(table: &mut LockTable, name: &str) -> Result<bool, NoMemory> {
-    let Ok(name) = Name::parse(name) else {
-        return Ok(false);
-    };
-    table.reserve(1)?;
-    table.commit(&name);
-    Ok(true)
+fn goes_on_with_a_copy(table: &mut LockTable) -> Result<Seen, NoMemory> {
+    *table = table.copy()?;
+    Ok(Seen::Made)
 }
 
-fn aborts(table: &mut LockTable, name: &str) -> Result<bool, NoMemory> {
-    let Ok(name) = Name::parse(name) else {
-        return Ok(false);
-    };
-    table.reserve(1)?;
-    table.abort(&name);
-    Ok(true)
+fn commits(table: &mut LockTable, name: &str) -> Result<Seen, NoMemory> {
+    match Name::parse(name) {
+        Ok(name) => {
+            table.reserve(1)?;
+            table.commit(&name);
+            Ok(Seen::Made)
+        }
+        Err(fault) => Ok(Seen::NoName(fault)),
+    }
 }
 
-fn secures(table: &LockTable, name: &str, count: usize) -> Result<bool, NoMemory> {
-    let Ok(family) = Name::parse(name) else {
-        return Ok(false);
-    };
-    let held = table.secure(&family, 4)?;
-    let is_all = held.count == 4 && held.ops.len() == count;
-    Ok(is_all && table.has_family(&family) == (count > 0))
+fn aborts(table: &mut LockTable, name: &str) -> Result<Seen, NoMemory> {
+    match Name::parse(name) {
+        Ok(name) => {
+            table.reserve(1)?;
+            table.abort(&name);
+            Ok(Seen::Made)
+        }
+        Err(fault) => Ok(Seen::NoName(fault)),
+    }
+}
+
+fn secures(table: &LockTable, name: &str) -> Result<Seen, NoMemory> {
+    match Name::parse(name) {
+        Ok(family) => Ok(Seen::Secured {
+            ops: table.secure(&family, 4)?.ops.len(),
+            is_here: table.has_family(&family),
+        }),
+        Err(fault) => Ok(Seen::NoName(fault)),
+    }
 }
