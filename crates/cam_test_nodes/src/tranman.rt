@@ -21,16 +21,33 @@ fn begun(homed: &mut Homed) -> Option<Name> {
     homed.begin().ok()
 }
 
-/// The next child of the action, at node 1 and count 1, where nothing stands against it.
-fn asked(homed: &mut Homed, action: &Name) -> Option<Name> {
+/// The next child of the action, at a node and its count 1, where nothing stands against it.
+fn asked(homed: &mut Homed, action: &Name, node: u8) -> Option<Name> {
     let request = Request {
         action: *action,
-        want: Want::Ask(1),
+        want: Want::Ask(node),
     };
-    if homed.refusal(&request).is_some() || homed.asks(action) >= 1_000_000_000 {
+    if node == 0
+        || node > 8
+        || homed.refusal(&request).is_some()
+        || homed.asks(action) >= 1_000_000_000
+    {
         return None;
     }
-    homed.ask(action, 1, 1).ok()
+    homed.ask(action, node, 1).ok()
+}
+
+/// Whether nothing stands against the action's abort; then it has asked for that.
+fn quits(homed: &mut Homed, action: &Name) -> bool {
+    let request = Request {
+        action: *action,
+        want: Want::Abort,
+    };
+    if homed.refusal(&request).is_some() {
+        return false;
+    }
+    homed.quit(action);
+    true
 }
 
 /// The next call of the action, to an object of node 4 that is addressed at count 7, where nothing stands against it.
@@ -60,13 +77,8 @@ fn the_first_test_that_holds_refuses(rt: HostRuntime) -> Result<(), Fail> {
         assert_eq!(rt; begun(&mut homed), Some(name));
     }
     assert_eq!(rt; called(&mut homed, &calling), Some(1));
-    assert_eq!(rt; asked(&mut homed, &parent), Some(child));
-    let request = Request {
-        action: ended,
-        want: Want::Abort,
-    };
-    assert!(rt; homed.refusal(&request).is_none());
-    homed.quit(&ended);
+    assert_eq!(rt; asked(&mut homed, &parent, 1), Some(child));
+    assert!(rt; quits(&mut homed, &ended));
     let ask = Want::Ask(1);
     let read = Want::Call(0, Op::Read);
     let commit = Want::Commit(0);
@@ -88,13 +100,25 @@ fn the_first_test_that_holds_refuses(rt: HostRuntime) -> Result<(), Fail> {
         (&parent, &abort, None),
         (&parent, &give_up, None),
         (&ended, &ask, Some(LineRefusal::Ended)),
+        (&ended, &read, Some(LineRefusal::Ended)),
+        (&ended, &commit, Some(LineRefusal::Ended)),
         (&ended, &abort, Some(LineRefusal::Ended)),
+        (&ended, &give_up, Some(LineRefusal::Ended)),
         (&older, &ask, Some(LineRefusal::Ended)),
         (&older, &abort, Some(LineRefusal::Ended)),
+        (&unknown, &ask, Some(LineRefusal::NotOpen)),
+        (&unknown, &read, Some(LineRefusal::NotOpen)),
         (&unknown, &commit, Some(LineRefusal::NotOpen)),
+        (&unknown, &abort, Some(LineRefusal::NotOpen)),
         (&unknown, &give_up, Some(LineRefusal::NotOpen)),
     ] {
         assert_eq!(rt; refused(&homed, name, want), refusal);
+    }
+    // Whoever has ended is refused as such, whatever is open.
+    assert!(rt; quits(&mut homed, &calling));
+    assert!(rt; quits(&mut homed, &parent));
+    for (name, want) in [(&calling, &read), (&parent, &commit), (&parent, &give_up)] {
+        assert_eq!(rt; refused(&homed, name, want), Some(LineRefusal::Ended));
     }
     Ok(())
 }
@@ -168,12 +192,7 @@ fn only_the_open_call_is_answered(rt: HostRuntime) -> Result<(), Fail> {
     assert_eq!(rt; called(&mut homed, &top), Some(2));
     assert_eq!(rt; homed.answer(&top, 1, &done, 7), Taken::Late);
     assert!(rt; homed.awaits(&top, 2));
-    let request = Request {
-        action: top,
-        want: Want::Abort,
-    };
-    assert!(rt; homed.refusal(&request).is_none());
-    homed.quit(&top);
+    assert!(rt; quits(&mut homed, &top));
     assert_eq!(rt; homed.answer(&top, 2, &done, 7), Taken::Late);
     Ok(())
 }
@@ -190,7 +209,7 @@ fn children_are_decided_once(rt: HostRuntime) -> Result<(), Fail> {
     let second = Name::parse("1.2.1/1.1.2")?;
     let third = Name::parse("1.2.1/1.1.3")?;
     for child in [first, second, third] {
-        assert_eq!(rt; asked(&mut homed, &top), Some(child));
+        assert_eq!(rt; asked(&mut homed, &top, 1), Some(child));
     }
     for (child, commit, deps) in &[(first, None, home), (second, Some(more), home.with(3, 5))] {
         assert!(rt; homed.decides(child));
@@ -219,6 +238,34 @@ fn children_are_decided_once(rt: HostRuntime) -> Result<(), Fail> {
         refused(&homed, &top, &Want::Commit(9)),
         Some(LineRefusal::Ended)
     );
+    Ok(())
+}
+
+/// Children are numbered in the order in which they were asked for, whatever their nodes. They are decided while their parent goes on: no child of
+/// an action that has ended is, nor one of an action of an older count, or of one that was not created.
+#[test]
+fn a_child_is_decided_while_its_parent_goes_on(rt: HostRuntime) -> Result<(), Fail> {
+    let top = Name::parse("1.2.1")?;
+    let here = Name::parse("1.2.1/1.1.1")?;
+    let there = Name::parse("1.2.1/5.1.2")?;
+    let older = Name::parse("1.1.1/5.1.1")?;
+    let unknown = Name::parse("1.2.2/5.1.1")?;
+    let mut homed = Homed::new(rt.alloc(), 1, 2);
+    assert_eq!(rt; begun(&mut homed), Some(top));
+    assert_eq!(rt; asked(&mut homed, &top, 1), Some(here));
+    assert_eq!(rt; asked(&mut homed, &top, 5), Some(there));
+    for (child, decides) in [
+        (&here, true),
+        (&there, true),
+        (&older, false),
+        (&unknown, false),
+        (&top, false),
+    ] {
+        assert_eq!(rt; homed.decides(child), decides);
+    }
+    assert!(rt; quits(&mut homed, &top));
+    assert!(rt; !homed.decides(&here));
+    assert!(rt; !homed.decides(&there));
     Ok(())
 }
 
