@@ -66,65 +66,65 @@ sound_more words s own taken e low high step was = record { long = long; present
     g : Sight
     g = held_sight objects s past brought
 
-    K0 : Knowledge
-    K0 = held objects past
+    held_before : Knowledge
+    held_before = held objects past
 
-    K1 : Knowledge
-    K1 = both K0 brought
+    with_brought : Knowledge
+    with_brought = both held_before brought
 
     ds : List Deed
     ds = e.event.deeds
 
-    K2 : Knowledge
-    K2 = learned_by objects past mail K1 ds
+    held_after : Knowledge
+    held_after = learned_by objects past mail with_brought ds
 
     n : Next words s past mail load step.input ds (rule objects g mail step.input)
     n = next_of words s own taken e low step
 
-    from_old : (p : ℕ × ℕ) → Covers K0 p → Covers K2 p
-    from_old p h = let one = (join_knows_at_least K0 brought).0.counts p.0 in let more = learned_grow objects past mail K1 ds p.0 in omega (arith, h, one, more)
+    from_old : (p : ℕ × ℕ) → Covers held_before p → Covers held_after p
+    from_old p h = let one = (join_knows_at_least held_before brought).0.counts p.0 in let more = learned_grow objects past mail with_brought ds p.0 in omega (arith, h, one, more)
 
-    from_brought : (p : ℕ × ℕ) → Covers brought p → Covers K2 p
-    from_brought p h = let one = (join_knows_at_least K0 brought).1.counts p.0 in let more = learned_grow objects past mail K1 ds p.0 in omega (arith, h, one, more)
+    from_brought : (p : ℕ × ℕ) → Covers brought p → Covers held_after p
+    from_brought p h = let one = (join_knows_at_least held_before brought).1.counts p.0 in let more = learned_grow objects past mail with_brought ds p.0 in omega (arith, h, one, more)
 
-    long : 8 ≤ length K2.counts
-    long = learned_long objects past mail K1 ds (greater_long K0.counts brought.counts was.long)
+    long : 8 ≤ length held_after.counts
+    long = learned_long objects past mail with_brought ds (greater_long held_before.counts brought.counts was.long)
 
-    own_home : (b : Name) → home_node b ≡ s → home_count b ≡ present g → Covers K2 (home b)
+    own_home : (b : Name) → home_node b ≡ s → home_count b ≡ present g → Covers held_after (home b)
     own_home b node number =
         let is : home_count b ≡ count (deeds_of past) s = number ∙ present_is objects s past load in
         let known = was.present in
-        subst (λ (m : ℕ). home_count b ≤ known_count K2 m) (sym node) (from_old (s, home_count b) (omega (arith, is, known)))
+        subst (λ (m : ℕ). home_count b ≤ known_count held_after m) (sym node) (from_old (s, home_count b) (omega (arith, is, known)))
 
-    created_home : (b : Name) → ((b ≡ top_name g) ⊎ StartOf g mail b) → Covers K2 (home b)
+    created_home : (b : Name) → ((b ≡ top_name g) ⊎ StartOf g mail b) → Covers held_after (home b)
     created_home b (inl top) = own_home b (ap home_node top) (ap home_count top)
     created_home b (inr start) = by mail n.comes start
       where
-        by : (o : Option Mail) → Brings objects s o load → StartOf g o b → Covers K2 (home b)
+        by : (o : Option Mail) → Brings objects s o load → StartOf g o b → Covers held_after (home b)
         by None is st = absurd st
         by (Some m) is st =
             let here : home_node b ≡ s = (subst (λ (body : Body). IsForNode objects s body) st.1 is.for_node).0 in
             own_home b here (eqb-true (home_count b) (present g) st.2)
 
-    gained : (a : Name) (p : ℕ × ℕ) (d : Deed) → IsInformAt s d ⊎ DeedFine objects g mail step.input d → In p (gained_by objects (deeds_of past) mail a d) → Covers K2 p
+    gained : (a : Name) (p : ℕ × ℕ) (d : Deed) → IsInformAt s d ⊎ DeedFine objects g mail step.input d → In p (gained_by objects (deeds_of past) mail a d) → Covers held_after p
     gained a p (Create b) fine i = by_name (name_eq a b) i fine
       where
-        by_name : (t : Bool) → In p (if t then home b ∷ pairs_of (start_counts mail) else []) → IsInformAt s (Create b) ⊎ DeedFine objects g mail step.input (Create b) → Covers K2 p
-        by_name true (inl same) (inr h) = subst (Covers K2) (sym same) (created_home b h)
+        by_name : (t : Bool) → In p (if t then home b ∷ pairs_of (start_counts mail) else []) → IsInformAt s (Create b) ⊎ DeedFine objects g mail step.input (Create b) → Covers held_after p
+        by_name true (inl same) (inr h) = subst (Covers held_after) (sym same) (created_home b h)
         by_name true (inl same) (inl h) = let x = h.is in absurd (cc)
         by_name true (inr j) h = from_brought p (start_known objects s mail load p n.comes j)
         by_name false j h = absurd j
     gained a p (Got b k (seens.Done answer)) fine i = by_name (name_eq a b) i
       where
-        by_name : (t : Bool) → In p (if t then visited objects (call_of (deeds_of past) b k) else []) → Covers K2 p
+        by_name : (t : Bool) → In p (if t then visited objects (call_of (deeds_of past) b k) else []) → Covers held_after p
         by_name true j =
             let seen = in_visited objects (call_of (deeds_of past) b k) p j in
             let call = call_in (deeds_of past) b k seen.0 seen.1 in
-            subst (Covers K2) (sym seen.2) (from_old (site_of objects seen.0.object, seen.0.count) (was.calls b k seen.0.object seen.0.op seen.0.count call))
+            subst (Covers held_after) (sym seen.2) (from_old (site_of objects seen.0.object, seen.0.count) (was.calls b k seen.0.object seen.0.op seen.0.count call))
         by_name false j = absurd j
     gained a p (Commit b) fine i = by_child (is_child a b) i
       where
-        by_child : (t : Bool) → In p (if t then pairs_of (finish_counts mail) else []) → Covers K2 p
+        by_child : (t : Bool) → In p (if t then pairs_of (finish_counts mail) else []) → Covers held_after p
         by_child true j = from_brought p (finish_known objects s mail load p n.comes j)
         by_child false j = absurd j
     gained a p (Got b k (seens.Busy u)) fine i = absurd i
@@ -140,7 +140,7 @@ sound_more words s own taken e low high step was = record { long = long; present
     gained a p (Inform m b o) fine i = absurd i
     gained a p (Crash m) fine i = absurd i
 
-    pairs : (a : Name) (p : ℕ × ℕ) → In p (own_pairs objects (map as_carried (carried e taken ∷ own)) a) → Covers K2 p
+    pairs : (a : Name) (p : ℕ × ℕ) → In p (own_pairs objects (map as_carried (carried e taken ∷ own)) a) → Covers held_after p
     pairs a p i = elim (in_append (flat_map (gained_by objects (deeds_of past) mail a) ds) (own_pairs objects past a) p i) [
       | inl new ↦
           let found = flat_in (gained_by objects (deeds_of past) mail a) ds p new in
@@ -148,39 +148,39 @@ sound_more words s own taken e low high step was = record { long = long; present
       | inr old ↦ from_old p (was.pairs a p old)
     ]
 
-    committed_pairs : (a : Name) (p : ℕ × ℕ) → In p (pairs_of (commit_counts objects past mail a)) → Covers K2 p
+    committed_pairs : (a : Name) (p : ℕ × ℕ) → In p (pairs_of (commit_counts objects past mail a)) → Covers held_after p
     committed_pairs a p i = by (is_top a) i
       where
-        by : (t : Bool) → In p (pairs_of (if t then as_counts (own_pairs objects past a) else finish_counts mail)) → Covers K2 p
+        by : (t : Bool) → In p (pairs_of (if t then as_counts (own_pairs objects past a) else finish_counts mail)) → Covers held_after p
         by true j = from_old p (was.pairs a p (pairs_in (own_pairs objects past a) p j))
         by false j = from_brought p (finish_known objects s mail load p n.comes j)
 
-    outcomes : (a : Name) (counts : List ℕ) (p : ℕ × ℕ) → In (Committed a counts) K2.outcomes → In p (pairs_of counts) → Covers K2 p
-    outcomes a counts p there i = elim (learned objects past mail K1 ds a counts there) [
-      | inl before ↦ elim (in_both_known K0 brought (Committed a counts) before) [
+    outcomes : (a : Name) (counts : List ℕ) (p : ℕ × ℕ) → In (Committed a counts) held_after.outcomes → In p (pairs_of counts) → Covers held_after p
+    outcomes a counts p there i = elim (learned objects past mail with_brought ds a counts there) [
+      | inl before ↦ elim (in_both_known held_before brought (Committed a counts) before) [
         | inl old ↦ from_old p (was.outcomes a counts p old i)
         | inr new ↦ from_brought p (outcome_known objects s mail load a counts p n.comes new i)
       ]
       | inr own_one ↦ committed_pairs a p (subst (λ (cs : List ℕ). In p (pairs_of cs)) own_one.1 i)
     ]
 
-    calls : (a : Name) (k x : ℕ) (op : Op) (c : ℕ) → In (Call a k x op c) (after (deeds_of past) ds) → c ≤ known_count K2 (site_of objects x)
+    calls : (a : Name) (k x : ℕ) (op : Op) (c : ℕ) → In (Call a k x op c) (after (deeds_of past) ds) → c ≤ known_count held_after (site_of objects x)
     calls a k x op c i = elim (in_after ds (deeds_of past) (Call a k x op c) i) [
       | inl new ↦ by (deed_of words s past mail load step.input ds (rule objects g mail step.input) n (Call a k x op c) new)
       | inr old ↦ from_old (site_of objects x, c) (was.calls a k x op c old)
     ]
       where
-        by : IsInformAt s (Call a k x op c) ⊎ DeedFine objects g mail step.input (Call a k x op c) → c ≤ known_count K2 (site_of objects x)
+        by : IsInformAt s (Call a k x op c) ⊎ DeedFine objects g mail step.input (Call a k x op c) → c ≤ known_count held_after (site_of objects x)
         by (inl h) = let y = h.is in absurd (cc)
-        by (inr h) = let more = learned_grow objects past mail K1 ds (site_of objects x) in omega (arith, h, more)
+        by (inr h) = let more = learned_grow objects past mail with_brought ds (site_of objects x) in omega (arith, h, more)
 
-    stays : is_restart step.input ≡ false → count (after (deeds_of past) ds) s ≤ known_count K2 s
+    stays : is_restart step.input ≡ false → count (after (deeds_of past) ds) s ≤ known_count held_after s
     stays no_restart =
         let same : count (after (deeds_of past) ds) s ≡ count (deeds_of past) s = count_after_other ds (deeds_of past) s (no_crash words s past mail load step.input ds (rule objects g mail step.input) n no_restart) in
         let known = from_old (s, count (deeds_of past) s) was.present in
         omega (arith, same, known)
 
-    restarted : (m : ℕ) → step.input ≡ Restarts m → count (after (deeds_of past) ds) s ≤ known_count K2 s
+    restarted : (m : ℕ) → step.input ≡ Restarts m → count (after (deeds_of past) ds) s ≤ known_count held_after s
     restarted m is =
         let first : List Deed = held_informs objects s past brought in
         let whole : ds ≡ first ++ Crash s ∷ [] = n.deeds ∙ ap (λ (i : Input). first ++ (rule objects g mail i).deeds) is in
@@ -189,18 +189,18 @@ sound_more words s own taken e low high step was = record { long = long; present
         ∙ ap (λ (L : List Deed). count L s) (after_append (deeds_of past) first (Crash s ∷ []))
         ∙ ap (λ (b : Bool). if b then count (after (deeds_of past) first) s + 1 else count (after (deeds_of past) first) s) (eq-eqb s s refl)
         ∙ ap (λ (k : ℕ). k + 1) (present_is objects s past load) in
-        let learned_it : K2 ≡ with_count s (count (deeds_of past) s + 1) K1 =
-        ap (λ (l : List Deed). learned_by objects past mail K1 l) whole ∙ learned_informs objects past mail K1 s first (Crash s ∷ []) (first_inform objects s past load) in
-        let room = greater_long K0.counts brought.counts was.long in
-        let raised : known_count K2 s ≡ max (slice_index K1.counts (s - 1)) (count (deeds_of past) s + 1) =
+        let learned_it : held_after ≡ with_count s (count (deeds_of past) s + 1) with_brought =
+        ap (λ (l : List Deed). learned_by objects past mail with_brought l) whole ∙ learned_informs objects past mail with_brought s first (Crash s ∷ []) (first_inform objects s past load) in
+        let room = greater_long held_before.counts brought.counts was.long in
+        let raised : known_count held_after s ≡ max (slice_index with_brought.counts (s - 1)) (count (deeds_of past) s + 1) =
         ap (λ (k : Knowledge). known_count k s) learned_it
-        ∙ get_or-set_same K1.counts (s - 1) (max (slice_index K1.counts (s - 1)) (count (deeds_of past) s + 1)) 0 (omega (arith, low, high, room)) in
+        ∙ get_or-set_same with_brought.counts (s - 1) (max (slice_index with_brought.counts (s - 1)) (count (deeds_of past) s + 1)) 0 (omega (arith, low, high, room)) in
         omega (arith, counted, raised)
 
-    now : count (after (deeds_of past) ds) s ≤ known_count K2 s
+    now : count (after (deeds_of past) ds) s ≤ known_count held_after s
     now = by step.input refl
       where
-        by : (i : Input) → step.input ≡ i → count (after (deeds_of past) ds) s ≤ known_count K2 s
+        by : (i : Input) → step.input ≡ i → count (after (deeds_of past) ds) s ≤ known_count held_after s
         by (Restarts m) is = restarted m is
         by (Begins m) is = stays (ap is_restart is)
         by (Requests r) is = stays (ap is_restart is)
