@@ -17,7 +17,8 @@ fn two_seats(
     mut seats: Seats<Numbers>,
 ) -> Option<(NodeSeat<Numbers>, NodeSeat<Numbers>)>
     requires { AreNew journal.now.id 2 seats.items }
-    ensures { IfSome result (λ two. (two.0.journal ≡ journal.now.id) × (two.0.node ≡ 1) × (two.0.history ≡ []) × (two.1.journal ≡ journal.now.id) × (two.1.node ≡ 2)) }
+    ensures { IfSome result (λ two. (two.0.journal ≡ journal.now.id) × (two.0.node ≡ 1)
+        × (two.0.history ≡ []) × (two.1.journal ≡ journal.now.id) × (two.1.node ≡ 2)) }
 {
     let two = seats.pop()?;
     let one = seats.pop()?;

@@ -7,24 +7,80 @@ use cam_run::{camelot, worked_answers};
 use std::alloc::Global;
 use std::test::Fail;
 
-const FIRST_PATH: &str =
-    "nodes 1\nobject x 1 register 0\nbegin A 1\nbegin B 1\ncall A x write 5\ndeliver 1\ndeliver 2\ncall B x read\ndeliver 3\ndeliver 4\ncall A x read\n";
+const FIRST_PATH: &str = "nodes 1
+object x 1 register 0
+begin A 1
+begin B 1
+call A x write 5
+deliver 1
+deliver 2
+call B x read
+deliver 3
+deliver 4
+call A x read
+";
 
-const FIRST_REPORT: &str =
-    "action 1.1.1 open\n  created\n  called 1 x write 5\n  got 1 ok\n  called 2 x read\naction 1.1.2 open\n  created\n  called 1 x read\n  got 1 busy 1.1.1\nvalue x 0\n";
+const FIRST_REPORT: &str = "action 1.1.1 open
+  created
+  called 1 x write 5
+  got 1 ok
+  called 2 x read
+action 1.1.2 open
+  created
+  called 1 x read
+  got 1 busy 1.1.1
+value x 0
+";
 
-const REFUSED_CALL: &str =
-    "nodes 1\nobject x 1 register 0\nbegin A 1\nbegin B 1\ncall A x write 5\ndeliver 1\ndeliver 2\ncall B x read\ndeliver 3\ndeliver 4\ncall B x read\ncall B x read\n";
+const REFUSED_CALL: &str = "nodes 1
+object x 1 register 0
+begin A 1
+begin B 1
+call A x write 5
+deliver 1
+deliver 2
+call B x read
+deliver 3
+deliver 4
+call B x read
+call B x read
+";
 
-const REFUSED_REPORT: &str =
-    "action 1.1.1 open\n  created\n  called 1 x write 5\n  got 1 ok\naction 1.1.2 open\n  created\n  called 1 x read\n  got 1 busy 1.1.1\n  called 2 x read\nrefused 12 L5\nvalue x 0\n";
+const REFUSED_REPORT: &str = "action 1.1.1 open
+  created
+  called 1 x write 5
+  got 1 ok
+action 1.1.2 open
+  created
+  called 1 x read
+  got 1 busy 1.1.1
+  called 2 x read
+refused 12 L5
+value x 0
+";
 
 /// A letter that is delivered twice, the second reply before the first.
-const REPEATED: &str =
-    "nodes 1\nobject x 1 register 7\nbegin A 1\ncall A x swap 5\ndeliver 1\ndeliver 1\ndeliver 3\ndeliver 2\ncall A x read\ndeliver 4\ndeliver 5\n";
+const REPEATED: &str = "nodes 1
+object x 1 register 7
+begin A 1
+call A x swap 5
+deliver 1
+deliver 1
+deliver 3
+deliver 2
+call A x read
+deliver 4
+deliver 5
+";
 
-const REPEATED_REPORT: &str =
-    "action 1.1.1 open\n  created\n  called 1 x swap 5\n  got 1 value 7\n  called 2 x read\n  got 2 value 5\nvalue x 7\n";
+const REPEATED_REPORT: &str = "action 1.1.1 open
+  created
+  called 1 x swap 5
+  got 1 value 7
+  called 2 x read
+  got 2 value 5
+value x 7
+";
 
 const USAGE: &str =
     "usage: camelot run | trace | witness NAME | gen SEED SIZE | storm SEED ACTIONS THREADS MODE | inspect\n";
@@ -146,7 +202,7 @@ impl Sink for Narrow {
     }
 }
 
-/// Each write fails in turn: a front of the text stands there, and the whole where none fails.
+/// Each write fails in turn: a prefix of the text stands there, and the whole where none fails.
 #[test]
 fn a_sink_that_fails(rt: HostRuntime) -> Result<(), Fail> {
     let alloc = rt.alloc();
