@@ -8,3 +8,8 @@ pub mod Room
 pub mod Changes
 pub mod Lines
 pub mod Deliveries
+pub mod Seen
+pub mod LineOwes
+pub mod Disks
+pub mod AtWork
+pub mod Arrivals

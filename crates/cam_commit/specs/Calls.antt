@@ -1,5 +1,6 @@
 -- What each call answers, and what it does to the families.
-use Rattle.std.specs.Prelude.{◌≡◌, ℕ, eqb, nat_lt, min, Bool, true, false, not, ◌&&◌, ◌||◌, if◌then◌else◌, List}
+use Rattle.std.specs.Prelude.{◌≡◌, ℕ, eqb, nat_lt, min, Bool, true, false, not, ◌&&◌, ◌||◌}
+use Rattle.std.specs.Prelude.{if◌then◌else◌, List}
 use Rattle.std.specs.List.{list_all}
 use Rattle.std.specs.HashSet.{contains, spare}
 use Rattle.cam_names.specs.declared.name.Name.{Name}
@@ -58,13 +59,13 @@ pub record IsSecured (f : Name) (old new : Families) : Type 0 where
   pub votes : (g : Name) (m c : ℕ) → new.has_vote g m c ≡ old.has_vote g m c
   pub secured : (g : Name) → new.is_secured g ≡ (name_eq f g || old.is_secured g)
 
--- Each node on which the family depends has voted yes at its count.
-abbrev pub has_each_vote : Families → Name → List ℕ → Bool
-has_each_vote families f counts = list_all (λ p. families.has_vote f p.0 p.1) (pairs_of counts)
+-- whether a node at a count has voted yes for the family of a vote, this vote yes with the others
+abbrev pub has_with : Families → Yes → ℕ → ℕ → Bool
+has_with old v m c = yes_eq v (yes v.family m c) || old.has_vote v.family m c
 
--- The same, this vote yes with them.
+-- Each node on which the family depends has voted yes at its count, this vote yes with them.
 abbrev pub is_last : Families → Yes → List ℕ → Bool
-is_last old v counts = list_all (λ p. yes_eq v (yes v.family p.0 p.1) || old.has_vote v.family p.0 p.1) (pairs_of counts)
+is_last old v counts = list_all (λ p. has_with old v p.0 p.1) (pairs_of counts)
 
 -- A vote: the first no decides, and the last yes.
 abbrev pub voted_by : Families → Yes → Bool → List ℕ → Voted
@@ -79,11 +80,26 @@ ends voted.All = true
 ends voted.No = true
 ends _ = false
 
--- a family that a vote has decided is preparing no longer; a vote yes for one that is preparing is noted
+-- a vote yes is noted
+pub record IsNoted (v : Yes) (old new : Families) : Type 0 where
+  pub preparing : (g : Name) → new.is_preparing g ≡ old.is_preparing g
+  pub votes : (g : Name) (m c : ℕ) → new.has_vote g m c ≡ (yes_eq v (yes g m c) || old.has_vote g m c)
+  pub secured : (g : Name) → new.is_secured g ≡ old.is_secured g
+
+-- a family is preparing no longer
+pub record IsEnded (f : Name) (old new : Families) : Type 0 where
+  pub preparing : (g : Name) → new.is_preparing g ≡ (if name_eq f g then false else old.is_preparing g)
+  pub votes : (g : Name) (m c : ℕ) → new.has_vote g m c ≡ old.has_vote g m c
+  pub secured : (g : Name) → new.is_secured g ≡ old.is_secured g
+
+-- a family that a vote has decided is preparing no longer; a vote yes for one that is preparing is
+-- noted
 pub record IsVoted (v : Yes) (agrees : Bool) (result : Voted) (old new : Families) : Type 0 where
-  pub preparing : (g : Name) → new.is_preparing g ≡ (if ends result && name_eq v.family g then false else old.is_preparing g)
+  pub preparing : (g : Name) → new.is_preparing g
+      ≡ (if ends result && name_eq v.family g then false else old.is_preparing g)
   pub votes :
-      (g : Name) (m c : ℕ) → new.has_vote g m c ≡ ((old.is_preparing v.family && (agrees && yes_eq v (yes g m c))) || old.has_vote g m c)
+      (g : Name) (m c : ℕ) → new.has_vote g m c
+      ≡ ((old.is_preparing v.family && (agrees && yes_eq v (yes g m c))) || old.has_vote g m c)
   pub secured : (g : Name) → new.is_secured g ≡ old.is_secured g
 
 -- both by the tables themselves
@@ -113,7 +129,8 @@ queried_by decided f present =
 
 -- the same by what the node knows and has secured
 abbrev pub asked_of : Knowledge → Families → Name → ℕ → ℕ → Asked
-asked_of k families f count present = asked_by (is_decided k f) (families.is_secured f) count present
+asked_of k families f count present = asked_by (is_decided k f)
+    (families.is_secured f) count present
 
 abbrev pub queried_of : Knowledge → Name → ℕ → Queried
 queried_of k f present = queried_by (is_decided k f) f present

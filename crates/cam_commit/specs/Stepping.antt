@@ -1,5 +1,7 @@
--- One more step of a node, by the letter that comes: which call makes the families answer as the longer history does.
-use Rattle.std.specs.Prelude.{◌≡◌, ℕ, ℤ, Bool, true, false, not, ◌&&◌, ◌||◌, List, ◌∷◌, map, Option, Some, is_some}
+-- One more step of a node, by the letter that comes: which call makes the families answer as the
+-- longer history does.
+use Rattle.std.specs.Prelude.{◌≡◌, ℕ, ℤ, Bool, true, false, not, ◌&&◌, ◌||◌, List, ◌∷◌, map, Option}
+use Rattle.std.specs.Prelude.{Some, is_some}
 use Rattle.cam_names.specs.declared.name.Name.{Name}
 use Rattle.cam_names.specs.Names.{is_top, parent, home_count}
 use Rattle.cam_names.specs.Dependencies.{pairs_of}
@@ -20,13 +22,16 @@ use Rattle.cam_commit.specs.Steps.{is_late, is_restarting, is_mail, stepped}
 
 -- What a node is preparing is of its present count.
 abbrev pub ArePresent : ℕ → List Carried → Type 0
-ArePresent s before = (f : Name) → is_some (votes (map entry_of before) f) ≡ true → home_count f ≡ count (deeds_of before) s
+ArePresent s before = (f : Name) → is_some (votes (map entry_of before) f) ≡ true
+    → home_count f ≡ count (deeds_of before) s
 
 -- the event of a letter that comes
 abbrev pub received : List ObjectDecl → ℕ → List Carried → LetterId → Mail → Knowledge → Carried
-received objects s before letter mail brought = stepped objects s before (Receives letter) (Some mail) brought
+received objects s before letter mail brought =
+    stepped objects s before (Receives letter) (Some mail) brought
 
--- A letter that does not concern the families is no finish of a top action, no prepare and no vote. Without one nothing does but a restart.
+-- A letter that does not concern the families is no finish of a top action, no prepare and no vote.
+-- Without one nothing does but a restart.
 abbrev pub concerns : Body → Bool
 concerns (bodies.Finish f v counts) = not (is_some (parent f))
 concerns (bodies.Prepare f n) = true
@@ -35,20 +40,26 @@ concerns _ = false
 
 abbrev pub OtherStepKeeps : Type 0
 OtherStepKeeps =
-    (objects : List ObjectDecl) (s : ℕ) (before : List Carried) (input : Input) (mail : Option Mail) (brought : Knowledge)
+    (objects : List ObjectDecl) (s : ℕ) (before : List Carried) (input : Input) (mail : Option Mail)
+    (brought : Knowledge)
     (old new : Families)
-    → is_restarting input ≡ false → is_mail concerns mail ≡ false → AreSame old new → CommitsFamilies objects s before old
+    → is_restarting input ≡ false → is_mail concerns mail ≡ false → AreSame old new
+    → CommitsFamilies objects s before old
     → CommitsFamilies objects s (stepped objects s before input mail brought ∷ before) new
 
--- A vote comes. Where it is late, as one for a family of another count is, the families stay as they are; else they count it.
-pub record TakesVote (g : Sight) (from : ℕ) (f : Name) (n : ℕ) (agrees : Bool) (old new : Families) : Type 0 where
+-- A vote comes. Where it is late, as one for a family of another count is, the families stay as
+-- they are; else they count it.
+pub record TakesVote (g : Sight) (from : ℕ) (f : Name) (n : ℕ) (agrees : Bool)
+    (old new : Families) : Type 0 where
   pub late : is_late g f ≡ true → AreSame old new
   pub in_time :
-      is_late g f ≡ false → IsVoted (yes f from n) agrees (voted_by old (yes f from n) agrees (g.deps f)) old new
+      is_late g f ≡ false → IsVoted (yes f from n) agrees
+      (voted_by old (yes f from n) agrees (g.deps f)) old new
 
 abbrev pub VoteStepKeeps : Type 0
 VoteStepKeeps =
-    (objects : List ObjectDecl) (s : ℕ) (before : List Carried) (letter : LetterId) (mail : Mail) (brought : Knowledge)
+    (objects : List ObjectDecl) (s : ℕ) (before : List Carried) (letter : LetterId) (mail : Mail)
+    (brought : Knowledge)
     (f : Name) (n : ℕ) (agrees : Bool) (old new : Families)
     → mail.body ≡ bodies.Vote f n agrees → ArePresent s before
     → TakesVote (held_sight objects s before brought) mail.from f n agrees old new
@@ -68,16 +79,19 @@ asked_at g families f n = asked_by (knows_outcome g f) (families.is_secured f) n
 
 abbrev pub PrepareStepKeeps : Type 0
 PrepareStepKeeps =
-    (objects : List ObjectDecl) (s : ℕ) (before : List Carried) (letter : LetterId) (mail : Mail) (brought : Knowledge)
+    (objects : List ObjectDecl) (s : ℕ) (before : List Carried) (letter : LetterId) (mail : Mail)
+    (brought : Knowledge)
     (f : Name) (n : ℕ) (old new : Families)
     → mail.body ≡ bodies.Prepare f n
     → TakesPrepare f (asked_at (held_sight objects s before brought) old f n) old new
     → CommitsFamilies objects s before old
     → CommitsFamilies objects s (received objects s before letter mail brought ∷ before) new
 
--- A finish of a top action comes. It begins the family where it is not late, and the action is not preparing and no orphan.
+-- A finish of a top action comes. It begins the family where it is not late, and the action is not
+-- preparing and no orphan.
 abbrev pub is_begun : Sight → Families → Name → Bool
-is_begun g families f = not (is_late g f || families.is_preparing f) && not (is_some (g.orphan f (pairs_of (g.deps f))))
+is_begun g families f = not (is_late g f || families.is_preparing f)
+    && not (is_some (g.orphan f (pairs_of (g.deps f))))
 
 pub record TakesFinish (g : Sight) (f : Name) (old new : Families) : Type 0 where
   pub begun : is_begun g old f ≡ true → IsPrepared f old new
@@ -85,7 +99,8 @@ pub record TakesFinish (g : Sight) (f : Name) (old new : Families) : Type 0 wher
 
 abbrev pub FinishStepKeeps : Type 0
 FinishStepKeeps =
-    (objects : List ObjectDecl) (s : ℕ) (before : List Carried) (letter : LetterId) (mail : Mail) (brought : Knowledge)
+    (objects : List ObjectDecl) (s : ℕ) (before : List Carried) (letter : LetterId) (mail : Mail)
+    (brought : Knowledge)
     (f : Name) (v : ℤ) (counts : List ℕ) (old new : Families)
     → mail.body ≡ bodies.Finish f v counts → is_top f ≡ true
     → TakesFinish (held_sight objects s before brought) f old new

@@ -1,6 +1,8 @@
--- The calls are the rules: what a node does with a finish or a quit of a top action, with a prepare, a vote or a query follows from what the
--- families answer; and which kind each event of a node is.
-use Rattle.std.specs.Prelude.{◌≡◌, ℕ, ℤ, Bool, true, false, not, ◌||◌, if◌then◌else◌, List, [], Option, Some, None, unwrap_or}
+-- The calls are the rules: what a node does with a finish or a quit of a top action, with a
+-- prepare, a vote or a query follows from what the families answer; and which kind each event of a
+-- node is.
+use Rattle.std.specs.Prelude.{◌≡◌, ℕ, ℤ, Bool, true, false, not, ◌||◌, if◌then◌else◌, List, []}
+use Rattle.std.specs.Prelude.{Option, Some, None, unwrap_or}
 use Rattle.std.specs.List.{list_any}
 use Rattle.cam_names.specs.declared.name.Name.{Name}
 use Rattle.cam_names.specs.Names.{name_eq, is_top}
@@ -13,8 +15,10 @@ use Rattle.cam_event.specs.declared.Deed.TheVariants.{Secure}
 use Rattle.cam_event.specs.declared.Note.TheVariants as notes
 use Rattle.cam_event.specs.History.{secured_at, is_secure_at}
 use Rattle.cam_event.specs.Inputs.{Input, Receives, Restarts, Mail}
-use Rattle.cam_event.specs.Sights.{Sight, votes, present, is_present, is_preparing, is_preparing_note, knows_outcome}
-use Rattle.cam_event.specs.Rules.{Did, did, one, send, answers, nothing_but, commits, aborts, news, prepares, vote, prepare_comes, vote_comes, query_comes, arrives}
+use Rattle.cam_event.specs.Sights.{Sight, votes, present, is_present, is_preparing}
+use Rattle.cam_event.specs.Sights.{is_preparing_note, knows_outcome}
+use Rattle.cam_event.specs.Rules.{Did, did, one, send, answers, nothing_but, commits, aborts, news}
+use Rattle.cam_event.specs.Rules.{prepares, vote, prepare_comes, vote_comes, query_comes, arrives}
 use Rattle.cam_event.specs.ByKnowledge.{Carried, held_sight, node_step}
 use Rattle.cam_commit.specs.declared.Voted.{Voted}
 use Rattle.cam_commit.specs.declared.Voted.TheVariants as voted
@@ -26,7 +30,8 @@ use Rattle.cam_commit.specs.Families.{Families, CommitsFamilies}
 use Rattle.cam_commit.specs.Calls.{yes, voted_by, asked_by, queried_by}
 use Rattle.cam_commit.specs.Events.{is_restart, is_elsewhere}
 
--- The families answer as what the node goes by, of one family: whether it is preparing, its votes, and whether it is secured here;
+-- The families answer as what the node goes by, of one family: whether it is preparing, its votes,
+-- and whether it is secured here;
 pub record AnswersOf (g : Sight) (f : Name) (families : Families) : Type 0 where
   pub preparing : families.is_preparing f ≡ is_preparing g f
   pub voted : (m c : ℕ) → families.has_vote f m c ≡ has_pair (unwrap_or (votes g.events f) []) m c
@@ -36,25 +41,33 @@ pub record AnswersOf (g : Sight) (f : Name) (families : Families) : Type 0 where
 abbrev pub AnswersSight : Sight → Families → Type 0
 AnswersSight g families = (f : Name) → knows_outcome g f ≡ false → AnswersOf g f families
 
--- Families that answer as a node's history does answer as what the node goes by, whatever a letter brings.
+-- Families that answer as a node's history does answer as what the node goes by, whatever a letter
+-- brings.
 abbrev pub SightIsAnswered : Type 0
 SightIsAnswered =
-    (objects : List ObjectDecl) (s : ℕ) (before : List Carried) (brought : Knowledge) (families : Families)
-    → CommitsFamilies objects s before families → AnswersSight (held_sight objects s before brought) families
+    (objects : List ObjectDecl) (s : ℕ) (before : List Carried) (brought : Knowledge)
+    (families : Families)
+    → CommitsFamilies objects s before families
+    → AnswersSight (held_sight objects s before brought) families
 
--- A home hears of a family late where it is of another count than the present one, or its outcome is known.
+-- A home hears of a family late where it is of another count than the present one, or its outcome
+-- is known.
 abbrev pub is_late : Sight → Name → Bool
 is_late g f = not (is_present g f) || knows_outcome g f
 
--- A top action finishes: it is prepared at each node on which it depends, or is aborted for an orphan. Once it is preparing that is late.
+-- A top action finishes: it is prepared at each node on which it depends, or is aborted for an
+-- orphan. Once it is preparing that is late.
 abbrev pub did_finish : Sight → Families → Name → Did
 did_finish g families f =
-    if is_late g f || families.is_preparing f then nothing_but notes.Late else prepares g f (g.orphan f (pairs_of (g.deps f)))
+    if is_late g f || families.is_preparing f then nothing_but notes.Late
+    else prepares g f (g.orphan f (pairs_of (g.deps f)))
 
 abbrev pub TopFinishIsRule : Type 0
 TopFinishIsRule =
-    (objects : List ObjectDecl) (g : Sight) (families : Families) (from : ℕ) (f : Name) (v : ℤ) (counts : List ℕ)
-    → is_top f ≡ true → AnswersSight g families → arrives objects g from (bodies.Finish f v counts) ≡ did_finish g families f
+    (objects : List ObjectDecl) (g : Sight) (families : Families) (from : ℕ) (f : Name) (v : ℤ)
+    (counts : List ℕ)
+    → is_top f ≡ true → AnswersSight g families
+    → arrives objects g from (bodies.Finish f v counts) ≡ did_finish g families f
 
 -- A top action quits: it is aborted, also where it is preparing.
 abbrev pub did_quit : Sight → Name → Did
@@ -75,7 +88,8 @@ did_asked g f c asked.Secure = did (one (Secure f g.node c)) (vote f c true)
 abbrev pub AskedIsRule : Type 0
 AskedIsRule =
     (g : Sight) (families : Families) (f : Name) (c : ℕ) → AnswersSight g families
-    → prepare_comes g f c ≡ did_asked g f c (asked_by (knows_outcome g f) (families.is_secured f) c (present g))
+    → prepare_comes g f c ≡ did_asked g f c (asked_by (knows_outcome g f) (families.is_secured f) c
+    (present g))
 
 -- what a home does by what a vote makes of the family
 abbrev pub did_voted : Sight → Name → Voted → Did
@@ -87,11 +101,13 @@ did_voted g f voted.Some = nothing_but notes.Voted
 -- The families are asked of a vote only where it is not late.
 abbrev pub did_vote : Sight → Families → ℕ → Name → ℕ → Bool → Did
 did_vote g families from f c agrees =
-    if is_late g f then nothing_but notes.Late else did_voted g f (voted_by families (yes f from c) agrees (g.deps f))
+    if is_late g f then nothing_but notes.Late
+    else did_voted g f (voted_by families (yes f from c) agrees (g.deps f))
 
 abbrev pub VotedIsRule : Type 0
 VotedIsRule =
-    (g : Sight) (families : Families) (from : ℕ) (f : Name) (c : ℕ) (agrees : Bool) → AnswersSight g families
+    (g : Sight) (families : Families) (from : ℕ) (f : Name) (c : ℕ) (agrees : Bool)
+    → AnswersSight g families
     → vote_comes g from f c agrees ≡ did_vote g families from f c agrees
 
 -- what a home does by its answer to a query
@@ -101,7 +117,8 @@ did_queried g from f queried.Abort = did (aborts g f) (one (send from bodies.New
 did_queried g from f queried.StillOpen = nothing_but notes.Late
 
 abbrev pub QueriedIsRule : Type 0
-QueriedIsRule = (g : Sight) (from : ℕ) (f : Name) → query_comes g from f ≡ did_queried g from f (queried_by (knows_outcome g f) f (present g))
+QueriedIsRule = (g : Sight) (from : ℕ) (f : Name)
+    → query_comes g from f ≡ did_queried g from f (queried_by (knows_outcome g f) f (present g))
 
 -- the input is a restart
 abbrev pub is_restarting : Input → Bool
@@ -131,15 +148,18 @@ abbrev pub stepped : List ObjectDecl → ℕ → List Carried → Input → Opti
 stepped objects s before input mail brought =
     record { event = node_step objects s before input mail brought; mail = mail; brought = brought }
 
--- Of which kind an event of a node is: just a restart crashes it, just a finish of a family begins it, just a prepare secures it; and a
--- node's Secures are its own.
+-- Of which kind an event of a node is: just a restart crashes it, just a finish of a family begins
+-- it, just a prepare secures it; and a node's Secures are its own.
 pub record IsOfKind (s : ℕ) (input : Input) (c : Carried) : Type 0 where
   pub restarts : is_restart c ≡ is_restarting input
-  pub begins : (f : Name) → is_preparing_note f c.event.note ≡ true → brings (is_finish_of f) input c.mail ≡ true
-  pub secures : (f : Name) → list_any (is_secure_at f s) c.event.deeds ≡ true → brings (is_prepare_of f) input c.mail ≡ true
+  pub begins : (f : Name) → is_preparing_note f c.event.note ≡ true
+      → brings (is_finish_of f) input c.mail ≡ true
+  pub secures : (f : Name) → list_any (is_secure_at f s) c.event.deeds ≡ true
+      → brings (is_prepare_of f) input c.mail ≡ true
   pub own : list_any (is_elsewhere s) c.event.deeds ≡ false
 
 abbrev pub StepsAreOfKind : Type 0
 StepsAreOfKind =
-    (objects : List ObjectDecl) (s : ℕ) (before : List Carried) (input : Input) (mail : Option Mail) (brought : Knowledge)
+    (objects : List ObjectDecl) (s : ℕ) (before : List Carried) (input : Input) (mail : Option Mail)
+    (brought : Knowledge)
     → IsOfKind s input (stepped objects s before input mail brought)

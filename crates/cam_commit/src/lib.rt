@@ -1,18 +1,26 @@
-//! Two-phase commit: the families that a node prepares as their home, with the votes for them, and those that it has secured as a site.
+//! Two-phase commit: the families that a node prepares as their home, with the votes for them, and
+//! those that it has secured as a site.
 //!
-//! Each call is one rule: `vote` counts a vote, `asked` answers a home that prepares a family, `query` answers a site that asks after one.
-//! What a family depends on is handed to `vote`, since the actions' layer keeps it. `reserve` makes all growth before a step; what follows
-//! takes no memory. Tables of hashes, so that a call costs some look-ups and not what is kept.
+//! Each call is one rule: `vote` counts a vote, `asked` answers a home that prepares a family,
+//! `query` answers a site that asks after one. What a family depends on is handed to `vote`, since
+//! the actions' layer keeps it. `reserve` makes all growth before a step; what follows takes no
+//! memory. Tables of hashes, so that a call costs some look-ups and not what is kept.
 //!
-//! Its law: after each event of a node the families answer as the node's history does (`one_more_event`, `one_more_call`, `one_more_step`),
-//! and after a restart too (`after_restart`). It stands on `cam_event` (histories and rules) and `cam_know` (knowledge).
+//! Its law: after each event of a node the families answer as the node's history does
+//! (`one_more_event`, `one_more_call`, `one_more_step`), and after a restart too (`after_restart`).
+//! It stands on `cam_event` (histories and rules) and `cam_know` (knowledge).
 #![tactic(auto)]
 
 ghost use Rattle.std.specs.Prelude.{◌≡◌, ◌≤◌, false, map, IfOk, IsOk, OnOk};
-ghost use Rattle.cam_commit.specs.Calls.{yes, answers, has_each_vote, AreNone, AreSame, IsPrepared, IsSecured, IsVotedIn, voted_in, asked_of, queried_of};
-ghost use Rattle.cam_commit.specs.Events.{KeepsOverEvent, QuietKeeps, PrepareKeeps, VoteKeeps, SecureKeeps, families_of, AreRecovered, RecoversFamilies};
-ghost use Rattle.cam_commit.specs.Stepping.{FinishStepKeeps, PrepareStepKeeps, VoteStepKeeps, OtherStepKeeps};
-ghost use Rattle.cam_commit.specs.Steps.{SightIsAnswered, TopFinishIsRule, TopQuitIsRule, AskedIsRule, VotedIsRule, QueriedIsRule, StepsAreOfKind};
+ghost use Rattle.cam_commit.specs.Calls.{yes, answers, has_with, is_last, AreNone, IsEnded, IsNoted};
+ghost use Rattle.cam_commit.specs.Calls.{AreSame, IsPrepared, IsSecured, IsVotedIn, voted_in, asked_of};
+ghost use Rattle.cam_commit.specs.Calls.{queried_of};
+ghost use Rattle.cam_commit.specs.Events.{KeepsOverEvent, QuietKeeps, PrepareKeeps, VoteKeeps};
+ghost use Rattle.cam_commit.specs.Events.{SecureKeeps, families_of, AreRecovered, RecoversFamilies};
+ghost use Rattle.cam_commit.specs.Stepping.{FinishStepKeeps, PrepareStepKeeps, VoteStepKeeps};
+ghost use Rattle.cam_commit.specs.Stepping.{OtherStepKeeps};
+ghost use Rattle.cam_commit.specs.Steps.{SightIsAnswered, TopFinishIsRule, TopQuitIsRule};
+ghost use Rattle.cam_commit.specs.Steps.{AskedIsRule, VotedIsRule, QueriedIsRule, StepsAreOfKind};
 
 use cam_base::NoMemory;
 use cam_know::Know;
@@ -66,7 +74,8 @@ pub(crate) struct Yes {
     count: u32,
 }
 
-/// The families that a node is committing: those that it prepares, with their votes, and those that it has secured.
+/// The families that a node is committing: those that it prepares, with their votes, and those that
+/// it has secured.
 #[derive(Drop)]
 pub struct Families {
     preparing: HashSet<Name>,
@@ -97,7 +106,8 @@ impl Families {
         Ok(families)
     }
 
-    /// Makes room for one more of each: after it the next `prepare`, `vote` or `secured` takes no memory. What is answered stays the same.
+    /// Makes room for one more of each: after it the next `prepare`, `vote` or `secured` takes no
+    /// memory. What is answered stays the same.
     pub fn reserve(&mut self) -> Result<(), NoMemory>
         ensures same { AreSame (answers self.old) (answers self.new) }
         ensures ok { OnOk result (1 ≤ (answers self.new).room) }
@@ -116,7 +126,8 @@ impl Families {
         self.preparing.contains(family)
     }
 
-    /// Its home begins to prepare a family, which is not preparing. There is room, so it takes no memory.
+    /// Its home begins to prepare a family, which is not preparing. There is room, so it takes no
+    /// memory.
     pub fn prepare(&mut self, family: &Name)
         requires room { 1 ≤ (answers self.old).room }
         requires begins { (answers self.old).is_preparing family.now ≡ false }
@@ -133,56 +144,101 @@ impl Families {
         let _ = self.secured.insert(*family);
     }
 
-    /// A node at a count votes for a family, which depends on `deps`. There is room, so it takes no memory.
+    /// Whether this site has secured the family.
+    pub fn is_secured(&self, family: &Name) -> bool
+        ensures { result ≡ (answers self.now).is_secured family.now }
+    {
+        self.secured.contains(family)
+    }
+
+    /// What a vote of a node at a count will make of a family, which depends on `deps`. It takes no memory.
+    pub fn weigh(&self, family: &Name, node: u8, count: u32, agrees: bool, deps: &Deps) -> Voted
+        ensures { result ≡ voted_in self.now (yes family.now node count) agrees deps.now }
+    {
+        let vote = Yes {
+            family: *family,
+            node,
+            count,
+        };
+        if !self.is_preparing(family) {
+            Voted::Late
+        } else if !agrees {
+            Voted::No
+        } else if self.is_last(&vote, deps) {
+            Voted::All
+        } else {
+            Voted::Some
+        }
+    }
+
+    /// A node at a count votes for a family, which depends on `deps`. There is room, so it takes no
+    /// memory.
     pub fn vote(&mut self, family: &Name, node: u8, count: u32, agrees: bool, deps: &Deps) -> Voted
         requires { 1 ≤ (answers self.old).room }
         ensures value { result ≡ voted_in self.old (yes family.now node count) agrees deps.now }
         ensures new { IsVotedIn (yes family.now node count) agrees result self.old self.new }
     {
-        if !self.is_preparing(family) {
-            return Voted::Late;
-        }
-        if !agrees {
-            let _ = self.preparing.remove(family);
-            return Voted::No;
-        }
-        let _ = self.votes.insert(Yes {
+        let voted = self.weigh(family, node, count, agrees, deps);
+        let vote = Yes {
             family: *family,
             node,
             count,
-        });
-        if !self.have_all(family, deps) {
-            return Voted::Some;
+        };
+        match voted {
+            Voted::Late => {}
+            Voted::No => self.end(family),
+            Voted::Some => self.note(&vote),
+            Voted::All => {
+                self.note(&vote);
+                self.end(family);
+            }
         }
-        let _ = self.preparing.remove(family);
-        Voted::All
+        voted
     }
 
-    /// Each node on which the family depends has voted yes at its count.
-    fn have_all(&self, family: &Name, deps: &Deps) -> bool
-        ensures { result ≡ has_each_vote (answers self.now) family.now deps.now }
+    /// A vote yes is noted. There is room, so it takes no memory.
+    fn note(&mut self, vote: &Yes)
+        requires { 1 ≤ (answers self.old).room }
+        ensures { IsNoted vote.now (answers self.old) (answers self.new) }
+    {
+        let _ = self.votes.insert(*vote);
+    }
+
+    /// A family is preparing no longer.
+    fn end(&mut self, family: &Name)
+        ensures { IsEnded family.now (answers self.old) (answers self.new) }
+    {
+        let _ = self.preparing.remove(family);
+    }
+
+    /// Each node on which the family of a vote yes depends has voted yes at its count, this vote with them.
+    fn is_last(&self, vote: &Yes, deps: &Deps) -> bool
+        ensures { result ≡ is_last (answers self.now) vote.now deps.now }
     {
         let counts = deps.counts();
         for node in 1..9 {
             let count = counts[node as usize - 1];
-            if count != 0 && !self.has_yes(family, node, count) {
+            if count != 0 && !self.has_with(vote, node, count) {
                 return false;
             }
         }
         true
     }
 
-    fn has_yes(&self, family: &Name, node: u8, count: u32) -> bool
-        ensures { result ≡ (answers self.now).has_vote family.now node count }
+    /// Whether a node at a count has voted yes for the family of a vote yes, this vote with the others.
+    fn has_with(&self, vote: &Yes, node: u8, count: u32) -> bool
+        ensures { result ≡ has_with (answers self.now) vote.now node count }
     {
-        self.votes.contains(&Yes {
-            family: *family,
+        let other = Yes {
+            family: vote.family,
             node,
             count,
-        })
+        };
+        *vote == other || self.votes.contains(&other)
     }
 
-    /// A home asks this site to secure a family for its count `count`, where the site is at the count `present`. Takes no memory.
+    /// A home asks this site to secure a family for its count `count`, where the site is at the
+    /// count `present`. Takes no memory.
     pub fn asked(&self, family: &Name, count: u32, present: u32, know: &Know) -> Asked
         ensures { result ≡ asked_of know.now (answers self.now) family.now count present }
     {
@@ -197,7 +253,8 @@ impl Families {
         }
     }
 
-    /// A site asks after a family, where this node, its home, is at the count `present`. Takes no memory.
+    /// A site asks after a family, where this node, its home, is at the count `present`. Takes no
+    /// memory.
     pub fn query(&self, family: &Name, present: u32, know: &Know) -> Queried
         ensures { result ≡ queried_of know.now family.now present }
     {
@@ -212,7 +269,8 @@ impl Families {
     }
 }
 
-/// After one more event, which is no restart, the families answer as the node's history does: where each is what the event made of it.
+/// After one more event, which is no restart, the families answer as the node's history does: where
+/// each is what the event made of it.
 pub fn one_more_event()
     ensures { KeepsOverEvent }
 {}
@@ -225,8 +283,9 @@ pub fn one_more_call()
     ensures secured { SecureKeeps }
 {}
 
-/// After one more step the families answer as the longer history does: at a finish of a top action, a prepare and a vote where the node made
-/// the call that stands for it, or none where it is late, and else where it made none. What a node is preparing is of its present count.
+/// After one more step the families answer as the longer history does: at a finish of a top action,
+/// a prepare and a vote where the node made the call that stands for it, or none where it is late,
+/// and else where it made none. What a node is preparing is of its present count.
 pub fn one_more_step()
     ensures finish { FinishStepKeeps }
     ensures prepare { PrepareStepKeeps }
@@ -239,8 +298,9 @@ pub fn after_restart()
     ensures { RecoversFamilies }
 {}
 
-/// Families that answer as a node's history does answer as what the node goes by, whatever a letter brings; and then what the node does with
-/// a finish or a quit of a top action, with a prepare, a vote or a query is what they answer.
+/// Families that answer as a node's history does answer as what the node goes by, whatever a letter
+/// brings; and then what the node does with a finish or a quit of a top action, with a prepare, a
+/// vote or a query is what they answer.
 pub fn calls_are_rules()
     ensures sight { SightIsAnswered }
     ensures finish { TopFinishIsRule }
@@ -250,7 +310,8 @@ pub fn calls_are_rules()
     ensures queried { QueriedIsRule }
 {}
 
-/// Just a restart crashes a node, just a finish begins a family there, just a prepare secures one, and its Secures are its own.
+/// Just a restart crashes a node, just a finish begins a family there, just a prepare secures one,
+/// and its Secures are its own.
 pub fn kinds_of_steps()
     ensures { StepsAreOfKind }
 {}

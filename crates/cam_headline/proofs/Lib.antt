@@ -6,9 +6,6 @@ pub mod CountersRun
 pub mod Stays
 pub mod Secure
 pub mod Recovered
-pub mod Light
-pub mod Lighter
-pub mod Drained
 pub mod HaltedRuns
 pub mod HaltedHeld
 pub mod HaltedWhole
@@ -22,4 +19,3 @@ pub mod KeptOrder
 pub mod KeptSteps
 pub mod KeptPlaces
 pub mod KeptIndices
-pub mod HaltedDrained

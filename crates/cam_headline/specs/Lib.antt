@@ -1,13 +1,11 @@
 pub mod Headline
 pub mod Outcomes
 pub mod Recovery
-pub mod Draining
 pub mod Halted
 pub mod HaltedHeld
 pub mod HaltedHeadline
 pub mod Premises
 pub mod KeptLog
-pub mod HaltedDraining
 pub mod HaltedRows
 pub mod Scene
 pub mod Counters

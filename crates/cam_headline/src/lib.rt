@@ -13,9 +13,7 @@
 #![tactic(auto)]
 
 ghost use Rattle.cam_headline.specs.Counters.{CountersAreReported};
-ghost use Rattle.cam_headline.specs.Draining.{DrainsLeaveNone, EachDeliveryLowers, PlaysLeaveNone};
 ghost use Rattle.cam_headline.specs.Halted.{HaltedCommitNeeds, HaltedDecidedOnce, HaltedEventsAgree, HaltedReplay, HaltedStays, HaltedViews};
-ghost use Rattle.cam_headline.specs.HaltedDraining.{HaltedDeliveriesLower, HaltedDrainsLeaveNone, HaltedPlaysLeaveNone};
 ghost use Rattle.cam_headline.specs.HaltedHeadline.{HaltedHeadline, NoHaltIsTheOneRun};
 ghost use Rattle.cam_headline.specs.HaltedHeld.{HaltedCommittedIsCovered, HaltedCommittedIsSecured, HaltedCrashKeepsOthers, HaltedCrashKeepsSecured, HaltedHeldIsThePast, HaltedHeldWasDecided, HaltedNodesAgree, HaltedNoneIsAborted, HaltedSecuredStays};
 ghost use Rattle.cam_headline.specs.HaltedRows.{AreWorked};
@@ -57,14 +55,6 @@ pub fn recovery_of_runs()
     ensures aborted { NoneIsAborted }
     ensures stays { CommittedStays }
     ensures covered { CommittedIsCovered }
-{}
-
-/// Each delivery of the letter that waits lowers the weight of those that wait, so that a drain,
-/// which makes as many as their weight, leaves none waiting; nor does a play.
-pub fn drains_end()
-    ensures lowers { EachDeliveryLowers }
-    ensures ends { DrainsLeaveNone }
-    ensures plays { PlaysLeaveNone }
 {}
 
 /// The same of runs in which nodes halt, taken events among them: views, the serial order, one
@@ -109,14 +99,6 @@ pub fn kept_logs()
 pub fn halted_headline()
     ensures holds { HaltedHeadline }
     ensures none { NoHaltIsTheOneRun }
-{}
-
-/// In runs in which nodes halt each delivery lowers the weight of the letters that wait, at a halt
-/// too, so a drain leaves none waiting for a node that is not halted; nor does a play.
-pub fn halted_drains_end()
-    ensures lowers { HaltedDeliveriesLower }
-    ensures ends { HaltedDrainsLeaveNone }
-    ensures plays { HaltedPlaysLeaveNone }
 {}
 
 /// Where no disk that was handed in failed, the halts of a run are those of its stop lines, and no

@@ -67,7 +67,7 @@ asks_created g a (wants.GiveUp b) h = by (created g.deeds a) (not (is_open_child
     by false c e = cc
 
 -- the node of an input
-input_node : (objects : List ObjectDecl) (t : List Event) (input : Input) → Ran objects t → MayCome objects t input → ((letter : LetterId) (mail : Mail) → letter_at t letter ≡ Some mail → Travels t mail) → IsNode (node_of t input)
+pub input_node : (objects : List ObjectDecl) (t : List Event) (input : Input) → Ran objects t → MayCome objects t input → ((letter : LetterId) (mail : Mail) → letter_at t letter ≡ Some mail → Travels t mail) → IsNode (node_of t input)
 input_node objects t (Begins s) run may before = may
 input_node objects t (Requests r) run may before =
     let holds : RunHolds objects t = ran_holds objects t run in

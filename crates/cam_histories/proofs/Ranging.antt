@@ -134,7 +134,7 @@ module _ (q : Deed → Bool) where
       by false h one = h
 
 -- a node's count, and how many calls an action has made
-count_number : (L : List Deed) (s : ℕ) → count L s ≡ number_of (is_crash s) L + 1
+pub count_number : (L : List Deed) (s : ℕ) → count L s ≡ number_of (is_crash s) L + 1
 count_number [] s = refl
 count_number (d ∷ L) s = let rest = count_number L s in
     elim (is_crash s d) as (λ b. (if b then count L s + 1 else count L s) ≡ (if b then number_of (is_crash s) L + 1 else number_of (is_crash s) L) + 1) [ true ↦ omega (arith, rest) | false ↦ rest ]

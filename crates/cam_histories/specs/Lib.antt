@@ -3,3 +3,12 @@ pub mod Sending
 pub mod Scripts
 pub mod Ranges
 pub mod Network
+pub mod Flight
+pub mod FlightLaws
+pub mod ReadBack
+pub mod Stepping
+pub mod Whole
+pub mod InputLaws
+pub mod Lines
+pub mod LineLaws
+pub mod Counted

@@ -3,7 +3,8 @@
 //!
 //! A node's step has a precondition over its own history (`cam_node`). Here it is proved that a run meets it: the history of each node is
 //! lawful ([`histories`]), each letter that was sent may be put to its receiver, whenever it comes ([`letters`]), and each input that may
-//! come may be put to its node ([`inputs`]). Laws alone; they stand on `cam_node`, whose definitions they speak of, and on `cam_agree`,
+//! come may be put to its node ([`inputs`]). A network that has the letters of the run goes on to have them ([`flights`]), and with one more
+//! input all nodes stand for the run again ([`run_inputs`]). Laws alone; they stand on `cam_node`, whose definitions they speak of, and on `cam_agree`,
 //! `cam_delta` and `cam_runs`, which say the same of runs by what nodes hold and by pasts.
 #![tactic(auto)]
 
@@ -12,6 +13,14 @@ ghost use Rattle.cam_histories.specs.Network.{NextWaits, HasRunLetters};
 ghost use Rattle.cam_histories.specs.Ranges.{LettersAreInRange, NumbersAreFew, PerformsAreFew};
 ghost use Rattle.cam_histories.specs.Scripts.{BeginningsHold, HaltedScriptsHold, StandingsHold};
 ghost use Rattle.cam_histories.specs.Sending.{LettersAreSent, LettersStay};
+
+mod flight;
+mod steps;
+
+pub use crate::flight::{flights, spelled};
+pub use crate::steps::{
+    letters_read, line_tests, node_steps, numbers_left, run_halts, run_inputs, run_lines,
+};
 
 /// In a run the history of each node is lawful. In a run in which nodes halt it goes through the halts, and where the node's last event was a
 /// taken one it is that of a halted node.

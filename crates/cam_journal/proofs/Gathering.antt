@@ -4,8 +4,6 @@ use Rattle.std.proofs.lemmas.List.{map-append}
 use Rattle.std.proofs.lemmas.List.Elements.{All-weaker, All-nil, All-cons, All-head, All-tail}
 use Rattle.std.specs.Prelude.{All, Contains, Option}
 use mathlib.Core.List.{append_assoc}
-use Rattle.cam_journal.specs.declared.entry.SentLetter.{SentLetter}
-use Rattle.cam_journal.specs.declared.entry.NumberedEvent.{NumberedEvent}
 use Rattle.cam_journal.specs.declared.entry.RunStep.{RunStep}
 use Rattle.cam_journal.specs.declared.view.NodeHistory.{NodeHistory}
 use Rattle.cam_journal.specs.declared.view.SeatView.{SeatView}

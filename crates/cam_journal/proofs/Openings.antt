@@ -8,8 +8,6 @@ use mathlib.Core.Option as maybe
 use lib.ListN.{get_elem?}
 use Rattle.atomic_table.specs.Table.{State, Splits, opening}
 use Rattle.atomic_table.proofs.Lists.{at_set}
-use Rattle.cam_journal.specs.declared.entry.SentLetter.{SentLetter}
-use Rattle.cam_journal.specs.declared.entry.NumberedEvent.{NumberedEvent}
 use Rattle.cam_journal.specs.declared.entry.RunStep.{RunStep}
 use Rattle.cam_journal.specs.declared.view.NodeHistory.{NodeHistory}
 use Rattle.cam_journal.specs.declared.view.SeatView.{SeatView}

@@ -1,7 +1,5 @@
 -- What is gathered from the seats of a journal.
 use Rattle.std.specs.Prelude.{◌≡◌, ◌≢◌, ◌<◌, ◌≤◌, ℕ, All, Contains, List, [], ◌∷◌, map, length, drop, Option, Some, None}
-use Rattle.cam_journal.specs.declared.entry.SentLetter.{SentLetter}
-use Rattle.cam_journal.specs.declared.entry.NumberedEvent.{NumberedEvent}
 use Rattle.cam_journal.specs.declared.entry.RunStep.{RunStep}
 use Rattle.cam_journal.specs.declared.view.SeatView.{SeatView}
 use Rattle.cam_journal.specs.declared.view.SeatView.TheVariants.{Whole}

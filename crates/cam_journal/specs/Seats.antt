@@ -26,6 +26,10 @@ pub record Mention (L : Type 0) : Type 0 where
   pub journal : TableId
   pub sent : SentLetter L
 
+-- a letter with the number of its event and its place
+abbrev pub sent_as : {L : Type 0} → ℕ → ℕ → L → SentLetter L
+sent_as number place letter = record { number = number; place = place; letter = letter }
+
 module _ {E L : Type 0} where
   abbrev pub numbered : NumberedEvent E L → ℕ × E
   numbered entry = (entry.number, entry.event)

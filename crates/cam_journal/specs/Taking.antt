@@ -54,22 +54,33 @@ pub record CanStep {S E L : Type 0} (is_replay : S → ℕ → List (NumberedEve
   pub room : length history < 500000000
   pub letter : IfSome (letter_in input) (λ sent. (goes_to sent.letter ≡ node) × IsFromLawful sends lawful sent)
 
--- After a step the core is the replay of the history with the event that it made, under whatever number, and that event may come next.
--- Where it made none, it is the replay of the old history.
-abbrev pub Steps : {S E L : Type 0} → (S → ℕ → List (NumberedEvent E L) → Type 0) → (E → Option (ℕ × ℕ)) → EventLaw E L → ℕ
-    → List (NumberedEvent E L) → CoreInput L → S → Result (Option E) CoreFault → Type 0
-Steps is_replay names lawful node history input after (Ok None) = is_replay after node history
-Steps is_replay names lawful node history input after (Ok (Some event)) =
-    IsNext names lawful node history (letter_in input) event
-    × ((number : ℕ) → is_replay after node (history ++ entry names number (letter_in input) event ∷ []))
-Steps is_replay names lawful node history input after (Err fault) = is_replay after node history
+-- which event answers an input of a node, after its history
+abbrev pub AnswerLaw : Type 0 → Type 0 → Type 1
+AnswerLaw E L = ℕ → List (NumberedEvent E L) → CoreInput L → E → Type 0
 
--- so for each history with room of which it was the replay, where the letter was sent to its node
-abbrev pub IsStep : {S E L : Type 0} → (S → ℕ → List (NumberedEvent E L) → Type 0) → (E → Option (ℕ × ℕ)) → (L → ℕ) → EventLaw E L → S
-    → CoreInput L → S → Result (Option E) CoreFault → Type 0
-IsStep {E = E} {L = L} is_replay names goes_to lawful before input after result =
-    (node : ℕ) (history : List (NumberedEvent E L)) → is_replay before node history → length history < 500000000
-    → IfSome (letter_in input) (λ sent. goes_to sent.letter ≡ node) → Steps is_replay names lawful node history input after result
+module _ {S E L : Type 0} (is_replay : S → ℕ → List (NumberedEvent E L) → Type 0)
+    (names : E → Option (ℕ × ℕ)) (goes_to : L → ℕ) (lawful : EventLaw E L)
+    (answers : AnswerLaw E L) where
+  -- After a step the core is the replay of the history with the event that it made, under whatever
+  -- number; that event answers the input and may come next. Where it made none, it is the replay of
+  -- the old history.
+  abbrev pub Steps : ℕ → List (NumberedEvent E L) → CoreInput L → S → Result (Option E) CoreFault
+      → Type 0
+  Steps node history input after (Ok None) = is_replay after node history
+  Steps node history input after (Ok (Some event)) =
+      answers node history input event
+      × IsNext names lawful node history (letter_in input) event
+      × ((number : ℕ)
+      → is_replay after node (history ++ entry names number (letter_in input) event ∷ []))
+  Steps node history input after (Err fault) = is_replay after node history
+
+  -- so for each history with room of which it was the replay, where the letter was sent to its node
+  abbrev pub IsStep : S → CoreInput L → S → Result (Option E) CoreFault → Type 0
+  IsStep before input after result =
+      (node : ℕ) (history : List (NumberedEvent E L)) → is_replay before node history
+      → length history < 500000000
+      → IfSome (letter_in input) (λ sent. goes_to sent.letter ≡ node)
+      → Steps node history input after result
 
 -- The count of faults never falls, and a disk fault comes only where it rose.
 abbrev pub FaultsWithCause : {E : Type 0} → ℕ → ℕ → Result E CoreFault → Type 0

@@ -23,7 +23,7 @@ pub type Seats<C> = Vec<NodeSeat<C>>;
 #[derive(Drop)]
 pub struct Journal<C: Core> {
     pub(crate) table: Views<C>,
-    lists: Vec<VecDeque<(u64, C::Event)>>,
+    pub(crate) lists: Vec<VecDeque<(u64, C::Event)>>,
 }
 
 impl<C: Core> Model for Journal<C> {

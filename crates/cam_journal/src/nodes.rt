@@ -36,16 +36,23 @@ pub trait Core: Drop {
         → Option (SentLetter Self.Letter) → Self.Event
         → Type 0 };
 
+    /// Whether an event answers an input of a node, after its history.
+    ghost answers: { ℕ → List (NumberedEvent Self.Event Self.Letter)
+        → CoreInput Self.Letter → Self.Event
+        → Type 0 };
+
     /// Whether the core is the replay of a node's history.
     ghost is_replay: { Self → ℕ → List (NumberedEvent Self.Event Self.Letter) → Type 0 };
 
     /// Whether the core has nothing to do with an input.
     ghost is_idle: { Self → CoreInput Self.Letter → Bool };
 
-    /// Takes a step: an event, or none exactly where there is nothing to do. After none and after a fault the core is as before.
+    /// Takes a step: an event that answers the input, or none exactly where there is nothing to do.
+    /// After none and after a fault the core is the replay of its history as before.
     fn step(&mut self, input: CoreInput<Self::Letter>) -> Result<Option<Self::Event>, CoreFault>
         requires { CanStep is_replay sends goes_to lawful self.old input }
-        ensures step { IsStep is_replay names goes_to lawful self.old input self.new result }
+        ensures step { IsStep is_replay names goes_to lawful answers self.old input self.new
+            result }
         ensures none { IfOk result (λ made. IsNone made ↔ IsTrue (is_idle self.old input)) }
         ensures cause { FaultsWithCause (faults self.old) (faults self.new) result };
 

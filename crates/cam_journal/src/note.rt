@@ -1,5 +1,5 @@
 //! Notes, which stand for letters that were sent.
-ghost use Rattle.std.specs.Prelude.{◌≡◌, ◌≢◌, ℕ, [], Some, All, IsSome, IfOk, MatchOption, slice_get};
+ghost use Rattle.std.specs.Prelude.{◌≡◌, ◌≢◌, ◌↔◌, ℕ, [], Some, All, IsSome, IsTrue, IfOk, MatchOption, slice_get};
 ghost use Rattle.cam_journal.specs.Taking.{IsFromLawful};
 ghost use Rattle.cam_journal.specs.Rule.{HasSent, note_of};
 ghost use Rattle.cam_journal.specs.Seats.{letter_at, with_taken, AreRising};
@@ -17,7 +17,9 @@ use std::marker::{Brand, Model};
 /// it and its place.
 #[derive(Drop)]
 pub struct Note<C: Core> {
-    sent: SentLetter<C::Letter>,
+    number: u64,
+    place: u32,
+    letter: Box<C::Letter>,
     token: Token<C>,
 }
 
@@ -25,14 +27,17 @@ impl<C: Core> Model for Note<C> {
     ghost use Rattle.std.specs.Prelude.{◌≡◌, []};
     ghost use Rattle.cam_journal.specs.declared.view.SeatView.TheVariants.{Posted};
     ghost use Rattle.cam_journal.specs.Taking.{IsFromLawful};
-    ghost use Rattle.cam_journal.specs.Seats.{Mention};
+    ghost use Rattle.cam_journal.specs.Seats.{Mention, sent_as};
 
     ghost Value = { Mention C.Letter };
 
-    ghost view = { λ n. record { journal = n.token.table_id; sent = n.sent } };
+    ghost view = { λ n. record {
+      journal = n.token.table_id;
+      sent = sent_as n.number n.place n.letter.value;
+    } };
 
-    ghost invariant = { λ n. (n.token.me ≡ (Posted n.sent, []))
-        × IsFromLawful C.sends C.lawful n.sent };
+    ghost invariant = { λ n. (n.token.me ≡ (Posted (sent_as n.number n.place n.letter.value), []))
+        × IsFromLawful C.sends C.lawful (sent_as n.number n.place n.letter.value) };
 }
 
 impl<C: Core> Note<C> {
@@ -40,14 +45,21 @@ impl<C: Core> Note<C> {
     pub fn number(&self) -> u64
         ensures { result ≡ self.now.sent.number }
     {
-        self.sent.number
+        self.number
     }
 
     /// The place of the letter among those of its event, from 0. It takes no memory.
     pub fn place(&self) -> u32
         ensures { result ≡ self.now.sent.place }
     {
-        self.sent.place
+        self.place
+    }
+
+    /// The letter. It takes no memory.
+    pub fn letter(&self) -> &C::Letter
+        ensures { result.now ≡ self.now.sent.letter }
+    {
+        &*self.letter
     }
 }
 
@@ -73,7 +85,13 @@ impl<C: Core> Journal<C> {
             letter,
         };
         let token = note_as::<C, Brand>(&self.table.shared, &mut seat.token, &sent);
-        Ok(Note { sent, token })
+        let letter = Box::new(*self.lists.allocator(), sent.letter)?;
+        Ok(Note {
+            number,
+            place,
+            letter,
+            token,
+        })
     }
 
     /// Another note of the same letter. The note stays as it is. It fails only when out of memory.
@@ -82,14 +100,14 @@ impl<C: Core> Journal<C> {
         ensures copy { IfOk result (λ copy. copy ≡ note.old) }
         ensures same { note.new ≡ note.old }
     {
-        let letter = C::copy(&note.sent.letter)?;
-        let sent = SentLetter {
-            number: note.sent.number,
-            place: note.sent.place,
-            letter,
-        };
+        let letter = Box::new(*self.lists.allocator(), C::copy(&*note.letter)?)?;
         let token = self.table.shared.split_seat::<Copies>(&mut note.token);
-        Ok(Note { sent, token })
+        Ok(Note {
+            number: note.number,
+            place: note.place,
+            letter,
+            token,
+        })
     }
 
     /// Takes the letter of a note, whose receipt the seat may record next, in place of one that it took and has not used. It takes no
@@ -101,14 +119,27 @@ impl<C: Core> Journal<C> {
         ensures taken { seat.new ≡ with_taken note.sent seat.old }
         ensures lawful { IsFromLawful C.sends C.lawful note.sent }
     {
-        let Note { sent, token } = note;
-        self.table.shared.join_seat::<Takes>(&mut seat.token, token);
-        let SentLetter {
+        let Note {
             number: _,
             place: _,
             letter,
-        } = sent;
-        letter
+            token,
+        } = note;
+        self.table.shared.join_seat::<Takes>(&mut seat.token, token);
+        Box::into_inner(letter)
+    }
+}
+
+impl<C: Core> NodeSeat<C> {
+    /// Whether an event of the history that has this number sent a letter at this place. It takes
+    /// no memory.
+    pub fn sent(&self, number: u64, place: u32) -> bool
+        ensures { IsTrue result ↔ IsSome (letter_at C.sends self.now.history number place) }
+    {
+        match event_of(&self.entries, number) {
+            Some(event) => place < C::letters(event),
+            None => false,
+        }
     }
 }
 

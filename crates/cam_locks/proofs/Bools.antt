@@ -1,7 +1,8 @@
 -- Tests that answer true or false, and what may be there.
-use Rattle.std.proofs.Common.{◌≡◌, ◌≤◌, ◌<◌, ℕ, eqb, Bool, true, false, not, ◌&&◌, ◌||◌, cond, List, [], ◌∷◌, length, Option, Some, None, Result, Ok, Err, refl, ap, ◌∙◌, arith}
-use Rattle.std.specs.Prelude.{is_none, nat_le, filter, OnErr, OnSome, IsSome}
+use Rattle.std.proofs.Common.{◌≡◌, ◌≤◌, ◌<◌, ℕ, eqb, Bool, true, false, not, ◌&&◌, ◌||◌, cond, List, [], ◌∷◌, length, inl, inr, Option, Some, None, Result, Ok, Err, refl, ap, ◌∙◌, arith}
+use Rattle.std.specs.Prelude.{is_none, is_some, nat_le, filter, find, OnErr, OnSome, IsSome}
 use Rattle.std.specs.Bool.{◌==◌}
+use Rattle.std.proofs.lemmas.Bool.{cases_Bool}
 use Rattle.std.specs.List.{list_any}
 
 -- a test whose negation passes fails
@@ -84,3 +85,26 @@ kept_once {X} test (x ∷ xs) = by_test (test x) refl (kept_once test xs)
     by_test : (b : Bool) → test x ≡ b → filter test (filter test xs) ≡ filter test xs → filter test (cond b (x ∷ filter test xs) (filter test xs)) ≡ cond b (x ∷ filter test xs) (filter test xs)
     by_test true is rest = ap (λ (c : Bool). cond c (x ∷ filter test (filter test xs)) (filter test (filter test xs))) is ∙ ap (λ (ys : List X). x ∷ ys) rest
     by_test false is rest = rest
+
+-- what is found is there
+pub some_found : {X : Type 0} (test : X → Bool) (xs : List X) → is_some (find test xs) ≡ list_any test xs
+some_found test [] = refl
+some_found {X} test (x ∷ xs) = by_test (test x) (some_found test xs)
+  where
+    by_test : (b : Bool) → is_some (find test xs) ≡ list_any test xs → is_some (cond b (Some x) (find test xs)) ≡ (b || list_any test xs)
+    by_test true rest = refl
+    by_test false rest = rest
+
+-- to keep the same twice, with another test between, keeps no less than once
+pub kept_among : {X : Type 0} (p q : X → Bool) (xs : List X) → filter p (filter q (filter p xs)) ≡ filter p (filter q xs)
+kept_among p q [] = refl
+kept_among {X} p q (x ∷ xs) = elim (cases_Bool (p x)) [
+  | inl t ↦ elim (cases_Bool (q x)) [
+    | inl s ↦ simp (t, s) (ap (λ (ys : List X). x ∷ ys) (kept_among p q xs))
+    | inr n ↦ simp (t, n) (kept_among p q xs)
+  ]
+  | inr m ↦ elim (cases_Bool (q x)) [
+    | inl s ↦ simp (m, s) (kept_among p q xs)
+    | inr n ↦ simp (m, n) (kept_among p q xs)
+  ]
+]

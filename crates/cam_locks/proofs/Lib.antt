@@ -46,3 +46,5 @@ pub mod Grants
 pub mod GrantedFits
 mod ServedStates
 pub mod RestoredLists
+pub mod TakenSlots
+pub mod TakenBack

@@ -16,7 +16,7 @@ use Rattle.cam_locks.proofs.Indices.{rise_from_lower, rise_above, rise_later}
 use Rattle.cam_locks.proofs.Slots.{kept, slots_rise}
 use Rattle.cam_locks.proofs.NamedOperations.{named_pushed, named_dropped}
 
-abbrev slot : LiveOp → Slot
+abbrev pub slot : LiveOp → Slot
 slot o = record { operation = o; is_dropped = false }
 
 -- what is live with one more slot

@@ -2,13 +2,15 @@
 use Rattle.std.specs.Prelude.{ℕ, ◌+◌, not, Bool, List, [], ◌∷◌, ◌++◌, filter, map, Option, Some, None}
 use Rattle.std.specs.List.{list_any}
 use Rattle.cam_names.specs.declared.name.Name.{Name}
-use Rattle.cam_names.specs.Names.{name_eq, is_ancestor, family}
+use Rattle.cam_names.specs.Names.{name_eq, is_ancestor, ancestors, family}
 use Rattle.cam_type.specs.declared.ObjectDecl.{ObjectDecl}
 use Rattle.cam_type.specs.declared.Op.{Op}
 use Rattle.cam_type.specs.declared.Answer.{Answer}
 use Rattle.cam_type.specs.declared.HeldOp.{HeldOp}
 use Rattle.cam_type.specs.declared.Held.{Held}
 use Rattle.cam_type.specs.Table.{answer_of}
+use Rattle.cam_know.specs.Knowledge.{Knowledge}
+use Rattle.cam_know.specs.Known.{knows_abort}
 use Rattle.cam_locks.specs.declared.LiveOp.{LiveOp}
 use Rattle.cam_locks.specs.declared.Grant.{Grant}
 use Rattle.cam_locks.specs.declared.Grant.TheVariants.{Done, Conflict}
@@ -61,6 +63,13 @@ held_op o = record { index = o.index; object = o.object; op = o.op }
 -- what is secured of a family: all its live operations, in order
 abbrev pub held : Site → Name → ℕ → Held
 held site f count = record { family = f; count = count; ops = map held_op (filter (is_of f) site.live) }
+
+-- the site without the operations of which the abort of an ancestor is among these outcomes
+abbrev pub is_dropped_by : Knowledge → LiveOp → Bool
+is_dropped_by news o = list_any (knows_abort news) (ancestors o.action)
+
+abbrev pub left_by : Knowledge → Site → Site
+left_by news site = record site { live = filter (λ o. not (is_dropped_by news o)) site.live }
 
 abbrev pub has_family : Site → Name → Bool
 has_family site f = list_any (is_of f) site.live

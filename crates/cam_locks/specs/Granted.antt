@@ -1,5 +1,5 @@
 -- What a grant makes of what a table goes by.
-use Rattle.std.specs.Prelude.{◌≡◌, ◌≤◌, ◌+◌, true, [], ◌∷◌, ◌++◌, filter, not, Option, Result, IfOk, OnOk, OnErr}
+use Rattle.std.specs.Prelude.{◌≡◌, List, ℕ, ◌≤◌, ◌+◌, true, [], ◌∷◌, ◌++◌, filter, not, Option, Result, IfOk, OnOk, OnErr}
 use Rattle.cam_names.specs.declared.name.Name.{Name}
 use Rattle.cam_type.specs.declared.State.{State}
 use Rattle.cam_type.specs.declared.Kind.{Kind}
@@ -10,7 +10,7 @@ use Rattle.cam_locks.specs.declared.Grant.{Grant}
 use Rattle.cam_locks.specs.declared.kept.Kept.{Kept}
 use Rattle.cam_locks.specs.Moss.{holder_of, value_of}
 use Rattle.cam_locks.specs.Calls.{grant_by, is_below}
-use Rattle.cam_locks.specs.Site.{IndicesRise}
+use Rattle.cam_locks.specs.Site.{IndicesRise, AreFit}
 use Rattle.cam_locks.specs.Holding.{AllLocks}
 use Rattle.cam_locks.specs.Changes.{by_holder}
 
@@ -61,6 +61,16 @@ pub record IsGranted {E : Type 0} (old : Kept) (o : LiveOp) (held : State) (answ
   pub next : OnOk answer (new.live.next ≡ by_holder (holder_in old o) old.live.next (o.index + 1))
   pub err_ops : OnErr answer (new.live.ops ≡ old.live.ops)
   pub err_next : OnErr answer (new.live.next ≡ old.live.next)
+
+-- The operation was taken back that was added last, under the index before the next one; where that one is live no longer nothing was.
+pub record IsTakenBack (old new : Kept) : Type 0 where
+  pub kept : IsKept new
+  pub objects : new.objects ≡ old.objects
+  pub committed : new.committed ≡ old.committed
+  pub fit : (node : ℕ) → AreFit old.objects node old.live.ops → AreFit old.objects node new.live.ops
+  pub taken :
+      (before : List LiveOp) (o : LiveOp) → old.live.ops ≡ before ++ o ∷ [] → old.live.next ≡ o.index + 1
+      → (new.live.ops ≡ before) × (new.live.next ≡ o.index)
 
 -- The operations of an action and of all below it were dropped.
 pub record IsDroppedFrom (old : Kept) (a : Name) (new : Kept) : Type 0 where

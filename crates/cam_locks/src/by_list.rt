@@ -1,16 +1,17 @@
 //! What the definitions say, read off the list of live operations: for objects of which nothing else is kept.
-ghost use Rattle.std.specs.Prelude.{◌≡◌, true, filter, find, map, option_and_then, IfOk, OnOk};
+ghost use Rattle.std.specs.Prelude.{◌≡◌, true, not, filter, find, map, option_and_then, IfOk, OnOk};
 ghost use Rattle.std.specs.List.{list_any};
 ghost use Rattle.cam_type.specs.Objects.{start_of};
 ghost use Rattle.cam_type.specs.Table.{kind_of, fits, state_after, answer_of};
 ghost use Rattle.cam_locks.specs.Moss.{value_of, settled_of, is_settled_on, conflicts_on, holder_of, lift_in};
-ghost use Rattle.cam_locks.specs.Calls.{is_of, held_op};
+ghost use Rattle.cam_locks.specs.Calls.{is_of, held_op, is_dropped_by};
 
 use crate::leaders::is_in_the_way;
 use crate::names::Names;
 use crate::operations::{is_of, replay};
 use crate::{LiveOp, LiveOps};
 use cam_base::NoMemory;
+use cam_know::Know;
 use cam_names::Name;
 use cam_type::{
     Answer, DataType, HeldOp, HeldOps, Objects, Op, State, compatible, mode_of, start_of,
@@ -123,6 +124,27 @@ fn is_settled(committed: &Names, object: u8, operation: &LiveOp) -> bool
     ensures { result ≡ is_settled_on committed.now.names object operation.now }
 {
     operation.object == object && committed.lift(&operation.action).is_none()
+}
+
+/// The operations of which the abort of no ancestor is among these outcomes.
+pub(crate) fn left(alloc: Global, live: &[LiveOp], news: &Know) -> Result<LiveOps, NoMemory>
+    ensures { IfOk result (λ left. left
+        ≡ filter (λ o. not (is_dropped_by news.now o)) live.now) }
+{
+    let mut left = LiveOps::new(alloc);
+    for operation in live {
+        if !is_dropped_by(news, operation) {
+            left.push_copy(operation)?;
+        }
+    }
+    Ok(left)
+}
+
+/// Whether the abort of an ancestor of the operation is among these outcomes.
+fn is_dropped_by(news: &Know, operation: &LiveOp) -> bool
+    ensures { result ≡ is_dropped_by news.now operation.now }
+{
+    news.aborted_by(&operation.action).is_some()
 }
 
 /// The operations of a family, as they are held.

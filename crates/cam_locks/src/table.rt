@@ -1,10 +1,12 @@
 //! The lock table.
-ghost use Rattle.std.specs.Prelude.{◌≡◌, ◌≤◌, ◌+◌, IsTrue, IfOk, OnOk, OnErr};
+ghost use Rattle.std.specs.Prelude.{◌≡◌, ℕ, ◌≤◌, ◌+◌, IsTrue, IfOk, OnOk, OnErr};
+ghost use Rattle.cam_names.specs.declared.name.Name.{Name as NameValue};
+ghost use Rattle.cam_type.specs.declared.Op.{Op as OpValue};
 ghost use Rattle.cam_type.specs.Table.{kind_of};
-ghost use Rattle.cam_locks.specs.Site.{is_here, fits_here, IndicesRise};
-ghost use Rattle.cam_type.specs.Objects.{start_of};
+ghost use Rattle.cam_locks.specs.Site.{is_here, fits_here, IndicesRise, Site as SiteValue};
+ghost use Rattle.cam_type.specs.Objects.{site_of, start_of};
 ghost use Rattle.cam_locks.specs.Moss.{settled};
-ghost use Rattle.cam_locks.specs.Calls.{new_site, grant, after_grant, with_commit, with_abort, held, has_family};
+ghost use Rattle.cam_locks.specs.Calls.{new_site, grant, after_grant, with_commit, with_abort, held, has_family, left_by, with_operation};
 ghost use Rattle.cam_locks.specs.Served.{served};
 ghost use Rattle.cam_locks.specs.Secured.{IsWellFormed, SecuredCanBeRestored};
 
@@ -13,8 +15,9 @@ use crate::names::Names;
 use crate::operations::{copy_objects, fits_here, is_here, kind_of};
 use crate::{Grant, LiveOp, by_list, by_object};
 use cam_base::NoMemory;
+use cam_know::Know;
 use cam_names::Name;
-use cam_type::{DataType, Held, Kind, Objects, Op, State};
+use cam_type::{DataType, Held, Kind, Objects, Op, State, site_of};
 use std::alloc::Global;
 use std::marker::Model;
 
@@ -91,6 +94,16 @@ impl LockTable {
         self.kept.grant(&operation, server)
     }
 
+    /// Takes back the operation that was done last, where nothing has come since: all is as if it had not been done. Of its object nothing is
+    /// kept from now on. It takes no memory.
+    pub fn take_back(&mut self)
+        ensures site { (before : SiteValue) (a : NameValue) (x : ℕ) (op : OpValue)
+            → self.old.site ≡ with_operation before a x op → self.new.site ≡ before }
+        ensures spare { self.new.spare ≡ self.old.spare }
+    {
+        self.kept.take_back();
+    }
+
     /// Whether the object stands at the table's node and the op fits it.
     pub fn takes(&self, object: u8, op: &Op) -> bool
         ensures { result ≡ fits_here self.now.site.objects self.now.site.node object op.now }
@@ -103,6 +116,13 @@ impl LockTable {
         ensures { result ≡ kind_of (start_of self.now.site.objects object) }
     {
         kind_of(&self.kept.objects, object)
+    }
+
+    /// The node where an object stands, and 0 where it is not declared.
+    pub fn site_of(&self, object: u8) -> u8
+        ensures { result ≡ site_of self.now.site.objects object }
+    {
+        site_of(&self.kept.objects, object)
     }
 
     /// Whether the object stands at the table's node.
@@ -169,6 +189,24 @@ impl LockTable {
     {
         let live = self.kept.live.of_family(family)?;
         let ops = by_list::held(self.kept.live.allocator(), live.as_slice(), family)?;
+        Ok(Held {
+            family: *family,
+            count,
+            ops,
+        })
+    }
+
+    /// What is to be secured of a family once the site is informed of these outcomes, which it is not yet: its live operations of which no
+    /// ancestor's abort is among them.
+    pub fn secure_after(&self, news: &Know, family: &Name, count: u32) -> Result<Held, NoMemory>
+        ensures held { IfOk result (λ secured.
+            secured ≡ held (left_by news.now self.now.site) family.now count) }
+        ensures well_formed { IsWellFormed self.now.site }
+    {
+        let alloc = self.kept.live.allocator();
+        let live = self.kept.live.of_family(family)?;
+        let left = by_list::left(alloc, live.as_slice(), news)?;
+        let ops = by_list::held(alloc, left.as_slice(), family)?;
         Ok(Held {
             family: *family,
             count,

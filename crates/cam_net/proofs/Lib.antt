@@ -1,3 +1,4 @@
 pub mod Places
 pub mod Next
 pub mod Changes
+pub mod Unput

@@ -1,6 +1,9 @@
 //! The network's calls.
 ghost use Rattle.std.specs.Prelude.{◌≡◌, ◌++◌, suc, [], ◌∷◌, length, false, IfOk, OnOk, OnErr};
 ghost use Rattle.std.specs.Option.{option_map};
+ghost use Rattle.cam_wire.specs.Laws.{IsSpelled};
+ghost use Rattle.cam_wire.specs.OneSet.{HasOneSetEach};
+ghost use Rattle.cam_wire.specs.Spelling.{spelled};
 ghost use Rattle.cam_wire.specs.Writable.{IsWritable};
 ghost use Rattle.cam_net.specs.Letters.{put_as, has_letter, letter_of, whole_of, cut_of, changed, as_lost, as_delivered};
 ghost use Rattle.cam_net.specs.Waiting.{is_halted, next_of};
@@ -43,12 +46,15 @@ impl Net {
         }
     }
 
-    /// Puts a letter as its bytes, and answers its number. It requires what `encode` does. `NoMemory`: memory ran out, and the network is as
+    /// Puts a letter as its bytes, and answers its number. It requires what `encode` does. Where no name is committed with two dependency sets
+    /// the bytes spell the letter. `NoMemory`: memory ran out, and the network is as
     /// before; so it is where 4,294,967,295 letters were put.
     pub fn put(&mut self, letter: &Letter) -> Result<u32, NoMemory>
         requires { IsWritable letter.now }
         ensures put { OnOk result (self.new ≡ self.old ++ put_as letter.now ∷ []) }
         ensures number { IfOk result (λ number. number ≡ length self.new) }
+        ensures spells { HasOneSetEach letter.now
+            → OnOk result (IsSpelled letter.now (spelled letter.now)) }
         ensures unchanged { OnErr result (self.new ≡ self.old) }
     {
         let bytes = encode(*self.letters.allocator(), letter)?;

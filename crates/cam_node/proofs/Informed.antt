@@ -36,7 +36,7 @@ or_none true = refl
 or_none false = refl
 
 -- a test of the deeds after these
-any_after : (p : Deed → Bool) (L ds : List Deed) → list_any p (after L ds) ≡ (list_any p L || list_any p ds)
+pub any_after : (p : Deed → Bool) (L ds : List Deed) → list_any p (after L ds) ≡ (list_any p L || list_any p ds)
 any_after p L [] = or_none (list_any p L)
 any_after p L (d ∷ ds) = any_after p (d ∷ L) ds ∙ turned (p d) (list_any p L) (list_any p ds)
   where
@@ -190,7 +190,7 @@ step_informed objects s history c a step before =
     one_more objects s H (as_carried c) did.deeds a (ap (λ (e : Event). e.deeds) step.is_next)
     (rules_are_shaped objects (held_sight objects s H (told_in_order c.load.know)) c.mail step.input) before
 
-taken_informed : (objects : List ObjectDecl) (s : ℕ) (history : List Received) (c : Received) (a : Name) → IsTakenOf objects s history c
+pub taken_informed : (objects : List ObjectDecl) (s : ℕ) (history : List Received) (c : Received) (a : Name) → IsTakenOf objects s history c
     → Informed objects s (map as_carried history) a → Informed objects s (as_carried c ∷ map as_carried history) a
 taken_informed objects s history c a of before =
     let H = map as_carried history in

@@ -5,7 +5,7 @@ use Rattle.cam_names.specs.Dependencies.{AreCounts, greater_counts}
 use Rattle.cam_know.specs.Knowledge.{Knowledge}
 use Rattle.cam_know.specs.Known.{nothing, both}
 
-greater_ones : (n : ℕ) (cs : List ℕ) → length cs ≡ n → ((k : ℕ) → k < n → 1 ≤ get_or cs k 0) → greater_counts cs (replicate n 1) ≡ cs
+pub greater_ones : (n : ℕ) (cs : List ℕ) → length cs ≡ n → ((k : ℕ) → k < n → 1 ≤ get_or cs k 0) → greater_counts cs (replicate n 1) ≡ cs
 greater_ones zero [] is low = refl
 greater_ones zero (c ∷ cs) is low = refl
 greater_ones (suc n) [] is low = absurd (omega (arith, is))

@@ -41,7 +41,7 @@ step_orderly objects s history c step orderly =
     subst (λ (e : Event). IsOrderly s (record { event = e; mail = c.mail; brought = told_in_order c.load.know } ∷ map as_carried history)) (sym step.is_next)
     (steps_stay_orderly objects s (map as_carried history) step.input c.mail (told_in_order c.load.know) orderly (put_is_asked objects s (held_sight objects s (map as_carried history) nothing) step.input c.mail c.load step.may))
 
-taken_orderly : (objects : List ObjectDecl) (s : ℕ) (history : List Received) (c : Received) → IsTakenOf objects s history c → IsOrderly s (map as_carried history) → IsOrderly s (as_carried c ∷ map as_carried history)
+pub taken_orderly : (objects : List ObjectDecl) (s : ℕ) (history : List Received) (c : Received) → IsTakenOf objects s history c → IsOrderly s (map as_carried history) → IsOrderly s (as_carried c ∷ map as_carried history)
 taken_orderly objects s history c of orderly =
     let w : Received = of.whole in
     let step = of.step in

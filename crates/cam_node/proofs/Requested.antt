@@ -42,7 +42,7 @@ wanted_same objects s H k actions a wants.Abort = refl
 wanted_same objects s H k actions a (wants.GiveUp b) = refl
 
 -- the rule of a request is what the node does by what it answers
-request_is : (objects : List ObjectDecl) (history : List Received) (node : Node) (a : Name) (want : Want) → Represents objects history node → AreCounts 1 node.know.counts
+pub request_is : (objects : List ObjectDecl) (history : List Received) (node : Node) (a : Name) (want : Want) → Represents objects history node → AreCounts 1 node.know.counts
     → home_node a ≡ node.number → IsFree node.actions a want
     → request objects (held_sight objects node.number (map as_carried history) nothing) a want ≡ requested_by objects node.number node.know node.actions a want
 request_is objects history node a want rep counted home free =

@@ -79,7 +79,7 @@ restart_knows objects s history r low high mine whole log =
     ∙ sym (known_then objects s history whole.counts)
 
 -- the count after a restart
-count_then : (objects : List ObjectDecl) (s : ℕ) (history : List Received)
+pub count_then : (objects : List ObjectDecl) (s : ℕ) (history : List Received)
     → count (deeds_of (map as_carried (restarted objects s history ∷ history))) s ≡ count (deeds_of (map as_carried history)) s + 1
 count_then objects s history =
     let c : ℕ = count (deeds_of (map as_carried history)) s in

@@ -6,7 +6,6 @@ use Rattle.cam_event.specs.declared.Sent.{Sent}
 use Rattle.cam_event.specs.Inputs as rules
 use Rattle.cam_event.specs.Inputs.{Begins, Requests, Receives, Tells, Queries, Mail}
 use Rattle.cam_know.specs.Knowledge.{Knowledge}
-use Rattle.cam_know.specs.Known.{knows_abort, knows_commit}
 use Rattle.cam_event.specs.Loads.{Load, no_load, PlacesFields, load_to}
 use Rattle.cam_comman.specs.Letters.{letter_with, load_on}
 use Rattle.cam_commit.specs.Calls as commit
@@ -70,14 +69,3 @@ letters_of node sent = map (letter_as node.know node.places node.number node.cou
 -- each goes to one of the eight nodes
 abbrev pub AreToNodes : List Sent → Type 0
 AreToNodes sent = AllByRecursion (λ (one : Sent). (1 ≤ one.to) × (one.to ≤ 8)) sent
-
--- What a node is when an event stands that learnt these news: it knows and has noted this, its site was informed of the news, and all else is
--- as it was.
-pub record HasLearnt (news known : Knowledge) (places : PlacesFields) (old new : Node) : Type 0 where
-  pub number : new.number ≡ old.number
-  pub count : new.count ≡ old.count
-  pub know : new.know ≡ known
-  pub places_are : new.places ≡ places
-  pub actions : new.actions ≡ old.actions
-  pub families : new.families ≡ old.families
-  pub server : server.AreInformed (knows_abort news) (knows_commit news) old.server new.server

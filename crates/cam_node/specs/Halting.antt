@@ -20,7 +20,6 @@ use Rattle.cam_event.specs.Taken.{taken_of}
 use Rattle.cam_event.specs.ByKnowledge.{held_sight, node_step}
 use Rattle.cam_event.specs.Loads.{Load, no_load}
 use Rattle.cam_event.specs.ByDeltas.{Received, as_carried}
-use Rattle.cam_node.specs.Log.{Logged, KeepsLog}
 use Rattle.cam_node.specs.Lawful.{MayBePut, IsStepOf, IsLawful}
 use Rattle.cam_node.specs.Represents.{Node, Represents}
 
@@ -82,41 +81,9 @@ pub record IsStepThrough (objects : List ObjectDecl) (old new : Node) (input : I
 abbrev pub taken_step : List ObjectDecl → ℕ → List Received → Input → Option Mail → Load → Received
 taken_step objects s history input mail load = taken (record { event = node_step objects s (map as_carried history) input mail (told_in_order load.know); mail = mail; load = load })
 
--- What a log that is read keeps after a fault in a step: what it kept before, or what it keeps with the taken event besides.
-abbrev pub KeepsEither : List ObjectDecl → ℕ → List Received → Received → Logged → Type 0
-KeepsEither objects s history halted logged = KeepsLog objects s history logged ⊎ KeepsLog objects s (halted ∷ history) logged
-
--- A step that met a fault of the disk: whatever a crash at any moment leaves, its log keeps one of the two. `may_read` is what may be read
--- from the disk then. No event is told and no letter handed out; the node's layers are no longer asked.
-pub record IsHalt (objects : List ObjectDecl) (old : Node) (input : Input) (mail : Option Mail) (load : Load) (may_read : Logged → Type 0) : Type 0 where
-  pub either :
-      (history : List Received) (logged : Logged) → IsThrough objects old.number history → Represents objects history old
-      → MayBePut objects old.number (held_sight objects old.number (map as_carried history) nothing) input mail load → may_read logged
-      → KeepsEither objects old.number history (taken_step objects old.number history input mail load) logged
-
--- A halted node stands for a history, and for the event at which it halted, by what its disk may be read as.
-pub record IsHalted (objects : List ObjectDecl) (s : ℕ) (history : List Received) (input : Input) (mail : Option Mail) (load : Load) (may_read : Logged → Type 0) : Type 0 where
-  pub through : IsThrough objects s history
-  pub may : MayBePut objects s (held_sight objects s (map as_carried history) nothing) input mail load
-  pub either : (logged : Logged) → may_read logged → KeepsEither objects s history (taken_step objects s history input mail load) logged
-
--- A restart that comes to its end, from a log that is read so: the event is the restart after each history whose log it is, the taken event
--- with it or not, and the node represents the longer history.
-pub record IsRestart (objects : List ObjectDecl) (s : ℕ) (logged : Logged) (new : Node) (event : Event) : Type 0 where
-  pub number : new.number ≡ s
-  pub next : (history : List Received) → IsEnded objects s history → KeepsLog objects s history logged → event ≡ node_step objects s (map as_carried history) (Restarts s) None nothing
-  pub represents :
-      (history : List Received) → IsEnded objects s history → KeepsLog objects s history logged
-      → Represents objects (record { event = event; mail = None; load = no_load } ∷ history) new
-
--- A restart that met a fault of the disk: its log keeps what was read, or that with the restart besides.
+-- the restart, as a fault of the disk may leave it
 abbrev pub restart_step : List ObjectDecl → ℕ → List Received → Received
 restart_step objects s history = taken_step objects s history (Restarts s) None no_load
-
-pub record IsRestartHalt (objects : List ObjectDecl) (s : ℕ) (logged : Logged) (may_read : Logged → Type 0) : Type 0 where
-  pub either :
-      (history : List Received) (again : Logged) → IsEnded objects s history → KeepsLog objects s history logged → may_read again
-      → KeepsEither objects s history (restart_step objects s history) again
 
 -- What was taken of a restart is the restart,
 abbrev pub RestartIsWhole : Type 0

@@ -1,7 +1,11 @@
 -- What a node knows and has noted, and how much of it stands while a step that has learnt something may still fail.
-use Rattle.std.specs.Prelude.{◌≤◌, length, take, Option, Some, None}
+use Rattle.std.specs.Prelude.{◌≤◌, Bool, length, take, Option, Some, None}
 use Rattle.cam_names.specs.Dependencies.{AreCounts}
+use Rattle.cam_names.specs.declared.name.Name.{Name}
+use Rattle.cam_names.specs.Names.{name_eq}
 use Rattle.cam_know.specs.Knowledge.{Knowledge}
+use Rattle.cam_know.specs.declared.Outcome.{Outcome}
+use Rattle.cam_know.specs.declared.Outcome.TheVariants.{Aborted, Committed}
 use Rattle.cam_event.specs.Loads.{PlacesFields}
 use Rattle.cam_comman.specs.Letters.{IsWithin}
 use Rattle.cam_node.specs.declared.knowing.Mark.{Mark}
@@ -25,3 +29,8 @@ IsMark (Some mark) k = (mark.outcomes ≤ length k.outcomes) × AreCounts 1 mark
 pub record IsKnowing (mark : Option Mark) (known : Knowledge) (places : PlacesFields) : Type 0 where
   pub marked : IsMark mark known
   pub within : IsWithin (standing mark known) places
+
+-- whether it is the outcome of the action
+abbrev pub is_outcome_of : Name → Outcome → Bool
+is_outcome_of a (Aborted b) = name_eq a b
+is_outcome_of a (Committed b counts) = name_eq a b

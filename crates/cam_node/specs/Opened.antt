@@ -5,7 +5,6 @@ use Rattle.cam_type.specs.declared.ObjectDecl.{ObjectDecl}
 use Rattle.cam_know.specs.Knowledge.{Knowledge}
 use Rattle.cam_know.specs.Known.{with_count}
 use Rattle.cam_know.specs.Invariant.{NoTwice}
-use Rattle.cam_event.specs.ByDeltas.{Received}
 use Rattle.cam_log.specs.Moments.{Opened}
 use Rattle.cam_locks.specs.Restored.{CanRestore}
 use Rattle.cam_recman.specs.declared.Record.{Record}
@@ -15,7 +14,7 @@ use Rattle.cam_recman.specs.Records.{entry_bytes}
 use Rattle.cam_recman.specs.Recovery.{with_records, recover}
 use Rattle.cam_recman.specs.Says.{Says, are_version2}
 use Rattle.cam_recman.specs.Snapshot.{snapshot}
-use Rattle.cam_node.specs.Log.{Logged, KeepsLog}
+use Rattle.cam_node.specs.Log.{Logged}
 
 abbrev pub logged_of : Recovered → Logged
 logged_of r = record { count = r.count; know = r.know; held = r.held }
@@ -23,12 +22,6 @@ logged_of r = record { count = r.count; know = r.know; held = r.held }
 abbrev pub is_readable : Opened → Bool
 is_readable (Ok entries) = are_version2 entries
 is_readable (Err fault) = false
-
--- entries that keep a history
-pub record KeepsHistory (objects : List ObjectDecl) (s : ℕ) (history : List Received) (entries : List (List ℕ)) : Type 0 where
-  pub recovered : Recovered
-  pub says : Says entries recovered
-  pub keeps : KeepsLog objects s history (logged_of recovered)
 
 -- What may be read from a disk: what is recovered of what it opens as after a crash at some moment since this one.
 pub record MayRead (opens_since : ℕ → Opened → Type 0) (t : ℕ) (logged : Logged) : Type 0 where

@@ -7,7 +7,7 @@ ghost use Rattle.cam_event.specs.Inputs.{Begins};
 ghost use Rattle.cam_event.specs.Rules.{did, one as single};
 ghost use Rattle.cam_event.specs.ByPast.{event_of};
 ghost use Rattle.cam_event.specs.Loads.{no_load};
-ghost use Rattle.cam_node.specs.Calls.{answers, AreSame};
+ghost use Rattle.cam_node.specs.Calls.{answers, letters_of, AreSame};
 ghost use Rattle.cam_node.specs.Halting.{IsStepThrough};
 
 use crate::room::{push_reserved, room_for_one};
@@ -23,7 +23,8 @@ impl Core {
         requires { (answers self.old).actions.tops < 1000000000 }
         ensures step { (objects : List ObjectDecl) → IfOk result (λ stepped. IsStepThrough objects
             (answers self.old) (answers self.new) (Begins self.old.number) None no_load stepped.event) }
-        ensures letters { IfOk result (λ stepped. stepped.letters ≡ []) }
+        ensures letters { IfOk result (λ stepped.
+            stepped.letters ≡ letters_of (answers self.new) stepped.event.sent) }
         ensures err { OnErr result (AreSame (answers self.old) (answers self.new)) }
     {
         self.settle()?;

@@ -3,16 +3,21 @@
 //! A step learns first, and its tests go by what is known then. So that it leaves the node as it was where it finds no memory later, a mark
 //! says how much stands meanwhile; it is taken away when the event stands. What stands behind a mark that was left is forgotten when the next
 //! event begins: only a step behind one that failed costs what is known.
-ghost use Rattle.std.specs.Prelude.{◌≡◌, ◌≤◌, Some, length, IfOk, OnOk};
-ghost use Rattle.cam_know.specs.Known.{nothing, news};
+ghost use Rattle.std.specs.Prelude.{◌≡◌, ◌≤◌, true, Some, length, take, IfOk, OnOk};
+ghost use Rattle.std.specs.List.{list_any};
+ghost use Rattle.cam_names.specs.Dependencies.{AreCounts};
+ghost use Rattle.cam_know.specs.Known.{nothing, news, with_outcome};
 ghost use Rattle.cam_event.specs.Loads.{no_places, noted_at, with_load};
 ghost use Rattle.cam_comman.specs.Letters.{load_on, IsWithin};
-ghost use Rattle.cam_node.specs.Knowing.{standing, IsMark};
+ghost use Rattle.cam_commit.specs.Calls.{is_decided};
+ghost use Rattle.cam_node.specs.Knowing.{standing, is_outcome_of, IsMark};
+ghost use Rattle.cam_node.specs.Opened.{IsKnowledge};
 
 use cam_base::{NoMemory, Sequence};
 use cam_comman::{Places, arrive};
 use cam_event::Letter;
 use cam_know::{Know, Outcome};
+use cam_names::Name;
 use std::alloc::Global;
 use std::marker::Model;
 
@@ -59,6 +64,37 @@ fn first_of(alloc: Global, know: &Know, mark: &Mark) -> Result<Know, NoMemory>
     Know::of(alloc, Sequence::from_vec(outcomes), mark.counts)
 }
 
+/// Whether an outcome of an action, which is among these, is among the first of them.
+fn stands_among(outcomes: &[Outcome], first: usize, name: &Name) -> bool
+    requires first { first ≤ length outcomes.now }
+    requires known { list_any (is_outcome_of name.now) outcomes.now ≡ true }
+    ensures { result ≡ list_any (is_outcome_of name.now) (take first outcomes.now) }
+{
+    let (stand, behind) = outcomes.split_at(first);
+    !tell_of(behind, name) || tell_of(stand, name)
+}
+
+/// Whether these outcomes tell how an action ended.
+fn tell_of(outcomes: &[Outcome], name: &Name) -> bool
+    ensures { result ≡ list_any (is_outcome_of name.now) outcomes.now }
+{
+    for outcome in outcomes {
+        if is_of(outcome, name) {
+            return true;
+        }
+    }
+    false
+}
+
+/// Whether an outcome is that of an action.
+fn is_of(outcome: &Outcome, name: &Name) -> bool
+    ensures { result ≡ is_outcome_of name.now outcome.now }
+{
+    match outcome {
+        Outcome::Aborted(ended) | Outcome::Committed(ended, _) => name == ended,
+    }
+}
+
 impl Knowing {
     /// Nothing is known, and nothing noted.
     pub(crate) fn new(alloc: Global) -> Knowing
@@ -71,11 +107,61 @@ impl Knowing {
         }
     }
 
+    /// This is known, and all of it stands; nothing is noted.
+    pub(crate) fn of(know: Know) -> Knowing
+        ensures { result ≡ record { known = know; stands = know; places = no_places } }
+    {
+        Knowing {
+            know,
+            mark: None,
+            places: Places::new(),
+        }
+    }
+
+    /// Only for the proof: in what stands no outcome stands twice, and its counts are eight.
+    pub(crate) fn is_knowledge(&self)
+        ensures { IsKnowledge self.now.stands }
+    {
+        let _outcomes = self.know.outcomes();
+        let _counts = self.know.counts();
+    }
+
+    /// The counts of what stands.
+    pub(crate) fn counts(&self) -> [u32; 8]
+        ensures value { result ≡ self.now.stands.counts }
+        ensures range { AreCounts 1 result }
+    {
+        match self.mark {
+            Some(mark) => mark.counts,
+            None => self.know.counts(),
+        }
+    }
+
     /// What is known now.
     pub(crate) fn know(&self) -> &Know
         ensures { result.now ≡ self.now.known }
     {
         &self.know
+    }
+
+    /// Whether what stands tells how an action ended. It takes no memory, and costs a look-up, and what a step that failed has learnt; where
+    /// that step has learnt an outcome of this very action, what stands is looked through.
+    pub(crate) fn tells(&self, name: &Name) -> bool
+        ensures { result ≡ is_decided self.now.stands name.now }
+    {
+        match self.mark {
+            None => self.knows(name),
+            Some(mark) => {
+                self.knows(name) && stands_among(self.know.outcomes(), mark.outcomes, name)
+            }
+        }
+    }
+
+    /// Whether it is known how an action ended.
+    fn knows(&self, name: &Name) -> bool
+        ensures { result ≡ list_any (is_outcome_of name.now) self.now.known.outcomes }
+    {
+        self.know.is_committed(name) || self.know.is_aborted(name)
     }
 
     /// What is noted of the other nodes. No more is noted as acknowledged than the list has that stands.
@@ -113,12 +199,32 @@ impl Knowing {
         ensures within { IfOk result (λ heard. IsWithin self.new.known heard.places) }
     {
         let mut places = self.places;
-        self.mark = Some(Mark {
-            outcomes: self.know.outcomes().len(),
-            counts: self.know.counts(),
-        });
+        self.mark = Some(self.whole());
         let news = arrive(&mut self.know, &mut places, letter)?;
         Ok(Heard { news, places })
+    }
+
+    /// The node decides this in the event that is planned. It is known then, and stands when the event does.
+    pub(crate) fn decide(&mut self, outcome: &Outcome) -> Result<(), NoMemory>
+        ensures stands { self.new.stands ≡ self.old.stands }
+        ensures places { self.new.places ≡ self.old.places }
+        ensures known { OnOk result (self.new.known ≡ with_outcome outcome.now self.old.known) }
+    {
+        if self.mark.is_none() {
+            self.mark = Some(self.whole());
+        }
+        self.know.add(outcome)
+    }
+
+    /// The mark that says that all stands.
+    fn whole(&self) -> Mark
+        ensures all { standing (Some result) self.now.known ≡ self.now.known }
+        ensures mark { IsMark (Some result) self.now.known }
+    {
+        Mark {
+            outcomes: self.know.outcomes().len(),
+            counts: self.know.counts(),
+        }
     }
 
     /// All that is known stands, and this is noted. It takes no memory.

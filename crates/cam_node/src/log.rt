@@ -6,6 +6,7 @@ ghost use Rattle.cam_log.specs.Spent.{Spent};
 ghost use Rattle.cam_log.specs.Moments.{Opened, Grows, Stays};
 ghost use Rattle.cam_ckpt.specs.Moments.{IsOldOrNew};
 ghost use Rattle.cam_recman.specs.declared.Recovered.{Recovered as Recovery};
+ghost use Rattle.cam_recman.specs.Ranges.{AreRecords};
 ghost use Rattle.cam_recman.specs.Recovery.{with_records};
 ghost use Rattle.cam_recman.specs.Says.{Says};
 ghost use Rattle.cam_recman.specs.Versions.{AreOf};
@@ -126,6 +127,14 @@ impl<L: CheckpointLog> NodeLog<L> {
         self.halted
     }
 
+    /// Halts the node.
+    pub(crate) fn halt(&mut self)
+        ensures log { self.new.log ≡ self.old.log }
+        ensures halted { IsTrue self.new.halted }
+    {
+        self.halted = true;
+    }
+
     /// Appends one entry of these records and forces it, which four calls of the disk do; where there are no records, nothing is done. At Ok
     /// a crash leaves a log that has the entry, and at any moment of the call one without it or with it. It wants a node that is not halted,
     /// and records that may be written where the format has version 2. The node is halted after a `DiskFault`, and after want of memory of
@@ -139,6 +148,9 @@ impl<L: CheckpointLog> NodeLog<L> {
         ensures says { (r : Recovery) → Says (L.listed self.old.log) r
             → OnOk result (Says (L.listed self.new.log) (with_records r records.now)) }
         ensures runs { OnOk result (IsFalse self.new.halted) }
+        // The records are in their ranges where the disk was called.
+        ensures range { OnOk result (AreRecords records.now) }
+        ensures halted_range { IsTrue self.new.halted → AreRecords records.now }
         ensures none { records.now ≡ [] → OnOk result (self.new ≡ self.old) }
         ensures always { records.now ≡ [] → IsOk result }
         ensures any_moment { IsTrue (L.tells self.old.log)

@@ -27,7 +27,7 @@ pub fn news_records(alloc: Global, before: &[u32; 8], fresh: &Know) -> Result<Re
 }
 
 /// The record of an outcome.
-fn record_of(outcome: &Outcome) -> Record
+pub(crate) fn record_of(outcome: &Outcome) -> Record
     ensures { «result» ≡ outcome_record outcome.now }
 {
     match outcome {

@@ -16,3 +16,5 @@ pub mod Restarting
 pub mod QuietRules
 pub mod Untouched
 pub mod GoingAhead
+pub mod Tested
+pub mod TakenBack

@@ -1,12 +1,11 @@
--- The live operations of a table beside those for which they stand: what is left of both, one more, and the operations alone.
-use Rattle.std.proofs.Common.{◌≡◌, Bool, true, false, not, cond, List, [], ◌∷◌, ◌++◌, map, filter, ap}
+-- The live operations of a table beside those for which they stand: what is left of both, and one more.
+use Rattle.std.proofs.Common.{◌≡◌, Bool, true, false, not, cond, List, [], ◌∷◌, ◌++◌, filter, ap}
 use Rattle.std.specs.List.{list_any}
 use Rattle.cam_names.specs.declared.name.Name.{Name}
 use Rattle.cam_names.specs.Names.{ancestors}
 use Rattle.cam_event.specs.ByKnowledge.{Placed}
 use Rattle.cam_locks.specs.declared.LiveOp.{LiveOp}
 use Rattle.cam_server.specs.Server.{IsLiveOp, AreLiveOps}
-use Rattle.cam_server.specs.Steps.{AreLive}
 use Rattle.cam_server.proofs.QuietDeeds.{is_down, left}
 
 abbrev pub left_live : (Name → Bool) → List LiveOp → List LiveOp
@@ -28,16 +27,9 @@ are_left down (k ∷ ks) (p ∷ ps) are =
     by true false is rest = cc
     by false true is rest = cc
 
-pub are_more : (ks : List LiveOp) (ps : List Placed) (k : LiveOp) (p : Placed) → AreLiveOps ks ps → IsLiveOp k p
+pub are_more : (ks : List LiveOp) (ps : List Placed) (k : LiveOp) (p : Placed) → AreLiveOps ks ps → IsLiveOp k p.operation
     → AreLiveOps (ks ++ k ∷ []) (ps ++ p ∷ [])
 are_more [] [] k p are is = (is, tt)
 are_more [] (q ∷ ps) k p are is = absurd are
 are_more (j ∷ ks) [] k p are is = absurd are
 are_more (j ∷ ks) (q ∷ ps) k p are is = (are.0, are_more ks ps k p are.1 is)
-
-pub are_operations : (ks : List LiveOp) (ps : List Placed) → AreLiveOps ks ps
-    → AreLive ks (map (λ p. p.operation) ps)
-are_operations [] [] are = tt
-are_operations [] (p ∷ ps) are = absurd are
-are_operations (k ∷ ks) [] are = absurd are
-are_operations (k ∷ ks) (p ∷ ps) are = ((are.0.action, are.0.object, are.0.op), are_operations ks ps are.1)

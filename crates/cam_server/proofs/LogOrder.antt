@@ -61,7 +61,7 @@ ops_beside [] (p ∷ ps) bs gs held is = absurd held
 ops_beside (h ∷ hs) [] bs gs held is = absurd held
 ops_beside (h ∷ hs) (p ∷ ps) bs gs held is = ap (λ (xs : List HeldOp). h ∷ xs) (ops_beside hs ps bs gs held.1 is)
 
-held_beside : (hs : List Held) (gs : List (Name × List Placed)) → AreHeld hs gs
+pub held_beside : (hs : List Held) (gs : List (Name × List Placed)) → AreHeld hs gs
     → map (λ p. p.0) (beside hs gs) ≡ all_held hs
 held_beside [] [] held = refl
 held_beside [] (g ∷ gs) held = absurd held

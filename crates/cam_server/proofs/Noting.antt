@@ -13,7 +13,7 @@ use Rattle.cam_server.specs.declared.server.Server.{Server as Tables}
 use Rattle.cam_server.specs.Calls.{call_eq, reply_by, reply_in, IsNoted}
 use Rattle.cam_know.proofs.Results.{on_ok}
 
-call_eq_same : (c d : CallName) → call_eq c d ≡ true → c ≡ d
+pub call_eq_same : (c d : CallName) → call_eq c d ≡ true → c ≡ d
 call_eq_same c d is =
     let parts = and_parts _ _ is in
     let action : c.action ≡ d.action = name_eq_same c.action d.action parts.0 in

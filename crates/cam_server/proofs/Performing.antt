@@ -41,7 +41,7 @@ pub after_append : (L ds es : List Deed) → after L (ds ++ es) ≡ after (after
 after_append L [] es = refl
 after_append L (d ∷ ds) es = after_append (d ∷ L) ds es
 
-site_append : (L : List Deed) (mail : Option Mail) (at : Site) (ds es : List Deed)
+pub site_append : (L : List Deed) (mail : Option Mail) (at : Site) (ds es : List Deed)
     → site_after_all L mail at (ds ++ es) ≡ site_after_all (after L ds) mail (site_after_all L mail at ds) es
 site_append L mail at [] es = refl
 site_append L mail at (d ∷ ds) es = site_append (d ∷ L) mail (site_after L mail at d) ds es
@@ -63,12 +63,12 @@ served_is_granted k server asked r is served =
     by false false None (Some reason) other e = absurd (true≢false (sym served ∙ ap is_served (sym e)))
     by false false None None other e = sym e
 
-none_in_the_way : (h : Option Name) (answer given : Answer) → performed.Done given ≡ granted (grant_by h answer)
+pub none_in_the_way : (h : Option Name) (answer given : Answer) → performed.Done given ≡ granted (grant_by h answer)
     → h ≡ None
 none_in_the_way None answer given is = refl
 none_in_the_way (Some u) answer given is = cc
 
-one_in_the_way : (h : Option Name) (answer : Answer) (v : Name) → performed.Busy v ≡ granted (grant_by h answer)
+pub one_in_the_way : (h : Option Name) (answer : Answer) (v : Name) → performed.Busy v ≡ granted (grant_by h answer)
     → h ≡ Some v
 one_in_the_way None answer v is = cc
 one_in_the_way (Some u) answer v is = cc

@@ -5,13 +5,15 @@ use Rattle.std.proofs.lemmas.List.{reverse-reverse}
 use Rattle.cam_names.specs.declared.name.Name.{Name}
 use Rattle.cam_names.specs.Names.{name_eq}
 use Rattle.cam_names.proofs.Names.{name_eq_same, name_eq_sym}
+use Rattle.cam_type.specs.declared.ObjectDecl.{ObjectDecl}
 use Rattle.cam_type.specs.declared.Held.{Held}
 use Rattle.cam_type.specs.declared.HeldOp.{HeldOp}
+use Rattle.cam_know.specs.Knowledge.{Knowledge}
 use Rattle.cam_know.specs.Known.{committed_name}
 use Rattle.cam_event.specs.declared.Deed.{Deed}
 use Rattle.cam_event.specs.declared.Deed.TheVariants.{Crash}
 use Rattle.cam_event.specs.History.{after, informed}
-use Rattle.cam_event.specs.ByKnowledge.{Placed, in_order, for_family, deeds_of, site, site_after_all}
+use Rattle.cam_event.specs.ByKnowledge.{Carried, Placed, in_order, for_family, deeds_of, site, site_after_all}
 use Rattle.cam_event.proofs.SameInforms.{among_committed}
 use Rattle.cam_event.proofs.Snoc.{count_crash}
 use Rattle.cam_locks.specs.Names.{has_name, once}
@@ -20,7 +22,7 @@ use Rattle.cam_locks.specs.Restored.{ops_of}
 use Rattle.cam_locks.proofs.HeldIndices.{restored_rise}
 use Rattle.cam_server.specs.Server.{IsSiteOf}
 use Rattle.cam_server.specs.Recovered.{AreHeldOps, AreHeld, beside}
-use Rattle.cam_server.specs.Events.{RestartKeeps}
+use Rattle.cam_server.specs.Events.{IsLogged, RestartKeeps}
 use Rattle.cam_server.proofs.ToldOutcomes.{any_kept}
 use Rattle.cam_server.proofs.PlacedOrder.{IsAway, AreAway, IsApart, AreApart, order_backwards}
 use Rattle.cam_server.proofs.LogOrder.{EachOrdered, AllOrdered, log_ordered}
@@ -110,16 +112,24 @@ has_once (a ∷ names) u = by (name_eq u a) refl (has_once names u)
         (λ c same. ap (λ (d : Name). not (name_eq a d)) (sym (name_eq_same u c same)) ∙ ap not (name_eq_sym a u ∙ is))
         ∙ and_true (list_any (name_eq u) (once names)) ∙ rest
 
+-- what is live after a restart, by what the log held
+pub crash_live : (objects : List ObjectDecl) (s : ℕ) (before : List Carried) (c : Carried) (know : Knowledge) (logged : List Held)
+    → c.event.deeds ≡ Crash s ∷ [] → IsLogged objects s before know logged
+    → in_order (groups (deeds_of before) s (reverse (site before).secured)) ≡ (site (c ∷ before)).live
+crash_live objects s before c know logged crash log =
+    let L : List Deed = deeds_of before in
+    let gs : List (Name × List Placed) = (site before).secured in
+    let ordered = log_ordered objects s logged (reverse gs) log.secured log.order log.restorable in
+    sym (ap (λ hs. in_order (groups L s hs)) (sym (reverse-reverse gs)) ∙ order_backwards (group L s) (reverse gs) (groups_apart L s logged (reverse gs) log.secured ordered))
+    ∙ ap in_order (sym (kept_groups L s gs)) ∙ sym (ap (λ (ds : List Deed). (site_after_all L c.mail (site before) ds).live) crash)
+
 pub restart_keeps : RestartKeeps
 restart_keeps objects s before c know logged new crash log is =
     let L : List Deed = deeds_of before in
     let gs : List (Name × List Placed) = (site before).secured in
     let ordered = log_ordered objects s logged (reverse gs) log.secured log.order log.restorable in
     let left : List Placed = in_order (groups L s (reverse gs)) in
-    let backwards : in_order (groups L s (reverse gs)) ≡ in_order (groups L s gs) =
-    sym (ap (λ hs. in_order (groups L s hs)) (sym (reverse-reverse gs)) ∙ order_backwards (group L s) (reverse gs) (groups_apart L s logged (reverse gs) log.secured ordered)) in
-    let lives : left ≡ (site (c ∷ before)).live =
-    backwards ∙ ap in_order (sym (kept_groups L s gs)) ∙ sym (ap (λ (ds : List Deed). (site_after_all L c.mail (site before) ds).live) crash) in
+    let lives : left ≡ (site (c ∷ before)).live = crash_live objects s before c know logged crash log in
     serves_after objects s before c new (Crash s ∷ L) left (sym (ap (after L) crash)) lives
     (record {
       count_is = is.count_is ∙ sym (count_crash L s);

@@ -21,16 +21,15 @@ use Rattle.cam_event.specs.Live as live
 use Rattle.cam_event.specs.Sights.{Sight}
 use Rattle.cam_event.specs.Rules as rules
 use Rattle.cam_event.specs.Rules.{Did, lift_here, is_conflict_here, on_object, refused_or_served}
-use Rattle.cam_event.specs.ByKnowledge.{Placed, deeds_of, site, site_after_all, held, held_informs}
+use Rattle.cam_event.specs.ByKnowledge.{Placed, deeds_of, site, held, held_informs}
 use Rattle.cam_locks.specs.declared.LiveOp.{LiveOp}
 use Rattle.cam_locks.specs.Moss.{is_on, replay, value, lift_in, lift_of}
 use Rattle.cam_locks.specs.Calls.{grant_by, grant}
 use Rattle.cam_server.specs.declared.Performed.TheVariants as performed
-use Rattle.cam_server.specs.Server.{Server, AreLiveOps}
+use Rattle.cam_server.specs.Server.{Server, AreLive, AreLiveOps}
 use Rattle.cam_server.specs.Calls.{Asked, again_or, orphan_or, granted}
-use Rattle.cam_server.specs.Steps.{AreLive, AnswersSight, did_performed, PerformedIsRule, SightIsAnswered}
+use Rattle.cam_server.specs.Steps.{AnswersSight, did_performed, PerformedIsRule, SightIsAnswered}
 use Rattle.cam_server.proofs.QuietDeeds.{quiet_live, informs_quiet}
-use Rattle.cam_server.proofs.LiveOps.{are_operations}
 use Rattle.cam_server.proofs.Serving.{serves, informed_serves}
 
 -- both lists lead to the same state of an object
@@ -40,12 +39,12 @@ same_replay x [] [] state are = refl
 same_replay x [] (o ∷ os) state are = absurd are
 same_replay x (k ∷ ks) [] state are = absurd are
 same_replay x (k ∷ ks) (o ∷ os) state are =
-    ap (λ (y : ℕ). replay state (cond (eqb y x) (k ∷ filter (is_on x) ks) (filter (is_on x) ks))) are.0.1
+    ap (λ (y : ℕ). replay state (cond (eqb y x) (k ∷ filter (is_on x) ks) (filter (is_on x) ks))) are.0.object
     ∙ by (eqb o.object x) (λ s. same_replay x ks os s are.1)
   where
     by : (b : Bool) → ((s : State) → replay s (filter (is_on x) ks) ≡ live.replay s (on_object x os))
         → replay state (cond b (k ∷ filter (is_on x) ks) (filter (is_on x) ks)) ≡ live.replay state (cond b (o ∷ on_object x os) (on_object x os))
-    by true rest = rest (state_after state k.op) ∙ ap (λ (p : Op). live.replay (state_after state p) (on_object x os)) are.0.2
+    by true rest = rest (state_after state k.op) ∙ ap (λ (p : Op). live.replay (state_after state p) (on_object x os)) are.0.op
     by false rest = rest state
 
 -- what is found in both is one operation, and it passes the test
@@ -62,19 +61,19 @@ same_found test other x [] [] same are = tt
 same_found test other x [] (o ∷ os) same are = absurd are
 same_found test other x (k ∷ ks) [] same are = absurd are
 same_found test other x (k ∷ ks) (o ∷ os) same are =
-    by (eqb k.object x) (eqb o.object x) (ap (λ (y : ℕ). eqb y x) are.0.1) (same_found test other x ks os same are.1)
+    by (eqb k.object x) (eqb o.object x) (ap (λ (y : ℕ). eqb y x) are.0.object) (same_found test other x ks os same are.1)
   where
     found : (c d : Bool) → test k ≡ c → c ≡ d
         → AreFound test (find test (filter (is_on x) ks)) (find other (on_object x os))
         → AreFound test (cond c (Some k) (find test (filter (is_on x) ks))) (cond d (Some o) (find other (on_object x os)))
-    found true true is e rest = (are.0.0, is)
+    found true true is e rest = (are.0.action, is)
     found false false is e rest = rest
     found true false is e rest = absurd (true≢false e)
     found false true is e rest = absurd (true≢false (sym e))
 
     by : (b c : Bool) → b ≡ c → AreFound test (find test (filter (is_on x) ks)) (find other (on_object x os))
         → AreFound test (find test (cond b (k ∷ filter (is_on x) ks) (filter (is_on x) ks))) (find other (cond c (o ∷ on_object x os) (on_object x os)))
-    by true true e rest = found (test k) (other o) refl (same k o are.0.0 are.0.2) rest
+    by true true e rest = found (test k) (other o) refl (same k o are.0.action are.0.op) rest
     by false false e rest = rest
     by true false e rest = absurd (true≢false e)
     by false true e rest = absurd (true≢false (sym e))
@@ -154,8 +153,9 @@ sight_is_answered objects s before brought old mid is are =
     record {
       count = goes.count_is;
       objects_are = goes.site.objects_are;
-      live = are_operations mid.table.site.live (site_after_all (deeds_of before) None (site before) first).live
-          (subst (λ (ps : List Placed). AreLiveOps mid.table.site.live ps) (sym (quiet_live s (deeds_of before) None (site before) first quiet)) goes.site.operations);
+      live =
+          subst (λ (ps : List Placed). AreLiveOps mid.table.site.live ps)
+          (sym (quiet_live s (deeds_of before) None (site before) first quiet)) goes.site.operations;
       commits = goes.commits;
       replies = goes.replies;
       knows = λ u. refl;

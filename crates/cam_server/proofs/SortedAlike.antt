@@ -35,7 +35,7 @@ put_in_place k j p q (i ∷ ks) (r ∷ ps) is at place =
     by true true e rest = absurd (true≢false e)
     by false false e rest = absurd (true≢false (sym e))
 
-place_in_order : (k : LiveOp) (p : Placed) (ks : List LiveOp) (ps : List Placed) → AreAlike ks ps
+pub place_in_order : (k : LiveOp) (p : Placed) (ks : List LiveOp) (ps : List Placed) → AreAlike ks ps
     → InPlace k p ks ps
     → InPlace k p (restored.in_order ks) (in_order ps)
 place_in_order k p [] [] alike place = tt
@@ -44,7 +44,7 @@ place_in_order k p (j ∷ ks) [] alike place = absurd place
 place_in_order k p (j ∷ ks) (q ∷ ps) alike place =
     put_in_place k j p q (restored.in_order ks) (in_order ps) place.0 (place_in_order j q ks ps alike.1 alike.0) (place_in_order k p ks ps alike.1 place.1)
 
-put_live : (k : LiveOp) (p : Placed) (ks : List LiveOp) (ps : List Placed) → IsLiveOp k p → InPlace k p ks ps
+put_live : (k : LiveOp) (p : Placed) (ks : List LiveOp) (ps : List Placed) → IsLiveOp k p.operation → InPlace k p ks ps
     → AreLiveOps ks ps
     → AreLiveOps (put_in_order k ks) (put_placed p ps)
 put_live k p [] [] is at are = (is, tt)

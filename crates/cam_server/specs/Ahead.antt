@@ -1,5 +1,6 @@
--- A call may go ahead of the news that came with it: where the news speak of no family with live operations here, the site may be informed
--- of them after the call was performed, and all is as if it had been informed first.
+-- A call may go ahead of the news that came with it: where the news speak of no family with live
+-- operations here, the site may be informed of them after the call was performed, and all is as if
+-- it had been informed first.
 use Rattle.std.specs.Prelude.{◌≡◌, true, Bool, not}
 use Rattle.std.specs.List.{list_all}
 use Rattle.cam_names.specs.declared.name.Name.{Name}
@@ -27,7 +28,8 @@ abbrev pub AreApart : Knowledge → Site → Type 0
 AreApart news site = list_all (is_apart site) news.outcomes ≡ true
 
 -- the site was informed of the news, and then the call was performed
-pub record CameAfter (news k : Knowledge) (asked : Asked) (done : Performed) (old new : Server) : Type 0 where
+pub record CameAfter (news k : Knowledge) (asked : Asked) (done : Performed)
+    (old new : Server) : Type 0 where
   pub mid : Server
   pub informed : IsInformedOf news old mid
   pub value : done ≡ performed_by k mid asked
@@ -36,6 +38,8 @@ pub record CameAfter (news k : Knowledge) (asked : Asked) (done : Performed) (ol
 abbrev pub CallsGoAhead : Type 0
 CallsGoAhead =
     (news k : Knowledge) (asked : Asked) (done : Performed) (old mid new : Server)
-    → ((u : Name) → knows_abort news u ≡ true → knows_abort k u ≡ true) → AreApart news old.table.site
-    → done ≡ performed_by k old asked → AfterPerformed asked done old mid → IsInformedOf news mid new
+    → ((u : Name) → knows_abort news u ≡ true → knows_abort k u ≡ true)
+    → AreApart news old.table.site
+    → done ≡ performed_by k old asked → AfterPerformed asked done old mid
+    → IsInformedOf news mid new
     → CameAfter news k asked done old new

@@ -1,5 +1,6 @@
 -- What each call answers, and what it does to the server.
-use Rattle.std.specs.Prelude.{◌≡◌, ℕ, eqb, min, Bool, true, false, not, ◌&&◌, ◌||◌, if◌then◌else◌, List, filter, Option, Some, None}
+use Rattle.std.specs.Prelude.{◌≡◌, ℕ, eqb, min, Bool, true, false, not, ◌&&◌, ◌||◌, if◌then◌else◌}
+use Rattle.std.specs.Prelude.{List, filter, Option, Some, None}
 use Rattle.std.specs.List.{list_any}
 use Rattle.std.specs.HashMap.{get, spare}
 use Rattle.cam_names.specs.declared.name.Name.{Name}
@@ -32,7 +33,8 @@ use Rattle.cam_server.specs.Server.{Server}
 abbrev pub call_eq : CallName → CallName → Bool
 call_eq a b = name_eq a.action b.action && eqb a.number b.number
 
--- the reply by the table of the calls that were performed, and then by that of those that were bounced
+-- the reply by the table of the calls that were performed, and then by that of those that were
+-- bounced
 abbrev pub reply_by : Option Answer → Option Name → Option Reply
 reply_by (Some answer) u = Some (replies.Done answer)
 reply_by None (Some u) = Some (replies.Busy u)
@@ -51,7 +53,8 @@ answers t =
       room = min (spare t.performed) (spare t.bounced);
     }
 
--- a call as it comes to its site: the count at which the site was addressed, and the pairs that its action has visited
+-- a call as it comes to its site: the count at which the site was addressed, and the pairs that its
+-- action has visited
 pub record Asked : Type 0 where
   pub action : Name
   pub number : ℕ
@@ -61,9 +64,17 @@ pub record Asked : Type 0 where
   pub visited : List ℕ
 
 abbrev pub call : Name → ℕ → ℕ → Op → ℕ → List ℕ → Asked
-call a n x op c visited = record { action = a; number = n; object = x; op = op; count = c; visited = visited }
+call a n x op c visited = record {
+  action = a;
+  number = n;
+  object = x;
+  op = op;
+  count = c;
+  visited = visited;
+}
 
--- THE TESTS OF A CALL, in their order; the first that holds decides. The lock table grants it, or names who stands in the way.
+-- THE TESTS OF A CALL, in their order; the first that holds decides. The lock table grants it, or
+-- names who stands in the way.
 abbrev pub granted : Grant → Performed
 granted (grants.Done answer) = performed.Done answer
 granted (grants.Conflict u) = performed.Busy u
@@ -84,6 +95,25 @@ performed_by k server asked =
     (orphan_or (known_orphan k asked.action (pairs_of asked.visited))
     (granted (grant server.table.site asked.action asked.object asked.op)))
 
+-- What comes of it before the lock table is asked: the first of the other four tests that holds, if one does.
+abbrev pub orphaned : Option Reason → Option Performed
+orphaned (Some reason) = Some (performed.Orphan reason)
+orphaned None = None
+
+abbrev pub replied : Option Reply → Option Performed → Option Performed
+replied (Some reply) other = Some (performed.Again reply)
+replied None other = other
+
+abbrev pub tested_by : Knowledge → Server → Name → ℕ → ℕ → List ℕ → Option Performed
+tested_by k server a n c visited =
+    if not (eqb c server.count) then Some performed.Missed
+    else if list_any (knows_commit k) (ancestors a) then Some performed.Ended
+    else replied (server.kept_reply a n) (orphaned (known_orphan k a (pairs_of visited)))
+
+abbrev pub decided_or : Option Performed → Performed → Performed
+decided_or (Some done) other = done
+decided_or None other = other
+
 -- what is kept of it: the reply to a call that was performed or bounced
 abbrev pub reply_of : Performed → Option Reply
 reply_of (performed.Done answer) = Some (replies.Done answer)
@@ -95,24 +125,30 @@ is_served (performed.Done answer) = true
 is_served (performed.Busy u) = true
 is_served _ = false
 
--- A call that comes as far as the lock table leaves its site as the grant does; any other changes nothing.
+-- A call that comes as far as the lock table leaves its site as the grant does; any other changes
+-- nothing.
 pub record AfterPerformed (asked : Asked) (result : Performed) (old new : Server) : Type 0 where
   pub count : new.count ≡ old.count
   pub site :
-      new.table.site ≡ (if is_served result then after_grant old.table.site asked.action asked.object asked.op else old.table.site)
+      new.table.site ≡ (if is_served result then after_grant old.table.site asked.action
+      asked.object asked.op else old.table.site)
   pub replies :
       (a : Name) (n : ℕ)
       → new.kept_reply a n
-      ≡ (if is_served result && (name_eq asked.action a && eqb asked.number n) then reply_of result else old.kept_reply a n)
+      ≡ (if is_served result && (name_eq asked.action a && eqb asked.number n) then reply_of result
+      else old.kept_reply a n)
 
 -- the reply to a call is noted
 abbrev pub IsNoted : CallName → Option Reply → Tables → Tables → Type 0
-IsNoted noted reply old new = (c : CallName) → reply_in new c ≡ (if call_eq noted c then reply else reply_in old c)
+IsNoted noted reply old new = (c : CallName) → reply_in new c
+    ≡ (if call_eq noted c then reply else reply_in old c)
 
--- what the handed-in server holds then: the state behind a call that was performed, else what it held
+-- what the handed-in server holds then: the state behind a call that was performed, else what it
+-- held
 abbrev pub held_after : Performed → Asked → Server → State → State
 held_after result asked old state =
-    if is_served result then served old.table.site asked.action asked.object asked.op state else state
+    if is_served result then served old.table.site asked.action asked.object asked.op state
+    else state
 
 -- both answer the same
 pub record AreSame (one other : Server) : Type 0 where
@@ -132,14 +168,18 @@ abbrev pub informed_of : Outcome → Site → Site
 informed_of (Aborted a) site = with_abort site a
 informed_of (Committed a counts) site = with_commit site a
 
--- The site is informed of these aborts and commits: the operations of an aborted action and of all below it are dropped.
+-- The site is informed of these aborts and commits: the operations of an aborted action and of all
+-- below it are dropped.
 pub record AreInformed (aborts commits : Name → Bool) (old new : Server) : Type 0 where
   pub count : new.count ≡ old.count
   pub objects : new.table.site.objects ≡ old.table.site.objects
   pub node : new.table.site.node ≡ old.table.site.node
-  pub live : new.table.site.live ≡ filter (λ o. not (list_any aborts (ancestors o.action))) old.table.site.live
-  pub commits_are : (u : Name) → has_name new.table.site.committed u ≡ (has_name old.table.site.committed u || commits u)
-  pub aborts_are : (u : Name) → has_name new.table.site.aborted u ≡ (has_name old.table.site.aborted u || aborts u)
+  pub live : new.table.site.live ≡ filter (λ o. not (list_any aborts (ancestors o.action)))
+      old.table.site.live
+  pub commits_are : (u : Name) → has_name new.table.site.committed u
+      ≡ (has_name old.table.site.committed u || commits u)
+  pub aborts_are : (u : Name) → has_name new.table.site.aborted u
+      ≡ (has_name old.table.site.aborted u || aborts u)
   pub next : new.table.site.next ≡ old.table.site.next
   pub replies : (a : Name) (n : ℕ) → new.kept_reply a n ≡ old.kept_reply a n
 

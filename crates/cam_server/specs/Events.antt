@@ -1,5 +1,7 @@
--- One more event of a node: what it does to what is served there, so that it goes on answering as the node's history does.
-use Rattle.std.specs.Prelude.{◌≡◌, ℕ, ◌+◌, eqb, Bool, true, false, List, [], ◌∷◌, ◌++◌, reverse, Some}
+-- One more event of a node: what it does to what is served there, so that it goes on answering as
+-- the node's history does.
+use Rattle.std.specs.Prelude.{◌≡◌, ℕ, ◌+◌, eqb, Bool, true, false, List, [], ◌∷◌, ◌++◌, reverse}
+use Rattle.std.specs.Prelude.{Some}
 use Rattle.std.specs.List.{list_any, list_all}
 use Rattle.cam_names.specs.declared.name.Name.{Name}
 use Rattle.cam_type.specs.declared.ObjectDecl.{ObjectDecl}
@@ -19,7 +21,8 @@ use Rattle.cam_locks.specs.Restored.{CanRestore, restored}
 use Rattle.cam_server.specs.declared.Performed.{Performed}
 use Rattle.cam_server.specs.declared.Performed.TheVariants as performed
 use Rattle.cam_server.specs.Server.{Server, ServesSite}
-use Rattle.cam_server.specs.Calls.{Asked, performed_by, AfterPerformed, AreInformed, IsInformedOf, IsInformedOfAll, AreSame, IsNew}
+use Rattle.cam_server.specs.Calls.{Asked, performed_by, AfterPerformed, AreInformed, IsInformedOf}
+use Rattle.cam_server.specs.Calls.{IsInformedOfAll, AreSame, IsNew}
 use Rattle.cam_server.specs.Recovered.{AreHeld, beside, OrderIsKept}
 
 -- A deed that does nothing here but that its site may be informed by it: its own site alone.
@@ -54,10 +57,12 @@ SameServes =
     (objects : List ObjectDecl) (s : ℕ) (before : List Carried) (old new : Server) → AreSame old new
     → ServesSite objects s before old → ServesSite objects s before new
 
--- THE LAW. An event that performs and bounces nothing informs the site, of nothing where it has no Inform;
+-- THE LAW. An event that performs and bounces nothing informs the site, of nothing where it has no
+-- Inform;
 abbrev pub InformsKeep : Type 0
 InformsKeep =
-    (objects : List ObjectDecl) (s : ℕ) (before : List Carried) (c : Carried) (old new : Server) → AreQuiet s c.event.deeds
+    (objects : List ObjectDecl) (s : ℕ) (before : List Carried) (c : Carried) (old new : Server)
+    → AreQuiet s c.event.deeds
     → IsInformedBy s c.event.deeds old new → ServesSite objects s before old
     → ServesSite objects s (c ∷ before) new
 
@@ -67,23 +72,27 @@ served_deed asked (performed.Done answer) = Perform asked.action asked.number an
 served_deed asked (performed.Busy u) = Bounce asked.action asked.number u ∷ []
 served_deed asked _ = []
 
-pub record IsServing (s : ℕ) (c : Carried) (first : List Deed) (asked : Asked) (result : Performed) : Type 0 where
+pub record IsServing (s : ℕ) (c : Carried) (first : List Deed) (asked : Asked)
+    (result : Performed) : Type 0 where
   pub quiet : AreQuiet s first
   pub deeds : c.event.deeds ≡ first ++ served_deed asked result
   pub mail :
-      (m : Mail) × (c.mail ≡ Some m) × (m.body ≡ bodies.Call asked.action asked.number asked.object asked.op asked.count asked.visited)
+      (m : Mail) × (c.mail ≡ Some m) × (m.body
+      ≡ bodies.Call asked.action asked.number asked.object asked.op asked.count asked.visited)
 
 -- The lock table did it, just where the call was performed.
 abbrev pub PerformKeeps : Type 0
 PerformKeeps =
-    (objects : List ObjectDecl) (s : ℕ) (before : List Carried) (c : Carried) (first : List Deed) (asked : Asked)
+    (objects : List ObjectDecl) (s : ℕ) (before : List Carried) (c : Carried) (first : List Deed)
+    (asked : Asked)
     (k : Knowledge) (old mid new : Server)
     → IsServing s c first asked (performed_by k mid asked) → IsInformedBy s first old mid
     → AfterPerformed asked (performed_by k mid asked) mid new
     → ServesSite objects s before old → ServesSite objects s (c ∷ before) new
 
--- The first Informs of an event are what the letter brings new: of the news, as they are when the letter's knowledge is joined, each outcome
--- informs, where the site was informed of each commit that was known.
+-- The first Informs of an event are what the letter brings new: of the news, as they are when the
+-- letter's knowledge is joined, each outcome informs, where the site was informed of each commit
+-- that was known.
 abbrev pub NewsInform : Type 0
 NewsInform =
     (s : ℕ) (known brought : Knowledge) (old new : Server)
@@ -104,17 +113,21 @@ DecisionInforms =
 -- Other deeds inform it of nothing,
 abbrev pub NothingInforms : Type 0
 NothingInforms =
-    (s : ℕ) (ds : List Deed) (server : Server) → list_any is_any_inform ds ≡ false → IsInformedBy s ds server server
+    (s : ℕ) (ds : List Deed) (server : Server) → list_any is_any_inform ds ≡ false
+    → IsInformedBy s ds server server
 
 -- and what informs it one after the other informs it of both.
 abbrev pub InformsJoin : Type 0
 InformsJoin =
     (s : ℕ) (first more : List Deed) (old mid new : Server)
-    → IsInformedBy s first old mid → IsInformedBy s more mid new → IsInformedBy s (first ++ more) old new
+    → IsInformedBy s first old mid → IsInformedBy s more mid new
+    → IsInformedBy s (first ++ more) old new
 
--- After a restart, with the table that is restored from what the log held, it answers as the history does: the log held the secured
--- families in order, and what was known of aborts is of what the site was informed.
-pub record IsLogged (objects : List ObjectDecl) (s : ℕ) (before : List Carried) (k : Knowledge) (logged : List Held) : Type 0 where
+-- After a restart, with the table that is restored from what the log held, it answers as the
+-- history does: the log held the secured families in order, and what was known of aborts is of what
+-- the site was informed.
+pub record IsLogged (objects : List ObjectDecl) (s : ℕ) (before : List Carried) (k : Knowledge)
+    (logged : List Held) : Type 0 where
   pub secured : AreHeld logged (reverse (site before).secured)
   pub order : OrderIsKept (beside logged (reverse (site before).secured))
   pub restorable : CanRestore objects s logged
@@ -123,6 +136,8 @@ pub record IsLogged (objects : List ObjectDecl) (s : ℕ) (before : List Carried
 
 abbrev pub RestartKeeps : Type 0
 RestartKeeps =
-    (objects : List ObjectDecl) (s : ℕ) (before : List Carried) (c : Carried) (k : Knowledge) (logged : List Held) (new : Server)
+    (objects : List ObjectDecl) (s : ℕ) (before : List Carried) (c : Carried) (k : Knowledge)
+    (logged : List Held) (new : Server)
     → c.event.deeds ≡ Crash s ∷ [] → IsLogged objects s before k logged
-    → IsNew (count (deeds_of before) s + 1) (restored objects s logged k) new → ServesSite objects s (c ∷ before) new
+    → IsNew (count (deeds_of before) s + 1) (restored objects s logged k) new
+    → ServesSite objects s (c ∷ before) new

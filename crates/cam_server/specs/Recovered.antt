@@ -32,4 +32,5 @@ beside (g ∷ gs) (p ∷ ps) = zip g.ops p.1 ++ beside gs ps
 -- of two logged operations the one that was performed first has the lesser index
 abbrev pub OrderIsKept : List (HeldOp × Placed) → Type 0
 OrderIsKept pairs =
-    (one other : HeldOp × Placed) → Contains pairs one → Contains pairs other → nat_lt one.0.index other.0.index ≡ nat_lt one.1.index other.1.index
+    (one other : HeldOp × Placed) → Contains pairs one → Contains pairs other
+    → nat_lt one.0.index other.0.index ≡ nat_lt one.1.index other.1.index

@@ -1,5 +1,6 @@
 //! The server of a site: its lock table, and the replies that were given, in tables of hashes.
-ghost use Rattle.std.specs.Prelude.{◌≡◌, ◌+◌, ◌≤◌, [], ◌∷◌, length, None, IsTrue, IfOk, OnOk, OnErr};
+ghost use Rattle.std.specs.Prelude.{◌≡◌, ◌+◌, ◌≤◌, [], ◌∷◌, false, length, None, IsTrue, IsOk};
+ghost use Rattle.std.specs.Prelude.{IfOk, OnOk, OnErr};
 ghost use Rattle.std.specs.List.{list_any};
 ghost use Rattle.cam_names.specs.Names.{ancestors};
 ghost use Rattle.cam_type.specs.Table.{kind_of};
@@ -8,9 +9,11 @@ ghost use Rattle.cam_know.specs.Known.{knows_commit};
 ghost use Rattle.cam_locks.specs.Site.{fits_here};
 ghost use Rattle.cam_locks.specs.Calls.{grant, after_grant};
 ghost use Rattle.cam_locks.specs.Served.{served};
-ghost use Rattle.cam_server.specs.Calls.{answers, reply_in, call, granted, performed_by, reply_of, held_after};
+ghost use Rattle.cam_server.specs.Calls.{answers, reply_in, call, granted, tested_by, performed_by};
+ghost use Rattle.cam_server.specs.Calls.{is_served, reply_of, held_after};
 ghost use Rattle.cam_server.specs.declared.server.CallName.{CallName as CallValue};
-ghost use Rattle.cam_server.specs.Calls.{AfterPerformed, IsInformedOf, IsInformedOfAll, AreSame, IsNew, IsNoted, informed_of};
+ghost use Rattle.cam_server.specs.Calls.{AfterPerformed, IsInformedOf, IsInformedOfAll, AreSame};
+ghost use Rattle.cam_server.specs.Calls.{IsNew, IsNoted, informed_of};
 
 use crate::Performed;
 use cam_base::NoMemory;
@@ -27,23 +30,25 @@ use std::slice;
 /// A call: whose it is, and which of the action's calls.
 #[derive(Clone, Copy, PartialEq, Eq, Hash)]
 pub(crate) struct CallName {
-    action: Name,
-    number: u32,
+    pub(crate) action: Name,
+    pub(crate) number: u32,
 }
 
-/// What a node serves: the lock table of its site, and the replies to calls that were performed or bounced in its present incarnation.
+/// What a node serves: the lock table of its site, and the replies to calls that were performed or
+/// bounced in its present incarnation.
 #[derive(Drop)]
 pub struct Server {
     count: u32,
-    table: LockTable,
+    pub(crate) table: LockTable,
     /// The answers of the calls that were performed.
-    performed: HashMap<CallName, Answer>,
+    pub(crate) performed: HashMap<CallName, Answer>,
     /// Who stood in the way of the calls that were bounced.
-    bounced: HashMap<CallName, Name>,
+    pub(crate) bounced: HashMap<CallName, Name>,
 }
 
 impl Server {
-    /// With this table of the site, at this count of the node: nothing is served yet. It takes no memory.
+    /// With this table of the site, at this count of the node: nothing is served yet. It takes no
+    /// memory.
     pub fn new(alloc: Global, table: LockTable, count: u32) -> Server
         ensures new { IsNew count table.site (answers result) }
         ensures spare { (answers result).table.spare ≡ table.spare }
@@ -82,11 +87,47 @@ impl Server {
         self.bounced.get(call).map(|holder| Reply::Busy(*holder))
     }
 
-    /// A call comes to its site: of an action, under a number, on an object, addressed to the site at `count`; `visited` has the pairs
-    /// that its action has visited. The first test that holds decides, in the order of [`Performed`]: another count, a known commit of an
-    /// ancestor, a call that was answered before, an orphan, a lock in the way; else it is performed. The handed-in server does it, as in
-    /// [`LockTable::try_lock_and_apply`], whose wants are those of this call. What the letter brought is known, and the server was informed
-    /// of it. Want of memory changes nothing but the handed-in server. The rule stands in `docs/RULES.md`.
+    /// What comes of a call before the lock table is asked, addressed to the site at `count`; `visited` has the pairs that its action has visited.
+    /// The first of four tests that holds decides, in the order of [`Performed`]: another count, a known commit of an ancestor, a call that was
+    /// answered before, an orphan. None where the lock table decides.
+    pub fn tested(
+        &self,
+        know: &Know,
+        action: &Name,
+        number: u32,
+        count: u32,
+        visited: &Deps,
+    ) -> Option<Performed>
+        ensures { result ≡ tested_by know.now (answers self.now)
+            action.now number count visited.now }
+    {
+        if count != self.count {
+            return Some(Performed::Missed);
+        }
+        if is_ended(know, action) {
+            return Some(Performed::Ended);
+        }
+        let call = CallName {
+            action: *action,
+            number,
+        };
+        if let Some(reply) = self.reply(&call) {
+            return Some(Performed::Again(reply));
+        }
+        if let Some(reason) = orphan(know, action, visited) {
+            return Some(Performed::Orphan(reason));
+        }
+        None
+    }
+
+    /// A call comes to its site: of an action, under a number, on an object, addressed to the site
+    /// at `count`; `visited` has the pairs that its action has visited. The first test that holds
+    /// decides, in the order of [`Performed`]: another count, a known commit of an ancestor, a call
+    /// that was answered before, an orphan, a lock in the way; else it is performed. The handed-in
+    /// server does it, as in [`LockTable::try_lock_and_apply`], whose wants are those of this call.
+    /// What the letter brought is known, and the server was informed of it. Want of memory changes
+    /// nothing but the handed-in server; a call that does not come as far as the lock table wants
+    /// none. The rule stands in `docs/RULES.md`.
     pub fn perform<T: DataType>(
         &mut self,
         know: &Know,
@@ -109,32 +150,26 @@ impl Server {
             AfterPerformed (call action.now number object op.now count visited.now)
             done (answers self.old) (answers self.new)) }
         ensures err { OnErr result (AreSame (answers self.old) (answers self.new)) }
+        ensures unserved { is_served (performed_by know.now (answers self.old)
+            (call action.now number object op.now count visited.now)) ≡ false → IsOk result }
         ensures spare { (answers self.new).table.spare ≡ (answers self.old).table.spare }
         ensures served { IfOk result (λ done. T.held server.new
             ≡ held_after done (call action.now number object op.now count visited.now)
             (answers self.old) (T.held server.old)) }
         ensures kind_stays { T.kind server.new ≡ T.kind server.old }
     {
-        if count != self.count {
-            return Ok(Performed::Missed);
-        }
-        if is_ended(know, action) {
-            return Ok(Performed::Ended);
+        if let Some(done) = self.tested(know, action, number, count, visited) {
+            return Ok(done);
         }
         let call = CallName {
             action: *action,
             number,
         };
-        if let Some(reply) = self.reply(&call) {
-            return Ok(Performed::Again(reply));
-        }
-        if let Some(reason) = orphan(know, action, visited) {
-            return Ok(Performed::Orphan(reason));
-        }
         self.serve(&call, object, op, server)
     }
 
-    /// The site is informed of these outcomes. It wants a spare of their number ([`Server::reserve`]), and takes no memory.
+    /// The site is informed of these outcomes. It wants a spare of their number
+    /// ([`Server::reserve`]), and takes no memory.
     pub fn informed(&mut self, news: &Know)
         requires { length news.now.outcomes ≤ (answers self.old).table.spare }
         ensures informed { IsInformedOf news.now (answers self.old) (answers self.new) }
@@ -144,10 +179,12 @@ impl Server {
         self.inform_all(news.outcomes());
     }
 
-    /// The site is informed of an outcome that the node has decided. It wants a spare of 1, and takes no memory.
+    /// The site is informed of an outcome that the node has decided. It wants a spare of 1, and
+    /// takes no memory.
     pub fn decided(&mut self, outcome: &Outcome)
         requires { 1 ≤ (answers self.old).table.spare }
-        ensures informed { IsInformedOfAll (outcome.now ∷ []) (answers self.old) (answers self.new) }
+        ensures informed { IsInformedOfAll (outcome.now ∷ []) (answers self.old)
+            (answers self.new) }
         ensures spare { (answers self.old).table.spare ≤ (answers self.new).table.spare + 1 }
     {
         self.inform_all(slice::from_ref(outcome));
@@ -188,7 +225,8 @@ impl Server {
         }
     }
 
-    /// A call that was not answered before comes to the lock table. Room for the reply is made first, so that nothing fails behind a grant.
+    /// A call that was not answered before comes to the lock table. Room for the reply is made
+    /// first, so that nothing fails behind a grant.
     fn serve<T: DataType>(
         &mut self,
         call: &CallName,
@@ -222,7 +260,8 @@ impl Server {
         Ok(self.note(call, &grant))
     }
 
-    /// Notes the reply to a call that was not answered before. There is room, so it takes no memory.
+    /// Notes the reply to a call that was not answered before. There is room, so it takes no
+    /// memory.
     fn note(&mut self, call: &CallName, grant: &Grant) -> Performed
         requires fresh { reply_in self.old call.now ≡ None }
         requires room { 1 ≤ (answers self.old).room }

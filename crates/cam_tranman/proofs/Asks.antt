@@ -1,28 +1,15 @@
 -- An action whose request nothing stands against has run here.
-use Rattle.std.proofs.Common.{◌≡◌, ℕ, Bool, true, false, not, ◌&&◌, ◌||◌, if◌then◌else◌, List, [], ◌∷◌, ◌++◌, map, filter, length, Option, Some, None, refl, sym, ap, subst, ◌∙◌}
-use Rattle.std.specs.Prelude.{nat_lt, nat_le, option_map, is_some}
-use Rattle.std.specs.List.{list_any}
-use Rattle.std.proofs.lemmas.Bool.{true≢false, or_parts, not-false, ltb-false}
-use Rattle.std.proofs.lemmas.List.Elements.{filter-append}
+use Rattle.std.proofs.Common.{◌≡◌, Bool, true, not, ◌||◌, length, None, sym, ◌∙◌}
+use Rattle.std.specs.Prelude.{nat_lt, nat_le}
+use Rattle.std.proofs.lemmas.Bool.{or_parts, not-false, ltb-false}
 use Rattle.cam_names.specs.declared.name.Name.{Name}
-use Rattle.cam_names.specs.Names.{is_top, home_node, home_count}
-use Rattle.cam_names.proofs.Names.{name_eq_same}
-use Rattle.cam_type.specs.declared.ObjectDecl.{ObjectDecl}
-use Rattle.cam_know.specs.Knowledge.{Knowledge}
-use Rattle.cam_know.specs.Known.{nothing}
-use Rattle.cam_event.specs.declared.Note.{Note}
-use Rattle.cam_event.specs.declared.Note.TheVariants as notes
+use Rattle.cam_names.specs.Names.{home_node, home_count}
 use Rattle.cam_event.specs.declared.LineRefusal.TheVariants as refusals
 use Rattle.cam_event.specs.declared.Want.{Want}
 use Rattle.cam_event.specs.declared.Want.TheVariants as wants
-use Rattle.cam_event.specs.declared.Deed.{Deed}
-use Rattle.cam_event.specs.History.{after, created, ended, is_open_child, is_crash}
-use Rattle.cam_event.specs.Inputs.{Input, Begins, Requests, Receives, Tells, Queries, Restarts, Mail}
-use Rattle.cam_event.specs.Sights.{Sight, present, votes, yes_for, is_preparing, is_preparing_note}
+use Rattle.cam_event.specs.History.{created, ended, is_open_child}
+use Rattle.cam_event.specs.Sights.{Sight, present}
 use Rattle.cam_event.specs.Refusals.{first_of_two, where_so, has_ended, has_call, has_child, is_not_open, refusal}
-use Rattle.cam_event.specs.Rules.{rule}
-use Rattle.cam_event.specs.Taken.{is_entered}
-use Rattle.cam_event.specs.ByKnowledge.{Carried, entry_of, deeds_of, start_counts, held_sight, held_informs}
 use Rattle.cam_tranman.proofs.Requests.{rest, is_rest, first_none, rest_none, so_none}
 use Rattle.cam_tranman.proofs.Ordering.{HasRun}
 

@@ -1,6 +1,7 @@
--- The actions that a node runs in its present incarnation, as the answers that are given when it is asked for them, and what they must
--- answer for the node to stand for its history.
-use Rattle.std.specs.Prelude.{◌≡◌, ℕ, ◌≤◌, Bool, false, ◌&&◌, List, replicate, Option, Some, option_map, is_some, IfSome}
+-- The actions that a node runs in its present incarnation, as the answers that are given when it is
+-- asked for them, and what they must answer for the node to stand for its history.
+use Rattle.std.specs.Prelude.{◌≡◌, ℕ, ◌≤◌, Bool, false, ◌&&◌, List, replicate, Option, Some}
+use Rattle.std.specs.Prelude.{option_map, is_some, IfSome}
 use Rattle.std.specs.List.{list_any}
 use Rattle.std.specs.Option.{option_map_or}
 use Rattle.cam_names.specs.declared.name.Name.{Name}
@@ -69,12 +70,14 @@ is_open_child actions a b = is_child a b && is_open actions b
 abbrev pub has_open_child : Actions → Name → Bool
 has_open_child actions a = list_any (is_child a) actions.children
 
--- An action may run here where this node is its home and its incarnation is no older than the present one.
+-- An action may run here where this node is its home and its incarnation is no older than the
+-- present one.
 abbrev pub MayRunHere : List Deed → ℕ → Name → Type 0
 MayRunHere own s a = (home_node a ≡ s) × (history.count own s ≤ home_count a)
 
 -- The actions answer as these deeds of the node, and as what each action depends on.
-pub record AnswersDeeds (objects : List ObjectDecl) (s : ℕ) (L : List Deed) (depends : Name → List ℕ) (actions : Actions) : Type 0 where
+pub record AnswersDeeds (objects : List ObjectDecl) (s : ℕ) (L : List Deed)
+    (depends : Name → List ℕ) (actions : Actions) : Type 0 where
   pub node : actions.node ≡ s
   pub count : actions.count ≡ history.count L s
   pub tops : actions.tops ≡ history.tops L s (history.count L s)
@@ -83,15 +86,20 @@ pub record AnswersDeeds (objects : List ObjectDecl) (s : ℕ) (L : List Deed) (d
   pub asks : (a : Name) → MayRunHere L s a → asks actions a ≡ history.asks L a
   pub calls : (a : Name) → MayRunHere L s a → calls actions a ≡ history.calls L a
   pub open_call : (a : Name) → MayRunHere L s a → open_call actions a ≡ history.open_call L a
-  pub open_address : (a : Name) (n : ℕ) → MayRunHere L s a → history.open_call L a ≡ Some n → open_address actions a ≡ call_of L a n
-  pub open_site : (a : Name) → MayRunHere L s a → IfSome (actions.call a) (λ call. call.site ≡ site_of objects call.object)
-  pub open_child : (a b : Name) → MayRunHere L s a → is_open_child actions a b ≡ history.is_open_child L a b
-  pub any_open_child : (a : Name) → MayRunHere L s a → has_open_child actions a ≡ history.has_open_child L a
+  pub open_address : (a : Name) (n : ℕ) → MayRunHere L s a → history.open_call L a ≡ Some n
+      → open_address actions a ≡ call_of L a n
+  pub open_site : (a : Name) → MayRunHere L s a
+      → IfSome (actions.call a) (λ call. call.site ≡ site_of objects call.object)
+  pub open_child : (a b : Name) → MayRunHere L s a
+      → is_open_child actions a b ≡ history.is_open_child L a b
+  pub any_open_child : (a : Name) → MayRunHere L s a
+      → has_open_child actions a ≡ history.has_open_child L a
   pub deps : (a : Name) → MayRunHere L s a → deps actions a ≡ depends a
 
 -- They answer as the history of their node,
 abbrev pub RunsActions : List ObjectDecl → ℕ → List Carried → Actions → Type 0
-RunsActions objects s before actions = AnswersDeeds objects s (deeds_of before) (λ a. as_counts (own_pairs objects before a)) actions
+RunsActions objects s before actions = AnswersDeeds objects s (deeds_of before)
+    (λ a. as_counts (own_pairs objects before a)) actions
 
 -- and as what the node goes by.
 abbrev pub AnswersSight : List ObjectDecl → Sight → Actions → Type 0

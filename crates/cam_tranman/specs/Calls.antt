@@ -1,5 +1,7 @@
 -- What each call answers, and what it does to the actions.
-use Rattle.std.specs.Prelude.{◌≡◌, ℕ, ◌+◌, eqb, nat_le, nat_lt, Bool, true, false, not, ◌&&◌, ◌||◌, if◌then◌else◌, List, [], ◌∷◌, ◌++◌, replicate, filter, length, Option, Some, None, option_map, is_some}
+use Rattle.std.specs.Prelude.{◌≡◌, ℕ, ◌+◌, eqb, nat_le, nat_lt, Bool, true, false, not, ◌&&◌, ◌||◌}
+use Rattle.std.specs.Prelude.{if◌then◌else◌, List, [], ◌∷◌, ◌++◌, replicate, filter, length, Option}
+use Rattle.std.specs.Prelude.{Some, None, option_map, is_some}
 use Rattle.cam_names.specs.declared.name.Name.{Name}
 use Rattle.cam_names.specs.Names.{name_eq, parent, home_count}
 use Rattle.cam_names.specs.Dependencies.{as_counts, greater_counts}
@@ -20,7 +22,8 @@ use Rattle.cam_tranman.specs.declared.Started.TheVariants as started
 use Rattle.cam_tranman.specs.declared.Taken.{Taken}
 use Rattle.cam_tranman.specs.declared.Taken.TheVariants as taken
 use Rattle.cam_tranman.specs.declared.action.Action.{Action}
-use Rattle.cam_tranman.specs.Actions.{Actions, created, ended, asks, calls, open_call, is_open, is_open_child, has_open_child}
+use Rattle.cam_tranman.specs.Actions.{Actions, created, ended, asks, calls, open_call, is_open}
+use Rattle.cam_tranman.specs.Actions.{is_open_child, has_open_child}
 
 -- both answer the same
 pub record AreSame (one other : Actions) : Type 0 where
@@ -31,9 +34,11 @@ pub record AreSame (one other : Actions) : Type 0 where
   pub call : (a : Name) → other.call a ≡ one.call a
   pub children : (b : Name) → is_open other b ≡ is_open one b
 
--- WHAT STANDS AGAINST A REQUEST: it has asked to commit or abort, or its home has crashed since it was named;
+-- WHAT STANDS AGAINST A REQUEST: it has asked to commit or abort, or its home has crashed since it
+-- was named;
 abbrev pub has_ended : Actions → Name → Option LineRefusal
-has_ended actions a = where_so (ended actions a || nat_lt (home_count a) actions.count) refusals.Ended
+has_ended actions a = where_so (ended actions a || nat_lt (home_count a) actions.count)
+    refusals.Ended
 
 -- a call of it, or a child, is open;
 abbrev pub has_call : Actions → Name → Option LineRefusal
@@ -47,7 +52,8 @@ abbrev pub is_not_open : Actions → Name → Option LineRefusal
 is_not_open actions a = where_so (not (created actions a)) refusals.NotOpen
 
 abbrev pub has_not_open : Actions → Name → Name → Option LineRefusal
-has_not_open actions a b = where_so (not (created actions a) || not (is_open_child actions a b)) refusals.NotOpen
+has_not_open actions a b = where_so (not (created actions a) || not (is_open_child actions a b))
+    refusals.NotOpen
 
 -- its name has eight parts.
 abbrev pub is_too_deep : Name → Option LineRefusal
@@ -60,32 +66,48 @@ in_turn (r ∷ q ∷ rs) = first_of_two r (in_turn (q ∷ rs))
 
 -- the first test that holds decides
 abbrev pub refusal_by : Actions → Name → Want → Option LineRefusal
-refusal_by actions a (wants.Ask m) = in_turn (has_ended actions a ∷ has_call actions a ∷ is_not_open actions a ∷ is_too_deep a ∷ [])
-refusal_by actions a (wants.Call x op) = in_turn (has_ended actions a ∷ has_call actions a ∷ has_child actions a ∷ is_not_open actions a ∷ [])
-refusal_by actions a (wants.Commit v) = in_turn (has_ended actions a ∷ has_call actions a ∷ has_child actions a ∷ is_not_open actions a ∷ [])
+refusal_by actions a (wants.Ask m) = in_turn (has_ended actions a ∷ has_call actions a
+    ∷ is_not_open actions a ∷ is_too_deep a ∷ [])
+refusal_by actions a (wants.Call x op) = in_turn
+    (has_ended actions a ∷ has_call actions a ∷ has_child actions a ∷ is_not_open actions a ∷ [])
+refusal_by actions a (wants.Commit v) = in_turn
+    (has_ended actions a ∷ has_call actions a ∷ has_child actions a ∷ is_not_open actions a ∷ [])
 refusal_by actions a wants.Abort = in_turn (has_ended actions a ∷ is_not_open actions a ∷ [])
-refusal_by actions a (wants.GiveUp b) = in_turn (has_ended actions a ∷ has_not_open actions a b ∷ [])
+refusal_by actions a (wants.GiveUp b) = in_turn
+    (has_ended actions a ∷ has_not_open actions a b ∷ [])
 
 abbrev pub IsFree : Actions → Name → Want → Type 0
 IsFree actions a want = refusal_by actions a want ≡ None
 
 -- NAMES: the next top action, and the next child of an action, at a node and a count.
 abbrev pub next_top : Actions → Name
-next_top actions = record { node = actions.node; count = actions.count; number = actions.tops + 1 } ∷ []
+next_top actions = record { node = actions.node; count = actions.count; number = actions.tops + 1 }
+    ∷ []
 
 abbrev pub next_child : Actions → Name → ℕ → ℕ → Name
 next_child actions a m c = a ++ record { node = m; count = c; number = asks actions a + 1 } ∷ []
 
 -- CHANGES. No action runs.
 abbrev pub none_run : ℕ → ℕ → Actions
-none_run node count = record { node = node; count = count; tops = 0; action = λ a. None; call = λ a. None; children = []; room = 0 }
+none_run node count = record {
+  node = node;
+  count = count;
+  tops = 0;
+  action = λ a. None;
+  call = λ a. None;
+  children = [];
+  room = 0;
+}
 
 -- an action that was created and has done nothing yet
 abbrev pub fresh : List ℕ → Action
 fresh counts = record { ended = false; asks = 0; calls = 0; deps = counts }
 
 abbrev pub with_action : Name → Action → Actions → Actions
-with_action a kept actions = record actions { action = λ b. if name_eq a b then Some kept else actions.action b }
+with_action a kept actions = record actions {
+  action = λ b. if name_eq a b then Some kept
+      else actions.action b;
+}
 
 -- what is kept of an action is changed, where it was created
 abbrev pub changed : Name → (Action → Action) → (Name → Option Action) → Name → Option Action
@@ -95,13 +117,19 @@ abbrev pub on : Name → (Action → Action) → Actions → Actions
 on a change actions = record actions { action = changed a change actions.action }
 
 abbrev pub with_call : Name → Option OpenCall → Actions → Actions
-with_call a call actions = record actions { call = λ b. if name_eq a b then call else actions.call b }
+with_call a call actions = record actions {
+  call = λ b. if name_eq a b then call
+      else actions.call b;
+}
 
 abbrev pub with_child : Name → Actions → Actions
 with_child b actions = record actions { children = b ∷ actions.children }
 
 abbrev pub without_child : Name → Actions → Actions
-without_child b actions = record actions { children = filter (λ c. not (name_eq b c)) actions.children }
+without_child b actions = record actions {
+  children = filter
+      (λ c. not (name_eq b c)) actions.children;
+}
 
 -- one more child asked for, one more call made; it has ended; it depends on more
 abbrev pub with_ask : Action → Action
@@ -122,7 +150,8 @@ visiting counts pair = greater_counts counts (as_counts (pair ∷ []))
 
 -- A top action is begun: it depends on its home.
 abbrev pub begun_as : Name → Actions → Actions
-begun_as a actions = with_action a (fresh (visiting (replicate 8 0) (home a))) (record actions { tops = actions.tops + 1 })
+begun_as a actions = with_action a (fresh (visiting (replicate 8 0) (home a)))
+    (record actions { tops = actions.tops + 1 })
 
 abbrev pub begun : Actions → Actions
 begun actions = begun_as (next_top actions) actions
@@ -150,11 +179,14 @@ next_call actions a = calls actions a + 1
 abbrev pub finished : Name → Actions → Actions
 finished a actions = on a as_ended actions
 
--- An answer is awaited where the action runs here and has not ended, and its open call has this number.
+-- An answer is awaited where the action runs here and has not ended, and its open call has this
+-- number.
 abbrev pub awaits_by : Actions → Name → ℕ → Bool
-awaits_by actions a n = eqb (home_count a) actions.count && created actions a && not (ended actions a) && is_number n (open_call actions a)
+awaits_by actions a n = eqb (home_count a) actions.count && created actions a
+    && not (ended actions a) && is_number n (open_call actions a)
 
--- what the action sees of a reply that it awaits; Missed and Refused come where the site has crashed, and it sees nothing of them
+-- what the action sees of a reply that it awaits; Missed and Refused come where the site has
+-- crashed, and it sees nothing of them
 abbrev pub seen_of : Reply → Taken
 seen_of (replies.Done answer) = taken.Got (seens.Done answer)
 seen_of (replies.Busy u) = taken.Got (seens.Busy u)
@@ -164,14 +196,17 @@ seen_of replies.Refused = taken.Late
 -- The call is gone where its site has crashed since it was addressed.
 abbrev pub taken_at : Option OpenCall → Reply → ℕ → Taken
 taken_at None reply known = taken.Late
-taken_at (Some call) reply known = if nat_lt call.count known then taken.Got seens.Gone else seen_of reply
+taken_at (Some call) reply known =
+    if nat_lt call.count known then taken.Got seens.Gone else seen_of reply
 
 abbrev pub taken_by : Actions → Name → ℕ → Reply → ℕ → Taken
-taken_by actions a n reply known = if not (awaits_by actions a n) then taken.Late else taken_at (actions.call a) reply known
+taken_by actions a n reply known =
+    if not (awaits_by actions a n) then taken.Late else taken_at (actions.call a) reply known
 
 -- An answer that was done adds the call's site with the addressed count.
 abbrev pub seeing : Seen → OpenCall → Action → Action
-seeing (seens.Done answer) call kept = record kept { deps = visiting kept.deps (call.site, call.count) }
+seeing (seens.Done answer) call kept = record kept
+    { deps = visiting kept.deps (call.site, call.count) }
 seeing (seens.Busy u) call kept = kept
 seeing seens.Gone call kept = kept
 
@@ -187,21 +222,25 @@ abbrev pub after_taken : Name → Taken → Actions → Actions
 after_taken a (taken.Got seen) actions = got a seen actions
 after_taken a taken.Late actions = actions
 
--- A child is decided by its parent's home, where the parent runs here and has not ended, and the child is open.
+-- A child is decided by its parent's home, where the parent runs here and has not ended, and the
+-- child is open.
 abbrev pub decides_of : Actions → Name → Option Name → Bool
 decides_of actions b None = false
-decides_of actions b (Some p) = eqb (home_count p) actions.count && not (ended actions p) && is_open_child actions p b
+decides_of actions b (Some p) = eqb (home_count p) actions.count && not (ended actions p)
+    && is_open_child actions p b
 
 abbrev pub decides_by : Actions → Name → Bool
 decides_by actions b = decides_of actions b (parent b)
 
 -- It is open no longer; where it commits, its parent depends on what it depends on.
-abbrev pub parent_changed : Option Name → (Action → Action) → (Name → Option Action) → Name → Option Action
+abbrev pub parent_changed : Option Name → (Action → Action) → (Name → Option Action) → Name
+    → Option Action
 parent_changed None change kept = kept
 parent_changed (Some p) change kept = changed p change kept
 
 abbrev pub parent_gains : Name → List ℕ → Actions → Actions
-parent_gains b counts actions = record actions { action = parent_changed (parent b) (gaining counts) actions.action }
+parent_gains b counts actions = record actions
+    { action = parent_changed (parent b) (gaining counts) actions.action }
 
 abbrev pub decided : Name → Option (List ℕ) → Actions → Actions
 decided b None actions = without_child b actions

@@ -1,17 +1,21 @@
--- One more event of a node: what it does to the actions that run there, so that they go on answering as the node's history does.
-use Rattle.std.specs.Prelude.{◌≡◌, ℕ, ◌+◌, Bool, true, false, List, [], ◌∷◌, filter, length, Option, Some, None}
+-- One more event of a node: what it does to the actions that run there, so that they go on
+-- answering as the node's history does.
+use Rattle.std.specs.Prelude.{◌≡◌, ℕ, ◌+◌, Bool, true, false, List, [], ◌∷◌, filter, length, Option}
+use Rattle.std.specs.Prelude.{Some, None}
 use Rattle.cam_names.specs.declared.name.Name.{Name}
 use Rattle.cam_names.specs.Names.{is_top, is_child, parent, home_node, home_count}
 use Rattle.cam_type.specs.declared.ObjectDecl.{ObjectDecl}
 use Rattle.cam_type.specs.declared.Op.{Op}
 use Rattle.cam_event.specs.declared.Deed.{Deed}
-use Rattle.cam_event.specs.declared.Deed.TheVariants.{Create, Ask, Call, Got, AskCommit, AskAbort, Commit, Abort, Crash}
+use Rattle.cam_event.specs.declared.Deed.TheVariants.{Create, Ask, Call, Got, AskCommit, AskAbort}
+use Rattle.cam_event.specs.declared.Deed.TheVariants.{Commit, Abort, Crash}
 use Rattle.cam_event.specs.Live.{site_of}
 use Rattle.cam_event.specs.Inputs.{Mail}
 use Rattle.cam_event.specs.ByKnowledge.{Carried, start_counts, finish_counts}
 use Rattle.cam_tranman.specs.declared.call.OpenCall.{OpenCall}
 use Rattle.cam_tranman.specs.Actions.{Actions, created, open_call, RunsActions}
-use Rattle.cam_tranman.specs.Calls.{AreSame, next_top, none_run, begun, begun_child, asked, called, finished, got, decided}
+use Rattle.cam_tranman.specs.Calls.{AreSame, next_top, none_run, begun, begun_child, asked, called}
+use Rattle.cam_tranman.specs.Calls.{finished, got, decided}
 
 -- the deeds that concern the actions at home
 abbrev pub is_at_home : Deed → Bool
@@ -31,7 +35,13 @@ at_home c = filter is_at_home c.event.deeds
 
 -- what a call asks, and where it goes
 abbrev pub call_to : List ObjectDecl → ℕ → ℕ → Op → ℕ → OpenCall
-call_to objects n x op c = record { number = n; object = x; op = op; site = site_of objects x; count = c }
+call_to objects n x op c = record {
+  number = n;
+  object = x;
+  op = op;
+  site = site_of objects x;
+  count = c;
+}
 
 -- What a deed does: just what one call does. The commit or abort of a top action does nothing here.
 abbrev pub begins : Bool → Name → Option Mail → Actions → Actions
@@ -49,7 +59,8 @@ after_deed objects mail (Call a n x op c) actions = called a (call_to objects n 
 after_deed objects mail (Got a n seen) actions = got a seen actions
 after_deed objects mail (AskCommit a v) actions = finished a actions
 after_deed objects mail (AskAbort a) actions = finished a actions
-after_deed objects mail (Commit b) actions = decides (is_top b) b (Some (finish_counts mail)) actions
+after_deed objects mail (Commit b) actions = decides (is_top b) b
+    (Some (finish_counts mail)) actions
 after_deed objects mail (Abort b) actions = decides (is_top b) b None actions
 after_deed objects mail (Crash s) actions = none_run actions.node (actions.count + 1)
 after_deed objects mail _ actions = actions
@@ -70,12 +81,15 @@ abbrev pub HasParent : Option Name → Actions → Type 0
 HasParent None actions = Unit {0}
 HasParent (Some p) actions = created actions p ≡ true
 
--- A child commits with the dependencies on its finish, and its parent was created here; a top action commits by a vote.
+-- A child commits with the dependencies on its finish, and its parent was created here; a top
+-- action commits by a vote.
 abbrev pub CommitMayCome : Bool → Name → Option Mail → Actions → Type 0
 CommitMayCome true b mail actions = Unit {0}
-CommitMayCome false b mail actions = (length (finish_counts mail) ≡ 8) × HasParent (parent b) actions
+CommitMayCome false b mail actions = (length (finish_counts mail) ≡ 8)
+    × HasParent (parent b) actions
 
--- When a deed may come: it is of an action that was created here; an ask is for a child of it, an answer for its open call.
+-- When a deed may come: it is of an action that was created here; an ask is for a child of it, an
+-- answer for its open call.
 abbrev pub MayCome : Option Mail → Deed → Actions → Type 0
 MayCome mail (Create a) actions = IsNew a actions × IsNamed (is_top a) a mail actions
 MayCome mail (Ask a b) actions = (created actions a ≡ true) × (is_child a b ≡ true)
@@ -90,12 +104,14 @@ MayCome mail _ actions = ⊥
 -- THE LAW. An event without such a deed leaves the actions as they are;
 abbrev pub QuietKeeps : Type 0
 QuietKeeps =
-    (objects : List ObjectDecl) (s : ℕ) (before : List Carried) (c : Carried) (old new : Actions) → at_home c ≡ [] → AreSame old new
+    (objects : List ObjectDecl) (s : ℕ) (before : List Carried) (c : Carried) (old new : Actions)
+    → at_home c ≡ [] → AreSame old new
     → RunsActions objects s before old → RunsActions objects s (c ∷ before) new
 
 -- one with a deed that may come then does what the deed does;
 abbrev pub DeedKeeps : Type 0
 DeedKeeps =
-    (objects : List ObjectDecl) (s : ℕ) (before : List Carried) (c : Carried) (d : Deed) (old new : Actions) → at_home c ≡ d ∷ []
+    (objects : List ObjectDecl) (s : ℕ) (before : List Carried) (c : Carried) (d : Deed)
+    (old new : Actions) → at_home c ≡ d ∷ []
     → MayCome c.mail d old → AreSame (after_deed objects c.mail d old) new
     → RunsActions objects s before old → RunsActions objects s (c ∷ before) new

@@ -1,5 +1,5 @@
--- THE LAW OF ONE STEP: the deeds that a rule makes of the actions at home may come, each event has one at most, and where the actions did what
--- it does they answer as the longer history.
+-- THE LAW OF ONE STEP: the deeds that a rule makes of the actions at home may come, each event has
+-- one at most, and where the actions did what it does they answer as the longer history.
 use Rattle.std.specs.Prelude.{◌≡◌, ℕ, ◌+◌, List, [], ◌∷◌, filter, length, Option, Some, None}
 use Rattle.cam_type.specs.declared.ObjectDecl.{ObjectDecl}
 use Rattle.cam_know.specs.Knowledge.{Knowledge}
@@ -20,14 +20,18 @@ use Rattle.cam_tranman.specs.Orderly.{present_count, IsOrderly, MayBeAsked, step
 abbrev pub did_at_home : Did → List Deed
 did_at_home d = filter is_at_home d.deeds
 
-abbrev pub home_deeds : List ObjectDecl → ℕ → List Carried → Input → Option Mail → Knowledge → List Deed
-home_deeds objects s before input mail brought = did_at_home (rule objects (held_sight objects s before brought) mail input)
+abbrev pub home_deeds : List ObjectDecl → ℕ → List Carried → Input → Option Mail → Knowledge
+    → List Deed
+home_deeds objects s before input mail brought =
+    did_at_home (rule objects (held_sight objects s before brought) mail input)
 
 -- Those of the event are those of its rule.
 abbrev pub RulesMakeThem : Type 0
 RulesMakeThem =
-    (objects : List ObjectDecl) (s : ℕ) (before : List Carried) (input : Input) (mail : Option Mail) (brought : Knowledge)
-    → at_home (stepped objects s before input mail brought) ≡ home_deeds objects s before input mail brought
+    (objects : List ObjectDecl) (s : ℕ) (before : List Carried) (input : Input) (mail : Option Mail)
+    (brought : Knowledge)
+    → at_home (stepped objects s before input mail brought)
+    ≡ home_deeds objects s before input mail brought
 
 -- The dependencies on a start or a finish are eight counts.
 abbrev pub HasCounts : Body → Type 0
@@ -51,25 +55,33 @@ OneMayCome s mail (d ∷ e ∷ ds) actions = ⊥
 
 abbrev pub DeedsMayCome : Type 0
 DeedsMayCome =
-    (objects : List ObjectDecl) (s : ℕ) (before : List Carried) (input : Input) (mail : Option Mail) (brought : Knowledge) (actions : Actions)
-    → RunsActions objects s before actions → IsOrderly s before → MayBeAsked s (held_sight objects s before nothing) input mail
-    → MailHasCounts mail → OneMayCome s mail (home_deeds objects s before input mail brought) actions
+    (objects : List ObjectDecl) (s : ℕ) (before : List Carried) (input : Input) (mail : Option Mail)
+    (brought : Knowledge) (actions : Actions)
+    → RunsActions objects s before actions → IsOrderly s before
+    → MayBeAsked s (held_sight objects s before nothing) input mail
+    → MailHasCounts mail → OneMayCome s mail (home_deeds objects s before input mail brought)
+    actions
 
 -- After a restart nothing runs, and that is what the history has.
 abbrev pub RestartKeeps : Type 0
 RestartKeeps =
-    (objects : List ObjectDecl) (s : ℕ) (before : List Carried) (c : Carried) (new : Actions) → IsOrderly s before → at_home c ≡ Crash s ∷ []
+    (objects : List ObjectDecl) (s : ℕ) (before : List Carried) (c : Carried) (new : Actions)
+    → IsOrderly s before → at_home c ≡ Crash s ∷ []
     → AreSame (none_run s (present_count s before + 1)) new → RunsActions objects s (c ∷ before) new
 
 -- what the deeds do to the actions, in their order
 abbrev pub after_deeds : List ObjectDecl → Option Mail → List Deed → Actions → Actions
 after_deeds objects mail [] actions = actions
-after_deeds objects mail (d ∷ ds) actions = after_deeds objects mail ds (after_deed objects mail d actions)
+after_deeds objects mail (d ∷ ds) actions = after_deeds objects mail ds
+    (after_deed objects mail d actions)
 
--- Whatever the step: where the actions did what the deeds of its rule do, they answer as the longer history.
+-- Whatever the step: where the actions did what the deeds of its rule do, they answer as the longer
+-- history.
 abbrev pub StepKeeps : Type 0
 StepKeeps =
-    (objects : List ObjectDecl) (s : ℕ) (before : List Carried) (input : Input) (mail : Option Mail) (brought : Knowledge) (old new : Actions)
-    → RunsActions objects s before old → IsOrderly s before → MayBeAsked s (held_sight objects s before nothing) input mail → MailHasCounts mail
+    (objects : List ObjectDecl) (s : ℕ) (before : List Carried) (input : Input) (mail : Option Mail)
+    (brought : Knowledge) (old new : Actions)
+    → RunsActions objects s before old → IsOrderly s before
+    → MayBeAsked s (held_sight objects s before nothing) input mail → MailHasCounts mail
     → AreSame (after_deeds objects mail (home_deeds objects s before input mail brought) old) new
     → RunsActions objects s (stepped objects s before input mail brought ∷ before) new

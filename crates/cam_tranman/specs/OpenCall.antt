@@ -2,8 +2,8 @@
 use Rattle.std.specs.Prelude.{ℕ, ◌≤◌}
 use Rattle.cam_type.specs.declared.Op.{Op}
 
--- what a contract sees of it: which call of the action it is, what it asked of which object, and the object's node, with the count at which
--- it was addressed
+-- what a contract sees of it: which call of the action it is, what it asked of which object, and
+-- the object's node, with the count at which it was addressed
 pub record OpenCallFields : Type 0 where
   pub number : ℕ
   pub object : ℕ

@@ -1,6 +1,7 @@
 //! What is kept of an action, and how it changes.
 ghost use Rattle.std.specs.Prelude.{◌≡◌, ◌≤◌, ◌<◌};
-ghost use Rattle.cam_tranman.specs.Calls.{fresh, with_ask, one_call_more, as_ended, gaining, seeing};
+ghost use Rattle.cam_tranman.specs.Calls.{fresh, with_ask, one_call_more, as_ended, gaining};
+ghost use Rattle.cam_tranman.specs.Calls.{seeing};
 
 use crate::OpenCall;
 use crate::deps::{at, union};

@@ -1,17 +1,21 @@
 //! What is asked of the actions, and the tests that a rule makes first. Nothing of it takes memory.
-ghost use Rattle.std.specs.Prelude.{◌≡◌, ◌≤◌, eqb, nat_lt, not, ◌&&◌, ◌||◌, [], ◌∷◌, OnOk, IsOk, option_map};
-ghost use Rattle.cam_names.specs.Names.{home_count};
+ghost use Rattle.std.specs.Prelude.{◌≡◌, ◌≤◌, eqb, nat_lt, not, ◌&&◌, ◌||◌, [], ◌∷◌, OnOk, IsOk};
+ghost use Rattle.std.specs.Prelude.{option_map};
+ghost use Rattle.cam_names.specs.Names.{home_node, home_count};
 ghost use Rattle.cam_event.specs.Rules.{is_number};
 ghost use Rattle.cam_tranman.specs.Tables.{answers};
 ghost use Rattle.cam_tranman.specs.Actions.{created, ended, asks, calls, open_call};
-ghost use Rattle.cam_tranman.specs.Calls.{AreSame, none_run, in_turn, has_call, has_child, is_not_open, has_not_open, is_too_deep, refusal_by, awaits_by, decides_by};
+ghost use Rattle.cam_tranman.specs.Calls.{AreSame, none_run, in_turn, has_call, has_child};
+ghost use Rattle.cam_tranman.specs.Calls.{is_not_open, has_not_open, is_too_deep, refusal_by};
+ghost use Rattle.cam_tranman.specs.Calls.{awaits_by, decides_by, taken_by};
 
-use crate::OpenCall;
 use crate::children::Children;
 use crate::homed::Homed;
+use crate::steps::taken_at;
 use crate::tables::{call_in, kept_in};
+use crate::{OpenCall, Taken};
 use cam_base::NoMemory;
-use cam_event::{LineRefusal, Request, Want};
+use cam_event::{LineRefusal, Reply, Request, Want};
 use cam_names::{Deps, Name};
 use std::alloc::Global;
 use std::collections::HashMap;
@@ -33,7 +37,8 @@ impl Homed {
         }
     }
 
-    /// Makes room for one more of each: after it the next call takes no memory. What is answered stays the same.
+    /// Makes room for one more of each: after it the next call takes no memory. What is answered
+    /// stays the same.
     pub fn reserve(&mut self) -> Result<(), NoMemory>
         ensures same { AreSame (answers self.old) (answers self.new) }
         ensures ok { OnOk result (1 ≤ (answers self.new).room) }
@@ -109,14 +114,39 @@ impl Homed {
         kept_in(&self.actions, action).is_some()
     }
 
-    /// Whether the answer to this call of an action is awaited: the action runs here and has not ended, and its open call has this number.
+    /// Whether the answer to this call of an action is awaited: the action runs here and has not
+    /// ended, and its open call has this number.
     pub fn awaits(&self, action: &Name, number: u32) -> bool
         ensures { result ≡ awaits_by (answers self.now) action.now number }
     {
         self.goes_on(action) && self.created(action) && self.has_open(action, number)
     }
 
-    /// Whether a child is to be decided: its parent runs here and has not ended, and the child is open.
+    /// Whether a child may be started here: this node is its home, at the present count.
+    pub fn may_start(&self, child: &Name) -> bool
+        ensures { result ≡ (eqb (home_node child.now) (answers self.now).node
+            && eqb (home_count child.now) (answers self.now).count) }
+    {
+        let (node, count) = child.home();
+        node == self.node && count == self.count
+    }
+
+    /// What the answer to a call of an action makes of it, where the count of the call's site is
+    /// known as `known`: what [`Homed::answer`] will say of it.
+    pub fn taken(&self, action: &Name, number: u32, reply: &Reply, known: u32) -> Taken
+        ensures { result ≡ taken_by (answers self.now) action.now number reply.now known }
+    {
+        if !self.awaits(action, number) {
+            return Taken::Late;
+        }
+        match call_in(&self.calls, action) {
+            Some(call) => taken_at(&call, reply, known),
+            None => Taken::Late,
+        }
+    }
+
+    /// Whether a child is to be decided: its parent runs here and has not ended, and the child is
+    /// open.
     pub fn decides(&self, child: &Name) -> bool
         ensures { result ≡ decides_by (answers self.now) child.now }
     {
@@ -139,7 +169,8 @@ impl Homed {
 
     /// It has asked to commit or abort, or its home has crashed since it was named.
     fn has_ended(&self, action: &Name) -> bool
-        ensures { result ≡ (ended (answers self.now) action.now || nat_lt (home_count action.now) (answers self.now).count) }
+        ensures { result ≡ (ended (answers self.now) action.now
+            || nat_lt (home_count action.now) (answers self.now).count) }
     {
         let (_node, count) = action.home();
         self.ended(action) || count < self.count
@@ -147,7 +178,8 @@ impl Homed {
 
     /// It is of the present incarnation, and has not ended.
     fn goes_on(&self, action: &Name) -> bool
-        ensures { result ≡ (eqb (home_count action.now) (answers self.now).count && not (ended (answers self.now) action.now)) }
+        ensures { result ≡ (eqb (home_count action.now) (answers self.now).count
+            && not (ended (answers self.now) action.now)) }
     {
         let (_node, count) = action.home();
         count == self.count && !self.ended(action)
@@ -174,7 +206,8 @@ impl Homed {
     }
 
     fn refusal_to_ask(&self, action: &Name) -> Option<LineRefusal>
-        ensures { result ≡ in_turn (has_call (answers self.now) action.now ∷ is_not_open (answers self.now) action.now ∷ is_too_deep action.now ∷ []) }
+        ensures { result ≡ in_turn (has_call (answers self.now) action.now
+            ∷ is_not_open (answers self.now) action.now ∷ is_too_deep action.now ∷ []) }
     {
         if self.open_call(action).is_some() {
             return Some(LineRefusal::OpenCall);
@@ -189,7 +222,9 @@ impl Homed {
     }
 
     fn refusal_to_go_on(&self, action: &Name) -> Option<LineRefusal>
-        ensures { result ≡ in_turn (has_call (answers self.now) action.now ∷ has_child (answers self.now) action.now ∷ is_not_open (answers self.now) action.now ∷ []) }
+        ensures { result ≡ in_turn (has_call (answers self.now) action.now
+            ∷ has_child (answers self.now) action.now ∷ is_not_open (answers self.now) action.now
+            ∷ []) }
     {
         if self.open_call(action).is_some() {
             return Some(LineRefusal::OpenCall);

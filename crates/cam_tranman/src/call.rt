@@ -20,9 +20,21 @@ impl Model for OpenCall {
 
     ghost Value = { OpenCallFields };
 
-    ghost view = { λ c. record { number = c.number; object = c.object; op = c.op; site = c.site; count = c.count } };
+    ghost view = { λ c. record {
+      number = c.number;
+      object = c.object;
+      op = c.op;
+      site = c.site;
+      count = c.count;
+    } };
 
     ghost invariant = { λ c. IsAddressed c.site c.count };
 
-    ghost inverse = { λ v. record { number = v.number; object = v.object; op = v.op; site = v.site; count = v.count } };
+    ghost inverse = { λ v. record {
+      number = v.number;
+      object = v.object;
+      op = v.op;
+      site = v.site;
+      count = v.count;
+    } };
 }

@@ -1,5 +1,6 @@
 //! The open children of all actions.
-ghost use Rattle.std.specs.Prelude.{◌≡◌, ◌≤◌, ◌<◌, ◌^◌, ◌&&◌, ◌||◌, not, false, if◌then◌else◌, [], ◌∷◌, length, OnOk, IsOk, IsPermutation};
+ghost use Rattle.std.specs.Prelude.{◌≡◌, ◌≤◌, ◌<◌, ◌^◌, ◌&&◌, ◌||◌, not, false, if◌then◌else◌, []};
+ghost use Rattle.std.specs.Prelude.{◌∷◌, length, OnOk, IsOk, IsPermutation};
 ghost use Rattle.std.specs.List.{list_any};
 ghost use Rattle.std.specs.HashMap.{spare};
 ghost use Rattle.std.specs.HashSet.{contains, spare as key_spare};
@@ -28,7 +29,10 @@ impl Model for Children {
 
     ghost Value = { ChildrenView };
 
-    ghost view = { λ c. record { names = c.names.keys; room = min (key_spare c.names) (spare c.counts) } };
+    ghost view = { λ c. record {
+      names = c.names.keys;
+      room = min (key_spare c.names) (spare c.counts);
+    } };
 
     ghost invariant = { λ c. AreCounted c.names.keys c.counts };
 }
@@ -61,7 +65,8 @@ impl Children {
 
     /// Makes room for one more.
     pub(crate) fn reserve(&mut self) -> Result<(), NoMemory>
-        ensures same { (b : NameValue) → list_any (name_eq b) self.new.names ≡ list_any (name_eq b) self.old.names }
+        ensures same { (b : NameValue) → list_any (name_eq b) self.new.names
+            ≡ list_any (name_eq b) self.old.names }
         ensures ok { OnOk result (1 ≤ self.new.room) }
         ensures succeeds { 1 ≤ self.old.room → IsOk result }
     {
@@ -73,7 +78,8 @@ impl Children {
     /// One more child, for which there is room.
     pub(crate) fn insert(&mut self, child: &Name)
         requires { 1 ≤ self.old.room }
-        ensures { (b : NameValue) → list_any (name_eq b) self.new.names ≡ (name_eq child.now b || list_any (name_eq b) self.old.names) }
+        ensures { (b : NameValue) → list_any (name_eq b) self.new.names
+            ≡ (name_eq child.now b || list_any (name_eq b) self.old.names) }
     {
         if self.names.contains(child) {
             return;
@@ -87,7 +93,8 @@ impl Children {
 
     /// The child is open no longer.
     pub(crate) fn remove(&mut self, child: &Name)
-        ensures { (b : NameValue) → list_any (name_eq b) self.new.names ≡ (not (name_eq child.now b) && list_any (name_eq b) self.old.names) }
+        ensures { (b : NameValue) → list_any (name_eq b) self.new.names
+            ≡ (not (name_eq child.now b) && list_any (name_eq b) self.old.names) }
     {
         if !self.names.remove(child) {
             return;
@@ -121,7 +128,8 @@ fn number_in(counts: &HashMap<Name, usize>, action: &Name) -> usize
 /// Notes a number of an action, of which one is noted, or there is room.
 fn set_number(counts: &mut HashMap<Name, usize>, action: &Name, number: usize)
     requires { noted counts.old action.now ≡ 0 → 1 ≤ spare counts.old }
-    ensures { (a : NameValue) → noted counts.new a ≡ (if name_eq action.now a then number else noted counts.old a) }
+    ensures { (a : NameValue) → noted counts.new a
+        ≡ (if name_eq action.now a then number else noted counts.old a) }
 {
     let _ = counts.insert(*action, number);
 }

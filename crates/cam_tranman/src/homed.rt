@@ -7,7 +7,8 @@ use crate::children::Children;
 use cam_names::Name;
 use std::collections::HashMap;
 
-/// The actions of a node's present incarnation: what each has done, its open call and its open children.
+/// The actions of a node's present incarnation: what each has done, its open call and its open
+/// children.
 #[derive(Drop)]
 pub struct Homed {
     pub(crate) node: u8,

@@ -1,11 +1,15 @@
-//! The steps of actions at their home, each one change of what is kept. A step that may want memory leaves all as it was where there is
-//! none; where there is room ([`Homed::reserve`]) it wants none.
+//! The steps of actions at their home, each one change of what is kept. A step that may want memory
+//! leaves all as it was where there is none; where there is room ([`Homed::reserve`]) it wants
+//! none.
 ghost use Rattle.std.specs.Prelude.{◌≡◌, ◌≤◌, ◌<◌, true, Some, None, OnOk, OnErr, IsOk, IfOk};
 ghost use Rattle.cam_names.specs.Names.{home_node, home_count};
 ghost use Rattle.cam_event.specs.declared.Want.TheVariants as wants;
 ghost use Rattle.cam_tranman.specs.Actions.{created, asks, calls};
 ghost use Rattle.cam_tranman.specs.Tables.{answers};
-ghost use Rattle.cam_tranman.specs.Calls.{AreSame, IsFree, next_top, next_child, next_call, started_by, taken_by, decides_by, begun, begun_child, after_start, asked, called, finished, got, seen_of, taken_at, after_taken, decided};
+ghost use Rattle.cam_tranman.specs.Calls.{AreSame, IsFree, next_top, next_child, next_call};
+ghost use Rattle.cam_tranman.specs.Calls.{started_by, taken_by, decides_by, begun, begun_child};
+ghost use Rattle.cam_tranman.specs.Calls.{after_start, asked, called, finished, got, seen_of};
+ghost use Rattle.cam_tranman.specs.Calls.{taken_at, after_taken, decided};
 
 use crate::action::Action;
 use crate::deps::{at, union};
@@ -37,12 +41,15 @@ impl Homed {
         Ok(name)
     }
 
-    /// A child whose home is this node, at its present count, is created here, with what its parent depended on when it asked for it. One
-    /// that was created before stays as it is, and needs no memory.
+    /// A child whose home is this node, at its present count, is created here, with what its parent
+    /// depended on when it asked for it. One that was created before stays as it is, and needs no
+    /// memory.
     pub fn start(&mut self, child: &Name, deps: &Deps) -> Result<Started, NoMemory>
-        requires { (home_node child.now ≡ (answers self.old).node) × (home_count child.now ≡ (answers self.old).count) }
+        requires { (home_node child.now ≡ (answers self.old).node)
+            × (home_count child.now ≡ (answers self.old).count) }
         ensures value { IfOk result (λ started. started ≡ started_by (answers self.old) child.now) }
-        ensures ok { OnOk result (AreSame (after_start child.now deps.now (answers self.old)) (answers self.new)) }
+        ensures ok { OnOk result (AreSame (after_start child.now deps.now (answers self.old))
+            (answers self.new)) }
         ensures err { OnErr result (AreSame (answers self.old) (answers self.new)) }
         ensures room { 1 ≤ (answers self.old).room → IsOk result }
         ensures known { created (answers self.old) child.now ≡ true → IsOk result }
@@ -55,15 +62,18 @@ impl Homed {
         Ok(Started::New)
     }
 
-    /// An action asks for a child at a node, 1 to 8, whose known count is 1 to 1,000,000,000: the child's name. It has asked for fewer than
-    /// 1,000,000,000.
+    /// An action asks for a child at a node, 1 to 8, whose known count is 1 to 1,000,000,000: the
+    /// child's name. It has asked for fewer than 1,000,000,000.
     pub fn ask(&mut self, action: &Name, node: u8, count: u32) -> Result<Name, NoMemory>
         requires node { (1 ≤ node) × (node ≤ 8) }
         requires count { (1 ≤ count) × (count ≤ 1000000000) }
         requires free { IsFree (answers self.old) action.now (wants.Ask node) }
         requires number { asks (answers self.old) action.now < 1000000000 }
-        ensures name { IfOk result (λ name. name ≡ next_child (answers self.old) action.now node count) }
-        ensures ok { OnOk result (AreSame (asked action.now (next_child (answers self.old) action.now node count) (answers self.old)) (answers self.new)) }
+        ensures name { IfOk result (λ name. name
+            ≡ next_child (answers self.old) action.now node count) }
+        ensures ok { OnOk result (AreSame (asked action.now
+            (next_child (answers self.old) action.now node count) (answers self.old))
+            (answers self.new)) }
         ensures err { OnErr result (AreSame (answers self.old) (answers self.new)) }
         ensures room { 1 ≤ (answers self.old).room → IsOk result }
     {
@@ -81,8 +91,8 @@ impl Homed {
         Ok(child)
     }
 
-    /// An action calls an object of a node, 1 to 8, whose known count is 1 to 1,000,000,000: the call's number. It has made fewer than
-    /// 1,000,000,000.
+    /// An action calls an object of a node, 1 to 8, whose known count is 1 to 1,000,000,000: the
+    /// call's number. It has made fewer than 1,000,000,000.
     pub fn call(
         &mut self,
         action: &Name,
@@ -96,7 +106,14 @@ impl Homed {
         requires free { IsFree (answers self.old) action.now (wants.Call object op.now) }
         requires number { calls (answers self.old) action.now < 1000000000 }
         ensures value { IfOk result (λ number. number ≡ next_call (answers self.old) action.now) }
-        ensures ok { IfOk result (λ number. AreSame (called action.now (record { number = number; object = object; op = op.now; site = site; count = count }) (answers self.old)) (answers self.new)) }
+        ensures ok { IfOk result (λ number. AreSame
+            (called action.now (record {
+              number = number;
+              object = object;
+              op = op.now;
+              site = site;
+              count = count;
+            }) (answers self.old)) (answers self.new)) }
         ensures err { OnErr result (AreSame (answers self.old) (answers self.new)) }
         ensures room { 1 ≤ (answers self.old).room → IsOk result }
     {
@@ -117,10 +134,12 @@ impl Homed {
 }
 
 impl Homed {
-    /// The answer to a call of an action comes, where the count of the call's site is known as `known`. It takes no memory.
+    /// The answer to a call of an action comes, where the count of the call's site is known as
+    /// `known`. It takes no memory.
     pub fn answer(&mut self, action: &Name, number: u32, reply: &Reply, known: u32) -> Taken
         ensures value { result ≡ taken_by (answers self.old) action.now number reply.now known }
-        ensures new { AreSame (after_taken action.now result (answers self.old)) (answers self.new) }
+        ensures new { AreSame (after_taken action.now result (answers self.old))
+            (answers self.new) }
     {
         if !self.awaits(action, number) {
             return Taken::Late;
@@ -181,7 +200,8 @@ impl Homed {
 
     /// A child commits, and depends on these.
     fn commit_child(&mut self, child: &Name, deps: &Deps)
-        ensures { AreSame (decided child.now (Some deps.now) (answers self.old)) (answers self.new) }
+        ensures { AreSame (decided child.now (Some deps.now) (answers self.old))
+            (answers self.new) }
     {
         parent_gains(&mut self.actions, child, deps);
         self.children.remove(child);
@@ -189,7 +209,8 @@ impl Homed {
 
     /// An action comes here new, with these dependencies and its home. There is room for it.
     fn create(&mut self, action: &Name, deps: &Deps)
-        requires home { (home_node action.now ≡ (answers self.old).node) × (home_count action.now ≡ (answers self.old).count) }
+        requires home { (home_node action.now ≡ (answers self.old).node)
+            × (home_count action.now ≡ (answers self.old).count) }
         requires room { 1 ≤ (answers self.old).room }
         ensures { AreSame (begun_child action.now deps.now (answers self.old)) (answers self.new) }
     {
@@ -214,8 +235,9 @@ impl Homed {
     }
 }
 
-/// What an action sees of a reply to its open call: it is gone where its site has crashed since it was addressed.
-fn taken_at(call: &OpenCall, reply: &Reply, known: u32) -> Taken
+/// What an action sees of a reply to its open call: it is gone where its site has crashed since it
+/// was addressed.
+pub(crate) fn taken_at(call: &OpenCall, reply: &Reply, known: u32) -> Taken
     ensures { result ≡ taken_at (Some call.now) reply.now known }
 {
     if call.count < known {

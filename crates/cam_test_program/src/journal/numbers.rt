@@ -28,13 +28,17 @@ impl Core for Numbers {
 
     ghost lawful = { λ node history received event. Unit {0} };
 
+    ghost answers = { λ node history input event. Unit {0} };
+
     ghost is_replay = { λ core node history. Unit {0} };
 
     ghost is_idle = { λ core input. is_none (letter_in input) };
 
     fn step(&mut self, input: CoreInput<u64>) -> Result<Option<u64>, CoreFault>
         ensures step { IsStep (λ core node history. Unit {0}) (λ event. None) (λ letter. 2)
-            (λ node history received event. Unit {0}) self.old input self.new result }
+            (λ node history received event. Unit {0})
+            (λ node history input event. Unit {0})
+            self.old input self.new result }
         ensures none { IfOk result (λ made. IsNone made ↔ IsTrue (is_none (letter_in input))) }
         ensures cause { FaultsWithCause 0 0 result }
     {

@@ -1,26 +1,29 @@
 -- News comes.
-use Rattle.cam_comman.specs.Letters.{load_on}
-use Rattle.cam_server.specs.Calls as server
-use Rattle.cam_node.specs.Calls.{answers, mail_on}
-use Rattle.cam_node.proofs.Idle.{same_of}
-use Rattle.cam_node.proofs.Steps.{with_server}
-use Rattle.cam_node.proofs.NewsComes.{news_stand}
+use Rattle.std.proofs.Common.{◌≡◌, None, ap, ◌∙◌}
+use Rattle.std.proofs.lemmas.Result.{IfOk-weaker}
+use Rattle.cam_node.specs.declared.did.Doing.{Doing}
+use Rattle.cam_node.specs.Plans.{IsPlanFor}
+use Rattle.cam_node.specs.Planning.{IsMade}
+use Rattle.cam_node.proofs.NewsComes.{news_plan}
 use Rattle.cam_node.proofs.state.Core.news_comes.Goals as goal
 
-pub returns-in_err-learnt-clause-same : goal.returns-in_err-learnt-clause-same
-returns-in_err-learnt-clause-same c = same_of (answers c.args.self.now) (answers c.learn.new.self) c.learn.ensures.same
+pub returns-clause-plan : goal.returns-clause-plan
+returns-clause-plan c = λ objects.
+    IfOk-weaker c.planned.result
+    (λ plan. IsMade c.receive.new.self c.args.id.now c.in_ok-learnt.learnt c.nothing_but.result
+    plan)
+    (λ plan. IsPlanFor objects c.args.id.now c.args.letter.now c.args.self.now c.receive.new.self
+    plan)
+    (λ plan made.
+    news_plan objects c.args.id.now c.args.letter.now c.args.self.now c.receive.new.self
+    c.in_ok-learnt.learnt c.nothing_but.result plan
+    c.requires.from c.requires.body c.in_ok-learnt.ensures.received c.receive.ensures.same
+    c.nothing_but.ensures made)
+    c.planned.ensures
 
-pub returns-in_err-reserve-clause-same : goal.returns-in_err-reserve-clause-same
-returns-in_err-reserve-clause-same c =
-    with_server (answers c.args.self.now) (answers c.learn.new.self) (server.answers c.reserve.new.self) c.learn.ensures.same c.reserve.ensures.same
-
-pub returns-clause-same : goal.returns-clause-same
-returns-clause-same c =
-    with_server (answers c.args.self.now) (answers c.learn.new.self) (server.answers c.reserve.new.self) c.learn.ensures.same c.reserve.ensures.same
-
-pub returns-clause-step : goal.returns-clause-step
-returns-clause-step c = λ objects new has.
-    news_stand objects (answers c.args.self.now) (answers c.learn.new.self) (server.answers c.reserve.new.self) new c.args.id.now (mail_on c.args.letter.now)
-    (load_on c.args.letter.now) c.in_ok-learnt.learnt.heard.news c.learn.new.self.knowing.known c.in_ok-learnt.learnt.heard.places
-    c.in_ok-learnt.learnt.informs c.informed.result.event c.requires.body c.requires.from c.learn.ensures.same c.reserve.ensures.same
-    c.in_ok-learnt.ensures.known c.in_ok-learnt.ensures.news c.in_ok-learnt.ensures.places c.in_ok-learnt.ensures.informs c.informed.ensures.event has
+pub returns-clause-adds : goal.returns-clause-adds
+returns-clause-adds c =
+    IfOk-weaker c.planned.result
+    (λ plan. IsMade c.receive.new.self c.args.id.now c.in_ok-learnt.learnt c.nothing_but.result plan)
+    (λ plan. plan.adds ≡ None)
+    (λ plan made. made.adds ∙ ap (λ (d : Doing). d.adds) c.nothing_but.ensures) c.planned.ensures

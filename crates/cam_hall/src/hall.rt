@@ -1,0 +1,113 @@
+//! Four cells with their journal and their mailboxes.
+ghost use Rattle.std.specs.Prelude.{◌≡◌, IfOk};
+
+use crate::cell::Cell;
+use crate::ended::Ended;
+use crate::mailbox::Mailboxes;
+use crate::names::Names;
+use crate::room::Room;
+use cam_base::NoMemory;
+use cam_journal::{Core, Journal};
+use std::alloc::Global;
+use std::marker::Model;
+use std::sync::Mutex;
+
+/// The cells of nodes 1 to 4 with the journal that `J` names, and a mailbox for each. Contracts see
+/// the journal.
+#[derive(Drop)]
+pub struct Hall<C: Core, J: Names> {
+    journal: Journal<C>,
+    pub(crate) first: Cell<C, J, 1>,
+    pub(crate) second: Cell<C, J, 2>,
+    pub(crate) third: Cell<C, J, 3>,
+    pub(crate) fourth: Cell<C, J, 4>,
+    pub(crate) mail: Mailboxes<C, J>,
+    room: Mutex<Room<C>>,
+}
+
+impl<C: Core, J: Names> Model for Hall<C, J> {
+    ghost use Rattle.std.specs.Prelude.{◌≡◌};
+    ghost use Rattle.cam_journal.specs.Seats.{Opened};
+
+    ghost Value = { Opened };
+
+    ghost view = { λ h. h.journal };
+
+    ghost invariant = { λ h. (h.journal.id ≡ J.journal) × (h.journal.nodes ≡ 4) };
+}
+
+impl<C: Core, J: Names> Hall<C, J> {
+    /// A hall with empty mailboxes. It fails only when out of memory.
+    pub fn new(
+        alloc: Global,
+        journal: Journal<C>,
+        first: Cell<C, J, 1>,
+        second: Cell<C, J, 2>,
+        third: Cell<C, J, 3>,
+        fourth: Cell<C, J, 4>,
+    ) -> Result<Hall<C, J>, NoMemory>
+        requires own { journal.id ≡ J.journal }
+        requires nodes { journal.nodes ≡ 4 }
+        ensures { IfOk result (λ hall. hall ≡ journal) }
+    {
+        Ok(Hall {
+            journal,
+            first,
+            second,
+            third,
+            fourth,
+            mail: Mailboxes::new(alloc)?,
+            room: Mutex::new(Room::new(alloc)?),
+        })
+    }
+
+    /// Gives what is left once no worker uses the hall. Letters that are still in mailboxes are
+    /// dropped. It takes no memory.
+    pub fn end(self) -> Ended<C>
+        ensures { result.journal ≡ self }
+    {
+        let Hall {
+            journal,
+            first,
+            second,
+            third,
+            fourth,
+            mail: _,
+            room,
+        } = self;
+        let (mut cores, mut seats) = room.into_inner().into_lists();
+        first.leave(&mut cores, &mut seats);
+        second.leave(&mut cores, &mut seats);
+        third.leave(&mut cores, &mut seats);
+        fourth.leave(&mut cores, &mut seats);
+        Ended::new(journal, cores, seats)
+    }
+
+    /// The cell of node 1.
+    pub fn first(&self) -> &Cell<C, J, 1> {
+        &self.first
+    }
+
+    /// The cell of node 2.
+    pub fn second(&self) -> &Cell<C, J, 2> {
+        &self.second
+    }
+
+    /// The cell of node 3.
+    pub fn third(&self) -> &Cell<C, J, 3> {
+        &self.third
+    }
+
+    /// The cell of node 4.
+    pub fn fourth(&self) -> &Cell<C, J, 4> {
+        &self.fourth
+    }
+
+    /// The journal.
+    pub(crate) fn journal(&self) -> &Journal<C>
+        ensures same { result.now ≡ self.now }
+        ensures own { result.now.id ≡ J.journal }
+    {
+        &self.journal
+    }
+}

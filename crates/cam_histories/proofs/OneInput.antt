@@ -1,0 +1,222 @@
+-- An input that is no halt, and the parts of the run behind it.
+use Rattle.std.proofs.Common.{◌≡◌, ℕ, ◌+◌, ◌-◌, List, ◌∷◌, Option, Some}
+use Rattle.std.proofs.Common.{None, refl, sym, ap, ◌∙◌, subst, arith}
+use Rattle.cam_names.specs.declared.name.Name.{Name}
+use Rattle.cam_type.specs.declared.ObjectDecl.{ObjectDecl}
+use Rattle.cam_event.specs.declared.Event.{Event}
+use Rattle.cam_event.specs.Inputs.{Input, Begins, Requests, Receives, Tells, Queries, Restarts}
+use Rattle.cam_event.specs.Inputs.{Mail, mail_got, node_of, got_of}
+use Rattle.cam_event.specs.Loads.{Load}
+use Rattle.cam_event.specs.Pasts.{plain_all}
+use Rattle.cam_event.specs.ByDeltas.{Received}
+use Rattle.cam_event.specs.Runs.{IsNode}
+use Rattle.cam_event.specs.Taken.{IsRunTaking}
+use Rattle.cam_agree.proofs.Ran.{Ran}
+use Rattle.cam_agree.proofs.RunAsks.{AsksOf}
+use Rattle.cam_node.specs.Calls.{letters_of}
+use Rattle.cam_node.specs.Keeping.{KeepsHistory}
+use Rattle.cam_node.specs.Opened.{logged_of}
+use Rattle.cam_node.specs.Represents.{Represents}
+use Rattle.cam_script.specs.declared.Script.{Script}
+use Rattle.cam_runs.specs.Running.{has_number}
+use Rattle.cam_runs.specs.Playing.{body_number}
+use Rattle.cam_runs.specs.UnderWay.{Idle}
+use Rattle.cam_runs.specs.UnderHalts.{IsUnderHalts}
+use Rattle.cam_runs.specs.Halts.{appends}
+use Rattle.cam_runs.specs.Standing.{Standing, Setting, after_input, put}
+use Rattle.cam_runs.proofs.HaltedPuts.{put_both, ready_by}
+use Rattle.cam_histories.specs.Laws.{history_of, load_of_input}
+use Rattle.cam_histories.specs.ReadBack.{received_with}
+use Rattle.cam_histories.specs.Stepping.{IsPut, HasStepped}
+use Rattle.cam_histories.specs.Flight.{IsNetworkOf}
+use Rattle.cam_histories.specs.Whole.{Site, StandsAt, IsSiteOf, IsWhole}
+use Rattle.cam_histories.specs.InputLaws.{held_setting, IsIdleFor, InputsLeadOn, halt_of, with_site}
+use Rattle.cam_histories.specs.InputLaws.{KeepsEvent, InputsStand}
+use Rattle.cam_histories.proofs.Sites.{site_at, sites_with}
+use Rattle.cam_histories.proofs.InRange.{travels, input_node}
+use Rattle.cam_histories.proofs.ScriptNodes.{standings_hold}
+use Rattle.cam_histories.proofs.ReadBack.{logs_go_on}
+use Rattle.cam_histories.proofs.Stepping.{steps_lead_on}
+use Rattle.cam_histories.proofs.Handing.{handed_out_are_sent}
+use Rattle.cam_histories.proofs.Carried.{event_sends}
+
+-- an action that asks, asks where nothing of it is open
+idle_for : (st : Standing) (input : Input) → IsIdleFor st input
+    → (a : Name) (n : ℕ) → body_number st.running.bodies a ≡ Some n → AsksOf a input
+    → Idle (plain_all st.running.trace) a
+idle_for st (Begins s) idle a n at asks = absurd asks
+idle_for st (Requests r) idle a n at asks =
+    subst (λ (b : Name). Idle (plain_all st.running.trace) b) (sym asks)
+    (idle n (subst (λ (b : Name). body_number st.running.bodies b ≡ Some n) asks at))
+idle_for st (Receives letter) idle a n at asks = absurd asks
+idle_for st (Tells s to) idle a n at asks = absurd asks
+idle_for st (Queries s f) idle a n at asks = absurd asks
+idle_for st (Restarts s) idle a n at asks = absurd asks
+
+pub inputs_lead_on : InputsLeadOn
+inputs_lead_on script halts line restarted st input under coming =
+    let c : Setting = held_setting script.objects halts line restarted in
+    let both = put_both script c st input
+    (ready_by script st input under coming.awake coming.may (idle_for st input coming.idle)) in
+    subst (IsUnderHalts script) (sym both.same) both.under
+
+-- what stands behind an input that is no halt
+module _ (script : Script) (c : Setting) (st : Standing) (input : Input) where
+  abbrev pub plain_put : Standing
+  plain_put =
+      let s = node_of st.running.trace input in
+      after_input c.line (c.restarted s) st s (c.reading.next st.running.trace input)
+      (appends c.reading st.running.trace input) None
+
+  pub put_plain : halt_of c st input ≡ None → put c st input ≡ plain_put
+  put_plain none =
+      let s = node_of st.running.trace input in
+      ap (after_input c.line (c.restarted s) st s (c.reading.next st.running.trace input)
+      (appends c.reading st.running.trace input)) none
+
+-- a node stands for the run's next event, and the others for what they stood for
+module _ (script : Script) (c : Setting) (st : Standing) (input : Input) (new : Site)
+    (event : Event) (is_held : event ≡ c.reading.next st.running.trace input)
+    (stepped : HasStepped script.objects st.running.trace input new.node event) where
+  -- the trace with the event
+  pub trace_with : event ∷ st.running.trace ≡ (plain_put script c st input).running.trace
+  trace_with = ap (λ (e : Event). e ∷ st.running.trace) is_held
+
+  -- the history of its node, and that of another
+  pub own_history : history_of script.objects (plain_put script c st input).running.trace
+      (node_of st.running.trace input)
+      ≡ received_with event (mail_got st.running.trace (got_of input))
+      (load_of_input script.objects st.running.trace input)
+      ∷ history_of script.objects st.running.trace (node_of st.running.trace input)
+  own_history =
+      let t : List Event = st.running.trace in
+      sym (ap (λ (x : List Event). history_of script.objects x (node_of t input)) trace_with)
+      ∙ subst (λ (m : ℕ). history_of script.objects (event ∷ t) m
+      ≡ received_with event (mail_got t (got_of input)) (load_of_input script.objects t input)
+      ∷ history_of script.objects t m) stepped.node stepped.own
+
+  pub other_history : (m : ℕ) → (node_of st.running.trace input ≡ m → ⊥)
+      → history_of script.objects st.running.trace m
+      ≡ history_of script.objects (plain_put script c st input).running.trace m
+  other_history m off =
+      sym (stepped.others m (λ e. off (sym stepped.node ∙ e)))
+      ∙ ap (λ (t : List Event). history_of script.objects t m) trace_with
+
+  pub own_site : KeepsHistory script.objects (node_of st.running.trace input)
+      (received_with event (mail_got st.running.trace (got_of input))
+      (load_of_input script.objects st.running.trace input)
+      ∷ history_of script.objects st.running.trace (node_of st.running.trace input)) new.entries
+      → IsSiteOf script.objects (plain_put script c st input) (node_of st.running.trace input) new
+  own_site keeps =
+      let t : List Event = st.running.trace in
+      let s : ℕ = node_of t input in
+      record {
+        number = stepped.number ∙ stepped.node;
+        stands = λ awake. record {
+          represents =
+              subst (λ (x : List Event). Represents script.objects (history_of script.objects x s)
+              new.node) trace_with
+              (subst (λ (m : ℕ). Represents script.objects
+              (history_of script.objects (event ∷ t) m) new.node) stepped.node stepped.represents);
+          keeps =
+              subst (λ h. KeepsHistory script.objects s h new.entries) (sym own_history) keeps;
+        };
+      }
+
+  pub other_site : (m : ℕ) (n : Site) → (node_of st.running.trace input ≡ m → ⊥)
+      → IsSiteOf script.objects st m n → IsSiteOf script.objects (plain_put script c st input) m n
+  other_site m n off is = record {
+    number = is.number;
+    stands = λ awake.
+        subst (λ h. StandsAt script.objects m h n) (other_history m off) (is.stands awake);
+  }
+
+-- what a log keeps goes by what is received, as good as it was sent
+kept_as_good : (objects : List ObjectDecl) (t : List Event) (input : Input) (mail : Option Mail)
+    (load : Load) (event : Event) (new : Site) → IsPut objects t input mail load
+    → KeepsEvent objects t input mail load event new
+    → KeepsHistory objects (node_of t input)
+    (received_with event (mail_got t (got_of input)) (load_of_input objects t input)
+    ∷ history_of objects t (node_of t input)) new.entries
+kept_as_good objects t input mail load event new put_so keeps =
+    let s : ℕ = node_of t input in
+    let h : List Received = history_of objects t s in
+    subst (λ (o : Option Mail). KeepsHistory objects s
+    (received_with event o (load_of_input objects t input) ∷ h) new.entries) put_so.is_mail
+    (record {
+      recovered = keeps.recovered;
+      says = keeps.says;
+      is_log = logs_go_on objects s h event mail load (load_of_input objects t input)
+          (logged_of keeps.recovered) put_so.as_good keeps.is_log;
+    })
+
+pub inputs_stand : InputsStand
+inputs_stand script halts line restarted st input sites net halted old new mail load event under
+    coming none whole at put_so step keeps = record {
+      trace = ap (λ (x : Standing). x.running.trace) is ∙ sym trace;
+      stepped = stepped;
+      whole =
+          subst (λ (x : Standing). IsWhole script.objects x (with_site t input sites new) net
+          (letters_of new.node event.sent) halted) (sym is)
+          (record {
+            nodes =
+                sites_with script.objects st behind s new
+                (own_site script c st input new event stepped.held stepped
+                (kept_as_good script.objects t input mail load event new put_so keeps))
+                (other_site script c st input new event stepped.held stepped) 1 (s - 1) sites back
+                whole.nodes;
+            network = network;
+          });
+    }
+  where
+    c : Setting
+    c = held_setting script.objects halts line restarted
+
+    t : List Event
+    t = st.running.trace
+
+    s : ℕ
+    s = node_of t input
+
+    run : Ran script.objects t
+    run = (has_number st.taken, under.run)
+
+    node : IsNode s
+    node = input_node script.objects t input run coming.may (travels script.objects t run)
+
+    back : 1 + (s - 1) ≡ s
+    back = let low = node.0 in omega (arith, low)
+
+    mine : IsSiteOf script.objects st s old
+    mine =
+        subst (λ (m : ℕ). IsSiteOf script.objects st m old) back
+        (site_at script.objects st 1 (s - 1) sites old whole.nodes at)
+
+    stepped : HasStepped script.objects t input new.node event
+    stepped =
+        steps_lead_on script.objects (has_number st.taken) t input old.node new.node mail load event
+        under.run coming.may mine.number ((standings_hold script st under).through s coming.awake)
+        (mine.stands coming.awake).represents put_so step
+
+    behind : Standing
+    behind = plain_put script c st input
+
+    is : put c st input ≡ behind
+    is = put_plain script c st input none
+
+    trace : event ∷ t ≡ behind.running.trace
+    trace = trace_with script c st input new event stepped.held stepped
+
+    more : IsRunTaking script.objects (has_number behind.taken) (event ∷ t)
+    more =
+        subst (IsRunTaking script.objects (has_number behind.taken)) (sym trace)
+        (subst (IsUnderHalts script) is
+        (inputs_lead_on script halts line restarted st input under coming)).run
+
+    network : IsNetworkOf script.objects behind net (letters_of new.node event.sent) halted
+    network =
+        event_sends script.objects (has_number behind.taken) st behind event net
+        (letters_of new.node event.sent) halted more
+        (record { trace = sym trace; lost = refl; delivered = refl; halted = refl })
+        (handed_out_are_sent script.objects (has_number behind.taken) t event new.node more
+        stepped.number stepped.represents) whole.network

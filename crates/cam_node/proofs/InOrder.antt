@@ -1,0 +1,211 @@
+-- The order of what a log holds and of what is live goes on over each event of a node.
+use Rattle.std.proofs.Common.{◌≡◌, ◌⊎◌, inl, inr, ℕ, Bool, true, false, not, cond, List, [], ◌∷◌, ◌++◌, map, filter, reverse, refl, sym, ap, ◌∙◌, subst, true≢false}
+use Rattle.std.specs.List.{list_any}
+use Rattle.cam_names.specs.declared.name.Name.{Name}
+use Rattle.cam_names.specs.Names.{ancestors}
+use Rattle.cam_type.specs.declared.Held.{Held}
+use Rattle.cam_type.specs.declared.HeldOp.{HeldOp}
+use Rattle.cam_event.specs.declared.Deed.{Deed}
+use Rattle.cam_event.specs.declared.Deed.TheVariants.{Secure}
+use Rattle.cam_event.specs.ByKnowledge.{Placed, Site, deeds_of, site, site_after_all}
+use Rattle.cam_event.specs.ByDeltas.{as_carried}
+use Rattle.cam_locks.specs.declared.LiveOp.{LiveOp}
+use Rattle.cam_locks.specs.Members.{In}
+use Rattle.cam_locks.proofs.Members.{in_filter}
+use Rattle.cam_server.specs.Server.{Server, AreLiveOps}
+use Rattle.cam_server.specs.Calls.{AreInformed}
+use Rattle.cam_server.specs.Events.{informs_abort}
+use Rattle.cam_server.specs.Recovered.{AreHeldOps, AreHeld}
+use Rattle.cam_server.proofs.QuietDeeds.{is_down, left, quiet_live}
+use Rattle.cam_server.proofs.LiveOps.{are_left}
+use Rattle.cam_server.proofs.Performing.{site_append}
+use Rattle.cam_node.specs.Entries.{AreHoldings}
+use Rattle.cam_node.specs.LogOrder.{live_at, OrderIsKeptWith, HasDropped, left_live}
+use Rattle.cam_node.specs.OrderLaws.{NothingIsInOrder, DroppingKeepsOrder, SecuringKeepsOrder}
+use Rattle.cam_node.proofs.Places.{left_at, family_ops, held_ops, family_held}
+use Rattle.cam_node.proofs.Ordering.{dropped_in_order, with_family, secured_in_order, secured_order}
+use Rattle.cam_node.proofs.Unsecured.{same_secured, holdings_behind}
+
+-- A table that drops operations by their actions drops just those that the site drops, where what is left of both stands for one another.
+first_placed : (k : LiveOp) (ks : List LiveOp) (ps : List Placed) → AreLiveOps (k ∷ ks) ps
+    → (p : Placed) × In p ps × (k.action ≡ p.operation.action)
+first_placed k ks [] are = absurd are
+first_placed k ks (p ∷ ps) are = (p, inl refl, are.0.action)
+
+first_live : (ks : List LiveOp) (p : Placed) (ps : List Placed) → AreLiveOps ks (p ∷ ps)
+    → (k : LiveOp) × In k ks × (k.action ≡ p.operation.action)
+first_live [] p ps are = absurd are
+first_live (k ∷ ks) p ps are = (k, inl refl, are.0.action)
+
+kept_at : (keeps down : Name → Bool) (ks : List LiveOp) (ps : List Placed) → AreLiveOps ks ps
+    → AreLiveOps (filter (λ k. keeps k.action) ks) (left down ps)
+    → (x : ℕ × ℕ) → In x (live_at (filter (λ k. keeps k.action) ks) (left down ps))
+    → In x (live_at ks ps)
+kept_at keeps down [] [] are more x h = h
+kept_at keeps down [] (p ∷ ps) are more x h = absurd are
+kept_at keeps down (k ∷ ks) [] are more x h = absurd are
+kept_at keeps down (k ∷ ks) (p ∷ ps) are more x h =
+    by (keeps k.action) (not (is_down down p)) refl refl more
+    (λ rest. kept_at keeps down ks ps are.1 rest x) h
+  where
+    js : List LiveOp
+    js = filter (λ k. keeps k.action) ks
+
+    qs : List Placed
+    qs = left down ps
+
+    stays : Name → Bool
+    stays a = not (list_any down (ancestors a))
+
+    by : (b c : Bool) → keeps k.action ≡ b → stays p.operation.action ≡ c
+        → AreLiveOps (cond b (k ∷ js) js) (cond c (p ∷ qs) qs)
+        → (AreLiveOps js qs → In x (live_at js qs) → In x (live_at ks ps))
+        → In x (live_at (cond b (k ∷ js) js) (cond c (p ∷ qs) qs))
+        → (x ≡ (k.index, p.index)) ⊎ In x (live_at ks ps)
+    by true true one other more rest (inl e) = inl e
+    by true true one other more rest (inr m) = inr (rest more.1 m)
+    by false false one other more rest m = inr (rest more m)
+    by true false one other more rest m =
+        let found = first_placed k js qs more in
+        let there : stays found.0.operation.action ≡ true =
+        (in_filter (λ q. not (is_down down q)) found.0 ps found.1).1 in
+        absurd (true≢false (sym there ∙ ap stays (sym found.2 ∙ are.0.action) ∙ other))
+    by false true one other more rest m =
+        let found = first_live js p qs more in
+        let there : keeps found.0.action ≡ true =
+        (in_filter (λ j. keeps j.action) found.0 ks found.1).1 in
+        absurd (true≢false (sym there ∙ ap keeps (found.2 ∙ sym are.0.action) ∙ one))
+
+-- At first there is nothing.
+pub nothing_in_order : NothingIsInOrder
+nothing_in_order table = record {
+  order = λ one other h k. absurd (none table.live one h);
+  below = λ one h. absurd (none table.live one h);
+}
+  where
+    none : (ks : List LiveOp) (x : ℕ × ℕ) → In x (live_at ks []) → ⊥
+    none [] x h = h
+    none (k ∷ ks) x h = h
+
+-- After an event that performs and secures nothing, and is no crash.
+pub dropping_in_order : DroppingKeepsOrder
+dropping_in_order objects s history c logged old new quiet none dropped before behind is =
+    subst (λ (n : ℕ). OrderIsKeptWith then logged new.table.site.live n) (sym dropped.next)
+    (dropped_in_order now then logged old.table.site.live new.table.site.live old.table.site.next
+    there among is)
+  where
+    L : List Deed
+    L = deeds_of (map as_carried history)
+
+    now : Site
+    now = site (map as_carried history)
+
+    then : Site
+    then = site_after_all L c.mail now c.event.deeds
+
+    down : Name → Bool
+    down = informs_abort s c.event.deeds
+
+    there : then.secured ≡ now.secured
+    there = same_secured c.event.deeds L c.mail now none
+
+    lives : then.live ≡ left down now.live
+    lives = quiet_live s L c.mail now c.event.deeds quiet
+
+    kept : List LiveOp
+    kept = filter (λ k. dropped.keeps k.action) old.table.site.live
+
+    more : AreLiveOps kept (left down now.live)
+    more =
+        subst (λ (ks : List LiveOp). AreLiveOps ks (left down now.live)) dropped.live
+        (subst (AreLiveOps new.table.site.live) lives behind.site.operations)
+
+    among : (x : ℕ × ℕ) → In x (live_at new.table.site.live then.live)
+        → In x (live_at old.table.site.live now.live)
+    among x h =
+        kept_at dropped.keeps down old.table.site.live now.live before.site.operations more x
+        (subst (λ (ks : List LiveOp). In x (live_at ks (left down now.live))) dropped.live
+        (subst (λ (ps : List Placed). In x (live_at new.table.site.live ps)) lives h))
+
+-- what is informed has dropped operations
+pub informed_drops : (aborts commits : Name → Bool) (old new : Server)
+    → AreInformed aborts commits old new → HasDropped old.table.site new.table.site
+informed_drops aborts commits old new are = record {
+  keeps = λ a. not (list_any aborts (ancestors a));
+  live = are.live;
+  next = are.next;
+}
+
+-- After an event that secures a family, which was informed before of the letter's news: what is held of it is what is live of it.
+pub securing_in_order : SecuringKeepsOrder
+securing_in_order holds objects s history c first f n logged old new deeds quiet none
+    lives_new next_new before logs is_held is = (
+      subst (AreHoldings holds L c.mail now logged) (sym deeds)
+          (holdings_behind holds first (Secure f s n ∷ []) L c.mail now logged none (
+            record {
+              family = ap (λ (h : Held). h.family) is_held;
+              count = ap (λ (h : Held). h.count) is_held;
+              operations =
+                  subst (λ (hs : List HeldOp). AreHeldOps hs (family_ops f mid.live)) (sym ops)
+                  (family_held f kept mid.live lived);
+              order =
+                  secured_order f mid logged
+                  (holds f n) kept old.table.site.next lived mid_logs ops mid_order;
+            },
+            tt,
+          )),
+      subst
+          (λ (at : Site). OrderIsKeptWith at
+          (logged ++ holds f n ∷ []) new.live new.next) (sym then_is)
+          (subst
+          (λ (ks : List LiveOp). OrderIsKeptWith (with_family f mid)
+          (logged ++ holds f n ∷ []) ks new.next) (sym lives_new)
+          (subst
+          (λ (next : ℕ). OrderIsKeptWith (with_family f mid) (logged ++ holds f n ∷ []) kept next)
+          (sym next_new)
+          (secured_in_order f mid logged
+          (holds f n) kept old.table.site.next lived mid_logs ops mid_order))),
+    )
+  where
+    L : List Deed
+    L = deeds_of (map as_carried history)
+
+    now : Site
+    now = site (map as_carried history)
+
+    mid : Site
+    mid = site_after_all L c.mail now first
+
+    down : Name → Bool
+    down = informs_abort s first
+
+    kept : List LiveOp
+    kept = left_live down old.table.site.live
+
+    lives : mid.live ≡ left down now.live
+    lives = quiet_live s L c.mail now first quiet
+
+    lived : AreLiveOps kept mid.live
+    lived =
+        subst (AreLiveOps kept) (sym lives)
+        (are_left down old.table.site.live now.live before.site.operations)
+
+    there : mid.secured ≡ now.secured
+    there = same_secured first L c.mail now none
+
+    mid_logs : AreHeld logged (reverse mid.secured)
+    mid_logs =
+        subst (λ (gs : List (Name × List Placed)). AreHeld logged (reverse gs)) (sym there) logs
+
+    mid_order : OrderIsKeptWith mid logged kept old.table.site.next
+    mid_order =
+        dropped_in_order now mid logged old.table.site.live kept old.table.site.next there
+        (λ x h. left_at down old.table.site.live now.live before.site.operations x
+        (subst (λ (ps : List Placed). In x (live_at kept ps)) lives h)) is
+
+    ops : (holds f n).ops ≡ held_ops f kept
+    ops = ap (λ (h : Held). h.ops) is_held ∙ ap (held_ops f) lives_new
+
+    then_is : site_after_all L c.mail now c.event.deeds ≡ with_family f mid
+    then_is =
+        ap (site_after_all L c.mail now) deeds ∙ site_append L c.mail now first (Secure f s n ∷ [])

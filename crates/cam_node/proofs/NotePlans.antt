@@ -1,0 +1,237 @@
+-- The plan of a letter by whose rule nothing happens but a note, where the families go on with it.
+use Rattle.std.proofs.Common.{◌≡◌, ℕ, ◌≤◌, true, List, [], ◌∷◌, ◌++◌, length, map, Option, Some, None, refl, sym, ap, ◌∙◌, subst}
+use Rattle.std.specs.Prelude.{filter}
+use Rattle.std.specs.List.{list_any, list_all}
+use Rattle.std.proofs.lemmas.List.{append-nil}
+use Rattle.cam_type.specs.declared.ObjectDecl.{ObjectDecl}
+use Rattle.cam_know.specs.Knowledge.{Knowledge}
+use Rattle.cam_know.specs.Known.{knows_abort, knows_commit, news, new_aborts, new_commits}
+use Rattle.cam_know.specs.Order.{told_in_order}
+use Rattle.cam_event.specs.declared.Deed.{Deed}
+use Rattle.cam_event.specs.declared.Event.{Event}
+use Rattle.cam_event.specs.declared.Letter.{Letter}
+use Rattle.cam_event.specs.declared.LetterId.{LetterId}
+use Rattle.cam_event.specs.declared.Note.{Note}
+use Rattle.cam_event.specs.Inputs.{Receives, Mail}
+use Rattle.cam_event.specs.Rules.{Did, nothing_but}
+use Rattle.cam_event.specs.ByPast.{event_of}
+use Rattle.cam_event.specs.ByKnowledge.{Carried, learned_by, new_informs, node_step}
+use Rattle.cam_event.specs.Loads.{Load, noted_at, with_load}
+use Rattle.cam_event.specs.ByDeltas.{Received, as_carried, known}
+use Rattle.cam_comman.specs.Letters.{load_on}
+use Rattle.cam_tranman.specs.Calls as tranman
+use Rattle.cam_tranman.specs.Events.{is_at_home}
+use Rattle.cam_tranman.specs.Keeping.{HasCounts, after_deeds}
+use Rattle.cam_commit.specs.Families.{CommitsFamilies}
+use Rattle.cam_server.specs.Calls as server
+use Rattle.cam_server.specs.Events.{informs_abort, informs_commit, is_any_inform, is_quiet}
+use Rattle.cam_server.proofs.QuietDeeds.{informs_quiet}
+use Rattle.cam_server.proofs.NewsInforms.{informs_join, nothing_informs}
+use Rattle.cam_server.proofs.Serving.{informs_keep}
+use Rattle.cam_node.specs.declared.did.Doing.{Doing}
+use Rattle.cam_node.specs.declared.knowing.Heard.{Heard}
+use Rattle.cam_node.specs.declared.learning.Learnt.{Learnt}
+use Rattle.cam_node.specs.declared.plan.Change.{Change}
+use Rattle.cam_node.specs.declared.plan.Plan.{Plan}
+use Rattle.cam_node.specs.declared.state.Core.{Core}
+use Rattle.cam_node.specs.Represents.{Node, Represents}
+use Rattle.cam_node.specs.Calls.{answers, letters_of, mail_on, AreSame}
+use Rattle.cam_node.specs.Halting.{IsThrough}
+use Rattle.cam_node.specs.Lawful.{MayBePut}
+use Rattle.cam_node.specs.Learning.{ruled, stepped}
+use Rattle.cam_node.specs.Opened.{IsKnowledge}
+use Rattle.cam_node.specs.Plans.{HasLearnt, IsHeard, IsPlanFor, Stands}
+use Rattle.cam_node.specs.Planning.{HasReceived, IsMade}
+use Rattle.cam_node.specs.Stepping.{longer, sight_before}
+use Rattle.cam_node.proofs.HomePlans.{informed_before, IsRuled}
+use Rattle.cam_node.proofs.NothingAdded.{informs_add}
+use Rattle.cam_node.proofs.Orderly.{put_is_asked, through_orderly}
+use Rattle.cam_node.proofs.PlanMade.{recorded_none}
+use Rattle.cam_node.proofs.Stepping.{all_both, first_informed, step_stands}
+use Rattle.cam_node.proofs.VoteFamilies.{GoOn}
+
+-- the node after such a letter, but for its families
+pub record HasHeard (mail : Mail) (load : Load) (old new : Node) : Type 0 where
+  pub number : new.number ≡ old.number
+  pub count : new.count ≡ old.count
+  pub know : new.know ≡ with_load old.know load
+  pub places : new.places ≡ noted_at old.number (length new.know.outcomes) old.places mail.from load
+  pub actions : tranman.AreSame old.actions new.actions
+  pub server : server.AreInformed (knows_abort (news new.know old.know))
+      (knows_commit (news new.know old.know)) old.server new.server
+
+heard_keeps : (objects : List ObjectDecl) (history : List Received) (id : LetterId) (mail : Mail)
+    (load : Load) (old new : Node)
+    → ruled objects old.number history (Receives id) (Some mail) load ≡ []
+    → HasHeard mail load old new
+    → CommitsFamilies objects old.number
+    (longer objects old.number history (Receives id) (Some mail) load)
+    new.families
+    → HasCounts mail.body → (1 ≤ mail.from) × (mail.from ≤ 8) → IsThrough objects old.number history
+    → MayBePut objects old.number (sight_before objects old.number history) (Receives id)
+    (Some mail) load
+    → Represents objects history old
+    → Represents objects
+    (stepped objects old.number history (Receives id) (Some mail) load ∷ history) new
+heard_keeps objects history id mail load old new is done families counts from through may rep =
+    step_stands objects history (Receives id) (Some mail) load old new refl tt counts from
+    (through_orderly objects s history through)
+    (put_is_asked objects s (sight_before objects s history) (Receives id) (Some mail) load may)
+    (record {
+      number = done.number;
+      count = done.count;
+      know =
+          done.know
+          ∙ ap (λ (ds : List Deed). learned_by objects H (Some mail) (with_load old.know load) ds)
+          (sym is);
+      noted = done.places ∙ (λ i. noted_at s (length (done.know i).outcomes) old.places mail.from
+          load);
+      actions =
+          subst (λ (ds : List Deed).
+          tranman.AreSame (after_deeds objects (Some mail) (filter is_at_home ds) old.actions)
+          new.actions)
+          (sym is) done.actions;
+      families = families;
+      server =
+          informs_keep objects s H
+          (as_carried (stepped objects s history (Receives id) (Some mail) load))
+          old.server new.server
+          (all_both (is_quiet s) first rules
+          (informs_quiet s (new_aborts brought K) (new_commits brought K))
+          (ap (list_all (is_quiet s)) is))
+          (informs_join s first rules old.server new.server new.server informed
+          (nothing_informs s rules new.server (ap (list_any is_any_inform) is)))
+          rep.serves;
+    })
+    rep
+  where
+    s : ℕ
+    s = old.number
+
+    H : List Carried
+    H = map as_carried history
+
+    K : Knowledge
+    K = known objects history
+
+    brought : Knowledge
+    brought = told_in_order load.know
+
+    first : List Deed
+    first = new_informs s brought K
+
+    rules : List Deed
+    rules = ruled objects s history (Receives id) (Some mail) load
+
+    informed : server.AreInformed (informs_abort s first) (informs_commit s first) old.server
+        new.server
+    informed =
+        first_informed objects history (Some mail) load old new.server through tt rep
+        (subst (λ (k : Knowledge). server.AreInformed (knows_abort (news k old.know))
+        (knows_commit (news k old.know)) old.server new.server) done.know done.server)
+
+-- where the event stands, all but the families has only heard, and the families go on
+abbrev pub StandsNoted : List ObjectDecl → LetterId → Letter → Core → Core → Learnt → Change
+    → Type 0
+StandsNoted objects id letter first now learnt change =
+    (new : Node) → Stands change (Some learnt.heard) now.knowing.known (answers now) new
+    → HasLearnt (Some learnt.heard) now.knowing.known (answers now)
+    (record new { families = (answers now).families })
+    × GoOn objects (answers first) id (mail_on letter) (load_on letter) new.families
+
+pub note_plan : (objects : List ObjectDecl) (id : LetterId) (letter : Letter)
+    (first core now : Core)
+    (learnt : Learnt) (note : Note) (change : Change) (plan : Plan)
+    → (1 ≤ letter.from) × (letter.from ≤ 8) → HasCounts letter.body
+    → HasReceived letter first core learnt
+    → now.knowing.known ≡ core.knowing.known → AreSame (answers first) (answers now)
+    → IsMade now id learnt (record { did = nothing_but note; change = change; adds = None }) plan
+    → IsRuled objects (answers first) id (mail_on letter) (load_on letter) (nothing_but note)
+    → StandsNoted objects id letter first now learnt change
+    → IsPlanFor objects id letter first now plan
+note_plan objects id letter first core now learnt note change plan from counts received goes_on same
+    made ruled_so stands = record {
+  before = received.before;
+  learnt = subst IsKnowledge received.known received.after;
+  heard =
+      subst (IsHeard (Some mail) load old.know) (sym made.heard)
+      (received.news ∙ ap (λ (k : Knowledge). news k old.know) received.known);
+  step = λ new is.
+      let at = stands new (as_made new is) in
+      record {
+        number = at.0.number ∙ same.number;
+        next = λ history through rep may. is_next history through rep may;
+        represents = λ history through rep may.
+            subst (λ (e : Event). Represents objects
+                (record { event = e; mail = Some mail; load = load } ∷ history) new)
+            (sym (is_next history through rep may))
+            (heard_keeps objects history id mail load old new
+              (ap (λ (d : Did). d.deeds) (ruled_so history through rep may))
+            (has_heard new at.0 may.addressed) (at.1 history through rep may) counts from through
+            may rep);
+      };
+  letters = λ new is. made.letters ∙ ap (λ (e : Event). letters_of new e.sent) (sym event_is);
+  recorded = λ history logged holds through rep may keeps given held.
+      recorded_none objects history (Some mail) logged holds plan first_informs
+      (ap (λ (e : Event). e.deeds) event_is ∙ append-nil first_informs) made.adds
+      (informs_add old.number (told_in_order load.know) old.know);
+}
+  where
+    old : Node
+    old = answers first
+
+    mail : Mail
+    mail = mail_on letter
+
+    load : Load
+    load = load_on letter
+
+    first_informs : List Deed
+    first_informs = new_informs old.number (told_in_order load.know) old.know
+
+    event_is : plan.stepped.event ≡ event_of old.number (Some id) first_informs (nothing_but note)
+    event_is = made.event
+        ∙ (λ i. event_of (same.number i) (Some id) (received.informs i) (nothing_but note))
+
+    is_next : (history : List Received) → IsThrough objects old.number history
+        → Represents objects history old
+        → MayBePut objects old.number (sight_before objects old.number history) (Receives id)
+        (Some mail) load
+        → plan.stepped.event
+        ≡ node_step objects old.number (map as_carried history) (Receives id) (Some mail)
+        (told_in_order load.know)
+    is_next history through rep may =
+        event_is
+        ∙ (λ i. event_of old.number (Some id)
+          (new_informs old.number (told_in_order load.know) (rep.knowledge i))
+          (sym (ruled_so history through rep may) i))
+
+    as_made : (new : Node) → Stands plan.change plan.heard now.knowing.known (answers now) new
+        → Stands change (Some learnt.heard) now.knowing.known (answers now) new
+    as_made new is =
+        subst (λ (c : Change). Stands c (Some learnt.heard) now.knowing.known (answers now) new)
+            made.change
+        (subst (λ (h : Option Heard). Stands plan.change h now.knowing.known (answers now) new)
+          made.heard is)
+
+    has_heard : (new : Node)
+        → HasLearnt (Some learnt.heard) now.knowing.known (answers now)
+        (record new { families = (answers now).families })
+        → letter.to ≡ first.number → HasHeard mail load old new
+    has_heard new has addressed = record {
+      number = has.number ∙ same.number;
+      count = has.count ∙ same.count;
+      know = has.know ∙ goes_on ∙ received.known;
+      places =
+          has.places_are ∙ received.places
+          ∙ (λ i. noted_at (addressed i) (length (sym (has.know ∙ goes_on) i).outcomes) old.places
+            letter.from load);
+      actions = subst (tranman.AreSame old.actions) (sym has.actions) same.actions;
+      server =
+          subst (λ (k : Knowledge). server.AreInformed (knows_abort k) (knows_commit k) old.server
+              new.server)
+          (received.news ∙ ap (λ (k : Knowledge). news k old.know) (sym (has.know ∙ goes_on)))
+          (informed_before (knows_abort learnt.heard.news) (knows_commit learnt.heard.news)
+            old.server
+          (answers now).server new.server same.server has.server);
+    }

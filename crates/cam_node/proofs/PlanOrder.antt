@@ -1,0 +1,208 @@
+-- Where a planned event stands that secures nothing and is no call, the order of what the log holds and of what is live goes on.
+use Rattle.std.proofs.Common.{◌≡◌, ◌≢◌, ℕ, Bool, true, false, not, ◌&&◌, ◌||◌, cond, List, [], ◌∷◌, ◌++◌, map, filter, Option, Some, None, refl, sym, ap, ◌∙◌, subst}
+use Rattle.std.specs.List.{list_any}
+use Rattle.std.proofs.lemmas.List.{append-nil}
+use Rattle.cam_names.specs.declared.name.Name.{Name}
+use Rattle.cam_names.specs.Names.{ancestors}
+use Rattle.cam_type.specs.declared.ObjectDecl.{ObjectDecl}
+use Rattle.cam_type.specs.declared.Held.{Held}
+use Rattle.cam_know.specs.Knowledge.{Knowledge}
+use Rattle.cam_know.specs.declared.Outcome.{Outcome}
+use Rattle.cam_know.specs.declared.Outcome.TheVariants.{Aborted}
+use Rattle.cam_know.specs.Known.{knows_abort, knows_commit}
+use Rattle.cam_know.specs.Order.{told_in_order}
+use Rattle.cam_event.specs.declared.Deed.{Deed}
+use Rattle.cam_event.specs.declared.Deed.TheVariants.{Create, Ask, Call, Perform, Bounce, Got, AskCommit, AskAbort, Commit, Abort, Secure, Inform, Crash}
+use Rattle.cam_event.specs.declared.Event.{Event}
+use Rattle.cam_event.specs.Inputs.{Input, Mail}
+use Rattle.cam_event.specs.Loads.{Load}
+use Rattle.cam_event.specs.ByKnowledge.{Carried}
+use Rattle.cam_event.specs.ByDeltas.{Received, as_carried}
+use Rattle.cam_event.proofs.Snoc.{filter_filter}
+use Rattle.cam_recman.specs.declared.Record.{Record}
+use Rattle.cam_recman.specs.declared.Record.TheVariants as records
+use Rattle.cam_locks.specs.declared.LiveOp.{LiveOp}
+use Rattle.cam_locks.specs.Site as locks
+use Rattle.cam_server.specs.Server.{Server, ServesSite}
+use Rattle.cam_server.specs.Calls as server
+use Rattle.cam_server.specs.Events.{AreQuiet}
+use Rattle.cam_server.proofs.QuietRules.{others_are_quiet}
+use Rattle.cam_node.specs.declared.knowing.Heard.{Heard}
+use Rattle.cam_node.specs.declared.plan.Change.{Change}
+use Rattle.cam_node.specs.declared.plan.Change.TheVariants as changes
+use Rattle.cam_node.specs.declared.plan.Plan.{Plan}
+use Rattle.cam_node.specs.Represents.{Node}
+use Rattle.cam_node.specs.Entries.{Holding, deed_records}
+use Rattle.cam_node.specs.Halting.{IsStepThrough}
+use Rattle.cam_node.specs.LogOrder.{IsInOrder, HasDropped, is_any_secure}
+use Rattle.cam_node.specs.Plans.{HasLearnt, Stands, IsInformed, IsPlan, IsPlanInOrder, as_list}
+use Rattle.cam_node.specs.PlanOrder.{held_in, is_served, PlansKeepOrder}
+use Rattle.cam_node.proofs.InOrder.{dropping_in_order, informed_drops}
+
+-- One table after another: what the second drops is dropped of what the first has left.
+pub drops_join : (one two three : locks.Site) → HasDropped one two → HasDropped two three
+    → HasDropped one three
+drops_join one two three first next = record {
+  keeps = λ a. first.keeps a && next.keeps a;
+  live =
+      next.live ∙ ap (filter (λ (o : LiveOp). next.keeps o.action)) first.live
+      ∙ filter_filter (λ (o : LiveOp). next.keeps o.action)
+      (λ (o : LiveOp). first.keeps o.action) one.live;
+  next = next.next ∙ first.next;
+}
+
+all_kept : (ks : List LiveOp) → ks ≡ filter (λ k. true) ks
+all_kept [] = refl
+all_kept (k ∷ ks) = ap (λ (js : List LiveOp). k ∷ js) (all_kept ks)
+
+pub same_drops : (one two : Server) → server.AreSame one two
+    → HasDropped one.table.site two.table.site
+same_drops one two same = record {
+  keeps = λ a. true;
+  live = ap (λ (st : locks.Site). st.live) same.site ∙ all_kept one.table.site.live;
+  next = ap (λ (st : locks.Site). st.next) same.site;
+}
+
+pub heard_drops : (heard : Option Heard) (old new : Server) → IsInformed heard old new
+    → HasDropped old.table.site new.table.site
+heard_drops None old new is =
+    same_drops old new (record {
+      count = ap (λ (s : Server). s.count) is;
+      site = ap (λ (s : Server). s.table.site) is;
+      replies = λ a n. ap (λ (s : Server). s.kept_reply a n) is;
+    })
+heard_drops (Some heard) old new is =
+    informed_drops (knows_abort heard.news) (knows_commit heard.news) old new is
+
+decided_drops : (heard : Option Heard) (known : Knowledge) (o : Outcome) (old mid new : Node)
+    → HasLearnt heard known old mid
+    → server.IsInformedOfAll (o ∷ []) mid.server new.server
+    → HasDropped old.server.table.site new.server.table.site
+decided_drops heard known o old mid new has are =
+    drops_join old.server.table.site mid.server.table.site new.server.table.site
+    (heard_drops heard old.server mid.server has.server)
+    (informed_drops (server.aborts_in (o ∷ []))
+    (server.commits_in (o ∷ [])) mid.server new.server are)
+
+-- What stands has dropped operations at the site, at most.
+pub stands_drop : (change : Change) (heard : Option Heard) (known : Knowledge) (old new : Node)
+    → is_served change ≡ false → Stands change heard known old new
+    → HasDropped old.server.table.site new.server.table.site
+stands_drop changes.Nothing heard known old new other has =
+    heard_drops heard old.server new.server has.server
+stands_drop (changes.Started b counts) heard known old new other has =
+    heard_drops heard old.server new.server has.learnt.server
+stands_drop (changes.Answered a n reply count) heard known old new other has =
+    heard_drops heard old.server new.server has.learnt.server
+stands_drop (changes.Decided o) heard known old new other (mid, has, done) =
+    decided_drops heard known o old mid new has done.server
+stands_drop (changes.GaveUp a b) heard known old new other (mid, has, done) =
+    decided_drops heard known (Aborted b) old mid new has done.server
+stands_drop (changes.Served tables) heard known old new other has = cc
+stands_drop (changes.WentAhead ahead) heard known old new other has = cc
+stands_drop (changes.Prepared f) heard known old new other (mid, has, begun) =
+    subst (λ (tables : Server). HasDropped old.server.table.site tables.table.site)
+    (sym begun.server) (heard_drops heard old.server mid.server has.server)
+stands_drop (changes.Voted vote) heard known old new other (mid, has, counted) =
+    subst (λ (tables : Server). HasDropped old.server.table.site tables.table.site)
+    (sym (ap (λ (n : Node). n.server) counted.rest))
+    (heard_drops heard old.server mid.server has.server)
+stands_drop (changes.Secured f) heard known old new other has =
+    heard_drops heard old.server new.server has.learnt.server
+
+-- An entry without a Secure is of deeds without one.
+abbrev is_secure_record : Record → Bool
+is_secure_record (records.Secure held) = true
+is_secure_record _ = false
+
+unsecured_by : (holds : Holding) (objects : List ObjectDecl) (before : List Carried)
+    (mail : Option Mail) (ds : List Deed)
+    → list_any is_secure_record (deed_records holds objects before mail ds) ≡ false
+    → list_any is_any_secure ds ≡ false
+unsecured_by holds objects before mail [] none = refl
+unsecured_by holds objects before mail (Create a ∷ ds) none =
+    unsecured_by holds objects before mail ds none
+unsecured_by holds objects before mail (Ask a b ∷ ds) none =
+    unsecured_by holds objects before mail ds none
+unsecured_by holds objects before mail (Call a n x op c ∷ ds) none =
+    unsecured_by holds objects before mail ds none
+unsecured_by holds objects before mail (Perform a n answer ∷ ds) none =
+    unsecured_by holds objects before mail ds none
+unsecured_by holds objects before mail (Bounce a n u ∷ ds) none =
+    unsecured_by holds objects before mail ds none
+unsecured_by holds objects before mail (Got a n seen ∷ ds) none =
+    unsecured_by holds objects before mail ds none
+unsecured_by holds objects before mail (AskCommit a v ∷ ds) none =
+    unsecured_by holds objects before mail ds none
+unsecured_by holds objects before mail (AskAbort a ∷ ds) none =
+    unsecured_by holds objects before mail ds none
+unsecured_by holds objects before mail (Commit a ∷ ds) none =
+    unsecured_by holds objects before mail ds none
+unsecured_by holds objects before mail (Abort a ∷ ds) none =
+    unsecured_by holds objects before mail ds none
+unsecured_by holds objects before mail (Secure f s c ∷ ds) none = cc
+unsecured_by holds objects before mail (Inform s u o ∷ ds) none =
+    unsecured_by holds objects before mail ds none
+unsecured_by holds objects before mail (Crash s ∷ ds) none =
+    unsecured_by holds objects before mail ds none
+
+none_held : (adds : Option Record) → held_in adds ≡ []
+    → list_any is_secure_record (as_list adds) ≡ false
+none_held None none = refl
+none_held (Some (records.Count c)) none = refl
+none_held (Some (records.Abort a)) none = refl
+none_held (Some (records.Commit a counts)) none = refl
+none_held (Some (records.Seen s c)) none = refl
+none_held (Some (records.Secure held)) none = cc
+none_held (Some records.Version) none = refl
+
+-- What a plan owes of each log it owes of one in order.
+pub plan_in_order : (objects : List ObjectDecl) (input : Input) (mail : Option Mail) (load : Load)
+    (plan : Plan) (known : Knowledge) (old mid : Node)
+    → IsPlan objects input mail load plan known old mid
+    → IsPlanInOrder objects input mail load plan known old mid
+plan_in_order objects input mail load plan known old mid is = record {
+  before = is.before;
+  learnt = is.learnt;
+  heard = is.heard;
+  step = is.step;
+  letters = is.letters;
+  recorded = λ history logged holds through rep may keeps order held.
+      is.recorded history logged holds through rep may keeps tt held;
+}
+
+pub plans_keep_order : PlansKeepOrder
+plans_keep_order objects input mail load plan known old mid other unserved none same is new history logged
+    holds stands through rep may keeps order held =
+    subst (λ (hs : List Held). IsInOrder (c ∷ history) hs new.server.table.site)
+    (sym (ap (λ (hs : List Held). logged.held ++ hs) none ∙ append-nil logged.held))
+    (dropping_in_order objects s history c logged.held old.server new.server quiet unsecured
+    (drops_join old.server.table.site mid.server.table.site new.server.table.site
+    (same_drops old.server mid.server same.server)
+    (stands_drop plan.change plan.heard known mid new unserved stands))
+    rep.serves
+    (subst (λ (n : ℕ). ServesSite objects n (map as_carried (c ∷ history)) new.server) step.number
+    (step.represents history through rep may).serves)
+    order)
+  where
+    s : ℕ
+    s = old.number
+
+    c : Received
+    c = record { event = plan.stepped.event; mail = mail; load = load }
+
+    step : IsStepThrough objects old new input mail load plan.stepped.event
+    step = is.step new stands
+
+    quiet : AreQuiet s c.event.deeds
+    quiet =
+        subst (λ (e : Event). AreQuiet s e.deeds) (sym (step.next history through rep may))
+        (others_are_quiet objects s (map as_carried history) input mail
+        (told_in_order load.know) other)
+
+    unsecured : list_any is_any_secure c.event.deeds ≡ false
+    unsecured =
+        unsecured_by holds objects (map as_carried history) mail c.event.deeds
+        (ap (list_any is_secure_record)
+        (is.recorded history logged holds through rep may keeps order held).records
+        ∙ none_held plan.adds none)

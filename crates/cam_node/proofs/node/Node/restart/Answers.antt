@@ -1,0 +1,62 @@
+-- A node is restarted.
+use Rattle.std.proofs.Common.{◌∙◌, IsTrue, sym, ap, subst}
+use Rattle.cam_node.specs.Calls.{answers}
+use Rattle.cam_node.specs.Keeping.{IsRestartHalt, HasRestarted}
+use Rattle.cam_node.specs.Opened.{MayRead}
+use Rattle.cam_node.proofs.RestartedNodes.{node_restarted, restart_halts, restart_range}
+use Rattle.cam_node.proofs.Steps.{failed}
+use Rattle.cam_node.proofs.node.Node.restart.Goals as goal
+
+pub renew-requires-clause-count : goal.renew-requires-clause-count
+renew-requires-clause-count g c =
+    let log = c.args.self.now.log.log in
+    (restart_range c.args.self.now.objects c.args.self.now.core.number (g.L.EntryLog.tells log)
+    (g.L.EntryLog.opens_since log (g.L.EntryLog.moment log))
+    (g.L.EntryLog.listed c.restart.new.self.log) c.in_ok-kept.kept c.in_ok-kept.ensures.restarted).0
+
+pub renew-requires-clause-held : goal.renew-requires-clause-held
+renew-requires-clause-held g c =
+    let log = c.args.self.now.log.log in
+    (restart_range c.args.self.now.objects c.args.self.now.core.number (g.L.EntryLog.tells log)
+    (g.L.EntryLog.opens_since log (g.L.EntryLog.moment log))
+    (g.L.EntryLog.listed c.restart.new.self.log) c.in_ok-kept.kept c.in_ok-kept.ensures.restarted).1
+
+pub returns-in_err-kept-clause-failed : goal.returns-in_err-kept-clause-failed
+returns-in_err-kept-clause-failed g c = λ tells.
+    let log = c.args.self.now.log.log in
+    let after = c.restart.new.self.log in
+    let grows = c.restart.ensures.any_moment tells in
+    let there : IsTrue (g.L.EntryLog.tells after) = c.restart.ensures.tells ∙ tells in
+    failed c.from_residual.result _
+    (restart_halts c.args.self.now.objects c.args.self.now.core.number (g.L.EntryLog.moment log)
+    (g.L.EntryLog.moment after) (g.L.EntryLog.opens_since log)
+    (g.L.EntryLog.opens_since after) c.args.self.now.numbered grows (λ o is.
+    g.met.L.EntryLog.counts_now after (g.L.EntryLog.moment log) o there grows.later is))
+
+pub returns-in-Ok-clause-restarted : goal.returns-in-Ok-clause-restarted
+returns-in-Ok-clause-restarted g c =
+    let log = c.args.self.now.log.log in
+    let past = g.L.EntryLog.opens_since log in
+    let s = c.args.self.now.core.number in
+    subst (λ node. HasRestarted c.args.self.now.objects s (g.L.EntryLog.tells log) (MayRead past
+    (g.L.EntryLog.moment log)) (answers c.renew.new.self.core)
+    (g.L.EntryLog.listed node.log) c.in-Ok.stepped.event) (sym c.renew.ensures.log)
+    (node_restarted c.args.self.now.objects s (g.L.EntryLog.tells log) past (g.L.EntryLog.moment
+    log) (g.L.EntryLog.listed c.restart.new.self.log) c.in_ok-kept.kept
+    (answers c.renew.new.self.core) c.in-Ok.stepped.event c.args.self.now.numbered
+    c.in_ok-kept.ensures.restarted c.in-Ok.ensures.renewed c.in-Ok.ensures.event)
+
+pub returns-in-Err-clause-failed : goal.returns-in-Err-clause-failed
+returns-in-Err-clause-failed g c = λ tells.
+    let log = c.args.self.now.log.log in
+    let after = c.restart.new.self.log in
+    let grows = c.restart.ensures.any_moment tells in
+    let there : IsTrue (g.L.EntryLog.tells after) = c.restart.ensures.tells ∙ tells in
+    subst (λ now. IsRestartHalt c.args.self.now.objects c.args.self.now.core.number (MayRead
+    (g.L.EntryLog.opens_since log) (g.L.EntryLog.moment log))
+    (MayRead (g.L.EntryLog.opens_since now) (g.L.EntryLog.moment now))) (sym (c.halt.ensures.log ∙
+    ap (λ node. node.log) c.renew.ensures.log))
+    (restart_halts c.args.self.now.objects c.args.self.now.core.number (g.L.EntryLog.moment log)
+    (g.L.EntryLog.moment after) (g.L.EntryLog.opens_since log)
+    (g.L.EntryLog.opens_since after) c.args.self.now.numbered grows (λ o is.
+    g.met.L.EntryLog.counts_now after (g.L.EntryLog.moment log) o there grows.later is))

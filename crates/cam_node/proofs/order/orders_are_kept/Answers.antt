@@ -1,0 +1,16 @@
+-- The order is kept.
+use Rattle.cam_node.proofs.InOrder.{nothing_in_order, dropping_in_order, securing_in_order}
+use Rattle.cam_node.proofs.Crashing.{restart_in_order}
+use Rattle.cam_node.proofs.order.orders_are_kept.Goals as goal
+
+pub returns-clause-nothing : goal.returns-clause-nothing
+returns-clause-nothing c = nothing_in_order
+
+pub returns-clause-dropping : goal.returns-clause-dropping
+returns-clause-dropping c = dropping_in_order
+
+pub returns-clause-securing : goal.returns-clause-securing
+returns-clause-securing c = securing_in_order
+
+pub returns-clause-restart : goal.returns-clause-restart
+returns-clause-restart c = restart_in_order

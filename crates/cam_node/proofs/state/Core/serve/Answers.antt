@@ -1,0 +1,31 @@
+-- What a site does with a call.
+use Rattle.std.proofs.Common.{None, refl, ap, ◌∙◌}
+use Rattle.cam_know.specs.Knowledge.{Knowledge}
+use Rattle.cam_server.specs.Calls as server
+use Rattle.cam_server.specs.Calls.{performed_by}
+use Rattle.cam_node.specs.declared.plan.Change.TheVariants as changes
+use Rattle.cam_node.specs.Served.{asked_of}
+use Rattle.cam_node.proofs.CallServed.{done_copy}
+use Rattle.cam_node.proofs.state.Core.serve.Goals as goal
+
+pub returns-in_ok-did_performed-in-None-clause-done :
+    goal.returns-in_ok-did_performed-in-None-clause-done
+returns-in_ok-did_performed-in-None-clause-done g c = (
+  c.in_ok-done-in-None.done,
+  done_copy c.args.heard.now.news c.args.self.now.knowing.known (asked_of c.args.call.now)
+      (server.answers c.args.self.now.server)
+      (server.answers c.in_ok-informed-in-None.informed) (server.answers c.reserve.new.self)
+      (server.answers c.informed.new.self) c.perform.new.self
+      c.in_ok-did_performed-in-None.field-0
+      (record {
+        did = c.in_ok-did_performed-in-None.field-0;
+        change = changes.Served c.perform.new.self;
+        adds = None;
+      })
+      c.in_ok-done-in-None.done c.in_ok-informed-in-None.ensures c.reserve.ensures.same
+      c.informed.ensures.informed
+      (c.in_ok-done-in-None.ensures.value
+      ∙ ap (λ (k : Knowledge). performed_by k (server.answers c.informed.new.self)
+      (asked_of c.args.call.now)) c.know-know.ensures)
+      c.in_ok-done-in-None.ensures.new c.in_ok-did_performed-in-None.ensures.did refl,
+)

@@ -1,0 +1,57 @@
+-- The inputs whose steps are built, and what an input must keep that is put to a node.
+use Rattle.std.specs.Prelude.{◌≤◌, ◌<◌, Bool, true, false}
+use Rattle.cam_names.specs.declared.name.Name.{Name}
+use Rattle.cam_event.specs.declared.Body.{Body}
+use Rattle.cam_event.specs.declared.Body.TheVariants as bodies
+use Rattle.cam_event.specs.declared.Want.{Want}
+use Rattle.cam_event.specs.declared.Want.TheVariants as wants
+use Rattle.cam_event.specs.Runs.{IsNode}
+use Rattle.cam_tranman.specs.Actions.{asks, calls}
+use Rattle.cam_type.specs.Objects.{site_of}
+use Rattle.cam_tranman.specs.Calls.{IsFree}
+use Rattle.cam_node.specs.declared.Input.{Input}
+use Rattle.cam_node.specs.declared.Input.TheVariants as inputs
+use Rattle.cam_node.specs.Represents.{Node}
+
+abbrev pub is_built_want : Want → Bool
+is_built_want (wants.Ask m) = true
+is_built_want (wants.Call x op) = true
+is_built_want (wants.Commit v) = true
+is_built_want wants.Abort = true
+is_built_want _ = false
+
+abbrev pub is_built_body : Body → Bool
+is_built_body (bodies.Start b counts) = true
+is_built_body (bodies.Answer a n reply) = true
+is_built_body (bodies.Finish a v counts) = true
+is_built_body (bodies.Quit a) = true
+is_built_body (bodies.Vote f c agrees) = true
+is_built_body bodies.News = true
+is_built_body _ = false
+
+-- no letter comes
+abbrev pub is_own : Input → Bool
+is_own (inputs.Letter id letter) = false
+is_own _ = true
+
+abbrev pub is_built : Input → Bool
+is_built (inputs.Request request) = is_built_want request.want
+is_built (inputs.Letter id letter) = is_built_body letter.body
+is_built _ = true
+
+-- A child is asked for at one of the eight nodes, and has a number; a call is on an object of one
+-- of them, and has a number.
+abbrev pub HasNumber : Node → Name → Want → Type 0
+HasNumber node a (wants.Ask m) = (1 ≤ m) × (m ≤ 8) × (asks node.actions a < 1000000000)
+HasNumber node a (wants.Call x op) = IsNode (site_of node.server.table.site.objects x) × (calls
+    node.actions a < 1000000000)
+HasNumber node a _ = Unit {0}
+
+-- Nothing stands against it, and numbers are left; nodes are those from 1 to 8.
+abbrev pub MayStep : Node → Input → Type 0
+MayStep node inputs.Begin = node.actions.tops < 1000000000
+MayStep node (inputs.Request request) = IsFree node.actions request.action request.want × HasNumber
+    node request.action request.want
+MayStep node (inputs.Letter id letter) = (1 ≤ letter.from) × (letter.from ≤ 8)
+MayStep node (inputs.Tell to) = (1 ≤ to) × (to ≤ 8)
+MayStep node (inputs.Query family) = Unit {0}

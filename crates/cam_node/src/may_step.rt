@@ -1,0 +1,85 @@
+//! Whether an input may be put to a node now.
+ghost use Rattle.std.specs.Prelude.{◌≡◌, ◌↔◌, IsTrue};
+ghost use Rattle.cam_event.specs.Runs.{IsNode};
+ghost use Rattle.cam_node.specs.Built.{HasNumber, MayStep, is_built};
+ghost use Rattle.cam_node.specs.Calls.{answers};
+
+use crate::Input;
+use crate::node::Node;
+use crate::state::Core;
+use cam_ckpt::CheckpointLog;
+use cam_event::{Body, Request, Want};
+
+impl<L: CheckpointLog> Node<L> {
+    /// What [`Node::step`] wants of an input: that its step is built, that nothing stands against it, and that numbers are left. It takes no
+    /// memory.
+    pub fn may_step(&self, input: &Input) -> bool
+        ensures built { IsTrue result → IsTrue (is_built input.now) }
+        ensures may { IsTrue result → MayStep (answers self.now.core) input.now }
+        ensures always { IsTrue (is_built input.now) → MayStep (answers self.now.core) input.now
+            → IsTrue result }
+    {
+        is_built(input) && self.has_room_for(input)
+    }
+
+    /// Whether nothing stands against an input, and numbers are left.
+    fn has_room_for(&self, input: &Input) -> bool
+        ensures { IsTrue result ↔ MayStep (answers self.now.core) input.now }
+    {
+        match input {
+            Input::Begin => self.core.actions.tops() < 1_000_000_000,
+            Input::Request(request) => {
+                self.core.actions.refusal(request).is_none() && self.core.has_number(request)
+            }
+            Input::Letter(_, letter) => is_node(letter.from),
+            Input::Tell(to) => is_node(*to),
+            Input::Query(_) => true,
+        }
+    }
+}
+
+impl Core {
+    /// Whether what a request makes has a number left, at a node from 1 to 8.
+    fn has_number(&self, request: &Request) -> bool
+        ensures { IsTrue result ↔ HasNumber (answers self.now) request.now.action request.now.want }
+    {
+        match &request.want {
+            Want::Ask(node) => {
+                is_node(*node) && self.actions.asks(&request.action) < 1_000_000_000
+            }
+            Want::Call(object, _) => {
+                is_node(self.server.table().site_of(*object))
+                    && self.actions.calls(&request.action) < 1_000_000_000
+            }
+            Want::Commit(_) | Want::Abort | Want::GiveUp(_) => true,
+        }
+    }
+}
+
+/// Whether the step of an input is built.
+fn is_built(input: &Input) -> bool
+    ensures { result ≡ is_built input.now }
+{
+    match input {
+        Input::Request(request) => !matches!(request.want, Want::GiveUp(_)),
+        Input::Letter(_, letter) => {
+            matches!(
+                letter.body,
+                Body::Start { .. }
+                    | Body::Answer { .. }
+                    | Body::Finish { .. }
+                    | Body::Quit { .. }
+                    | Body::Vote { .. }
+                    | Body::News
+            )
+        }
+        Input::Begin | Input::Tell(_) | Input::Query(_) => true,
+    }
+}
+
+/// Whether it is one of the eight nodes.
+fn is_node(node: u8) -> bool
+    ensures { IsTrue result ↔ IsNode node }
+{
+    1 <= node && node <= 8
+}

@@ -1,0 +1,149 @@
+//! One node: its parts, and its log.
+ghost use Rattle.std.specs.Prelude.{◌≡◌, ◌≤◌, [], IsTrue, IsFalse, IfOk, IfErr, Some, None};
+ghost use Rattle.cam_base.specs.Causes.{Rose};
+ghost use Rattle.cam_locks.specs.Moss.{settled};
+ghost use Rattle.cam_locks.specs.Site.{is_here};
+ghost use Rattle.cam_log.specs.Moments.{Stays};
+ghost use Rattle.cam_log.specs.Spent.{Spent};
+ghost use Rattle.cam_node.specs.declared.fault.NodeFault.TheVariants.{DiskFault};
+ghost use Rattle.cam_node.specs.Calls.{answers};
+ghost use Rattle.cam_node.specs.Keeping.{KeepsNode};
+
+use crate::fault::{FormatRefused, NodeFault};
+use crate::log::NodeLog;
+use crate::state::Core;
+use cam_base::NoMemory;
+use cam_ckpt::{CheckpointLog, Ckpt};
+use cam_disk::Disk;
+use cam_log::{EntryLog, StopLog};
+use cam_type::{Objects, State};
+use std::alloc::Global;
+
+/// One node, 1 to 8, over the declared objects: its parts, and the log that it forces before a
+/// letter leaves. While it is not halted both
+/// stand for one history. Over a disk its log is a [`Ckpt`].
+#[derive(Drop)]
+pub struct Node<L: CheckpointLog> {
+    pub(crate) core: Core,
+    pub(crate) log: NodeLog<L>,
+    pub(crate) objects: Objects,
+    ghost numbered: { (1 ≤ core.number) × (core.number ≤ 8) },
+}
+
+impl<D: Disk> Node<Ckpt<D>> {
+    /// Makes a node, 1 to 8, to which nothing has happened, and formats a disk for it, whatever the
+    /// disk held. The disk is handed back where
+    /// it failed, or memory ran out.
+    pub fn format(
+        alloc: Global,
+        number: u8,
+        objects: Objects,
+        disk: D,
+    ) -> Result<Node<Ckpt<D>>, FormatRefused<D>>
+        requires { (1 ≤ number) × (number ≤ 8) }
+        ensures keeps { IfOk result (λ node. KeepsNode objects [] (answers node.core)
+            (⟦<Ckpt<D> as EntryLog>⟧.listed node.log.log)) }
+        ensures number { IfOk result (λ node. node.core.number ≡ number) }
+        ensures objects { IfOk result (λ node. node.objects ≡ objects) }
+        ensures running { IfOk result (λ node. IsFalse node.log.halted) }
+        // It takes seven calls of the disk.
+        ensures spent { IfOk result
+            (λ node. Spent 7 (D.passes disk) (⟦<Ckpt<D> as EntryLog>⟧.passes node.log.log)) }
+        ensures tells { IfOk result
+            (λ node. ⟦<Ckpt<D> as EntryLog>⟧.tells node.log.log ≡ D.tells disk) }
+        ensures later { IfOk result
+            (λ node. D.faults disk ≤ ⟦<Ckpt<D> as EntryLog>⟧.faults node.log.log) }
+        ensures disk_fault { IfErr result (λ refused. refused.fault ≡ DiskFault
+            → Rose (D.faults disk) (D.faults refused.disk)) }
+        ensures refused_later { IfErr result (λ refused. D.faults disk ≤ D.faults refused.disk) }
+        ensures refused_tells { IfErr result (λ refused. D.tells refused.disk ≡ D.tells disk) }
+    {
+        let core = match Core::new(alloc, number, &objects) {
+            Ok(core) => core,
+            Err(NoMemory) => {
+                return Err(FormatRefused {
+                    fault: NodeFault::NoMemory,
+                    disk,
+                });
+            }
+        };
+        let log = match NodeLog::format(alloc, disk) {
+            Ok(log) => log,
+            Err(refused) => return Err(refused),
+        };
+        Ok(Node { core, log, objects })
+    }
+
+    /// The disk, as it is.
+    pub fn into_disk(self) -> D
+        ensures tells { D.tells result ≡ ⟦<Ckpt<D> as EntryLog>⟧.tells self.log.log }
+        ensures moment { D.moment result ≡ ⟦<Ckpt<D> as EntryLog>⟧.moment self.log.log }
+        ensures seen { D.seen result ≡ ⟦<Ckpt<D> as EntryLog>⟧.seen self.log.log }
+        ensures passes { D.passes result ≡ ⟦<Ckpt<D> as EntryLog>⟧.passes self.log.log }
+        ensures faults { D.faults result ≡ ⟦<Ckpt<D> as EntryLog>⟧.faults self.log.log }
+    {
+        self.log.into_disk()
+    }
+}
+
+impl<L: CheckpointLog> Node<L> {
+    /// The number of the node.
+    pub fn number(&self) -> u8
+        ensures value { result ≡ (answers self.now.core).number }
+        ensures range { (1 ≤ result) × (result ≤ 8) }
+    {
+        self.core.number()
+    }
+
+    /// Whether the node is halted: it has to be restarted before the next step.
+    pub fn is_halted(&self) -> bool
+        ensures { result ≡ self.now.log.halted }
+    {
+        self.log.is_halted()
+    }
+
+    /// The value of an object of the node that is handed up past the top.
+    pub fn value(&self, object: u8) -> Result<State, NoMemory>
+        requires { IsTrue (is_here (answers self.now.core).server.table.site.objects
+            (answers self.now.core).server.table.site.node object) }
+        ensures { IfOk result (λ state.
+            state ≡ settled (answers self.now.core).server.table.site object) }
+    {
+        self.core.server.table().value(object)
+    }
+}
+
+impl<L: CheckpointLog + StopLog> Node<L> {
+    /// Lets the disk do this many calls more, and fail each later one without doing it. Nothing
+    /// else changes, on the disk or of the node.
+    pub fn stop_after(&mut self, calls: u32)
+        ensures passes { L.passes self.new.log.log ≡ Some calls }
+        ensures core { self.new.core ≡ self.old.core }
+        ensures objects { self.new.objects ≡ self.old.objects }
+        ensures listed { L.listed self.new.log.log ≡ L.listed self.old.log.log }
+        ensures halted { self.new.log.halted ≡ self.old.log.halted }
+        ensures tells { L.tells self.new.log.log ≡ L.tells self.old.log.log }
+        ensures stays { Stays (L.moment self.old.log.log) (L.moment self.new.log.log)
+            (L.opens_since self.old.log.log) (L.opens_since self.new.log.log)
+            (L.seen self.old.log.log) (L.seen self.new.log.log)
+            (L.faults self.old.log.log) (L.faults self.new.log.log) }
+    {
+        self.log.stop_after(calls);
+    }
+
+    /// Lets the disk do all calls again. Nothing else changes, on the disk or of the node.
+    pub fn clear(&mut self)
+        ensures passes { L.passes self.new.log.log ≡ None }
+        ensures core { self.new.core ≡ self.old.core }
+        ensures objects { self.new.objects ≡ self.old.objects }
+        ensures listed { L.listed self.new.log.log ≡ L.listed self.old.log.log }
+        ensures halted { self.new.log.halted ≡ self.old.log.halted }
+        ensures tells { L.tells self.new.log.log ≡ L.tells self.old.log.log }
+        ensures stays { Stays (L.moment self.old.log.log) (L.moment self.new.log.log)
+            (L.opens_since self.old.log.log) (L.opens_since self.new.log.log)
+            (L.seen self.old.log.log) (L.seen self.new.log.log)
+            (L.faults self.old.log.log) (L.faults self.new.log.log) }
+    {
+        self.log.clear();
+    }
+}

@@ -1,0 +1,270 @@
+//! A step of a node: it learns the letter and applies the rule, makes all growth, appends the
+//! event's entry and forces it; then the event
+//! stands, and its letters are handed out.
+ghost use Rattle.std.specs.Prelude.{◌≡◌, ◌≤◌, List, Some, None, IsTrue, IsFalse, OnOk, OnErr, IfOk, IsErrOf, All, ◌++◌};
+ghost use Rattle.cam_base.specs.Causes.{Rose};
+ghost use Rattle.cam_ckpt.specs.Moments.{IsOldOrNew};
+ghost use Rattle.cam_comman.specs.Letters.{load_on};
+ghost use Rattle.cam_event.specs.Inputs.{Receives};
+ghost use Rattle.cam_log.specs.Moments.{Grows, Stays};
+ghost use Rattle.cam_recman.specs.declared.Recovered.{Recovered as Recovery};
+ghost use Rattle.cam_recman.specs.Ranges.{AreRecords};
+ghost use Rattle.cam_recman.specs.Recovery.{with_records};
+ghost use Rattle.cam_recman.specs.Says.{Says};
+ghost use Rattle.cam_recman.specs.Versions.{AreOf};
+ghost use Rattle.cam_recman.specs.Writable.{IsWritable};
+ghost use Rattle.cam_node.specs.declared.fault.NodeFault.TheVariants.{DiskFault};
+ghost use Rattle.cam_node.specs.Built.{MayStep, is_built, is_built_body, is_own};
+ghost use Rattle.cam_node.specs.Calls.{answers, input_of, letters_of, load_of, mail_of, mail_on, AreSame};
+ghost use Rattle.cam_node.specs.Halting.{IsStepThrough};
+ghost use Rattle.cam_node.specs.Keeping.{IsHalt, KeepsOn};
+ghost use Rattle.cam_node.specs.Opened.{IsKnowledge, MayRead, with_entry_of};
+ghost use Rattle.cam_node.specs.Planned.{heard_records, planned_records, MayBeAdded};
+ghost use Rattle.cam_node.specs.Plans.{as_list, MayStand, Stands};
+
+use crate::fault::NodeFault;
+use crate::knowing::Heard;
+use crate::news::news_records;
+use crate::node::Node;
+use crate::plan::Plan;
+use crate::state::Core;
+use crate::{Input, Stepped};
+use cam_base::NoMemory;
+use cam_ckpt::CheckpointLog;
+use cam_event::{Letter, LetterId};
+use cam_recman::{Record, Records};
+
+impl Core {
+    /// The entry of an event that heard this, and whose deeds add that.
+    #[tactic(auto, using(crate::proofs::AddedRecords::added_version))]
+    fn entry_of(&self, heard: &Option<Heard>, added: Option<Record>) -> Result<Records, NoMemory>
+        requires { MayBeAdded added }
+        ensures exactly { IfOk result (λ records. records
+            ≡ heard_records (answers self.now).know.counts heard.now ++ as_list added) }
+        ensures writable { IfOk result (λ records. All IsWritable records) }
+        ensures version { IfOk result (λ records. AreOf 2 records) }
+    {
+        let mut records = self.heard_records(heard)?;
+        match added {
+            None => Ok(records),
+            Some(record) => {
+                records.push(record)?;
+                Ok(records)
+            }
+        }
+    }
+
+    /// The records of what a letter brought.
+    fn heard_records(&self, heard: &Option<Heard>) -> Result<Records, NoMemory>
+        ensures exactly { IfOk result (λ records. records
+            ≡ heard_records (answers self.now).know.counts heard.now) }
+        ensures writable { IfOk result (λ records. All IsWritable records) }
+        ensures version { IfOk result (λ records. AreOf 2 records) }
+    {
+        match heard {
+            Some(heard) => news_records(self.alloc, &self.knowing.counts(), &heard.news),
+            None => Ok(Records::new(self.alloc)),
+        }
+    }
+
+    /// The event stands, and what is known then is knowledge.
+    fn takes(&mut self, plan: Plan) -> Stepped
+        requires { MayStand plan self.old }
+        ensures stands { Stands plan.change plan.heard self.old.knowing.known
+            (answers self.old) (answers self.new) }
+        ensures stepped { result ≡ plan.stepped }
+        ensures knows { IsKnowledge (answers self.new).know }
+    {
+        let stepped = self.stand(plan);
+        self.knowing.is_knowledge();
+        stepped
+    }
+}
+
+impl<L: CheckpointLog> Node<L> {
+    /// A step of the node that is not halted: an input is put to it against which nothing stands.
+    /// The event is that of the input's rule, and its
+    /// letters are those that the rule sends.
+    ///
+    /// Where memory runs out nothing has happened. After a fault of the disk, and where the disk
+    /// itself has no memory, the node is halted: its
+    /// log may have the event's entry, no event is told and no letter is handed out. `DiskFault`
+    /// comes only where the disk's count of faults
+    /// rose.
+    pub fn step(&mut self, input: &Input) -> Result<Stepped, NodeFault>
+        requires running { IsFalse self.old.log.halted }
+        requires built { IsTrue (is_built input.now) }
+        requires may { MayStep (answers self.old.core) input.now }
+        ensures step { IfOk result (λ stepped. IsStepThrough self.old.objects
+            (answers self.old.core) (answers self.new.core) (input_of self.old.core.number
+            input.now)
+            (mail_of input.now) (load_of input.now) stepped.event) }
+        ensures letters { IfOk result (λ stepped.
+            stepped.letters ≡ letters_of (answers self.new.core) stepped.event.sent) }
+        // The log keeps each history that it kept, with the event.
+        ensures keeps { IfOk result (λ stepped. KeepsOn self.old.objects
+            (answers self.old.core) (L.listed self.old.log.log)
+            (answers self.new.core) (L.listed self.new.log.log)
+            (input_of self.old.core.number input.now)
+            (mail_of input.now) (load_of input.now) stepped.event) }
+        ensures runs { OnOk result (IsFalse self.new.log.halted) }
+        ensures same { OnErr result (IsFalse self.new.log.halted
+            → AreSame (answers self.old.core) (answers self.new.core)) }
+        ensures unchanged { OnErr result (IsFalse self.new.log.halted
+            → Stays (L.moment self.old.log.log) (L.moment self.new.log.log)
+            (L.opens_since self.old.log.log) (L.opens_since self.new.log.log)
+            (L.seen self.old.log.log) (L.seen self.new.log.log)
+            (L.faults self.old.log.log) (L.faults self.new.log.log)) }
+        ensures not_listed { OnErr result
+            (L.listed self.new.log.log ≡ L.listed self.old.log.log) }
+        // Whatever a crash leaves of a halted node's disk has the log before, or with what was
+        // taken of the event.
+        ensures halt { IsTrue (L.tells self.old.log.log) → IsTrue self.new.log.halted
+            → IsHalt self.old.objects (answers self.old.core) (L.listed self.old.log.log)
+            (input_of self.old.core.number input.now) (mail_of input.now) (load_of input.now)
+            (MayRead (L.opens_since self.new.log.log) (L.moment self.new.log.log)) }
+        ensures disk_fault { IsErrOf result DiskFault
+            → Rose (L.faults self.old.log.log) (L.faults self.new.log.log)
+            × IsTrue self.new.log.halted }
+        ensures tells { L.tells self.new.log.log ≡ L.tells self.old.log.log }
+        ensures later { L.faults self.old.log.log ≤ L.faults self.new.log.log }
+        ensures objects { self.new.objects ≡ self.old.objects }
+    {
+        match input {
+            Input::Letter(id, letter) => self.letter(id, letter),
+            Input::Begin | Input::Request(_) | Input::Tell(_) | Input::Query(_) => self.own(input),
+        }
+    }
+
+    /// The node's own step that decides nothing. No entry is due, and nothing of the log changes.
+    fn own(&mut self, input: &Input) -> Result<Stepped, NodeFault>
+        requires running { IsFalse self.old.log.halted }
+        requires own { IsTrue (is_own input.now) }
+        requires built { IsTrue (is_built input.now) }
+        requires may { MayStep (answers self.old.core) input.now }
+        ensures step { IfOk result (λ stepped. IsStepThrough self.old.objects
+            (answers self.old.core) (answers self.new.core) (input_of self.old.core.number
+            input.now)
+            (mail_of input.now) (load_of input.now) stepped.event) }
+        ensures letters { IfOk result (λ stepped.
+            stepped.letters ≡ letters_of (answers self.new.core) stepped.event.sent) }
+        ensures keeps { IfOk result (λ stepped. KeepsOn self.old.objects
+            (answers self.old.core) (L.listed self.old.log.log)
+            (answers self.new.core) (L.listed self.new.log.log)
+            (input_of self.old.core.number input.now)
+            (mail_of input.now) (load_of input.now) stepped.event) }
+        ensures same { OnErr result (AreSame (answers self.old.core) (answers self.new.core)) }
+        ensures runs { IsTrue self.new.log.halted → ⊥ }
+        ensures no_fault { IsErrOf result DiskFault → ⊥ }
+        ensures stays { Stays (L.moment self.old.log.log) (L.moment self.new.log.log)
+            (L.opens_since self.old.log.log) (L.opens_since self.new.log.log)
+            (L.seen self.old.log.log) (L.seen self.new.log.log)
+            (L.faults self.old.log.log) (L.faults self.new.log.log) }
+        ensures log { self.new.log ≡ self.old.log }
+        ensures objects { self.new.objects ≡ self.old.objects }
+    {
+        self.core.knowing.is_knowledge();
+        Ok(self.core.own(input)?)
+    }
+
+    /// Appends the entry of an event that may stand, and forces it; then the event stands. Where
+    /// the node is halted its log may have the
+    /// entry, and its parts stand with the event, which is not told. After an error without a halt
+    /// nothing has happened.
+    fn take(&mut self, plan: Plan) -> Result<Stepped, NodeFault>
+        requires running { IsFalse self.old.log.halted }
+        requires may { MayStand plan self.old.core }
+        requires adds { MayBeAdded plan.adds }
+        ensures stepped { IfOk result (λ stepped. stepped ≡ plan.stepped) }
+        ensures stands { OnOk result (Stands plan.change plan.heard self.old.core.knowing.known
+            (answers self.old.core) (answers self.new.core)) }
+        ensures knows { OnOk result (IsKnowledge (answers self.new.core).know) }
+        ensures runs { OnOk result (IsFalse self.new.log.halted) }
+        ensures halted_stands { IsTrue self.new.log.halted
+            → Stands plan.change plan.heard self.old.core.knowing.known
+            (answers self.old.core) (answers self.new.core) }
+        ensures halted_knows { IsTrue self.new.log.halted → IsKnowledge (answers
+            self.new.core).know }
+        ensures core { OnErr result (IsFalse self.new.log.halted → self.new.core ≡ self.old.core) }
+        ensures says { (r : Recovery) → Says (L.listed self.old.log.log) r
+            → OnOk result (Says (L.listed self.new.log.log) (with_records r (planned_records
+            (answers self.old.core).know.counts plan))) }
+        ensures range { OnOk result (AreRecords (planned_records (answers
+            self.old.core).know.counts plan)) }
+        ensures halted_range { IsTrue self.new.log.halted → AreRecords (planned_records (answers
+            self.old.core).know.counts plan) }
+        ensures halted_version { IsTrue self.new.log.halted → AreOf 2 (planned_records (answers
+            self.old.core).know.counts plan) }
+        ensures any_moment { IsTrue (L.tells self.old.log.log)
+            → Grows (L.moment self.old.log.log) (L.moment self.new.log.log)
+            (L.opens_since self.old.log.log) (L.opens_since self.new.log.log)
+            (IsOldOrNew (L.listed self.old.log.log)
+            (with_entry_of (L.listed self.old.log.log) (planned_records (answers
+            self.old.core).know.counts plan))) }
+        ensures not_listed { OnErr result
+            (L.listed self.new.log.log ≡ L.listed self.old.log.log) }
+        ensures unchanged { OnErr result (IsFalse self.new.log.halted
+            → Stays (L.moment self.old.log.log) (L.moment self.new.log.log)
+            (L.opens_since self.old.log.log) (L.opens_since self.new.log.log)
+            (L.seen self.old.log.log) (L.seen self.new.log.log)
+            (L.faults self.old.log.log) (L.faults self.new.log.log)) }
+        ensures tells { L.tells self.new.log.log ≡ L.tells self.old.log.log }
+        ensures later { L.faults self.old.log.log ≤ L.faults self.new.log.log }
+        ensures disk_fault { IsErrOf result DiskFault
+            → Rose (L.faults self.old.log.log) (L.faults self.new.log.log)
+            × IsTrue self.new.log.halted }
+        ensures objects { self.new.objects ≡ self.old.objects }
+    {
+        let mut plan = plan;
+        let added = plan.adds.take();
+        let records = self.core.entry_of(&plan.heard, added)?;
+        match self.log.append(&records) {
+            Ok(()) => Ok(self.core.takes(plan)),
+            Err(fault) => {
+                if self.log.is_halted() {
+                    let _untold = self.core.takes(plan);
+                }
+                Err(fault)
+            }
+        }
+    }
+
+    /// A letter comes of which the step is built.
+    fn letter(&mut self, id: &LetterId, letter: &Letter) -> Result<Stepped, NodeFault>
+        requires running { IsFalse self.old.log.halted }
+        requires from { (1 ≤ letter.now.from) × (letter.now.from ≤ 8) }
+        requires body { IsTrue (is_built_body letter.now.body) }
+        ensures step { IfOk result (λ stepped. IsStepThrough self.old.objects
+            (answers self.old.core) (answers self.new.core)
+            (Receives id.now) (Some (mail_on letter.now)) (load_on letter.now) stepped.event) }
+        ensures letters { IfOk result (λ stepped.
+            stepped.letters ≡ letters_of (answers self.new.core) stepped.event.sent) }
+        ensures keeps { IfOk result (λ stepped. KeepsOn self.old.objects
+            (answers self.old.core) (L.listed self.old.log.log)
+            (answers self.new.core) (L.listed self.new.log.log)
+            (Receives id.now) (Some (mail_on letter.now)) (load_on letter.now) stepped.event) }
+        ensures runs { OnOk result (IsFalse self.new.log.halted) }
+        ensures same { OnErr result (IsFalse self.new.log.halted
+            → AreSame (answers self.old.core) (answers self.new.core)) }
+        ensures halt { IsTrue (L.tells self.old.log.log) → IsTrue self.new.log.halted
+            → IsHalt self.old.objects (answers self.old.core) (L.listed self.old.log.log)
+            (Receives id.now) (Some (mail_on letter.now)) (load_on letter.now)
+            (MayRead (L.opens_since self.new.log.log) (L.moment self.new.log.log)) }
+        ensures not_listed { OnErr result
+            (L.listed self.new.log.log ≡ L.listed self.old.log.log) }
+        ensures unchanged { OnErr result (IsFalse self.new.log.halted
+            → Stays (L.moment self.old.log.log) (L.moment self.new.log.log)
+            (L.opens_since self.old.log.log) (L.opens_since self.new.log.log)
+            (L.seen self.old.log.log) (L.seen self.new.log.log)
+            (L.faults self.old.log.log) (L.faults self.new.log.log)) }
+        ensures tells { L.tells self.new.log.log ≡ L.tells self.old.log.log }
+        ensures later { L.faults self.old.log.log ≤ L.faults self.new.log.log }
+        ensures disk_fault { IsErrOf result DiskFault
+            → Rose (L.faults self.old.log.log) (L.faults self.new.log.log)
+            × IsTrue self.new.log.halted }
+        ensures objects { self.new.objects ≡ self.old.objects }
+    {
+        let plan = self.core.comes(id, letter)?;
+        self.take(plan)
+    }
+}

@@ -1,0 +1,135 @@
+//! The restart of a node: it reads its log again, and goes on from what that keeps.
+ghost use Rattle.std.specs.Prelude.{◌≡◌, ◌≤◌, [], IsTrue, IsFalse, IfOk, OnOk, OnErr, IsErrOf};
+ghost use Rattle.cam_base.specs.Causes.{Rose};
+ghost use Rattle.cam_locks.specs.Restored.{CanRestore};
+ghost use Rattle.cam_log.specs.Moments.{Opened};
+ghost use Rattle.cam_node.specs.declared.fault.NodeFault.TheVariants.{DiskFault};
+ghost use Rattle.cam_node.specs.Calls.{answers};
+ghost use Rattle.cam_node.specs.Keeping.{IsRestartHalt, HasRestarted};
+ghost use Rattle.cam_node.specs.Opened.{MayRead, MayRestart};
+ghost use Rattle.cam_node.specs.Renewed.{IsRenewed, crash_of};
+
+use crate::fault::NodeFault;
+use crate::knowing::Knowing;
+use crate::node::Node;
+use crate::room::one;
+use crate::state::Core;
+use crate::{Letters, Stepped};
+use cam_base::NoMemory;
+use cam_ckpt::CheckpointLog;
+use cam_commit::Families;
+use cam_event::{Deed, Event, Note, SentList};
+use cam_locks::LockTable;
+use cam_recman::Recovered;
+use cam_server::Server;
+use cam_tranman::Homed;
+use cam_type::Objects;
+use std::alloc::Global;
+
+impl Core {
+    /// The node, 1 to 8, that a restart makes of what its log keeps.
+    fn renewed(
+        alloc: Global,
+        number: u8,
+        objects: &Objects,
+        kept: Recovered,
+    ) -> Result<Core, NoMemory>
+        requires number { (1 ≤ number) × (number ≤ 8) }
+        requires count { (1 ≤ kept.count) × (kept.count ≤ 1000000000) }
+        requires held { CanRestore objects.now number kept.held }
+        ensures { IfOk result (λ core. IsRenewed objects.now number kept (answers core)) }
+    {
+        let table = LockTable::restore(alloc, objects, number, &kept.held, &kept.know)?;
+        let families = Families::of(alloc, kept.held.as_slice())?;
+        Ok(Core {
+            alloc,
+            number,
+            count: kept.count,
+            knowing: Knowing::of(kept.know),
+            actions: Homed::new(alloc, number, kept.count),
+            families,
+            server: Server::new(alloc, table, kept.count),
+        })
+    }
+
+    /// The event of a restart.
+    fn crashed(&self) -> Result<Stepped, NoMemory>
+        ensures event { IfOk result (λ stepped. stepped.event ≡ crash_of self.now.number) }
+        ensures letters { IfOk result (λ stepped. stepped.letters ≡ []) }
+    {
+        let deeds = one(self.alloc, &Deed::Crash { site: self.number })?;
+        Ok(Stepped {
+            event: Event {
+                node: self.number,
+                got: None,
+                deeds,
+                sent: SentList::new(self.alloc),
+                note: Note::Plain,
+            },
+            letters: Letters::new(self.alloc),
+        })
+    }
+}
+
+impl<L: CheckpointLog> Node<L> {
+    /// The parts of the node become those that a restart makes of what its log keeps. It fails
+    /// where memory runs out, and is then as it was.
+    fn renew(&mut self, kept: Recovered) -> Result<Stepped, NoMemory>
+        requires count { (1 ≤ kept.count) × (kept.count ≤ 1000000000) }
+        requires held { CanRestore self.old.objects self.old.core.number kept.held }
+        ensures renewed { OnOk result (IsRenewed self.old.objects self.old.core.number kept
+            (answers self.new.core)) }
+        ensures event { IfOk result (λ stepped. stepped.event ≡ crash_of self.old.core.number) }
+        ensures letters { IfOk result (λ stepped. stepped.letters ≡ []) }
+        ensures log { self.new.log ≡ self.old.log }
+        ensures number { self.new.core.number ≡ self.old.core.number }
+        ensures objects { self.new.objects ≡ self.old.objects }
+    {
+        let stepped = self.core.crashed()?;
+        self.core = Core::renewed(self.core.alloc, self.core.number, &self.objects, kept)?;
+        Ok(stepped)
+    }
+
+    /// Restarts the node, halted or not: it reads its log again, puts all that is kept with the
+    /// raised count in place of what it read, and
+    /// goes on from that. The event is the restart; no letter is sent.
+    ///
+    /// `DiskFault` comes where what was read cannot be restarted: a count that is the last, an
+    /// operation that is not on an object of the node
+    /// or does not fit it, an index that stands twice or is above 999,999,999. A disk that does not
+    /// tell what it holds is spoiled then.
+    /// Over a disk of which nothing such can be read it comes only where the disk's count of faults
+    /// rose. After an error the node is halted,
+    /// and may be restarted again.
+    pub fn restart(&mut self) -> Result<Stepped, NodeFault>
+        ensures restarted { IfOk result (λ stepped. HasRestarted self.old.objects
+            self.old.core.number (L.tells self.old.log.log)
+            (MayRead (L.opens_since self.old.log.log) (L.moment self.old.log.log))
+            (answers self.new.core) (L.listed self.new.log.log) stepped.event) }
+        ensures letters { IfOk result (λ stepped. stepped.letters ≡ []) }
+        ensures runs { OnOk result (IsFalse self.new.log.halted) }
+        ensures halted { OnErr result (IsTrue self.new.log.halted) }
+        ensures failed { IsTrue (L.tells self.old.log.log) → OnErr result
+            (IsRestartHalt self.old.objects self.old.core.number
+            (MayRead (L.opens_since self.old.log.log) (L.moment self.old.log.log))
+            (MayRead (L.opens_since self.new.log.log) (L.moment self.new.log.log))) }
+        ensures tells { L.tells self.new.log.log ≡ L.tells self.old.log.log }
+        ensures later { L.faults self.old.log.log ≤ L.faults self.new.log.log }
+        ensures disk_fault { ((opened : Opened) → IsTrue (L.tells self.old.log.log)
+            → L.opens_since self.old.log.log (L.moment self.old.log.log) opened
+            → MayRestart self.old.objects self.old.core.number opened)
+            → IsErrOf result DiskFault
+            → Rose (L.faults self.old.log.log) (L.faults self.new.log.log) }
+        ensures number { self.new.core.number ≡ self.old.core.number }
+        ensures objects { self.new.objects ≡ self.old.objects }
+    {
+        let kept = self.log.restart(&self.objects, self.core.number)?;
+        match self.renew(kept) {
+            Ok(stepped) => Ok(stepped),
+            Err(NoMemory) => {
+                self.log.halt();
+                Err(NodeFault::NoMemory)
+            }
+        }
+    }
+}
