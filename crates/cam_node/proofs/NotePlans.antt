@@ -151,31 +151,31 @@ pub note_plan : (objects : List ObjectDecl) (id : LetterId) (letter : Letter)
     → IsPlanFor objects id letter first now plan
 note_plan objects id letter first core now learnt note change plan from counts received goes_on same
     made ruled_so stands = record {
-  before = received.before;
-  learnt = subst IsKnowledge received.known received.after;
-  heard =
-      subst (IsHeard (Some mail) load old.know) (sym made.heard)
-      (received.news ∙ ap (λ (k : Knowledge). news k old.know) received.known);
-  step = λ new is.
-      let at = stands new (as_made new is) in
-      record {
-        number = at.0.number ∙ same.number;
-        next = λ history through rep may. is_next history through rep may;
-        represents = λ history through rep may.
-            subst (λ (e : Event). Represents objects
+      before = received.before;
+      learnt = subst IsKnowledge received.known received.after;
+      heard =
+          subst (IsHeard (Some mail) load old.know) (sym made.heard)
+          (received.news ∙ ap (λ (k : Knowledge). news k old.know) received.known);
+      step = λ new is.
+          let at = stands new (as_made new is) in
+          record {
+            number = at.0.number ∙ same.number;
+            next = λ history through rep may. is_next history through rep may;
+            represents = λ history through rep may.
+                subst (λ (e : Event). Represents objects
                 (record { event = e; mail = Some mail; load = load } ∷ history) new)
-            (sym (is_next history through rep may))
-            (heard_keeps objects history id mail load old new
-              (ap (λ (d : Did). d.deeds) (ruled_so history through rep may))
-            (has_heard new at.0 may.addressed) (at.1 history through rep may) counts from through
-            may rep);
-      };
-  letters = λ new is. made.letters ∙ ap (λ (e : Event). letters_of new e.sent) (sym event_is);
-  recorded = λ history logged holds through rep may keeps given held.
-      recorded_none objects history (Some mail) logged holds plan first_informs
-      (ap (λ (e : Event). e.deeds) event_is ∙ append-nil first_informs) made.adds
-      (informs_add old.number (told_in_order load.know) old.know);
-}
+                (sym (is_next history through rep may))
+                (heard_keeps objects history id mail load old new
+                (ap (λ (d : Did). d.deeds) (ruled_so history through rep may))
+                (has_heard new at.0 may.addressed) (at.1 history through rep may) counts from through
+                may rep);
+          };
+      letters = λ new is. made.letters ∙ ap (λ (e : Event). letters_of new e.sent) (sym event_is);
+      recorded = λ history logged holds through rep may keeps given held.
+          recorded_none objects history (Some mail) logged holds plan first_informs
+          (ap (λ (e : Event). e.deeds) event_is ∙ append-nil first_informs) made.adds
+          (informs_add old.number (told_in_order load.know) old.know);
+    }
   where
     old : Node
     old = answers first
@@ -203,16 +203,16 @@ note_plan objects id letter first core now learnt note change plan from counts r
     is_next history through rep may =
         event_is
         ∙ (λ i. event_of old.number (Some id)
-          (new_informs old.number (told_in_order load.know) (rep.knowledge i))
-          (sym (ruled_so history through rep may) i))
+        (new_informs old.number (told_in_order load.know) (rep.knowledge i))
+        (sym (ruled_so history through rep may) i))
 
     as_made : (new : Node) → Stands plan.change plan.heard now.knowing.known (answers now) new
         → Stands change (Some learnt.heard) now.knowing.known (answers now) new
     as_made new is =
         subst (λ (c : Change). Stands c (Some learnt.heard) now.knowing.known (answers now) new)
-            made.change
+        made.change
         (subst (λ (h : Option Heard). Stands plan.change h now.knowing.known (answers now) new)
-          made.heard is)
+        made.heard is)
 
     has_heard : (new : Node)
         → HasLearnt (Some learnt.heard) now.knowing.known (answers now)
@@ -225,13 +225,13 @@ note_plan objects id letter first core now learnt note change plan from counts r
       places =
           has.places_are ∙ received.places
           ∙ (λ i. noted_at (addressed i) (length (sym (has.know ∙ goes_on) i).outcomes) old.places
-            letter.from load);
+          letter.from load);
       actions = subst (tranman.AreSame old.actions) (sym has.actions) same.actions;
       server =
           subst (λ (k : Knowledge). server.AreInformed (knows_abort k) (knows_commit k) old.server
-              new.server)
+          new.server)
           (received.news ∙ ap (λ (k : Knowledge). news k old.know) (sym (has.know ∙ goes_on)))
           (informed_before (knows_abort learnt.heard.news) (knows_commit learnt.heard.news)
-            old.server
+          old.server
           (answers now).server new.server same.server has.server);
     }

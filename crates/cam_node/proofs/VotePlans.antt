@@ -63,7 +63,7 @@ weighed_as : (letter : Letter) (first core : Core) (learnt : Learnt) (f : Name) 
     (deps (answers first).actions f) ≡ r
 weighed_as letter first core learnt f n agrees r received is =
     sym (is ∙ (λ i. voted_by (received.families i) (yes f letter.from n) agrees
-      (deps (received.actions i) f)))
+    (deps (received.actions i) f)))
 
 -- a node that answers as another but for the room of its families
 pub with_families : (old mid : Node) (families : Families) → AreSame old mid
@@ -92,8 +92,8 @@ rule_late objects id letter first core learnt f n agrees body received over hist
     vote_is objects (answers first) id (mail_on letter) (load_on letter) f n agrees body history
     through rep may
     ∙ ap (λ (t : Bool). voted_at first.number t (deps (answers first).actions f)
-      (answers first).families
-      letter.from f n agrees) (over_as letter first core learnt f true received over)
+    (answers first).families
+    letter.from f n agrees) (over_as letter first core learnt f true received over)
 
 pub rule_weighed : (objects : List ObjectDecl) (id : LetterId) (letter : Letter) (first core : Core)
     (learnt : Learnt) (f : Name) (n : ℕ) (agrees : Bool) (r : Voted)
@@ -108,10 +108,10 @@ rule_weighed objects id letter first core learnt f n agrees r body received in_t
     vote_is objects (answers first) id (mail_on letter) (load_on letter) f n agrees body history
     through rep may
     ∙ ap (λ (t : Bool). voted_at first.number t (deps (answers first).actions f)
-      (answers first).families
-      letter.from f n agrees) (over_as letter first core learnt f false received in_time)
+    (answers first).families
+    letter.from f n agrees) (over_as letter first core learnt f false received in_time)
     ∙ ap (weighed first.number (deps (answers first).actions f) f)
-      (weighed_as letter first core learnt f n agrees r received is)
+    (weighed_as letter first core learnt f n agrees r received is)
 
 -- the families stay
 stays : (objects : List ObjectDecl) (id : LetterId) (letter : Letter) (first core : Core)
@@ -132,8 +132,8 @@ stays objects id letter first core learnt f n agrees body received late new has 
     server = has.server;
   },
   late_families objects (answers first) id (mail_on letter) (load_on letter) f n agrees new.families
-  body late
-  (subst (commit.AreSame (answers first).families) (sym has.families) received.same.families),
+      body late
+      (subst (commit.AreSame (answers first).families) (sym has.families) received.same.families),
 )
 
 pub over_plan : (objects : List ObjectDecl) (id : LetterId) (letter : Letter) (first core : Core)
@@ -154,7 +154,7 @@ over_plan objects id letter first core learnt f n agrees doing plan from body re
 -- a vote that is late by what the families answer is for one that is not being prepared
 not_begun : (p agrees last : Bool)
     → (if not p then voted.Late else if not agrees then voted.No else if last then voted.All else
-      voted.Some)
+    voted.Some)
     ≡ voted.Late → p ≡ false
 not_begun false agrees last is = refl
 not_begun true false last is = cc
@@ -175,7 +175,7 @@ late_plan objects id letter first core learnt f n agrees doing plan from body re
     (subst HasCounts (sym body) tt) received refl received.same
     (subst (λ (d : Doing). IsMade core id learnt d plan) does made)
     (rule_weighed objects id letter first core learnt f n agrees voted.Late body received in_time
-      is)
+    is)
     (stays objects id letter first core learnt f n agrees body received
     (inr (not_begun ((answers first).families.is_preparing f) agrees
     (is_last (answers first).families (yes f letter.from n) (deps (answers first).actions f))
@@ -208,11 +208,11 @@ counts_same one other new f m n agrees counts same voted_so = record {
   preparing = λ g.
       voted_so.preparing g
       ∙ (λ i. if ends (weigh_same one other f m n agrees counts same i) && name_eq f g then false
-        else same.preparing g i);
+      else same.preparing g i);
   votes = λ g k c.
       voted_so.votes g k c
       ∙ (λ i. (same.preparing f i && (agrees && yes_eq (yes f m n) (yes g k c))) || same.votes g k c
-        i);
+      i);
   secured = λ g. voted_so.secured g ∙ same.secured g;
 }
 
@@ -227,7 +227,7 @@ pub counted_plan : (objects : List ObjectDecl) (id : LetterId) (letter : Letter)
     → false ≡ is_over core.count core.knowing.known vote.family
     → voted.Some
     ≡ voted_by (answers core).families (yes vote.family letter.from vote.count) vote.yes
-      (deps (answers core).actions vote.family)
+    (deps (answers core).actions vote.family)
     → doing ≡ counting vote → IsMade now id learnt doing plan
     → IsPlanFor objects id letter first now plan
 counted_plan objects id letter first core now learnt vote doing plan from body node depends received
@@ -236,7 +236,7 @@ counted_plan objects id letter first core now learnt vote doing plan from body n
     (subst HasCounts (sym body) tt) received goes_on same
     (subst (λ (d : Doing). IsMade now id learnt d plan) does made)
     (rule_weighed objects id letter first core learnt vote.family vote.count vote.yes voted.Some
-      body received in_time is)
+    body received in_time is)
     (λ new at. (heard new at, counted new at))
   where
     old : Node
@@ -248,7 +248,7 @@ counted_plan objects id letter first core now learnt vote doing plan from body n
         (record new { families = (answers now).families })
     heard new at =
         subst (λ (x : Node). HasLearnt (Some learnt.heard) now.knowing.known (answers now)
-            (record x { families = (answers now).families }))
+        (record x { families = (answers now).families }))
         (sym at.2.rest)
         (record {
           number = at.1.number;
@@ -268,12 +268,12 @@ counted_plan objects id letter first core now learnt vote doing plan from body n
         vote.yes new.families body
         (over_as letter first core learnt vote.family false received in_time)
         (counts_same old.families at.0.families new.families vote.family letter.from vote.count
-          vote.yes
+        vote.yes
         (deps old.actions vote.family)
         (subst (commit.AreSame old.families) (sym at.1.families) same.families)
         (subst (λ (m : ℕ). IsVoted (yes vote.family m vote.count) vote.yes
         (voted_by at.0.families (yes vote.family m vote.count) vote.yes
-          (deps old.actions vote.family)) at.0.families new.families) node
+        (deps old.actions vote.family)) at.0.families new.families) node
         (subst (λ (ds : List ℕ). IsVoted (yes vote.family vote.node vote.count) vote.yes
         (voted_by at.0.families (yes vote.family vote.node vote.count) vote.yes ds) at.0.families
         new.families)
