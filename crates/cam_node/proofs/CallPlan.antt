@@ -28,12 +28,14 @@ use Rattle.cam_node.specs.Calls.{answers, mail_on, letter_as, letters_of}
 use Rattle.cam_node.specs.Opened.{IsKnowledge}
 use Rattle.cam_node.specs.Plans.{Stands, IsHeard, IsPlanFor, MayStand, MayChange, HasRoom}
 use Rattle.cam_node.specs.Plans.{places_heard}
+use Rattle.cam_node.specs.PlanOrder.{KeepsOrderFor}
 use Rattle.cam_node.specs.Planning.{HasReceived, IsMade}
 use Rattle.cam_node.specs.Served.{IsCallOn, ChangesTo, IsDone, CallStands}
 use Rattle.cam_node.proofs.CallComes.{call_comes}
 use Rattle.cam_node.proofs.NothingAdded.{both_add, informs_add}
 use Rattle.cam_node.proofs.PlanMade.{recorded_none}
 use Rattle.cam_node.proofs.CallDeeds.{calls_add}
+use Rattle.cam_node.proofs.CallOrder.{stood_order}
 use Rattle.cam_node.proofs.CallStands.{call_stands, knows_then}
 
 -- it may stand
@@ -57,7 +59,59 @@ call_may plan id letter first core learnt doing asked done received is made = re
     by (inl tested) = subst (λ (c : Change). MayChange c (Some learnt.heard) core) (sym tested.0) tt
     by (inr served) = subst (λ (c : Change). MayChange c (Some learnt.heard) core) (sym served.1) tt
 
--- and is planned.
+-- what its event is, and what that makes of the node
+call_event : (id : LetterId) (letter : Letter) (first core : Core) (learnt : Learnt)
+    (doing : Doing) (plan : Plan) (asked : Asked) (done : Performed)
+    → HasReceived letter first core learnt
+    → IsDone learnt.heard.news core.knowing.known asked (answers core).server doing done
+    → IsMade core id learnt doing plan
+    → plan.stepped.event
+    ≡ event_of (answers first).number (Some id)
+    (new_informs (answers first).number (told_in_order letter.know) (answers first).know)
+    (did_performed asked done)
+call_event id letter first core learnt doing plan asked done received is made =
+    made.event
+    ∙ (λ i. event_of (received.same.number i) (Some id) (received.informs i) (is.did i))
+
+as_made : (id : LetterId) (core : Core) (learnt : Learnt) (doing : Doing) (plan : Plan)
+    (new : Node) → IsMade core id learnt doing plan
+    → Stands plan.change plan.heard core.knowing.known (answers core) new
+    → Stands doing.change (Some learnt.heard) core.knowing.known (answers core) new
+as_made id core learnt doing plan new made stands =
+    subst (λ (c : Change). Stands c (Some learnt.heard) core.knowing.known (answers core) new)
+    made.change
+    (subst (λ (h : Option Heard). Stands plan.change h core.knowing.known (answers core) new)
+    made.heard stands)
+
+call_then : (id : LetterId) (letter : Letter) (first core : Core) (learnt : Learnt)
+    (doing : Doing) (plan : Plan) (asked : Asked) (done : Performed) → IsCallOn letter asked
+    → HasReceived letter first core learnt
+    → IsDone learnt.heard.news core.knowing.known asked (answers core).server doing done
+    → IsMade core id learnt doing plan
+    → (new : Node) → Stands plan.change plan.heard core.knowing.known (answers core) new
+    → CallStands (mail_on letter) (load_on letter) asked done (answers first) new
+call_then id letter first core learnt doing plan asked done call received is made new stands =
+    call_stands (mail_on letter) (load_on letter) asked done (answers first)
+    (answers core) new learnt.heard core.knowing.known doing.change received.same
+    (record { knows = received.known; news = received.news; places = received.places }) call
+    is.change
+    (as_made id core learnt doing plan new made stands)
+
+-- The order of what the log holds and of what is live goes on with it,
+pub call_order : (objects : List ObjectDecl) (id : LetterId) (letter : Letter) (first core : Core)
+    (learnt : Learnt) (doing : Doing) (plan : Plan)
+    (asked : Asked) (done : Performed) → IsCallOn letter asked
+    → HasReceived letter first core learnt
+    → IsDone learnt.heard.news core.knowing.known asked (answers core).server doing done
+    → IsMade core id learnt doing plan
+    → KeepsOrderFor objects id letter first core plan
+call_order objects id letter first core learnt doing plan asked done call received is made =
+    stood_order objects id letter first core asked done plan
+    (call_event id letter first core learnt doing plan asked done received is made)
+    (made.adds ∙ is.adds)
+    (call_then id letter first core learnt doing plan asked done call received is made)
+
+-- and it is planned.
 pub call_plan : (objects : List ObjectDecl) (id : LetterId) (letter : Letter) (first core : Core)
     (learnt : Learnt) (doing : Doing) (plan : Plan)
     (asked : Asked) (done : Performed) → (1 ≤ letter.from) × (letter.from ≤ 8)
@@ -73,11 +127,14 @@ call_plan objects id letter first core learnt doing plan asked done from call re
           subst (IsHeard (Some mail) load old.know) (sym made.heard)
           (received.news ∙ ap (λ (k : Knowledge). news k old.know) received.known);
       step = λ new stands. call_comes objects old new id mail load asked done plan.stepped.event from
-          event_is (stands_then new stands);
+          event_is
+          (call_then id letter first core learnt doing plan asked done call received is made new
+          stands);
       letters = λ new stands.
           let has =
           knows_then learnt.heard.news core.knowing.known asked done
-          (answers core) new learnt.heard doing.change is.change (as_made new stands) in
+          (answers core) new learnt.heard doing.change is.change
+          (as_made id core learnt doing plan new made stands) in
           made.letters
           ∙ (λ i. map (letter_as (sym has.know i) (sym has.places_are i) (sym has.number i)
           (sym has.count i)) doing.did.sent)
@@ -104,22 +161,4 @@ call_plan objects id letter first core learnt doing plan asked done from call re
 
     event_is : plan.stepped.event ≡ event_of old.number (Some id) first_informs
         (did_performed asked done)
-    event_is = made.event ∙ (λ i. event_of (received.same.number i) (Some id) (received.informs i)
-        (is.did i))
-
-    as_made : (new : Node) → Stands plan.change plan.heard core.knowing.known (answers core) new
-        → Stands doing.change (Some learnt.heard) core.knowing.known (answers core) new
-    as_made new stands =
-        subst (λ (c : Change). Stands c (Some learnt.heard) core.knowing.known (answers core) new)
-        made.change
-        (subst (λ (h : Option Heard). Stands plan.change h core.knowing.known (answers core) new)
-        made.heard stands)
-
-    stands_then : (new : Node) → Stands plan.change plan.heard core.knowing.known (answers core) new
-        → CallStands mail load asked done old new
-    stands_then new stands =
-        call_stands mail load asked done old
-        (answers core) new learnt.heard core.knowing.known doing.change received.same
-        (record { knows = received.known; news = received.news; places = received.places }) call
-        is.change
-        (as_made new stands)
+    event_is = call_event id letter first core learnt doing plan asked done received is made

@@ -26,7 +26,7 @@ use Rattle.cam_node.specs.Served.{CallStands}
 use Rattle.cam_node.proofs.Informed.{known_is_informed}
 
 -- the server between, and what the node goes by then
-at_site : (objects : List ObjectDecl) (history : List Received) (mail : Mail) (load : Load)
+pub at_site : (objects : List ObjectDecl) (history : List Received) (mail : Mail) (load : Load)
     (asked : Asked) (done : Performed) (old new : Node)
     (stands : CallStands mail load asked done old new) → IsThrough objects old.number history
     → Represents objects history old
@@ -57,7 +57,7 @@ at_site objects history mail load asked done old new stands through rep =
         (rep.knowledge i))
 
 -- what the site answered is by what the node knows then
-answered : (objects : List ObjectDecl) (history : List Received) (mail : Mail) (load : Load)
+pub answered : (objects : List ObjectDecl) (history : List Received) (mail : Mail) (load : Load)
     (asked : Asked) (done : Performed) (old new : Node)
     (stands : CallStands mail load asked done old new) → Represents objects history old
     → done ≡ performed_by (both (known objects history) (told_in_order load.know))
