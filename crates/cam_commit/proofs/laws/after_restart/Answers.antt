@@ -1,5 +1,5 @@
 use Rattle.cam_commit.proofs.Recovering.{recovers_families}
-use Rattle.cam_commit.proofs.after_restart.Goals as goal
+use Rattle.cam_commit.proofs.laws.after_restart.Goals as goal
 
 pub returns : goal.returns
 returns c = recovers_families

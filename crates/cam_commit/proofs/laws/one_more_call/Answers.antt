@@ -1,5 +1,5 @@
 use Rattle.cam_commit.proofs.Calling.{quiet_keeps, prepare_keeps, vote_keeps, secure_keeps}
-use Rattle.cam_commit.proofs.one_more_call.Goals as goal
+use Rattle.cam_commit.proofs.laws.one_more_call.Goals as goal
 
 pub returns-clause-none : goal.returns-clause-none
 returns-clause-none c = quiet_keeps

@@ -1,7 +1,7 @@
 use Rattle.cam_commit.proofs.Stepping.{vote_step_keeps}
 use Rattle.cam_commit.proofs.PrepareSteps.{prepare_step_keeps, finish_step_keeps}
 use Rattle.cam_commit.proofs.OtherSteps.{other_step_keeps}
-use Rattle.cam_commit.proofs.one_more_step.Goals as goal
+use Rattle.cam_commit.proofs.laws.one_more_step.Goals as goal
 
 pub returns-clause-finish : goal.returns-clause-finish
 returns-clause-finish c = finish_step_keeps

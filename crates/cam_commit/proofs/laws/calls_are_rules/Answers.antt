@@ -1,6 +1,6 @@
 use Rattle.cam_commit.proofs.Sights.{sight_is_answered}
 use Rattle.cam_commit.proofs.RuleCalls.{top_finish_is_rule, top_quit_is_rule, asked_is_rule, voted_is_rule, queried_is_rule}
-use Rattle.cam_commit.proofs.calls_are_rules.Goals as goal
+use Rattle.cam_commit.proofs.laws.calls_are_rules.Goals as goal
 
 pub returns-clause-sight : goal.returns-clause-sight
 returns-clause-sight c = sight_is_answered
