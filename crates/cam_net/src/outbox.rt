@@ -1,5 +1,5 @@
 //! Letters that are put next.
-ghost use Rattle.std.specs.Prelude.{◌≡◌, ◌<◌, [], length, eqb, false, OnOk};
+ghost use Rattle.std.specs.Prelude.{◌≡◌, ◌<◌, [], length, eqb, false, OnOk, OnErr};
 ghost use Rattle.std.specs.List.{AllByRecursion};
 ghost use Rattle.cam_wire.specs.Writable.{IsWritable};
 ghost use Rattle.cam_net.specs.Letters.{has_letter, changed, as_lost, as_delivered};
@@ -66,11 +66,13 @@ impl Outbox {
         self.put == self.letters.len()
     }
 
-    /// Puts all of them. `NoMemory`: memory ran out, and some may have been put, the first ones; the others are put next.
+    /// Puts all of them. `NoMemory`: memory ran out, and some may have been put, the first
+    /// ones; the others are put next, one at least.
     pub fn put_all(&mut self) -> Result<(), NoMemory>
         requires { AllByRecursion IsWritable self.old.unput }
         ensures some { HasPutSome self.old self.new }
         ensures all { OnOk result (self.new.unput ≡ []) }
+        ensures left { OnErr result (0 < length self.new.unput) }
     {
         while !self.is_empty() {
             self.put_next()?;
@@ -85,6 +87,7 @@ impl Outbox {
         ensures some { HasPutSome self.old self.new }
         ensures writable { AllByRecursion IsWritable self.new.unput }
         ensures fewer { OnOk result (length self.new.unput < length self.old.unput) }
+        ensures same { OnErr result (self.new ≡ self.old) }
     {
         // Only for the proof: their number fits a machine's.
         let _many = self.letters.len();
