@@ -42,9 +42,9 @@ use Rattle.cam_node.specs.Opened.{IsKnowledge}
 use Rattle.cam_node.specs.Requests.{wanted_by}
 use Rattle.cam_node.specs.Stepping.{sight_before}
 use Rattle.cam_node.specs.Decides.{HasDecided, IsDecided}
-use Rattle.cam_node.specs.GivingUp.{IsGivenUp}
+use Rattle.cam_node.specs.GivingUp.{giving_up, IsGivenUp}
 use Rattle.cam_node.specs.Plans.{HasLearnt, Stands, IsPlan, MayChange, MayStand}
-use Rattle.cam_node.proofs.StoppedPlan.{giving_up, told_nothing}
+use Rattle.cam_node.proofs.StoppedPlan.{told_nothing}
 use Rattle.cam_node.proofs.HomePlans.{informed_before}
 use Rattle.cam_node.proofs.Requested.{request_is}
 use Rattle.cam_node.proofs.Decides.{decides_keep}

@@ -9,7 +9,6 @@ use Rattle.cam_know.specs.declared.Reason.{Reason}
 use Rattle.cam_event.specs.declared.Event.{Event}
 use Rattle.cam_event.specs.declared.Note.TheVariants as notes
 use Rattle.cam_event.specs.declared.Want.TheVariants as wants
-use Rattle.cam_event.specs.Inputs.{Input, Requests}
 use Rattle.cam_event.specs.Rules.{nothing_but}
 use Rattle.cam_event.specs.ByPast.{event_of}
 use Rattle.cam_event.specs.ByKnowledge.{deeds_of, site}
@@ -25,16 +24,13 @@ use Rattle.cam_node.specs.Represents.{Node}
 use Rattle.cam_node.specs.Halting.{IsStepThrough}
 use Rattle.cam_node.specs.Calls.{letters_of}
 use Rattle.cam_node.specs.Entries.{AreHoldings, deed_records}
+use Rattle.cam_node.specs.GivingUp.{giving_up}
 use Rattle.cam_node.specs.Opened.{IsKnowledge}
 use Rattle.cam_node.specs.Plans.{HasLearnt, Stands, IsPlan, as_list}
 use Rattle.cam_node.proofs.Nothing.{both_nothing}
 use Rattle.cam_node.proofs.Idle.{node_same}
 use Rattle.cam_node.proofs.Requested as requested
 use Rattle.cam_node.proofs.Requested.{request_is}
-
--- the request
-abbrev pub giving_up : Name → Name → Input
-giving_up a b = Requests (record { action = a; want = wants.GiveUp b })
 
 -- One that is told nothing knows what it knew.
 pub told_nothing : (k : Knowledge) → IsKnowledge k → with_load k no_load ≡ k

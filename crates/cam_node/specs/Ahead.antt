@@ -60,6 +60,8 @@ IsForgotten None old new = new ≡ old
 IsForgotten (Some ahead) old new = IsTakenBack ahead old new
 
 -- then the node answers as before
+abbrev pub CanForget : Node → Node → Option Ahead → Type 0
+CanForget first now ahead = (new : Node) → IsForgotten ahead now new → AreSame first new
+
 abbrev pub MayBeForgotten : Node → Node → Change → Type 0
-MayBeForgotten first now change = (new : Node) → IsForgotten (ahead_of change) now new
-    → AreSame first new
+MayBeForgotten first now change = CanForget first now (ahead_of change)

@@ -13,13 +13,6 @@ use Rattle.cam_node.specs.declared.Input.{Input}
 use Rattle.cam_node.specs.declared.Input.TheVariants as inputs
 use Rattle.cam_node.specs.Represents.{Node}
 
-abbrev pub is_built_want : Want → Bool
-is_built_want (wants.Ask m) = true
-is_built_want (wants.Call x op) = true
-is_built_want (wants.Commit v) = true
-is_built_want wants.Abort = true
-is_built_want _ = false
-
 abbrev pub is_built_body : Body → Bool
 is_built_body (bodies.Start b counts) = true
 is_built_body (bodies.Answer a n reply) = true
@@ -29,13 +22,7 @@ is_built_body (bodies.Vote f c agrees) = true
 is_built_body bodies.News = true
 is_built_body _ = false
 
--- no letter comes
-abbrev pub is_own : Input → Bool
-is_own (inputs.Letter id letter) = false
-is_own _ = true
-
 abbrev pub is_built : Input → Bool
-is_built (inputs.Request request) = is_built_want request.want
 is_built (inputs.Letter id letter) = is_built_body letter.body
 is_built _ = true
 

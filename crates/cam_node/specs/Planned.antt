@@ -1,11 +1,13 @@
--- The entry of an event that may stand.
-use Rattle.std.specs.Prelude.{◌≡◌, ℕ, List, [], ◌++◌, map, Option, Some, None}
+-- The entry of an event that may stand, and when its plan may be carried out.
+use Rattle.std.specs.Prelude.{◌≡◌, ◌≤◌, ℕ, false, List, [], ◌++◌, map, Option, Some, None}
 use Rattle.cam_type.specs.declared.ObjectDecl.{ObjectDecl}
+use Rattle.cam_know.specs.Knowledge.{Knowledge}
 use Rattle.cam_event.specs.declared.Event.{Event}
 use Rattle.cam_event.specs.Inputs.{Input, Mail}
 use Rattle.cam_event.specs.ByKnowledge.{deeds_of, site}
 use Rattle.cam_event.specs.Loads.{Load}
 use Rattle.cam_event.specs.ByDeltas.{Received, as_carried}
+use Rattle.cam_commit.specs.Steps.{is_restarting}
 use Rattle.cam_recman.specs.declared.Record.{Record}
 use Rattle.cam_recman.specs.Versions.{IsOf}
 use Rattle.cam_recman.specs.Writable.{IsWritable}
@@ -13,7 +15,7 @@ use Rattle.cam_node.specs.declared.knowing.Heard.{Heard}
 use Rattle.cam_node.specs.declared.plan.Plan.{Plan}
 use Rattle.cam_node.specs.Entries.{Holding, entry_records, news_records, AreHoldings}
 use Rattle.cam_node.specs.Keeping.{KeepsNode, MayBePutThen}
-use Rattle.cam_node.specs.Plans.{as_list}
+use Rattle.cam_node.specs.Plans.{as_list, IsPlan}
 use Rattle.cam_node.specs.Represents.{Node}
 
 -- These records are the entry of the event, after each history for which the node and its log
@@ -48,3 +50,19 @@ planned_records counts plan = heard_records counts plan.heard ++ as_list plan.ad
 abbrev pub MayBeAdded : Option Record → Type 0
 MayBeAdded None = Unit {0}
 MayBeAdded (Some one) = IsWritable one × IsOf 2 one
+
+-- A plan that may be carried out: it is that of this input, which is no restart, put to one of the
+-- eight nodes as it was; and what stands of what it knows has stayed since.
+pub record MayBeTaken (objects : List ObjectDecl) (input : Input) (mail : Option Mail) (load : Load)
+    (plan : Plan) (known : Knowledge) (old mid : Node) : Type 0 where
+  pub planned : IsPlan objects input mail load plan known old mid
+  pub node : (1 ≤ old.number) × (old.number ≤ 8)
+  pub know : mid.know ≡ old.know
+  pub goes_on : is_restarting input ≡ false
+
+-- what is owed of each input and each node whose plan it may be
+abbrev pub ForEachInput : List ObjectDecl → Plan → Knowledge → Node
+    → (Input → Option Mail → Load → Node → Type 0) → Type 0
+ForEachInput objects plan known mid Owes =
+    (input : Input) (mail : Option Mail) (load : Load) (old : Node)
+    → MayBeTaken objects input mail load plan known old mid → Owes input mail load old

@@ -3,12 +3,12 @@
 ghost use Rattle.std.specs.Prelude.{◌≡◌, List, None, IfOk};
 ghost use Rattle.cam_type.specs.declared.ObjectDecl.{ObjectDecl};
 ghost use Rattle.cam_event.specs.declared.Want.TheVariants as wants;
-ghost use Rattle.cam_event.specs.Inputs.{Requests};
 ghost use Rattle.cam_event.specs.Loads.{no_load};
 ghost use Rattle.cam_tranman.specs.Calls.{IsFree};
 ghost use Rattle.cam_comman.specs.Letters.{IsWithin};
 ghost use Rattle.cam_node.specs.Calls.{answers, AreSame};
-ghost use Rattle.cam_node.specs.GivingUp.{IsGivenUp};
+ghost use Rattle.cam_node.specs.GivingUp.{giving_up, IsGivenUp};
+ghost use Rattle.cam_node.specs.Planned.{MayBeAdded};
 ghost use Rattle.cam_node.specs.Plans.{IsPlan, MayStand};
 
 use crate::deciding::add_decision;
@@ -28,9 +28,10 @@ impl Core {
         requires { IsFree (answers self.old).actions action.now (wants.GiveUp child.now) }
         ensures same { AreSame (answers self.old) (answers self.new) }
         ensures plan { (objects : List ObjectDecl) → IfOk result (λ plan. IsPlan objects
-            (Requests (record { action = action.now; want = wants.GiveUp child.now })) None no_load
-            plan self.new.knowing.known (answers self.old) (answers self.new)) }
+            (giving_up action.now child.now) None no_load plan
+            self.new.knowing.known (answers self.old) (answers self.new)) }
         ensures may { IfOk result (λ plan. MayStand plan self.new) }
+        ensures adds { IfOk result (λ plan. MayBeAdded plan.adds) }
     {
         self.settle()?;
         is_knowledge(self.knowing.know());

@@ -61,7 +61,6 @@ fn is_built(input: &Input) -> bool
     ensures { result ≡ is_built input.now }
 {
     match input {
-        Input::Request(request) => !matches!(request.want, Want::GiveUp(_)),
         Input::Letter(_, letter) => {
             matches!(
                 letter.body,
@@ -73,7 +72,7 @@ fn is_built(input: &Input) -> bool
                     | Body::News
             )
         }
-        Input::Begin | Input::Tell(_) | Input::Query(_) => true,
+        Input::Begin | Input::Request(_) | Input::Tell(_) | Input::Query(_) => true,
     }
 }
 

@@ -4,8 +4,6 @@
 ghost use Rattle.std.specs.Prelude.{◌≡◌, ◌≤◌, List, Some, None, IsTrue, IsFalse, OnOk, OnErr, IfOk, IsErrOf, All, ◌++◌};
 ghost use Rattle.cam_base.specs.Causes.{Rose};
 ghost use Rattle.cam_ckpt.specs.Moments.{IsOldOrNew};
-ghost use Rattle.cam_comman.specs.Letters.{load_on};
-ghost use Rattle.cam_event.specs.Inputs.{Receives};
 ghost use Rattle.cam_log.specs.Moments.{Grows, Stays};
 ghost use Rattle.cam_recman.specs.declared.Recovered.{Recovered as Recovery};
 ghost use Rattle.cam_recman.specs.Ranges.{AreRecords};
@@ -14,13 +12,14 @@ ghost use Rattle.cam_recman.specs.Says.{Says};
 ghost use Rattle.cam_recman.specs.Versions.{AreOf};
 ghost use Rattle.cam_recman.specs.Writable.{IsWritable};
 ghost use Rattle.cam_node.specs.declared.fault.NodeFault.TheVariants.{DiskFault};
-ghost use Rattle.cam_node.specs.Built.{MayStep, is_built, is_built_body, is_own};
-ghost use Rattle.cam_node.specs.Calls.{answers, input_of, letters_of, load_of, mail_of, mail_on, AreSame};
+ghost use Rattle.cam_node.specs.Built.{MayStep, is_built};
+ghost use Rattle.cam_node.specs.Calls.{answers, input_of, letters_of, load_of, mail_of, AreSame};
 ghost use Rattle.cam_node.specs.Halting.{IsStepThrough};
 ghost use Rattle.cam_node.specs.Keeping.{IsHalt, KeepsOn};
 ghost use Rattle.cam_node.specs.Opened.{IsKnowledge, MayRead, with_entry_of};
 ghost use Rattle.cam_node.specs.Planned.{heard_records, planned_records, MayBeAdded};
 ghost use Rattle.cam_node.specs.Plans.{as_list, MayStand, Stands};
+ghost use Rattle.cam_node.specs.Unlogged.{is_unlogged};
 
 use crate::fault::NodeFault;
 use crate::knowing::Heard;
@@ -31,7 +30,7 @@ use crate::state::Core;
 use crate::{Input, Stepped};
 use cam_base::NoMemory;
 use cam_ckpt::CheckpointLog;
-use cam_event::{Letter, LetterId};
+use cam_event::Want;
 use cam_recman::{Record, Records};
 
 impl Core {
@@ -132,15 +131,18 @@ impl<L: CheckpointLog> Node<L> {
     {
         match input {
             Input::Letter(id, letter) => self.letter(id, letter),
-            Input::Begin | Input::Request(_) | Input::Tell(_) | Input::Query(_) => self.own(input),
+            Input::Request(request) => match &request.want {
+                Want::GiveUp(child) => self.give_up(&request.action, child),
+                Want::Ask(_) | Want::Call(_, _) | Want::Commit(_) | Want::Abort => self.own(input),
+            },
+            Input::Begin | Input::Tell(_) | Input::Query(_) => self.own(input),
         }
     }
 
     /// The node's own step that decides nothing. No entry is due, and nothing of the log changes.
     fn own(&mut self, input: &Input) -> Result<Stepped, NodeFault>
         requires running { IsFalse self.old.log.halted }
-        requires own { IsTrue (is_own input.now) }
-        requires built { IsTrue (is_built input.now) }
+        requires own { IsTrue (is_unlogged (input_of self.old.core.number input.now)) }
         requires may { MayStep (answers self.old.core) input.now }
         ensures step { IfOk result (λ stepped. IsStepThrough self.old.objects
             (answers self.old.core) (answers self.new.core) (input_of self.old.core.number
@@ -171,7 +173,7 @@ impl<L: CheckpointLog> Node<L> {
     /// the node is halted its log may have the
     /// entry, and its parts stand with the event, which is not told. After an error without a halt
     /// nothing has happened.
-    fn take(&mut self, plan: Plan) -> Result<Stepped, NodeFault>
+    pub(crate) fn take(&mut self, plan: Plan) -> Result<Stepped, NodeFault>
         requires running { IsFalse self.old.log.halted }
         requires may { MayStand plan self.old.core }
         requires adds { MayBeAdded plan.adds }
@@ -227,44 +229,5 @@ impl<L: CheckpointLog> Node<L> {
                 Err(fault)
             }
         }
-    }
-
-    /// A letter comes of which the step is built.
-    fn letter(&mut self, id: &LetterId, letter: &Letter) -> Result<Stepped, NodeFault>
-        requires running { IsFalse self.old.log.halted }
-        requires from { (1 ≤ letter.now.from) × (letter.now.from ≤ 8) }
-        requires body { IsTrue (is_built_body letter.now.body) }
-        ensures step { IfOk result (λ stepped. IsStepThrough self.old.objects
-            (answers self.old.core) (answers self.new.core)
-            (Receives id.now) (Some (mail_on letter.now)) (load_on letter.now) stepped.event) }
-        ensures letters { IfOk result (λ stepped.
-            stepped.letters ≡ letters_of (answers self.new.core) stepped.event.sent) }
-        ensures keeps { IfOk result (λ stepped. KeepsOn self.old.objects
-            (answers self.old.core) (L.listed self.old.log.log)
-            (answers self.new.core) (L.listed self.new.log.log)
-            (Receives id.now) (Some (mail_on letter.now)) (load_on letter.now) stepped.event) }
-        ensures runs { OnOk result (IsFalse self.new.log.halted) }
-        ensures same { OnErr result (IsFalse self.new.log.halted
-            → AreSame (answers self.old.core) (answers self.new.core)) }
-        ensures halt { IsTrue (L.tells self.old.log.log) → IsTrue self.new.log.halted
-            → IsHalt self.old.objects (answers self.old.core) (L.listed self.old.log.log)
-            (Receives id.now) (Some (mail_on letter.now)) (load_on letter.now)
-            (MayRead (L.opens_since self.new.log.log) (L.moment self.new.log.log)) }
-        ensures not_listed { OnErr result
-            (L.listed self.new.log.log ≡ L.listed self.old.log.log) }
-        ensures unchanged { OnErr result (IsFalse self.new.log.halted
-            → Stays (L.moment self.old.log.log) (L.moment self.new.log.log)
-            (L.opens_since self.old.log.log) (L.opens_since self.new.log.log)
-            (L.seen self.old.log.log) (L.seen self.new.log.log)
-            (L.faults self.old.log.log) (L.faults self.new.log.log)) }
-        ensures tells { L.tells self.new.log.log ≡ L.tells self.old.log.log }
-        ensures later { L.faults self.old.log.log ≤ L.faults self.new.log.log }
-        ensures disk_fault { IsErrOf result DiskFault
-            → Rose (L.faults self.old.log.log) (L.faults self.new.log.log)
-            × IsTrue self.new.log.halted }
-        ensures objects { self.new.objects ≡ self.old.objects }
-    {
-        let plan = self.core.comes(id, letter)?;
-        self.take(plan)
     }
 }

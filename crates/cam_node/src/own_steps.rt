@@ -1,12 +1,13 @@
 //! The node's own steps that decide nothing. They have no entry, so nothing of the disk is touched.
-ghost use Rattle.std.specs.Prelude.{◌≡◌, List, None, IsTrue, IfOk, OnErr};
+ghost use Rattle.std.specs.Prelude.{◌≡◌, List, None, IsTrue, IsFalse, IfOk, OnErr};
 ghost use Rattle.cam_event.specs.Loads.{no_load};
 ghost use Rattle.cam_type.specs.declared.ObjectDecl.{ObjectDecl};
 ghost use Rattle.cam_event.specs.Inputs.{Requests};
 ghost use Rattle.cam_tranman.specs.Calls.{IsFree};
-ghost use Rattle.cam_node.specs.Built.{HasNumber, MayStep, is_built, is_built_want, is_own};
+ghost use Rattle.cam_node.specs.Built.{HasNumber, MayStep};
 ghost use Rattle.cam_node.specs.Calls.{answers, input_of, letters_of, AreSame};
 ghost use Rattle.cam_node.specs.Halting.{IsStepThrough};
+ghost use Rattle.cam_node.specs.Unlogged.{gives_up, is_unlogged};
 
 use crate::state::Core;
 use crate::{Input, Stepped};
@@ -14,11 +15,10 @@ use cam_base::NoMemory;
 use cam_event::{Request, Want};
 
 impl Core {
-    /// A step of the node's own that decides nothing. It fails where memory runs out, and is then
-    /// as it was.
+    /// A step of the node's own that decides nothing, so that it has no entry. It fails where memory
+    /// runs out, and is then as it was.
     pub(crate) fn own(&mut self, input: &Input) -> Result<Stepped, NoMemory>
-        requires own { IsTrue (is_own input.now) }
-        requires built { IsTrue (is_built input.now) }
+        requires own { IsTrue (is_unlogged (input_of self.old.number input.now)) }
         requires may { MayStep (answers self.old) input.now }
         ensures step { (objects : List ObjectDecl) → IfOk result (λ stepped. IsStepThrough objects
             (answers self.old) (answers self.new)
@@ -40,7 +40,7 @@ impl Core {
     /// A request of an action whose home the node is. It fails where memory runs out, and is then
     /// as it was.
     fn request(&mut self, request: &Request) -> Result<Stepped, NoMemory>
-        requires built { IsTrue (is_built_want request.now.want) }
+        requires unlogged { IsFalse (gives_up request.now.want) }
         requires free { IsFree (answers self.old).actions request.now.action request.now.want }
         requires number { HasNumber (answers self.old) request.now.action request.now.want }
         ensures step { (objects : List ObjectDecl) → IfOk result (λ stepped. IsStepThrough objects

@@ -5,13 +5,14 @@ use Rattle.cam_know.specs.Knowledge.{Knowledge}
 use Rattle.cam_comman.specs.Letters.{IsWithin}
 use Rattle.cam_event.specs.Loads.{no_load}
 use Rattle.cam_node.specs.Calls.{answers}
-use Rattle.cam_node.specs.GivingUp.{IsGivenUp}
+use Rattle.cam_node.specs.GivingUp.{giving_up, IsGivenUp}
+use Rattle.cam_node.specs.Planned.{MayBeAdded}
 use Rattle.cam_node.specs.Opened.{IsKnowledge}
 use Rattle.cam_node.specs.Plans.{IsPlan, MayStand}
 use Rattle.cam_node.specs.Represents.{Node}
 use Rattle.cam_node.proofs.Idle.{same_of}
 use Rattle.cam_node.proofs.GiveUpPlan.{given_up_plan, given_up_may}
-use Rattle.cam_node.proofs.StoppedPlan.{giving_up, stopped_plan}
+use Rattle.cam_node.proofs.StoppedPlan.{stopped_plan}
 use Rattle.cam_node.proofs.state.Core.give_up.Goals as goal
 
 pub returns-in_err-settle-clause-same : goal.returns-in_err-settle-clause-same
@@ -63,4 +64,11 @@ returns-in-None-clause-may c =
     (λ plan made.
     given_up_may c.args.action.now c.args.child.now (answers c.args.self.now) c.settle.new.self c.gives_up.new.self plan c.settle.ensures.same
     c.requires made)
+    c.gives_up.ensures.given_up
+
+pub returns-in-None-clause-adds : goal.returns-in-None-clause-adds
+returns-in-None-clause-adds c =
+    IfOk-weaker c.gives_up.result (λ plan. IsGivenUp c.args.action.now c.args.child.now c.settle.new.self c.gives_up.new.self plan)
+    (λ plan. MayBeAdded plan.adds)
+    (λ plan made. subst MayBeAdded (sym made.adds) (tt, tt))
     c.gives_up.ensures.given_up

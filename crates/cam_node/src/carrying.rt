@@ -1,0 +1,77 @@
+//! A plan is carried out: its entry is forced to the log, and its event stands. Where it does not
+//! come to that, what went ahead for it is taken back.
+ghost use Rattle.std.specs.Prelude.{◌≡◌, ◌≤◌, IsTrue, IsFalse, OnOk, OnErr, IfOk, IsErrOf};
+ghost use Rattle.cam_base.specs.Causes.{Rose};
+ghost use Rattle.cam_log.specs.Moments.{Stays};
+ghost use Rattle.cam_node.specs.declared.fault.NodeFault.TheVariants.{DiskFault};
+ghost use Rattle.cam_node.specs.Ahead.{CanForget};
+ghost use Rattle.cam_node.specs.Calls.{answers, letters_of, AreSame};
+ghost use Rattle.cam_node.specs.Halting.{IsStepThrough};
+ghost use Rattle.cam_node.specs.Keeping.{IsHalt, KeepsOn};
+ghost use Rattle.cam_node.specs.Opened.{MayRead};
+ghost use Rattle.cam_node.specs.Planned.{ForEachInput, MayBeAdded};
+ghost use Rattle.cam_node.specs.Plans.{MayStand};
+ghost use Rattle.cam_node.specs.Represents.{Node as Parts};
+
+use crate::Stepped;
+use crate::call_ahead::Ahead;
+use crate::fault::NodeFault;
+use crate::node::Node;
+use crate::plan::Plan;
+use cam_ckpt::CheckpointLog;
+
+impl<L: CheckpointLog> Node<L> {
+    /// Carries out a plan. Of whichever input it is the plan: the event is that of the input's
+    /// rule, and node and log stand for the longer history. After an error without a halt nothing
+    /// has happened, and what went ahead is taken back.
+    pub(crate) fn carry_out(
+        &mut self,
+        plan: Plan,
+        ahead: &Option<Ahead>,
+    ) -> Result<Stepped, NodeFault>
+        requires running { IsFalse self.old.log.halted }
+        requires may { MayStand plan self.old.core }
+        requires adds { MayBeAdded plan.adds }
+        ensures step { ForEachInput self.old.objects plan self.old.core.knowing.known
+            (answers self.old.core) (λ input mail load before. IfOk result (λ stepped.
+            IsStepThrough self.old.objects before (answers self.new.core) input mail load
+            stepped.event)) }
+        ensures letters { ForEachInput self.old.objects plan self.old.core.knowing.known
+            (answers self.old.core) (λ input mail load before. IfOk result (λ stepped.
+            stepped.letters ≡ letters_of (answers self.new.core) stepped.event.sent)) }
+        ensures keeps { ForEachInput self.old.objects plan self.old.core.knowing.known
+            (answers self.old.core) (λ input mail load before. IfOk result (λ stepped.
+            KeepsOn self.old.objects before (L.listed self.old.log.log) (answers self.new.core)
+            (L.listed self.new.log.log) input mail load stepped.event)) }
+        ensures halt { IsTrue (L.tells self.old.log.log) → IsTrue self.new.log.halted
+            → ForEachInput self.old.objects plan self.old.core.knowing.known
+            (answers self.old.core) (λ input mail load before.
+            IsHalt self.old.objects before (L.listed self.old.log.log) input mail load
+            (MayRead (L.opens_since self.new.log.log) (L.moment self.new.log.log))) }
+        ensures runs { OnOk result (IsFalse self.new.log.halted) }
+        ensures same { (before : Parts) → CanForget before (answers self.old.core) ahead.now
+            → OnErr result (IsFalse self.new.log.halted
+            → AreSame before (answers self.new.core)) }
+        ensures not_listed { OnErr result
+            (L.listed self.new.log.log ≡ L.listed self.old.log.log) }
+        ensures unchanged { OnErr result (IsFalse self.new.log.halted
+            → Stays (L.moment self.old.log.log) (L.moment self.new.log.log)
+            (L.opens_since self.old.log.log) (L.opens_since self.new.log.log)
+            (L.seen self.old.log.log) (L.seen self.new.log.log)
+            (L.faults self.old.log.log) (L.faults self.new.log.log)) }
+        ensures tells { L.tells self.new.log.log ≡ L.tells self.old.log.log }
+        ensures later { L.faults self.old.log.log ≤ L.faults self.new.log.log }
+        ensures disk_fault { IsErrOf result DiskFault
+            → Rose (L.faults self.old.log.log) (L.faults self.new.log.log)
+            × IsTrue self.new.log.halted }
+        ensures objects { self.new.objects ≡ self.old.objects }
+    {
+        match self.take(plan) {
+            Ok(stepped) => Ok(stepped),
+            Err(fault) => {
+                self.core.forget(ahead);
+                Err(fault)
+            }
+        }
+    }
+}

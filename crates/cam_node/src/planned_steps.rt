@@ -1,0 +1,104 @@
+//! Steps whose events may have an entry: a letter comes, or an action gives up a child. The event is
+//! planned, and the plan carried out.
+ghost use Rattle.std.specs.Prelude.{◌≡◌, ◌≤◌, Some, None, IsTrue, IsFalse, OnOk, OnErr, IfOk, IsErrOf};
+ghost use Rattle.cam_base.specs.Causes.{Rose};
+ghost use Rattle.cam_comman.specs.Letters.{load_on};
+ghost use Rattle.cam_event.specs.Inputs.{Receives};
+ghost use Rattle.cam_event.specs.Loads.{no_load};
+ghost use Rattle.cam_event.specs.declared.Want.TheVariants as wants;
+ghost use Rattle.cam_log.specs.Moments.{Stays};
+ghost use Rattle.cam_tranman.specs.Calls.{IsFree};
+ghost use Rattle.cam_node.specs.declared.fault.NodeFault.TheVariants.{DiskFault};
+ghost use Rattle.cam_node.specs.Built.{is_built_body};
+ghost use Rattle.cam_node.specs.Calls.{answers, letters_of, mail_on, AreSame};
+ghost use Rattle.cam_node.specs.GivingUp.{giving_up};
+ghost use Rattle.cam_node.specs.Halting.{IsStepThrough};
+ghost use Rattle.cam_node.specs.Keeping.{IsHalt, KeepsOn};
+ghost use Rattle.cam_node.specs.Opened.{MayRead};
+
+use crate::Stepped;
+use crate::fault::NodeFault;
+use crate::node::Node;
+use cam_ckpt::CheckpointLog;
+use cam_event::{Letter, LetterId};
+use cam_names::Name;
+
+impl<L: CheckpointLog> Node<L> {
+    /// A letter comes of which the step is built.
+    pub(crate) fn letter(&mut self, id: &LetterId, letter: &Letter) -> Result<Stepped, NodeFault>
+        requires running { IsFalse self.old.log.halted }
+        requires from { (1 ≤ letter.now.from) × (letter.now.from ≤ 8) }
+        requires body { IsTrue (is_built_body letter.now.body) }
+        ensures step { IfOk result (λ stepped. IsStepThrough self.old.objects
+            (answers self.old.core) (answers self.new.core)
+            (Receives id.now) (Some (mail_on letter.now)) (load_on letter.now) stepped.event) }
+        ensures letters { IfOk result (λ stepped.
+            stepped.letters ≡ letters_of (answers self.new.core) stepped.event.sent) }
+        ensures keeps { IfOk result (λ stepped. KeepsOn self.old.objects
+            (answers self.old.core) (L.listed self.old.log.log)
+            (answers self.new.core) (L.listed self.new.log.log)
+            (Receives id.now) (Some (mail_on letter.now)) (load_on letter.now) stepped.event) }
+        ensures runs { OnOk result (IsFalse self.new.log.halted) }
+        ensures same { OnErr result (IsFalse self.new.log.halted
+            → AreSame (answers self.old.core) (answers self.new.core)) }
+        ensures halt { IsTrue (L.tells self.old.log.log) → IsTrue self.new.log.halted
+            → IsHalt self.old.objects (answers self.old.core) (L.listed self.old.log.log)
+            (Receives id.now) (Some (mail_on letter.now)) (load_on letter.now)
+            (MayRead (L.opens_since self.new.log.log) (L.moment self.new.log.log)) }
+        ensures not_listed { OnErr result
+            (L.listed self.new.log.log ≡ L.listed self.old.log.log) }
+        ensures unchanged { OnErr result (IsFalse self.new.log.halted
+            → Stays (L.moment self.old.log.log) (L.moment self.new.log.log)
+            (L.opens_since self.old.log.log) (L.opens_since self.new.log.log)
+            (L.seen self.old.log.log) (L.seen self.new.log.log)
+            (L.faults self.old.log.log) (L.faults self.new.log.log)) }
+        ensures tells { L.tells self.new.log.log ≡ L.tells self.old.log.log }
+        ensures later { L.faults self.old.log.log ≤ L.faults self.new.log.log }
+        ensures disk_fault { IsErrOf result DiskFault
+            → Rose (L.faults self.old.log.log) (L.faults self.new.log.log)
+            × IsTrue self.new.log.halted }
+        ensures objects { self.new.objects ≡ self.old.objects }
+    {
+        let plan = self.core.comes(id, letter)?;
+        self.carry_out(plan, &None)
+    }
+
+    /// An action whose home the node is gives up a child. Nothing stands against the request.
+    pub(crate) fn give_up(&mut self, action: &Name, child: &Name) -> Result<Stepped, NodeFault>
+        requires running { IsFalse self.old.log.halted }
+        requires free { IsFree (answers self.old.core).actions action.now
+            (wants.GiveUp child.now) }
+        ensures step { IfOk result (λ stepped. IsStepThrough self.old.objects
+            (answers self.old.core) (answers self.new.core)
+            (giving_up action.now child.now) None no_load stepped.event) }
+        ensures letters { IfOk result (λ stepped.
+            stepped.letters ≡ letters_of (answers self.new.core) stepped.event.sent) }
+        ensures keeps { IfOk result (λ stepped. KeepsOn self.old.objects
+            (answers self.old.core) (L.listed self.old.log.log)
+            (answers self.new.core) (L.listed self.new.log.log)
+            (giving_up action.now child.now) None no_load stepped.event) }
+        ensures runs { OnOk result (IsFalse self.new.log.halted) }
+        ensures same { OnErr result (IsFalse self.new.log.halted
+            → AreSame (answers self.old.core) (answers self.new.core)) }
+        ensures halt { IsTrue (L.tells self.old.log.log) → IsTrue self.new.log.halted
+            → IsHalt self.old.objects (answers self.old.core) (L.listed self.old.log.log)
+            (giving_up action.now child.now) None no_load
+            (MayRead (L.opens_since self.new.log.log) (L.moment self.new.log.log)) }
+        ensures not_listed { OnErr result
+            (L.listed self.new.log.log ≡ L.listed self.old.log.log) }
+        ensures unchanged { OnErr result (IsFalse self.new.log.halted
+            → Stays (L.moment self.old.log.log) (L.moment self.new.log.log)
+            (L.opens_since self.old.log.log) (L.opens_since self.new.log.log)
+            (L.seen self.old.log.log) (L.seen self.new.log.log)
+            (L.faults self.old.log.log) (L.faults self.new.log.log)) }
+        ensures tells { L.tells self.new.log.log ≡ L.tells self.old.log.log }
+        ensures later { L.faults self.old.log.log ≤ L.faults self.new.log.log }
+        ensures disk_fault { IsErrOf result DiskFault
+            → Rose (L.faults self.old.log.log) (L.faults self.new.log.log)
+            × IsTrue self.new.log.halted }
+        ensures objects { self.new.objects ≡ self.old.objects }
+    {
+        let plan = self.core.give_up(action, child)?;
+        self.carry_out(plan, &None)
+    }
+}
