@@ -15,6 +15,7 @@ use Rattle.cam_node.specs.Represents.{Node}
 
 abbrev pub is_built_body : Body → Bool
 is_built_body (bodies.Start b counts) = true
+is_built_body (bodies.Call a n x op c counts) = true
 is_built_body (bodies.Answer a n reply) = true
 is_built_body (bodies.Finish a v counts) = true
 is_built_body (bodies.Quit a) = true
@@ -34,11 +35,16 @@ HasNumber node a (wants.Call x op) = IsNode (site_of node.server.table.site.obje
     node.actions a < 1000000000)
 HasNumber node a _ = Unit {0}
 
+-- A call that comes gets an index, if it is performed.
+abbrev pub HasIndex : Node → Body → Type 0
+HasIndex node (bodies.Call a n x op c counts) = node.server.table.site.next ≤ 999999999
+HasIndex node _ = Unit {0}
+
 -- Nothing stands against it, and numbers are left; nodes are those from 1 to 8.
 abbrev pub MayStep : Node → Input → Type 0
 MayStep node inputs.Begin = node.actions.tops < 1000000000
 MayStep node (inputs.Request request) = IsFree node.actions request.action request.want × HasNumber
     node request.action request.want
-MayStep node (inputs.Letter id letter) = (1 ≤ letter.from) × (letter.from ≤ 8)
+MayStep node (inputs.Letter id letter) = IsNode letter.from × HasIndex node letter.body
 MayStep node (inputs.Tell to) = (1 ≤ to) × (to ≤ 8)
 MayStep node (inputs.Query family) = Unit {0}

@@ -1,5 +1,5 @@
 -- What a node is when the event of a call stands that came to its site.
-use Rattle.std.specs.Prelude.{◌≡◌, ◌⊎◌, ◌≤◌, true, List, length, Some, None}
+use Rattle.std.specs.Prelude.{◌≡◌, ◌⊎◌, ◌≤◌, Bool, true, false, List, length, Some, None}
 use Rattle.cam_type.specs.declared.ObjectDecl.{ObjectDecl}
 use Rattle.cam_type.specs.declared.Kind.{Kind}
 use Rattle.cam_type.specs.Objects.{start_of}
@@ -7,6 +7,7 @@ use Rattle.cam_type.specs.Table.{kind_of}
 use Rattle.cam_know.specs.Knowledge.{Knowledge}
 use Rattle.cam_know.specs.Known.{news}
 use Rattle.cam_know.specs.Order.{told_in_order}
+use Rattle.cam_event.specs.declared.Body.{Body}
 use Rattle.cam_event.specs.declared.Body.TheVariants as bodies
 use Rattle.cam_event.specs.declared.Event.{Event}
 use Rattle.cam_event.specs.declared.Letter.{Letter}
@@ -15,7 +16,7 @@ use Rattle.cam_event.specs.Inputs.{Receives, Mail}
 use Rattle.cam_event.specs.ByPast.{event_of}
 use Rattle.cam_event.specs.ByKnowledge.{new_informs}
 use Rattle.cam_event.specs.Loads.{Load, PlacesFields, noted_at, with_load}
-use Rattle.cam_locks.specs.Site.{fits_here}
+use Rattle.cam_locks.specs.Site.{Site, fits_here}
 use Rattle.cam_tranman.specs.Calls as tranman
 use Rattle.cam_commit.specs.Calls as commit
 use Rattle.cam_server.specs.declared.Performed.{Performed}
@@ -64,6 +65,16 @@ pub record MayBeServed (asked : Asked) (kind : Kind) (server : Server) : Type 0 
   pub fits : fits_here server.table.site.objects server.table.site.node asked.object asked.op ≡ true
   pub index : server.table.site.next ≤ 999999999
   pub of_kind : kind ≡ kind_of (start_of server.table.site.objects asked.object)
+
+abbrev pub is_call : Body → Bool
+is_call (bodies.Call a n x op c counts) = true
+is_call _ = false
+
+-- a letter that is a call whose object does not stand at this site, or does not fit the op
+pub record IsElsewhere (letter : Letter) (site : Site) : Type 0 where
+  pub asked : Asked
+  pub call : IsCallOn letter asked
+  pub unfit : fits_here site.objects site.node asked.object asked.op ≡ false
 
 -- What is done with it: nothing is changed where a test decides before the lock table; else the
 -- server that stands in the place of the other was informed of the news, and then did with the call

@@ -1,10 +1,12 @@
-//! A letter comes: its body says which rule it is of. Each rule stands in a file of its own.
-ghost use Rattle.std.specs.Prelude.{◌≤◌, List, IsTrue, IfOk};
+//! A letter comes that is no call: its body says which rule it is of. Each rule stands in a file of
+//! its own.
+ghost use Rattle.std.specs.Prelude.{◌≤◌, List, IsTrue, IsFalse, IfOk};
 ghost use Rattle.cam_type.specs.declared.ObjectDecl.{ObjectDecl};
 ghost use Rattle.cam_node.specs.Built.{is_built_body};
 ghost use Rattle.cam_node.specs.Calls.{answers, AreSame};
 ghost use Rattle.cam_node.specs.Planned.{MayBeAdded};
 ghost use Rattle.cam_node.specs.Plans.{IsPlanFor, MayStand};
+ghost use Rattle.cam_node.specs.Served.{is_call};
 
 use crate::plan::Plan;
 use crate::state::Core;
@@ -12,12 +14,13 @@ use cam_base::NoMemory;
 use cam_event::{Body, Letter, LetterId};
 
 impl Core {
-    /// A letter of a node, 1 to 8, comes: the event that may stand. It fails where memory runs out.
+    /// A letter of a node, 1 to 8, comes that is no call: the event that may stand. It fails where memory runs out.
     /// What is answered stays the same until
     /// the event stands.
     pub(crate) fn comes(&mut self, id: &LetterId, letter: &Letter) -> Result<Plan, NoMemory>
         requires from { (1 ≤ letter.now.from) × (letter.now.from ≤ 8) }
         requires built { IsTrue (is_built_body letter.now.body) }
+        requires no_call { IsFalse (is_call letter.now.body) }
         ensures same { AreSame (answers self.old) (answers self.new) }
         ensures plan { (objects : List ObjectDecl) → IfOk result (λ plan.
             IsPlanFor objects id.now letter.now self.old self.new plan) }

@@ -48,6 +48,8 @@ impl Core {
         ensures err { OnErr result (ServeSame (answers self.old).server (answers self.new).server) }
         ensures err_rest { OnErr result
             (answers self.new ≡ record (answers self.old) { server = (answers self.new).server }) }
+        ensures know { (answers self.new).know ≡ (answers self.old).know }
+        ensures number { self.new.number ≡ self.old.number }
         ensures kind_stays { T.kind server.new ≡ T.kind server.old }
     {
         let done = self.server.perform(

@@ -2,7 +2,7 @@
 //! commit of an ancestor is known it has ended. One that was answered before is answered again.
 //! That of an orphan is refused. Else it bounces off the first live operation that conflicts, or is
 //! performed. But for one that has ended a reply goes to the action's home.
-ghost use Rattle.std.specs.Prelude.{◌≡◌, ◌≤◌, List, IfOk, OnErr};
+ghost use Rattle.std.specs.Prelude.{◌≡◌, ◌≤◌, List, None, IfOk, OnErr};
 ghost use Rattle.cam_type.specs.declared.ObjectDecl.{ObjectDecl};
 ghost use Rattle.cam_type.specs.Objects.{start_of};
 ghost use Rattle.cam_type.specs.Table.{kind_of};
@@ -73,9 +73,12 @@ impl Core {
         ensures err { OnErr result (AreSame (answers self.old) (answers self.new)) }
         ensures forgotten { IfOk result (λ plan.
             MayBeForgotten (answers self.old) (answers self.new) plan.change) }
+        ensures know { (answers self.new).know ≡ (answers self.old).know }
+        ensures number { self.new.number ≡ self.old.number }
         ensures plan { (objects : List ObjectDecl) → IfOk result (λ plan.
             IsPlanFor objects id.now letter.now self.old self.new plan) }
         ensures may { IfOk result (λ plan. MayStand plan self.new) }
+        ensures adds { IfOk result (λ plan. plan.adds ≡ None) }
         ensures kind_stays { T.kind server.new ≡ T.kind server.old }
     {
         let learnt = self.receive(letter)?;

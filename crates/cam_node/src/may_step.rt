@@ -1,7 +1,7 @@
 //! Whether an input may be put to a node now.
 ghost use Rattle.std.specs.Prelude.{◌≡◌, ◌↔◌, IsTrue};
 ghost use Rattle.cam_event.specs.Runs.{IsNode};
-ghost use Rattle.cam_node.specs.Built.{HasNumber, MayStep, is_built};
+ghost use Rattle.cam_node.specs.Built.{HasIndex, HasNumber, MayStep, is_built};
 ghost use Rattle.cam_node.specs.Calls.{answers};
 
 use crate::Input;
@@ -31,7 +31,9 @@ impl<L: CheckpointLog> Node<L> {
             Input::Request(request) => {
                 self.core.actions.refusal(request).is_none() && self.core.has_number(request)
             }
-            Input::Letter(_, letter) => is_node(letter.from),
+            Input::Letter(_, letter) => {
+                is_node(letter.from) && self.core.has_index(&letter.body)
+            }
             Input::Tell(to) => is_node(*to),
             Input::Query(_) => true,
         }
@@ -54,6 +56,16 @@ impl Core {
             Want::Commit(_) | Want::Abort | Want::GiveUp(_) => true,
         }
     }
+
+    /// Whether a call that comes has an index left.
+    fn has_index(&self, body: &Body) -> bool
+        ensures { IsTrue result ↔ HasIndex (answers self.now) body.now }
+    {
+        match body {
+            Body::Call { .. } => self.server.table().next_index() <= 999_999_999,
+            _ => true,
+        }
+    }
 }
 
 /// Whether the step of an input is built.
@@ -65,6 +77,7 @@ fn is_built(input: &Input) -> bool
             matches!(
                 letter.body,
                 Body::Start { .. }
+                    | Body::Call { .. }
                     | Body::Answer { .. }
                     | Body::Finish { .. }
                     | Body::Quit { .. }

@@ -11,6 +11,7 @@ ghost use Rattle.cam_recman.specs.Recovery.{with_records};
 ghost use Rattle.cam_recman.specs.Says.{Says};
 ghost use Rattle.cam_recman.specs.Versions.{AreOf};
 ghost use Rattle.cam_recman.specs.Writable.{IsWritable};
+ghost use Rattle.cam_type.specs.declared.Kind.TheVariants as kinds;
 ghost use Rattle.cam_node.specs.declared.fault.NodeFault.TheVariants.{DiskFault};
 ghost use Rattle.cam_node.specs.Built.{MayStep, is_built};
 ghost use Rattle.cam_node.specs.Calls.{answers, input_of, letters_of, load_of, mail_of, AreSame};
@@ -32,6 +33,7 @@ use cam_base::NoMemory;
 use cam_ckpt::CheckpointLog;
 use cam_event::Want;
 use cam_recman::{Record, Records};
+use cam_type::DataType;
 
 impl Core {
     /// The entry of an event that heard this, and whose deeds add that.
@@ -90,10 +92,19 @@ impl<L: CheckpointLog> Node<L> {
     /// log may have the event's entry, no event is told and no letter is handed out. `DiskFault`
     /// comes only where the disk's count of faults
     /// rose.
-    pub fn step(&mut self, input: &Input) -> Result<Stepped, NodeFault>
+    pub fn step<R: DataType, Q: DataType, C: DataType>(
+        &mut self,
+        input: &Input,
+        register: &mut R,
+        queue: &mut Q,
+        counter: &mut C,
+    ) -> Result<Stepped, NodeFault>
         requires running { IsFalse self.old.log.halted }
         requires built { IsTrue (is_built input.now) }
         requires may { MayStep (answers self.old.core) input.now }
+        requires register { R.kind register.old ≡ kinds.Register }
+        requires queue { Q.kind queue.old ≡ kinds.Queue }
+        requires counter { C.kind counter.old ≡ kinds.Counter }
         ensures step { IfOk result (λ stepped. IsStepThrough self.old.objects
             (answers self.old.core) (answers self.new.core) (input_of self.old.core.number
             input.now)
@@ -128,9 +139,12 @@ impl<L: CheckpointLog> Node<L> {
         ensures tells { L.tells self.new.log.log ≡ L.tells self.old.log.log }
         ensures later { L.faults self.old.log.log ≤ L.faults self.new.log.log }
         ensures objects { self.new.objects ≡ self.old.objects }
+        ensures register_stays { R.kind register.new ≡ R.kind register.old }
+        ensures queue_stays { Q.kind queue.new ≡ Q.kind queue.old }
+        ensures counter_stays { C.kind counter.new ≡ C.kind counter.old }
     {
         match input {
-            Input::Letter(id, letter) => self.letter(id, letter),
+            Input::Letter(id, letter) => self.letter(id, letter, register, queue, counter),
             Input::Request(request) => match &request.want {
                 Want::GiveUp(child) => self.give_up(&request.action, child),
                 Want::Ask(_) | Want::Call(_, _) | Want::Commit(_) | Want::Abort => self.own(input),

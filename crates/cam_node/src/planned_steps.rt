@@ -8,8 +8,9 @@ ghost use Rattle.cam_event.specs.Loads.{no_load};
 ghost use Rattle.cam_event.specs.declared.Want.TheVariants as wants;
 ghost use Rattle.cam_log.specs.Moments.{Stays};
 ghost use Rattle.cam_tranman.specs.Calls.{IsFree};
+ghost use Rattle.cam_type.specs.declared.Kind.TheVariants as kinds;
 ghost use Rattle.cam_node.specs.declared.fault.NodeFault.TheVariants.{DiskFault};
-ghost use Rattle.cam_node.specs.Built.{is_built_body};
+ghost use Rattle.cam_node.specs.Built.{is_built_body, HasIndex};
 ghost use Rattle.cam_node.specs.Calls.{answers, letters_of, mail_on, AreSame};
 ghost use Rattle.cam_node.specs.GivingUp.{giving_up};
 ghost use Rattle.cam_node.specs.Halting.{IsStepThrough};
@@ -17,18 +18,32 @@ ghost use Rattle.cam_node.specs.Keeping.{IsHalt, KeepsOn};
 ghost use Rattle.cam_node.specs.Opened.{MayRead};
 
 use crate::Stepped;
+use crate::call_arrives::Called;
 use crate::fault::NodeFault;
 use crate::node::Node;
 use cam_ckpt::CheckpointLog;
-use cam_event::{Letter, LetterId};
+use cam_event::{Body, Letter, LetterId};
 use cam_names::Name;
+use cam_type::DataType;
 
 impl<L: CheckpointLog> Node<L> {
-    /// A letter comes of which the step is built.
-    pub(crate) fn letter(&mut self, id: &LetterId, letter: &Letter) -> Result<Stepped, NodeFault>
+    /// A letter comes of which the step is built. A call may go ahead of the news that came with it;
+    /// where its event is not taken, what was done with it is taken back.
+    pub(crate) fn letter<R: DataType, Q: DataType, C: DataType>(
+        &mut self,
+        id: &LetterId,
+        letter: &Letter,
+        register: &mut R,
+        queue: &mut Q,
+        counter: &mut C,
+    ) -> Result<Stepped, NodeFault>
         requires running { IsFalse self.old.log.halted }
         requires from { (1 ≤ letter.now.from) × (letter.now.from ≤ 8) }
         requires body { IsTrue (is_built_body letter.now.body) }
+        requires index { HasIndex (answers self.old.core) letter.now.body }
+        requires register { R.kind register.old ≡ kinds.Register }
+        requires queue { Q.kind queue.old ≡ kinds.Queue }
+        requires counter { C.kind counter.old ≡ kinds.Counter }
         ensures step { IfOk result (λ stepped. IsStepThrough self.old.objects
             (answers self.old.core) (answers self.new.core)
             (Receives id.now) (Some (mail_on letter.now)) (load_on letter.now) stepped.event) }
@@ -58,9 +73,38 @@ impl<L: CheckpointLog> Node<L> {
             → Rose (L.faults self.old.log.log) (L.faults self.new.log.log)
             × IsTrue self.new.log.halted }
         ensures objects { self.new.objects ≡ self.old.objects }
+        ensures register_stays { R.kind register.new ≡ R.kind register.old }
+        ensures queue_stays { Q.kind queue.new ≡ Q.kind queue.old }
+        ensures counter_stays { C.kind counter.new ≡ C.kind counter.old }
     {
-        let plan = self.core.comes(id, letter)?;
-        self.carry_out(plan, &None)
+        match &letter.body {
+            Body::Call {
+                action,
+                number,
+                object,
+                op,
+                count,
+                deps,
+            } => {
+                let call = Called {
+                    action: *action,
+                    number: *number,
+                    object: *object,
+                    op: *op,
+                    count: *count,
+                    deps: *deps,
+                };
+                let plan = self
+                    .core
+                    .call_of_kind(id, letter, &call, register, queue, counter)?;
+                let ahead = plan.change.ahead();
+                self.carry_out(plan, &ahead)
+            }
+            _ => {
+                let plan = self.core.comes(id, letter)?;
+                self.carry_out(plan, &None)
+            }
+        }
     }
 
     /// An action whose home the node is gives up a child. Nothing stands against the request.

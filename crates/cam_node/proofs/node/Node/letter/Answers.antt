@@ -1,48 +1,84 @@
 -- A letter comes.
-use Rattle.std.proofs.Common.{refl, sym, subst}
+use Rattle.std.proofs.Common.{Some, refl, sym, subst}
 use Rattle.cam_comman.specs.Letters.{load_on}
 use Rattle.cam_event.specs.Inputs.{Receives}
-use Rattle.cam_node.specs.Calls.{answers, AreSame}
+use Rattle.cam_node.specs.Ahead.{CanForget}
+use Rattle.cam_node.specs.Calls.{answers, mail_on, AreSame}
+use Rattle.cam_node.specs.Planned.{MayBeTaken}
+use Rattle.cam_node.specs.Represents.{Node}
 use Rattle.cam_node.proofs.node.Node.letter.Goals as goal
 
-pub returns-clause-step : goal.returns-clause-step
-returns-clause-step g c =
+-- A call that may have gone ahead.
+pub returns-in_ok-plan-in-Call-clause-step : goal.returns-in_ok-plan-in-Call-clause-step
+returns-in_ok-plan-in-Call-clause-step g c =
     c.carry_out.ensures.step _ _ _ (answers c.args.self.now.core) (record {
-      planned = c.in_ok-plan.ensures.plan c.args.self.now.objects;
+      planned = c.in_ok-plan-in-Call.ensures.plan c.args.self.now.objects;
       node = c.args.self.now.numbered;
-      know = c.comes.ensures.same.know;
+      know = c.call_of_kind.ensures.know;
       goes_on = refl;
     })
 
-pub returns-clause-letters : goal.returns-clause-letters
-returns-clause-letters g c =
+pub returns-in_ok-plan-in-Call-clause-letters : goal.returns-in_ok-plan-in-Call-clause-letters
+returns-in_ok-plan-in-Call-clause-letters g c =
     c.carry_out.ensures.letters (Receives c.args.id.now) _ (load_on c.args.letter.now)
     (answers c.args.self.now.core) (record {
-      planned = c.in_ok-plan.ensures.plan c.args.self.now.objects;
+      planned = c.in_ok-plan-in-Call.ensures.plan c.args.self.now.objects;
       node = c.args.self.now.numbered;
-      know = c.comes.ensures.same.know;
+      know = c.call_of_kind.ensures.know;
       goes_on = refl;
     })
 
-pub returns-clause-keeps : goal.returns-clause-keeps
-returns-clause-keeps g c =
+pub returns-in_ok-plan-in-Call-clause-keeps : goal.returns-in_ok-plan-in-Call-clause-keeps
+returns-in_ok-plan-in-Call-clause-keeps g c =
     c.carry_out.ensures.keeps _ _ _ (answers c.args.self.now.core) (record {
-      planned = c.in_ok-plan.ensures.plan c.args.self.now.objects;
+      planned = c.in_ok-plan-in-Call.ensures.plan c.args.self.now.objects;
       node = c.args.self.now.numbered;
-      know = c.comes.ensures.same.know;
+      know = c.call_of_kind.ensures.know;
       goes_on = refl;
     })
 
-pub returns-clause-halt : goal.returns-clause-halt
-returns-clause-halt g c = λ tells halted.
+pub returns-in_ok-plan-in-Call-clause-halt : goal.returns-in_ok-plan-in-Call-clause-halt
+returns-in_ok-plan-in-Call-clause-halt g c = λ tells halted.
     c.carry_out.ensures.halt tells halted _ _ _ (answers c.args.self.now.core) (record {
-      planned = c.in_ok-plan.ensures.plan c.args.self.now.objects;
+      planned = c.in_ok-plan-in-Call.ensures.plan c.args.self.now.objects;
       node = c.args.self.now.numbered;
-      know = c.comes.ensures.same.know;
+      know = c.call_of_kind.ensures.know;
       goes_on = refl;
     })
 
-pub returns-clause-same : goal.returns-clause-same
-returns-clause-same g c =
+pub returns-in_ok-plan-in-Call-clause-same : goal.returns-in_ok-plan-in-Call-clause-same
+returns-in_ok-plan-in-Call-clause-same g c =
     c.carry_out.ensures.same (answers c.args.self.now.core)
-    (λ new stays. subst (AreSame (answers c.args.self.now.core)) (sym stays) c.comes.ensures.same)
+    (subst (CanForget (answers c.args.self.now.core) (answers c.call_of_kind.new.self))
+    (sym c.ahead-ahead.ensures) c.in_ok-plan-in-Call.ensures.forgotten)
+
+-- Any other letter.
+pub returns-in_ok-plan-in_default : goal.returns-in_ok-plan-in_default
+returns-in_ok-plan-in_default g c =
+    let old : Node = answers c.args.self.now.core in
+    let may : MayBeTaken c.args.self.now.objects (Receives c.args.id.now)
+    (Some (mail_on c.args.letter.now)) (load_on c.args.letter.now) c.in_ok-plan-in_default.plan
+    c.comes.new.self.knowing.known old (answers c.comes.new.self) = record {
+      planned = c.in_ok-plan-in_default.ensures.plan c.args.self.now.objects;
+      node = c.args.self.now.numbered;
+      know = c.comes.ensures.same.know;
+      goes_on = refl;
+    } in
+    let then = c.carry_out-in_default.ensures in
+    record {
+      step = then.step _ _ _ old may;
+      letters = then.letters (Receives c.args.id.now) _ (load_on c.args.letter.now) old may;
+      keeps = then.keeps _ _ _ old may;
+      runs = then.runs;
+      same = then.same old (λ new stays. subst (AreSame old) (sym stays) c.comes.ensures.same);
+      halt = λ tells halted. then.halt tells halted _ _ _ old may;
+      not_listed = then.not_listed;
+      unchanged = then.unchanged;
+      tells = then.tells;
+      later = then.later;
+      disk_fault = then.disk_fault;
+      objects = then.objects;
+      register_stays = refl;
+      queue_stays = refl;
+      counter_stays = refl;
+    }

@@ -1,5 +1,5 @@
 -- A call comes.
-use Rattle.std.proofs.Common.{◌≡◌, sym, ◌∙◌, subst}
+use Rattle.std.proofs.Common.{◌≡◌, None, sym, ap, ◌∙◌, subst}
 use Rattle.std.proofs.lemmas.Result.{IfOk-weaker}
 use Rattle.cam_server.specs.Calls as server
 use Rattle.cam_node.specs.declared.plan.Change.{Change}
@@ -103,4 +103,21 @@ returns-clause-may g c =
     c.in_ok-learnt.learnt c.in_ok-doing.doing
     (asked_of c.args.call.now) c.in_ok-doing.ensures.done.0 c.in_ok-learnt.ensures.received
     c.in_ok-doing.ensures.done.1 made)
+    c.planned.ensures
+
+pub returns-then-is_apart-clause-adds : goal.returns-then-is_apart-clause-adds
+returns-then-is_apart-clause-adds g c =
+    IfOk-weaker c.call_goes_ahead.result
+    (λ plan. HasGoneAhead c.receive.new.self c.call_goes_ahead.new.self c.args.id.now
+    c.in_ok-learnt.learnt (asked_of c.args.call.now) plan)
+    (λ plan. plan.adds ≡ None)
+    (λ plan gone. gone.planned.made.adds ∙ gone.planned.adds)
+    c.call_goes_ahead.ensures.ahead
+
+pub returns-clause-adds : goal.returns-clause-adds
+returns-clause-adds g c =
+    IfOk-weaker c.planned.result
+    (λ plan. IsMade c.receive.new.self c.args.id.now c.in_ok-learnt.learnt c.in_ok-doing.doing plan)
+    (λ plan. plan.adds ≡ None)
+    (λ plan made. made.adds ∙ c.in_ok-doing.ensures.done.1.adds)
     c.planned.ensures
