@@ -8,7 +8,6 @@ use Rattle.cam_event.specs.declared.Want.TheVariants as wants
 use Rattle.cam_event.specs.Runs.{IsNode}
 use Rattle.cam_tranman.specs.Actions.{asks, calls}
 use Rattle.cam_type.specs.Objects.{site_of}
-use Rattle.cam_tranman.specs.Calls.{IsFree}
 use Rattle.cam_node.specs.declared.Input.{Input}
 use Rattle.cam_node.specs.declared.Input.TheVariants as inputs
 use Rattle.cam_node.specs.Represents.{Node}
@@ -40,11 +39,10 @@ abbrev pub HasIndex : Node → Body → Type 0
 HasIndex node (bodies.Call a n x op c counts) = node.server.table.site.next ≤ 999999999
 HasIndex node _ = Unit {0}
 
--- Nothing stands against it, and numbers are left; nodes are those from 1 to 8.
+-- Numbers are left; nodes are those from 1 to 8.
 abbrev pub MayStep : Node → Input → Type 0
 MayStep node inputs.Begin = node.actions.tops < 1000000000
-MayStep node (inputs.Request request) = IsFree node.actions request.action request.want × HasNumber
-    node request.action request.want
+MayStep node (inputs.Request request) = HasNumber node request.action request.want
 MayStep node (inputs.Letter id letter) = IsNode letter.from × HasIndex node letter.body
 MayStep node (inputs.Tell to) = (1 ≤ to) × (to ≤ 8)
 MayStep node (inputs.Query family) = Unit {0}

@@ -11,26 +11,24 @@ use cam_ckpt::CheckpointLog;
 use cam_event::{Body, Request, Want};
 
 impl<L: CheckpointLog> Node<L> {
-    /// What [`Node::step`] wants of an input: that its step is built, that nothing stands against it, and that numbers are left. It takes no
-    /// memory.
+    /// What [`Node::step`] wants of an input besides that nothing stands against it
+    /// ([`Node::refusal`]): that its step is built, and that numbers are left. It takes no memory.
     pub fn may_step(&self, input: &Input) -> bool
         ensures built { IsTrue result → IsTrue (is_built input.now) }
         ensures may { IsTrue result → MayStep (answers self.now.core) input.now }
         ensures always { IsTrue (is_built input.now) → MayStep (answers self.now.core) input.now
             → IsTrue result }
     {
-        is_built(input) && self.has_room_for(input)
+        is_built(input) && self.has_numbers_for(input)
     }
 
-    /// Whether nothing stands against an input, and numbers are left.
-    fn has_room_for(&self, input: &Input) -> bool
+    /// Whether numbers are left for an input.
+    fn has_numbers_for(&self, input: &Input) -> bool
         ensures { IsTrue result ↔ MayStep (answers self.now.core) input.now }
     {
         match input {
             Input::Begin => self.core.actions.tops() < 1_000_000_000,
-            Input::Request(request) => {
-                self.core.actions.refusal(request).is_none() && self.core.has_number(request)
-            }
+            Input::Request(request) => self.core.has_number(request),
             Input::Letter(_, letter) => {
                 is_node(letter.from) && self.core.has_index(&letter.body)
             }

@@ -20,6 +20,7 @@ ghost use Rattle.cam_node.specs.Keeping.{IsHalt, KeepsOn};
 ghost use Rattle.cam_node.specs.Opened.{IsKnowledge, MayRead, with_entry_of};
 ghost use Rattle.cam_node.specs.Planned.{heard_records, planned_records, MayBeAdded};
 ghost use Rattle.cam_node.specs.Plans.{as_list, MayStand, Stands};
+ghost use Rattle.cam_node.specs.Refused.{IsNotRefused};
 ghost use Rattle.cam_node.specs.Unlogged.{is_unlogged};
 
 use crate::fault::NodeFault;
@@ -101,6 +102,7 @@ impl<L: CheckpointLog> Node<L> {
     ) -> Result<Stepped, NodeFault>
         requires running { IsFalse self.old.log.halted }
         requires built { IsTrue (is_built input.now) }
+        requires free { IsNotRefused (answers self.old.core) input.now }
         requires may { MayStep (answers self.old.core) input.now }
         requires register { R.kind register.old ≡ kinds.Register }
         requires queue { Q.kind queue.old ≡ kinds.Queue }
@@ -157,6 +159,7 @@ impl<L: CheckpointLog> Node<L> {
     fn own(&mut self, input: &Input) -> Result<Stepped, NodeFault>
         requires running { IsFalse self.old.log.halted }
         requires own { IsTrue (is_unlogged (input_of self.old.core.number input.now)) }
+        requires free { IsNotRefused (answers self.old.core) input.now }
         requires may { MayStep (answers self.old.core) input.now }
         ensures step { IfOk result (λ stepped. IsStepThrough self.old.objects
             (answers self.old.core) (answers self.new.core) (input_of self.old.core.number

@@ -7,6 +7,7 @@ ghost use Rattle.cam_tranman.specs.Calls.{IsFree};
 ghost use Rattle.cam_node.specs.Built.{HasNumber, MayStep};
 ghost use Rattle.cam_node.specs.Calls.{answers, input_of, letters_of, AreSame};
 ghost use Rattle.cam_node.specs.Halting.{IsStepThrough};
+ghost use Rattle.cam_node.specs.Refused.{IsNotRefused};
 ghost use Rattle.cam_node.specs.Unlogged.{gives_up, is_unlogged};
 
 use crate::state::Core;
@@ -19,6 +20,7 @@ impl Core {
     /// runs out, and is then as it was.
     pub(crate) fn own(&mut self, input: &Input) -> Result<Stepped, NoMemory>
         requires own { IsTrue (is_unlogged (input_of self.old.number input.now)) }
+        requires free { IsNotRefused (answers self.old) input.now }
         requires may { MayStep (answers self.old) input.now }
         ensures step { (objects : List ObjectDecl) → IfOk result (λ stepped. IsStepThrough objects
             (answers self.old) (answers self.new)

@@ -1,12 +1,19 @@
-//! What stands against a request, and against a query. A query has nothing to ask where the node knows how the family ended, or has neither
-//! secured the family nor a live operation of it.
-ghost use Rattle.std.specs.Prelude.{◌≡◌, ◌||◌, List};
+//! What stands against an input: against a request, a query, or telling a node. A query has nothing
+//! to ask where the node knows how the family ended, or has neither secured the family nor a live
+//! operation of it. A node has nothing to tell itself.
+ghost use Rattle.std.specs.Prelude.{◌≡◌, ◌||◌, List, None};
 ghost use Rattle.cam_type.specs.declared.ObjectDecl.{ObjectDecl};
+ghost use Rattle.cam_event.specs.Refusals.{tell_refusal};
 ghost use Rattle.cam_locks.specs.Calls.{has_family};
+ghost use Rattle.cam_tranman.specs.Calls.{refusal_by};
 ghost use Rattle.cam_node.specs.Calls.{answers};
 ghost use Rattle.cam_node.specs.Halting.{IsQueryRefusal, IsRefusal};
+ghost use Rattle.cam_node.specs.Refused.{IsNotRefused, IsRefusalOf};
 
+use crate::Input;
+use crate::node::Node;
 use crate::state::Core;
+use cam_ckpt::CheckpointLog;
 use cam_event::{LineRefusal, Request};
 use cam_names::Name;
 
@@ -14,10 +21,23 @@ impl Core {
     /// What stands against a request of an action, if anything does: by the tests of the rule, the first that holds. The node is the action's
     /// home. It takes no memory.
     pub fn refusal(&self, request: &Request) -> Option<LineRefusal>
-        ensures { (objects : List ObjectDecl)
+        ensures rule { (objects : List ObjectDecl)
             → IsRefusal objects (answers self.now) request.now.action request.now.want result }
+        ensures value { result
+            ≡ refusal_by (answers self.now).actions request.now.action request.now.want }
     {
         self.actions.refusal(request)
+    }
+
+    /// What stands against telling a node what is known, if anything does.
+    fn tell_refusal(&self, to: u8) -> Option<LineRefusal>
+        ensures { result ≡ tell_refusal (answers self.now).number to }
+    {
+        if to == self.number {
+            Some(LineRefusal::NothingToDo)
+        } else {
+            None
+        }
     }
 
     /// What stands against asking the home of a family how the family ended, if anything does. It takes no memory.
@@ -40,5 +60,23 @@ impl Core {
             || has_family (answers self.now).server.table.site family.now) }
     {
         self.families.is_secured(family) || self.server.table().has_family(family)
+    }
+}
+
+impl<L: CheckpointLog> Node<L> {
+    /// What stands against an input, if anything does: against a request by the tests of the rule,
+    /// the first that holds, where the node is the action's home; and against a query, or telling a
+    /// node. It takes no memory.
+    pub fn refusal(&self, input: &Input) -> Option<LineRefusal>
+        ensures rule { (objects : List ObjectDecl)
+            → IsRefusalOf objects (answers self.now.core) input.now result }
+        ensures free { result ≡ None → IsNotRefused (answers self.now.core) input.now }
+    {
+        match input {
+            Input::Request(request) => self.core.refusal(request),
+            Input::Tell(to) => self.core.tell_refusal(*to),
+            Input::Query(family) => self.core.query_refusal(family),
+            Input::Begin | Input::Letter(_, _) => None,
+        }
     }
 }

@@ -8,8 +8,8 @@ use Rattle.cam_tranman.proofs.Sights.{sight_is_answered}
 use Rattle.cam_tranman.proofs.Requests.{refusal_is_rule}
 use Rattle.cam_node.proofs.state.Core.refusal.Goals as goal
 
-pub returns : goal.returns
-returns c = λ objects history through rep home.
+pub returns-clause-rule : goal.returns-clause-rule
+returns-clause-rule c = λ objects history through rep home.
     c.refusal.ensures
     ∙ sym (refusal_is_rule objects (held_sight objects c.args.self.now.number (map as_carried history) nothing) (tranman.answers c.args.self.now.actions)
     c.args.request.now.action c.args.request.now.want

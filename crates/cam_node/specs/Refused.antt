@@ -1,0 +1,24 @@
+-- What stands against an input, before it is put to a node.
+use Rattle.std.specs.Prelude.{◌≡◌, List, Option, None}
+use Rattle.cam_type.specs.declared.ObjectDecl.{ObjectDecl}
+use Rattle.cam_event.specs.declared.LineRefusal.{LineRefusal}
+use Rattle.cam_event.specs.Refusals.{tell_refusal}
+use Rattle.cam_tranman.specs.Calls.{IsFree}
+use Rattle.cam_node.specs.declared.Input.{Input}
+use Rattle.cam_node.specs.declared.Input.TheVariants as inputs
+use Rattle.cam_node.specs.Halting.{IsRefusal, IsQueryRefusal}
+use Rattle.cam_node.specs.Represents.{Node}
+
+-- It is the refusal of the definition, for each history through halts that the node represents.
+-- Nothing stands against a begin, nor against a letter.
+abbrev pub IsRefusalOf : List ObjectDecl → Node → Input → Option LineRefusal → Type 0
+IsRefusalOf objects node (inputs.Request request) result =
+    IsRefusal objects node request.action request.want result
+IsRefusalOf objects node (inputs.Tell to) result = result ≡ tell_refusal node.number to
+IsRefusalOf objects node (inputs.Query family) result = IsQueryRefusal objects node family result
+IsRefusalOf objects node _ result = result ≡ None
+
+-- nothing stands against a request, as the node's actions answer
+abbrev pub IsNotRefused : Node → Input → Type 0
+IsNotRefused node (inputs.Request request) = IsFree node.actions request.action request.want
+IsNotRefused node _ = Unit {0}
