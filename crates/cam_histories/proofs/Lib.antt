@@ -29,3 +29,10 @@ pub mod Halting
 pub mod RestartedRun
 pub mod Counted
 pub mod ManyPut
+pub mod Nameless
+pub mod Numbers
+pub mod PutIn
+pub mod FoundParts
+pub mod Trails
+pub mod Silent
+pub mod FoundPuts

@@ -12,3 +12,5 @@ pub mod InputLaws
 pub mod Lines
 pub mod LineLaws
 pub mod Counted
+pub mod PutIn
+pub mod Found

@@ -15,9 +15,11 @@ ghost use Rattle.cam_histories.specs.Scripts.{BeginningsHold, HaltedScriptsHold,
 ghost use Rattle.cam_histories.specs.Sending.{LettersAreSent, LettersStay};
 
 mod flight;
+mod found;
 mod steps;
 
 pub use crate::flight::{flights, spelled};
+pub use crate::found::events_put_in;
 pub use crate::steps::{
     letters_read, line_tests, node_steps, numbers_left, run_halts, run_inputs, run_lines,
 };

@@ -1,0 +1,218 @@
+-- The parts of what stands where an event is put in: marks, numbers, letters and their weights.
+use Rattle.std.proofs.Common.{◌≡◌, inl, inr, ℕ, zero, suc, ◌+◌, ◌-◌, ◌<◌, ◌≤◌, eqb, Bool, true, false}
+use Rattle.std.proofs.Common.{not, ◌&&◌, ◌||◌, if◌then◌else◌, List, [], ◌∷◌, ◌++◌, map, length, Option}
+use Rattle.std.proofs.Common.{Some, None, option_map, refl, sym, ap, ◌∙◌, arith, append-nil}
+use Rattle.std.specs.Prelude.{nat_lt, slice_get}
+use Rattle.std.specs.List.{list_any}
+use Rattle.std.specs.Option.{option_map_or}
+use Rattle.std.proofs.lemmas.Bool.{eq-eqb}
+use Rattle.std.proofs.lemmas.List.{map-append}
+use Rattle.cam_event.specs.declared.Event.{Event}
+use Rattle.cam_event.specs.declared.LetterId.{LetterId}
+use Rattle.cam_event.specs.declared.Mark.{Mark}
+use Rattle.cam_event.specs.declared.Mark.TheVariants as marks
+use Rattle.cam_event.specs.declared.Sent.{Sent}
+use Rattle.cam_event.specs.Inputs.{Mail, Receives, letter_at, node_of}
+use Rattle.cam_runs.specs.Running.{Running, ids_from, letters, has_number, letter_of, weight}
+use Rattle.cam_runs.specs.Running.{weight_of, weight_from, waiting_weight}
+use Rattle.cam_runs.specs.Standing.{Standing, addressee, waiting_from, waiting}
+use Rattle.cam_histories.specs.PutIn.{moved, moved_letter, moved_event, put_in}
+use Rattle.cam_histories.specs.Found.{with_number, is_halt_of, as_taken, with_mark_taken, with_taken_in}
+use Rattle.cam_histories.proofs.Numbers.{lt_cases, moved_low, moved_high, put_in_length, behind_long}
+use Rattle.cam_histories.proofs.Numbers.{letters_moved}
+
+-- a mark that is no halt of the node
+any_end : (p : Mark → Bool) (ms : List Mark) (m : Mark) (b : Bool) → p m ≡ b
+    → list_any p (ms ++ m ∷ []) ≡ (list_any p ms || b)
+any_end p [] m b is = ap (λ x. x || false) is ∙ by b
+  where
+    by : (b : Bool) → (b || false) ≡ (false || b)
+    by true = refl
+    by false = refl
+any_end p (x ∷ ms) m b is = ap (λ r. p x || r) (any_end p ms m b is) ∙ by (p x) (list_any p ms) b
+  where
+    by : (a r b : Bool) → (a || (r || b)) ≡ ((a || r) || b)
+    by true r b = refl
+    by false r b = refl
+
+or_false : (b : Bool) → (b || false) ≡ b
+or_false true = refl
+or_false false = refl
+
+or_true : (b : Bool) → (b || true) ≡ true
+or_true true = refl
+or_true false = refl
+
+pub marks_more : (s : ℕ) (ms : List Mark) (m : Mark) → is_halt_of s m ≡ false
+    → with_mark_taken s (ms ++ m ∷ []) ≡ with_mark_taken s ms ++ m ∷ []
+marks_more s [] m off = ap (λ b. if b && not false then as_taken m ∷ [] else m ∷ []) off
+marks_more s (x ∷ ms) m off =
+    ap (λ b. if is_halt_of s x && not b then as_taken x ∷ ms ++ m ∷ []
+    else x ∷ with_mark_taken s (ms ++ m ∷ []))
+    (any_end (is_halt_of s) ms m false off ∙ or_false (list_any (is_halt_of s) ms))
+    ∙ elim (is_halt_of s x && not (list_any (is_halt_of s) ms)) as (λ b.
+    (if b then as_taken x ∷ ms ++ m ∷ [] else x ∷ with_mark_taken s (ms ++ m ∷ []))
+    ≡ (if b then as_taken x ∷ ms else x ∷ with_mark_taken s ms) ++ m ∷ []) [
+      | true ↦ refl
+      | false ↦ ap (λ r. x ∷ r) (marks_more s ms m off)
+    ]
+
+-- the mark of the halt
+pub marks_new : (s line : ℕ) (ms : List Mark)
+    → with_mark_taken s (ms ++ marks.Halted line s false ∷ []) ≡ ms ++ marks.Halted line s true ∷ []
+marks_new s line [] =
+    ap (λ b. if b && not false then marks.Halted line s true ∷ [] else marks.Halted line s false ∷ [])
+    (eq-eqb s s refl)
+marks_new s line (x ∷ ms) =
+    ap (λ b. if is_halt_of s x && not b then as_taken x ∷ ms ++ lost ∷ []
+    else x ∷ with_mark_taken s (ms ++ lost ∷ []))
+    (any_end (is_halt_of s) ms lost true (eq-eqb s s refl) ∙ or_true (list_any (is_halt_of s) ms))
+    ∙ elim (is_halt_of s x) as (λ b.
+    (if b && not true then as_taken x ∷ ms ++ lost ∷ []
+    else x ∷ with_mark_taken s (ms ++ lost ∷ []))
+    ≡ x ∷ ms ++ marks.Halted line s true ∷ []) [
+      | true ↦ ap (λ r. x ∷ r) (marks_new s line ms)
+      | false ↦ ap (λ r. x ∷ r) (marks_new s line ms)
+    ]
+  where
+    lost : Mark
+    lost = marks.Halted line s false
+
+-- numbers of taken events
+pub number_more : (p n : ℕ) (ks : List ℕ) → p ≤ n
+    → with_number p (n ∷ ks) ≡ (n + 1) ∷ with_number p ks
+number_more p n ks high = elim (lt_cases n p) [
+  | inl y ↦ let low = y.1 in absurd (omega (arith, low, high))
+  | inr h ↦ rw h.0 refl
+]
+
+pub number_new : (p : ℕ) (ks : List ℕ) → ((i : ℕ) → has_number ks i ≡ true → i < p)
+    → with_number p ks ≡ p ∷ ks
+number_new p [] below = refl
+number_new p (k ∷ ks) below = elim (lt_cases k p) [
+  | inl y ↦ rw y.0 refl
+  | inr h ↦
+      let low = below k (ap (λ b. b || has_number ks k) (eq-eqb k k refl)) in
+      let high = h.1 in
+      absurd (omega (arith, low, high))
+]
+
+-- the letters under their new numbers
+ids_low : (p n place : ℕ) (sent : List Sent) → n < p
+    → map (moved_letter p) (ids_from n place sent) ≡ ids_from n place sent
+ids_low p n place [] low = refl
+ids_low p n place (x ∷ sent) low =
+    λ i. record { event = moved_low p n low i; place = place } ∷ ids_low p n (place + 1) sent low i
+
+ids_high : (p n place : ℕ) (sent : List Sent) → p ≤ n
+    → ids_from (n + 1) place sent ≡ map (moved_letter p) (ids_from n place sent)
+ids_high p n place [] high = refl
+ids_high p n place (x ∷ sent) high =
+    λ i. record { event = sym (moved_high p n high) i; place = place }
+    ∷ ids_high p n (place + 1) sent high i
+
+letters_low : (p : ℕ) (t : List Event) → length t ≤ p
+    → map (moved_letter p) (letters t) ≡ letters t
+letters_low p [] low = refl
+letters_low p (x ∷ t) low =
+    map-append (moved_letter p) (letters t) (ids_from (length t) 0 x.sent)
+    ∙ λ i. letters_low p t (omega (arith, low)) i
+    ++ ids_low p (length t) 0 x.sent (omega (arith, low)) i
+
+module _ (before : List Event) (e : Event) (mute : e.sent ≡ []) where
+  pub all_letters : (behind : List Event)
+      → letters (put_in behind e before)
+      ≡ map (moved_letter (length before)) (letters (behind ++ before))
+  all_letters [] =
+      ap (λ (sent : List Sent). letters before ++ ids_from (length before) 0 sent) mute
+      ∙ append-nil (letters before)
+      ∙ sym (letters_low (length before) before (omega arith))
+  all_letters (x ∷ b) =
+      (λ i. all_letters b i ++ ids_from (put_in_length before e b i) 0 x.sent)
+      ∙ ap (λ r. map (moved_letter (length before)) (letters (b ++ before)) ++ r)
+      (ids_high (length before) (length (b ++ before)) 0 x.sent (behind_long before e b))
+      ∙ sym (map-append (moved_letter (length before)) (letters (b ++ before))
+      (ids_from (length (b ++ before)) 0 x.sent))
+
+get_map : (f : LetterId → LetterId) (xs : List LetterId) (n : ℕ)
+    → slice_get (map f xs) n ≡ option_map f (slice_get xs n)
+get_map f [] n = refl
+get_map f (x ∷ xs) zero = refl
+get_map f (x ∷ xs) (suc n) = get_map f xs n
+
+-- a letter that waits, under its new number
+abbrev pub moved_waiting : ℕ → ℕ × LetterId → ℕ × LetterId
+moved_waiting p w = (w.0, moved_letter p w.1)
+
+module _ (s : ℕ) (behind before : List Event) (e : Event) (st : Standing) (mute : e.sent ≡ [])
+    (was : st.running.trace ≡ behind ++ before) where
+  abbrev later : Standing
+  later = with_taken_in s behind e before st
+
+  letters_later : letters later.running.trace
+      ≡ map (moved_letter (length before)) (letters st.running.trace)
+  letters_later =
+      all_letters before e mute behind
+      ∙ ap (λ t. map (moved_letter (length before)) (letters t)) (sym was)
+
+  pub letter_later : (letter : LetterId)
+      → letter_at later.running.trace (moved_letter (length before) letter)
+      ≡ letter_at st.running.trace letter
+  letter_later letter =
+      letters_moved before e behind letter ∙ ap (λ t. letter_at t letter) (sym was)
+
+  pub addressee_later : (letter : LetterId)
+      → addressee later (moved_letter (length before) letter) ≡ addressee st letter
+  addressee_later letter =
+      ap (λ o. option_map_or (λ (m : Mail). m.to) o 0) (letter_later letter)
+
+  pub letter_of_later : (k : ℕ)
+      → letter_of later.running k
+      ≡ option_map (moved_letter (length before)) (letter_of st.running k)
+  letter_of_later k =
+      ap (λ ls. if eqb k 0 || has_number st.running.lost k then None else slice_get ls (k - 1))
+      letters_later
+      ∙ elim (eqb k 0 || has_number st.running.lost k) as (λ b.
+      (if b then None
+      else slice_get (map (moved_letter (length before)) (letters st.running.trace)) (k - 1))
+      ≡ option_map (moved_letter (length before))
+      (if b then None else slice_get (letters st.running.trace) (k - 1))) [
+        | true ↦ refl
+        | false ↦ get_map (moved_letter (length before)) (letters st.running.trace) (k - 1)
+      ]
+
+  waits_later : (k : ℕ) (ls : List LetterId)
+      → waiting_from later k (map (moved_letter (length before)) ls)
+      ≡ option_map (moved_waiting (length before)) (waiting_from st k ls)
+  waits_later k [] = refl
+  waits_later k (l ∷ ls) =
+      ap (λ n. if has_number st.running.delivered k || has_number st.running.lost k
+      || has_number st.halted n then rest else Some (k, moved_letter (length before) l))
+      (addressee_later l)
+      ∙ elim (has_number st.running.delivered k || has_number st.running.lost k
+      || has_number st.halted (addressee st l)) as (λ b.
+      (if b then rest else Some (k, moved_letter (length before) l))
+      ≡ option_map (moved_waiting (length before))
+      (if b then waiting_from st (k + 1) ls else Some (k, l))) [
+        | true ↦ waits_later (k + 1) ls
+        | false ↦ refl
+      ]
+    where
+      rest : Option (ℕ × LetterId)
+      rest = waiting_from later (k + 1) (map (moved_letter (length before)) ls)
+
+  pub waiting_later : waiting later ≡ option_map (moved_waiting (length before)) (waiting st)
+  waiting_later = ap (waiting_from later 1) letters_later ∙ waits_later 1 (letters st.running.trace)
+
+  weights_later : (k : ℕ) (ls : List LetterId)
+      → weight_from later.running k (map (moved_letter (length before)) ls)
+      ≡ weight_from st.running k ls
+  weights_later k [] = refl
+  weights_later k (l ∷ ls) =
+      λ i. (if has_number st.running.delivered k || has_number st.running.lost k then 0
+      else option_map_or (λ (m : Mail). weight m.body) (letter_later l i) 0)
+      + weights_later (k + 1) ls i
+
+  pub weight_later : waiting_weight later.running ≡ waiting_weight st.running
+  weight_later =
+      ap (weight_from later.running 1) letters_later ∙ weights_later 1 (letters st.running.trace)

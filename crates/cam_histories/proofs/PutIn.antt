@@ -1,0 +1,337 @@
+-- Where an event is put in of which nobody learnt, the other nodes have the same histories but for
+-- the numbers of letters, and do the same.
+use Rattle.std.proofs.Common.{◌≡◌, inl, inr, ℕ, ◌+◌, ◌≤◌, eqb, Bool, true, false, if◌then◌else◌}
+use Rattle.std.proofs.Common.{List, [], ◌∷◌, ◌++◌, map, length, Option, Some, None, option_map, refl}
+use Rattle.std.proofs.Common.{sym, ap, ◌∙◌, arith, subst}
+use Rattle.std.specs.Option.{option_map_or}
+use Rattle.std.specs.List.{AllByRecursion}
+use Rattle.std.proofs.lemmas.Bool.{ne_eqb}
+use Rattle.std.proofs.lemmas.Bool.Decides.{eqb_tells}
+use Rattle.cam_names.specs.declared.name.Name.{Name}
+use Rattle.cam_type.specs.declared.ObjectDecl.{ObjectDecl}
+use Rattle.cam_know.specs.Knowledge.{Knowledge}
+use Rattle.cam_know.specs.Known.{nothing, both}
+use Rattle.cam_know.specs.Order.{told_in_order}
+use Rattle.cam_event.specs.declared.Event.{Event}
+use Rattle.cam_event.specs.declared.LetterId.{LetterId}
+use Rattle.cam_event.specs.declared.Want.{Want}
+use Rattle.cam_event.specs.declared.Want.TheVariants as wants
+use Rattle.cam_event.specs.declared.LineRefusal.{LineRefusal}
+use Rattle.cam_event.specs.Inputs.{Input, Begins, Requests, Receives, Tells, Queries, Restarts, Mail}
+use Rattle.cam_event.specs.Inputs.{letter_at, mail_got, node_of, got_of}
+use Rattle.cam_event.specs.Sights.{Sight, Entry}
+use Rattle.cam_event.specs.Refusals.{refusal, query_refusal}
+use Rattle.cam_event.specs.Readings.{by_knowledge}
+use Rattle.cam_event.specs.ByKnowledge.{Carried, entry_of, held, sight_with, new_informs}
+use Rattle.cam_event.specs.ByKnowledge.{held_sight, node_step}
+use Rattle.cam_event.specs.Loads.{Load}
+use Rattle.cam_event.specs.ByDeltas.{Received, as_carried, received, received_of, of_node, up_to}
+use Rattle.cam_event.specs.ByDeltas.{load_by, load_for}
+use Rattle.cam_delta.proofs.Growing.{received_length}
+use Rattle.cam_histories.specs.PutIn.{moved, moved_letter, moved_event, moved_input, put_in}
+use Rattle.cam_histories.specs.Laws.{history_of}
+use Rattle.cam_histories.specs.PutIn.{IsUnseen}
+use Rattle.cam_histories.specs.PutIn.{nameless, LettersAreMoved, LoadsAreMoved, HistoriesAreMoved}
+use Rattle.cam_histories.specs.PutIn.{RefusalsStay, QueryRefusalsStay, EventsAreMoved}
+use Rattle.cam_histories.proofs.Nameless.{bare, bare_entry, held_bare, sight_bare, step_bare}
+use Rattle.cam_histories.proofs.Nameless.{carried_bare, load_bare}
+use Rattle.cam_histories.proofs.Numbers.{lt_cases, moved_low, moved_high, moved_off, number_same}
+use Rattle.cam_histories.proofs.Numbers.{put_in_length, behind_long, letters_moved, mails_moved}
+use Rattle.cam_histories.proofs.Numbers.{sender_other}
+
+none_up : (all : List Received) (i : ℕ) → length all ≤ i → up_to all i ≡ []
+none_up [] i high = refl
+none_up (c ∷ all) i high =
+    rw (ne_eqb i (length all) (λ e. omega (arith, high, e))) (none_up all i (omega (arith, high)))
+
+module _ (objects : List ObjectDecl) (s : ℕ) (before : List Event) (e : Event) (at : e.node ≡ s)
+  where
+    abbrev old : List Event → List Received
+    old b = received_of objects (b ++ before)
+
+    abbrev new : List Event → List Received
+    new b = received_of objects (put_in b e before)
+
+    -- the histories of the other nodes, and those of all nodes up to an event before the place
+    pub record SameSo (b : List Event) : Type 0 where
+      pub own :
+          (m : ℕ) → (s ≡ m → ⊥)
+          → map nameless (of_node (new b) m) ≡ map nameless (of_node (old b) m)
+      pub up :
+          (i m : ℕ) → (length before ≤ i → s ≡ m → ⊥)
+          → map nameless (of_node (up_to (new b) (moved (length before) i)) m)
+          ≡ map nameless (of_node (up_to (old b) i) m)
+
+    -- so what a letter carries is the same
+    pub load_moved : (b : List Event) → SameSo b
+        → AllByRecursion (λ (x : Event). x.node ≡ s → ⊥) b → (letter : LetterId)
+        → load_by objects (new b) (Some (moved_letter (length before) letter))
+        (letter_at (put_in b e before) (moved_letter (length before) letter))
+        ≡ load_by objects (old b) (Some letter) (letter_at (b ++ before) letter)
+    load_moved b same others letter =
+        ap (load_by objects (new b) (Some (moved_letter (length before) letter)))
+        (letters_moved before e b letter)
+        ∙ by (letter_at (b ++ before) letter) refl
+      where
+        by : (o : Option Mail) → letter_at (b ++ before) letter ≡ o
+            → load_by objects (new b) (Some (moved_letter (length before) letter)) o
+            ≡ load_by objects (old b) (Some letter) o
+        by None there = refl
+        by (Some mail) there =
+            let later = of_node (up_to (new b) (moved (length before) letter.event)) mail.from in
+            let was = of_node (up_to (old b) letter.event) mail.from in
+            sym (load_bare objects mail.from later mail.to)
+            ∙ ap (λ h. load_for objects mail.from h mail.to)
+            (same.up letter.event mail.from
+            (λ high. sender_other s before b letter mail others high there))
+            ∙ load_bare objects mail.from was mail.to
+
+    pub got_moved : (b : List Event) → SameSo b
+        → AllByRecursion (λ (x : Event). x.node ≡ s → ⊥) b → (got : Option LetterId)
+        → load_by objects (new b) (option_map (moved_letter (length before)) got)
+        (mail_got (put_in b e before) (option_map (moved_letter (length before)) got))
+        ≡ load_by objects (old b) got (mail_got (b ++ before) got)
+    got_moved b same others None = refl
+    got_moved b same others (Some letter) = load_moved b same others letter
+
+    first_same : SameSo []
+    first_same = record {
+      own = λ m off.
+          ap (λ b. map nameless (if b then newest ∷ of_node (old []) m else of_node (old []) m))
+          (ap (λ k. eqb k m) at ∙ ne_eqb s m off);
+      up = λ i m off.
+          ap (λ n. map nameless (of_node (if eqb (moved p i) n then newest ∷ old [] else
+          up_to (old []) (moved p i)) m)) (received_length objects before)
+          ∙ ap (λ b. map nameless (of_node (if b then newest ∷ old [] else
+          up_to (old []) (moved p i)) m)) (moved_off p i)
+          ∙ ap (λ h. map nameless (of_node h m)) (older i);
+    }
+      where
+        p : ℕ
+        p = length before
+
+        newest : Received
+        newest = received objects (old []) e (mail_got before e.got)
+
+        older : (i : ℕ) → up_to (old []) (moved p i) ≡ up_to (old []) i
+        older i = elim (lt_cases i p) [
+          | inl y ↦ ap (up_to (old [])) (moved_low p i y.1)
+          | inr n ↦
+              let high = n.1 in
+              let long = received_length objects before in
+              ap (up_to (old [])) (moved_high p i n.1)
+              ∙ none_up (old []) (i + 1) (omega (arith, high, long))
+              ∙ sym (none_up (old []) i (omega (arith, high, long)))
+        ]
+
+    next_same : (x : Event) (b : List Event) → (x.node ≡ s → ⊥)
+        → AllByRecursion (λ (y : Event). y.node ≡ s → ⊥) b → SameSo b → SameSo (x ∷ b)
+    next_same x b off others same = record { own = own; up = up }
+      where
+        p : ℕ
+        p = length before
+
+        got : Option LetterId
+        got = option_map (moved_letter p) x.got
+
+        now : Received
+        now = received objects (new b) (moved_event p x) (mail_got (put_in b e before) got)
+
+        was : Received
+        was = received objects (old b) x (mail_got (b ++ before) x.got)
+
+        newest : nameless now ≡ nameless was
+        newest = λ i. record {
+          event = record x { got = None };
+          mail = mails_moved before e b x.got i;
+          load = got_moved b same others x.got i;
+        }
+
+        own : (m : ℕ) → (s ≡ m → ⊥)
+            → map nameless (of_node (now ∷ new b) m) ≡ map nameless (of_node (was ∷ old b) m)
+        own m away = elim (eqb x.node m) as (λ c.
+            map nameless (if c then now ∷ of_node (new b) m else of_node (new b) m)
+            ≡ map nameless (if c then was ∷ of_node (old b) m else of_node (old b) m)) [
+              | true ↦ λ i. newest i ∷ same.own m away i
+              | false ↦ same.own m away
+            ]
+
+        up : (i m : ℕ) → (p ≤ i → s ≡ m → ⊥)
+            → map nameless (of_node (up_to (now ∷ new b) (moved p i)) m)
+            ≡ map nameless (of_node (up_to (was ∷ old b) i) m)
+        up i m away =
+            ap (λ n. map nameless (of_node (if eqb (moved p i) n then now ∷ new b else
+            up_to (new b) (moved p i)) m))
+            (received_length objects (put_in b e before) ∙ put_in_length before e b)
+            ∙ ap (λ c. map nameless (of_node (if c then now ∷ new b else
+            up_to (new b) (moved p i)) m)) (number_same p (length (b ++ before)) i (behind_long before e b))
+            ∙ ap (λ n. map nameless (of_node (if eqb i n then now ∷ new b else
+            up_to (new b) (moved p i)) m)) (sym (received_length objects (b ++ before)))
+            ∙ elim (eqb_tells i (length (old b))) [
+              | inl y ↦
+                  let high : p ≤ i = at_place y.1 in
+                  rw y.0 (own m (away high))
+              | inr n ↦ rw n.0 (same.up i m away)
+            ]
+          where
+            at_place : i ≡ length (old b) → p ≤ i
+            at_place is =
+                let long = received_length objects (b ++ before) in
+                let low = behind_long before e b in
+                omega (arith, is, long, low)
+
+    pub same_so : (b : List Event) → AllByRecursion (λ (x : Event). x.node ≡ s → ⊥) b → SameSo b
+    same_so [] others = first_same
+    same_so (x ∷ b) others = next_same x b others.0 others.1 (same_so b others.1)
+
+-- the step of a node, for an input under its new number
+moved_step : (p : ℕ) (objects : List ObjectDecl) (n : ℕ) (h : List Carried) (input : Input)
+    (mail : Option Mail) (k : Knowledge)
+    → node_step objects n h (moved_input p input) mail k
+    ≡ moved_event p (node_step objects n h input mail k)
+moved_step p objects n h (Begins s) mail k = refl
+moved_step p objects n h (Requests r) mail k = refl
+moved_step p objects n h (Receives letter) mail k = refl
+moved_step p objects n h (Tells s to) mail k = refl
+moved_step p objects n h (Queries s f) mail k = refl
+moved_step p objects n h (Restarts s) mail k = refl
+
+-- two histories that are the same but for numbers
+carried_alike : (h j : List Received) → map nameless h ≡ map nameless j
+    → map bare (map as_carried h) ≡ map bare (map as_carried j)
+carried_alike h j same = sym (carried_bare h) ∙ ap (map as_carried) same ∙ carried_bare j
+
+step_alike : (objects : List ObjectDecl) (n : ℕ) (h j : List Received) (input : Input)
+    (mail : Option Mail) (k : Knowledge) → map nameless h ≡ map nameless j
+    → node_step objects n (map as_carried h) input mail k
+    ≡ node_step objects n (map as_carried j) input mail k
+step_alike objects n h j input mail k same =
+    sym (step_bare objects n (map as_carried h) input mail k)
+    ∙ ap (λ cs. node_step objects n cs input mail k) (carried_alike h j same)
+    ∙ step_bare objects n (map as_carried j) input mail k
+
+-- what a node goes by, but for its events
+abbrev pub eventless : Sight → Sight
+eventless g = record g { events = [] }
+
+sight_alone : (objects : List ObjectDecl) (n : ℕ) (h : List Carried)
+    → eventless (held_sight objects n (map bare h) nothing)
+    ≡ eventless (held_sight objects n h nothing)
+sight_alone objects n h =
+    ap (λ k. eventless (sight_with objects n (map bare h) (new_informs n nothing k) (both k nothing)))
+    (held_bare objects h)
+    ∙ ap eventless
+    (sight_bare objects n h (new_informs n nothing (held objects h)) (both (held objects h) nothing))
+
+pub sight_alike : (objects : List ObjectDecl) (n : ℕ) (h j : List Received)
+    → map nameless h ≡ map nameless j
+    → eventless (held_sight objects n (map as_carried h) nothing)
+    ≡ eventless (held_sight objects n (map as_carried j) nothing)
+sight_alike objects n h j same =
+    sym (sight_alone objects n (map as_carried h))
+    ∙ ap (λ cs. eventless (held_sight objects n cs nothing)) (carried_alike h j same)
+    ∙ sight_alone objects n (map as_carried j)
+
+-- the laws
+pub letters_are_moved : LettersAreMoved
+letters_are_moved s behind before e letter unseen = letters_moved before e behind letter
+
+pub loads_are_moved : LoadsAreMoved
+loads_are_moved objects s behind before e letter unseen =
+    load_moved objects s before e unseen.at behind
+    (same_so objects s before e unseen.at behind unseen.others) unseen.others letter
+
+pub histories_are_moved : HistoriesAreMoved
+histories_are_moved objects s m behind before e unseen off =
+    (same_so objects s before e unseen.at behind unseen.others).own m off
+
+pub sights_stay : (objects : List ObjectDecl) (s m : ℕ) (behind before : List Event) (e : Event)
+    → IsUnseen s behind e → (s ≡ m → ⊥)
+    → eventless ((by_knowledge objects).sight (put_in behind e before) m)
+    ≡ eventless ((by_knowledge objects).sight (behind ++ before) m)
+sights_stay objects s m behind before e unseen off =
+    sight_alike objects m (history_of objects (put_in behind e before) m)
+    (history_of objects (behind ++ before) m)
+    (histories_are_moved objects s m behind before e unseen off)
+
+-- a refusal does not go by the node's events
+refusal_alone : (g : Sight) (a : Name) (want : Want) → refusal g a want ≡ refusal (eventless g) a want
+refusal_alone g a (wants.Ask m) = refl
+refusal_alone g a (wants.Call x op) = refl
+refusal_alone g a (wants.Commit v) = refl
+refusal_alone g a wants.Abort = refl
+refusal_alone g a (wants.GiveUp b) = refl
+
+pub refusals_stay : RefusalsStay
+refusals_stay objects s m behind before e a want unseen off =
+    refusal_alone ((by_knowledge objects).sight (put_in behind e before) m) a want
+    ∙ ap (λ g. refusal g a want) (sights_stay objects s m behind before e unseen off)
+    ∙ sym (refusal_alone ((by_knowledge objects).sight (behind ++ before) m) a want)
+
+pub query_refusals_stay : QueryRefusalsStay
+query_refusals_stay objects s m behind before e f unseen off =
+    ap (λ g. query_refusal g f) (sights_stay objects s m behind before e unseen off)
+
+-- the node of an input
+pub node_moved : (behind before : List Event) (e : Event) (input : Input)
+    → node_of (put_in behind e before) (moved_input (length before) input)
+    ≡ node_of (behind ++ before) input
+node_moved behind before e (Begins s) = refl
+node_moved behind before e (Requests r) = refl
+node_moved behind before e (Receives letter) =
+    ap (λ o. option_map_or (λ (m : Mail). m.to) o 0) (letters_moved before e behind letter)
+node_moved behind before e (Tells s to) = refl
+node_moved behind before e (Queries s f) = refl
+node_moved behind before e (Restarts s) = refl
+
+got_of_moved : (p : ℕ) (input : Input) → got_of (moved_input p input) ≡ option_map (moved_letter p) (got_of input)
+got_of_moved p (Begins s) = refl
+got_of_moved p (Requests r) = refl
+got_of_moved p (Receives letter) = refl
+got_of_moved p (Tells s to) = refl
+got_of_moved p (Queries s f) = refl
+got_of_moved p (Restarts s) = refl
+
+pub events_are_moved : EventsAreMoved
+events_are_moved objects s behind before e input unseen off =
+    ap (λ n. node_step objects n (map as_carried (of_node now n)) moves (mail_got after (got_of moves))
+    (told_in_order (load_by objects now (got_of moves) (mail_got after (got_of moves))).know))
+    (node_moved behind before e input)
+    ∙ (λ i. node_step objects n (map as_carried (of_node now n)) moves (mails i)
+    (told_in_order (loads i).know))
+    ∙ step_alike objects n (of_node now n) (of_node was n) moves mail (told_in_order load.know)
+    (histories_are_moved objects s n behind before e unseen off)
+    ∙ moved_step p objects n (map as_carried (of_node was n)) input mail (told_in_order load.know)
+  where
+    p : ℕ
+    p = length before
+
+    after : List Event
+    after = put_in behind e before
+
+    now : List Received
+    now = received_of objects after
+
+    was : List Received
+    was = received_of objects (behind ++ before)
+
+    moves : Input
+    moves = moved_input p input
+
+    n : ℕ
+    n = node_of (behind ++ before) input
+
+    mail : Option Mail
+    mail = mail_got (behind ++ before) (got_of input)
+
+    load : Load
+    load = load_by objects was (got_of input) mail
+
+    mails : mail_got after (got_of moves) ≡ mail
+    mails = ap (mail_got after) (got_of_moved p input) ∙ mails_moved before e behind (got_of input)
+
+    loads : load_by objects now (got_of moves) (mail_got after (got_of moves)) ≡ load
+    loads =
+        ap (λ g. load_by objects now g (mail_got after g)) (got_of_moved p input)
+        ∙ got_moved objects s before e unseen.at behind
+        (same_so objects s before e unseen.at behind unseen.others) unseen.others (got_of input)

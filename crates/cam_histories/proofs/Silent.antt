@@ -1,0 +1,200 @@
+-- What a node's taken event has shows in no view of an action of another node.
+use Rattle.std.proofs.Common.{◌≡◌, ◌⊎◌, inl, inr, ℕ, ◌+◌, ◌≤◌, eqb, Bool, true, false, ◌&&◌, ◌||◌}
+use Rattle.std.proofs.Common.{if◌then◌else◌, List, [], ◌∷◌, ◌++◌, map, filter, length, Option, Some, None}
+use Rattle.std.proofs.Common.{refl, sym, ap, ◌∙◌, subst, ℤ, append-nil}
+use Rattle.std.specs.List.{list_any}
+use Rattle.std.proofs.lemmas.List.{append_assoc}
+use Rattle.cam_names.specs.declared.name.Name.{Name}
+use Rattle.cam_names.specs.Names.{name_eq, is_ancestor, is_child, home_node}
+use Rattle.cam_type.specs.declared.ObjectDecl.{ObjectDecl}
+use Rattle.cam_event.specs.declared.Event.{Event}
+use Rattle.cam_event.specs.declared.Note.{Note}
+use Rattle.cam_event.specs.declared.Note.TheVariants as notes
+use Rattle.cam_event.specs.declared.Deed.{Deed}
+use Rattle.cam_event.specs.declared.Deed.TheVariants.{Create, Ask, Call, Perform, Bounce, Got}
+use Rattle.cam_event.specs.declared.Deed.TheVariants.{AskCommit, AskAbort, Commit, Abort, Secure}
+use Rattle.cam_event.specs.declared.Deed.TheVariants.{Inform, Crash}
+use Rattle.cam_event.specs.declared.ViewStep.{ViewStep}
+use Rattle.cam_event.specs.History.{after, commit_value}
+use Rattle.cam_event.specs.Pasts.{plain, plain_all, every}
+use Rattle.cam_event.specs.Taken.{is_entered, taken_of}
+use Rattle.cam_event.specs.Views.{committed_child, step_of, view}
+use Rattle.cam_event.proofs.Members.{In}
+use Rattle.cam_cut.proofs.OpenChildren.{not_child}
+use Rattle.cam_cut.proofs.Places.{PlacedAt, PlacedDeeds, AllPlaced}
+use Rattle.cam_runs.specs.Playing.{is_stop_note, is_stop_of}
+use Rattle.cam_runs.specs.Requests.{created_in, asked_in}
+use Rattle.cam_histories.specs.PutIn.{moved_event, put_in}
+
+-- A deed shows nothing to an action, and it says no value with which one commits.
+pub record ShowsNothing (s : ℕ) (d : Deed) : Type 0 where
+  pub step :
+      (L : List Deed) (a : Name) → is_ancestor a a ≡ true → (s ≡ home_node a → ⊥)
+      → step_of L d a ≡ []
+  pub value : (L : List Deed) (b : Name) → commit_value (d ∷ L) b ≡ commit_value L b
+
+abbrev pub AreSilent : ℕ → List Deed → Type 0
+AreSilent s ds = (d : Deed) → In d ds → ShowsNothing s d
+
+-- an entered deed at its place does
+shows_nothing : (objects : List ObjectDecl) (H : List Deed) (s : ℕ) (d : Deed)
+    → is_entered d ≡ true → PlacedAt objects H s d → ShowsNothing s d
+shows_nothing objects H s (Commit b) entered placed = record {
+  step = λ L a named off.
+      ap (λ c. if c then committed_child b (commit_value L b) else [])
+      (not_child a b s named placed off);
+  value = λ L x. refl;
+}
+shows_nothing objects H s (Abort b) entered placed = record {
+  step = λ L a named off.
+      ap (λ c. if c then _ else []) (not_child a b s named placed off);
+  value = λ L x. refl;
+}
+shows_nothing objects H s (Secure f site c) entered placed =
+    record { step = λ L a named off. refl; value = λ L x. refl }
+shows_nothing objects H s (Inform site b outcome) entered placed =
+    record { step = λ L a named off. refl; value = λ L x. refl }
+shows_nothing objects H s (Crash site) entered placed =
+    record { step = λ L a named off. refl; value = λ L x. refl }
+shows_nothing objects H s (Create b) entered placed = cc
+shows_nothing objects H s (Ask b x) entered placed = cc
+shows_nothing objects H s (Call b n x op c) entered placed = cc
+shows_nothing objects H s (Perform b n answer) entered placed = cc
+shows_nothing objects H s (Bounce b n u) entered placed = cc
+shows_nothing objects H s (Got b n seen) entered placed = cc
+shows_nothing objects H s (AskCommit b v) entered placed = cc
+shows_nothing objects H s (AskAbort b) entered placed = cc
+
+in_entered : (d : Deed) (ds : List Deed) → In d (filter is_entered ds)
+    → In d ds × (is_entered d ≡ true)
+in_entered d [] there = absurd there
+in_entered d (x ∷ ds) there = by (is_entered x) refl there (in_entered d ds)
+  where
+    by : (b : Bool) → is_entered x ≡ b → In d (if b then x ∷ filter is_entered ds else filter is_entered ds)
+        → (In d (filter is_entered ds) → In d ds × (is_entered d ≡ true))
+        → In d (x ∷ ds) × (is_entered d ≡ true)
+    by true is (inl same) rest = (inl same, ap is_entered same ∙ is)
+    by true is (inr old) rest = let r = rest old in (inr r.0, r.1)
+    by false is old rest = let r = rest old in (inr r.0, r.1)
+
+pub entered_silent : (objects : List ObjectDecl) (H : List Deed) (s : ℕ) (ds : List Deed)
+    → PlacedDeeds objects H s (filter is_entered ds) → AreSilent s (filter is_entered ds)
+entered_silent objects H s ds placed d there =
+    shows_nothing objects H s d (in_entered d ds there).1 (placed d there)
+
+-- the events behind others are placed as all are
+pub placed_behind : (objects : List ObjectDecl) (H : List Deed) (more t : List Event)
+    → AllPlaced objects H (more ++ t) → AllPlaced objects H t
+placed_behind objects H [] t all = all
+placed_behind objects H (e ∷ more) t all = placed_behind objects H more t all.1
+
+-- Silent deeds between others change no view and no value.
+module _ (s : ℕ) (a : Name) (named : is_ancestor a a ≡ true) (off : s ≡ home_node a → ⊥) where
+  abbrev Same : List Deed → List Deed → Type 0
+  Same L M = (view L a ≡ view M a) × ((b : Name) → commit_value L b ≡ commit_value M b)
+
+  step_same : (d : Deed) (L M : List Deed) → ((b : Name) → commit_value L b ≡ commit_value M b)
+      → step_of L d a ≡ step_of M d a
+  step_same (Commit b) L M same =
+      ap (λ v. if is_child a b then committed_child b v else []) (same b)
+  step_same (Create b) L M same = refl
+  step_same (Ask p b) L M same = refl
+  step_same (Call b n x op c) L M same = refl
+  step_same (Perform b n answer) L M same = refl
+  step_same (Bounce b n u) L M same = refl
+  step_same (Got b n seen) L M same = refl
+  step_same (AskCommit b v) L M same = refl
+  step_same (AskAbort b) L M same = refl
+  step_same (Abort b) L M same = refl
+  step_same (Secure f site c) L M same = refl
+  step_same (Inform site b outcome) L M same = refl
+  step_same (Crash site) L M same = refl
+
+  value_same : (d : Deed) (L M : List Deed) (b : Name) → commit_value L b ≡ commit_value M b
+      → commit_value (d ∷ L) b ≡ commit_value (d ∷ M) b
+  value_same (AskCommit x v) L M b same = ap (λ o. if name_eq b x then Some v else o) same
+  value_same (Commit x) L M b same = same
+  value_same (Create x) L M b same = same
+  value_same (Ask p x) L M b same = same
+  value_same (Call x n y op c) L M b same = same
+  value_same (Perform x n answer) L M b same = same
+  value_same (Bounce x n u) L M b same = same
+  value_same (Got x n seen) L M b same = same
+  value_same (AskAbort x) L M b same = same
+  value_same (Abort x) L M b same = same
+  value_same (Secure f site c) L M b same = same
+  value_same (Inform site x outcome) L M b same = same
+  value_same (Crash site) L M b same = same
+
+  both_same : (ds L M : List Deed) → Same L M → Same (after L ds) (after M ds)
+  both_same [] L M same = same
+  both_same (d ∷ ds) L M same =
+      both_same ds (d ∷ L) (d ∷ M)
+      ((λ i. same.0 i ++ step_same d L M same.1 i), (λ b. value_same d L M b (same.1 b)))
+
+  more_same : (ds L M : List Deed) → AreSilent s ds → Same L M → Same (after L ds) M
+  more_same [] L M silent same = same
+  more_same (d ∷ ds) L M silent same =
+      more_same ds (d ∷ L) M (λ x i. silent x (inr i))
+      (ap (λ r. view L a ++ r) ((silent d (inl refl)).step L a named off)
+      ∙ append-nil (view L a) ∙ same.0,
+      (λ b. (silent d (inl refl)).value L b ∙ same.1 b))
+
+  put_in_same : (behind before : List Event) (e : Event) → AreSilent s e.deeds
+      → Same (plain_all (put_in behind e before)) (plain_all (behind ++ before))
+  put_in_same [] before e silent =
+      more_same e.deeds (plain_all before) (plain_all before) silent (refl, λ b. refl)
+  put_in_same (x ∷ behind) before e silent =
+      both_same x.deeds (plain_all (put_in behind e before)) (plain_all (behind ++ before))
+      (put_in_same behind before e silent)
+
+  pub view_stays : (behind before : List Event) (e : Event) → AreSilent s e.deeds
+      → view (plain_all (put_in behind e before)) a ≡ view (plain_all (behind ++ before)) a
+  view_stays behind before e silent = (put_in_same behind before e silent).0
+
+-- A taken event stops no action, creates none and asks for none.
+and_false : (b : Bool) → (b && false) ≡ false
+and_false true = refl
+and_false false = refl
+
+pub stops_stay : (a : Name) (behind before : List Event) (e : Event) → e.note ≡ notes.Plain
+    → list_any (is_stop_of a) (put_in behind e before)
+    ≡ list_any (is_stop_of a) (behind ++ before)
+stops_stay a [] before e plain_note =
+    ap (λ (n : Note). (eqb e.node (home_node a) && is_stop_note a n) || list_any (is_stop_of a) before)
+    plain_note
+    ∙ ap (λ b. b || list_any (is_stop_of a) before) (and_false (eqb e.node (home_node a)))
+stops_stay a (x ∷ behind) before e plain_note =
+    ap (λ b. is_stop_of a x || b) (stops_stay a behind before e plain_note)
+
+pub creates_none : (ds : List Deed) → created_in (filter is_entered ds) ≡ None
+creates_none [] = refl
+creates_none (Create b ∷ ds) = creates_none ds
+creates_none (Ask p b ∷ ds) = creates_none ds
+creates_none (Call b n x op c ∷ ds) = creates_none ds
+creates_none (Perform b n answer ∷ ds) = creates_none ds
+creates_none (Bounce b n u ∷ ds) = creates_none ds
+creates_none (Got b n seen ∷ ds) = creates_none ds
+creates_none (AskCommit b v ∷ ds) = creates_none ds
+creates_none (AskAbort b ∷ ds) = creates_none ds
+creates_none (Commit b ∷ ds) = refl
+creates_none (Abort b ∷ ds) = refl
+creates_none (Secure f site c ∷ ds) = refl
+creates_none (Inform site b outcome ∷ ds) = refl
+creates_none (Crash site ∷ ds) = refl
+
+pub asks_none : (ds : List Deed) → asked_in (filter is_entered ds) ≡ None
+asks_none [] = refl
+asks_none (Create b ∷ ds) = asks_none ds
+asks_none (Ask p b ∷ ds) = asks_none ds
+asks_none (Call b n x op c ∷ ds) = asks_none ds
+asks_none (Perform b n answer ∷ ds) = asks_none ds
+asks_none (Bounce b n u ∷ ds) = asks_none ds
+asks_none (Got b n seen ∷ ds) = asks_none ds
+asks_none (AskCommit b v ∷ ds) = asks_none ds
+asks_none (AskAbort b ∷ ds) = asks_none ds
+asks_none (Commit b ∷ ds) = refl
+asks_none (Abort b ∷ ds) = refl
+asks_none (Secure f site c ∷ ds) = refl
+asks_none (Inform site b outcome ∷ ds) = refl
+asks_none (Crash site ∷ ds) = refl

@@ -1,0 +1,111 @@
+-- A halt that is found to be taken, after more of a run: what stands is what stood, with the taken
+-- event put in at its place.
+--
+-- Two runs of the same lines, whose halts differ at one input alone: the one loses the event at
+-- which its node halts there, the other has it taken. As long as the node is not restarted they go
+-- on alike. The trace of the other has the taken event besides, at its place; the events behind it
+-- have numbers greater by one. The mark of the halt says that it was taken. Nothing else differs:
+-- variables, bodies, which letters were delivered and which were lost, which nodes are halted, what
+-- the disks went through, and what each line does and leaves.
+use Rattle.std.specs.Prelude.{◌≡◌, ◌⊎◌, ℕ, ◌+◌, ◌<◌, ◌≤◌, eqb, nat_lt, Bool, true, false, not, ◌&&◌}
+use Rattle.std.specs.Prelude.{if◌then◌else◌, List, [], ◌∷◌, ◌++◌, length, Option, Some}
+use Rattle.std.specs.List.{list_any, AllByRecursion}
+use Rattle.cam_event.specs.declared.Event.{Event}
+use Rattle.cam_event.specs.declared.Mark.{Mark}
+use Rattle.cam_event.specs.declared.Mark.TheVariants as marks
+use Rattle.cam_event.specs.Inputs.{Input, node_of}
+use Rattle.cam_event.specs.Readings.{Reading, by_pasts, by_knowledge}
+use Rattle.cam_event.specs.Taken.{taken_of}
+use Rattle.cam_script.specs.declared.Act.{Act}
+use Rattle.cam_script.specs.declared.Script.{Script}
+use Rattle.cam_script.specs.declared.Step.{Step}
+use Rattle.cam_runs.specs.Running.{has_number}
+use Rattle.cam_runs.specs.InRange.{IsInRange}
+use Rattle.cam_runs.specs.Halts.{Turn, accepted, Halting}
+use Rattle.cam_runs.specs.Standing.{Standing}
+use Rattle.cam_runs.specs.HaltedLines.{after_line, is_restart_act}
+use Rattle.cam_runs.specs.UnderHalts.{IsUnderHalts, IsNextStep, act_by}
+use Rattle.cam_histories.specs.PutIn.{put_in, IsUnseen}
+
+-- the numbers of the taken events, the newest first, with one more
+abbrev pub with_number : ℕ → List ℕ → List ℕ
+with_number place [] = place ∷ []
+with_number place (k ∷ ks) =
+    if nat_lt k place then place ∷ k ∷ ks else (k + 1) ∷ with_number place ks
+
+-- the marks, where the last halt of the node was taken
+abbrev pub is_halt_of : ℕ → Mark → Bool
+is_halt_of s (marks.Halted line m took) = eqb m s
+is_halt_of s _ = false
+
+abbrev pub as_taken : Mark → Mark
+as_taken (marks.Halted line m took) = marks.Halted line m true
+as_taken mark = mark
+
+abbrev pub with_mark_taken : ℕ → List Mark → List Mark
+with_mark_taken s [] = []
+with_mark_taken s (m ∷ ms) =
+    if is_halt_of s m && not (list_any (is_halt_of s) ms) then as_taken m ∷ ms
+    else m ∷ with_mark_taken s ms
+
+-- what stands with the event put in
+abbrev pub with_taken_in : ℕ → List Event → Event → List Event → Standing → Standing
+with_taken_in s behind e before st =
+    record st {
+      running = record st.running {
+        trace = put_in behind e before;
+        marks = with_mark_taken s st.running.marks;
+      };
+      taken = with_number (length before) st.taken;
+    }
+
+-- What stands in the run that lost the event, and what stands in the one that has it taken behind
+-- the events `before`. The node is halted.
+pub record IsFound (s : ℕ) (before : List Event) (e : Event) (lost found : Standing) : Type 0
+  where
+    pub behind : List Event
+    pub unseen : IsUnseen s behind e
+    pub was : lost.running.trace ≡ behind ++ before
+    pub is : found ≡ with_taken_in s behind e before lost
+    pub halted : has_number lost.halted s ≡ true
+
+-- The halts differ at the input of this number alone.
+pub record DifferAt (k : ℕ) (losing taking : Halting) : Type 0 where
+  pub alike :
+      (turns : List Turn) (s : ℕ) (appends restarted : Bool) → (accepted turns ≡ k → ⊥)
+      → losing turns s appends restarted ≡ taking turns s appends restarted
+  pub lost :
+      (turns : List Turn) (s : ℕ) (appends restarted : Bool) → accepted turns ≡ k
+      → losing turns s appends restarted ≡ Some false
+  pub took :
+      (turns : List Turn) (s : ℕ) (appends restarted : Bool) → accepted turns ≡ k
+      → taking turns s appends restarted ≡ Some true
+
+-- The input was put: it was one of this node, and its event was taken.
+pub record IsBeyond (reading : Reading) (k s : ℕ) (before : List Event) (e : Event)
+    (lost found : Standing) : Type 0 where
+  pub passed : k < accepted lost.turns
+  pub input : Input
+  pub of_node : node_of before input ≡ s
+  pub event : e ≡ taken_of (reading.next before input)
+  pub found : IsFound s before e lost found
+
+-- The input is still to come, and the same stands.
+pub record IsBefore (k : ℕ) (lost found : Standing) : Type 0 where
+  pub coming : accepted lost.turns ≤ k
+  pub same : found ≡ lost
+
+-- one or the other
+pub record HasBeyond (reading : Reading) (k : ℕ) (lost found : Standing) : Type 0 where
+  pub node : ℕ
+  pub before : List Event
+  pub event : Event
+  pub beyond : IsBeyond reading k node before event lost found
+
+abbrev pub GoesBeside : Reading → ℕ → Standing → Standing → Type 0
+GoesBeside reading k lost found = IsBefore k lost found ⊎ HasBeyond reading k lost found
+
+-- Numbers of taken events.
+abbrev pub NumbersAreMoved : Type 0
+NumbersAreMoved =
+    (p n : ℕ) (ks : List ℕ) → p ≤ n → with_number p (n ∷ ks) ≡ (n + 1) ∷ with_number p ks

@@ -1,0 +1,22 @@
+// A halt that is found to be taken, as laws.
+ghost use Rattle.cam_histories.specs.Found.{NumbersAreMoved};
+ghost use Rattle.cam_histories.specs.PutIn.{EventsAreMoved, HistoriesAreMoved, LettersAreMoved};
+ghost use Rattle.cam_histories.specs.PutIn.{LoadsAreMoved, QueryRefusalsStay, RefusalsStay};
+
+/// An event is put into a trace, one that sent no letter and whose node did nothing behind it. The
+/// events behind it then have numbers greater by one, and so have their letters. Nothing else
+/// differs: the letters are what they were and carry the same; each other node has the same history
+/// but for the numbers of its letters, refuses the same, and does the same at each input.
+pub fn events_put_in()
+    ensures letters { LettersAreMoved }
+    ensures loads { LoadsAreMoved }
+    ensures histories { HistoriesAreMoved }
+    ensures refusals { RefusalsStay }
+    ensures queries { QueryRefusalsStay }
+    ensures events { EventsAreMoved }
+{}
+
+/// Lines.
+pub fn lines_found()
+    ensures lines { NumbersAreMoved }
+{}
