@@ -275,7 +275,7 @@ module _ (objects : List ObjectDecl) (losing taking : Halting) (k : ℕ)
           input = both.is_beyond.input;
           of_node = both.is_beyond.of_node;
           event = both.is_beyond.event;
-          found = record {
+          stands = record {
             behind = end.behind;
             unseen = end.unseen;
             was = end.was;
@@ -294,7 +294,7 @@ module _ (objects : List ObjectDecl) (losing taking : Halting) (k : ℕ)
     }
       where
         found : IsFound s before e st there
-        found = both.is_beyond.found
+        found = both.is_beyond.stands
 
         passed : k < accepted st.turns
         passed = both.is_beyond.passed
@@ -346,8 +346,8 @@ module _ (objects : List ObjectDecl) (losing taking : Halting) (k : ℕ)
     below_after again st n ev w (Some true) below i has =
         elim (eqb_tells (length st.running.trace) i) [
           | inl y ↦ let same = y.1 in omega (arith, same)
-          | inr no ↦
-              let h = below i (sym (ap (λ b. b || has_number st.taken i) no.0) ∙ has) in
+          | inr other_one ↦
+              let h = below i (sym (ap (λ b. b || has_number st.taken i) other_one.0) ∙ has) in
               omega (arith, h)
         ]
 
@@ -369,7 +369,7 @@ module _ (objects : List ObjectDecl) (losing taking : Halting) (k : ℕ)
               input = input;
               of_node = refl;
               event = refl;
-              found = record {
+              stands = record {
                 behind = [];
                 unseen = record { at = refl; mute = refl; others = tt };
                 was = ap (λ (x : Standing). x.running.trace) loses;
@@ -471,7 +471,7 @@ module _ (objects : List ObjectDecl) (losing taking : Halting) (k : ℕ)
               → accepted (put one st input).turns ≤ k
           by_cases coming more = elim (eqb_tells (accepted st.turns) k) [
             | inl y ↦ absurd (off y.1)
-            | inr no ↦ let ne = no.1 in omega (arith, coming, more, less coming ne)
+            | inr other_one ↦ let ne = other_one.1 in omega (arith, coming, more, less coming ne)
           ]
             where
               less : accepted st.turns ≤ k → (accepted st.turns ≡ k → ⊥) → accepted st.turns < k
@@ -487,7 +487,7 @@ module _ (objects : List ObjectDecl) (losing taking : Halting) (k : ℕ)
           (sym before.is_before.same)
           (λ leads. elim (eqb_tells (accepted st.turns) k) [
             | inl y ↦ differs st here input y.1 leads
-            | inr no ↦ alike st here input no.1
+            | inr other_one ↦ alike st here input other_one.1
           ])
         where
           here : Before k st st

@@ -36,3 +36,5 @@ pub mod FoundParts
 pub mod Trails
 pub mod Silent
 pub mod FoundPuts
+pub mod FoundGoes
+pub mod FoundLines

@@ -255,7 +255,7 @@ sights_stay objects s m behind before e unseen off =
     (histories_are_moved objects s m behind before e unseen off)
 
 -- a refusal does not go by the node's events
-refusal_alone : (g : Sight) (a : Name) (want : Want) → refusal g a want ≡ refusal (eventless g) a want
+pub refusal_alone : (g : Sight) (a : Name) (want : Want) → refusal g a want ≡ refusal (eventless g) a want
 refusal_alone g a (wants.Ask m) = refl
 refusal_alone g a (wants.Call x op) = refl
 refusal_alone g a (wants.Commit v) = refl

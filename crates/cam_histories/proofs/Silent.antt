@@ -15,12 +15,15 @@ use Rattle.cam_event.specs.declared.Deed.TheVariants.{Create, Ask, Call, Perform
 use Rattle.cam_event.specs.declared.Deed.TheVariants.{AskCommit, AskAbort, Commit, Abort, Secure}
 use Rattle.cam_event.specs.declared.Deed.TheVariants.{Inform, Crash}
 use Rattle.cam_event.specs.declared.ViewStep.{ViewStep}
+use Rattle.cam_event.specs.declared.ViewStep.TheVariants as steps
 use Rattle.cam_event.specs.History.{after, commit_value}
 use Rattle.cam_event.specs.Pasts.{plain, plain_all, every}
 use Rattle.cam_event.specs.Taken.{is_entered, taken_of}
 use Rattle.cam_event.specs.Views.{committed_child, step_of, view}
 use Rattle.cam_event.proofs.Members.{In}
-use Rattle.cam_cut.proofs.OpenChildren.{not_child}
+use Rattle.cam_cut.proofs.HomeFacts.{child_decider}
+use Rattle.cam_event.specs.Inputs.{decider}
+use Rattle.std.proofs.lemmas.Bool.{false_from_ne_true}
 use Rattle.cam_cut.proofs.Places.{PlacedAt, PlacedDeeds, AllPlaced}
 use Rattle.cam_runs.specs.Playing.{is_stop_note, is_stop_of}
 use Rattle.cam_runs.specs.Requests.{created_in, asked_in}
@@ -36,6 +39,12 @@ pub record ShowsNothing (s : ℕ) (d : Deed) : Type 0 where
 abbrev pub AreSilent : ℕ → List Deed → Type 0
 AreSilent s ds = (d : Deed) → In d ds → ShowsNothing s d
 
+-- what is decided elsewhere is no child
+not_child : (a b : Name) (s : ℕ) → is_ancestor a a ≡ true → decider b ≡ s
+    → (s ≡ home_node a → ⊥) → is_child a b ≡ false
+not_child a b s named there off =
+    false_from_ne_true (is_child a b) (λ h. off (sym there ∙ child_decider a b named h))
+
 -- an entered deed at its place does
 shows_nothing : (objects : List ObjectDecl) (H : List Deed) (s : ℕ) (d : Deed)
     → is_entered d ≡ true → PlacedAt objects H s d → ShowsNothing s d
@@ -47,7 +56,7 @@ shows_nothing objects H s (Commit b) entered placed = record {
 }
 shows_nothing objects H s (Abort b) entered placed = record {
   step = λ L a named off.
-      ap (λ c. if c then _ else []) (not_child a b s named placed off);
+      ap (λ c. if c then steps.Child b None ∷ [] else []) (not_child a b s named placed off);
   value = λ L x. refl;
 }
 shows_nothing objects H s (Secure f site c) entered placed =

@@ -104,7 +104,7 @@ module _ (c : Setting) where
       (child_body (body_of bodies st.running a) (view (plain_all st.running.trace) a))
       (next (body_of bodies st.running a) (view (plain_all st.running.trace) a))
 
-  if_trail : (b : Bool) (st one : Standing) → Trail st one → Trail st (if b then one else st)
+  pub if_trail : (b : Bool) (st one : Standing) → Trail st one → Trail st (if b then one else st)
   if_trail true st one h = h
   if_trail false st one h = trail_stays st
 

@@ -88,7 +88,7 @@ pub record IsBeyond (reading : Reading) (k s : ℕ) (before : List Event) (e : E
   pub input : Input
   pub of_node : node_of before input ≡ s
   pub event : e ≡ taken_of (reading.next before input)
-  pub found : IsFound s before e lost found
+  pub stands : IsFound s before e lost found
 
 -- The input is still to come, and the same stands.
 pub record IsBefore (k : ℕ) (lost found : Standing) : Type 0 where
