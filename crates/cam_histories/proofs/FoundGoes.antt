@@ -54,15 +54,16 @@ pub record Shared (lost found : Standing) : Type 0 where
   pub bound : found.running.bound ≡ lost.running.bound
   pub bodies : found.running.bodies ≡ lost.running.bodies
 
-pub shared : (objects : List ObjectDecl) (k : ℕ) (lost found : Standing)
-    → Goes objects k lost found → Shared lost found
-shared objects k lost found (inl before) = record {
+pub shared : (objects : List ObjectDecl) (k : ℕ) (P : ℕ → List Event → Event → Type 0)
+    (lost found : Standing)
+    → Goes objects k P lost found → Shared lost found
+shared objects k P lost found (inl before) = record {
   turns = ap (λ (x : Standing). x.turns) before.is_before.same;
   halted = ap (λ (x : Standing). x.halted) before.is_before.same;
   bound = ap (λ (x : Standing). x.running.bound) before.is_before.same;
   bodies = ap (λ (x : Standing). x.running.bodies) before.is_before.same;
 }
-shared objects k lost found (inr b) =
+shared objects k P lost found (inr b) =
     let is = b.beyond.is_beyond.stands.is in
     record {
       turns = ap (λ (x : Standing). x.turns) is;
@@ -105,9 +106,11 @@ beyond_edit objects k s before e edit edits lost found b = record {
     stands : IsFound s before e lost found
     stands = b.is_beyond.stands
 
-pub goes_edit : (objects : List ObjectDecl) (k : ℕ) (edit : Standing → Standing) → Edits edit
-    → (lost found : Standing) → Goes objects k lost found → Goes objects k (edit lost) (edit found)
-goes_edit objects k edit edits lost found (inl before) = inl (record {
+pub goes_edit : (objects : List ObjectDecl) (k : ℕ) (P : ℕ → List Event → Event → Type 0)
+    (edit : Standing → Standing) → Edits edit
+    → (lost found : Standing) → Goes objects k P lost found → Goes objects k P (edit lost) (edit found)
+goes_edit objects k P edit edits lost found (inl before) = inl (record {
+  all = before.all;
   is_before = record {
     coming =
         let same = edits.turns lost in
@@ -119,10 +122,11 @@ goes_edit objects k edit edits lost found (inl before) = inl (record {
       subst (λ t. i < length t) (sym (edits.trace lost))
       (before.below i (ap (λ ks. has_number ks i) (sym (edits.taken lost)) ∙ has));
 })
-goes_edit objects k edit edits lost found (inr b) = inr (record {
+goes_edit objects k P edit edits lost found (inr b) = inr (record {
   node = b.node;
   before = b.before;
   event = b.event;
+  kept = b.kept;
   beyond = beyond_edit objects k b.node b.before b.event edit edits lost found b.beyond;
 })
 
@@ -197,7 +201,7 @@ waits_awake st k (l ∷ ls) w h =
         (has_number st.halted (addressee st l)) e
 
 module _ (objects : List ObjectDecl) (losing taking : Halting) (k : ℕ)
-    (differ : DifferAt k losing taking) (line : ℕ) (restarted : ℕ → Bool)
+    (P : ℕ → List Event → Event → Type 0) (differ : DifferAt k losing taking) (line : ℕ) (restarted : ℕ → Bool)
     (F : List Event) (H : List Deed) (placed : AllPlaced objects H F)
   where
     abbrev pub one : Setting
@@ -208,18 +212,18 @@ module _ (objects : List ObjectDecl) (losing taking : Halting) (k : ℕ)
 
     -- an input that is no delivery
     pub record PutOn (st there lost found : Standing) : Type 0 where
-      pub goes : Goes objects k lost found
+      pub goes : Goes objects k P lost found
       pub created : created_in (made there found) ≡ created_in (made st lost)
       pub asked : asked_in (made there found) ≡ asked_in (made st lost)
 
     pub put_goes : (st there : Standing) (input : Input)
         → ((p : ℕ) → moved_input p input ≡ input)
         → has_number st.halted (node_of st.running.trace input) ≡ false
-        → Goes objects k st there → Leads F (put other there input)
+        → Goes objects k P st there → Leads F (put other there input)
         → PutOn st there (put one st input) (put other there input)
     put_goes st there input stays awake (inl before) leads =
-        let h = before_put objects losing taking k differ line restarted F H placed st there before
-            input leads in
+        let h = before_put objects losing taking k P differ line restarted F H placed st there before
+        input leads in
         record { goes = h.goes; created = h.created; asked = h.asked }
     put_goes st there input stays awake (inr b) leads =
         subst (λ x. PutOn st there (put one st input) (put other there x))
@@ -229,28 +233,29 @@ module _ (objects : List ObjectDecl) (losing taking : Halting) (k : ℕ)
             node = b.node;
             before = b.before;
             event = b.event;
+            kept = b.kept;
             beyond = next.beyond;
           });
           created = ap created_in next.same;
           asked = ap asked_in next.same;
         })
       where
-        next : FoundPut objects losing taking k differ line restarted b.node b.before b.event st
+        next : FoundPut objects losing taking k P differ line restarted b.node b.before b.event st
             there input
         next =
-            found_put objects losing taking k differ line restarted b.node b.before b.event st there
+            found_put objects losing taking k P differ line restarted b.node b.before b.event st there
             b.beyond input
             (other_awake objects k b.node b.before b.event st there
             (node_of st.running.trace input) b.beyond awake)
 
     -- a delivery of a letter that is the same in both
     pub deliver_before : (st there : Standing) (number : ℕ) (letter : LetterId)
-        → Before k st there → Leads F (deliver other there number letter)
-        → Goes objects k (deliver one st number letter) (deliver other there number letter)
+        → Before k P st there → Leads F (deliver other there number letter)
+        → Goes objects k P (deliver one st number letter) (deliver other there number letter)
     deliver_before st there number letter before leads =
-        goes_edit objects k (counted number) (counted_edits number)
+        goes_edit objects k P (counted number) (counted_edits number)
         (put one st (Receives letter)) (put other there (Receives letter))
-        (before_put objects losing taking k differ line restarted F H placed st there before
+        (before_put objects losing taking k P differ line restarted F H placed st there before
         (Receives letter) (record { more = leads.more; is = leads.is })).goes
 
     pub deliver_beyond : (s : ℕ) (before : List Event) (e : Event) (st there : Standing)
@@ -262,27 +267,28 @@ module _ (objects : List ObjectDecl) (losing taking : Halting) (k : ℕ)
         beyond_edit objects k s before e (counted number) (counted_edits number)
         (put one st (Receives letter))
         (put other there (Receives (moved_letter (length before) letter)))
-        (found_put objects losing taking k differ line restarted s before e st there b
+        (found_put objects losing taking k P differ line restarted s before e st there b
         (Receives letter)
         (other_awake objects k s before e st there (addressee st letter) b awake)).beyond
 
-    waiting_goes : (st there : Standing) → Goes objects k st there
+    waiting_goes : (st there : Standing) → Goes objects k P st there
         → Leads F (deliver_waiting other there (waiting there))
-        → Goes objects k (deliver_waiting one st (waiting st))
+        → Goes objects k P (deliver_waiting one st (waiting st))
         (deliver_waiting other there (waiting there))
     waiting_goes st there (inl before) =
         subst (λ w. Leads F (deliver_waiting other there w)
-        → Goes objects k (deliver_waiting one st (waiting st)) (deliver_waiting other there w))
+        → Goes objects k P (deliver_waiting one st (waiting st)) (deliver_waiting other there w))
         (ap waiting (sym before.is_before.same)) (by (waiting st))
       where
         by : (w : Option (ℕ × LetterId)) → Leads F (deliver_waiting other there w)
-            → Goes objects k (deliver_waiting one st w) (deliver_waiting other there w)
+            → Goes objects k P (deliver_waiting one st w) (deliver_waiting other there w)
         by None leads = inl before
         by (Some w) leads = deliver_before st there w.0 w.1 before leads
     waiting_goes st there (inr b) = λ leads. inr (record {
       node = b.node;
       before = b.before;
       event = b.event;
+      kept = b.kept;
       beyond =
           subst (λ w. Beyond objects k b.node b.before b.event
           (deliver_waiting one st (waiting st)) (deliver_waiting other there w))
@@ -305,9 +311,9 @@ module _ (objects : List ObjectDecl) (losing taking : Halting) (k : ℕ)
             deliver_beyond b.node b.before b.event st there w.0 w.1 b.beyond
             (waits_awake st 1 (letters st.running.trace) w e)
 
-    pub deliveries_go : (n : ℕ) (st there : Standing) → Goes objects k st there
+    pub deliveries_go : (n : ℕ) (st there : Standing) → Goes objects k P st there
         → Leads F (deliveries other n there)
-        → Goes objects k (deliveries one n st) (deliveries other n there)
+        → Goes objects k P (deliveries one n st) (deliveries other n there)
     deliveries_go zero st there goes leads = goes
     deliveries_go (suc n) st there goes leads =
         deliveries_go n (deliver_waiting one st (waiting st))
@@ -317,10 +323,10 @@ module _ (objects : List ObjectDecl) (losing taking : Halting) (k : ℕ)
         (deliveries_trail other n (deliver_waiting other there (waiting there))) leads))
         leads
 
-    pub drain_goes : (st there : Standing) → Goes objects k st there → Leads F (drain other there)
-        → Goes objects k (drain one st) (drain other there)
+    pub drain_goes : (st there : Standing) → Goes objects k P st there → Leads F (drain other there)
+        → Goes objects k P (drain one st) (drain other there)
     drain_goes st there goes leads =
-        subst (λ n. Goes objects k (drain one st) (deliveries other n there)) (sym weights)
+        subst (λ n. Goes objects k P (drain one st) (deliveries other n there)) (sym weights)
         (deliveries_go (waiting_weight st.running) st there goes
         (subst (λ n. Leads F (deliveries other n there)) weights leads))
       where
@@ -396,7 +402,7 @@ and_false true = refl
 and_false false = refl
 
 module _ (objects : List ObjectDecl) (losing taking : Halting) (k : ℕ)
-    (differ : DifferAt k losing taking) (line : ℕ) (restarted : ℕ → Bool)
+    (P : ℕ → List Event → Event → Type 0) (differ : DifferAt k losing taking) (line : ℕ) (restarted : ℕ → Bool)
     (F : List Event) (H : List Deed) (placed : AllPlaced objects H F)
     (bodies : List (List Statement))
   where
@@ -407,13 +413,13 @@ module _ (objects : List ObjectDecl) (losing taking : Halting) (k : ℕ)
     second = held_setting objects taking line restarted
 
     make_goes : (st there : Standing) (a : Name) (child : Option ℕ) (n : Next)
-        → has_number st.halted (home_node a) ≡ false → Goes objects k st there
+        → has_number st.halted (home_node a) ≡ false → Goes objects k P st there
         → Leads F (make_request second there a child n)
-        → Goes objects k (make_request first st a child n) (make_request second there a child n)
+        → Goes objects k P (make_request first st a child n) (make_request second there a child n)
     make_goes st there a child (nexts.Request want) awake goes leads =
-        subst (λ x. Goes objects k (given_body child (asked_in (made st lost)) lost)
+        subst (λ x. Goes objects k P (given_body child (asked_in (made st lost)) lost)
         (given_body child x found)) (sym next.asked)
-        (goes_edit objects k (given_body child (asked_in (made st lost)))
+        (goes_edit objects k P (given_body child (asked_in (made st lost)))
         (given_edits child (asked_in (made st lost))) lost found next.goes)
       where
         lost : Standing
@@ -422,8 +428,8 @@ module _ (objects : List ObjectDecl) (losing taking : Halting) (k : ℕ)
         found : Standing
         found = requested second there a want
 
-        next : PutOn objects losing taking k differ line restarted F H placed st there lost found
-        next = put_goes objects losing taking k differ line restarted F H placed st there
+        next : PutOn objects losing taking k P differ line restarted F H placed st there lost found
+        next = put_goes objects losing taking k P differ line restarted F H placed st there
             (Requests (record { action = a; want = want })) (λ p. refl) awake goes
             (leads_back F found (given_body child (asked_in (made there found)) found)
             (given_trail second child (asked_in (made there found)) found) leads)
@@ -434,11 +440,11 @@ module _ (objects : List ObjectDecl) (losing taking : Halting) (k : ℕ)
     seen st a = view (plain_all st.running.trace) a
 
     pub go_goes : (st there : Standing) (a : Name) → is_ancestor a a ≡ true
-        → has_number st.halted (home_node a) ≡ false → Goes objects k st there
+        → has_number st.halted (home_node a) ≡ false → Goes objects k P st there
         → Leads F (go second bodies there a)
-        → Goes objects k (go first bodies st a) (go second bodies there a)
+        → Goes objects k P (go first bodies st a) (go second bodies there a)
     go_goes st there a named awake goes leads =
-        subst (Goes objects k (go first bodies st a)) (sym same)
+        subst (Goes objects k P (go first bodies st a)) (sym same)
         (make_goes st there a (child_body body (seen st a)) (next body (seen st a)) awake goes
         (subst (Leads F) same leads))
       where
@@ -455,19 +461,19 @@ module _ (objects : List ObjectDecl) (losing taking : Halting) (k : ℕ)
         body_same : body_of bodies there.running a ≡ body
         body_same =
             ap (λ (ns : List (Name × ℕ)). body_of bodies (record st.running { bodies = ns }) a)
-            (shared objects k st there goes).bodies
+            (shared objects k P st there goes).bodies
 
         same : go second bodies there a
             ≡ make_request second there a (child_body body (seen st a)) (next body (seen st a))
         same = λ i. make_request second there a (child_body (body_same i) (views i))
             (next (body_same i) (views i))
 
-    may_goes : (st there : Standing) (a : Name) → Goes objects k st there
+    may_goes : (st there : Standing) (a : Name) → Goes objects k P st there
         → may_go_on second there a ≡ may_go_on first st a
     may_goes st there a (inl before) = ap (λ x. may_go_on second x a) before.is_before.same
     may_goes st there a (inr b) =
         ap (λ hs. may_go (home_sight (by_knowledge objects) there.running a) there.running a
-        && not (has_number hs (home_node a))) (shared objects k st there (inr b)).halted
+        && not (has_number hs (home_node a))) (shared objects k P st there (inr b)).halted
         ∙ by (has_number st.halted (home_node a)) refl
       where
         by : (h : Bool) → has_number st.halted (home_node a) ≡ h
@@ -485,15 +491,15 @@ module _ (objects : List ObjectDecl) (losing taking : Halting) (k : ℕ)
     not_so true h = cc
     not_so false h = refl
 
-    names_go : (names : List Name) (st there : Standing) → Goes objects k st there
+    names_go : (names : List Name) (st there : Standing) → Goes objects k P st there
         → Leads F (go_in_round second bodies names there)
-        → Goes objects k (go_in_round first bodies names st) (go_in_round second bodies names there)
+        → Goes objects k P (go_in_round first bodies names st) (go_in_round second bodies names there)
     names_go [] st there goes leads = goes
     names_go (a ∷ more) st there goes leads =
         names_go more (if may_go_on first st a then go first bodies st a else st)
         (if may_go_on second there a then go second bodies there a else there)
         (subst (λ b. Leads F (if b then go second bodies there a else there)
-        → Goes objects k (if may_go_on first st a then go first bodies st a else st)
+        → Goes objects k P (if may_go_on first st a then go first bodies st a else st)
         (if b then go second bodies there a else there))
         (sym (may_goes st there a goes)) (by (may_go_on first st a) refl)
         (leads_back F (if may_go_on second there a then go second bodies there a else there)
@@ -504,25 +510,25 @@ module _ (objects : List ObjectDecl) (losing taking : Halting) (k : ℕ)
       where
         by : (b : Bool) → may_go_on first st a ≡ b
             → Leads F (if b then go second bodies there a else there)
-            → Goes objects k (if b then go first bodies st a else st)
+            → Goes objects k P (if b then go first bodies st a else st)
             (if b then go second bodies there a else there)
         by true may leads =
             let parts = and_parts (may_go (home_sight (by_knowledge objects) st.running a) st.running a)
-                (not (has_number st.halted (home_node a))) may in
+            (not (has_number st.halted (home_node a))) may in
             go_goes st there a
             (may_named (home_sight (by_knowledge objects) st.running a) st.running a parts.0)
             (not_so (has_number st.halted (home_node a)) parts.1) goes leads
         by false may leads = goes
 
-    round_goes : (st there : Standing) → Goes objects k st there
+    round_goes : (st there : Standing) → Goes objects k P st there
         → Leads F (round second bodies there)
-        → Goes objects k (round first bodies st) (round second bodies there)
+        → Goes objects k P (round first bodies st) (round second bodies there)
     round_goes st there goes =
         subst (λ ns. Leads F (drain second (go_in_round second bodies ns there))
-        → Goes objects k (round first bodies st)
+        → Goes objects k P (round first bodies st)
         (drain second (go_in_round second bodies ns there)))
-        (ap in_order (sym (shared objects k st there goes).bodies))
-        (λ leads. drain_goes objects losing taking k differ line restarted F H placed
+        (ap in_order (sym (shared objects k P st there goes).bodies))
+        (λ leads. drain_goes objects losing taking k P differ line restarted F H placed
         (go_in_round first bodies names st) (go_in_round second bodies names there)
         (names_go names st there goes
         (leads_back F (go_in_round second bodies names there)
@@ -533,13 +539,13 @@ module _ (objects : List ObjectDecl) (losing taking : Halting) (k : ℕ)
         names : List Name
         names = in_order st.running.bodies
 
-    pub rounds_go : (n : ℕ) (st there : Standing) → Goes objects k st there
+    pub rounds_go : (n : ℕ) (st there : Standing) → Goes objects k P st there
         → Leads F (rounds second bodies n there)
-        → Goes objects k (rounds first bodies n st) (rounds second bodies n there)
+        → Goes objects k P (rounds first bodies n st) (rounds second bodies n there)
     rounds_go zero st there goes leads = goes
     rounds_go (suc n) st there goes leads =
         subst (λ c. Leads F (if c then rounds second bodies n found else found)
-        → Goes objects k (rounds first bodies (suc n) st)
+        → Goes objects k P (rounds first bodies (suc n) st)
         (if c then rounds second bodies n found else found))
         (sym counts) (by (nat_lt (accepted st.turns) (accepted lost.turns)) (rounds_go n lost found next)) leads
       where
@@ -553,20 +559,20 @@ module _ (objects : List ObjectDecl) (losing taking : Halting) (k : ℕ)
         last = if_trail second (nat_lt (accepted there.turns) (accepted found.turns)) found
             (rounds second bodies n found) (rounds_trail second bodies n found)
 
-        next : Goes objects k lost found
+        next : Goes objects k P lost found
         next = round_goes st there goes
             (leads_back F found (rounds second bodies (suc n) there) last leads)
 
         counts : nat_lt (accepted there.turns) (accepted found.turns)
             ≡ nat_lt (accepted st.turns) (accepted lost.turns)
-        counts = λ i. nat_lt (accepted ((shared objects k st there goes).turns i))
-            (accepted ((shared objects k lost found next).turns i))
+        counts = λ i. nat_lt (accepted ((shared objects k P st there goes).turns i))
+            (accepted ((shared objects k P lost found next).turns i))
 
         by : (c : Bool)
             → (Leads F (rounds second bodies n found)
-            → Goes objects k (rounds first bodies n lost) (rounds second bodies n found))
+            → Goes objects k P (rounds first bodies n lost) (rounds second bodies n found))
             → Leads F (if c then rounds second bodies n found else found)
-            → Goes objects k (if c then rounds first bodies n lost else lost)
+            → Goes objects k P (if c then rounds first bodies n lost else lost)
             (if c then rounds second bodies n found else found)
         by true rest leads = rest leads
         by false rest leads = next

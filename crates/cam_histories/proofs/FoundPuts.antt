@@ -37,21 +37,26 @@ use Rattle.cam_histories.proofs.Trails.{Trail}
 -- what stands in both runs behind the input at which they differ, and before it
 pub record Beyond (objects : List ObjectDecl) (k s : ℕ) (before : List Event) (e : Event)
     (lost found : Standing) : Type 0 where
-  pub is_beyond : IsBeyond (by_knowledge objects) k s before e lost found
+  pub is_beyond : IsBeyond objects k s before e lost found
   pub silent : AreSilent s e.deeds
 
-pub record SomeBeyond (objects : List ObjectDecl) (k : ℕ) (lost found : Standing) : Type 0 where
+pub record SomeBeyond (objects : List ObjectDecl) (k : ℕ) (P : ℕ → List Event → Event → Type 0)
+    (lost found : Standing) : Type 0 where
   pub node : ℕ
   pub before : List Event
   pub event : Event
+  pub kept : P node before event
   pub beyond : Beyond objects k node before event lost found
 
-pub record Before (k : ℕ) (lost found : Standing) : Type 0 where
-  pub is_before : IsBefore k lost found
-  pub below : (i : ℕ) → has_number lost.taken i ≡ true → i < length lost.running.trace
+pub record Before (k : ℕ) (P : ℕ → List Event → Event → Type 0) (lost found : Standing) : Type 0
+  where
+    pub all : (s : ℕ) (before : List Event) (e : Event) → P s before e
+    pub is_before : IsBefore k lost found
+    pub below : (i : ℕ) → has_number lost.taken i ≡ true → i < length lost.running.trace
 
-abbrev pub Goes : List ObjectDecl → ℕ → Standing → Standing → Type 0
-Goes objects k lost found = Before k lost found ⊎ SomeBeyond objects k lost found
+abbrev pub Goes : List ObjectDecl → ℕ → (ℕ → List Event → Event → Type 0) → Standing → Standing
+    → Type 0
+Goes objects k P lost found = Before k P lost found ⊎ SomeBeyond objects k P lost found
 
 -- the events of a standing are a beginning of these
 pub record Leads (all : List Event) (st : Standing) : Type 0 where
@@ -165,7 +170,7 @@ module _ (line : ℕ) (again : Bool) (s : ℕ) (behind before : List Event) (e :
         }
 
 module _ (objects : List ObjectDecl) (losing taking : Halting) (k : ℕ)
-    (differ : DifferAt k losing taking) (line : ℕ) (restarted : ℕ → Bool)
+    (P : ℕ → List Event → Event → Type 0) (differ : DifferAt k losing taking) (line : ℕ) (restarted : ℕ → Bool)
   where
     abbrev pub one : Setting
     one = held_setting objects losing line restarted
@@ -333,7 +338,7 @@ module _ (objects : List ObjectDecl) (losing taking : Halting) (k : ℕ)
 
     -- what an input leads to where the runs were the same
     pub record Puts (st there one_end other_end : Standing) : Type 0 where
-      pub goes : Goes objects k one_end other_end
+      pub goes : Goes objects k P one_end other_end
       pub created : created_in (made there other_end) ≡ created_in (made st one_end)
       pub asked : asked_in (made there other_end) ≡ asked_in (made st one_end)
 
@@ -353,18 +358,19 @@ module _ (objects : List ObjectDecl) (losing taking : Halting) (k : ℕ)
 
     module _ (F : List Event) (H : List Deed) (placed : AllPlaced objects H F) where
       -- the input at which they differ
-      differs : (st : Standing) → Before k st st → (input : Input) → accepted st.turns ≡ k
+      differs : (st : Standing) → Before k P st st → (input : Input) → accepted st.turns ≡ k
           → Leads F (put other st input) → Puts st st (put one st input) (put other st input)
       differs st before input here leads = record {
         goes = inr (record {
           node = n;
           before = t;
           event = taken_of ev;
+          kept = before.all n t (taken_of ev);
           beyond = record {
             is_beyond = record {
               passed =
                   let more : accepted (put one st input).turns ≡ accepted st.turns + 1 =
-                      after_accepted (restarted n) st n ev w (losing st.turns n w (restarted n)) in
+                  after_accepted (restarted n) st n ev w (losing st.turns n w (restarted n)) in
                   omega (arith, more, here);
               input = input;
               of_node = refl;
@@ -430,10 +436,11 @@ module _ (objects : List ObjectDecl) (losing taking : Halting) (k : ℕ)
           here_none : made st (put one st input) ≡ []
           here_none = ap (made st) loses ∙ made_is line (restarted n) st n ev w (Some false)
 
-      alike : (st : Standing) → Before k st st → (input : Input) → (accepted st.turns ≡ k → ⊥)
+      alike : (st : Standing) → Before k P st st → (input : Input) → (accepted st.turns ≡ k → ⊥)
           → Puts st st (put one st input) (put other st input)
       alike st before input off = record {
         goes = inl (record {
+          all = before.all;
           is_before = record {
             coming =
                 let more = after_accepted (restarted n) st n ev w o in
@@ -480,7 +487,7 @@ module _ (objects : List ObjectDecl) (losing taking : Halting) (k : ℕ)
                 | inr h ↦ let high = h.1 in absurd (ne (omega (arith, le, high)))
               ]
 
-      pub before_put : (st there : Standing) → Before k st there → (input : Input)
+      pub before_put : (st there : Standing) → Before k P st there → (input : Input)
           → Leads F (put other there input) → Puts st there (put one st input) (put other there input)
       before_put st there before input =
           subst (λ x. Leads F (put other x input) → Puts st x (put one st input) (put other x input))
@@ -490,8 +497,9 @@ module _ (objects : List ObjectDecl) (losing taking : Halting) (k : ℕ)
             | inr other_one ↦ alike st here input other_one.1
           ])
         where
-          here : Before k st st
+          here : Before k P st st
           here = record {
+            all = before.all;
             is_before = record { coming = before.is_before.coming; same = refl };
             below = before.below;
           }

@@ -38,3 +38,4 @@ pub mod Silent
 pub mod FoundPuts
 pub mod FoundGoes
 pub mod FoundLines
+pub mod FoundRuns

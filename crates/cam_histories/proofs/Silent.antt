@@ -144,10 +144,11 @@ module _ (s : ℕ) (a : Name) (named : is_ancestor a a ≡ true) (off : s ≡ ho
   more_same : (ds L M : List Deed) → AreSilent s ds → Same L M → Same (after L ds) M
   more_same [] L M silent same = same
   more_same (d ∷ ds) L M silent same =
-      more_same ds (d ∷ L) M (λ x i. silent x (inr i))
-      (ap (λ r. view L a ++ r) ((silent d (inl refl)).step L a named off)
-      ∙ append-nil (view L a) ∙ same.0,
-      (λ b. (silent d (inl refl)).value L b ∙ same.1 b))
+      more_same ds (d ∷ L) M (λ x i. silent x (inr i)) (
+        ap (λ r. view L a ++ r) ((silent d (inl refl)).step L a named off)
+            ∙ append-nil (view L a) ∙ same.0,
+        (λ b. (silent d (inl refl)).value L b ∙ same.1 b),
+      )
 
   put_in_same : (behind before : List Event) (e : Event) → AreSilent s e.deeds
       → Same (plain_all (put_in behind e before)) (plain_all (behind ++ before))

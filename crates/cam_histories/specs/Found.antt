@@ -10,11 +10,12 @@
 use Rattle.std.specs.Prelude.{◌≡◌, ◌⊎◌, ℕ, ◌+◌, ◌<◌, ◌≤◌, eqb, nat_lt, Bool, true, false, not, ◌&&◌}
 use Rattle.std.specs.Prelude.{if◌then◌else◌, List, [], ◌∷◌, ◌++◌, length, Option, Some}
 use Rattle.std.specs.List.{list_any, AllByRecursion}
+use Rattle.cam_type.specs.declared.ObjectDecl.{ObjectDecl}
 use Rattle.cam_event.specs.declared.Event.{Event}
 use Rattle.cam_event.specs.declared.Mark.{Mark}
 use Rattle.cam_event.specs.declared.Mark.TheVariants as marks
 use Rattle.cam_event.specs.Inputs.{Input, node_of}
-use Rattle.cam_event.specs.Readings.{Reading, by_pasts, by_knowledge}
+use Rattle.cam_event.specs.Readings.{by_pasts, by_knowledge}
 use Rattle.cam_event.specs.Taken.{taken_of}
 use Rattle.cam_script.specs.declared.Act.{Act}
 use Rattle.cam_script.specs.declared.Script.{Script}
@@ -81,31 +82,58 @@ pub record DifferAt (k : ℕ) (losing taking : Halting) : Type 0 where
       (turns : List Turn) (s : ℕ) (appends restarted : Bool) → accepted turns ≡ k
       → taking turns s appends restarted ≡ Some true
 
--- The input was put: it was one of this node, and its event was taken.
-pub record IsBeyond (reading : Reading) (k s : ℕ) (before : List Event) (e : Event)
+-- The input was put: it was one of this node, and what was taken of its event is put in.
+pub record IsBeyond (objects : List ObjectDecl) (k s : ℕ) (before : List Event) (e : Event)
     (lost found : Standing) : Type 0 where
   pub passed : k < accepted lost.turns
   pub input : Input
   pub of_node : node_of before input ≡ s
-  pub event : e ≡ taken_of (reading.next before input)
+  pub event : e ≡ taken_of ((by_knowledge objects).next before input)
   pub stands : IsFound s before e lost found
+
+pub record HasBeyond (objects : List ObjectDecl) (k : ℕ) (lost found : Standing) : Type 0 where
+  pub node : ℕ
+  pub before : List Event
+  pub event : Event
+  pub beyond : IsBeyond objects k node before event lost found
 
 -- The input is still to come, and the same stands.
 pub record IsBefore (k : ℕ) (lost found : Standing) : Type 0 where
   pub coming : accepted lost.turns ≤ k
   pub same : found ≡ lost
 
--- one or the other
-pub record HasBeyond (reading : Reading) (k : ℕ) (lost found : Standing) : Type 0 where
-  pub node : ℕ
-  pub before : List Event
-  pub event : Event
-  pub beyond : IsBeyond reading k node before event lost found
+-- what the next step leaves, by the pasts of events, where these inputs are halts
+abbrev pub after_step : Halting → List Step → Script → Standing → Step → Standing
+after_step halts later script st step =
+    after_line st step.line (act_by by_pasts halts later script st step)
 
-abbrev pub GoesBeside : Reading → ℕ → Standing → Standing → Type 0
-GoesBeside reading k lost found = IsBefore k lost found ⊎ HasBeyond reading k lost found
+-- what is given of a line of both runs
+pub record IsLineOfBoth (script : Script) (k : ℕ) (losing taking : Halting) (lost found : Standing)
+    (step : Step) : Type 0 where
+  pub in_range : IsInRange script
+  pub differ : DifferAt k losing taking
+  pub lost_under : IsUnderHalts script lost
+  pub found_under : IsUnderHalts script found
+  pub next : IsNextStep script lost step
 
--- Numbers of taken events.
-abbrev pub NumbersAreMoved : Type 0
-NumbersAreMoved =
-    (p n : ℕ) (ks : List ℕ) → p ≤ n → with_number p (n ∷ ks) ≡ (n + 1) ∷ with_number p ks
+-- While the input is still to come a line leaves the same, or the event at which its node halts is
+-- lost in the one run and put in in the other.
+abbrev pub LinesLeadToTheHalt : Type 0
+LinesLeadToTheHalt =
+    (script : Script) (k : ℕ) (losing taking : Halting) (lost found : Standing) (step : Step)
+    (later : List Step)
+    → IsLineOfBoth script k losing taking lost found step → IsBefore k lost found
+    → IsBefore k (after_step losing later script lost step)
+    (after_step taking later script found step)
+    ⊎ HasBeyond script.objects k (after_step losing later script lost step)
+    (after_step taking later script found step)
+
+-- From then on each line but a restart of the node leaves the same event put in at the same place.
+abbrev pub LinesKeepTheEvent : Type 0
+LinesKeepTheEvent =
+    (script : Script) (k s : ℕ) (before : List Event) (e : Event) (losing taking : Halting)
+    (lost found : Standing) (step : Step) (later : List Step)
+    → IsLineOfBoth script k losing taking lost found step
+    → IsBeyond script.objects k s before e lost found → is_restart_act s step.act ≡ false
+    → IsBeyond script.objects k s before e (after_step losing later script lost step)
+    (after_step taking later script found step)

@@ -1,5 +1,5 @@
 // A halt that is found to be taken, as laws.
-ghost use Rattle.cam_histories.specs.Found.{NumbersAreMoved};
+ghost use Rattle.cam_histories.specs.Found.{LinesKeepTheEvent, LinesLeadToTheHalt};
 ghost use Rattle.cam_histories.specs.PutIn.{EventsAreMoved, HistoriesAreMoved, LettersAreMoved};
 ghost use Rattle.cam_histories.specs.PutIn.{LoadsAreMoved, QueryRefusalsStay, RefusalsStay};
 
@@ -16,7 +16,11 @@ pub fn events_put_in()
     ensures events { EventsAreMoved }
 {}
 
-/// Lines.
-pub fn lines_found()
-    ensures lines { NumbersAreMoved }
+/// Two runs of the same lines, of which one loses the event at which a node halts and the other has
+/// it taken. Until that input the same stands. From then on, until a restart of the node, what
+/// stands in the other is what stands in the one, with that event put in at its place and the mark
+/// of the halt changed.
+pub fn halts_found()
+    ensures leads { LinesLeadToTheHalt }
+    ensures keeps { LinesKeepTheEvent }
 {}
