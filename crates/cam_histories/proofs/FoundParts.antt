@@ -149,7 +149,7 @@ module _ (s : ℕ) (behind before : List Event) (e : Event) (st : Standing) (mut
   abbrev later : Standing
   later = with_taken_in s behind e before st
 
-  letters_later : letters later.running.trace
+  pub letters_later : letters later.running.trace
       ≡ map (moved_letter (length before)) (letters st.running.trace)
   letters_later =
       all_letters before e mute behind

@@ -39,3 +39,5 @@ pub mod FoundPuts
 pub mod FoundGoes
 pub mod FoundLines
 pub mod FoundRuns
+pub mod NamelessNodes
+pub mod FoundWhole

@@ -94,7 +94,7 @@ held_bare objects (c ∷ h) =
     (held_bare objects h)
     ∙ learned_bare objects h c.mail (both (held objects h) c.brought) c.event.deeds
 
-site_bare : (h : List Carried) → site (map bare h) ≡ site h
+pub site_bare : (h : List Carried) → site (map bare h) ≡ site h
 site_bare [] = refl
 site_bare (c ∷ h) = λ i. site_after_all (deeds_bare h i) c.mail (site_bare h i) c.event.deeds
 
@@ -209,17 +209,17 @@ pub carried_bare : (h : List Received) → map as_carried (map nameless h) ≡ m
 carried_bare [] = refl
 carried_bare (c ∷ h) = ap (λ cs. bare (as_carried c) ∷ cs) (carried_bare h)
 
-known_bare : (objects : List ObjectDecl) (h : List Received)
+pub known_bare : (objects : List ObjectDecl) (h : List Received)
     → known objects (map nameless h) ≡ known objects h
 known_bare objects h = ap (held objects) (carried_bare h) ∙ held_bare objects (map as_carried h)
 
-have_bare : (h : List Received) (r : ℕ) → have_of (map nameless h) r ≡ have_of h r
+pub have_bare : (h : List Received) (r : ℕ) → have_of (map nameless h) r ≡ have_of h r
 have_bare [] r = refl
 have_bare (c ∷ h) r =
     λ i. if crashed c.event then 0
     else if came_from r c then max (have_bare h r i) c.load.place else have_bare h r i
 
-acked_bare : (objects : List ObjectDecl) (h : List Received) (r : ℕ)
+pub acked_bare : (objects : List ObjectDecl) (h : List Received) (r : ℕ)
     → acked_of objects (map nameless h) r ≡ acked_of objects h r
 acked_bare objects [] r = refl
 acked_bare objects (c ∷ h) r =

@@ -1,5 +1,6 @@
 // A halt that is found to be taken, as laws.
 ghost use Rattle.cam_histories.specs.Found.{LinesKeepTheEvent, LinesLeadToTheHalt};
+ghost use Rattle.cam_histories.specs.Found.{LogsHaveTheEvent, WholesStand};
 ghost use Rattle.cam_histories.specs.PutIn.{EventsAreMoved, HistoriesAreMoved, LettersAreMoved};
 ghost use Rattle.cam_histories.specs.PutIn.{LoadsAreMoved, QueryRefusalsStay, RefusalsStay};
 
@@ -23,4 +24,11 @@ pub fn events_put_in()
 pub fn halts_found()
     ensures leads { LinesLeadToTheHalt }
     ensures keeps { LinesKeepTheEvent }
+{}
+
+/// So nodes, logs and network that stand for the run in which the event is lost stand for the one in
+/// which it is taken, where the history of the halted node has the taken event besides.
+pub fn wholes_found()
+    ensures stand { WholesStand }
+    ensures history { LogsHaveTheEvent }
 {}
