@@ -1,4 +1,4 @@
--- One input of two runs whose halts differ at one input: they go on beside each other.
+-- An input of another node, behind the one at which two runs differ: it leads to the same in both.
 use Rattle.std.proofs.Common.{◌≡◌, ◌⊎◌, inl, inr, ℕ, suc, ◌+◌, ◌<◌, ◌≤◌, eqb, Bool, true, false, ◌||◌}
 use Rattle.std.proofs.Common.{if◌then◌else◌, List, [], ◌∷◌, ◌++◌, filter, length, Option, Some, None}
 use Rattle.std.proofs.Common.{option_map, refl, sym, ap, ◌∙◌, subst, arith, append_assoc, lt-ltb}
@@ -30,144 +30,11 @@ use Rattle.cam_histories.specs.Found.{with_number, with_mark_taken, with_taken_i
 use Rattle.cam_histories.specs.Found.{IsBeyond, IsBefore}
 use Rattle.cam_histories.proofs.Numbers.{lt_cases, put_in_length, behind_long}
 use Rattle.cam_histories.proofs.PutIn.{node_moved, events_are_moved, loads_are_moved, sights_stay}
-use Rattle.cam_histories.proofs.FoundParts.{marks_more, marks_new, number_more, number_new}
+use Rattle.cam_histories.proofs.FoundMarks.{marks_more, marks_new, number_more, number_new}
 use Rattle.cam_histories.proofs.Silent.{AreSilent, entered_silent, placed_behind, creates_none, asks_none}
 use Rattle.cam_histories.proofs.Trails.{Trail}
-
--- what stands in both runs behind the input at which they differ, and before it
-pub record Beyond (objects : List ObjectDecl) (k s : ℕ) (before : List Event) (e : Event)
-    (lost found : Standing) : Type 0 where
-  pub is_beyond : IsBeyond objects k s before e lost found
-  pub silent : AreSilent s e.deeds
-
-pub record SomeBeyond (objects : List ObjectDecl) (k : ℕ) (P : ℕ → List Event → Event → Type 0)
-    (lost found : Standing) : Type 0 where
-  pub node : ℕ
-  pub before : List Event
-  pub event : Event
-  pub kept : P node before event
-  pub beyond : Beyond objects k node before event lost found
-
-pub record Before (k : ℕ) (P : ℕ → List Event → Event → Type 0) (lost found : Standing) : Type 0
-  where
-    pub all : (s : ℕ) (before : List Event) (e : Event) → P s before e
-    pub is_before : IsBefore k lost found
-    pub below : (i : ℕ) → has_number lost.taken i ≡ true → i < length lost.running.trace
-
-abbrev pub Goes : List ObjectDecl → ℕ → (ℕ → List Event → Event → Type 0) → Standing → Standing
-    → Type 0
-Goes objects k P lost found = Before k P lost found ⊎ SomeBeyond objects k P lost found
-
--- the events of a standing are a beginning of these
-pub record Leads (all : List Event) (st : Standing) : Type 0 where
-  pub more : List Event
-  pub is : all ≡ more ++ st.running.trace
-
-pub leads_back : (all : List Event) (old new : Standing) → Trail old new → Leads all new
-    → Leads all old
-leads_back all old new trail leads = record {
-  more = leads.more ++ trail.more;
-  is = leads.is ∙ ap (λ t. leads.more ++ t) trail.is
-      ∙ sym (append_assoc leads.more trail.more old.running.trace);
-}
-
-or_true : (b : Bool) → (b || true) ≡ true
-or_true true = refl
-or_true false = refl
-
-less_next : (n : ℕ) → nat_lt n (suc n) ≡ true
-less_next n = lt-ltb n (suc n) (omega arith)
-
-not_less : (n : ℕ) → nat_lt n n ≡ false
-not_less n = elim (lt_cases n n) [
-  | inl y ↦ let h = y.1 in absurd (omega (arith, h))
-  | inr h ↦ h.0
-]
-
--- what an input made, by whether it is a halt
-abbrev pub made_by : Event → Option Bool → List Deed
-made_by e None = e.deeds
-made_by e (Some true) = (taken_of e).deeds
-made_by e (Some false) = []
-
-pub made_is : (line : ℕ) (again : Bool) (st : Standing) (s : ℕ) (e : Event) (w : Bool)
-    (o : Option Bool) → made st (after_input line again st s e w o) ≡ made_by e o
-made_is line again st s e w None =
-    ap (λ b. if b then e.deeds else []) (less_next (length st.running.trace))
-made_is line again st s e w (Some true) =
-    ap (λ b. if b then (taken_of e).deeds else []) (less_next (length st.running.trace))
-made_is line again st s e w (Some false) =
-    ap (λ b. if b then newest_deeds st.running.trace else []) (not_less (length st.running.trace))
-
--- an input of another node, behind the one at which the runs differ
-module _ (line : ℕ) (again : Bool) (s : ℕ) (behind before : List Event) (e : Event) (st : Standing)
-    (n : ℕ) (ev : Event) (w : Bool) (unseen : IsUnseen s behind e)
-    (was : st.running.trace ≡ behind ++ before) (halted : has_number st.halted s ≡ true)
-    (off : s ≡ n → ⊥) (node : ev.node ≡ n)
-  where
-    abbrev later : Standing
-    later = with_taken_in s behind e before st
-
-    abbrev moves : Event
-    moves = moved_event (length before) ev
-
-    more_unseen : (x : Event) → x.node ≡ n → IsUnseen s (x ∷ behind) e
-    more_unseen x is = record {
-      at = unseen.at;
-      mute = unseen.mute;
-      others = ((λ mine. off (sym mine ∙ is)), unseen.others);
-    }
-
-    another : (line : ℕ) (took : Bool)
-        → with_mark_taken s st.running.marks ++ marks.Halted line n took ∷ []
-        ≡ with_mark_taken s (st.running.marks ++ marks.Halted line n took ∷ [])
-    another line took =
-        sym (marks_more s st.running.marks (marks.Halted line n took) (ne_eqb n s (λ h. off (sym h))))
-
-    numbers : length (put_in behind e before) ∷ with_number (length before) st.taken
-        ≡ with_number (length before) (length st.running.trace ∷ st.taken)
-    numbers =
-        ap (λ m. m ∷ with_number (length before) st.taken)
-        (put_in_length before e behind ∙ ap (λ t. length t + 1) (sym was))
-        ∙ sym (number_more (length before) (length st.running.trace) st.taken high)
-      where
-        high : length before ≤ length st.running.trace
-        high =
-            let long = behind_long before e behind in
-            let same : length st.running.trace ≡ length (behind ++ before) = ap length was in
-            omega (arith, long, same)
-
-    pub after_found : (o : Option Bool)
-        → IsFound s before e (after_input line again st n ev w o)
-        (after_input line again later n moves w o)
-    after_found None = record {
-      behind = ev ∷ behind;
-      unseen = more_unseen ev node;
-      was = ap (λ t. ev ∷ t) was;
-      is = refl;
-      halted = halted;
-    }
-    after_found (Some true) =
-        let end : Standing = after_input line again later n moves w (Some true) in
-        record {
-          behind = taken_of ev ∷ behind;
-          unseen = more_unseen (taken_of ev) node;
-          was = ap (λ t. taken_of ev ∷ t) was;
-          is = λ i. record end {
-            running = record end.running { marks = another line true i };
-            taken = numbers i;
-          };
-          halted = ap (λ b. eqb n s || b) halted ∙ or_true (eqb n s);
-        }
-    after_found (Some false) =
-        let end : Standing = after_input line again later n moves w (Some false) in
-        record {
-          behind = behind;
-          unseen = unseen;
-          was = was;
-          is = λ i. record end { running = record end.running { marks = another line false i } };
-          halted = ap (λ b. eqb n s || b) halted ∙ or_true (eqb n s);
-        }
+use Rattle.cam_histories.proofs.Beside.{Before, Beyond, SomeBeyond, Goes, Leads, leads_back}
+use Rattle.cam_histories.proofs.AfterInput.{or_true, made_by, made_is, after_found, after_accepted, below_after}
 
 module _ (objects : List ObjectDecl) (losing taking : Halting) (k : ℕ)
     (P : ℕ → List Event → Event → Type 0) (differ : DifferAt k losing taking) (line : ℕ) (restarted : ℕ → Bool)
@@ -258,12 +125,6 @@ module _ (objects : List ObjectDecl) (losing taking : Halting) (k : ℕ)
           made there (put other there (moved_input (length before) input))
           ≡ made st (put one st input)
 
-    after_accepted : (again : Bool) (st : Standing) (n : ℕ) (ev : Event) (w : Bool)
-        (o : Option Bool) → accepted (after_input line again st n ev w o).turns ≡ accepted st.turns + 1
-    after_accepted again st n ev w None = refl
-    after_accepted again st n ev w (Some true) = refl
-    after_accepted again st n ev w (Some false) = refl
-
     made_moved : (p : ℕ) (ev : Event) (o : Option Bool)
         → made_by (moved_event p ev) o ≡ made_by ev o
     made_moved p ev None = refl
@@ -323,7 +184,7 @@ module _ (objects : List ObjectDecl) (losing taking : Halting) (k : ℕ)
         o = losing st.turns n w (restarted n)
 
         counted : accepted (after_input line (restarted n) st n ev w o).turns ≡ accepted st.turns + 1
-        counted = after_accepted (restarted n) st n ev w o
+        counted = after_accepted line (restarted n) st n ev w o
 
         end : IsFound s before e (after_input line (restarted n) st n ev w o)
             (after_input line (restarted n) later n (moved_event p ev) w o)
@@ -335,171 +196,3 @@ module _ (objects : List ObjectDecl) (losing taking : Halting) (k : ℕ)
         whole =
             ap (λ x. put other x (moved_input p input)) found.is
             ∙ put_later s found.behind before e st input found.unseen found.was off passed
-
-    -- what an input leads to where the runs were the same
-    pub record Puts (st there one_end other_end : Standing) : Type 0 where
-      pub goes : Goes objects k P one_end other_end
-      pub created : created_in (made there other_end) ≡ created_in (made st one_end)
-      pub asked : asked_in (made there other_end) ≡ asked_in (made st one_end)
-
-    below_after : (again : Bool) (st : Standing) (n : ℕ) (ev : Event) (w : Bool) (o : Option Bool)
-        → ((i : ℕ) → has_number st.taken i ≡ true → i < length st.running.trace)
-        → (i : ℕ) → has_number (after_input line again st n ev w o).taken i ≡ true
-        → i < length (after_input line again st n ev w o).running.trace
-    below_after again st n ev w None below i has = let h = below i has in omega (arith, h)
-    below_after again st n ev w (Some false) below i has = below i has
-    below_after again st n ev w (Some true) below i has =
-        elim (eqb_tells (length st.running.trace) i) [
-          | inl y ↦ let same = y.1 in omega (arith, same)
-          | inr other_one ↦
-              let h = below i (sym (ap (λ b. b || has_number st.taken i) other_one.0) ∙ has) in
-              omega (arith, h)
-        ]
-
-    module _ (F : List Event) (H : List Deed) (placed : AllPlaced objects H F) where
-      -- the input at which they differ
-      differs : (st : Standing) → Before k P st st → (input : Input) → accepted st.turns ≡ k
-          → Leads F (put other st input) → Puts st st (put one st input) (put other st input)
-      differs st before input here leads = record {
-        goes = inr (record {
-          node = n;
-          before = t;
-          event = taken_of ev;
-          kept = before.all n t (taken_of ev);
-          beyond = record {
-            is_beyond = record {
-              passed =
-                  let more : accepted (put one st input).turns ≡ accepted st.turns + 1 =
-                  after_accepted (restarted n) st n ev w (losing st.turns n w (restarted n)) in
-                  omega (arith, more, here);
-              input = input;
-              of_node = refl;
-              event = refl;
-              stands = record {
-                behind = [];
-                unseen = record { at = refl; mute = refl; others = tt };
-                was = ap (λ (x : Standing). x.running.trace) loses;
-                is = takes ∙ found ∙ ap (with_taken_in n [] (taken_of ev) t) (sym loses);
-                halted =
-                    ap (λ (x : Standing). has_number x.halted n) loses
-                    ∙ ap (λ b. b || has_number st.halted n) (eq-eqb n n refl);
-              };
-            };
-            silent = entered_silent objects H n ev.deeds
-                (placed_behind objects H leads.more (taken_of ev ∷ t)
-                (subst (AllPlaced objects H) (leads.is ∙ ap (λ (x : Standing).
-                leads.more ++ x.running.trace) takes) placed)).0;
-          };
-        });
-        created =
-            ap created_in there ∙ creates_none ev.deeds ∙ sym (ap created_in here_none);
-        asked = ap asked_in there ∙ asks_none ev.deeds ∙ sym (ap asked_in here_none);
-      }
-        where
-          t : List Event
-          t = st.running.trace
-
-          n : ℕ
-          n = node_of t input
-
-          ev : Event
-          ev = (by_knowledge objects).next t input
-
-          w : Bool
-          w = appends (by_knowledge objects) t input
-
-          lost_end : Standing
-          lost_end = after_input line (restarted n) st n ev w (Some false)
-
-          taken_end : Standing
-          taken_end = after_input line (restarted n) st n ev w (Some true)
-
-          loses : put one st input ≡ lost_end
-          loses = ap (after_input line (restarted n) st n ev w)
-              (differ.lost st.turns n w (restarted n) here)
-
-          takes : put other st input ≡ taken_end
-          takes = ap (after_input line (restarted n) st n ev w)
-              (differ.took st.turns n w (restarted n) here)
-
-          found : taken_end ≡ with_taken_in n [] (taken_of ev) t lost_end
-          found = λ i. record taken_end {
-            running = record taken_end.running {
-              marks = sym (marks_new n line st.running.marks) i;
-            };
-            taken = sym (number_new (length t) st.taken before.below) i;
-          }
-
-          there : made st (put other st input) ≡ filter is_entered ev.deeds
-          there = ap (made st) takes ∙ made_is line (restarted n) st n ev w (Some true)
-
-          here_none : made st (put one st input) ≡ []
-          here_none = ap (made st) loses ∙ made_is line (restarted n) st n ev w (Some false)
-
-      alike : (st : Standing) → Before k P st st → (input : Input) → (accepted st.turns ≡ k → ⊥)
-          → Puts st st (put one st input) (put other st input)
-      alike st before input off = record {
-        goes = inl (record {
-          all = before.all;
-          is_before = record {
-            coming =
-                let more = after_accepted (restarted n) st n ev w o in
-                let coming = before.is_before.coming in
-                by_cases coming more;
-            same = sym same;
-          };
-          below = below_after (restarted n) st n ev w o before.below;
-        });
-        created = ap (λ x. created_in (made st x)) (sym same);
-        asked = ap (λ x. asked_in (made st x)) (sym same);
-      }
-        where
-          t : List Event
-          t = st.running.trace
-
-          n : ℕ
-          n = node_of t input
-
-          ev : Event
-          ev = (by_knowledge objects).next t input
-
-          w : Bool
-          w = appends (by_knowledge objects) t input
-
-          o : Option Bool
-          o = losing st.turns n w (restarted n)
-
-          same : put one st input ≡ put other st input
-          same = ap (after_input line (restarted n) st n ev w)
-              (differ.alike st.turns n w (restarted n) off)
-
-          by_cases : accepted st.turns ≤ k
-              → accepted (put one st input).turns ≡ accepted st.turns + 1
-              → accepted (put one st input).turns ≤ k
-          by_cases coming more = elim (eqb_tells (accepted st.turns) k) [
-            | inl y ↦ absurd (off y.1)
-            | inr other_one ↦ let ne = other_one.1 in omega (arith, coming, more, less coming ne)
-          ]
-            where
-              less : accepted st.turns ≤ k → (accepted st.turns ≡ k → ⊥) → accepted st.turns < k
-              less le ne = elim (lt_cases (accepted st.turns) k) [
-                | inl y ↦ y.1
-                | inr h ↦ let high = h.1 in absurd (ne (omega (arith, le, high)))
-              ]
-
-      pub before_put : (st there : Standing) → Before k P st there → (input : Input)
-          → Leads F (put other there input) → Puts st there (put one st input) (put other there input)
-      before_put st there before input =
-          subst (λ x. Leads F (put other x input) → Puts st x (put one st input) (put other x input))
-          (sym before.is_before.same)
-          (λ leads. elim (eqb_tells (accepted st.turns) k) [
-            | inl y ↦ differs st here input y.1 leads
-            | inr other_one ↦ alike st here input other_one.1
-          ])
-        where
-          here : Before k P st st
-          here = record {
-            all = before.all;
-            is_before = record { coming = before.is_before.coming; same = refl };
-            below = before.below;
-          }

@@ -24,8 +24,9 @@ use Rattle.cam_runs.proofs.HaltedWhole.{halted_lines_lead_on, halted_lines_agree
 use Rattle.cam_histories.specs.PutIn.{moved_event, put_in}
 use Rattle.cam_histories.specs.Found.{IsFound, DifferAt, IsBeyond, HasBeyond, IsBefore, after_step}
 use Rattle.cam_histories.specs.Found.{IsLineOfBoth, LinesLeadToTheHalt, LinesKeepTheEvent}
-use Rattle.cam_histories.proofs.FoundPuts.{Before, Beyond, SomeBeyond, Goes, Leads}
-use Rattle.cam_histories.proofs.FoundLines.{PassLeads, line_goes, act_goes}
+use Rattle.cam_histories.proofs.Beside.{Before, Beyond, SomeBeyond, Goes, Leads}
+use Rattle.cam_histories.proofs.FoundPassed.{PassLeads, line_goes}
+use Rattle.cam_histories.proofs.FoundLines.{act_goes}
 use Rattle.cam_histories.proofs.Silent.{AreSilent, entered_silent, placed_behind}
 
 -- all events of a run under way are placed

@@ -24,7 +24,7 @@ use Rattle.cam_histories.specs.PutIn.{moved_letter, nameless, put_in, IsUnseen}
 use Rattle.cam_histories.specs.Found.{with_taken_in, IsFound, IsBeyond, WholesStand, LogsHaveTheEvent}
 use Rattle.cam_histories.specs.Whole.{Site, IsSiteOf, AreSitesOf, IsWhole}
 use Rattle.cam_histories.proofs.PutIn.{histories_are_moved, loads_are_moved}
-use Rattle.cam_histories.proofs.FoundParts.{letters_later, letter_later, addressee_later}
+use Rattle.cam_histories.proofs.FoundSent.{letters_later, letter_later, addressee_later}
 use Rattle.cam_histories.proofs.NamelessNodes.{stands_alike}
 
 module _ (objects : List ObjectDecl) (s : ℕ) (behind before : List Event) (e : Event)

@@ -1,0 +1,200 @@
+-- The input at which two runs differ, and those before it.
+use Rattle.std.proofs.Common.{◌≡◌, ◌⊎◌, inl, inr, ℕ, suc, ◌+◌, ◌<◌, ◌≤◌, eqb, Bool, true, false, ◌||◌}
+use Rattle.std.proofs.Common.{if◌then◌else◌, List, [], ◌∷◌, ◌++◌, filter, length, Option, Some, None}
+use Rattle.std.proofs.Common.{option_map, refl, sym, ap, ◌∙◌, subst, arith, append_assoc, lt-ltb}
+use Rattle.std.specs.Prelude.{nat_lt}
+use Rattle.std.specs.List.{list_any}
+use Rattle.std.proofs.lemmas.Bool.{eq-eqb, ne_eqb, true≢false}
+use Rattle.std.proofs.lemmas.Bool.Decides.{eqb_tells}
+use Rattle.cam_type.specs.declared.ObjectDecl.{ObjectDecl}
+use Rattle.cam_know.specs.Knowledge.{Knowledge}
+use Rattle.cam_event.specs.declared.Deed.{Deed}
+use Rattle.cam_event.specs.declared.Event.{Event}
+use Rattle.cam_event.specs.declared.LetterId.{LetterId}
+use Rattle.cam_event.specs.declared.Mark.TheVariants as marks
+use Rattle.cam_event.specs.Inputs.{Input, Begins, Requests, Receives, Tells, Queries, Restarts}
+use Rattle.cam_event.specs.Inputs.{node_of}
+use Rattle.cam_event.specs.Loads.{Load}
+use Rattle.cam_event.specs.Readings.{Reading, by_knowledge}
+use Rattle.cam_event.specs.Sights.{Sight}
+use Rattle.cam_event.specs.Taken.{is_entered, taken_of}
+use Rattle.cam_cut.proofs.Places.{AllPlaced}
+use Rattle.cam_runs.specs.Running.{has_number}
+use Rattle.cam_runs.specs.Requests.{created_in, asked_in, newest_deeds}
+use Rattle.cam_runs.specs.Halts as halts
+use Rattle.cam_runs.specs.Halts.{accepted, Halting, brought_by, learns_count, appends}
+use Rattle.cam_runs.specs.Standing.{Standing, Setting, after_input, put, made}
+use Rattle.cam_histories.specs.InputLaws.{held_setting}
+use Rattle.cam_histories.specs.PutIn.{moved_letter, moved_event, moved_input, put_in, IsUnseen}
+use Rattle.cam_histories.specs.Found.{with_number, with_mark_taken, with_taken_in, IsFound, DifferAt}
+use Rattle.cam_histories.specs.Found.{IsBeyond, IsBefore}
+use Rattle.cam_histories.proofs.Numbers.{lt_cases, put_in_length, behind_long}
+use Rattle.cam_histories.proofs.PutIn.{node_moved, events_are_moved, loads_are_moved, sights_stay}
+use Rattle.cam_histories.proofs.FoundMarks.{marks_more, marks_new, number_more, number_new}
+use Rattle.cam_histories.proofs.Silent.{AreSilent, entered_silent, placed_behind, creates_none, asks_none}
+use Rattle.cam_histories.proofs.Trails.{Trail}
+use Rattle.cam_histories.proofs.Beside.{Before, Beyond, SomeBeyond, Goes, Leads, leads_back}
+use Rattle.cam_histories.proofs.AfterInput.{or_true, made_by, made_is, after_found, after_accepted, below_after}
+
+module _ (objects : List ObjectDecl) (losing taking : Halting) (k : ℕ)
+    (P : ℕ → List Event → Event → Type 0) (differ : DifferAt k losing taking) (line : ℕ) (restarted : ℕ → Bool)
+  where
+    abbrev pub one : Setting
+    one = held_setting objects losing line restarted
+
+    abbrev pub other : Setting
+    other = held_setting objects taking line restarted
+
+    -- what an input leads to where the runs were the same
+    pub record Puts (st there one_end other_end : Standing) : Type 0 where
+      pub goes : Goes objects k P one_end other_end
+      pub created : created_in (made there other_end) ≡ created_in (made st one_end)
+      pub asked : asked_in (made there other_end) ≡ asked_in (made st one_end)
+
+    module _ (F : List Event) (H : List Deed) (placed : AllPlaced objects H F) where
+      -- the input at which they differ
+      differs : (st : Standing) → Before k P st st → (input : Input) → accepted st.turns ≡ k
+          → Leads F (put other st input) → Puts st st (put one st input) (put other st input)
+      differs st before input here leads = record {
+        goes = inr (record {
+          node = n;
+          before = t;
+          event = taken_of ev;
+          kept = before.all n t (taken_of ev);
+          beyond = record {
+            is_beyond = record {
+              passed =
+                  let more : accepted (put one st input).turns ≡ accepted st.turns + 1 =
+                  after_accepted line (restarted n) st n ev w (losing st.turns n w (restarted n)) in
+                  omega (arith, more, here);
+              input = input;
+              of_node = refl;
+              event = refl;
+              stands = record {
+                behind = [];
+                unseen = record { at = refl; mute = refl; others = tt };
+                was = ap (λ (x : Standing). x.running.trace) loses;
+                is = takes ∙ found ∙ ap (with_taken_in n [] (taken_of ev) t) (sym loses);
+                halted =
+                    ap (λ (x : Standing). has_number x.halted n) loses
+                    ∙ ap (λ b. b || has_number st.halted n) (eq-eqb n n refl);
+              };
+            };
+            silent = entered_silent objects H n ev.deeds
+                (placed_behind objects H leads.more (taken_of ev ∷ t)
+                (subst (AllPlaced objects H) (leads.is ∙ ap (λ (x : Standing).
+                leads.more ++ x.running.trace) takes) placed)).0;
+          };
+        });
+        created =
+            ap created_in there ∙ creates_none ev.deeds ∙ sym (ap created_in here_none);
+        asked = ap asked_in there ∙ asks_none ev.deeds ∙ sym (ap asked_in here_none);
+      }
+        where
+          t : List Event
+          t = st.running.trace
+
+          n : ℕ
+          n = node_of t input
+
+          ev : Event
+          ev = (by_knowledge objects).next t input
+
+          w : Bool
+          w = appends (by_knowledge objects) t input
+
+          lost_end : Standing
+          lost_end = after_input line (restarted n) st n ev w (Some false)
+
+          taken_end : Standing
+          taken_end = after_input line (restarted n) st n ev w (Some true)
+
+          loses : put one st input ≡ lost_end
+          loses = ap (after_input line (restarted n) st n ev w)
+              (differ.lost st.turns n w (restarted n) here)
+
+          takes : put other st input ≡ taken_end
+          takes = ap (after_input line (restarted n) st n ev w)
+              (differ.took st.turns n w (restarted n) here)
+
+          found : taken_end ≡ with_taken_in n [] (taken_of ev) t lost_end
+          found = λ i. record taken_end {
+            running = record taken_end.running {
+              marks = sym (marks_new n line st.running.marks) i;
+            };
+            taken = sym (number_new (length t) st.taken before.below) i;
+          }
+
+          there : made st (put other st input) ≡ filter is_entered ev.deeds
+          there = ap (made st) takes ∙ made_is line (restarted n) st n ev w (Some true)
+
+          here_none : made st (put one st input) ≡ []
+          here_none = ap (made st) loses ∙ made_is line (restarted n) st n ev w (Some false)
+
+      alike : (st : Standing) → Before k P st st → (input : Input) → (accepted st.turns ≡ k → ⊥)
+          → Puts st st (put one st input) (put other st input)
+      alike st before input off = record {
+        goes = inl (record {
+          all = before.all;
+          is_before = record {
+            coming =
+                let more = after_accepted line (restarted n) st n ev w o in
+                let coming = before.is_before.coming in
+                by_cases coming more;
+            same = sym same;
+          };
+          below = below_after line (restarted n) st n ev w o before.below;
+        });
+        created = ap (λ x. created_in (made st x)) (sym same);
+        asked = ap (λ x. asked_in (made st x)) (sym same);
+      }
+        where
+          t : List Event
+          t = st.running.trace
+
+          n : ℕ
+          n = node_of t input
+
+          ev : Event
+          ev = (by_knowledge objects).next t input
+
+          w : Bool
+          w = appends (by_knowledge objects) t input
+
+          o : Option Bool
+          o = losing st.turns n w (restarted n)
+
+          same : put one st input ≡ put other st input
+          same = ap (after_input line (restarted n) st n ev w)
+              (differ.alike st.turns n w (restarted n) off)
+
+          by_cases : accepted st.turns ≤ k
+              → accepted (put one st input).turns ≡ accepted st.turns + 1
+              → accepted (put one st input).turns ≤ k
+          by_cases coming more = elim (eqb_tells (accepted st.turns) k) [
+            | inl y ↦ absurd (off y.1)
+            | inr other_one ↦ let ne = other_one.1 in omega (arith, coming, more, less coming ne)
+          ]
+            where
+              less : accepted st.turns ≤ k → (accepted st.turns ≡ k → ⊥) → accepted st.turns < k
+              less le ne = elim (lt_cases (accepted st.turns) k) [
+                | inl y ↦ y.1
+                | inr h ↦ let high = h.1 in absurd (ne (omega (arith, le, high)))
+              ]
+
+      pub before_put : (st there : Standing) → Before k P st there → (input : Input)
+          → Leads F (put other there input) → Puts st there (put one st input) (put other there input)
+      before_put st there before input =
+          subst (λ x. Leads F (put other x input) → Puts st x (put one st input) (put other x input))
+          (sym before.is_before.same)
+          (λ leads. elim (eqb_tells (accepted st.turns) k) [
+            | inl y ↦ differs st here input y.1 leads
+            | inr other_one ↦ alike st here input other_one.1
+          ])
+        where
+          here : Before k P st st
+          here = record {
+            all = before.all;
+            is_before = record { coming = before.is_before.coming; same = refl };
+            below = before.below;
+          }

@@ -1,0 +1,231 @@
+-- Requests by bodies and plays of two runs whose halts differ at one input.
+use Rattle.std.proofs.Common.{◌≡◌, ◌⊎◌, inl, inr, ℕ, zero, suc, ◌+◌, ◌<◌, ◌≤◌, eqb, Bool, true, false}
+use Rattle.std.proofs.Common.{not, ◌&&◌, ◌||◌, if◌then◌else◌, List, [], ◌∷◌, ◌++◌, length, Option, Some}
+use Rattle.std.proofs.Common.{None, option_map, refl, sym, ap, ◌∙◌, subst, arith}
+use Rattle.std.specs.Prelude.{nat_lt}
+use Rattle.std.specs.List.{list_any}
+use Rattle.std.proofs.lemmas.Bool.{and_parts, true≢false, ne_eqb}
+use Rattle.std.proofs.lemmas.Option.{same_Some}
+use Rattle.cam_names.specs.declared.name.Name.{Name}
+use Rattle.cam_names.specs.Names.{is_ancestor, home_node, home_count}
+use Rattle.cam_names.proofs.Ancestry.{is_prefix_refl}
+use Rattle.cam_type.specs.declared.ObjectDecl.{ObjectDecl}
+use Rattle.cam_event.specs.declared.Deed.{Deed}
+use Rattle.cam_event.specs.declared.Event.{Event}
+use Rattle.cam_event.specs.declared.LetterId.{LetterId}
+use Rattle.cam_event.specs.declared.Note.{Note}
+use Rattle.cam_event.specs.declared.Note.TheVariants as notes
+use Rattle.cam_event.specs.declared.ViewStep.{ViewStep}
+use Rattle.cam_event.specs.Inputs.{Input, Receives, Requests, node_of}
+use Rattle.cam_event.specs.Pasts.{plain_all}
+use Rattle.cam_event.specs.Readings.{by_knowledge}
+use Rattle.cam_event.specs.Sights.{Sight, is_present}
+use Rattle.cam_event.specs.Views.{view}
+use Rattle.cam_script.specs.declared.Statement.{Statement}
+use Rattle.cam_body.specs.declared.Next.{Next}
+use Rattle.cam_body.specs.declared.Next.TheVariants as nexts
+use Rattle.cam_body.specs.Work.{next, child_body}
+use Rattle.cam_cut.proofs.BeginGood.{count_one}
+use Rattle.cam_cut.proofs.Places.{AllPlaced}
+use Rattle.cam_event.specs.History.{count, created, ended}
+use Rattle.cam_runs.specs.Running.{Running, letters, has_number, waiting_weight}
+use Rattle.cam_runs.specs.Requests.{home_sight, created_in, asked_in}
+use Rattle.cam_runs.specs.Playing.{body_of, may_go, in_order, with_body, is_stop_of}
+use Rattle.cam_runs.specs.Halts.{accepted, Halting}
+use Rattle.cam_runs.specs.Standing.{Standing, Setting, put, made, deliver, addressee, waiting_from}
+use Rattle.cam_runs.specs.Standing.{waiting, deliver_waiting, deliveries, drain}
+use Rattle.cam_runs.specs.HaltedPlaying.{given_body, requested, make_request, go, may_go_on}
+use Rattle.cam_runs.specs.HaltedPlaying.{go_in_round, round, rounds, play}
+use Rattle.cam_histories.specs.InputLaws.{held_setting}
+use Rattle.cam_histories.specs.PutIn.{moved_letter, moved_input, put_in}
+use Rattle.cam_histories.specs.Found.{with_taken_in, IsFound, DifferAt, IsBeyond, IsBefore}
+use Rattle.cam_histories.proofs.PutIn.{eventless, sights_stay}
+use Rattle.cam_histories.proofs.FoundSent.{moved_waiting, waiting_later, weight_later, addressee_later}
+use Rattle.cam_histories.proofs.Trails.{Trail, put_trail, deliveries_trail, given_trail, names_trail}
+use Rattle.cam_histories.proofs.Trails.{drain_trail, rounds_trail, if_trail}
+use Rattle.cam_histories.proofs.Beside.{Before, Beyond, SomeBeyond, Goes, Leads, leads_back}
+use Rattle.cam_histories.proofs.FoundPuts.{FoundPut, found_put}
+use Rattle.cam_histories.proofs.FoundHalts.{Puts, before_put}
+use Rattle.cam_histories.proofs.FoundEdits.{Shared, shared, Edits, beyond_edit, goes_edit, counted, counted_edits, given_edits, other_awake}
+use Rattle.cam_histories.proofs.FoundDrains.{PutOn, put_goes, deliver_before, deliver_beyond, drain_goes}
+use Rattle.cam_histories.proofs.FoundViews.{home_same, view_same, may_same, may_named}
+
+and_false : (b : Bool) → (b && false) ≡ false
+and_false true = refl
+and_false false = refl
+
+module _ (objects : List ObjectDecl) (losing taking : Halting) (k : ℕ)
+    (P : ℕ → List Event → Event → Type 0) (differ : DifferAt k losing taking) (line : ℕ) (restarted : ℕ → Bool)
+    (F : List Event) (H : List Deed) (placed : AllPlaced objects H F)
+    (bodies : List (List Statement))
+  where
+    abbrev first : Setting
+    first = held_setting objects losing line restarted
+
+    abbrev second : Setting
+    second = held_setting objects taking line restarted
+
+    make_goes : (st there : Standing) (a : Name) (child : Option ℕ) (n : Next)
+        → has_number st.halted (home_node a) ≡ false → Goes objects k P st there
+        → Leads F (make_request second there a child n)
+        → Goes objects k P (make_request first st a child n) (make_request second there a child n)
+    make_goes st there a child (nexts.Request want) awake goes leads =
+        subst (λ x. Goes objects k P (given_body child (asked_in (made st lost)) lost)
+        (given_body child x found)) (sym next.asked)
+        (goes_edit objects k P (given_body child (asked_in (made st lost)))
+        (given_edits child (asked_in (made st lost))) lost found next.goes)
+      where
+        lost : Standing
+        lost = requested first st a want
+
+        found : Standing
+        found = requested second there a want
+
+        next : PutOn objects losing taking k P differ line restarted F H placed st there lost found
+        next = put_goes objects losing taking k P differ line restarted F H placed st there
+            (Requests (record { action = a; want = want })) (λ p. refl) awake goes
+            (leads_back F found (given_body child (asked_in (made there found)) found)
+            (given_trail second child (asked_in (made there found)) found) leads)
+    make_goes st there a child nexts.Wait awake goes leads = goes
+    make_goes st there a child nexts.Over awake goes leads = goes
+
+    abbrev seen : Standing → Name → List ViewStep
+    seen st a = view (plain_all st.running.trace) a
+
+    pub go_goes : (st there : Standing) (a : Name) → is_ancestor a a ≡ true
+        → has_number st.halted (home_node a) ≡ false → Goes objects k P st there
+        → Leads F (go second bodies there a)
+        → Goes objects k P (go first bodies st a) (go second bodies there a)
+    go_goes st there a named awake goes leads =
+        subst (Goes objects k P (go first bodies st a)) (sym same)
+        (make_goes st there a (child_body body (seen st a)) (next body (seen st a)) awake goes
+        (subst (Leads F) same leads))
+      where
+        body : List Statement
+        body = body_of bodies st.running a
+
+        views : seen there a ≡ seen st a
+        views = elim goes [
+          | inl before ↦ ap (λ (x : Standing). seen x a) before.is_before.same
+          | inr b ↦ view_same objects k st there a b.node b.before b.event b.beyond
+              (other_awake objects k b.node b.before b.event st there (home_node a) b.beyond awake) named
+        ]
+
+        body_same : body_of bodies there.running a ≡ body
+        body_same =
+            ap (λ (ns : List (Name × ℕ)). body_of bodies (record st.running { bodies = ns }) a)
+            (shared objects k P st there goes).bodies
+
+        same : go second bodies there a
+            ≡ make_request second there a (child_body body (seen st a)) (next body (seen st a))
+        same = λ i. make_request second there a (child_body (body_same i) (views i))
+            (next (body_same i) (views i))
+
+    may_goes : (st there : Standing) (a : Name) → Goes objects k P st there
+        → may_go_on second there a ≡ may_go_on first st a
+    may_goes st there a (inl before) = ap (λ x. may_go_on second x a) before.is_before.same
+    may_goes st there a (inr b) =
+        ap (λ hs. may_go (home_sight (by_knowledge objects) there.running a) there.running a
+        && not (has_number hs (home_node a))) (shared objects k P st there (inr b)).halted
+        ∙ by (has_number st.halted (home_node a)) refl
+      where
+        by : (h : Bool) → has_number st.halted (home_node a) ≡ h
+            → (may_go (home_sight (by_knowledge objects) there.running a) there.running a && not h)
+            ≡ (may_go (home_sight (by_knowledge objects) st.running a) st.running a && not h)
+        by true halted =
+            and_false (may_go (home_sight (by_knowledge objects) there.running a) there.running a)
+            ∙ sym (and_false (may_go (home_sight (by_knowledge objects) st.running a) st.running a))
+        by false awake =
+            ap (λ x. x && true)
+            (may_same objects k st there a b.node b.before b.event b.beyond
+            (other_awake objects k b.node b.before b.event st there (home_node a) b.beyond awake))
+
+    not_so : (b : Bool) → not b ≡ true → b ≡ false
+    not_so true h = cc
+    not_so false h = refl
+
+    names_go : (names : List Name) (st there : Standing) → Goes objects k P st there
+        → Leads F (go_in_round second bodies names there)
+        → Goes objects k P (go_in_round first bodies names st) (go_in_round second bodies names there)
+    names_go [] st there goes leads = goes
+    names_go (a ∷ more) st there goes leads =
+        names_go more (if may_go_on first st a then go first bodies st a else st)
+        (if may_go_on second there a then go second bodies there a else there)
+        (subst (λ b. Leads F (if b then go second bodies there a else there)
+        → Goes objects k P (if may_go_on first st a then go first bodies st a else st)
+        (if b then go second bodies there a else there))
+        (sym (may_goes st there a goes)) (by (may_go_on first st a) refl)
+        (leads_back F (if may_go_on second there a then go second bodies there a else there)
+        (go_in_round second bodies (a ∷ more) there)
+        (names_trail second bodies more
+        (if may_go_on second there a then go second bodies there a else there)) leads))
+        leads
+      where
+        by : (b : Bool) → may_go_on first st a ≡ b
+            → Leads F (if b then go second bodies there a else there)
+            → Goes objects k P (if b then go first bodies st a else st)
+            (if b then go second bodies there a else there)
+        by true may leads =
+            let parts = and_parts (may_go (home_sight (by_knowledge objects) st.running a) st.running a)
+            (not (has_number st.halted (home_node a))) may in
+            go_goes st there a
+            (may_named (home_sight (by_knowledge objects) st.running a) st.running a parts.0)
+            (not_so (has_number st.halted (home_node a)) parts.1) goes leads
+        by false may leads = goes
+
+    round_goes : (st there : Standing) → Goes objects k P st there
+        → Leads F (round second bodies there)
+        → Goes objects k P (round first bodies st) (round second bodies there)
+    round_goes st there goes =
+        subst (λ ns. Leads F (drain second (go_in_round second bodies ns there))
+        → Goes objects k P (round first bodies st)
+        (drain second (go_in_round second bodies ns there)))
+        (ap in_order (sym (shared objects k P st there goes).bodies))
+        (λ leads. drain_goes objects losing taking k P differ line restarted F H placed
+        (go_in_round first bodies names st) (go_in_round second bodies names there)
+        (names_go names st there goes
+        (leads_back F (go_in_round second bodies names there)
+        (drain second (go_in_round second bodies names there))
+        (drain_trail second (go_in_round second bodies names there)) leads))
+        leads)
+      where
+        names : List Name
+        names = in_order st.running.bodies
+
+    pub rounds_go : (n : ℕ) (st there : Standing) → Goes objects k P st there
+        → Leads F (rounds second bodies n there)
+        → Goes objects k P (rounds first bodies n st) (rounds second bodies n there)
+    rounds_go zero st there goes leads = goes
+    rounds_go (suc n) st there goes leads =
+        subst (λ c. Leads F (if c then rounds second bodies n found else found)
+        → Goes objects k P (rounds first bodies (suc n) st)
+        (if c then rounds second bodies n found else found))
+        (sym counts) (by (nat_lt (accepted st.turns) (accepted lost.turns)) (rounds_go n lost found next)) leads
+      where
+        lost : Standing
+        lost = round first bodies st
+
+        found : Standing
+        found = round second bodies there
+
+        last : Trail found (rounds second bodies (suc n) there)
+        last = if_trail second (nat_lt (accepted there.turns) (accepted found.turns)) found
+            (rounds second bodies n found) (rounds_trail second bodies n found)
+
+        next : Goes objects k P lost found
+        next = round_goes st there goes
+            (leads_back F found (rounds second bodies (suc n) there) last leads)
+
+        counts : nat_lt (accepted there.turns) (accepted found.turns)
+            ≡ nat_lt (accepted st.turns) (accepted lost.turns)
+        counts = λ i. nat_lt (accepted ((shared objects k P st there goes).turns i))
+            (accepted ((shared objects k P lost found next).turns i))
+
+        by : (c : Bool)
+            → (Leads F (rounds second bodies n found)
+            → Goes objects k P (rounds first bodies n lost) (rounds second bodies n found))
+            → Leads F (if c then rounds second bodies n found else found)
+            → Goes objects k P (if c then rounds first bodies n lost else lost)
+            (if c then rounds second bodies n found else found)
+        by true rest leads = rest leads
+        by false rest leads = next
