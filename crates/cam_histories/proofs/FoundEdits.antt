@@ -1,51 +1,17 @@
 -- Edits that touch neither events nor halts keep two runs beside each other.
-use Rattle.std.proofs.Common.{◌≡◌, ◌⊎◌, inl, inr, ℕ, zero, suc, ◌+◌, ◌<◌, ◌≤◌, eqb, Bool, true, false}
-use Rattle.std.proofs.Common.{not, ◌&&◌, ◌||◌, if◌then◌else◌, List, [], ◌∷◌, ◌++◌, length, Option, Some}
-use Rattle.std.proofs.Common.{None, option_map, refl, sym, ap, ◌∙◌, subst, arith}
-use Rattle.std.specs.Prelude.{nat_lt}
-use Rattle.std.specs.List.{list_any}
-use Rattle.std.proofs.lemmas.Bool.{and_parts, true≢false, ne_eqb}
-use Rattle.std.proofs.lemmas.Option.{same_Some}
+use Rattle.std.proofs.Common.{◌≡◌, inl, inr, ℕ, ◌<◌, false}
+use Rattle.std.proofs.Common.{List, ◌∷◌, length, Option, Some}
+use Rattle.std.proofs.Common.{None, refl, sym, ap, ◌∙◌, subst, arith}
+use Rattle.std.proofs.lemmas.Bool.{true≢false}
 use Rattle.cam_names.specs.declared.name.Name.{Name}
-use Rattle.cam_names.specs.Names.{is_ancestor, home_node, home_count}
-use Rattle.cam_names.proofs.Ancestry.{is_prefix_refl}
 use Rattle.cam_type.specs.declared.ObjectDecl.{ObjectDecl}
-use Rattle.cam_event.specs.declared.Deed.{Deed}
 use Rattle.cam_event.specs.declared.Event.{Event}
-use Rattle.cam_event.specs.declared.LetterId.{LetterId}
-use Rattle.cam_event.specs.declared.Note.{Note}
-use Rattle.cam_event.specs.declared.Note.TheVariants as notes
-use Rattle.cam_event.specs.declared.ViewStep.{ViewStep}
-use Rattle.cam_event.specs.Inputs.{Input, Receives, Requests, node_of}
-use Rattle.cam_event.specs.Pasts.{plain_all}
-use Rattle.cam_event.specs.Readings.{by_knowledge}
-use Rattle.cam_event.specs.Sights.{Sight, is_present}
-use Rattle.cam_event.specs.Views.{view}
-use Rattle.cam_script.specs.declared.Statement.{Statement}
-use Rattle.cam_body.specs.declared.Next.{Next}
-use Rattle.cam_body.specs.declared.Next.TheVariants as nexts
-use Rattle.cam_body.specs.Work.{next, child_body}
-use Rattle.cam_cut.proofs.BeginGood.{count_one}
-use Rattle.cam_cut.proofs.Places.{AllPlaced}
-use Rattle.cam_event.specs.History.{count, created, ended}
-use Rattle.cam_runs.specs.Running.{Running, letters, has_number, waiting_weight}
-use Rattle.cam_runs.specs.Requests.{home_sight, created_in, asked_in}
-use Rattle.cam_runs.specs.Playing.{body_of, may_go, in_order, with_body, is_stop_of}
-use Rattle.cam_runs.specs.Halts.{accepted, Halting}
-use Rattle.cam_runs.specs.Standing.{Standing, Setting, put, made, deliver, addressee, waiting_from}
-use Rattle.cam_runs.specs.Standing.{waiting, deliver_waiting, deliveries, drain}
-use Rattle.cam_runs.specs.HaltedPlaying.{given_body, requested, make_request, go, may_go_on}
-use Rattle.cam_runs.specs.HaltedPlaying.{go_in_round, round, rounds, play}
-use Rattle.cam_histories.specs.InputLaws.{held_setting}
-use Rattle.cam_histories.specs.PutIn.{moved_letter, moved_input, put_in}
-use Rattle.cam_histories.specs.Found.{with_taken_in, IsFound, DifferAt, IsBeyond, IsBefore}
-use Rattle.cam_histories.proofs.PutIn.{eventless, sights_stay}
-use Rattle.cam_histories.proofs.FoundSent.{moved_waiting, waiting_later, weight_later, addressee_later}
-use Rattle.cam_histories.proofs.Trails.{Trail, put_trail, deliveries_trail, given_trail, names_trail}
-use Rattle.cam_histories.proofs.Trails.{drain_trail, rounds_trail, if_trail}
-use Rattle.cam_histories.proofs.Beside.{Before, Beyond, SomeBeyond, Goes, Leads, leads_back}
-use Rattle.cam_histories.proofs.FoundPuts.{FoundPut, found_put}
-use Rattle.cam_histories.proofs.FoundHalts.{Puts, before_put}
+use Rattle.cam_runs.specs.Running.{has_number}
+use Rattle.cam_runs.specs.Halts.{accepted}
+use Rattle.cam_runs.specs.Standing.{Standing}
+use Rattle.cam_runs.specs.HaltedPlaying.{given_body}
+use Rattle.cam_histories.specs.Found.{with_taken_in, IsFound}
+use Rattle.cam_histories.proofs.Beside.{Beyond, Goes}
 
 -- What both have: the turns of the disks, the halted nodes, the variables and the bodies.
 pub record Shared (lost found : Standing) : Type 0 where

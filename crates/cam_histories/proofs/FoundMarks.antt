@@ -1,25 +1,14 @@
 -- Marks and numbers of taken events where an event is put in.
-use Rattle.std.proofs.Common.{◌≡◌, inl, inr, ℕ, zero, suc, ◌+◌, ◌-◌, ◌<◌, ◌≤◌, eqb, Bool, true, false}
-use Rattle.std.proofs.Common.{not, ◌&&◌, ◌||◌, if◌then◌else◌, List, [], ◌∷◌, ◌++◌, map, length, Option}
-use Rattle.std.proofs.Common.{Some, None, option_map, refl, sym, ap, ◌∙◌, arith, append-nil}
-use Rattle.std.specs.Prelude.{nat_lt, slice_get}
+use Rattle.std.proofs.Common.{◌≡◌, inl, inr, ℕ, ◌+◌, ◌<◌, ◌≤◌, Bool, true, false}
+use Rattle.std.proofs.Common.{not, ◌&&◌, ◌||◌, if◌then◌else◌, List, [], ◌∷◌, ◌++◌}
+use Rattle.std.proofs.Common.{refl, ap, ◌∙◌, arith}
 use Rattle.std.specs.List.{list_any}
-use Rattle.std.specs.Option.{option_map_or}
 use Rattle.std.proofs.lemmas.Bool.{eq-eqb}
-use Rattle.std.proofs.lemmas.List.{map-append}
-use Rattle.cam_event.specs.declared.Event.{Event}
-use Rattle.cam_event.specs.declared.LetterId.{LetterId}
 use Rattle.cam_event.specs.declared.Mark.{Mark}
 use Rattle.cam_event.specs.declared.Mark.TheVariants as marks
-use Rattle.cam_event.specs.declared.Sent.{Sent}
-use Rattle.cam_event.specs.Inputs.{Mail, Receives, letter_at, node_of}
-use Rattle.cam_runs.specs.Running.{Running, ids_from, letters, has_number, letter_of, weight}
-use Rattle.cam_runs.specs.Running.{weight_of, weight_from, waiting_weight}
-use Rattle.cam_runs.specs.Standing.{Standing, addressee, waiting_from, waiting}
-use Rattle.cam_histories.specs.PutIn.{moved, moved_letter, moved_event, put_in}
-use Rattle.cam_histories.specs.Found.{with_number, is_halt_of, as_taken, with_mark_taken, with_taken_in}
-use Rattle.cam_histories.proofs.Numbers.{lt_cases, moved_low, moved_high, put_in_length, behind_long}
-use Rattle.cam_histories.proofs.Numbers.{letters_moved}
+use Rattle.cam_runs.specs.Running.{has_number}
+use Rattle.cam_histories.specs.Found.{with_number, is_halt_of, as_taken, with_mark_taken}
+use Rattle.cam_histories.proofs.Numbers.{lt_cases}
 
 -- a mark that is no halt of the node
 any_end : (p : Mark → Bool) (ms : List Mark) (m : Mark) (b : Bool) → p m ≡ b

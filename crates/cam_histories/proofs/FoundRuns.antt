@@ -1,30 +1,25 @@
 -- Lines of two runs whose halts differ at one input, by the pasts of events.
-use Rattle.std.proofs.Common.{◌≡◌, ◌⊎◌, inl, inr, ℕ, ◌<◌, Bool, true, false, List, [], ◌∷◌, ◌++◌, map}
-use Rattle.std.proofs.Common.{length, Some, refl, sym, ap, ◌∙◌, subst, arith, ◌+◌}
+use Rattle.std.proofs.Common.{◌≡◌, ◌⊎◌, inl, inr, ℕ, false, List, [], ◌∷◌, map}
+use Rattle.std.proofs.Common.{length, refl, sym, ap, ◌∙◌, subst, arith, ◌+◌}
 use Rattle.std.specs.Prelude.{slice_get}
 use Rattle.std.specs.List.{list_any}
-use Rattle.cam_type.specs.declared.ObjectDecl.{ObjectDecl}
-use Rattle.cam_event.specs.declared.Deed.{Deed}
 use Rattle.cam_event.specs.declared.Event.{Event}
-use Rattle.cam_event.specs.Inputs.{Input}
 use Rattle.cam_event.specs.Pasts.{plain_all}
 use Rattle.cam_event.specs.Readings.{by_pasts, by_knowledge}
-use Rattle.cam_event.specs.Taken.{is_entered, taken_of}
 use Rattle.cam_agree.proofs.Ran.{ran_holds}
 use Rattle.cam_cut.proofs.Places.{AllPlaced, PlacedDeeds}
 use Rattle.cam_script.specs.declared.Script.{Script}
 use Rattle.cam_script.specs.declared.Step.{Step}
-use Rattle.cam_runs.specs.Running.{has_number}
 use Rattle.cam_runs.specs.Halts.{Halting}
 use Rattle.cam_runs.specs.Standing.{Standing}
 use Rattle.cam_runs.specs.HaltedLines.{Passed, Refused, Led, after_line, is_restart, is_restart_act}
 use Rattle.cam_runs.specs.UnderHalts.{IsUnderHalts, IsNextStep, act_by}
 use Rattle.cam_runs.proofs.HaltedEvents.{ran}
 use Rattle.cam_runs.proofs.HaltedWhole.{halted_lines_lead_on, halted_lines_agree}
-use Rattle.cam_histories.specs.PutIn.{moved_event, put_in}
-use Rattle.cam_histories.specs.Found.{IsFound, DifferAt, IsBeyond, HasBeyond, IsBefore, after_step}
+use Rattle.cam_histories.specs.PutIn.{moved_event}
+use Rattle.cam_histories.specs.Found.{IsBeyond, HasBeyond, IsBefore, after_step}
 use Rattle.cam_histories.specs.Found.{IsLineOfBoth, LinesLeadToTheHalt, LinesKeepTheEvent}
-use Rattle.cam_histories.proofs.Beside.{Before, Beyond, SomeBeyond, Goes, Leads}
+use Rattle.cam_histories.proofs.Beside.{SomeBeyond, Goes}
 use Rattle.cam_histories.proofs.FoundPassed.{PassLeads, line_goes}
 use Rattle.cam_histories.proofs.FoundLines.{act_goes}
 use Rattle.cam_histories.proofs.Silent.{AreSilent, entered_silent, placed_behind}

@@ -1,6 +1,6 @@
 -- Nodes, logs and network that stand for a run stand for it with the taken event put in.
-use Rattle.std.proofs.Common.{◌≡◌, ℕ, ◌+◌, ◌<◌, eqb, Bool, true, false, if◌then◌else◌, List, [], ◌∷◌}
-use Rattle.std.proofs.Common.{◌++◌, map, length, Option, Some, None, option_map, refl, sym, ap, ◌∙◌}
+use Rattle.std.proofs.Common.{◌≡◌, ℕ, ◌+◌, Bool, true, List, [], ◌∷◌}
+use Rattle.std.proofs.Common.{◌++◌, map, length, Option, option_map, refl, sym, ap, ◌∙◌}
 use Rattle.std.proofs.Common.{subst}
 use Rattle.std.specs.List.{AllByRecursion}
 use Rattle.std.proofs.lemmas.Bool.{true≢false, eq-eqb, ne_eqb}
@@ -11,17 +11,17 @@ use Rattle.cam_event.specs.declared.LetterId.{LetterId}
 use Rattle.cam_event.specs.Inputs.{Mail, mail_got, got_of}
 use Rattle.cam_event.specs.Loads.{Load}
 use Rattle.cam_event.specs.Readings.{by_knowledge}
-use Rattle.cam_event.specs.ByDeltas.{Received, received, received_of, of_node}
+use Rattle.cam_event.specs.ByDeltas.{received, received_of}
 use Rattle.cam_net.specs.Letters.{InFlightFields}
 use Rattle.cam_node.specs.Halting.{taken_step}
 use Rattle.cam_wire.specs.OfTrace.{letter_with, letter_of}
 use Rattle.cam_runs.specs.Running.{letters, has_number}
-use Rattle.cam_runs.specs.Standing.{Standing, addressee}
+use Rattle.cam_runs.specs.Standing.{Standing}
 use Rattle.cam_histories.specs.Laws.{history_of, load_of_input}
-use Rattle.cam_histories.specs.Flight.{IsSent, AreSent, IsCarried, AreInFlight, with_put, IsNetworkOf}
-use Rattle.cam_histories.specs.Network.{IsLetter, AreLetters, StandsFor}
+use Rattle.cam_histories.specs.Flight.{AreSent, AreInFlight, with_put}
+use Rattle.cam_histories.specs.Network.{AreLetters}
 use Rattle.cam_histories.specs.PutIn.{moved_letter, nameless, put_in, IsUnseen}
-use Rattle.cam_histories.specs.Found.{with_taken_in, IsFound, IsBeyond, WholesStand, LogsHaveTheEvent}
+use Rattle.cam_histories.specs.Found.{with_taken_in, IsFound, WholesStand, LogsHaveTheEvent}
 use Rattle.cam_histories.specs.Whole.{Site, IsSiteOf, AreSitesOf, IsWhole}
 use Rattle.cam_histories.proofs.PutIn.{histories_are_moved, loads_are_moved}
 use Rattle.cam_histories.proofs.FoundSent.{letters_later, letter_later, addressee_later}

@@ -1,40 +1,27 @@
 -- A node does not go by the numbers of the letters that came to it: what it holds, what stands at
 -- its site and what its letters carry are the same of its history without them.
-use Rattle.std.proofs.Common.{◌≡◌, ℕ, ◌+◌, Bool, not, ◌||◌, if◌then◌else◌, List, [], ◌∷◌, ◌++◌, map}
-use Rattle.std.proofs.Common.{length, Option, Some, None, option_map, is_some, refl, sym, ap, ◌∙◌}
-use Rattle.std.specs.Prelude.{min, max, eqb, flat_map, unwrap_or}
+use Rattle.std.proofs.Common.{◌≡◌, ℕ, ◌+◌, if◌then◌else◌, List, [], ◌∷◌, ◌++◌, map}
+use Rattle.std.proofs.Common.{length, Option, Some, None, option_map, refl, ap, ◌∙◌}
+use Rattle.std.specs.Prelude.{min, max, eqb, flat_map}
 use Rattle.std.specs.List.{list_any}
 use Rattle.cam_names.specs.declared.name.Name.{Name}
-use Rattle.cam_names.specs.Names.{is_top, parent}
-use Rattle.cam_names.specs.Dependencies.{as_counts, pairs_of}
+use Rattle.cam_names.specs.Names.{is_top}
+use Rattle.cam_names.specs.Dependencies.{as_counts}
 use Rattle.cam_type.specs.declared.ObjectDecl.{ObjectDecl}
 use Rattle.cam_know.specs.declared.Outcome.TheVariants.{Aborted, Committed}
 use Rattle.cam_know.specs.Knowledge.{Knowledge}
-use Rattle.cam_know.specs.Known.{both, knows_abort, knows_commit, known_count, with_outcome}
+use Rattle.cam_know.specs.Known.{both, with_outcome}
 use Rattle.cam_know.specs.Known.{with_count, after_place}
-use Rattle.cam_know.specs.Orphans.{known_orphan}
-use Rattle.cam_event.specs.declared.Event.{Event}
-use Rattle.cam_event.specs.declared.Body.{Body}
-use Rattle.cam_event.specs.declared.Body.TheVariants as bodies
-use Rattle.cam_event.specs.declared.Note.TheVariants as notes
-use Rattle.cam_event.specs.declared.Want.{Want}
-use Rattle.cam_event.specs.declared.Want.TheVariants as wants
 use Rattle.cam_event.specs.declared.Deed.{Deed}
 use Rattle.cam_event.specs.declared.Deed.TheVariants.{Create, Ask, Call, Perform, Bounce, Got}
 use Rattle.cam_event.specs.declared.Deed.TheVariants.{AskCommit, AskAbort, Commit, Abort, Secure}
 use Rattle.cam_event.specs.declared.Deed.TheVariants.{Inform, Crash}
 use Rattle.cam_event.specs.History.{after, count, is_crash}
-use Rattle.cam_event.specs.Inputs.{Input, Begins, Requests, Receives, Tells, Queries, Restarts, Mail}
-use Rattle.cam_event.specs.Inputs.{got_of}
-use Rattle.cam_event.specs.Sights.{Sight, Entry, votes, yes_for, is_preparing_note, is_present}
-use Rattle.cam_event.specs.Sights.{is_preparing, knows_outcome}
-use Rattle.cam_event.specs.Rules.{Did, rule, arrives, arrives_mail, finish_comes, quit_comes, did}
-use Rattle.cam_event.specs.Rules.{aborts, commits, news, all_yes, nothing_but, request, prepares}
-use Rattle.cam_event.specs.ByPast.{event_of}
-use Rattle.cam_event.specs.ByKnowledge.{Carried, entry_of, deeds_of, gained_by, own_pairs}
+use Rattle.cam_event.specs.Inputs.{Mail}
+use Rattle.cam_event.specs.Sights.{Entry, votes, yes_for, is_preparing_note}
+use Rattle.cam_event.specs.ByKnowledge.{Carried, deeds_of, gained_by, own_pairs}
 use Rattle.cam_event.specs.ByKnowledge.{finish_counts, learned_by, held, site, site_after_all}
-use Rattle.cam_event.specs.ByKnowledge.{sight_with, new_informs, held_sight, step_with, node_step}
-use Rattle.cam_event.specs.Loads.{Load, with_load}
+use Rattle.cam_event.specs.Loads.{with_load}
 use Rattle.cam_event.specs.ByDeltas.{Received, as_carried, known, crashed, came_from, have_of}
 use Rattle.cam_event.specs.ByDeltas.{acked_of, load_for}
 use Rattle.cam_histories.specs.PutIn.{nameless}

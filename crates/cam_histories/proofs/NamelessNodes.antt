@@ -1,30 +1,28 @@
 -- A node and its log stand for a history whatever the numbers of its letters are.
-use Rattle.std.proofs.Common.{◌≡◌, ℕ, true, List, [], ◌∷◌, map, reverse, Some, refl, sym, ap, ◌∙◌, subst}
-use Rattle.std.proofs.Common.{length, Option}
+use Rattle.std.proofs.Common.{◌≡◌, ℕ, true, List, [], ◌∷◌, map, reverse, refl, sym, ap, ◌∙◌, subst}
 use Rattle.std.specs.Prelude.{is_some, unwrap_or}
 use Rattle.cam_names.specs.declared.name.Name.{Name}
 use Rattle.cam_names.specs.Dependencies.{as_counts, has_pair}
 use Rattle.cam_type.specs.declared.ObjectDecl.{ObjectDecl}
 use Rattle.cam_know.specs.Knowledge.{Knowledge}
 use Rattle.cam_know.specs.Known.{known_count, knows_abort, knows_commit}
-use Rattle.cam_event.specs.declared.Deed.{Deed}
 use Rattle.cam_event.specs.History.{count as count_in, informed, secured_at}
 use Rattle.cam_event.specs.Sights.{votes, kept_reply}
 use Rattle.cam_event.specs.ByKnowledge.{Carried, Site, entry_of, deeds_of, own_pairs, held, site}
 use Rattle.cam_event.specs.Loads.{each_node}
-use Rattle.cam_event.specs.ByDeltas.{Received, as_carried, known, have_of, acked_of, places_of}
+use Rattle.cam_event.specs.ByDeltas.{Received, as_carried, have_of, acked_of, places_of}
 use Rattle.cam_commit.specs.Families.{Families, IsUndecided, CommitsFamilies}
 use Rattle.cam_server.specs.Recovered.{AreHeld, OrderIsKept, beside}
 use Rattle.cam_server.specs.Server.{Server, IsSiteOf, ServesSite}
 use Rattle.cam_tranman.specs.Actions.{Actions, AnswersDeeds, RunsActions}
-use Rattle.cam_node.specs.Keeping.{IsLogOf, KeepsHistory}
+use Rattle.cam_node.specs.Keeping.{IsLogOf}
 use Rattle.cam_node.specs.Log.{Logged, KeepsLog, secure_counts}
 use Rattle.cam_node.specs.Opened.{IsKnowledge, logged_of}
 use Rattle.cam_node.specs.Represents.{Node, Represents}
 use Rattle.cam_histories.specs.PutIn.{nameless}
 use Rattle.cam_histories.specs.Whole as whole
 use Rattle.cam_histories.proofs.Nameless.{bare, bare_entry, deeds_bare, pairs_bare, held_bare}
-use Rattle.cam_histories.proofs.Nameless.{site_bare, votes_bare, carried_bare, known_bare, have_bare}
+use Rattle.cam_histories.proofs.Nameless.{site_bare, votes_bare, carried_bare, have_bare}
 use Rattle.cam_histories.proofs.Nameless.{acked_bare}
 
 module _ (objects : List ObjectDecl) (h j : List Received) (same : map nameless h ≡ map nameless j)

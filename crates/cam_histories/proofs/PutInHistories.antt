@@ -1,39 +1,22 @@
 -- Where an event is put in of which nobody learnt, the other nodes have the same histories but for
 -- the numbers of letters.
-use Rattle.std.proofs.Common.{◌≡◌, inl, inr, ℕ, ◌+◌, ◌≤◌, eqb, Bool, true, false, if◌then◌else◌}
+use Rattle.std.proofs.Common.{◌≡◌, inl, inr, ℕ, ◌+◌, ◌≤◌, eqb, true, false, if◌then◌else◌}
 use Rattle.std.proofs.Common.{List, [], ◌∷◌, ◌++◌, map, length, Option, Some, None, option_map, refl}
-use Rattle.std.proofs.Common.{sym, ap, ◌∙◌, arith, subst}
-use Rattle.std.specs.Option.{option_map_or}
+use Rattle.std.proofs.Common.{sym, ap, ◌∙◌, arith}
 use Rattle.std.specs.List.{AllByRecursion}
 use Rattle.std.proofs.lemmas.Bool.{ne_eqb}
 use Rattle.std.proofs.lemmas.Bool.Decides.{eqb_tells}
-use Rattle.cam_names.specs.declared.name.Name.{Name}
 use Rattle.cam_type.specs.declared.ObjectDecl.{ObjectDecl}
-use Rattle.cam_know.specs.Knowledge.{Knowledge}
-use Rattle.cam_know.specs.Known.{nothing, both}
-use Rattle.cam_know.specs.Order.{told_in_order}
 use Rattle.cam_event.specs.declared.Event.{Event}
 use Rattle.cam_event.specs.declared.LetterId.{LetterId}
-use Rattle.cam_event.specs.declared.Want.{Want}
-use Rattle.cam_event.specs.declared.Want.TheVariants as wants
-use Rattle.cam_event.specs.declared.LineRefusal.{LineRefusal}
-use Rattle.cam_event.specs.Inputs.{Input, Begins, Requests, Receives, Tells, Queries, Restarts, Mail}
-use Rattle.cam_event.specs.Inputs.{letter_at, mail_got, node_of, got_of}
-use Rattle.cam_event.specs.Sights.{Sight, Entry}
-use Rattle.cam_event.specs.Refusals.{refusal, query_refusal}
-use Rattle.cam_event.specs.Readings.{by_knowledge}
-use Rattle.cam_event.specs.ByKnowledge.{Carried, entry_of, held, sight_with, new_informs}
-use Rattle.cam_event.specs.ByKnowledge.{held_sight, node_step}
-use Rattle.cam_event.specs.Loads.{Load}
-use Rattle.cam_event.specs.ByDeltas.{Received, as_carried, received, received_of, of_node, up_to}
+use Rattle.cam_event.specs.Inputs.{Mail}
+use Rattle.cam_event.specs.Inputs.{letter_at, mail_got}
+use Rattle.cam_event.specs.ByDeltas.{Received, received, received_of, of_node, up_to}
 use Rattle.cam_event.specs.ByDeltas.{load_by, load_for}
 use Rattle.cam_delta.proofs.Growing.{received_length}
-use Rattle.cam_histories.specs.PutIn.{moved, moved_letter, moved_event, moved_input, put_in}
-use Rattle.cam_histories.specs.Laws.{history_of}
-use Rattle.cam_histories.specs.PutIn.{IsUnseen}
-use Rattle.cam_histories.specs.PutIn.{nameless, LettersAreMoved, LoadsAreMoved, HistoriesAreMoved}
-use Rattle.cam_histories.specs.PutIn.{RefusalsStay, QueryRefusalsStay, EventsAreMoved}
-use Rattle.cam_histories.proofs.Nameless.{carried_bare, load_bare}
+use Rattle.cam_histories.specs.PutIn.{moved, moved_letter, moved_event, put_in}
+use Rattle.cam_histories.specs.PutIn.{nameless}
+use Rattle.cam_histories.proofs.Nameless.{load_bare}
 use Rattle.cam_histories.proofs.Numbers.{lt_cases, moved_low, moved_high, moved_off, number_same}
 use Rattle.cam_histories.proofs.Numbers.{put_in_length, behind_long, letters_moved, mails_moved}
 use Rattle.cam_histories.proofs.Numbers.{sender_other}

@@ -1,11 +1,10 @@
 -- What a node's taken event has shows nothing to the actions of other nodes.
-use Rattle.std.proofs.Common.{◌≡◌, ◌⊎◌, inl, inr, ℕ, ◌+◌, ◌≤◌, eqb, Bool, true, false, ◌&&◌, ◌||◌}
-use Rattle.std.proofs.Common.{if◌then◌else◌, List, [], ◌∷◌, ◌++◌, map, filter, length, Option, Some, None}
-use Rattle.std.proofs.Common.{refl, sym, ap, ◌∙◌, subst, ℤ, append-nil}
+use Rattle.std.proofs.Common.{◌≡◌, inl, inr, ℕ, eqb, Bool, true, false, ◌&&◌, ◌||◌}
+use Rattle.std.proofs.Common.{if◌then◌else◌, List, [], ◌∷◌, ◌++◌, filter, None}
+use Rattle.std.proofs.Common.{refl, sym, ap, ◌∙◌}
 use Rattle.std.specs.List.{list_any}
-use Rattle.std.proofs.lemmas.List.{append_assoc}
 use Rattle.cam_names.specs.declared.name.Name.{Name}
-use Rattle.cam_names.specs.Names.{name_eq, is_ancestor, is_child, home_node}
+use Rattle.cam_names.specs.Names.{is_ancestor, is_child, home_node}
 use Rattle.cam_type.specs.declared.ObjectDecl.{ObjectDecl}
 use Rattle.cam_event.specs.declared.Event.{Event}
 use Rattle.cam_event.specs.declared.Note.{Note}
@@ -14,12 +13,10 @@ use Rattle.cam_event.specs.declared.Deed.{Deed}
 use Rattle.cam_event.specs.declared.Deed.TheVariants.{Create, Ask, Call, Perform, Bounce, Got}
 use Rattle.cam_event.specs.declared.Deed.TheVariants.{AskCommit, AskAbort, Commit, Abort, Secure}
 use Rattle.cam_event.specs.declared.Deed.TheVariants.{Inform, Crash}
-use Rattle.cam_event.specs.declared.ViewStep.{ViewStep}
 use Rattle.cam_event.specs.declared.ViewStep.TheVariants as steps
-use Rattle.cam_event.specs.History.{after, commit_value}
-use Rattle.cam_event.specs.Pasts.{plain, plain_all, every}
-use Rattle.cam_event.specs.Taken.{is_entered, taken_of}
-use Rattle.cam_event.specs.Views.{committed_child, step_of, view}
+use Rattle.cam_event.specs.History.{commit_value}
+use Rattle.cam_event.specs.Taken.{is_entered}
+use Rattle.cam_event.specs.Views.{committed_child, step_of}
 use Rattle.cam_event.proofs.Members.{In}
 use Rattle.cam_cut.proofs.HomeFacts.{child_decider}
 use Rattle.cam_event.specs.Inputs.{decider}
@@ -27,7 +24,7 @@ use Rattle.std.proofs.lemmas.Bool.{false_from_ne_true}
 use Rattle.cam_cut.proofs.Places.{PlacedAt, PlacedDeeds, AllPlaced}
 use Rattle.cam_runs.specs.Playing.{is_stop_note, is_stop_of}
 use Rattle.cam_runs.specs.Requests.{created_in, asked_in}
-use Rattle.cam_histories.specs.PutIn.{moved_event, put_in}
+use Rattle.cam_histories.specs.PutIn.{put_in}
 
 -- A deed shows nothing to an action, and it says no value with which one commits.
 pub record ShowsNothing (s : ℕ) (d : Deed) : Type 0 where

@@ -1,6 +1,6 @@
 -- What stands later has the events that stood before, whichever inputs are halts.
 use Rattle.std.proofs.Common.{◌≡◌, ℕ, zero, suc, Bool, true, false, if◌then◌else◌, List, [], ◌∷◌, ◌++◌}
-use Rattle.std.proofs.Common.{length, Option, Some, None, refl, sym, ap, ◌∙◌}
+use Rattle.std.proofs.Common.{Option, Some, None, refl, sym, ap, ◌∙◌}
 use Rattle.std.specs.Prelude.{nat_lt}
 use Rattle.std.proofs.lemmas.List.{append_assoc}
 use Rattle.cam_names.specs.declared.name.Name.{Name}
@@ -22,7 +22,7 @@ use Rattle.cam_runs.specs.Halts.{accepted, appends}
 use Rattle.cam_runs.specs.Standing.{Standing, Setting, after_input, put, made, deliver, waiting}
 use Rattle.cam_runs.specs.Standing.{deliver_waiting, deliveries, drain}
 use Rattle.cam_runs.specs.HaltedPlaying.{given_body, requested, make_request, go, may_go_on}
-use Rattle.cam_runs.specs.HaltedPlaying.{go_in_round, round, rounds, play}
+use Rattle.cam_runs.specs.HaltedPlaying.{go_in_round, round, rounds}
 
 -- the later events, and those before them
 pub record Trail (old new : Standing) : Type 0 where

@@ -7,7 +7,7 @@
 -- This is what a restart makes of a halt: where the log has the entry of the event at which the
 -- node halted, the event was made at its place, though nobody learnt of it.
 use Rattle.std.specs.Prelude.{◌≡◌, ℕ, ◌+◌, nat_lt, if◌then◌else◌, List, [], ◌∷◌, ◌++◌, map, length}
-use Rattle.std.specs.Prelude.{Option, None, option_map}
+use Rattle.std.specs.Prelude.{None, option_map}
 use Rattle.std.specs.List.{AllByRecursion}
 use Rattle.cam_type.specs.declared.ObjectDecl.{ObjectDecl}
 use Rattle.cam_event.specs.declared.Event.{Event}
