@@ -14,6 +14,7 @@ use Rattle.cam_runs.specs.Requests.{newest_deeds}
 use Rattle.cam_runs.specs.Halts.{accepted}
 use Rattle.cam_runs.specs.Standing.{Standing, after_input, made}
 use Rattle.cam_histories.specs.PutIn.{moved_event, put_in, IsUnseen}
+use Rattle.cam_histories.specs.Found.{last_input}
 use Rattle.cam_histories.specs.Found.{with_number, with_mark_taken, with_taken_in, IsFound}
 use Rattle.cam_histories.proofs.Numbers.{lt_cases, put_in_length, behind_long}
 use Rattle.cam_histories.proofs.FoundMarks.{marks_more, number_more}
@@ -51,6 +52,14 @@ pub after_accepted : (line : ℕ) (again : Bool) (st : Standing) (n : ℕ) (ev :
 after_accepted line again st n ev w None = refl
 after_accepted line again st n ev w (Some true) = refl
 after_accepted line again st n ev w (Some false) = refl
+
+pub after_last : (line : ℕ) (again : Bool) (st : Standing) (n : ℕ) (ev : Event) (w : Bool)
+    (o : Option Bool) (s : ℕ)
+    → last_input (after_input line again st n ev w o).turns s
+    ≡ (if eqb n s then Some (accepted st.turns) else last_input st.turns s)
+after_last line again st n ev w None s = refl
+after_last line again st n ev w (Some true) s = refl
+after_last line again st n ev w (Some false) s = refl
 
 pub below_after : (line : ℕ) (again : Bool) (st : Standing) (n : ℕ) (ev : Event) (w : Bool) (o : Option Bool)
     → ((i : ℕ) → has_number st.taken i ≡ true → i < length st.running.trace)

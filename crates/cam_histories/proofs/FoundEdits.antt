@@ -10,6 +10,7 @@ use Rattle.cam_runs.specs.Running.{has_number}
 use Rattle.cam_runs.specs.Halts.{accepted}
 use Rattle.cam_runs.specs.Standing.{Standing}
 use Rattle.cam_runs.specs.HaltedPlaying.{given_body}
+use Rattle.cam_histories.specs.Found.{last_input}
 use Rattle.cam_histories.specs.Found.{with_taken_in, IsFound}
 use Rattle.cam_histories.proofs.Beside.{Beyond, Goes}
 
@@ -44,6 +45,7 @@ pub record Edits (edit : Standing → Standing) : Type 0 where
   pub taken : (x : Standing) → (edit x).taken ≡ x.taken
   pub halted : (x : Standing) → (edit x).halted ≡ x.halted
   pub turns : (x : Standing) → accepted (edit x).turns ≡ accepted x.turns
+  pub last : (x : Standing) (s : ℕ) → last_input (edit x).turns s ≡ last_input x.turns s
   pub later :
       (s : ℕ) (behind before : List Event) (e : Event) (x : Standing)
       → edit (with_taken_in s behind e before x) ≡ with_taken_in s behind e before (edit x)
@@ -55,6 +57,7 @@ beyond_edit objects k s before e edit edits lost found b = record {
   is_beyond = record {
     passed =
         let same = edits.turns lost in let passed = b.is_beyond.passed in omega (arith, same, passed);
+    last = edits.last lost s ∙ b.is_beyond.last;
     input = b.is_beyond.input;
     of_node = b.is_beyond.of_node;
     event = b.is_beyond.event;
@@ -106,6 +109,7 @@ counted_edits k = record {
   taken = λ x. refl;
   halted = λ x. refl;
   turns = λ x. refl;
+  last = λ x s. refl;
   later = λ s behind before e x. refl;
 }
 
@@ -116,6 +120,7 @@ given_edits (Some body) (Some a) = record {
   taken = λ x. refl;
   halted = λ x. refl;
   turns = λ x. refl;
+  last = λ x s. refl;
   later = λ s behind before e x. refl;
 }
 given_edits (Some body) None = record {
@@ -123,6 +128,7 @@ given_edits (Some body) None = record {
   taken = λ x. refl;
   halted = λ x. refl;
   turns = λ x. refl;
+  last = λ x s. refl;
   later = λ s behind before e x. refl;
 }
 given_edits None a = record {
@@ -130,6 +136,7 @@ given_edits None a = record {
   taken = λ x. refl;
   halted = λ x. refl;
   turns = λ x. refl;
+  last = λ x s. refl;
   later = λ s behind before e x. refl;
 }
 

@@ -1,7 +1,7 @@
 -- The input at which two runs differ, and those before it.
 use Rattle.std.proofs.Common.{◌≡◌, inl, inr, ℕ, ◌+◌, ◌<◌, ◌≤◌, Bool, true, false, ◌||◌}
 use Rattle.std.proofs.Common.{List, [], ◌∷◌, ◌++◌, filter, length, Option, Some}
-use Rattle.std.proofs.Common.{refl, sym, ap, ◌∙◌, subst, arith}
+use Rattle.std.proofs.Common.{refl, sym, ap, ◌∙◌, subst, arith, if◌then◌else◌}
 use Rattle.std.proofs.lemmas.Bool.{eq-eqb}
 use Rattle.std.proofs.lemmas.Bool.Decides.{eqb_tells}
 use Rattle.cam_type.specs.declared.ObjectDecl.{ObjectDecl}
@@ -17,12 +17,14 @@ use Rattle.cam_runs.specs.Requests.{created_in, asked_in}
 use Rattle.cam_runs.specs.Halts.{accepted, Halting, appends}
 use Rattle.cam_runs.specs.Standing.{Standing, Setting, after_input, put, made}
 use Rattle.cam_histories.specs.InputLaws.{held_setting}
+use Rattle.cam_histories.specs.Found.{last_input}
 use Rattle.cam_histories.specs.Found.{with_taken_in, DifferAt}
 use Rattle.cam_histories.proofs.Numbers.{lt_cases}
 use Rattle.cam_histories.proofs.FoundMarks.{marks_new, number_new}
 use Rattle.cam_histories.proofs.Silent.{entered_silent, placed_behind, creates_none, asks_none}
 use Rattle.cam_histories.proofs.Beside.{Before, Goes, Leads}
 use Rattle.cam_histories.proofs.AfterInput.{made_is, after_accepted, below_after}
+use Rattle.cam_histories.proofs.AfterInput.{after_last}
 
 module _ (objects : List ObjectDecl) (losing taking : Halting) (k : ℕ)
     (P : ℕ → List Event → Event → Type 0) (differ : DifferAt k losing taking) (line : ℕ) (restarted : ℕ → Bool)
@@ -55,6 +57,12 @@ module _ (objects : List ObjectDecl) (losing taking : Halting) (k : ℕ)
                   let more : accepted (put one st input).turns ≡ accepted st.turns + 1 =
                   after_accepted line (restarted n) st n ev w (losing st.turns n w (restarted n)) in
                   omega (arith, more, here);
+              last =
+                  after_last line (restarted n) st n ev w
+                  (losing st.turns n w (restarted n)) n
+                  ∙ ap (λ b. if b then Some (accepted st.turns) else last_input st.turns n)
+                  (eq-eqb n n refl)
+                  ∙ ap (λ m. Some m) here;
               input = input;
               of_node = refl;
               event = refl;

@@ -27,6 +27,7 @@ mark_edits m off = record {
   taken = λ x. refl;
   halted = λ x. refl;
   turns = λ x. refl;
+  last = λ x s. refl;
   later = λ s behind before e x.
       let end : Standing = record (with_taken_in s behind e before x) {
         running = with_mark m (with_taken_in s behind e before x).running;
@@ -42,6 +43,7 @@ binding_edits a = record {
   taken = λ x. refl;
   halted = λ x. refl;
   turns = λ x. refl;
+  last = λ x s. refl;
   later = λ s behind before e x. refl;
 }
 
@@ -51,6 +53,7 @@ lose_edits number = record {
   taken = λ x. refl;
   halted = λ x. refl;
   turns = λ x. refl;
+  last = λ x s. refl;
   later = λ s behind before e x. refl;
 }
 
@@ -60,6 +63,7 @@ stop_edits n calls = record {
   taken = λ x. refl;
   halted = λ x. refl;
   turns = λ x. refl;
+  last = λ x s. refl;
   later = λ s behind before e x. refl;
 }
 

@@ -1,7 +1,8 @@
 -- An input of another node, behind the one at which two runs differ: it leads to the same in both.
 use Rattle.std.proofs.Common.{◌≡◌, ℕ, ◌+◌, ◌<◌, Bool, true, false, ◌||◌}
 use Rattle.std.proofs.Common.{List, ◌++◌, length, Option, Some, None}
-use Rattle.std.proofs.Common.{refl, sym, ap, ◌∙◌, arith}
+use Rattle.std.proofs.Common.{refl, sym, ap, ◌∙◌, arith, if◌then◌else◌}
+use Rattle.std.proofs.lemmas.Bool.{ne_eqb}
 use Rattle.std.specs.List.{list_any}
 use Rattle.cam_type.specs.declared.ObjectDecl.{ObjectDecl}
 use Rattle.cam_event.specs.declared.Event.{Event}
@@ -15,10 +16,12 @@ use Rattle.cam_runs.specs.Halts.{accepted, Halting, brought_by, learns_count, ap
 use Rattle.cam_runs.specs.Standing.{Standing, Setting, after_input, put, made}
 use Rattle.cam_histories.specs.InputLaws.{held_setting}
 use Rattle.cam_histories.specs.PutIn.{moved_event, moved_input, put_in, IsUnseen}
+use Rattle.cam_histories.specs.Found.{last_input}
 use Rattle.cam_histories.specs.Found.{with_taken_in, IsFound, DifferAt}
 use Rattle.cam_histories.proofs.PutIn.{node_moved, events_are_moved, loads_are_moved, sights_stay}
 use Rattle.cam_histories.proofs.Beside.{Beyond}
 use Rattle.cam_histories.proofs.AfterInput.{made_by, made_is, after_found, after_accepted}
+use Rattle.cam_histories.proofs.AfterInput.{after_last}
 
 module _ (objects : List ObjectDecl) (losing taking : Halting) (k : ℕ)
     (P : ℕ → List Event → Event → Type 0) (differ : DifferAt k losing taking) (line : ℕ) (restarted : ℕ → Bool)
@@ -122,6 +125,11 @@ module _ (objects : List ObjectDecl) (losing taking : Halting) (k : ℕ)
       beyond = record {
         is_beyond = record {
           passed = omega (arith, passed, counted);
+          last =
+              after_last line (restarted n) st n ev w o s
+              ∙ ap (λ b. if b then Some (accepted st.turns) else last_input st.turns s)
+              (ne_eqb n s (λ h. off (sym h)))
+              ∙ both.is_beyond.last;
           input = both.is_beyond.input;
           of_node = both.is_beyond.of_node;
           event = both.is_beyond.event;

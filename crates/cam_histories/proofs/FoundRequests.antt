@@ -42,7 +42,7 @@ use Rattle.cam_histories.proofs.Beside.{Goes, leads_back}
 use Rattle.cam_histories.proofs.FoundEdits.{shared, goes_edit, given_edits}
 use Rattle.cam_histories.proofs.FoundDrains.{PutOn, put_goes}
 use Rattle.cam_histories.proofs.FoundViews.{home_same}
-use Rattle.cam_histories.proofs.FoundPlays.{go_goes}
+use Rattle.cam_histories.proofs.FoundGoing.{go_goes}
 use Rattle.cam_histories.proofs.FoundPassed.{PassLeads, PassGoes}
 use Rattle.cam_histories.proofs.FoundTests.{unless_goes, variable_goes, test_same}
 

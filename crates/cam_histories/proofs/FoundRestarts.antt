@@ -53,6 +53,7 @@ module _ (objects : List ObjectDecl) (losing taking : Halting) (k : ℕ)
           (record {
             is_beyond = record {
               passed = b.beyond.is_beyond.passed;
+              last = b.beyond.is_beyond.last;
               input = b.beyond.is_beyond.input;
               of_node = b.beyond.is_beyond.of_node;
               event = b.beyond.is_beyond.event;

@@ -46,6 +46,7 @@ pub mod FoundHalts
 pub mod FoundEdits
 pub mod FoundDrains
 pub mod FoundViews
+pub mod FoundGoing
 pub mod FoundPlays
 pub mod FoundPassed
 pub mod FoundTests

@@ -8,7 +8,7 @@
 -- variables, bodies, which letters were delivered and which were lost, which nodes are halted, what
 -- the disks went through, and what each line does and leaves.
 use Rattle.std.specs.Prelude.{◌≡◌, ◌⊎◌, ℕ, ◌+◌, ◌<◌, ◌≤◌, eqb, nat_lt, Bool, true, false, not, ◌&&◌}
-use Rattle.std.specs.Prelude.{if◌then◌else◌, List, [], ◌∷◌, ◌++◌, length, Some}
+use Rattle.std.specs.Prelude.{if◌then◌else◌, List, [], ◌∷◌, ◌++◌, length, Option, Some, None}
 use Rattle.std.specs.List.{list_any}
 use Rattle.cam_type.specs.declared.ObjectDecl.{ObjectDecl}
 use Rattle.cam_event.specs.declared.Event.{Event}
@@ -24,7 +24,8 @@ use Rattle.cam_script.specs.declared.Script.{Script}
 use Rattle.cam_script.specs.declared.Step.{Step}
 use Rattle.cam_runs.specs.Running.{has_number}
 use Rattle.cam_runs.specs.InRange.{IsInRange}
-use Rattle.cam_runs.specs.Halts.{Turn, accepted, Halting}
+use Rattle.cam_runs.specs.Halts.{Turn, accepted, Halting, Stop, Restart}
+use Rattle.cam_runs.specs.Halts as disks
 use Rattle.cam_runs.specs.Standing.{Standing}
 use Rattle.cam_runs.specs.HaltedLines.{after_line, is_restart_act}
 use Rattle.cam_runs.specs.UnderHalts.{IsUnderHalts, IsNextStep, act_by}
@@ -86,10 +87,20 @@ pub record DifferAt (k : ℕ) (losing taking : Halting) : Type 0 where
       (turns : List Turn) (s : ℕ) (appends restarted : Bool) → accepted turns ≡ k
       → taking turns s appends restarted ≡ Some true
 
--- The input was put: it was one of this node, and what was taken of its event is put in.
+-- the number of the last input of a node
+abbrev pub last_input : List Turn → ℕ → Option ℕ
+last_input [] s = None
+last_input (disks.Input m line appends restarted ∷ before) s =
+    if eqb m s then Some (accepted before) else last_input before s
+last_input (Stop m calls ∷ before) s = last_input before s
+last_input (Restart m ∷ before) s = last_input before s
+
+-- The input was put: it was one of this node, its last one, and what was taken of its event is put
+-- in.
 pub record IsBeyond (objects : List ObjectDecl) (k s : ℕ) (before : List Event) (e : Event)
     (lost found : Standing) : Type 0 where
   pub passed : k < accepted lost.turns
+  pub last : last_input lost.turns s ≡ Some k
   pub input : Input
   pub of_node : node_of before input ≡ s
   pub event : e ≡ taken_of ((by_knowledge objects).next before input)
