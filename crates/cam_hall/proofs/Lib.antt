@@ -1,3 +1,6 @@
 pub mod Noted
 pub mod Turning
 pub mod Tallied
+pub mod Letters
+pub mod Leaving
+pub mod EndTurns

@@ -1,7 +1,6 @@
 -- The turns of a worker, as they are tallied.
-use Rattle.std.proofs.Common.{◌≡◌, ℕ, ◌<◌, ◌≤◌, ◌+◌, List, [], ◌∷◌, length, refl, arith}
+use Rattle.std.proofs.Common.{◌≡◌, ℕ, ◌<◌, ◌≤◌, List, [], ◌∷◌, length, refl, arith}
 use Rattle.cam_hall.specs.declared.served.End.TheVariants as ends
-use Rattle.cam_hall.specs.declared.served.Served.{Served}
 use Rattle.cam_hall.specs.declared.served.Turn.{Turn}
 use Rattle.cam_hall.specs.declared.served.Turn.TheVariants.{Step, Empty, Unused, Held}
 use Rattle.cam_hall.specs.declared.worker.Tally.{Tally}

@@ -1,5 +1,5 @@
 -- What one step of a core and its record do, before notes are made.
-use Rattle.std.specs.Prelude.{◌≡◌, ℕ, Bool, List, length, Option, Some, None, Result, Ok, Err}
+use Rattle.std.specs.Prelude.{◌≡◌, ℕ, Bool, false, List, [], length, Option, Some, None, Result, Ok, Err}
 use Rattle.cam_journal.specs.declared.entry.SentLetter.{SentLetter}
 use Rattle.cam_journal.specs.declared.entry.NumberedEvent.{NumberedEvent}
 use Rattle.cam_journal.specs.declared.input.CoreInput.{CoreInput}
@@ -9,6 +9,8 @@ use Rattle.cam_journal.specs.Trace.{EventLaw}
 use Rattle.cam_hall.specs.declared.advance.Advance.{Advance}
 use Rattle.cam_hall.specs.declared.advance.Advance.TheVariants.{Made, Nothing, Full}
 use Rattle.cam_hall.specs.declared.item.ItemOf.{ItemOf}
+use Rattle.cam_hall.specs.declared.turned.TurnedOf.{TurnedOf}
+use Rattle.cam_hall.specs.declared.turned.TurnedOf.TheVariants as turns
 use Rattle.cam_hall.specs.declared.turned.HallFault.{HallFault}
 use Rattle.cam_hall.specs.declared.turned.HallFault.TheVariants.{DiskFault, NoMemory}
 use Rattle.cam_hall.specs.Turns.{Standing, Outcome, Made as DidMake, Idle, IsFull, Failed, Short, Ends, IsOneMore, core_input}
@@ -25,6 +27,13 @@ ended (Ok Nothing) = Idle
 ended (Ok Full) = IsFull
 ended (Err DiskFault) = Failed
 ended (Err NoMemory) = Short
+
+-- what it comes to where no notes are made
+abbrev pub without_notes : {N : Type 0} → Result Advance HallFault → Result (TurnedOf N) HallFault
+without_notes (Ok (Made number letters)) = Ok (turns.Did number [] false)
+without_notes (Ok Nothing) = Ok turns.Nothing
+without_notes (Ok Full) = Ok turns.Full
+without_notes (Err fault) = Err fault
 
 module _ {E L : Type 0} (names : E → Option (ℕ × ℕ)) (sends : E → List L) (lawful : EventLaw E L)
     (answers : AnswerLaw E L) where
