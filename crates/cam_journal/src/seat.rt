@@ -1,6 +1,6 @@
 //! The seat of a node.
-ghost use Rattle.std.specs.Prelude.{◌≡◌, ◌≤◌, ◌+◌, map, length, Some, slice_get, MatchOption};
-ghost use Rattle.cam_journal.specs.Seats.{numbered};
+ghost use Rattle.std.specs.Prelude.{◌≡◌, ◌≤◌, ◌+◌, ℕ, map, length, Some, slice_get, IfSome, MatchOption};
+ghost use Rattle.cam_journal.specs.Seats.{numbered, letter_at};
 
 use crate::nodes::Core;
 use crate::view::Token;
@@ -41,11 +41,14 @@ impl<C: Core> NodeSeat<C> {
         self.entries.len() as u64
     }
 
-    /// The event at a place of the history, from 0, with its number; none exactly where the history has no such place. It takes no
-    /// memory.
+    /// The event at a place of the history, from 0, with its number; none exactly where the history has no such place. Its letters are
+    /// those that were sent under its number. It takes no memory.
     pub fn get(&self, at: u64) -> Option<(u64, &C::Event)>
-        ensures { MatchOption result (length self.now.history ≤ at)
+        ensures entry { MatchOption result (length self.now.history ≤ at)
             (λ entry. slice_get (map numbered self.now.history) at ≡ Some (entry.0, entry.1.now)) }
+        ensures letters { IfSome result (λ entry. (place : ℕ)
+            → letter_at C.sends self.now.history entry.0 place
+            ≡ slice_get (C.sends entry.1.now) place) }
     {
         let (number, event) = self.entries.get(at as usize)?;
         Some((*number, event))

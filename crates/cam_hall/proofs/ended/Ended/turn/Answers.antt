@@ -16,8 +16,8 @@ item_of-requires-clause-own g c =
       seats = c.self.inside.seats.items;
     }) c.self.invariant
 
-pub returns : goal.returns
-returns g c =
+pub returns-clause-turn : goal.returns-clause-turn
+returns-clause-turn g c =
     let core = g.C.Core in
     let E : Type 0 = g.row.C-Event.Denot in
     let L : Type 0 = g.row.C-Letter.Denot in
