@@ -1,4 +1,4 @@
-//! Builders of deeds, lists of them, events and objects, which the tests of several crates share.
+//! Builders of deeds, lists of them, events and objects, and drawn numbers, which the tests of several crates share.
 //!
 //! Tests alone use it: no crate of the program stands on it. A builder of a deed has the name of that deed; where a test seldom cares for a
 //! field (the count of a site), the short name gives it its first value.
@@ -7,6 +7,7 @@
 #![tactic(auto)]
 
 mod deeds;
+mod draws;
 mod events;
 mod objects;
 
@@ -14,5 +15,6 @@ pub use deeds::{
     abort, ask, ask_abort, ask_commit, bounce, call, call_at_count, commit, crash, create, got,
     got_done, inform, perform, secure,
 };
+pub use draws::Draw;
 pub use events::{deeds_of, event, sent_of, without};
 pub use objects::{counter, registers};

@@ -1,4 +1,11 @@
-//! `cam_plain`: what each deed needs of those before it, and values handed up past the top.
+//! `cam_plain`: what each deed needs of those before it, and values handed up past the top; random lists, beside the definition.
+
+mod before;
+mod histories;
+mod lines;
+mod next;
+mod standing;
+
 use cam_event::{Deed, Seen};
 use cam_names::Name;
 use cam_plain::{CheckFault, DeedKind, check, site_value};

@@ -1,0 +1,173 @@
+//! Random lists of deeds, on which the check and the plain machine by its definition answer alike.
+
+use super::before::Before;
+use super::lines;
+use super::next::Next;
+use cam_base::NoMemory;
+use cam_event::{Deed, Deeds};
+use cam_names::Name;
+use cam_plain::{CheckFault, DeedKind, check};
+use cam_samples::{Draw, deeds_of, without};
+use cam_type::{Items, ObjectDecl, Objects, State};
+use std::alloc::Global;
+use std::test::Fail;
+
+const HISTORIES: u64 = 8;
+
+/// How many deeds are tried in each.
+const TRIES: u32 = 400;
+
+/// How many deeds of each kind, by its number.
+type ByKind = [u32; 14];
+
+/// A legal list that grows by the deeds that are tried.
+#[derive(Drop)]
+struct History {
+    draw: Draw,
+    objects: Objects,
+    deeds: Deeds,
+    /// The actions that were created or asked for.
+    names: Vec<Name>,
+    legal: ByKind,
+    refused: ByKind,
+}
+
+/// A register and a counter at one node, and a queue at the other.
+fn objects(alloc: Global) -> Result<Objects, NoMemory> {
+    let mut objects = Objects::new(alloc);
+    let starts = [
+        (1, State::Register(0)),
+        (2, State::Queue(Items::new(alloc))),
+        (1, State::Counter(0)),
+    ];
+    for (node, start) in starts {
+        objects.push(ObjectDecl { node, start })?;
+    }
+    Ok(objects)
+}
+
+impl History {
+    fn new(alloc: Global, seed: u64) -> Result<History, NoMemory> {
+        Ok(History {
+            draw: Draw::of(seed),
+            objects: objects(alloc)?,
+            deeds: Deeds::new(alloc),
+            names: Vec::new(alloc),
+            legal: [0; 14],
+            refused: [0; 14],
+        })
+    }
+
+    /// What is tried next: a deed, or none.
+    fn next(&mut self, alloc: Global) -> Result<Deeds, NoMemory> {
+        let mut tried = Deeds::new(alloc);
+        let next = Next {
+            before: Before {
+                objects: &self.objects,
+                deeds: self.deeds.as_slice(),
+            },
+            names: self.names.as_slice(),
+        };
+        next.add(alloc, &mut self.draw, &mut tried)?;
+        Ok(tried)
+    }
+
+    /// Tries a deed: it stays where it is legal. Whether both answer alike.
+    fn try_deed(&mut self, alloc: Global, deed: &Deed) -> Result<bool, CheckFault> {
+        let before = Before {
+            objects: &self.objects,
+            deeds: self.deeds.as_slice(),
+        };
+        let is_legal = before.takes(alloc, deed)?;
+        let at = self.deeds.len();
+        let kind = DeedKind::of(deed);
+        self.deeds.push_copy(deed)?;
+        let found = check(alloc, &self.deeds, &self.objects);
+        if is_legal {
+            count(&mut self.legal, kind);
+            self.note_name(deed)?;
+            return Ok(found == Ok(()));
+        }
+        count(&mut self.refused, kind);
+        self.deeds.remove(at);
+        Ok(
+            found
+                == Err(CheckFault::Illegal {
+                    at: at as u64,
+                    cause: kind,
+                }),
+        )
+    }
+
+    fn note_name(&mut self, deed: &Deed) -> Result<(), NoMemory> {
+        match deed {
+            Deed::Create { action } if action.depth() == 1 => self.names.push(*action)?,
+            Deed::Ask { child, .. } => self.names.push(*child)?,
+            _ => {}
+        }
+        Ok(())
+    }
+
+    /// The first of many deeds on which they do not answer alike.
+    fn first_unlike(&mut self, alloc: Global) -> Result<Option<u32>, CheckFault> {
+        for place in 0..TRIES {
+            let tried = self.next(alloc)?;
+            for deed in tried.as_slice() {
+                if !self.try_deed(alloc, deed)? {
+                    return Ok(Some(place));
+                }
+            }
+        }
+        Ok(None)
+    }
+
+    /// The first place, of one in so many, without whose deed the list is not answered alike.
+    fn first_unlike_without(&self, alloc: Global) -> Result<Option<usize>, CheckFault> {
+        for left_out in (0..self.deeds.len()).step_by(5) {
+            let less = without(alloc, self.deeds.as_slice(), left_out)?;
+            let found = check(alloc, &less, &self.objects);
+            if found != lines::check(alloc, less.as_slice(), &self.objects) {
+                return Ok(Some(left_out));
+            }
+        }
+        Ok(None)
+    }
+}
+
+/// One more of a kind.
+fn count(by_kind: &mut ByKind, kind: DeedKind) {
+    if let Some(number) = by_kind.get_mut(kind.number() as usize) {
+        *number = number.saturating_add(1);
+    }
+}
+
+/// Adds the numbers of each kind.
+fn add(sums: &mut ByKind, more: &ByKind) {
+    for (sum, number) in sums.iter_mut().zip(more.iter()) {
+        *sum = sum.saturating_add(*number);
+    }
+}
+
+#[test]
+fn the_check_and_the_definition_answer_alike(rt: HostRuntime) -> Result<(), Fail> {
+    let alloc = rt.alloc();
+    let mut legal = [0; 14];
+    let mut refused = [0; 14];
+    for seed in 0..HISTORIES {
+        let mut history = History::new(alloc, seed)?;
+        let unlike = history.first_unlike(alloc)?;
+        assert_eq!(rt; unlike, None, "history {seed}");
+        let unlike = history.first_unlike_without(alloc)?;
+        assert_eq!(rt; unlike, None, "history {seed}");
+        add(&mut legal, &history.legal);
+        add(&mut refused, &history.refused);
+    }
+    // Each kind was met, legal and, but for crashes, illegal.
+    for (kind, number) in legal.iter().enumerate().skip(1) {
+        assert!(rt; *number > 4, "{number} legal deeds of kind {kind}");
+    }
+    for (kind, number) in refused[..13].iter().enumerate().skip(1) {
+        assert!(rt; *number > 4, "{number} illegal deeds of kind {kind}");
+    }
+    Ok(())
+}
