@@ -1,5 +1,5 @@
 -- A call whose object does not stand at the node, or does not fit its op, is not put to the node.
-use Rattle.std.proofs.Common.{◌≡◌, ◌≤◌, ℕ, true, false, ◌&&◌, List, map, Option, Some, None, refl, sym, ap, ◌∙◌, subst}
+use Rattle.std.proofs.Common.{◌≡◌, ◌≤◌, ℕ, true, false, ◌&&◌, List, Option, Some, None, refl, sym, ap, ◌∙◌, subst}
 use Rattle.std.specs.Prelude.{Bool, eqb, slice_get}
 use Rattle.std.specs.Option.{option_map_or}
 use Rattle.std.proofs.lemmas.Bool.{eq-eqb, true≢false}
@@ -15,9 +15,8 @@ use Rattle.cam_event.specs.declared.Note.TheVariants as notes
 use Rattle.cam_event.specs.Rules.{nothing_but}
 use Rattle.cam_event.specs.Sights.{yes_in}
 use Rattle.cam_comman.specs.Letters.{load_on}
-use Rattle.cam_locks.specs.Site.{Site, fits_here}
+use Rattle.cam_locks.specs.Site.{Site, TableView, fits_here}
 use Rattle.cam_tranman.specs.Keeping.{HasCounts}
-use Rattle.cam_server.specs.Calls.{Asked}
 use Rattle.cam_node.specs.declared.did.Doing.{Doing}
 use Rattle.cam_node.specs.declared.learning.Learnt.{Learnt}
 use Rattle.cam_node.specs.declared.plan.Plan.{Plan}
@@ -26,9 +25,7 @@ use Rattle.cam_node.specs.Calls.{answers, mail_on, AreSame}
 use Rattle.cam_node.specs.Lawful.{IsForNode}
 use Rattle.cam_node.specs.Planning.{HasReceived, IsMade}
 use Rattle.cam_node.specs.Plans.{IsPlanFor, just}
-use Rattle.cam_node.specs.Represents.{Node, Represents}
 use Rattle.cam_node.specs.Served.{IsElsewhere}
-use Rattle.cam_node.proofs.HomePlans.{IsRuled}
 use Rattle.cam_node.proofs.PlanMade.{home_plan}
 use Rattle.cam_node.proofs.Unchanged.{unchanged}
 
@@ -48,6 +45,14 @@ fits_for objects s x op at fit = by (slice_get objects x) at fit
         && option_map_or (λ (o : ObjectDecl). fits (kind_of o.start) op) got false) ≡ true
     by None at fit = absurd (cc)
     by (Some o) at fit = both (eqb o.node s) (fits (kind_of o.start) op) (eq-eqb o.node s at) fit
+
+-- what the table answers of the call
+pub unfit_there : (one other : TableView) (x : ℕ) (op : Op) (takes : Bool) → one ≡ other
+    → takes ≡ fits_here one.site.objects one.site.node x op → takes ≡ false
+    → fits_here other.site.objects other.site.node x op ≡ false
+unfit_there one other x op takes same is refused =
+    subst (λ (table : TableView). fits_here table.site.objects table.site.node x op ≡ false) same
+    (sym is ∙ refused)
 
 -- Of a node that stands for a history no such letter is.
 never : (objects : List ObjectDecl) (s : ℕ) (site : Site) (letter : Letter)

@@ -1,5 +1,5 @@
 -- A call comes.
-use Rattle.std.proofs.Common.{◌≡◌, None, sym, ap, ◌∙◌, subst}
+use Rattle.std.proofs.Common.{◌≡◌, None, sym, ◌∙◌, subst}
 use Rattle.std.proofs.lemmas.Result.{IfOk-weaker}
 use Rattle.cam_server.specs.Calls as server
 use Rattle.cam_node.specs.declared.plan.Change.{Change}

@@ -1,11 +1,11 @@
 -- A call comes that is not for the node.
-use Rattle.std.proofs.Common.{◌≡◌, None, refl, sym, ap, ◌∙◌, subst}
+use Rattle.std.proofs.Common.{◌≡◌, None, sym, ap, ◌∙◌, subst}
 use Rattle.std.proofs.lemmas.Result.{IfOk-weaker}
 use Rattle.cam_node.specs.declared.did.Doing.{Doing}
 use Rattle.cam_node.specs.declared.plan.Change.{Change}
 use Rattle.cam_node.specs.Ahead.{MayBeForgotten}
 use Rattle.cam_node.specs.Calls.{answers, AreSame}
-use Rattle.cam_node.specs.Plans.{IsPlanFor, MayStand}
+use Rattle.cam_node.specs.Plans.{IsPlanFor}
 use Rattle.cam_node.specs.Planning.{IsMade}
 use Rattle.cam_node.proofs.Elsewhere.{elsewhere_plan}
 use Rattle.cam_node.proofs.state.Core.call_elsewhere.Goals as goal
