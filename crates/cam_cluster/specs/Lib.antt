@@ -13,3 +13,4 @@ pub mod LineOwes
 pub mod Disks
 pub mod AtWork
 pub mod Arrivals
+pub mod FoundHalts

@@ -1,0 +1,50 @@
+-- The last halt of a node that is halted, found to be taken: what that makes of the run of the lines
+-- that were taken so far.
+use Rattle.std.specs.Prelude.{◌≡◌, ℕ, ◌<◌, true, false, List, [], ◌∷◌, Some}
+use Rattle.std.specs.List.{AllByRecursion}
+use Rattle.cam_type.specs.declared.ObjectDecl.{ObjectDecl}
+use Rattle.cam_event.specs.declared.Event.{Event}
+use Rattle.cam_event.specs.Readings.{by_pasts}
+use Rattle.cam_script.specs.declared.Script.{Script}
+use Rattle.cam_runs.specs.Running.{has_number}
+use Rattle.cam_runs.specs.InRange.{IsInRange}
+use Rattle.cam_runs.specs.Halts.{Halt, halt_at, Turn, given}
+use Rattle.cam_runs.specs.Standing.{Standing}
+use Rattle.cam_histories.specs.Found.{last_input, DifferAt, IsBeyond}
+use Rattle.cam_cluster.specs.LineOwes.{with_taken}
+use Rattle.cam_cluster.specs.Seen.{run_of_lines}
+
+-- Halts are listed with the newest first, each once.
+abbrev pub AreNewestFirst : List Halt → Type 0
+AreNewestFirst [] = Unit {0}
+AreNewestFirst (h ∷ hs) = AllByRecursion (λ (g : Halt). g.input < h.input) hs × AreNewestFirst hs
+
+-- The node halted at its last input, and is halted; the event is lost so far.
+pub record IsLastHalt (st : Standing) (halts : List Halt) (s k : ℕ) : Type 0 where
+  pub newest : AreNewestFirst halts
+  pub halted : has_number st.halted s ≡ true
+  pub last : last_input st.turns s ≡ Some k
+  pub lost : halt_at halts k ≡ Some false
+
+-- To find it taken changes the halts at that input alone.
+abbrev pub FoundHaltsDiffer : Type 0
+FoundHaltsDiffer =
+    (turns : List Turn) (halts : List Halt) (s k : ℕ) → AreNewestFirst halts
+    → last_input turns s ≡ Some k → halt_at halts k ≡ Some false
+    → DifferAt k (given halts) (given (with_taken turns s halts))
+
+-- the taken event, and its place
+pub record IsPutIn (objects : List ObjectDecl) (k s : ℕ) (lost found : Standing) : Type 0 where
+  pub before : List Event
+  pub event : Event
+  pub beyond : IsBeyond objects k s before event lost found
+
+-- So the lines that were taken, with that halt found to be taken, leave what they left, with the
+-- taken event put in.
+abbrev pub FoundLinesPutIn : Type 0
+FoundLinesPutIn =
+    (script : Script) (halts : List Halt) (n s k : ℕ) → IsInRange script
+    → IsLastHalt (run_of_lines by_pasts script halts n) halts s k
+    → IsPutIn script.objects k s (run_of_lines by_pasts script halts n)
+    (run_of_lines by_pasts script
+    (with_taken (run_of_lines by_pasts script halts n).turns s halts) n)
