@@ -1,0 +1,17 @@
+//! Tests of `cam_hall` through its public calls, with a small core whose nodes talk in a ring.
+#![tactic(auto)]
+
+mod speaker;
+
+pub use speaker::{Speaker, Speech, Word};
+
+#[cfg(test)]
+mod ends;
+#[cfg(test)]
+mod gates;
+#[cfg(test)]
+mod ring;
+#[cfg(test)]
+mod row;
+#[cfg(test)]
+mod workers;
