@@ -116,7 +116,8 @@ module _ {S E L : Type 0} (is_replay : S → ℕ → List (NumberedEvent E L) �
               core_is
               (subst
               (λ (s : Sitting E L).
-              IsStanding is_replay left.journal.id (at + 1) (record { core = after.core; seat = s }))
+              IsStanding is_replay left.journal.id (at + 1)
+              (record { core = after.core; seat = s }))
               seat_is standing))
           | inr apart ↦
               is.each other slot (record {

@@ -1,3 +1,4 @@
+pub mod Thinned
 pub mod Noted
 pub mod Turning
 pub mod Tallied

@@ -45,7 +45,8 @@ served_quiet most turn before tally tallied within busy quiet =
     }
 
 -- a worker whose turns have run out
-pub served_spent : (most : ℕ) (turns : List Turn) (tally : Tally) → IsTally turns tally → length turns ≡ most → IsBusy turns
+pub served_spent : (most : ℕ) (turns : List Turn) (tally : Tally) → IsTally turns tally
+    → length turns ≡ most → IsBusy turns
     → IsServed most turns (record { steps = tally.steps; end = ends.Turns })
 served_spent most turns tally tallied all busy = record {
   steps_are = tallied.steps_are;

@@ -1,4 +1,4 @@
-use Rattle.cam_hall.proofs.Noted.{pushed_once, pushed_none}
+use Rattle.cam_hall.proofs.Thinned.{pushed_once, pushed_none}
 use Rattle.cam_hall.proofs.noting.push_note.Goals as goal
 
 pub returns-in-Ok : goal.returns-in-Ok

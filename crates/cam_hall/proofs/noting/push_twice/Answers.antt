@@ -1,5 +1,5 @@
 use Rattle.std.proofs.Common.{ap}
-use Rattle.cam_hall.proofs.Noted.{pushed_first, pushed_second, pushed_short}
+use Rattle.cam_hall.proofs.Thinned.{pushed_first, pushed_second, pushed_short}
 use Rattle.cam_hall.proofs.noting.push_twice.Goals as goal
 
 pub returns-in_default : goal.returns-in_default
