@@ -1,5 +1,5 @@
 -- A line only adds to what the disks of a run went through.
-use Rattle.std.proofs.Common.{◌≡◌, ℕ, List, [], ◌∷◌, Option, Some, None, refl}
+use Rattle.std.proofs.Common.{ℕ, List, [], ◌∷◌, Option, Some, None, refl}
 use Rattle.cam_names.specs.declared.name.Name.{Name}
 use Rattle.cam_names.specs.Names.{family, home_node}
 use Rattle.cam_event.specs.declared.LetterId.{LetterId}

@@ -1,9 +1,8 @@
 -- The lines of a script with the last halt of a node found to be taken.
-use Rattle.std.proofs.Common.{◌≡◌, ◌⊎◌, inl, inr, ℕ, zero, suc, ◌+◌, ◌<◌, ◌≤◌, eqb, Bool, true, false}
-use Rattle.std.proofs.Common.{if◌then◌else◌, not, List, [], ◌∷◌, ◌++◌, length, Option, Some, None, refl, sym, ap}
+use Rattle.std.proofs.Common.{◌≡◌, ◌⊎◌, inl, inr, ℕ, zero, suc, ◌+◌, ◌<◌, Bool, true}
+use Rattle.std.proofs.Common.{if◌then◌else◌, not, List, [], ◌∷◌, ◌++◌, length, Some, None, refl, sym, ap}
 use Rattle.std.proofs.Common.{◌∙◌, subst, arith, eqb-true}
 use Rattle.std.specs.Prelude.{slice_get}
-use Rattle.std.specs.List.{list_any}
 use Rattle.std.proofs.lemmas.Bool.{eq-eqb, cases_Bool}
 use Rattle.std.proofs.lemmas.List.{append_assoc, length-append}
 use Rattle.std.proofs.lemmas.Option.{same_Some}
@@ -13,12 +12,11 @@ use Rattle.cam_script.specs.declared.Act.{Act}
 use Rattle.cam_script.specs.declared.Act.TheVariants as acts
 use Rattle.cam_script.specs.declared.Script.{Script}
 use Rattle.cam_script.specs.declared.Step.{Step}
-use Rattle.cam_runs.specs.Running.{has_number}
 use Rattle.cam_runs.specs.InRange.{is_start_act, is_act, IsInRange}
-use Rattle.cam_runs.specs.Halts.{Halt, Turn, Input, Restart, accepted, Halting, given, appends}
-use Rattle.cam_runs.specs.Standing.{Standing, Setting, start, put, ended_halt}
+use Rattle.cam_runs.specs.Halts.{Turn, Input, Restart, accepted, Halting, given, appends}
+use Rattle.cam_runs.specs.Standing.{Standing, Setting, start, ended_halt}
 use Rattle.cam_runs.specs.HaltedLines.{Passed, Refused, Led, act, after_line, setting}
-use Rattle.cam_runs.specs.HaltedLines.{is_restart, is_restart_act}
+use Rattle.cam_runs.specs.HaltedLines.{is_restart_act}
 use Rattle.cam_runs.specs.UnderHalts.{IsUnderHalts, IsNextStep}
 use Rattle.cam_runs.proofs.Beginnings.{at_end}
 use Rattle.cam_runs.proofs.Following.{added}
@@ -30,11 +28,11 @@ use Rattle.cam_runs.proofs.LeadOn.{step_passes}
 use Rattle.cam_histories.specs.Found.{last_input, DifferAt, IsBeyond, HasBeyond, IsBefore, after_step}
 use Rattle.cam_histories.specs.Found.{IsLineOfBoth}
 use Rattle.cam_histories.proofs.FoundRuns.{lines_lead_to_the_halt, lines_keep_the_event}
-use Rattle.cam_cluster.specs.FoundHalts.{IsLastHalt, IsPutIn, FoundLinesPutIn}
+use Rattle.cam_cluster.specs.FoundHalts.{IsPutIn, FoundLinesPutIn}
 use Rattle.cam_cluster.specs.LineOwes.{input_node, with_taken}
 use Rattle.cam_cluster.specs.Seen.{run_first, run_of_lines}
 use Rattle.cam_cluster.proofs.ActsGrow.{act_adds}
-use Rattle.cam_cluster.proofs.LastInputs.{last_below, last_node, node_stays, LastGrows, last_grows, accepted_more}
+use Rattle.cam_cluster.proofs.LastInputs.{last_below, last_node, node_stays, last_grows, accepted_more}
 use Rattle.cam_cluster.proofs.LastInputs.{found_halts_differ}
 
 -- The node of the input has had another since: its halt is over.

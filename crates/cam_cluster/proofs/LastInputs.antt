@@ -1,13 +1,13 @@
 -- The last input of a node, and the inputs of a run by number.
-use Rattle.std.proofs.Common.{◌≡◌, ◌⊎◌, inl, inr, ℕ, ◌+◌, ◌<◌, ◌≤◌, eqb, Bool, true, false}
+use Rattle.std.proofs.Common.{◌≡◌, inl, inr, ℕ, ◌+◌, ◌<◌, ◌≤◌, eqb, Bool, true, false}
 use Rattle.std.proofs.Common.{if◌then◌else◌, List, [], ◌∷◌, ◌++◌, Option, Some, None, refl, sym, ap}
 use Rattle.std.proofs.Common.{◌∙◌, arith, eqb-true}
 use Rattle.std.specs.List.{AllByRecursion}
 use Rattle.std.proofs.lemmas.Bool.{eq-eqb, ne_eqb, true≢false}
 use Rattle.std.proofs.lemmas.Bool.Decides.{eqb_tells}
 use Rattle.std.proofs.lemmas.Option.{same_Some}
-use Rattle.cam_runs.specs.Halts.{Halt, halt_at, Turn, Input, Stop, Restart, accepted, given}
-use Rattle.cam_histories.specs.Found.{last_input, DifferAt}
+use Rattle.cam_runs.specs.Halts.{Halt, halt_at, Turn, Input, Stop, Restart, accepted}
+use Rattle.cam_histories.specs.Found.{last_input}
 use Rattle.cam_cluster.specs.FoundHalts.{AreNewestFirst, FoundHaltsDiffer}
 use Rattle.cam_cluster.specs.LineOwes.{input_node, is_at, with_taken}
 
