@@ -14,12 +14,9 @@ use Rattle.cam_type.specs.declared.ObjectDecl.{ObjectDecl}
 use Rattle.cam_event.specs.declared.Event.{Event}
 use Rattle.cam_event.specs.declared.Mark.{Mark}
 use Rattle.cam_event.specs.declared.Mark.TheVariants as marks
-use Rattle.cam_event.specs.declared.Letter.{Letter}
-use Rattle.cam_event.specs.Inputs.{Input, mail_got, node_of, got_of}
+use Rattle.cam_event.specs.Inputs.{Input, node_of}
 use Rattle.cam_event.specs.Readings.{by_pasts, by_knowledge}
 use Rattle.cam_event.specs.Taken.{taken_of}
-use Rattle.cam_net.specs.Letters.{InFlightFields}
-use Rattle.cam_node.specs.Halting.{taken_step}
 use Rattle.cam_script.specs.declared.Script.{Script}
 use Rattle.cam_script.specs.declared.Step.{Step}
 use Rattle.cam_runs.specs.Running.{has_number}
@@ -29,9 +26,7 @@ use Rattle.cam_runs.specs.Halts as disks
 use Rattle.cam_runs.specs.Standing.{Standing}
 use Rattle.cam_runs.specs.HaltedLines.{after_line, is_restart_act}
 use Rattle.cam_runs.specs.UnderHalts.{IsUnderHalts, IsNextStep, act_by}
-use Rattle.cam_histories.specs.Laws.{history_of, load_of_input}
 use Rattle.cam_histories.specs.PutIn.{put_in, IsUnseen}
-use Rattle.cam_histories.specs.Whole.{Site, IsWhole}
 
 -- the numbers of the taken events, the newest first, with one more
 abbrev pub with_number : ℕ → List ℕ → List ℕ
@@ -152,23 +147,3 @@ LinesKeepTheEvent =
     → IsBeyond script.objects k s before e lost found → is_restart_act s step.act ≡ false
     → IsBeyond script.objects k s before e (after_step losing later script lost step)
     (after_step taking later script found step)
-
--- Nodes, logs and network that stand for the run in which the event is lost stand for the one in
--- which it is taken: the halted node is asked nothing, and the others learnt nothing of it.
-abbrev pub WholesStand : Type 0
-WholesStand =
-    (objects : List ObjectDecl) (s : ℕ) (before : List Event) (e : Event) (lost found : Standing)
-    (sites : List Site) (net : List InFlightFields) (unput : List Letter) (halted : List Bool)
-    → IsFound s before e lost found → IsWhole objects lost sites net unput halted
-    → IsWhole objects found sites net unput halted
-
--- The history of the halted node is then what it was, and the taken event: what a fault leaves of
--- the node's step for that input.
-abbrev pub LogsHaveTheEvent : Type 0
-LogsHaveTheEvent =
-    (objects : List ObjectDecl) (k s : ℕ) (before : List Event) (e : Event) (lost found : Standing)
-    (beyond : IsBeyond objects k s before e lost found)
-    → history_of objects found.running.trace s
-    ≡ taken_step objects s (history_of objects lost.running.trace s) beyond.input
-    (mail_got before (got_of beyond.input)) (load_of_input objects before beyond.input)
-    ∷ history_of objects lost.running.trace s

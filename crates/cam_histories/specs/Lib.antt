@@ -14,3 +14,4 @@ pub mod LineLaws
 pub mod Counted
 pub mod PutIn
 pub mod Found
+pub mod FoundWhole

@@ -1,6 +1,8 @@
 // A halt that is found to be taken, as laws.
 ghost use Rattle.cam_histories.specs.Found.{LinesKeepTheEvent, LinesLeadToTheHalt};
-ghost use Rattle.cam_histories.specs.Found.{LogsHaveTheEvent, WholesStand};
+ghost use Rattle.cam_histories.specs.FoundWhole.{HistoriesHaveTheEvent, LogsHaveTheEvent};
+ghost use Rattle.cam_histories.specs.FoundWhole.{RestartsFindTheEvent, StopsStay, ViewsStay};
+ghost use Rattle.cam_histories.specs.FoundWhole.{WholesStand};
 ghost use Rattle.cam_histories.specs.PutIn.{EventsAreMoved, HistoriesAreMoved, LettersAreMoved};
 ghost use Rattle.cam_histories.specs.PutIn.{LoadsAreMoved, QueryRefusalsStay, RefusalsStay};
 
@@ -27,8 +29,14 @@ pub fn halts_found()
 {}
 
 /// So nodes, logs and network that stand for the run in which the event is lost stand for the one in
-/// which it is taken, where the history of the halted node has the taken event besides.
+/// which it is taken, where the history of the halted node has the taken event besides; the views of
+/// the other nodes' actions and what was stopped are the same. A restart that finds the event in
+/// the log goes on from there.
 pub fn wholes_found()
     ensures stand { WholesStand }
+    ensures own { HistoriesHaveTheEvent }
     ensures history { LogsHaveTheEvent }
+    ensures views { ViewsStay }
+    ensures stops { StopsStay }
+    ensures restart { RestartsFindTheEvent }
 {}
