@@ -10,6 +10,7 @@ use Rattle.cam_runs.specs.Running.{has_number}
 use Rattle.cam_runs.specs.InRange.{IsInRange}
 use Rattle.cam_runs.specs.Halts.{Halt, halt_at, Turn, given}
 use Rattle.cam_runs.specs.Standing.{Standing}
+use Rattle.cam_runs.specs.UnderHalts.{IsUnderHalts}
 use Rattle.cam_histories.specs.Found.{last_input, DifferAt, IsBeyond}
 use Rattle.cam_cluster.specs.LineOwes.{with_taken}
 use Rattle.cam_cluster.specs.Seen.{run_of_lines}
@@ -38,6 +39,12 @@ pub record IsPutIn (objects : List ObjectDecl) (k s : ℕ) (lost found : Standin
   pub before : List Event
   pub event : Event
   pub beyond : IsBeyond objects k s before event lost found
+
+-- The lines that were taken are under way, whichever inputs are halts.
+abbrev pub LinesAreUnderHalts : Type 0
+LinesAreUnderHalts =
+    (script : Script) (halts : List Halt) (n : ℕ) → IsInRange script
+    → IsUnderHalts script (run_of_lines by_pasts script halts n)
 
 -- So the lines that were taken, with that halt found to be taken, leave what they left, with the
 -- taken event put in.

@@ -1,5 +1,5 @@
 // What the lines of a script come to, as laws.
-ghost use Rattle.cam_cluster.specs.FoundHalts.{FoundHaltsDiffer, FoundLinesPutIn};
+ghost use Rattle.cam_cluster.specs.FoundHalts.{FoundHaltsDiffer, FoundLinesPutIn, LinesAreUnderHalts};
 ghost use Rattle.cam_cluster.specs.Seen.{AllLinesAreTheRun, LinesMakeTheRun};
 
 /// All lines of a script, one after another, are its run, whichever inputs are halts. So a cluster
@@ -11,8 +11,9 @@ pub fn all_lines()
 
 /// A node is halted since its last input, and a restart finds that its log took the event of it:
 /// this changes the halts at that input alone, and what the lines so far have left by that event
-/// and the mark of the halt alone.
+/// and the mark of the halt alone. Both are under way.
 pub fn found_halts()
     ensures differ { FoundHaltsDiffer }
     ensures lines { FoundLinesPutIn }
+    ensures under { LinesAreUnderHalts }
 {}

@@ -1,6 +1,7 @@
 -- The last halt of a node, found to be taken.
 use Rattle.cam_cluster.proofs.FoundHalts.{found_lines_put_in}
 use Rattle.cam_cluster.proofs.LastInputs.{found_halts_differ}
+use Rattle.cam_cluster.proofs.LinesUnder.{lines_are_under_halts}
 use Rattle.cam_cluster.proofs.contract.found_halts.Goals as goal
 
 pub returns-clause-differ : goal.returns-clause-differ
@@ -8,3 +9,6 @@ returns-clause-differ c = found_halts_differ
 
 pub returns-clause-lines : goal.returns-clause-lines
 returns-clause-lines c = found_lines_put_in
+
+pub returns-clause-under : goal.returns-clause-under
+returns-clause-under c = lines_are_under_halts
