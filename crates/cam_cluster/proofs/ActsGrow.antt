@@ -51,7 +51,8 @@ module _ (c : Setting) (bodies : List (List Statement)) (line : ℕ) (st : Stand
   creating_adds : (body : Option ℕ) (s : ℕ) → Adds (led_creating body st (put c st (Begins s)))
   creating_adds body s = by body (created_in (made st (put c st (Begins s))))
     where
-      by : (body : Option ℕ) (a : Option Name) → Adds (Led (given_body body a (put c st (Begins s))) a)
+      by : (body : Option ℕ) (a : Option Name)
+          → Adds (Led (given_body body a (put c st (Begins s))) a)
       by (Some body) (Some a) =
           let h = (put_runs c c.halts c.halts st (Begins s)).grows in
           record { more = h.more; is = h.is }
@@ -71,7 +72,8 @@ module _ (c : Setting) (bodies : List (List Statement)) (line : ℕ) (st : Stand
 
   pub act_adds : (does : Act) → Adds (act c bodies st does)
   act_adds (acts.Begin s) =
-      unless_adds (is_halted st s) (led_creating None st (put c st (Begins s))) (creating_adds None s)
+      unless_adds (is_halted st s) (led_creating None st (put c st (Begins s)))
+      (creating_adds None s)
   act_adds (acts.Start s body) =
       unless_adds (is_halted st s) (led_creating (Some body) st (put c st (Begins s)))
       (creating_adds (Some body) s)
@@ -119,7 +121,8 @@ module _ (c : Setting) (bodies : List (List Statement)) (line : ℕ) (st : Stand
       (grows_on st (ended_halt st s) (put c (ended_halt st s) (Restarts s)) first
       (put_runs c c.halts c.halts (ended_halt st s) (Restarts s)).grows)
   act_adds acts.Drain = led_adds (drain c st) None (drain_runs c c.halts c.halts st).grows
-  act_adds acts.Play = led_adds (play c bodies st) None (rounds_run c c.halts c.halts bodies 514 st).grows
+  act_adds acts.Play = led_adds (play c bodies st) None
+      (rounds_run c c.halts c.halts bodies 514 st).grows
   act_adds (acts.Tell s to) =
       unless_adds (halted_or st s (tell_refusal s to)) (Led (put c st (Tells s to)) None)
       (led_adds (put c st (Tells s to)) None (put_runs c c.halts c.halts st (Tells s to)).grows)

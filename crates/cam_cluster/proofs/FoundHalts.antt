@@ -17,7 +17,8 @@ use Rattle.cam_runs.specs.HaltedLines.{is_restart_act}
 use Rattle.cam_runs.specs.UnderHalts.{IsUnderHalts, IsNextStep}
 use Rattle.cam_runs.proofs.Beginnings.{at_end}
 use Rattle.cam_runs.proofs.HaltedWhole.{halted_lines_lead_on, start_is_under_halts}
-use Rattle.cam_histories.specs.Found.{last_input, DifferAt, IsBeyond, HasBeyond, IsBefore, after_step}
+use Rattle.cam_histories.specs.Found.{last_input, DifferAt, IsBeyond, HasBeyond, IsBefore}
+use Rattle.cam_histories.specs.Found.{after_step}
 use Rattle.cam_histories.specs.Found.{IsLineOfBoth}
 use Rattle.cam_histories.proofs.FoundRuns.{lines_lead_to_the_halt, lines_keep_the_event}
 use Rattle.cam_cluster.specs.FoundHalts.{IsPutIn, FoundLinesPutIn}

@@ -29,7 +29,8 @@ pub last_node : (turns : List Turn) (s k : ℕ) → last_input turns s ≡ Some 
 last_node [] s k h = cc
 last_node (Input m line w again ∷ before) s k h = elim (eqb_tells m s) [
   | inl y ↦
-      let here : last_input (Input m line w again ∷ before) s ≡ Some (accepted before) = rw y.0 refl in
+      let here : last_input (Input m line w again ∷ before) s ≡ Some (accepted before) =
+      rw y.0 refl in
       let same : accepted before ≡ k = same_Some (accepted before) k (sym here ∙ h) in
       rw (eq-eqb (accepted before) k same) (ap (λ n. Some n) y.1)
   | inr other ↦
@@ -61,7 +62,8 @@ last_latest : (turns : List Turn) (s j k : ℕ) → input_node turns j ≡ Some 
 last_latest [] s j k at last = cc
 last_latest (Input m line w again ∷ before) s j k at last = elim (eqb_tells m s) [
   | inl y ↦
-      let here : last_input (Input m line w again ∷ before) s ≡ Some (accepted before) = rw y.0 refl in
+      let here : last_input (Input m line w again ∷ before) s ≡ Some (accepted before) =
+      rw y.0 refl in
       let same = same_Some (accepted before) k (sym here ∙ last) in
       let low = node_below (Input m line w again ∷ before) s j at in
       omega (arith, same, low)
@@ -186,7 +188,8 @@ module _ (turns : List Turn) (s k : ℕ) (last : last_input turns s ≡ Some k) 
         where
           off : h.input ≡ k → ⊥
           off e =
-              true≢false (sym (ap (λ o. is_at o s) (ap (input_node turns) e ∙ last_node turns s k last)
+              true≢false (sym (ap (λ o. is_at o s)
+              (ap (input_node turns) e ∙ last_node turns s k last)
               ∙ eq-eqb s s refl) ∙ is)
 
           older : halt_at (h ∷ hs) k ≡ halt_at hs k

@@ -31,11 +31,13 @@ passed_counts script st line free (Refused r) keeps = added st.running.bound Non
 passed_counts script st line free (Led new binds) keeps =
     added new.running.bound binds ∙ ap (λ bs. length bs + 1) keeps.1
 
-pub line_counts : (script : Script) (halts : Halting) (st : Standing) (step : Step) (later : List Step)
+pub line_counts : (script : Script) (halts : Halting) (st : Standing) (step : Step)
+    (later : List Step)
     → IsInRange script → IsUnderHalts script st → IsNextStep script st step
     → length (after_step halts later script st step).running.bound ≡ length st.running.bound + 1
 line_counts script halts st step later range under next =
-    passed_counts script st step.line (not (is_start_act step.act)) (act c script.bodies st step.act)
+    passed_counts script st step.line (not (is_start_act step.act))
+    (act c script.bodies st step.act)
     (act_both script c st step.act range under passes).keeps
   where
     c : Setting
@@ -54,7 +56,8 @@ lines_under : (script : Script) → IsInRange script → (halts : Halting) (n : 
 lines_under script range halts zero done steps st all place under = under
 lines_under script range halts (suc n) done [] st all place under = under
 lines_under script range halts (suc n) done (step ∷ steps) st all place under =
-    lines_under script range halts n (done ++ step ∷ []) steps (after_step halts steps script st step)
+    lines_under script range halts n (done ++ step ∷ []) steps
+    (after_step halts steps script st step)
     (all ∙ sym (append_assoc done (step ∷ []) steps))
     (line_counts script halts st step steps range under next
     ∙ ap (λ m. m + 1) place ∙ sym (length-append done (step ∷ [])))

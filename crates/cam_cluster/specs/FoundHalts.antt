@@ -1,5 +1,5 @@
--- The last halt of a node that is halted, found to be taken: what that makes of the run of the lines
--- that were taken so far.
+-- The last halt of a node that is halted, found to be taken: what that makes of the run of the
+-- lines that were taken so far.
 use Rattle.std.specs.Prelude.{◌≡◌, ℕ, ◌<◌, true, false, List, [], ◌∷◌, Some}
 use Rattle.std.specs.List.{AllByRecursion}
 use Rattle.cam_type.specs.declared.ObjectDecl.{ObjectDecl}

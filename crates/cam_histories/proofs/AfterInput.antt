@@ -61,7 +61,8 @@ after_last line again st n ev w None s = refl
 after_last line again st n ev w (Some true) s = refl
 after_last line again st n ev w (Some false) s = refl
 
-pub below_after : (line : ℕ) (again : Bool) (st : Standing) (n : ℕ) (ev : Event) (w : Bool) (o : Option Bool)
+pub below_after : (line : ℕ) (again : Bool) (st : Standing) (n : ℕ) (ev : Event) (w : Bool)
+    (o : Option Bool)
     → ((i : ℕ) → has_number st.taken i ≡ true → i < length st.running.trace)
     → (i : ℕ) → has_number (after_input line again st n ev w o).taken i ≡ true
     → i < length (after_input line again st n ev w o).running.trace
@@ -98,7 +99,8 @@ module _ (line : ℕ) (again : Bool) (s : ℕ) (behind before : List Event) (e :
         → with_mark_taken s st.running.marks ++ marks.Halted line n took ∷ []
         ≡ with_mark_taken s (st.running.marks ++ marks.Halted line n took ∷ [])
     another line took =
-        sym (marks_more s st.running.marks (marks.Halted line n took) (ne_eqb n s (λ h. off (sym h))))
+        sym (marks_more s st.running.marks (marks.Halted line n took)
+        (ne_eqb n s (λ h. off (sym h))))
 
     numbers : length (put_in behind e before) ∷ with_number (length before) st.taken
         ≡ with_number (length before) (length st.running.trace ∷ st.taken)

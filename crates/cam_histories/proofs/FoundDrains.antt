@@ -23,7 +23,8 @@ use Rattle.cam_histories.proofs.Trails.{deliveries_trail}
 use Rattle.cam_histories.proofs.Beside.{Before, Beyond, Goes, Leads, leads_back}
 use Rattle.cam_histories.proofs.FoundPuts.{FoundPut, found_put}
 use Rattle.cam_histories.proofs.FoundHalts.{before_put}
-use Rattle.cam_histories.proofs.FoundEdits.{beyond_edit, goes_edit, counted, counted_edits, other_awake}
+use Rattle.cam_histories.proofs.FoundEdits.{beyond_edit, goes_edit, counted, counted_edits}
+use Rattle.cam_histories.proofs.FoundEdits.{other_awake}
 
 -- the letter that waits is for a node that is awake
 or_last : (a b c : Bool) → (a || b || c) ≡ false → c ≡ false
@@ -52,7 +53,8 @@ waits_awake st k (l ∷ ls) w h =
         (has_number st.halted (addressee st l)) e
 
 module _ (objects : List ObjectDecl) (losing taking : Halting) (k : ℕ)
-    (P : ℕ → List Event → Event → Type 0) (differ : DifferAt k losing taking) (line : ℕ) (restarted : ℕ → Bool)
+    (P : ℕ → List Event → Event → Type 0) (differ : DifferAt k losing taking) (line : ℕ)
+    (restarted : ℕ → Bool)
     (F : List Event) (H : List Deed) (placed : AllPlaced objects H F)
   where
     abbrev pub one : Setting
@@ -73,7 +75,8 @@ module _ (objects : List ObjectDecl) (losing taking : Halting) (k : ℕ)
         → Goes objects k P st there → Leads F (put other there input)
         → PutOn st there (put one st input) (put other there input)
     put_goes st there input stays awake (inl before) leads =
-        let h = before_put objects losing taking k P differ line restarted F H placed st there before
+        let h = before_put objects losing taking k P differ line restarted F H placed st there
+        before
         input leads in
         record { goes = h.goes; created = h.created; asked = h.asked }
     put_goes st there input stays awake (inr b) leads =
@@ -94,7 +97,8 @@ module _ (objects : List ObjectDecl) (losing taking : Halting) (k : ℕ)
         next : FoundPut objects losing taking k P differ line restarted b.node b.before b.event st
             there input
         next =
-            found_put objects losing taking k P differ line restarted b.node b.before b.event st there
+            found_put objects losing taking k P differ line restarted b.node b.before b.event st
+            there
             b.beyond input
             (other_awake objects k b.node b.before b.event st there
             (node_of st.running.trace input) b.beyond awake)

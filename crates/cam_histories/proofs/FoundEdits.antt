@@ -56,7 +56,8 @@ pub beyond_edit : (objects : List ObjectDecl) (k s : ℕ) (before : List Event) 
 beyond_edit objects k s before e edit edits lost found b = record {
   is_beyond = record {
     passed =
-        let same = edits.turns lost in let passed = b.is_beyond.passed in omega (arith, same, passed);
+        let same = edits.turns lost in let passed =
+        b.is_beyond.passed in omega (arith, same, passed);
     last = edits.last lost s ∙ b.is_beyond.last;
     input = b.is_beyond.input;
     of_node = b.is_beyond.of_node;
@@ -77,7 +78,8 @@ beyond_edit objects k s before e edit edits lost found b = record {
 
 pub goes_edit : (objects : List ObjectDecl) (k : ℕ) (P : ℕ → List Event → Event → Type 0)
     (edit : Standing → Standing) → Edits edit
-    → (lost found : Standing) → Goes objects k P lost found → Goes objects k P (edit lost) (edit found)
+    → (lost found : Standing) → Goes objects k P lost found
+    → Goes objects k P (edit lost) (edit found)
 goes_edit objects k P edit edits lost found (inl before) = inl (record {
   all = before.all;
   is_before = record {

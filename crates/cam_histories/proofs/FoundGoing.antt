@@ -36,7 +36,8 @@ and_false true = refl
 and_false false = refl
 
 module _ (objects : List ObjectDecl) (losing taking : Halting) (k : ℕ)
-    (P : ℕ → List Event → Event → Type 0) (differ : DifferAt k losing taking) (line : ℕ) (restarted : ℕ → Bool)
+    (P : ℕ → List Event → Event → Type 0) (differ : DifferAt k losing taking) (line : ℕ)
+    (restarted : ℕ → Bool)
     (F : List Event) (H : List Deed) (placed : AllPlaced objects H F)
     (bodies : List (List Statement))
   where
@@ -89,7 +90,8 @@ module _ (objects : List ObjectDecl) (losing taking : Halting) (k : ℕ)
         views = elim goes [
           | inl before ↦ ap (λ (x : Standing). seen x a) before.is_before.same
           | inr b ↦ view_same objects k st there a b.node b.before b.event b.beyond
-              (other_awake objects k b.node b.before b.event st there (home_node a) b.beyond awake) named
+              (other_awake objects k b.node b.before b.event st there (home_node a) b.beyond awake)
+              named
         ]
 
         body_same : body_of bodies there.running a ≡ body

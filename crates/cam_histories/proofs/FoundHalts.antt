@@ -27,7 +27,8 @@ use Rattle.cam_histories.proofs.AfterInput.{made_is, after_accepted, below_after
 use Rattle.cam_histories.proofs.AfterInput.{after_last}
 
 module _ (objects : List ObjectDecl) (losing taking : Halting) (k : ℕ)
-    (P : ℕ → List Event → Event → Type 0) (differ : DifferAt k losing taking) (line : ℕ) (restarted : ℕ → Bool)
+    (P : ℕ → List Event → Event → Type 0) (differ : DifferAt k losing taking) (line : ℕ)
+    (restarted : ℕ → Bool)
   where
     abbrev pub one : Setting
     one = held_setting objects losing line restarted
@@ -179,9 +180,11 @@ module _ (objects : List ObjectDecl) (losing taking : Halting) (k : ℕ)
               ]
 
       pub before_put : (st there : Standing) → Before k P st there → (input : Input)
-          → Leads F (put other there input) → Puts st there (put one st input) (put other there input)
+          → Leads F (put other there input) → Puts st there (put one st input)
+          (put other there input)
       before_put st there before input =
-          subst (λ x. Leads F (put other x input) → Puts st x (put one st input) (put other x input))
+          subst (λ x. Leads F (put other x input)
+          → Puts st x (put one st input) (put other x input))
           (sym before.is_before.same)
           (λ leads. elim (eqb_tells (accepted st.turns) k) [
             | inl y ↦ differs st here input y.1 leads

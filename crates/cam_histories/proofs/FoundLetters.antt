@@ -35,7 +35,8 @@ use Rattle.cam_histories.proofs.FoundPassed.{mark_edits, PassLeads, PassGoes}
 use Rattle.cam_histories.proofs.FoundTests.{unless_goes, letter_goes, halted_same}
 
 module _ (objects : List ObjectDecl) (losing taking : Halting) (k : ℕ)
-    (P : ℕ → List Event → Event → Type 0) (differ : DifferAt k losing taking) (line : ℕ) (restarted : ℕ → Bool)
+    (P : ℕ → List Event → Event → Type 0) (differ : DifferAt k losing taking) (line : ℕ)
+    (restarted : ℕ → Bool)
     (F : List Event) (H : List Deed) (placed : AllPlaced objects H F)
     (bodies : List (List Statement)) (st there : Standing) (goes : Goes objects k P st there)
   where
@@ -68,18 +69,22 @@ module _ (objects : List ObjectDecl) (losing taking : Halting) (k : ℕ)
     })
 
     pub handed_goes : (number : ℕ) → PassLeads F (of_letter (letter_of there.running number)
-        (λ l. unless (is_halted there (addressee there l)) (Led (deliver other there number l) None)))
+        (λ l. unless (is_halted there (addressee there l))
+        (Led (deliver other there number l) None)))
         → PassGoes objects k P (of_letter (letter_of st.running number)
         (λ l. unless (is_halted st (addressee st l)) (Led (deliver one st number l) None)))
         (of_letter (letter_of there.running number)
-        (λ l. unless (is_halted there (addressee there l)) (Led (deliver other there number l) None)))
+        (λ l. unless (is_halted there (addressee there l))
+        (Led (deliver other there number l) None)))
     handed_goes number leads =
         letter_goes objects k P F st there number goes
         (λ l. unless (is_halted st (addressee st l)) (Led (deliver one st number l) None))
-        (λ l. unless (is_halted there (addressee there l)) (Led (deliver other there number l) None))
+        (λ l. unless (is_halted there (addressee there l))
+        (Led (deliver other there number l) None))
         leads
         (λ before l leads.
-        unless_goes objects k P F (is_halted st (addressee st l)) (is_halted there (addressee there l))
+        unless_goes objects k P F (is_halted st (addressee st l))
+        (is_halted there (addressee there l))
         (ap (λ (x : Standing). is_halted x (addressee x l)) before.is_before.same)
         (Led (deliver one st number l) None) (Led (deliver other there number l) None) leads
         (λ awake more. (
@@ -156,18 +161,22 @@ module _ (objects : List ObjectDecl) (losing taking : Halting) (k : ℕ)
         (deliver other there number m) rest)
 
     pub cut_goes : (number bytes : ℕ) → PassLeads F (of_letter (letter_of there.running number)
-        (λ l. unless (is_halted there (addressee there l)) (Led (cut other there number bytes l) None)))
+        (λ l. unless (is_halted there (addressee there l))
+        (Led (cut other there number bytes l) None)))
         → PassGoes objects k P (of_letter (letter_of st.running number)
         (λ l. unless (is_halted st (addressee st l)) (Led (cut one st number bytes l) None)))
         (of_letter (letter_of there.running number)
-        (λ l. unless (is_halted there (addressee there l)) (Led (cut other there number bytes l) None)))
+        (λ l. unless (is_halted there (addressee there l))
+        (Led (cut other there number bytes l) None)))
     cut_goes number bytes leads =
         letter_goes objects k P F st there number goes
         (λ l. unless (is_halted st (addressee st l)) (Led (cut one st number bytes l) None))
-        (λ l. unless (is_halted there (addressee there l)) (Led (cut other there number bytes l) None))
+        (λ l. unless (is_halted there (addressee there l))
+        (Led (cut other there number bytes l) None))
         leads
         (λ before l leads.
-        unless_goes objects k P F (is_halted st (addressee st l)) (is_halted there (addressee there l))
+        unless_goes objects k P F (is_halted st (addressee st l))
+        (is_halted there (addressee there l))
         (ap (λ (x : Standing). is_halted x (addressee x l)) before.is_before.same)
         (Led (cut one st number bytes l) None) (Led (cut other there number bytes l) None) leads
         (λ awake. cut_same number bytes l l (ap (λ x. long x bytes l) before.is_before.same)

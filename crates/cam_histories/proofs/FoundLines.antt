@@ -34,14 +34,17 @@ use Rattle.cam_histories.proofs.FoundEdits.{goes_edit}
 use Rattle.cam_histories.proofs.FoundDrains.{drain_goes}
 use Rattle.cam_histories.proofs.FoundPlays.{rounds_go}
 use Rattle.cam_histories.proofs.FoundPassed.{lose_edits, stop_edits, PassLeads, PassGoes}
-use Rattle.cam_histories.proofs.FoundTests.{unless_goes, variable_goes, letter_goes, halted_same, test_same, queries}
-use Rattle.cam_histories.proofs.FoundRequests.{creating_goes, plain_goes, request_goes, bound_same, asking_goes, going_goes}
+use Rattle.cam_histories.proofs.FoundTests.{unless_goes, variable_goes, letter_goes, halted_same}
+use Rattle.cam_histories.proofs.FoundTests.{test_same, queries}
+use Rattle.cam_histories.proofs.FoundRequests.{creating_goes, plain_goes, request_goes, bound_same}
+use Rattle.cam_histories.proofs.FoundRequests.{asking_goes, going_goes}
 use Rattle.cam_histories.proofs.FoundLetters.{handed_goes, cut_goes}
 use Rattle.cam_histories.proofs.FoundRestarts.{restart_goes}
 
 -- each line
 module _ (objects : List ObjectDecl) (losing taking : Halting) (k : ℕ)
-    (P : ℕ → List Event → Event → Type 0) (differ : DifferAt k losing taking) (line : ℕ) (restarted : ℕ → Bool)
+    (P : ℕ → List Event → Event → Type 0) (differ : DifferAt k losing taking) (line : ℕ)
+    (restarted : ℕ → Bool)
     (F : List Event) (H : List Deed) (placed : AllPlaced objects H F)
     (bodies : List (List Statement)) (st there : Standing) (goes : Goes objects k P st there)
   where
@@ -65,26 +68,32 @@ module _ (objects : List ObjectDecl) (losing taking : Halting) (k : ℕ)
         (halted_same objects k P F st there s goes)
         (led_creating None st (put lost_by st (Begins s)))
         (led_creating None there (put taken_by there (Begins s))) leads
-        (creating_goes objects losing taking k P differ line restarted F H placed bodies st there goes
+        (creating_goes objects losing taking k P differ line restarted F H placed bodies st there
+        goes
         None s)
     act_goes (acts.Start s body) away leads =
         unless_goes objects k P F (is_halted st s) (is_halted there s)
         (halted_same objects k P F st there s goes)
         (led_creating (Some body) st (put lost_by st (Begins s)))
         (led_creating (Some body) there (put taken_by there (Begins s))) leads
-        (creating_goes objects losing taking k P differ line restarted F H placed bodies st there goes
+        (creating_goes objects losing taking k P differ line restarted F H placed bodies st there
+        goes
         (Some body) s)
     act_goes (acts.Ask v m) away leads =
-        asking_goes objects losing taking k P differ line restarted F H placed bodies st there goes v
+        asking_goes objects losing taking k P differ line restarted F H placed bodies st there goes
+        v
         (wants.Ask m) leads
     act_goes (acts.Call v x op) away leads =
-        asking_goes objects losing taking k P differ line restarted F H placed bodies st there goes v
+        asking_goes objects losing taking k P differ line restarted F H placed bodies st there goes
+        v
         (wants.Call x op) leads
     act_goes (acts.Commit v value) away leads =
-        asking_goes objects losing taking k P differ line restarted F H placed bodies st there goes v
+        asking_goes objects losing taking k P differ line restarted F H placed bodies st there goes
+        v
         (wants.Commit value) leads
     act_goes (acts.Abort v) away leads =
-        asking_goes objects losing taking k P differ line restarted F H placed bodies st there goes v
+        asking_goes objects losing taking k P differ line restarted F H placed bodies st there goes
+        v
         wants.Abort leads
     act_goes (acts.GiveUp v w) away leads =
         variable_goes objects k P F (variable st.running v) (variable there.running v) (bound v)
@@ -95,15 +104,18 @@ module _ (objects : List ObjectDecl) (losing taking : Halting) (k : ℕ)
         variable_goes objects k P F (variable st.running w) (variable there.running w) (bound w)
         (λ b. take_request lost_by st a (wants.GiveUp b))
         (λ b. take_request taken_by there a (wants.GiveUp b)) more
-        (λ b. request_goes objects losing taking k P differ line restarted F H placed bodies st there
+        (λ b. request_goes objects losing taking k P differ line restarted F H placed bodies st
+        there
         goes a (wants.GiveUp b)))
       where
         bound : (v : ℕ) → variable there.running v ≡ variable st.running v
-        bound = bound_same objects losing taking k P differ line restarted F H placed bodies st there
+        bound = bound_same objects losing taking k P differ line restarted F H placed bodies st
+            there
             goes
     act_goes (acts.Go v) away leads =
         variable_goes objects k P F (variable st.running v) (variable there.running v)
-        (bound_same objects losing taking k P differ line restarted F H placed bodies st there goes v)
+        (bound_same objects losing taking k P differ line restarted F H placed bodies st there goes
+        v)
         (λ a. unless (halted_or st (home_node a)
         (go_refusal (home_sight (by_knowledge objects) st.running a) a))
         (Led (go lost_by bodies st a) None))
@@ -115,7 +127,8 @@ module _ (objects : List ObjectDecl) (losing taking : Halting) (k : ℕ)
         handed_goes objects losing taking k P differ line restarted F H placed bodies st there goes
         number leads
     act_goes (acts.Cut number bytes) away leads =
-        cut_goes objects losing taking k P differ line restarted F H placed bodies st there goes number
+        cut_goes objects losing taking k P differ line restarted F H placed bodies st there goes
+        number
         bytes leads
     act_goes (acts.Lose number) away leads =
         letter_goes objects k P F st there number goes (λ l. Led (lose st number) None)
@@ -131,8 +144,10 @@ module _ (objects : List ObjectDecl) (losing taking : Halting) (k : ℕ)
           (λ b same. true≢false (sym (eq-eqb m b.node (sym same)) ∙ away b)) leads,
       refl,
     )
-    act_goes acts.Drain away leads =
-        (drain_goes objects losing taking k P differ line restarted F H placed st there goes leads, refl)
+    act_goes acts.Drain away leads = (
+      drain_goes objects losing taking k P differ line restarted F H placed st there goes leads,
+      refl,
+    )
     act_goes acts.Play away leads = (
       rounds_go objects losing taking k P differ line restarted F H placed bodies 514 st there goes
           leads,
@@ -143,13 +158,16 @@ module _ (objects : List ObjectDecl) (losing taking : Halting) (k : ℕ)
         (halted_or there s (tell_refusal s to))
         (test_same objects k P F st there s (λ x. tell_refusal s to) goes (λ b off. refl))
         (Led (put lost_by st (Tells s to)) None) (Led (put taken_by there (Tells s to)) None) leads
-        (λ none. plain_goes objects losing taking k P differ line restarted F H placed bodies st there
+        (λ none. plain_goes objects losing taking k P differ line restarted F H placed bodies st
+        there
         goes (Tells s to) (λ p. refl)
         (awake_by st s (first_two (is_halted st s) (tell_refusal s to) none).0))
     act_goes (acts.Query s v) away leads =
         variable_goes objects k P F (variable st.running v) (variable there.running v)
-        (bound_same objects losing taking k P differ line restarted F H placed bodies st there goes v)
-        (λ a. unless (halted_or st s (test st a)) (Led (put lost_by st (Queries s (family a))) None))
+        (bound_same objects losing taking k P differ line restarted F H placed bodies st there goes
+        v)
+        (λ a. unless (halted_or st s (test st a))
+        (Led (put lost_by st (Queries s (family a))) None))
         (λ a. unless (halted_or there s (test there a))
         (Led (put taken_by there (Queries s (family a))) None)) leads
         (λ a more.
@@ -158,7 +176,8 @@ module _ (objects : List ObjectDecl) (losing taking : Halting) (k : ℕ)
         (λ b off. queries objects k P st there s (family a) b off))
         (Led (put lost_by st (Queries s (family a))) None)
         (Led (put taken_by there (Queries s (family a))) None) more
-        (λ none. plain_goes objects losing taking k P differ line restarted F H placed bodies st there
+        (λ none. plain_goes objects losing taking k P differ line restarted F H placed bodies st
+        there
         goes (Queries s (family a)) (λ p. refl)
         (awake_by st s (first_two (is_halted st s) (test st a) none).0)))
       where

@@ -50,7 +50,8 @@ marks_more s (x ∷ ms) m off =
 pub marks_new : (s line : ℕ) (ms : List Mark)
     → with_mark_taken s (ms ++ marks.Halted line s false ∷ []) ≡ ms ++ marks.Halted line s true ∷ []
 marks_new s line [] =
-    ap (λ b. if b && not false then marks.Halted line s true ∷ [] else marks.Halted line s false ∷ [])
+    ap (λ b. if b && not false then marks.Halted line s true ∷ [] else marks.Halted line s false
+    ∷ [])
     (eq-eqb s s refl)
 marks_new s line (x ∷ ms) =
     ap (λ b. if is_halt_of s x && not b then as_taken x ∷ ms ++ lost ∷ []

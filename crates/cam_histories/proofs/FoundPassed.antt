@@ -37,7 +37,8 @@ mark_edits m off = record {
       };
 }
 
-pub binding_edits : (a : Option Name) → Edits (λ st. record st { running = with_binding a st.running })
+pub binding_edits : (a : Option Name) → Edits
+    (λ st. record st { running = with_binding a st.running })
 binding_edits a = record {
   trace = λ x. refl;
   taken = λ x. refl;
@@ -77,14 +78,16 @@ abbrev pub PassGoes : List ObjectDecl → ℕ → (ℕ → List Event → Event 
 PassGoes objects k P (Refused one) (Refused other) = other ≡ one
 PassGoes objects k P (Refused one) (Led st binds) = ⊥
 PassGoes objects k P (Led st binds) (Refused other) = ⊥
-PassGoes objects k P (Led st binds) (Led there others) = Goes objects k P st there × (others ≡ binds)
+PassGoes objects k P (Led st binds) (Led there others) =
+    Goes objects k P st there × (others ≡ binds)
 
 pub line_goes : (objects : List ObjectDecl) (k : ℕ) (P : ℕ → List Event → Event → Type 0) (line : ℕ)
     (st there : Standing) (one other : Passed)
     → Goes objects k P st there → PassGoes objects k P one other
     → Goes objects k P (after_line st line one) (after_line there line other)
 line_goes objects k P line st there (Refused r) (Refused q) goes same =
-    subst (λ x. Goes objects k P (after_line st line (Refused r)) (after_line there line (Refused x)))
+    subst (λ x. Goes objects k P (after_line st line (Refused r))
+    (after_line there line (Refused x)))
     (sym same)
     (goes_edit objects k P (λ x. record x { running = with_binding None x.running })
     (binding_edits None)

@@ -31,7 +31,8 @@ use Rattle.cam_histories.proofs.FoundViews.{may_named}
 use Rattle.cam_histories.proofs.FoundGoing.{go_goes, may_goes}
 
 module _ (objects : List ObjectDecl) (losing taking : Halting) (k : ℕ)
-    (P : ℕ → List Event → Event → Type 0) (differ : DifferAt k losing taking) (line : ℕ) (restarted : ℕ → Bool)
+    (P : ℕ → List Event → Event → Type 0) (differ : DifferAt k losing taking) (line : ℕ)
+    (restarted : ℕ → Bool)
     (F : List Event) (H : List Deed) (placed : AllPlaced objects H F)
     (bodies : List (List Statement))
   where
@@ -47,7 +48,8 @@ module _ (objects : List ObjectDecl) (losing taking : Halting) (k : ℕ)
 
     names_go : (names : List Name) (st there : Standing) → Goes objects k P st there
         → Leads F (go_in_round second bodies names there)
-        → Goes objects k P (go_in_round first bodies names st) (go_in_round second bodies names there)
+        → Goes objects k P (go_in_round first bodies names st)
+        (go_in_round second bodies names there)
     names_go [] st there goes leads = goes
     names_go (a ∷ more) st there goes leads =
         names_go more (if may_go_on first st a then go first bodies st a else st)
@@ -55,7 +57,8 @@ module _ (objects : List ObjectDecl) (losing taking : Halting) (k : ℕ)
         (subst (λ b. Leads F (if b then go second bodies there a else there)
         → Goes objects k P (if may_go_on first st a then go first bodies st a else st)
         (if b then go second bodies there a else there))
-        (sym (may_goes objects losing taking k P differ line restarted F H placed bodies st there a goes)) (by (may_go_on first st a) refl)
+        (sym (may_goes objects losing taking k P differ line restarted F H placed bodies st there a
+        goes)) (by (may_go_on first st a) refl)
         (leads_back F (if may_go_on second there a then go second bodies there a else there)
         (go_in_round second bodies (a ∷ more) there)
         (names_trail second bodies more
@@ -67,7 +70,8 @@ module _ (objects : List ObjectDecl) (losing taking : Halting) (k : ℕ)
             → Goes objects k P (if b then go first bodies st a else st)
             (if b then go second bodies there a else there)
         by true may leads =
-            let parts = and_parts (may_go (home_sight (by_knowledge objects) st.running a) st.running a)
+            let parts = and_parts (may_go (home_sight (by_knowledge objects) st.running a)
+            st.running a)
             (not (has_number st.halted (home_node a))) may in
             go_goes objects losing taking k P differ line restarted F H placed bodies st there a
             (may_named (home_sight (by_knowledge objects) st.running a) st.running a parts.0)
@@ -101,7 +105,8 @@ module _ (objects : List ObjectDecl) (losing taking : Halting) (k : ℕ)
         subst (λ c. Leads F (if c then rounds second bodies n found else found)
         → Goes objects k P (rounds first bodies (suc n) st)
         (if c then rounds second bodies n found else found))
-        (sym counts) (by (nat_lt (accepted st.turns) (accepted lost.turns)) (rounds_go n lost found next)) leads
+        (sym counts) (by (nat_lt (accepted st.turns) (accepted lost.turns))
+        (rounds_go n lost found next)) leads
       where
         lost : Standing
         lost = round first bodies st

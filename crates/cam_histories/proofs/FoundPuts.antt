@@ -24,7 +24,8 @@ use Rattle.cam_histories.proofs.AfterInput.{made_by, made_is, after_found, after
 use Rattle.cam_histories.proofs.AfterInput.{after_last}
 
 module _ (objects : List ObjectDecl) (losing taking : Halting) (k : ℕ)
-    (P : ℕ → List Event → Event → Type 0) (differ : DifferAt k losing taking) (line : ℕ) (restarted : ℕ → Bool)
+    (P : ℕ → List Event → Event → Type 0) (differ : DifferAt k losing taking) (line : ℕ)
+    (restarted : ℕ → Bool)
   where
     abbrev pub one : Setting
     one = held_setting objects losing line restarted
@@ -97,7 +98,8 @@ module _ (objects : List ObjectDecl) (losing taking : Halting) (k : ℕ)
             (λ i. after_input line (restarted (nodes i)) (with_taken_in s behind e before st)
             (nodes i) (events i) (entries i)
             (taking st.turns (nodes i) (entries i) (restarted (nodes i))))
-            ∙ ap (after_input line (restarted (node_of t input)) (with_taken_in s behind e before st)
+            ∙ ap (after_input line (restarted (node_of t input))
+            (with_taken_in s behind e before st)
             (node_of t input) (moved_event p (reading.next t input)) (appends reading t input))
             (sym (differ.alike st.turns (node_of t input) (appends reading t input)
             (restarted (node_of t input)) (λ same. omega (arith, same, passed))))
@@ -145,7 +147,8 @@ module _ (objects : List ObjectDecl) (losing taking : Halting) (k : ℕ)
       };
       same =
           (λ i. made (found.is i) (put other (found.is i) (moved_input p input)))
-          ∙ ap (made later) (put_later s found.behind before e st input found.unseen found.was off passed)
+          ∙ ap (made later) (put_later s found.behind before e st input found.unseen found.was off
+          passed)
           ∙ made_is line (restarted n) later n (moved_event p ev) w o
           ∙ made_moved p ev o
           ∙ sym (made_is line (restarted n) st n ev w o);
@@ -175,12 +178,14 @@ module _ (objects : List ObjectDecl) (losing taking : Halting) (k : ℕ)
         o : Option Bool
         o = losing st.turns n w (restarted n)
 
-        counted : accepted (after_input line (restarted n) st n ev w o).turns ≡ accepted st.turns + 1
+        counted : accepted (after_input line (restarted n) st n ev w o).turns
+            ≡ accepted st.turns + 1
         counted = after_accepted line (restarted n) st n ev w o
 
         end : IsFound s before e (after_input line (restarted n) st n ev w o)
             (after_input line (restarted n) later n (moved_event p ev) w o)
-        end = after_found line (restarted n) s found.behind before e st n ev w found.unseen found.was
+        end = after_found line (restarted n) s found.behind before e st n ev w found.unseen
+            found.was
             found.halted off refl o
 
         whole : put other there (moved_input p input)

@@ -61,7 +61,8 @@ go_named g [] none =
     ∙ (or_parts (ended g.deeds []) (nat_lt 0 (present g)) running).1))
 
 module _ (objects : List ObjectDecl) (losing taking : Halting) (k : ℕ)
-    (P : ℕ → List Event → Event → Type 0) (differ : DifferAt k losing taking) (line : ℕ) (restarted : ℕ → Bool)
+    (P : ℕ → List Event → Event → Type 0) (differ : DifferAt k losing taking) (line : ℕ)
+    (restarted : ℕ → Bool)
     (F : List Event) (H : List Deed) (placed : AllPlaced objects H F)
     (bodies : List (List Statement)) (st there : Standing) (goes : Goes objects k P st there)
   where
@@ -90,7 +91,8 @@ module _ (objects : List ObjectDecl) (losing taking : Halting) (k : ℕ)
         found = put other there (Begins s)
 
         next : PutOn objects losing taking k P differ line restarted F H placed st there lost found
-        next = put_goes objects losing taking k P differ line restarted F H placed st there (Begins s)
+        next = put_goes objects losing taking k P differ line restarted F H placed st there
+            (Begins s)
             (λ p. refl) (awake_by st s awake) goes
             (leads_back F found (given_body body (created_in (made there found)) found)
             (given_trail other body (created_in (made there found)) found) leads)
@@ -101,7 +103,8 @@ module _ (objects : List ObjectDecl) (losing taking : Halting) (k : ℕ)
         → PassLeads F (Led (put other there input) None)
         → PassGoes objects k P (Led (put one st input) None) (Led (put other there input) None)
     plain_goes input stays awake leads = (
-      (put_goes objects losing taking k P differ line restarted F H placed st there input stays awake
+      (put_goes objects losing taking k P differ line restarted F H placed st there input stays
+          awake
           goes leads).goes,
       refl,
     )
@@ -136,11 +139,14 @@ module _ (objects : List ObjectDecl) (losing taking : Halting) (k : ℕ)
         ap (λ bs. unwrap_or (slice_get bs v) None) (shared objects k P st there goes).bound
 
     pub asking_goes : (v : ℕ) (want : Want)
-        → PassLeads F (of_variable (variable there.running v) (λ a. take_request other there a want))
-        → PassGoes objects k P (of_variable (variable st.running v) (λ a. take_request one st a want))
+        → PassLeads F (of_variable (variable there.running v)
+        (λ a. take_request other there a want))
+        → PassGoes objects k P (of_variable (variable st.running v)
+        (λ a. take_request one st a want))
         (of_variable (variable there.running v) (λ a. take_request other there a want))
     asking_goes v want leads =
-        variable_goes objects k P F (variable st.running v) (variable there.running v) (bound_same v)
+        variable_goes objects k P F (variable st.running v) (variable there.running v)
+        (bound_same v)
         (λ a. take_request one st a want) (λ a. take_request other there a want) leads
         (λ a. request_goes a want)
 
@@ -149,7 +155,8 @@ module _ (objects : List ObjectDecl) (losing taking : Halting) (k : ℕ)
         (go_refusal (home_sight (by_knowledge objects) there.running a) a))
         (Led (go other bodies there a) None))
         → PassGoes objects k P (unless (halted_or st (home_node a)
-        (go_refusal (home_sight (by_knowledge objects) st.running a) a)) (Led (go one bodies st a) None))
+        (go_refusal (home_sight (by_knowledge objects) st.running a) a))
+        (Led (go one bodies st a) None))
         (unless (halted_or there (home_node a)
         (go_refusal (home_sight (by_knowledge objects) there.running a) a))
         (Led (go other bodies there a) None))

@@ -21,12 +21,14 @@ use Rattle.cam_histories.proofs.FoundHalts.{before_put}
 
 -- a restart of another node
 module _ (objects : List ObjectDecl) (losing taking : Halting) (k : ℕ)
-    (P : ℕ → List Event → Event → Type 0) (differ : DifferAt k losing taking) (line : ℕ) (restarted : ℕ → Bool)
+    (P : ℕ → List Event → Event → Type 0) (differ : DifferAt k losing taking) (line : ℕ)
+    (restarted : ℕ → Bool)
     (F : List Event) (H : List Deed) (placed : AllPlaced objects H F) (st there : Standing) (m : ℕ)
   where
     pub restart_goes : (goes : Goes objects k P st there)
         → ((b : SomeBeyond objects k P st there) → b.node ≡ m → ⊥)
-        → Leads F (put (held_setting objects taking line restarted) (ended_halt there m) (Restarts m))
+        → Leads F (put (held_setting objects taking line restarted) (ended_halt there m)
+        (Restarts m))
         → Goes objects k P
         (put (held_setting objects losing line restarted) (ended_halt st m) (Restarts m))
         (put (held_setting objects taking line restarted) (ended_halt there m) (Restarts m))

@@ -31,7 +31,8 @@ all_placed script st under =
     (ran_holds script.objects st.running.trace (ran script st under.run)).placed
 
 -- so the taken event of one is silent
-pub silent_of : (script : Script) (k s : ℕ) (before : List Event) (e : Event) (lost found : Standing)
+pub silent_of : (script : Script) (k s : ℕ) (before : List Event) (e : Event)
+    (lost found : Standing)
     → IsUnderHalts script found → IsBeyond script.objects k s before e lost found
     → AreSilent s e.deeds
 silent_of script k s before e lost found under b =

@@ -96,7 +96,8 @@ module _ (objects : List ObjectDecl) (k : ℕ) (P : ℕ → List Event → Event
     pub halted_same : (st there : Standing) (n : ℕ) → Goes objects k P st there
         → is_halted there n ≡ is_halted st n
     halted_same st there n goes =
-        ap (λ hs. where_so (has_number hs n) refusals.Halted) (shared objects k P st there goes).halted
+        ap (λ hs. where_so (has_number hs n) refusals.Halted)
+        (shared objects k P st there goes).halted
 
     -- a test of a node that counts where it is awake
     pub test_same : (st there : Standing) (n : ℕ) (test : Standing → Option LineRefusal)
@@ -124,7 +125,8 @@ pub queries : (objects : List ObjectDecl) (k : ℕ) (P : ℕ → List Event → 
     → query_refusal ((by_knowledge objects).sight there.running.trace n) f
     ≡ query_refusal ((by_knowledge objects).sight st.running.trace n) f
 queries objects k P st there n f b off =
-    ap (λ (x : Standing). query_refusal ((by_knowledge objects).sight x.running.trace n) f) stands.is
+    ap (λ (x : Standing). query_refusal ((by_knowledge objects).sight x.running.trace n) f)
+    stands.is
     ∙ query_refusals_stay objects b.node n stands.behind b.before b.event f stands.unseen off
     ∙ ap (λ t. query_refusal ((by_knowledge objects).sight t n) f) (sym stands.was)
   where

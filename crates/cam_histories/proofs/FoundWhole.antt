@@ -86,7 +86,8 @@ module _ (objects : List ObjectDecl) (s : ℕ) (behind before : List Event) (e :
         → letter_of (by_knowledge objects) later.running.trace (moved_letter p id)
         ≡ letter_of (by_knowledge objects) st.running.trace id
     sent_later id =
-        λ i. option_map (letter_with (loads i)) (letter_later s behind before e st unseen.mute was id i)
+        λ i. option_map (letter_with (loads i))
+        (letter_later s behind before e st unseen.mute was id i)
       where
         loads : (by_knowledge objects).carried (put_in behind e before) (moved_letter p id)
             ≡ (by_knowledge objects).carried st.running.trace id
@@ -213,7 +214,8 @@ stops_stay objects k s before e lost found a beyond =
     stands = beyond.stands
 
 pub restarts_find_the_event : RestartsFindTheEvent
-restarts_find_the_event script halts line restarted s before e lost found sites net asleep logged new
+restarts_find_the_event script halts line restarted s before e lost found sites net asleep logged
+new
     event stands under node eight none whole log restart =
     restarts_stand script halts line restarted found s sites net asleep logged new event under
     node eight none

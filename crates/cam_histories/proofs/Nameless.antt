@@ -94,7 +94,8 @@ votes_bare (e ∷ es) f =
     else option_map (λ earlier. yes_for f e.mail ++ earlier) (votes_bare es f i)
 
 -- of a history with what letters carried
-pub carried_bare : (h : List Received) → map as_carried (map nameless h) ≡ map bare (map as_carried h)
+pub carried_bare : (h : List Received) → map as_carried (map nameless h)
+    ≡ map bare (map as_carried h)
 carried_bare [] = refl
 carried_bare (c ∷ h) = ap (λ cs. bare (as_carried c) ∷ cs) (carried_bare h)
 

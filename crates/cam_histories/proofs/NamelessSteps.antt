@@ -16,7 +16,8 @@ use Rattle.cam_event.specs.declared.Want.{Want}
 use Rattle.cam_event.specs.declared.Want.TheVariants as wants
 use Rattle.cam_event.specs.declared.Deed.{Deed}
 use Rattle.cam_event.specs.History.{after}
-use Rattle.cam_event.specs.Inputs.{Input, Begins, Requests, Receives, Tells, Queries, Restarts, Mail}
+use Rattle.cam_event.specs.Inputs.{Input, Begins, Requests, Receives, Tells, Queries, Restarts}
+use Rattle.cam_event.specs.Inputs.{Mail}
 use Rattle.cam_event.specs.Inputs.{got_of}
 use Rattle.cam_event.specs.Sights.{Sight, Entry, votes, is_present}
 use Rattle.cam_event.specs.Sights.{knows_outcome}
@@ -26,7 +27,8 @@ use Rattle.cam_event.specs.ByPast.{event_of}
 use Rattle.cam_event.specs.ByKnowledge.{Carried, entry_of}
 use Rattle.cam_event.specs.ByKnowledge.{held, site_after_all}
 use Rattle.cam_event.specs.ByKnowledge.{sight_with, new_informs, step_with, node_step}
-use Rattle.cam_histories.proofs.Nameless.{bare, bare_entry, deeds_bare, pairs_bare, held_bare, site_bare, votes_bare}
+use Rattle.cam_histories.proofs.Nameless.{bare, bare_entry, deeds_bare, pairs_bare, held_bare}
+use Rattle.cam_histories.proofs.Nameless.{site_bare, votes_bare}
 
 -- A rule goes by a node's events by the votes alone.
 module _ (objects : List ObjectDecl) (g : Sight) (es : List Entry)
@@ -54,7 +56,8 @@ module _ (objects : List ObjectDecl) (g : Sight) (es : List Entry)
     quit_by b (Some p) = refl
     quit_by b None = refl
 
-    body_by : (from : ℕ) (body : Body) → arrives objects other from body ≡ arrives objects g from body
+    body_by : (from : ℕ) (body : Body) → arrives objects other from body
+        ≡ arrives objects g from body
     body_by from (bodies.Start b counts) = refl
     body_by from (bodies.Call a n x op c counts) = refl
     body_by from (bodies.Answer a n reply) = refl

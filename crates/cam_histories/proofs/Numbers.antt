@@ -87,7 +87,8 @@ module _ (before : List Event) (e : Event) where
       → letter_at (put_in behind e before) (moved_letter (length before) letter)
       ≡ letter_at (behind ++ before) letter
   letters_moved [] letter =
-      ap (λ b. found letter.place (if b then Some e else event_at before (moved p i))) (moved_off p i)
+      ap (λ b. found letter.place (if b then Some e else event_at before (moved p i)))
+      (moved_off p i)
       ∙ ap (found letter.place) older
     where
       p : ℕ
@@ -137,7 +138,8 @@ module _ (s : ℕ) (before : List Event) where
   event_other : (behind : List Event) (i : ℕ) (x : Event)
       → AllByRecursion (λ (b : Event). b.node ≡ s → ⊥) behind
       → length before ≤ i → event_at (behind ++ before) i ≡ Some x → x.node ≡ s → ⊥
-  event_other [] i x others high at = let low = event_below before i x at in absurd (omega (arith, high, low))
+  event_other [] i x others high at = let low =
+      event_below before i x at in absurd (omega (arith, high, low))
   event_other (y ∷ b) i x others high at = elim (eqb_tells i (length (b ++ before))) [
     | inl is ↦
         let here : event_at (y ∷ b ++ before) i ≡ Some y = rw is.0 refl in

@@ -11,7 +11,8 @@ use Rattle.cam_know.specs.Order.{told_in_order}
 use Rattle.cam_event.specs.declared.Event.{Event}
 use Rattle.cam_event.specs.declared.Want.{Want}
 use Rattle.cam_event.specs.declared.Want.TheVariants as wants
-use Rattle.cam_event.specs.Inputs.{Input, Begins, Requests, Receives, Tells, Queries, Restarts, Mail}
+use Rattle.cam_event.specs.Inputs.{Input, Begins, Requests, Receives, Tells, Queries, Restarts}
+use Rattle.cam_event.specs.Inputs.{Mail}
 use Rattle.cam_event.specs.Inputs.{mail_got, node_of, got_of}
 use Rattle.cam_event.specs.Sights.{Sight}
 use Rattle.cam_event.specs.Refusals.{refusal, query_refusal}
@@ -66,10 +67,12 @@ sight_alone : (objects : List ObjectDecl) (n : ℕ) (h : List Carried)
     → eventless (held_sight objects n (map bare h) nothing)
     ≡ eventless (held_sight objects n h nothing)
 sight_alone objects n h =
-    ap (λ k. eventless (sight_with objects n (map bare h) (new_informs n nothing k) (both k nothing)))
+    ap (λ k. eventless (sight_with objects n (map bare h) (new_informs n nothing k)
+    (both k nothing)))
     (held_bare objects h)
     ∙ ap eventless
-    (sight_bare objects n h (new_informs n nothing (held objects h)) (both (held objects h) nothing))
+    (sight_bare objects n h (new_informs n nothing (held objects h))
+    (both (held objects h) nothing))
 
 pub sight_alike : (objects : List ObjectDecl) (n : ℕ) (h j : List Received)
     → map nameless h ≡ map nameless j
@@ -103,7 +106,8 @@ sights_stay objects s m behind before e unseen off =
     (histories_are_moved objects s m behind before e unseen off)
 
 -- a refusal does not go by the node's events
-pub refusal_alone : (g : Sight) (a : Name) (want : Want) → refusal g a want ≡ refusal (eventless g) a want
+pub refusal_alone : (g : Sight) (a : Name) (want : Want) → refusal g a want
+    ≡ refusal (eventless g) a want
 refusal_alone g a (wants.Ask m) = refl
 refusal_alone g a (wants.Call x op) = refl
 refusal_alone g a (wants.Commit v) = refl
@@ -132,7 +136,8 @@ node_moved behind before e (Tells s to) = refl
 node_moved behind before e (Queries s f) = refl
 node_moved behind before e (Restarts s) = refl
 
-got_of_moved : (p : ℕ) (input : Input) → got_of (moved_input p input) ≡ option_map (moved_letter p) (got_of input)
+got_of_moved : (p : ℕ) (input : Input) → got_of (moved_input p input)
+    ≡ option_map (moved_letter p) (got_of input)
 got_of_moved p (Begins s) = refl
 got_of_moved p (Requests r) = refl
 got_of_moved p (Receives letter) = refl
@@ -142,7 +147,8 @@ got_of_moved p (Restarts s) = refl
 
 pub events_are_moved : EventsAreMoved
 events_are_moved objects s behind before e input unseen off =
-    ap (λ n. node_step objects n (map as_carried (of_node now n)) moves (mail_got after (got_of moves))
+    ap (λ n. node_step objects n (map as_carried (of_node now n)) moves
+    (mail_got after (got_of moves))
     (told_in_order (load_by objects now (got_of moves) (mail_got after (got_of moves))).know))
     (node_moved behind before e input)
     ∙ (λ i. node_step objects n (map as_carried (of_node now n)) moves (mails i)

@@ -1,7 +1,8 @@
 -- Where an event is put in of which nobody learnt, the other nodes have the same histories but for
 -- the numbers of letters.
 use Rattle.std.proofs.Common.{◌≡◌, inl, inr, ℕ, ◌+◌, ◌≤◌, eqb, true, false, if◌then◌else◌}
-use Rattle.std.proofs.Common.{List, [], ◌∷◌, ◌++◌, map, length, Option, Some, None, option_map, refl}
+use Rattle.std.proofs.Common.{List, [], ◌∷◌, ◌++◌, map, length, Option, Some, None, option_map}
+use Rattle.std.proofs.Common.{refl}
 use Rattle.std.proofs.Common.{sym, ap, ◌∙◌, arith}
 use Rattle.std.specs.List.{AllByRecursion}
 use Rattle.std.proofs.lemmas.Bool.{ne_eqb}
@@ -146,7 +147,8 @@ module _ (objects : List ObjectDecl) (s : ℕ) (before : List Event) (e : Event)
             up_to (new b) (moved p i)) m))
             (received_length objects (put_in b e before) ∙ put_in_length before e b)
             ∙ ap (λ c. map nameless (of_node (if c then now ∷ new b else
-            up_to (new b) (moved p i)) m)) (number_same p (length (b ++ before)) i (behind_long before e b))
+            up_to (new b) (moved p i)) m))
+            (number_same p (length (b ++ before)) i (behind_long before e b))
             ∙ ap (λ n. map nameless (of_node (if eqb i n then now ∷ new b else
             up_to (new b) (moved p i)) m)) (sym (received_length objects (b ++ before)))
             ∙ elim (eqb_tells i (length (old b))) [

@@ -76,7 +76,8 @@ in_entered : (d : Deed) (ds : List Deed) → In d (filter is_entered ds)
 in_entered d [] there = absurd there
 in_entered d (x ∷ ds) there = by (is_entered x) refl there (in_entered d ds)
   where
-    by : (b : Bool) → is_entered x ≡ b → In d (if b then x ∷ filter is_entered ds else filter is_entered ds)
+    by : (b : Bool) → is_entered x ≡ b → In d
+        (if b then x ∷ filter is_entered ds else filter is_entered ds)
         → (In d (filter is_entered ds) → In d ds × (is_entered d ≡ true))
         → In d (x ∷ ds) × (is_entered d ≡ true)
     by true is (inl same) rest = (inl same, ap is_entered same ∙ is)
@@ -103,7 +104,8 @@ pub stops_stay : (a : Name) (behind before : List Event) (e : Event) → e.note 
     → list_any (is_stop_of a) (put_in behind e before)
     ≡ list_any (is_stop_of a) (behind ++ before)
 stops_stay a [] before e plain_note =
-    ap (λ (n : Note). (eqb e.node (home_node a) && is_stop_note a n) || list_any (is_stop_of a) before)
+    ap (λ (n : Note). (eqb e.node (home_node a) && is_stop_note a n)
+    || list_any (is_stop_of a) before)
     plain_note
     ∙ ap (λ b. b || list_any (is_stop_of a) before) (and_false (eqb e.node (home_node a)))
 stops_stay a (x ∷ behind) before e plain_note =

@@ -1,5 +1,5 @@
--- The parts of a run in which a halt is found to be taken: nodes, logs, network, views and stops; and
--- the restart that finds it.
+-- The parts of a run in which a halt is found to be taken: nodes, logs, network, views and stops;
+-- and the restart that finds it.
 use Rattle.std.specs.Prelude.{◌≡◌, ℕ, Bool, true, List, [], ◌∷◌, length, None}
 use Rattle.std.specs.List.{list_any}
 use Rattle.cam_names.specs.declared.name.Name.{Name}
@@ -82,5 +82,6 @@ RestartsFindTheEvent =
     → IsWhole script.objects lost sites net [] halted
     → IsLogOf script.objects s (history_of script.objects found.running.trace s) logged
     → IsRestart script.objects s logged new.node new.entries event
-    → HasRestarted script (held_setting script.objects halts line restarted) found s sites net halted
+    → HasRestarted script (held_setting script.objects halts line restarted) found s sites net
+    halted
     new event
