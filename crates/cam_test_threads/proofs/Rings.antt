@@ -1,5 +1,5 @@
 -- The seats of a new journal, from the last one on.
-use Rattle.std.proofs.Common.{◌≡◌, ℕ, ◌+◌, ◌-◌, List, [], ◌∷◌, ◌++◌, length, sym, ap, ◌∙◌, arith, length-append}
+use Rattle.std.proofs.Common.{◌≡◌, ℕ, ◌+◌, ◌-◌, List, [], ◌∷◌, ◌++◌, length, ap, ◌∙◌, arith, length-append}
 use Rattle.std.specs.Prelude.{Some, slice_get}
 use Rattle.atomic_table.specs.Seated.{TableId}
 use Rattle.cam_journal.specs.Seats.{Sitting, AreNew}

@@ -1,6 +1,6 @@
 -- Words that stand in the histories of what is left.
 use Rattle.std.proofs.Common.{◌≡◌, ℕ, ◌<◌, List, length, get_or, sym, ap, ◌∙◌}
-use Rattle.std.specs.Prelude.{Option, Some, slice_get}
+use Rattle.std.specs.Prelude.{Some, slice_get}
 use Rattle.std.proofs.lemmas.Option.{slice_get-get_or}
 use Rattle.cam_journal.specs.declared.entry.NumberedEvent.{NumberedEvent}
 use Rattle.cam_journal.specs.Seats.{Sitting, letter_at}

@@ -1,5 +1,5 @@
 -- What four nodes say to each other in a ring.
-use Rattle.std.specs.Prelude.{◌≡◌, ◌+◌, ◌*◌, ◌%◌, ◌==◌, if◌then◌else◌, ℕ, Bool, true, false, List, [], ◌∷◌, length, Option, Some, None}
+use Rattle.std.specs.Prelude.{◌≡◌, ◌+◌, ◌*◌, ◌%◌, ◌==◌, if◌then◌else◌, ℕ, Bool, false, List, [], ◌∷◌, length, Option, Some, None}
 use Rattle.cam_journal.specs.declared.entry.SentLetter.{SentLetter}
 use Rattle.cam_journal.specs.declared.entry.NumberedEvent.{NumberedEvent}
 use Rattle.cam_journal.specs.declared.input.CoreInput.{CoreInput}
