@@ -14,6 +14,9 @@ use std::test::Fail;
 // Node 1 says 7 and 9, node 2 says 8.
 type Row = Speaker<6, 2>;
 
+// What the worker of node 2 may take: one turn more than so many empty ones as end its work.
+const TURNS: u32 = 4_097;
+
 /// What node 1 did, what the worker of node 2 did between, and the events of all.
 #[derive(Drop)]
 struct Seen {
@@ -36,7 +39,7 @@ fn speak<R: Wait, J: Names>(
 {
     let hall = ring::<6, 2, J>(alloc, journal, seats, [2, 0, 0, 0], true)?;
     let first = hall.first().handle(rt, &hall, ItemOf::Drive)?;
-    let between = serve(rt, &hall, 2, 0, &OpenGate, 2)?;
+    let between = serve(rt, &hall, 2, 0, &OpenGate, TURNS)?;
     let last = hall.first().handle(rt, &hall, ItemOf::Drive)?;
     let (journal, _, seats) = hall.end().into_parts();
     Ok(Seen {
@@ -52,7 +55,8 @@ fn events_and_letters_of_two_cells_come_in_one_order(rt: HostRuntime) -> Result<
     let (journal, seats) = Journal::<Row>::open(rt.alloc(), 4)?;
     let seen = speak::<HostRuntime, Brand>(&rt, rt.alloc(), journal, seats)?;
     assert_eq!(rt; seen.first, Handled::Did { number: 0, sent: 2 });
-    // The second copy comes to a node that has answered the first one.
+    // The second copy comes to a node that has answered the first one. Were it not there, all turns
+    // but the first would be empty, and the worker quiet.
     let one_step = Served {
         steps: 1,
         end: End::Turns,
