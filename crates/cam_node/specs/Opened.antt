@@ -15,6 +15,7 @@ use Rattle.cam_recman.specs.Recovery.{with_records, recover}
 use Rattle.cam_recman.specs.Says.{Says, are_version2}
 use Rattle.cam_recman.specs.Snapshot.{snapshot}
 use Rattle.cam_node.specs.Log.{Logged}
+use Rattle.cam_node.specs.Restartable.{are_low, depend_on_known, AreOnce}
 
 abbrev pub logged_of : Recovered → Logged
 logged_of r = record { count = r.count; know = r.know; held = r.held }
@@ -61,9 +62,12 @@ abbrev pub IsReadOrKept : Bool → List (List ℕ) → Recovered → Recovered �
 IsReadOrKept replaced entries r kept opened =
     (opened ≡ Ok entries) ⊎ ((opened ≡ Ok (kept_entries replaced entries kept)) × Says (kept_entries replaced entries kept) (kept_by replaced r kept))
 
--- What a restart takes: a count that can be raised, and operations of the node's own objects, each index once and in its range.
+-- What a restart takes: a count that can be raised; operations of the node's own objects, each index once and at most 499,999,999; no family
+-- twice; and no commit that depends on a count above the known one of its node.
 abbrev pub CanRestart : List ObjectDecl → ℕ → Recovered → Type 0
-CanRestart objects s r = (r.count < 1000000000) × CanRestore objects s r.held
+CanRestart objects s r =
+    (r.count < 1000000000) × CanRestore objects s r.held × (are_low r.held ≡ true) × AreOnce r.held
+    × (depend_on_known s r ≡ true)
 
 -- whatever it opens as, a restart takes
 abbrev pub MayRestart : List ObjectDecl → ℕ → Opened → Type 0

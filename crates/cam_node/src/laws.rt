@@ -1,4 +1,5 @@
 // What a node's log keeps, as laws.
+ghost use Rattle.cam_node.specs.RestartLaws.{LogsOfHistoriesRestart};
 ghost use Rattle.cam_node.specs.LogLaws.{FormattedKeeps, EntryKeeps, NoEntryKeeps, TakenIsTheSame, TakenMayBeLogged, StepsAreOwn, RestartKeeps, RestartKnows};
 
 /// What a node's log says keeps the node's history: at first none; with the entry of an event the longer one, and so with the entry and what
@@ -17,4 +18,9 @@ pub fn logs_keep_histories()
 pub fn restarts_keep_histories()
     ensures keeps { RestartKeeps }
     ensures knows { RestartKnows }
+{}
+
+/// A restart takes the log of each history of the node, where numbers are left: its count can be raised, and no index is above 499,999,999.
+pub fn logs_of_histories_restart()
+    ensures { LogsOfHistoriesRestart }
 {}

@@ -2,12 +2,13 @@
 ghost use Rattle.std.specs.Prelude.{◌≡◌, ◌≤◌, [], IsTrue, IsFalse, IfOk, OnOk, OnErr, IsErrOf};
 ghost use Rattle.cam_base.specs.Causes.{Rose};
 ghost use Rattle.cam_locks.specs.Restored.{CanRestore};
-ghost use Rattle.cam_log.specs.Moments.{Opened};
 ghost use Rattle.cam_node.specs.declared.fault.NodeFault.TheVariants.{DiskFault};
 ghost use Rattle.cam_node.specs.Calls.{answers};
 ghost use Rattle.cam_node.specs.Keeping.{IsRestartHalt, HasRestarted};
-ghost use Rattle.cam_node.specs.Opened.{MayRead, MayRestart};
+ghost use Rattle.cam_node.specs.Log.{Logged};
+ghost use Rattle.cam_node.specs.Opened.{MayRead};
 ghost use Rattle.cam_node.specs.Renewed.{IsRenewed, crash_of};
+ghost use Rattle.cam_node.specs.RestartLaws.{IsOfHistory};
 
 use crate::fault::NodeFault;
 use crate::knowing::Knowing;
@@ -95,12 +96,12 @@ impl<L: CheckpointLog> Node<L> {
     /// goes on from that. The event is the restart; no letter is sent.
     ///
     /// `DiskFault` comes where what was read cannot be restarted: a count that is the last, an
-    /// operation that is not on an object of the node
-    /// or does not fit it, an index that stands twice or is above 999,999,999. A disk that does not
-    /// tell what it holds is spoiled then.
-    /// Over a disk of which nothing such can be read it comes only where the disk's count of faults
-    /// rose. After an error the node is halted,
-    /// and may be restarted again.
+    /// operation that is not on an object of the node or does not fit it, an index that stands
+    /// twice or is above 499,999,999, a family that is secured twice, a commit that depends on a
+    /// count above the known one of its node. A disk that does not tell what it holds is spoiled
+    /// then. Of what a history's log holds, just the count and the indices may be such; so over a
+    /// disk of which nothing else can be read `DiskFault` comes only where the disk's count of
+    /// faults rose. After an error the node is halted, and may be restarted again.
     pub fn restart(&mut self) -> Result<Stepped, NodeFault>
         ensures restarted { IfOk result (λ stepped. HasRestarted self.old.objects
             self.old.core.number (L.tells self.old.log.log)
@@ -115,9 +116,10 @@ impl<L: CheckpointLog> Node<L> {
             (MayRead (L.opens_since self.new.log.log) (L.moment self.new.log.log))) }
         ensures tells { L.tells self.new.log.log ≡ L.tells self.old.log.log }
         ensures later { L.faults self.old.log.log ≤ L.faults self.new.log.log }
-        ensures disk_fault { ((opened : Opened) → IsTrue (L.tells self.old.log.log)
-            → L.opens_since self.old.log.log (L.moment self.old.log.log) opened
-            → MayRestart self.old.objects self.old.core.number opened)
+        // Whatever may be read is the log of a history, in which numbers are left.
+        ensures disk_fault { ((logged : Logged) → IsTrue (L.tells self.old.log.log)
+            → MayRead (L.opens_since self.old.log.log) (L.moment self.old.log.log) logged
+            → IsOfHistory self.old.objects self.old.core.number logged)
             → IsErrOf result DiskFault
             → Rose (L.faults self.old.log.log) (L.faults self.new.log.log) }
         ensures number { self.new.core.number ≡ self.old.core.number }

@@ -1,5 +1,5 @@
 // What a restart reads of a node's log, and what it puts in its place.
-ghost use Rattle.std.specs.Prelude.{◌≡◌, ◌≤◌, ◌<◌, ◌↔◌, true, [], ◌∷◌, IsTrue, IsFalse, OnOk, OnErr, IfOk, IsErrOf, Ok as Opens};
+ghost use Rattle.std.specs.Prelude.{◌≡◌, ◌≤◌, ◌<◌, true, [], ◌∷◌, IsTrue, IsFalse, OnOk, OnErr, IfOk, IsErrOf, Ok as Opens};
 ghost use Rattle.std.specs.List.{AllByRecursion};
 ghost use Rattle.cam_base.specs.Causes.{Rose};
 ghost use Rattle.cam_bytes.specs.Ranges.{IsFrom};
@@ -15,9 +15,9 @@ ghost use Rattle.cam_node.specs.Opened.{is_readable, kept_entries, kept_by, rais
 
 use crate::fault::NodeFault;
 use crate::log::NodeLog;
+use crate::restartable::can_restart;
 use cam_base::NoMemory;
 use cam_ckpt::CheckpointLog;
-use cam_locks::may_restore;
 use cam_log::{Entries, Entry, EntryLog, LogFault};
 use cam_recman::{
     MigrateFault, RecFault, Record, Records, Recovered, encode_entry, migrate, restart, snapshot,
@@ -128,19 +128,6 @@ fn keep<L: CheckpointLog>(alloc: Global, log: &mut L, kept: &Recovered) -> Resul
     Ok(())
 }
 
-/// Whether a restart takes this.
-fn can_restart(
-    alloc: Global,
-    objects: &Objects,
-    node: u8,
-    recovered: &Recovered,
-) -> Result<bool, NoMemory>
-    ensures { IfOk result (λ can. IsTrue can ↔ CanRestart objects.now node recovered.now) }
-{
-    let may = may_restore(alloc, objects, node, &recovered.held)?;
-    Ok(may && recovered.count < 1_000_000_000)
-}
-
 /// What is kept after a restart: the count is one more.
 fn raise(mut recovered: Recovered, node: u8) -> Recovered
     requires node { (1 ≤ node) × (node ≤ 8) }
@@ -159,8 +146,9 @@ impl<L: CheckpointLog> NodeLog<L> {
     ///
     /// At any moment of the call a crash leaves a log as it could leave it before, or as the restart of one of those. `DiskFault` comes where
     /// what was read cannot be restarted: a count that is the last, an operation that is not on an object of the node or does not fit it, an
-    /// index that stands twice or is above 999,999,999. A disk that does not tell what it holds is spoiled then. Over a disk of which nothing
-    /// such can be read it comes only where the disk's count of faults rose. After an error the node is halted.
+    /// index that stands twice or is above 499,999,999, a family that is secured twice, a commit that depends on a count above the known one
+    /// of its node. A disk that does not tell what it holds is spoiled then. Over a disk of which nothing such can be read it comes only where
+    /// the disk's count of faults rose. After an error the node is halted.
     pub fn restart(&mut self, objects: &Objects, node: u8) -> Result<Recovered, NodeFault>
         requires node { (1 ≤ node) × (node ≤ 8) }
         ensures restarted { IfOk result (λ kept.

@@ -1,8 +1,9 @@
 -- A node is restarted.
-use Rattle.std.proofs.Common.{◌∙◌, IsTrue, sym, ap, subst}
+use Rattle.std.proofs.Common.{◌∙◌, IsTrue, sym, ap, subst, rules}
 use Rattle.cam_node.specs.Calls.{answers}
 use Rattle.cam_node.specs.Keeping.{IsRestartHalt, HasRestarted}
 use Rattle.cam_node.specs.Opened.{MayRead}
+use Rattle.cam_node.proofs.RestartTaken.{may_restart}
 use Rattle.cam_node.proofs.RestartedNodes.{node_restarted, restart_halts, restart_range}
 use Rattle.cam_node.proofs.Steps.{failed}
 use Rattle.cam_node.proofs.node.Node.restart.Goals as goal
@@ -60,3 +61,12 @@ returns-in-Err-clause-failed g c = λ tells.
     (g.L.EntryLog.moment after) (g.L.EntryLog.opens_since log)
     (g.L.EntryLog.opens_since after) c.args.self.now.numbered grows (λ o is.
     g.met.L.EntryLog.counts_now after (g.L.EntryLog.moment log) o there grows.later is))
+
+pub returns-in_err-kept-clause-disk_fault : goal.returns-in_err-kept-clause-disk_fault
+returns-in_err-kept-clause-disk_fault g c = λ of is.
+    let log = c.args.self.now.log.log in
+    c.in_err-kept.ensures.disk_fault
+    (λ opened tells left. may_restart c.args.self.now.objects c.args.self.now.core.number
+    (g.L.EntryLog.opens_since log) (g.L.EntryLog.moment log) opened c.args.self.now.numbered
+    (λ logged read. of logged tells read) left)
+    (search rules)
