@@ -116,9 +116,9 @@ is_for objects L from to (bodies.Call a n x op c counts) legal ok home =
 is_for objects L from to (bodies.Answer a n reply) legal ok home = home
 is_for objects L from to (bodies.Finish b v counts) legal ok home = sym ok.1
 is_for objects L from to (bodies.Quit b) legal ok home = sym ok.0
-is_for objects L from to (bodies.Prepare f c) legal ok home = tt
+is_for objects L from to (bodies.Prepare f c) legal ok home = ok.0
 is_for objects L from to (bodies.Vote f c agrees) legal ok home = home
-is_for objects L from to (bodies.Query f) legal ok home = sym ok.2
+is_for objects L from to (bodies.Query f) legal ok home = (sym ok.2, ok.0)
 is_for objects L from to bodies.News legal ok home = tt
 
 may_be_put : (objects : List ObjectDecl) (t : List Event) (letter : LetterId) (mail : Mail) (load : Load) → Ran objects t → letter_at t letter ≡ Some mail → IsOf objects (past_of t letter.event) load.know → IsLetter objects mail.to mail load

@@ -1,5 +1,5 @@
 //! The lock table.
-ghost use Rattle.std.specs.Prelude.{◌≡◌, ℕ, ◌≤◌, ◌+◌, IsTrue, IfOk, OnOk, OnErr};
+ghost use Rattle.std.specs.Prelude.{◌≡◌, ℕ, ◌≤◌, ◌+◌, length, IsTrue, IfOk, OnOk, OnErr};
 ghost use Rattle.cam_names.specs.declared.name.Name.{Name as NameValue};
 ghost use Rattle.cam_type.specs.declared.Op.{Op as OpValue};
 ghost use Rattle.cam_type.specs.Table.{kind_of};
@@ -123,6 +123,13 @@ impl LockTable {
         ensures { result ≡ site_of self.now.site.objects object }
     {
         site_of(&self.kept.objects, object)
+    }
+
+    /// How many objects are declared.
+    pub fn object_count(&self) -> usize
+        ensures { result ≡ length self.now.site.objects }
+    {
+        self.kept.objects.len()
     }
 
     /// Whether the object stands at the table's node.

@@ -9,7 +9,7 @@ use Rattle.cam_event.specs.declared.Deed.{Deed}
 use Rattle.cam_event.specs.declared.Event.{Event}
 use Rattle.cam_event.specs.declared.Letter.{Letter}
 use Rattle.cam_event.specs.declared.LetterId.{LetterId}
-use Rattle.cam_event.specs.Inputs.{Mail}
+use Rattle.cam_event.specs.Inputs.{Receives, Mail}
 use Rattle.cam_event.specs.ByPast.{event_of}
 use Rattle.cam_event.specs.ByKnowledge.{new_informs}
 use Rattle.cam_event.specs.Loads.{Load}
@@ -25,9 +25,8 @@ use Rattle.cam_node.specs.declared.state.Core.{Core}
 use Rattle.cam_node.specs.Represents.{Node}
 use Rattle.cam_node.specs.Calls.{answers, mail_on, letter_as, letters_of}
 use Rattle.cam_node.specs.Opened.{IsKnowledge}
-use Rattle.cam_node.specs.Plans.{IsHeard, IsPlanFor, MayStand, MayChange}
-use Rattle.cam_node.specs.Plans.{HasRoom, places_heard}
-use Rattle.cam_node.specs.PlanOrder.{KeepsOrderFor}
+use Rattle.cam_node.specs.Plans.{IsHeard, IsPlanFor, IsPlanGiven, MayStand, MayChange}
+use Rattle.cam_node.specs.Plans.{HasRoom, KeepsOrderFor, nothing_given, places_heard}
 use Rattle.cam_node.specs.Planning.{HasReceived, IsMade}
 use Rattle.cam_node.specs.Served.{IsCallOn}
 use Rattle.cam_node.specs.Ahead.{HasGoneAhead}
@@ -36,6 +35,7 @@ use Rattle.cam_node.proofs.NothingAdded.{both_add, informs_add}
 use Rattle.cam_node.proofs.PlanMade.{recorded_none}
 use Rattle.cam_node.proofs.CallDeeds.{calls_add}
 use Rattle.cam_node.proofs.CallOrder.{stood_order}
+use Rattle.cam_node.proofs.PlanOrder.{given_in_order}
 use Rattle.cam_node.proofs.AheadStands.{ahead_event, ahead_then, as_made}
 
 -- it may stand
@@ -80,6 +80,31 @@ pub ahead_plan : (objects : List ObjectDecl) (id : LetterId) (letter : Letter)
     → IsPlanFor objects id letter first now plan
 ahead_plan objects id letter first core now learnt asked plan from call received apart gone =
     record {
+      given = given_in_order objects (Receives id) (Some mail) load plan now.knowing.known old
+          (answers now) bare;
+      order =
+          ahead_order objects id letter first core now learnt asked plan call received apart gone;
+    }
+  where
+    old : Node
+    old = answers first
+
+    mail : Mail
+    mail = mail_on letter
+
+    load : Load
+    load = load_on letter
+
+    first_informs : List Deed
+    first_informs = new_informs old.number (told_in_order load.know) old.know
+
+    event_is : plan.stepped.event ≡ event_of old.number (Some id) first_informs
+        (did_performed asked gone.done)
+    event_is = ahead_event id letter first core now learnt asked plan received gone
+
+    bare : IsPlanGiven nothing_given objects (Receives id) (Some mail) load plan now.knowing.known
+        old (answers now)
+    bare = record {
       before = received.before;
       learnt = subst IsKnowledge received.known received.after;
       heard =
@@ -102,19 +127,3 @@ ahead_plan objects id letter first core now learnt asked plan from call received
           (both_add first_informs (did_performed asked gone.done).deeds
           (informs_add old.number (told_in_order load.know) old.know) (calls_add asked gone.done));
     }
-  where
-    old : Node
-    old = answers first
-
-    mail : Mail
-    mail = mail_on letter
-
-    load : Load
-    load = load_on letter
-
-    first_informs : List Deed
-    first_informs = new_informs old.number (told_in_order load.know) old.know
-
-    event_is : plan.stepped.event ≡ event_of old.number (Some id) first_informs
-        (did_performed asked gone.done)
-    event_is = ahead_event id letter first core now learnt asked plan received gone

@@ -21,6 +21,7 @@ use Rattle.cam_tranman.specs.Steps.{did_taken}
 use Rattle.cam_tranman.proofs.RuleCalls.{taken_is_rule}
 use Rattle.cam_node.specs.declared.did.Doing.{Doing}
 use Rattle.cam_node.specs.AtHome.{IsAtHome}
+use Rattle.cam_node.specs.PlanOrder.{is_served}
 use Rattle.cam_node.specs.Answered.{answered_by, got_or_late, late, seen_by, stopped_or}
 
 -- an action without an open call sees nothing
@@ -95,17 +96,23 @@ answer_rule objects g actions k a n reply is home orphan counts = by (actions.ca
 pub record IsQuietDoing (doing : Doing) : Type 0 where
   pub home : IsAtHome doing.did
   pub adds : doing.adds ≡ None
+  pub unserved : is_served doing.change ≡ false
   pub sent : doing.did.sent ≡ []
 
 got_quiet : (a : Name) (n : ℕ) (reply : Reply) (known : ℕ) (t : Taken)
     → IsQuietDoing (got_or_late a n reply known t)
 got_quiet a n reply known (taken.Got seen) = record
-    { home = record { alone = refl; begins = λ f. refl }; adds = refl; sent = refl }
+    { home = record { alone = refl; begins = λ f. refl }; adds = refl; unserved = refl; sent = refl }
 got_quiet a n reply known taken.Late = record
-    { home = record { alone = refl; begins = λ f. refl }; adds = refl; sent = refl }
+    { home = record { alone = refl; begins = λ f. refl }; adds = refl; unserved = refl; sent = refl }
 
 late_quiet : IsQuietDoing late
-late_quiet = record { home = record { alone = refl; begins = λ f. refl }; adds = refl; sent = refl }
+late_quiet = record {
+  home = record { alone = refl; begins = λ f. refl };
+  adds = refl;
+  unserved = refl;
+  sent = refl;
+}
 
 seen_quiet : (actions : Actions) (k : Knowledge) (a : Name) (n : ℕ) (reply : Reply)
     (o : Option OpenCall) → IsQuietDoing (seen_by actions k a n reply o)
@@ -120,7 +127,7 @@ tested_quiet : (a : Name) (awaited : Bool) (reason : Option Reason) (doing : Doi
 tested_quiet a false reason doing quiet = late_quiet
 tested_quiet a true None doing quiet = quiet
 tested_quiet a true (Some why) doing quiet = record
-    { home = record { alone = refl; begins = λ f. refl }; adds = refl; sent = refl }
+    { home = record { alone = refl; begins = λ f. refl }; adds = refl; unserved = refl; sent = refl }
 
 pub answer_quiet : (actions : Actions) (k : Knowledge) (a : Name) (n : ℕ) (reply : Reply)
     → IsQuietDoing (answered_by actions k a n reply)

@@ -48,7 +48,7 @@ answer_plan objects id letter first core learnt doing plan a n reply from body r
     home_plan objects id letter first core core learnt doing plan from
     (subst HasCounts (sym body) tt)
     (λ f m k. ap (λ (y : Body). has_pair (yes_in f letter.from y) m k) body) quiet.home quiet.adds
-    received refl same made ruled
+    quiet.unserved received refl same made ruled
     (λ new has.
     answer_stands objects old (answers core) new id (mail_on letter) (load_on letter)
     learnt.heard core.knowing.known a n reply doing

@@ -34,8 +34,7 @@ use Rattle.cam_node.specs.Represents.{Node}
 use Rattle.cam_node.specs.Calls.{answers, mail_on}
 use Rattle.cam_node.specs.LogOrder.{IsInOrder, OrderIsKeptWith, live_at, left_live}
 use Rattle.cam_node.specs.OrderLaws.{CallsKeepOrder}
-use Rattle.cam_node.specs.Plans.{Stands}
-use Rattle.cam_node.specs.PlanOrder.{held_in, KeepsOrderFor}
+use Rattle.cam_node.specs.Plans.{KeepsOrderFor, Stands, held_in}
 use Rattle.cam_node.specs.Served.{CallStands}
 use Rattle.cam_node.proofs.CallRules.{at_site, answered}
 use Rattle.cam_node.proofs.Ordering.{dropped_in_order}

@@ -9,7 +9,7 @@ use Rattle.cam_event.specs.declared.Deed.{Deed}
 use Rattle.cam_event.specs.declared.Event.{Event}
 use Rattle.cam_event.specs.declared.Letter.{Letter}
 use Rattle.cam_event.specs.declared.LetterId.{LetterId}
-use Rattle.cam_event.specs.Inputs.{Mail}
+use Rattle.cam_event.specs.Inputs.{Receives, Mail}
 use Rattle.cam_event.specs.ByPast.{event_of}
 use Rattle.cam_event.specs.ByKnowledge.{new_informs}
 use Rattle.cam_event.specs.Loads.{Load}
@@ -26,9 +26,8 @@ use Rattle.cam_node.specs.declared.state.Core.{Core}
 use Rattle.cam_node.specs.Represents.{Node}
 use Rattle.cam_node.specs.Calls.{answers, mail_on, letter_as, letters_of}
 use Rattle.cam_node.specs.Opened.{IsKnowledge}
-use Rattle.cam_node.specs.Plans.{Stands, IsHeard, IsPlanFor, MayStand, MayChange, HasRoom}
-use Rattle.cam_node.specs.Plans.{places_heard}
-use Rattle.cam_node.specs.PlanOrder.{KeepsOrderFor}
+use Rattle.cam_node.specs.Plans.{Stands, IsHeard, IsPlanFor, IsPlanGiven, MayStand, MayChange}
+use Rattle.cam_node.specs.Plans.{HasRoom, KeepsOrderFor, nothing_given, places_heard}
 use Rattle.cam_node.specs.Planning.{HasReceived, IsMade}
 use Rattle.cam_node.specs.Served.{IsCallOn, ChangesTo, IsDone, CallStands}
 use Rattle.cam_node.proofs.CallComes.{call_comes}
@@ -36,6 +35,7 @@ use Rattle.cam_node.proofs.NothingAdded.{both_add, informs_add}
 use Rattle.cam_node.proofs.PlanMade.{recorded_none}
 use Rattle.cam_node.proofs.CallDeeds.{calls_add}
 use Rattle.cam_node.proofs.CallOrder.{stood_order}
+use Rattle.cam_node.proofs.PlanOrder.{given_in_order}
 use Rattle.cam_node.proofs.CallStands.{call_stands, knows_then}
 
 -- it may stand
@@ -121,6 +121,31 @@ pub call_plan : (objects : List ObjectDecl) (id : LetterId) (letter : Letter) (f
     → IsPlanFor objects id letter first core plan
 call_plan objects id letter first core learnt doing plan asked done from call received is made =
     record {
+      given = given_in_order objects (Receives id) (Some mail) load plan core.knowing.known old
+          (answers core) bare;
+      order =
+          call_order objects id letter first core learnt doing plan asked done call received is made;
+    }
+  where
+    old : Node
+    old = answers first
+
+    mail : Mail
+    mail = mail_on letter
+
+    load : Load
+    load = load_on letter
+
+    first_informs : List Deed
+    first_informs = new_informs old.number (told_in_order load.know) old.know
+
+    event_is : plan.stepped.event ≡ event_of old.number (Some id) first_informs
+        (did_performed asked done)
+    event_is = call_event id letter first core learnt doing plan asked done received is made
+
+    bare : IsPlanGiven nothing_given objects (Receives id) (Some mail) load plan core.knowing.known
+        old (answers core)
+    bare = record {
       before = received.before;
       learnt = subst IsKnowledge received.known received.after;
       heard =
@@ -146,19 +171,3 @@ call_plan objects id letter first core learnt doing plan asked done from call re
           (both_add first_informs (did_performed asked done).deeds
           (informs_add old.number (told_in_order load.know) old.know) (calls_add asked done));
     }
-  where
-    old : Node
-    old = answers first
-
-    mail : Mail
-    mail = mail_on letter
-
-    load : Load
-    load = load_on letter
-
-    first_informs : List Deed
-    first_informs = new_informs old.number (told_in_order load.know) old.know
-
-    event_is : plan.stepped.event ≡ event_of old.number (Some id) first_informs
-        (did_performed asked done)
-    event_is = call_event id letter first core learnt doing plan asked done received is made

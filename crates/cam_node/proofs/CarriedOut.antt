@@ -20,6 +20,7 @@ use Rattle.cam_node.specs.Planned.{HasEntry, MayBeTaken, planned_records}
 use Rattle.cam_node.specs.Plans.{Stands}
 use Rattle.cam_node.specs.Represents.{Node}
 use Rattle.cam_node.proofs.Entered.{entry_would_say, plan_entry}
+use Rattle.cam_node.proofs.EntryOrder.{plan_order}
 use Rattle.cam_node.proofs.HaltedSteps.{halts}
 use Rattle.cam_node.proofs.KeptSteps.{kept_on}
 
@@ -47,7 +48,8 @@ taken_keeps objects input mail load plan known old mid new before now knows are 
     kept_on objects old new before now input mail load plan.stepped.event
     (planned_records mid.know.counts plan) may.node may.goes_on knows are
     (taken_entry objects input mail load plan known old mid may) says
-    (may.planned.step new stands)
+    (plan_order objects input mail load plan known old mid new mid.know.counts may.planned stands)
+    (may.planned.given.step new stands)
 
 -- what may be read at a halt
 pub taken_halts : (objects : List ObjectDecl) (input : Input) (mail : Option Mail) (load : Load)
@@ -69,4 +71,4 @@ taken_halts objects input mail load plan known old mid new before b n past since
     past since may.node may.goes_on knows are
     (taken_entry objects input mail load plan known old mid may)
     (λ r says. entry_would_say before rs rs r refl are of says)
-    (may.planned.step new stands) rest grows back
+    (may.planned.given.step new stands) rest grows back

@@ -43,11 +43,13 @@ use Rattle.cam_node.specs.Log.{Logged}
 use Rattle.cam_node.specs.Opened.{IsKnowledge}
 use Rattle.cam_node.specs.Stepping.{longer}
 use Rattle.cam_node.specs.Decides.{IsOutcomeOf, HasDecided, IsDecided, decided_at_home}
-use Rattle.cam_node.specs.Plans.{HasLearnt, Stands, IsHeard, IsRecorded, IsPlanFor, as_list, deciding}
+use Rattle.cam_node.specs.Plans.{HasLearnt, Stands, IsHeard, IsRecorded, IsPlanFor, as_list, deciding, held_in}
+use Rattle.cam_node.specs.PlanOrder.{is_served}
 use Rattle.cam_node.specs.Planning.{HasReceived, IsMade}
 use Rattle.cam_node.proofs.NothingAdded.{informs_add, records_behind, holdings_behind}
 use Rattle.cam_node.proofs.HomePlans.{ForEach, IsRuled, informed_before}
-use Rattle.cam_node.proofs.Decides.{letter_decides}
+use Rattle.cam_node.proofs.Decides.{decision_quiet, letter_decides}
+use Rattle.cam_node.proofs.PlanOrder.{dropping_plan, quiet_behind}
 
 -- A decision adds its outcome to the entry, and holds nothing.
 decision_records : (objects : List ObjectDecl) (history : List Received) (mail : Option Mail) (holds : Holding) (s : ℕ) (o : Outcome)
@@ -60,6 +62,10 @@ decision_holds : (holds : Holding) (before : List Deed) (mail : Option Mail) (x 
     → AreHoldings holds before mail x logged (decision s o)
 decision_holds holds before mail x logged s (Aborted a) = tt
 decision_holds holds before mail x logged s (Committed a counts) = tt
+
+pub none_held_of : (o : Outcome) → held_in (Some (outcome_record o)) ≡ []
+none_held_of (Aborted a) = refl
+none_held_of (Committed a counts) = refl
 
 pub decision_recorded : (objects : List ObjectDecl) (history : List Received) (mail : Option Mail) (logged : Logged) (holds : Holding) (plan : Plan)
     (s : ℕ) (brought known : Knowledge) (o : Outcome)
@@ -134,28 +140,35 @@ pub decision_plan : (objects : List ObjectDecl) (id : LetterId) (letter : Letter
     → ForEach objects (answers first) id (mail_on letter) (load_on letter) (λ history. IsOutcomeOf objects history (Some (mail_on letter)) o)
     → FamiliesGoOn objects (answers first) id (mail_on letter) (load_on letter)
     → IsPlanFor objects id letter first now plan
-decision_plan objects id letter first core now learnt o sent note plan from counts is made ruled of families = record {
-  before = is.received.before;
-  learnt = subst IsKnowledge is.received.known is.received.after;
-  heard =
-      subst (IsHeard (Some mail) load old.know) (sym made.heard)
-      (is.received.news ∙ ap (λ (k : Knowledge). news k old.know) is.received.known);
-  step = λ new stands.
-      let at = as_made new stands in
-      letter_decides objects old new id mail load o (deciding first.number o sent note).did plan.stepped.event ruled refl of counts from
-      (at.2.number ∙ at.1.number ∙ is.same.number)
-      (λ history through rep may. decided_node letter o first core now learnt at.0 new is may.addressed at.1 at.2)
-      (families new (same_families at.0 new at.1 at.2)) event_is;
-  letters = λ new stands.
-      let at = as_made new stands in
-      made.letters
-      ∙ (λ i. map (letter_as (sym (at.2.know ∙ at.1.know) i) (sym (at.2.places ∙ at.1.places_are) i) (sym (at.2.number ∙ at.1.number) i)
-      (sym (at.2.count ∙ at.1.count) i)) sent)
-      ∙ ap (λ (e : Event). letters_of new e.sent) (sym event_is);
-  recorded = λ history logged holds through rep may keeps order held.
-      decision_recorded objects history (Some mail) logged holds plan first.number (told_in_order load.know) old.know o
-      (ap (λ (e : Event). e.deeds) event_is) made.adds (of history through rep may);
-}
+decision_plan objects id letter first core now learnt o sent note plan from counts is made ruled of
+    families =
+    dropping_plan objects (Receives id) (Some mail) load plan now.knowing.known old (answers now)
+    (ap is_served made.change) (ap held_in made.adds ∙ none_held_of o) is.same
+    (quiet_behind old.number (told_in_order load.know) old.know (decision first.number o)
+    plan.stepped.event.deeds (ap (λ (e : Event). e.deeds) event_is)
+    (decision_quiet first.number o))
+    (record {
+      before = is.received.before;
+      learnt = subst IsKnowledge is.received.known is.received.after;
+      heard =
+          subst (IsHeard (Some mail) load old.know) (sym made.heard)
+          (is.received.news ∙ ap (λ (k : Knowledge). news k old.know) is.received.known);
+      step = λ new stands.
+          let at = as_made new stands in
+          letter_decides objects old new id mail load o (deciding first.number o sent note).did plan.stepped.event ruled refl of counts from
+          (at.2.number ∙ at.1.number ∙ is.same.number)
+          (λ history through rep may. decided_node letter o first core now learnt at.0 new is may.addressed at.1 at.2)
+          (families new (same_families at.0 new at.1 at.2)) event_is;
+      letters = λ new stands.
+          let at = as_made new stands in
+          made.letters
+          ∙ (λ i. map (letter_as (sym (at.2.know ∙ at.1.know) i) (sym (at.2.places ∙ at.1.places_are) i) (sym (at.2.number ∙ at.1.number) i)
+          (sym (at.2.count ∙ at.1.count) i)) sent)
+          ∙ ap (λ (e : Event). letters_of new e.sent) (sym event_is);
+      recorded = λ history logged holds through rep may keeps order held.
+          decision_recorded objects history (Some mail) logged holds plan first.number (told_in_order load.know) old.know o
+          (ap (λ (e : Event). e.deeds) event_is) made.adds (of history through rep may);
+    })
   where
     old : Node
     old = answers first

@@ -58,7 +58,7 @@ decided_by objects history mail s (Committed a counts) actions is = by (is_top a
     by false own cs h = ap (λ (ds : List ℕ). decides false a (Some ds) actions) h
 
 -- its deeds do nothing to the site but inform it
-decision_quiet : (s : ℕ) (o : Outcome) → list_all (is_quiet s) (decision s o) ≡ true
+pub decision_quiet : (s : ℕ) (o : Outcome) → list_all (is_quiet s) (decision s o) ≡ true
 decision_quiet s (Aborted a) = ap (λ b. b && true) (eq-eqb s s refl)
 decision_quiet s (Committed a counts) = ap (λ b. b && true) (eq-eqb s s refl)
 

@@ -78,7 +78,7 @@ elsewhere_plan objects id letter first core learnt doing plan from elsewhere rec
     home_plan objects id letter first core core learnt (just (nothing_but notes.Plain)) plan from
     (subst HasCounts (sym elsewhere.call) tt)
     (λ f m n. ap (λ (b : Body). has_pair (yes_in f letter.from b) m n) elsewhere.call)
-    (record { alone = refl; begins = λ f. refl }) refl received refl same
+    (record { alone = refl; begins = λ f. refl }) refl refl received refl same
     (subst (λ (d : Doing). IsMade core id learnt d plan) is made)
     (λ history through rep may. absurd
     (never objects first.number (answers first).server.table.site letter elsewhere

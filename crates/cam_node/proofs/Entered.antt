@@ -26,11 +26,11 @@ use Rattle.cam_node.specs.Represents.{Node}
 use Rattle.cam_node.proofs.OwnEntries.{nothing_recorded}
 
 -- what is held of a family that is secured
-abbrev holds_of : Option Record → Holding
+abbrev pub holds_of : Option Record → Holding
 holds_of (Some (records.Secure held)) f c = held
 holds_of _ f c = record { family = f; count = c; ops = [] }
 
-holds_record : (added : Option Record) → HoldsRecord (holds_of added) added
+pub holds_record : (added : Option Record) → HoldsRecord (holds_of added) added
 holds_record None = tt
 holds_record (Some (records.Count c)) = tt
 holds_record (Some (records.Abort a)) = tt
@@ -75,7 +75,7 @@ plan_entry objects input mail load plan know old mid made = record {
       ap (λ (k : Knowledge). learnt_records k (told_in_order load.know) ++ deed_records holds
       objects (map as_carried history) mail plan.stepped.event.deeds) (sym there)
       ∙ (λ i. heard_learnt mail load old.know plan.heard (carries_none objects old.number history
-      input mail load may) made.before.counts made.heard i
+      input mail load may) made.given.before.counts made.given.heard i
       ++ (recorded history entries keeps may).records i);
   held = λ history entries keeps may. (recorded history entries keeps may).holdings;
 }
@@ -87,8 +87,8 @@ plan_entry objects input mail load plan know old mid made = record {
         history old entries) → MayBePutThen objects old.number history input mail load
         → IsRecorded objects history mail (logged_of keeps.keeps.recovered) holds plan
     recorded history entries keeps may =
-        made.recorded history (logged_of keeps.keeps.recovered) holds keeps.through
-        keeps.represents may keeps.keeps.is_log.keeps tt (holds_record plan.adds)
+        made.given.recorded history (logged_of keeps.keeps.recovered) holds keeps.through
+        keeps.represents may keeps.keeps.is_log.keeps keeps.order (holds_record plan.adds)
 
 -- What the entries would say with the entry of these records, where there are any.
 pub entry_would_say : (entries : List (List ℕ)) (rs planned : List Record) (r : Recovered) → rs ≡

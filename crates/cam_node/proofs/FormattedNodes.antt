@@ -8,9 +8,12 @@ use Rattle.cam_know.specs.Known.{nothing}
 use Rattle.cam_recman.specs.Migrating.{version_entry}
 use Rattle.cam_recman.specs.Recovery.{fresh}
 use Rattle.cam_recman.proofs.Said.{first_says}
-use Rattle.cam_node.specs.Keeping.{KeepsHistory, KeepsNode}
-use Rattle.cam_node.specs.Opened.{IsKnowledge}
+use Rattle.cam_recman.specs.Says.{Says}
+use Rattle.cam_node.specs.Keeping.{KeepsNode}
+use Rattle.cam_node.specs.Log.{KeepsLog}
+use Rattle.cam_node.specs.Opened.{IsKnowledge, logged_of}
 use Rattle.cam_node.specs.Represents.{Node, Represents}
+use Rattle.cam_node.proofs.InOrder.{nothing_in_order}
 use Rattle.cam_node.proofs.LogEntries.{formatted_keeps}
 
 one_at : (j : ℕ) → j < 8 → slice_index (replicate 8 1) j ≡ 1
@@ -33,16 +36,16 @@ pub formatted : (objects : List ObjectDecl) (s : ℕ) (node : Node) (entries : L
 formatted objects s node entries range number rep is = record {
   through = tt;
   represents = rep;
-  keeps = subst (λ (n : ℕ). KeepsHistory objects n [] entries) (sym number)
-      (subst (λ (es : List (List ℕ)). KeepsHistory objects s [] es) (sym is)
-      (record {
-        recovered = fresh;
-        says = first_says;
-        is_log = record {
-          keeps = (formatted_keeps objects s range.0 range.1).1;
-          recovered =
-              nothing_is_known;
-          known = nothing_is_known;
-        };
-      }));
+  keeps = record {
+    recovered = fresh;
+    says = subst (λ (es : List (List ℕ)). Says es fresh) (sym is) first_says;
+    is_log = record {
+      keeps =
+          subst (λ (n : ℕ). KeepsLog objects n [] (logged_of fresh)) (sym number)
+          (formatted_keeps objects s range.0 range.1).1;
+      recovered = nothing_is_known;
+      known = nothing_is_known;
+    };
+  };
+  order = nothing_in_order node.server.table.site;
 }

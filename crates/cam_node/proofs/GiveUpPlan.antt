@@ -28,7 +28,7 @@ use Rattle.cam_commit.proofs.OtherSteps.{other_step_keeps}
 use Rattle.cam_server.specs.Server.{Server}
 use Rattle.cam_server.specs.Calls as server
 use Rattle.cam_server.specs.Calls.{aborts_in, commits_in}
-use Rattle.cam_server.specs.Events.{decision}
+use Rattle.cam_server.specs.Events.{AreQuiet, decision}
 use Rattle.cam_server.proofs.NewsInforms.{nothing_informs}
 use Rattle.cam_node.specs.declared.knowing.Heard.{Heard}
 use Rattle.cam_node.specs.declared.plan.Change.{Change}
@@ -43,12 +43,14 @@ use Rattle.cam_node.specs.Requests.{wanted_by}
 use Rattle.cam_node.specs.Stepping.{sight_before}
 use Rattle.cam_node.specs.Decides.{HasDecided, IsDecided}
 use Rattle.cam_node.specs.GivingUp.{giving_up, IsGivenUp}
-use Rattle.cam_node.specs.Plans.{HasLearnt, Stands, IsPlan, MayChange, MayStand}
+use Rattle.cam_node.specs.Plans.{HasLearnt, Stands, IsPlan, MayChange, MayStand, held_in}
+use Rattle.cam_node.specs.PlanOrder.{is_served}
 use Rattle.cam_node.proofs.StoppedPlan.{told_nothing}
 use Rattle.cam_node.proofs.HomePlans.{informed_before}
 use Rattle.cam_node.proofs.Requested.{request_is}
-use Rattle.cam_node.proofs.Decides.{decides_keep}
+use Rattle.cam_node.proofs.Decides.{decides_keep, decision_quiet}
 use Rattle.cam_node.proofs.DecidePlans.{decision_recorded}
+use Rattle.cam_node.proofs.PlanOrder.{dropping_plan}
 
 -- What holds of each history that the node stands for, where the request may be put to it.
 abbrev AtRequest : List ObjectDecl → Node → Name → Name → (List Received → Type 0) → Type 0
@@ -86,33 +88,38 @@ pub given_up_plan : (objects : List ObjectDecl) (a b : Name) (old : Node) (first
     → None ≡ known_orphan (answers first).know a (pairs_of (deps (answers first).actions a))
     → AreSame (answers first) (answers core) → IsGivenUp a b first core plan
     → IsPlan objects (giving_up a b) None no_load plan core.knowing.known old (answers core)
-given_up_plan objects a b old first core plan is settled knows free alive same made = record {
-  before = knows;
-  learnt = subst IsKnowledge (sym (told_nothing old.know knows)) knows;
-  heard = made.heard;
-  step = λ new stands.
-      let at = as_made new stands in
-      record {
-        number = at.2.number ∙ at.1.number ∙ same_old.number;
-        next = is_next;
-        represents = λ history through rep may.
-            subst (λ (e : Event). Represents objects (record { event = e; mail = None; load = no_load } ∷ history) new)
-            (sym (is_next history through rep may))
-            (decides_keep objects history (giving_up a b) None no_load (Aborted b) old new refl (refl, knows.counts) tt tt through may
-            (ap (λ (d : Did). d.deeds) (rule_is history through rep may)) tt
-            (given_up_node a b old (answers core) core.knowing.known at.0 new same_old acts_old knows_old
-            (given_up_is_no_top objects (sight_before objects old.number history) old.actions a b
-            (sight_is_answered objects old.number (map as_carried history) nothing old.actions rep.runs) may.0 free)
-            at.1 at.2)
-            (other_step_keeps objects old.number (map as_carried history) (giving_up a b) None nothing old.families new.families refl refl
-            (subst (λ (families : Families). commit.AreSame old.families families) (sym (at.2.families ∙ at.1.families)) same_old.families) rep.commits)
-            rep);
-      };
-  letters = λ new stands. made.letters ∙ ap (λ (e : Event). letters_of new e.sent) (sym event_is);
-  recorded = λ history logged holds through rep may keeps given held.
-      decision_recorded objects history None logged holds plan old.number nothing old.know (Aborted b) (ap (λ (e : Event). e.deeds) event_is)
-      made.adds tt;
-}
+given_up_plan objects a b old first core plan is settled knows free alive same made =
+    dropping_plan objects (giving_up a b) None no_load plan core.knowing.known old (answers core)
+    (ap is_served made.change) (ap held_in made.adds) same_old
+    (subst (λ (e : Event). AreQuiet old.number e.deeds) (sym event_is)
+    (decision_quiet old.number (Aborted b)))
+    (record {
+      before = knows;
+      learnt = subst IsKnowledge (sym (told_nothing old.know knows)) knows;
+      heard = made.heard;
+      step = λ new stands.
+          let at = as_made new stands in
+          record {
+            number = at.2.number ∙ at.1.number ∙ same_old.number;
+            next = is_next;
+            represents = λ history through rep may.
+                subst (λ (e : Event). Represents objects (record { event = e; mail = None; load = no_load } ∷ history) new)
+                (sym (is_next history through rep may))
+                (decides_keep objects history (giving_up a b) None no_load (Aborted b) old new refl (refl, knows.counts) tt tt through may
+                (ap (λ (d : Did). d.deeds) (rule_is history through rep may)) tt
+                (given_up_node a b old (answers core) core.knowing.known at.0 new same_old acts_old knows_old
+                (given_up_is_no_top objects (sight_before objects old.number history) old.actions a b
+                (sight_is_answered objects old.number (map as_carried history) nothing old.actions rep.runs) may.0 free)
+                at.1 at.2)
+                (other_step_keeps objects old.number (map as_carried history) (giving_up a b) None nothing old.families new.families refl refl
+                (subst (λ (families : Families). commit.AreSame old.families families) (sym (at.2.families ∙ at.1.families)) same_old.families) rep.commits)
+                rep);
+          };
+      letters = λ new stands. made.letters ∙ ap (λ (e : Event). letters_of new e.sent) (sym event_is);
+      recorded = λ history logged holds through rep may keeps given held.
+          decision_recorded objects history None logged holds plan old.number nothing old.know (Aborted b) (ap (λ (e : Event). e.deeds) event_is)
+          made.adds tt;
+    })
   where
     same_old : AreSame old (answers core)
     same_old = subst (λ (n : Node). AreSame n (answers core)) is same

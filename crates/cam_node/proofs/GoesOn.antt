@@ -1,24 +1,17 @@
 -- A node goes on with what a letter brought: what it knows and its count are those by which the rules go. And a letter whose rule has no deed.
-use Rattle.std.proofs.Common.{◌≡◌, ◌≤◌, ℕ, true, false, List, [], map, Some, refl, sym, ap, ◌∙◌}
+use Rattle.std.proofs.Common.{◌≡◌, ◌≤◌, ℕ, false, List, [], map, refl, sym, ap, ◌∙◌}
 use Rattle.cam_names.specs.declared.name.Name.{Name}
 use Rattle.cam_type.specs.declared.ObjectDecl.{ObjectDecl}
 use Rattle.cam_know.specs.Knowledge.{Knowledge}
 use Rattle.cam_know.specs.Known.{both, new_aborts, new_commits}
 use Rattle.cam_know.specs.Order.{told_in_order}
-use Rattle.cam_event.specs.declared.Body.TheVariants as bodies
 use Rattle.cam_event.specs.declared.Letter.{Letter}
 use Rattle.cam_event.specs.declared.LetterId.{LetterId}
-use Rattle.cam_event.specs.Inputs.{Mail}
 use Rattle.cam_event.specs.Sights.{Sight, present}
-use Rattle.cam_event.specs.Rules.{arrives}
-use Rattle.cam_event.specs.ByKnowledge.{Carried, deeds_of, held_sight, new_informs}
+use Rattle.cam_event.specs.ByKnowledge.{deeds_of, held_sight, new_informs}
 use Rattle.cam_event.specs.Loads.{with_load}
 use Rattle.cam_event.specs.ByDeltas.{Received, as_carried, known}
 use Rattle.cam_comman.specs.Letters.{load_on}
-use Rattle.cam_commit.specs.declared.Asked.{Asked}
-use Rattle.cam_commit.specs.Calls.{is_decided, asked_by, asked_of}
-use Rattle.cam_commit.specs.Stepping.{asked_at}
-use Rattle.cam_commit.specs.Steps.{did_asked}
 use Rattle.cam_server.proofs.QuietDeeds.{quiet_count, informs_quiet}
 use Rattle.cam_node.specs.declared.learning.Learnt.{Learnt}
 use Rattle.cam_node.specs.declared.state.Core.{Core}
@@ -92,7 +85,7 @@ mute_plan objects id letter first core now learnt d plan from counts vote goes n
     (record {
       alone = ap (λ (ds : List Deed). list_all is_at_home_alone ds) none;
       begins = begins;
-    }) refl
+    }) refl refl
     goes.received goes.knows goes.same made ruled
     (λ new has.
     unchanged objects (answers first) (answers now) new id (mail_on letter)

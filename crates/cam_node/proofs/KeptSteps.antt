@@ -13,9 +13,10 @@ use Rattle.cam_recman.specs.Ranges.{AreRecords}
 use Rattle.cam_recman.specs.Recovery.{with_records}
 use Rattle.cam_recman.specs.Says.{Says}
 use Rattle.cam_node.specs.Halting.{IsThrough, IsStepThrough}
-use Rattle.cam_node.specs.Keeping.{KeepsHistory, KeepsNode, KeepsOn, MayBePutThen}
+use Rattle.cam_node.specs.Keeping.{IsLogOf, KeepsNode, KeepsOn, MayBePutThen}
 use Rattle.cam_node.specs.Lawful.{IsStepOf}
-use Rattle.cam_node.specs.Opened.{IsKnowledge}
+use Rattle.cam_node.specs.LogOrder.{IsInOrder}
+use Rattle.cam_node.specs.Opened.{IsKnowledge, logged_of}
 use Rattle.cam_node.specs.Planned.{HasEntry}
 use Rattle.cam_node.specs.Represents.{Node, Represents}
 use Rattle.cam_node.proofs.LoggedSteps.{IsLogged, entry_logged}
@@ -55,15 +56,25 @@ logged objects old new input mail load event rs history before keeps node plain 
     (entry.held history before keeps may) are
     (knows history keeps.through keeps.represents may) keeps.keeps.is_log
 
+-- and the order of what the log holds and of what is live goes on
+abbrev pub OrderGoesOn : List ObjectDecl → Node → Node → Input → Option Mail → Load → Event
+    → List Record → Type 0
+OrderGoesOn objects old new input mail load event rs =
+    (history : List Received) (entries : List (List ℕ))
+    (keeps : KeepsNode objects history old entries)
+    → MayBePutThen objects old.number history input mail load
+    → IsInOrder (record { event = event; mail = mail; load = load } ∷ history)
+    (with_records keeps.keeps.recovered rs).held new.server.table.site
+
 pub kept : (objects : List ObjectDecl) (old new : Node) (before now : List (List ℕ)) (input : Input)
     (mail : Option Mail) (load : Load) (event : Event) (rs : List Record)
     → (1 ≤ old.number) × (old.number ≤ 8) → is_restarting input ≡ false → KnowsThen objects old
     input mail load event → AreRecords rs
     → HasEntry objects old input mail load event rs → ((r : Recovered) → Says before r → Says now
-    (with_records r rs))
+    (with_records r rs)) → OrderGoesOn objects old new input mail load event rs
     → IsStepThrough objects old new input mail load event → KeepsOn objects old before new now
     input mail load event
-kept objects old new before now input mail load event rs node plain knows are entry says step
+kept objects old new before now input mail load event rs node plain knows are entry says order step
     history keeps may =
     let c : Received = record { event = event; mail = mail; load = load } in
     let r : Recovered = keeps.keeps.recovered in
@@ -78,13 +89,14 @@ kept objects old new before now input mail load event rs node plain knows are en
                 step.next history keeps.through keeps.represents may;
           }) keeps.through);
       represents = step.represents history keeps.through keeps.represents may;
-      keeps = subst (λ (s : ℕ). KeepsHistory objects s (c ∷ history) now) (sym step.number)
-          (record {
-            recovered = with_records r rs;
-            says = says r keeps.keeps.says;
-            is_log =
-                has.whole;
-          });
+      keeps = record {
+        recovered = with_records r rs;
+        says = says r keeps.keeps.says;
+        is_log =
+            subst (λ (s : ℕ). IsLogOf objects s (c ∷ history) (logged_of (with_records r rs)))
+            (sym step.number) has.whole;
+      };
+      order = order history before keeps may;
     }
 
 -- A node that knows so once the event stands, and has appended its entry, stands for the longer
@@ -101,8 +113,10 @@ pub kept_on : (objects : List ObjectDecl) (old new : Node) (before now : List (L
     → (1 ≤ old.number) × (old.number ≤ 8) → is_restarting input ≡ false → IsKnowledge new.know →
     AreRecords rs → HasEntry objects old input mail load event rs
     → ((r : Recovered) → Says before r → Says now (with_records r rs))
+    → OrderGoesOn objects old new input mail load event rs
     → IsStepThrough objects old new input mail load event → KeepsOn objects old before new now
     input mail load event
-kept_on objects old new before now input mail load event rs node plain knows are entry says step =
+kept_on objects old new before now input mail load event rs node plain knows are entry says order
+    step =
     kept objects old new before now input mail load event rs node plain (known_then objects old new
-    input mail load event knows step) are entry says step
+    input mail load event knows step) are entry says order step

@@ -41,7 +41,7 @@ pub quiet_plan : (objects : List ObjectDecl) (id : LetterId) (letter : Letter) (
     → IsPlanFor objects id letter first core plan
 quiet_plan objects id letter first core learnt note plan from counts vote begins received ruled made =
     home_plan objects id letter first core core learnt (just (nothing_but note)) plan from counts vote
-    (record { alone = refl; begins = begins }) refl received refl received.same made ruled
+    (record { alone = refl; begins = begins }) refl refl received refl received.same made ruled
     (λ new has.
     unchanged objects (answers first) (answers core) new id (mail_on letter) (load_on letter) learnt.heard core.knowing.known
     (nothing_but note) received.same refl has)

@@ -36,7 +36,7 @@ news_plan objects id letter first core learnt doing plan from body received same
     home_plan objects id letter first core core learnt (just (nothing_but notes.Plain)) plan from
     (subst HasCounts (sym body) tt)
     (λ f m n. ap (λ (b : Body). has_pair (yes_in f letter.from b) m n) body)
-    (record { alone = refl; begins = λ f. refl }) refl received refl same
+    (record { alone = refl; begins = λ f. refl }) refl refl received refl same
     (subst (λ (d : Doing). IsMade core id learnt d plan) is made)
     (λ history through rep may. ap
     (arrives objects (held_sight objects first.number (map as_carried history)

@@ -1,5 +1,5 @@
 -- The plan of a letter by whose rule nothing happens but a note, where the families go on with it.
-use Rattle.std.proofs.Common.{◌≡◌, ℕ, ◌≤◌, true, List, [], ◌∷◌, ◌++◌, length, map, Option, Some, None, refl, sym, ap, ◌∙◌, subst}
+use Rattle.std.proofs.Common.{◌≡◌, ℕ, ◌≤◌, false, List, [], ◌∷◌, length, map, Option, Some, None, refl, sym, ap, ◌∙◌, subst}
 use Rattle.std.specs.Prelude.{filter}
 use Rattle.std.specs.List.{list_any, list_all}
 use Rattle.std.proofs.lemmas.List.{append-nil}
@@ -28,7 +28,6 @@ use Rattle.cam_server.specs.Events.{informs_abort, informs_commit, is_any_inform
 use Rattle.cam_server.proofs.QuietDeeds.{informs_quiet}
 use Rattle.cam_server.proofs.NewsInforms.{informs_join, nothing_informs}
 use Rattle.cam_server.proofs.Serving.{informs_keep}
-use Rattle.cam_node.specs.declared.did.Doing.{Doing}
 use Rattle.cam_node.specs.declared.knowing.Heard.{Heard}
 use Rattle.cam_node.specs.declared.learning.Learnt.{Learnt}
 use Rattle.cam_node.specs.declared.plan.Change.{Change}
@@ -40,13 +39,15 @@ use Rattle.cam_node.specs.Halting.{IsThrough}
 use Rattle.cam_node.specs.Lawful.{MayBePut}
 use Rattle.cam_node.specs.Learning.{ruled, stepped}
 use Rattle.cam_node.specs.Opened.{IsKnowledge}
-use Rattle.cam_node.specs.Plans.{HasLearnt, IsHeard, IsPlanFor, Stands}
+use Rattle.cam_node.specs.Plans.{HasLearnt, IsHeard, IsPlanFor, Stands, held_in}
+use Rattle.cam_node.specs.PlanOrder.{is_served}
 use Rattle.cam_node.specs.Planning.{HasReceived, IsMade}
 use Rattle.cam_node.specs.Stepping.{longer, sight_before}
 use Rattle.cam_node.proofs.HomePlans.{informed_before, IsRuled}
 use Rattle.cam_node.proofs.NothingAdded.{informs_add}
 use Rattle.cam_node.proofs.Orderly.{put_is_asked, through_orderly}
 use Rattle.cam_node.proofs.PlanMade.{recorded_none}
+use Rattle.cam_node.proofs.PlanOrder.{dropping_plan, quiet_behind}
 use Rattle.cam_node.proofs.Stepping.{all_both, first_informed, step_stands}
 use Rattle.cam_node.proofs.VoteFamilies.{GoOn}
 
@@ -143,14 +144,19 @@ pub note_plan : (objects : List ObjectDecl) (id : LetterId) (letter : Letter)
     (first core now : Core)
     (learnt : Learnt) (note : Note) (change : Change) (plan : Plan)
     → (1 ≤ letter.from) × (letter.from ≤ 8) → HasCounts letter.body
-    → HasReceived letter first core learnt
+    → is_served change ≡ false → HasReceived letter first core learnt
     → now.knowing.known ≡ core.knowing.known → AreSame (answers first) (answers now)
     → IsMade now id learnt (record { did = nothing_but note; change = change; adds = None }) plan
     → IsRuled objects (answers first) id (mail_on letter) (load_on letter) (nothing_but note)
     → StandsNoted objects id letter first now learnt change
     → IsPlanFor objects id letter first now plan
-note_plan objects id letter first core now learnt note change plan from counts received goes_on same
-    made ruled_so stands = record {
+note_plan objects id letter first core now learnt note change plan from counts unserved received
+    goes_on same made ruled_so stands =
+    dropping_plan objects (Receives id) (Some mail) load plan now.knowing.known old (answers now)
+    (ap is_served made.change ∙ unserved) (ap held_in made.adds) same
+    (quiet_behind old.number (told_in_order load.know) old.know [] plan.stepped.event.deeds
+    (ap (λ (e : Event). e.deeds) event_is) refl)
+    (record {
       before = received.before;
       learnt = subst IsKnowledge received.known received.after;
       heard =
@@ -175,7 +181,7 @@ note_plan objects id letter first core now learnt note change plan from counts r
           recorded_none objects history (Some mail) logged holds plan first_informs
           (ap (λ (e : Event). e.deeds) event_is ∙ append-nil first_informs) made.adds
           (informs_add old.number (told_in_order load.know) old.know);
-    }
+    })
   where
     old : Node
     old = answers first

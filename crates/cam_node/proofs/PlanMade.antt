@@ -1,5 +1,5 @@
 -- What is made of a letter that concerns the actions at home alone is its plan.
-use Rattle.std.proofs.Common.{◌≡◌, ◌≤◌, true, List, [], ◌++◌, map, Option, Some, None, sym, ap, ◌∙◌, subst}
+use Rattle.std.proofs.Common.{◌≡◌, ◌≤◌, true, false, List, [], ◌++◌, map, Option, Some, None, sym, ap, ◌∙◌, subst}
 use Rattle.std.specs.List.{list_all}
 use Rattle.std.proofs.lemmas.List.{append-nil}
 use Rattle.cam_type.specs.declared.ObjectDecl.{ObjectDecl}
@@ -10,7 +10,7 @@ use Rattle.cam_event.specs.declared.Deed.{Deed}
 use Rattle.cam_event.specs.declared.Event.{Event}
 use Rattle.cam_event.specs.declared.Letter.{Letter}
 use Rattle.cam_event.specs.declared.LetterId.{LetterId}
-use Rattle.cam_event.specs.Inputs.{Mail}
+use Rattle.cam_event.specs.Inputs.{Receives, Mail}
 use Rattle.cam_event.specs.ByPast.{event_of}
 use Rattle.cam_event.specs.ByKnowledge.{Carried, deeds_of, site, new_informs}
 use Rattle.cam_event.specs.Loads.{Load}
@@ -29,9 +29,12 @@ use Rattle.cam_node.specs.Entries.{Holding, AreHoldings, deed_records}
 use Rattle.cam_node.specs.AtHome.{IsAtHome, IsNoVote}
 use Rattle.cam_node.specs.Log.{Logged}
 use Rattle.cam_node.specs.Opened.{IsKnowledge}
-use Rattle.cam_node.specs.Plans.{HasLearnt, Stands, IsHeard, IsRecorded, IsPlanFor, as_list}
+use Rattle.cam_node.specs.Plans.{HasLearnt, Stands, IsHeard, IsRecorded, IsPlanFor, as_list, held_in}
+use Rattle.cam_node.specs.PlanOrder.{is_served}
 use Rattle.cam_node.specs.Planning.{HasReceived, IsMade}
 use Rattle.cam_node.proofs.NothingAdded.{adds_nothing, alone_add, both_add, informs_add, records_behind, holdings_behind}
+use Rattle.cam_node.proofs.AtHome.{all_quiet}
+use Rattle.cam_node.proofs.PlanOrder.{dropping_plan, quiet_behind}
 use Rattle.cam_node.proofs.HomePlans.{IsRuled, HaveDone, IsLearnt, home_step, said}
 
 -- an event that adds nothing to the entry
@@ -64,14 +67,20 @@ StandsSo objects id letter first now learnt doing =
 pub home_plan : (objects : List ObjectDecl) (id : LetterId) (letter : Letter)
     (first core now : Core) (learnt : Learnt) (doing : Doing) (plan : Plan)
     → (1 ≤ letter.from) × (letter.from ≤ 8) → HasCounts letter.body → IsNoVote (mail_on letter)
-    → IsAtHome doing.did → doing.adds ≡ None
+    → IsAtHome doing.did → doing.adds ≡ None → is_served doing.change ≡ false
     → HasReceived letter first core learnt → now.knowing.known ≡ core.knowing.known
     → AreSame (answers first) (answers now)
     → IsMade now id learnt doing plan
     → IsRuled objects (answers first) id (mail_on letter) (load_on letter) doing.did
     → StandsSo objects id letter first now learnt doing → IsPlanFor objects id letter first now plan
-home_plan objects id letter first core now learnt doing plan from counts vote home none received
-    goes_on same made ruled stands = record {
+home_plan objects id letter first core now learnt doing plan from counts vote home none unserved
+    received goes_on same made ruled stands =
+    dropping_plan objects (Receives id) (Some mail) load plan now.knowing.known old (answers now)
+    (ap is_served made.change ∙ unserved) (ap held_in (made.adds ∙ none)) same
+    (quiet_behind old.number (told_in_order load.know) old.know doing.did.deeds
+    plan.stepped.event.deeds (ap (λ (e : Event). e.deeds) event_is)
+    (all_quiet old.number doing.did.deeds home.alone))
+    (record {
       before = received.before;
       learnt = subst IsKnowledge received.known received.after;
       heard =
@@ -92,7 +101,7 @@ home_plan objects id letter first core now learnt doing plan from counts vote ho
           (made.adds ∙ none) (both_add first_informs doing.did.deeds
           (informs_add old.number (told_in_order load.know) old.know)
           (alone_add doing.did.deeds home.alone));
-    }
+    })
   where
     old : Node
     old = answers first

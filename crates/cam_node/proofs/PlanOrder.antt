@@ -1,22 +1,18 @@
 -- Where a planned event stands that secures nothing and is no call, the order of what the log holds and of what is live goes on.
-use Rattle.std.proofs.Common.{◌≡◌, ◌≢◌, ℕ, Bool, true, false, not, ◌&&◌, ◌||◌, cond, List, [], ◌∷◌, ◌++◌, map, filter, Option, Some, None, refl, sym, ap, ◌∙◌, subst}
+use Rattle.std.proofs.Common.{◌≡◌, ℕ, Bool, true, false, ◌&&◌, List, [], ◌∷◌, ◌++◌, map, filter, Option, Some, None, refl, sym, ap, ◌∙◌, subst}
 use Rattle.std.specs.List.{list_any}
 use Rattle.std.proofs.lemmas.List.{append-nil}
-use Rattle.cam_names.specs.declared.name.Name.{Name}
-use Rattle.cam_names.specs.Names.{ancestors}
 use Rattle.cam_type.specs.declared.ObjectDecl.{ObjectDecl}
 use Rattle.cam_type.specs.declared.Held.{Held}
 use Rattle.cam_know.specs.Knowledge.{Knowledge}
 use Rattle.cam_know.specs.declared.Outcome.{Outcome}
 use Rattle.cam_know.specs.declared.Outcome.TheVariants.{Aborted}
-use Rattle.cam_know.specs.Known.{knows_abort, knows_commit}
-use Rattle.cam_know.specs.Order.{told_in_order}
+use Rattle.cam_know.specs.Known.{knows_abort, knows_commit, new_aborts, new_commits}
 use Rattle.cam_event.specs.declared.Deed.{Deed}
 use Rattle.cam_event.specs.declared.Deed.TheVariants.{Create, Ask, Call, Perform, Bounce, Got, AskCommit, AskAbort, Commit, Abort, Secure, Inform, Crash}
-use Rattle.cam_event.specs.declared.Event.{Event}
 use Rattle.cam_event.specs.Inputs.{Input, Mail}
 use Rattle.cam_event.specs.Loads.{Load}
-use Rattle.cam_event.specs.ByKnowledge.{Carried}
+use Rattle.cam_event.specs.ByKnowledge.{Carried, new_informs}
 use Rattle.cam_event.specs.ByDeltas.{Received, as_carried}
 use Rattle.cam_event.proofs.Snoc.{filter_filter}
 use Rattle.cam_recman.specs.declared.Record.{Record}
@@ -25,8 +21,8 @@ use Rattle.cam_locks.specs.declared.LiveOp.{LiveOp}
 use Rattle.cam_locks.specs.Site as locks
 use Rattle.cam_server.specs.Server.{Server, ServesSite}
 use Rattle.cam_server.specs.Calls as server
-use Rattle.cam_server.specs.Events.{AreQuiet}
-use Rattle.cam_server.proofs.QuietRules.{others_are_quiet}
+use Rattle.cam_server.specs.Events.{AreQuiet, is_quiet}
+use Rattle.cam_server.proofs.QuietDeeds.{informs_quiet}
 use Rattle.cam_node.specs.declared.knowing.Heard.{Heard}
 use Rattle.cam_node.specs.declared.plan.Change.{Change}
 use Rattle.cam_node.specs.declared.plan.Change.TheVariants as changes
@@ -35,8 +31,11 @@ use Rattle.cam_node.specs.Represents.{Node}
 use Rattle.cam_node.specs.Entries.{Holding, deed_records}
 use Rattle.cam_node.specs.Halting.{IsStepThrough}
 use Rattle.cam_node.specs.LogOrder.{IsInOrder, HasDropped, is_any_secure}
-use Rattle.cam_node.specs.Plans.{HasLearnt, Stands, IsInformed, IsPlan, IsPlanInOrder, as_list}
-use Rattle.cam_node.specs.PlanOrder.{held_in, is_served, PlansKeepOrder}
+use Rattle.cam_node.specs.Calls.{AreSame}
+use Rattle.cam_node.specs.Plans.{HasLearnt, Stands, IsInformed, IsPlan, IsPlanGiven, as_list, held_in}
+use Rattle.cam_node.specs.Plans.{in_order, nothing_given}
+use Rattle.cam_node.specs.PlanOrder.{is_served, PlansKeepOrder}
+use Rattle.cam_node.proofs.Stepping.{all_both}
 use Rattle.cam_node.proofs.InOrder.{dropping_in_order, informed_drops}
 
 -- One table after another: what the second drops is dropped of what the first has left.
@@ -63,14 +62,17 @@ same_drops one two same = record {
   next = ap (λ (st : locks.Site). st.next) same.site;
 }
 
+-- one that is the same answers the same
+pub same_server : (one two : Server) → two ≡ one → server.AreSame one two
+same_server one two is = record {
+  count = ap (λ (s : Server). s.count) is;
+  site = ap (λ (s : Server). s.table.site) is;
+  replies = λ a n. ap (λ (s : Server). s.kept_reply a n) is;
+}
+
 pub heard_drops : (heard : Option Heard) (old new : Server) → IsInformed heard old new
     → HasDropped old.table.site new.table.site
-heard_drops None old new is =
-    same_drops old new (record {
-      count = ap (λ (s : Server). s.count) is;
-      site = ap (λ (s : Server). s.table.site) is;
-      replies = λ a n. ap (λ (s : Server). s.kept_reply a n) is;
-    })
+heard_drops None old new is = same_drops old new (same_server old new is)
 heard_drops (Some heard) old new is =
     informed_drops (knows_abort heard.news) (knows_commit heard.news) old new is
 
@@ -111,11 +113,11 @@ stands_drop (changes.Secured f) heard known old new other has =
     heard_drops heard old.server new.server has.learnt.server
 
 -- An entry without a Secure is of deeds without one.
-abbrev is_secure_record : Record → Bool
+abbrev pub is_secure_record : Record → Bool
 is_secure_record (records.Secure held) = true
 is_secure_record _ = false
 
-unsecured_by : (holds : Holding) (objects : List ObjectDecl) (before : List Carried)
+pub unsecured_by : (holds : Holding) (objects : List ObjectDecl) (before : List Carried)
     (mail : Option Mail) (ds : List Deed)
     → list_any is_secure_record (deed_records holds objects before mail ds) ≡ false
     → list_any is_any_secure ds ≡ false
@@ -157,11 +159,11 @@ none_held (Some (records.Secure held)) none = cc
 none_held (Some records.Version) none = refl
 
 -- What a plan owes of each log it owes of one in order.
-pub plan_in_order : (objects : List ObjectDecl) (input : Input) (mail : Option Mail) (load : Load)
+pub given_in_order : (objects : List ObjectDecl) (input : Input) (mail : Option Mail) (load : Load)
     (plan : Plan) (known : Knowledge) (old mid : Node)
-    → IsPlan objects input mail load plan known old mid
-    → IsPlanInOrder objects input mail load plan known old mid
-plan_in_order objects input mail load plan known old mid is = record {
+    → IsPlanGiven nothing_given objects input mail load plan known old mid
+    → IsPlanGiven in_order objects input mail load plan known old mid
+given_in_order objects input mail load plan known old mid is = record {
   before = is.before;
   learnt = is.learnt;
   heard = is.heard;
@@ -172,8 +174,8 @@ plan_in_order objects input mail load plan known old mid is = record {
 }
 
 pub plans_keep_order : PlansKeepOrder
-plans_keep_order objects input mail load plan known old mid other unserved none same is new history logged
-    holds stands through rep may keeps order held =
+plans_keep_order objects input mail load plan known old mid unserved none same quiet is new history
+    logged holds stands through rep may keeps order held =
     subst (λ (hs : List Held). IsInOrder (c ∷ history) hs new.server.table.site)
     (sym (ap (λ (hs : List Held). logged.held ++ hs) none ∙ append-nil logged.held))
     (dropping_in_order objects s history c logged.held old.server new.server quiet unsecured
@@ -194,15 +196,29 @@ plans_keep_order objects input mail load plan known old mid other unserved none 
     step : IsStepThrough objects old new input mail load plan.stepped.event
     step = is.step new stands
 
-    quiet : AreQuiet s c.event.deeds
-    quiet =
-        subst (λ (e : Event). AreQuiet s e.deeds) (sym (step.next history through rep may))
-        (others_are_quiet objects s (map as_carried history) input mail
-        (told_in_order load.know) other)
-
     unsecured : list_any is_any_secure c.event.deeds ≡ false
     unsecured =
         unsecured_by holds objects (map as_carried history) mail c.event.deeds
         (ap (list_any is_secure_record)
-        (is.recorded history logged holds through rep may keeps order held).records
+        (is.recorded history logged holds through rep may keeps tt held).records
         ∙ none_held plan.adds none)
+
+-- So a plan that drops operations at most owes no more.
+pub dropping_plan : (objects : List ObjectDecl) (input : Input) (mail : Option Mail) (load : Load)
+    (plan : Plan) (known : Knowledge) (old mid : Node)
+    → is_served plan.change ≡ false → held_in plan.adds ≡ [] → AreSame old mid
+    → AreQuiet old.number plan.stepped.event.deeds
+    → IsPlanGiven nothing_given objects input mail load plan known old mid
+    → IsPlan objects input mail load plan known old mid
+dropping_plan objects input mail load plan known old mid unserved none same quiet is = record {
+  given = given_in_order objects input mail load plan known old mid is;
+  order = plans_keep_order objects input mail load plan known old mid unserved none same quiet is;
+}
+
+-- deeds behind the first Informs that perform, bounce and crash nothing
+pub quiet_behind : (s : ℕ) (brought known : Knowledge) (ds all : List Deed)
+    → all ≡ new_informs s brought known ++ ds → AreQuiet s ds → AreQuiet s all
+quiet_behind s brought known ds all is quiet =
+    subst (AreQuiet s) (sym is)
+    (all_both (is_quiet s) (new_informs s brought known) ds
+    (informs_quiet s (new_aborts brought known) (new_commits brought known)) quiet)

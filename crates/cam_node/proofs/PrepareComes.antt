@@ -1,30 +1,21 @@
 -- A prepare comes: what its site does is what its families answer.
-use Rattle.std.proofs.Common.{◌≡◌, ℕ, List, map, Some, sym, ap, ◌∙◌}
+use Rattle.std.proofs.Common.{◌≡◌, ℕ, List, sym, ap, ◌∙◌}
 use Rattle.cam_names.specs.declared.name.Name.{Name}
 use Rattle.cam_type.specs.declared.ObjectDecl.{ObjectDecl}
-use Rattle.cam_know.specs.Knowledge.{Knowledge}
-use Rattle.cam_know.specs.Known.{both, new_aborts, new_commits}
 use Rattle.cam_know.specs.Order.{told_in_order}
 use Rattle.cam_event.specs.declared.Body.TheVariants as bodies
 use Rattle.cam_event.specs.declared.Letter.{Letter}
 use Rattle.cam_event.specs.declared.LetterId.{LetterId}
-use Rattle.cam_event.specs.Inputs.{Mail}
-use Rattle.cam_event.specs.Sights.{Sight, present}
 use Rattle.cam_event.specs.Rules.{arrives}
-use Rattle.cam_event.specs.ByKnowledge.{Carried, deeds_of, held_sight, new_informs}
-use Rattle.cam_event.specs.Loads.{with_load}
-use Rattle.cam_event.specs.ByDeltas.{Received, as_carried, known}
-use Rattle.cam_comman.specs.Letters.{load_on}
+use Rattle.cam_event.specs.ByDeltas.{Received}
 use Rattle.cam_commit.specs.declared.Asked.{Asked}
 use Rattle.cam_commit.specs.Calls.{is_decided, asked_by, asked_of}
 use Rattle.cam_commit.specs.Stepping.{asked_at}
 use Rattle.cam_commit.specs.Steps.{did_asked}
-use Rattle.cam_server.proofs.QuietDeeds.{quiet_count, informs_quiet}
 use Rattle.cam_node.specs.declared.learning.Learnt.{Learnt}
 use Rattle.cam_node.specs.declared.state.Core.{Core}
 use Rattle.cam_node.specs.Represents.{Represents}
-use Rattle.cam_node.specs.Calls.{answers, mail_on, AreSame}
-use Rattle.cam_node.specs.Planning.{HasReceived}
+use Rattle.cam_node.specs.Calls.{answers, mail_on}
 use Rattle.cam_node.proofs.Secures.{asked_rule}
 use Rattle.cam_node.proofs.GoesOn.{GoesOn, sight_with, knows_as, present_as}
 

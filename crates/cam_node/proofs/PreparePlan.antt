@@ -1,5 +1,5 @@
 -- What is made of a finish of a top action that is prepared is its plan.
-use Rattle.std.proofs.Common.{◌≡◌, ℕ, ◌≤◌, true, false, ◌||◌, List, length, map, Option, Some, None, sym, ap, ◌∙◌, subst}
+use Rattle.std.proofs.Common.{◌≡◌, ℕ, ◌≤◌, true, false, ◌||◌, List, [], length, map, Option, Some, None, refl, sym, ap, ◌∙◌, subst}
 use Rattle.std.proofs.lemmas.List.{append-nil}
 use Rattle.cam_names.specs.declared.name.Name.{Name}
 use Rattle.cam_names.specs.Names.{name_eq, is_top}
@@ -12,7 +12,7 @@ use Rattle.cam_know.specs.Orphans.{known_orphan}
 use Rattle.cam_event.specs.declared.Event.{Event}
 use Rattle.cam_event.specs.declared.Letter.{Letter}
 use Rattle.cam_event.specs.declared.LetterId.{LetterId}
-use Rattle.cam_event.specs.Inputs.{Mail}
+use Rattle.cam_event.specs.Inputs.{Receives, Mail}
 use Rattle.cam_event.specs.ByPast.{event_of}
 use Rattle.cam_event.specs.ByKnowledge.{new_informs}
 use Rattle.cam_event.specs.Loads.{Load, noted_at}
@@ -30,13 +30,15 @@ use Rattle.cam_node.specs.Represents.{Node}
 use Rattle.cam_node.specs.Calls.{answers, mail_on, letter_as, letters_of, AreSame}
 use Rattle.cam_node.specs.DecideRules.{IsFinish, is_closed, prepare_to, prepared_by}
 use Rattle.cam_node.specs.Opened.{IsKnowledge}
-use Rattle.cam_node.specs.Plans.{HasLearnt, Stands, IsHeard, IsPlanFor, preparing}
+use Rattle.cam_node.specs.Plans.{HasLearnt, Stands, IsHeard, IsPlanFor, held_in, preparing}
+use Rattle.cam_node.specs.PlanOrder.{is_served}
 use Rattle.cam_node.specs.Planning.{HasReceived, IsMade}
 use Rattle.cam_node.specs.Preparing.{HasPrepared, HasBegun}
 use Rattle.cam_node.proofs.Idle.{node_same}
 use Rattle.cam_node.proofs.HomePlans.{informed_before}
 use Rattle.cam_node.proofs.NothingAdded.{informs_add}
 use Rattle.cam_node.proofs.PlanMade.{recorded_none}
+use Rattle.cam_node.proofs.PlanOrder.{dropping_plan, quiet_behind}
 use Rattle.cam_node.proofs.LetterPlans.{same_then, orphan_as}
 use Rattle.cam_node.proofs.TopPlans.{top_parent, late_as}
 use Rattle.cam_node.proofs.Prepares.{top_is_prepared}
@@ -90,29 +92,35 @@ pub top_prepared_plan : (objects : List ObjectDecl) (id : LetterId) (letter : Le
     → now.knowing.known ≡ core.knowing.known
     → IsMade now id learnt (preparing f (prepare_to f (deps (answers core).actions f))) plan
     → IsPlanFor objects id letter first now plan
-top_prepared_plan objects id letter first core now learnt f counts plan from is top eight received in_time alive same acts knows made = record {
-  before = received.before;
-  learnt = subst IsKnowledge received.known received.after;
-  heard =
-      subst (IsHeard (Some mail) load old.know) (sym made.heard)
-      (received.news ∙ ap (λ (k : Knowledge). news k old.know) received.known);
-  step = λ new stands.
-      let at = as_made new stands in
-      top_is_prepared objects old new id mail load f is.0 counts plan.stepped.event is.1 (top_parent f top) top eight from
-      (late_as letter first core learnt f false received in_time) (orphan_as letter first core learnt f None received alive)
-      (at.2.number ∙ at.1.number ∙ ready.same.number)
-      (λ history through rep may. prepared_node letter f first core now learnt at.0 new ready may.addressed at.1 at.2) event_is;
-  letters = λ new stands.
-      let at = as_made new stands in
-      made.letters
-      ∙ (λ i. map (letter_as (sym (at.2.know ∙ at.1.know) i) (sym (at.2.places ∙ at.1.places_are) i) (sym (at.2.number ∙ at.1.number) i)
-      (sym (at.2.count ∙ at.1.count) i)) (prepare_to f (deps (received.actions i) f)))
-      ∙ ap (λ (e : Event). letters_of new e.sent) (sym event_is);
-  recorded = λ history logged holds through rep may keeps given held.
-      recorded_none objects history (Some mail) logged holds plan (new_informs old.number (told_in_order load.know) old.know)
-      (ap (λ (e : Event). e.deeds) event_is ∙ append-nil (new_informs old.number (told_in_order load.know) old.know)) made.adds
-      (informs_add old.number (told_in_order load.know) old.know);
-}
+top_prepared_plan objects id letter first core now learnt f counts plan from is top eight received
+    in_time alive same acts knows made =
+    dropping_plan objects (Receives id) (Some mail) load plan now.knowing.known old (answers now)
+    (ap is_served made.change) (ap held_in made.adds) ready.same
+    (quiet_behind old.number (told_in_order load.know) old.know [] plan.stepped.event.deeds
+    (ap (λ (e : Event). e.deeds) event_is) refl)
+    (record {
+      before = received.before;
+      learnt = subst IsKnowledge received.known received.after;
+      heard =
+          subst (IsHeard (Some mail) load old.know) (sym made.heard)
+          (received.news ∙ ap (λ (k : Knowledge). news k old.know) received.known);
+      step = λ new stands.
+          let at = as_made new stands in
+          top_is_prepared objects old new id mail load f is.0 counts plan.stepped.event is.1 (top_parent f top) top eight from
+          (late_as letter first core learnt f false received in_time) (orphan_as letter first core learnt f None received alive)
+          (at.2.number ∙ at.1.number ∙ ready.same.number)
+          (λ history through rep may. prepared_node letter f first core now learnt at.0 new ready may.addressed at.1 at.2) event_is;
+      letters = λ new stands.
+          let at = as_made new stands in
+          made.letters
+          ∙ (λ i. map (letter_as (sym (at.2.know ∙ at.1.know) i) (sym (at.2.places ∙ at.1.places_are) i) (sym (at.2.number ∙ at.1.number) i)
+          (sym (at.2.count ∙ at.1.count) i)) (prepare_to f (deps (received.actions i) f)))
+          ∙ ap (λ (e : Event). letters_of new e.sent) (sym event_is);
+      recorded = λ history logged holds through rep may keeps given held.
+          recorded_none objects history (Some mail) logged holds plan (new_informs old.number (told_in_order load.know) old.know)
+          (ap (λ (e : Event). e.deeds) event_is ∙ append-nil (new_informs old.number (told_in_order load.know) old.know)) made.adds
+          (informs_add old.number (told_in_order load.know) old.know);
+    })
   where
     old : Node
     old = answers first

@@ -17,7 +17,9 @@ use Rattle.cam_commit.proofs.Recovering.{recovers_families}
 use Rattle.cam_recman.specs.declared.Record.TheVariants as records
 use Rattle.cam_recman.specs.declared.Recovered.{Recovered}
 use Rattle.cam_recman.specs.Recovery.{with_records}
+use Rattle.cam_locks.specs.Site.{Site}
 use Rattle.cam_server.specs.Calls.{IsNew}
+use Rattle.cam_server.specs.Events.{IsLogged}
 use Rattle.cam_server.specs.Recovered.{AreHeld, beside, OrderIsKept}
 use Rattle.cam_server.specs.Server.{ServesSite}
 use Rattle.cam_server.proofs.Restarting.{restart_keeps as server_after}
@@ -27,9 +29,11 @@ use Rattle.cam_tranman.specs.Calls as tranman
 use Rattle.cam_node.specs.Halting.{IsEnded, restarted}
 use Rattle.cam_node.specs.Keeping.{IsLogOf}
 use Rattle.cam_node.specs.Log.{KeepsLog}
+use Rattle.cam_node.specs.LogOrder.{IsInOrder}
 use Rattle.cam_node.specs.Opened.{IsKnowledge, CanRestart, logged_of, raised, kept_by}
 use Rattle.cam_node.specs.Represents.{Node, Represents}
 use Rattle.cam_node.specs.Renewed.{IsRenewed}
+use Rattle.cam_node.proofs.Crashing.{restart_in_order}
 use Rattle.cam_node.proofs.Ended.{ended_orderly, ended_informed, ended_at}
 use Rattle.cam_node.proofs.WrittenKnowledge.{counted_more}
 use Rattle.cam_node.proofs.Restarting.{count_then, restart_keeps, restart_knows}
@@ -111,6 +115,55 @@ secured_then : (held : List Held) (secured : List Name) (families : Families) �
 secured_then held secured families are recovered = subst (λ (fs : List Name). AreRecovered fs
     families) are recovered
 
+-- so what is kept is what the history's site is restored from,
+kept_logged : (objects : List ObjectDecl) (s : ℕ) (history : List Received) (r kept : Recovered)
+    → kept ≡ raised s r → CanRestart objects s r → IsEnded objects s history
+    → IsLogOf objects s history (logged_of r)
+    → IsLogged objects s (map as_carried history) kept.know kept.held
+kept_logged objects s history r kept is can ended log = record {
+  secured =
+      subst (λ (hs : List Held). AreHeld hs (reverse (site H).secured)) (sym held_is)
+      log.keeps.secured;
+  order =
+      subst (λ (hs : List Held). OrderIsKept (beside hs (reverse (site H).secured))) (sym held_is)
+      log.keeps.order;
+  restorable = subst (λ (hs : List Held). CanRestore objects s hs) (sym held_is) can.1;
+  aborts = λ u. ap (list_any (is_abort_of u)) outcomes ∙ (ended_informed objects s history u ended).0;
+  commits =
+      λ u. ap (list_any (is_commit_of u)) outcomes ∙ (ended_informed objects s history u ended).1;
+}
+  where
+    H : List Carried
+    H = map as_carried history
+
+    held_is : kept.held ≡ r.held
+    held_is = ap (λ (q : Recovered). q.held) is
+
+    outcomes : kept.know.outcomes ≡ (known objects history).outcomes
+    outcomes = ap (λ (q : Recovered). q.know.outcomes) is ∙ log.keeps.outcomes
+
+-- and what the log holds then stands in the order in which it is live.
+pub renewed_order : (objects : List ObjectDecl) (s : ℕ) (history : List Received)
+    (r kept : Recovered) (replaced : Bool) (new : Node) → kept ≡ raised s r
+    → CanRestart objects s r → IsRenewed objects s kept new → IsEnded objects s history
+    → IsLogOf objects s history (logged_of r)
+    → IsInOrder (restarted objects s history ∷ history) (kept_by replaced r kept).held
+    new.server.table.site
+renewed_order objects s history r kept replaced new is can has ended log =
+    subst (λ (t : Site). IsInOrder (c ∷ history) (kept_by replaced r kept).held t)
+    (sym has.server.site_is)
+    (subst (λ (hs : List Held). IsInOrder (c ∷ history) hs (restored objects s kept.held kept.know))
+    (held_by replaced)
+    (restart_in_order objects s history c kept.know kept.held refl
+    (kept_logged objects s history r kept is can ended log)))
+  where
+    c : Received
+    c = restarted objects s history
+
+    held_by : (b : Bool) → kept.held ≡ (kept_by b r kept).held
+    held_by true = refl
+    held_by false = ap (λ (q : Recovered). q.held) is
+
 pub renewed : (objects : List ObjectDecl) (s : ℕ) (history : List Received) (r kept : Recovered)
     (new : Node) → (1 ≤ s) × (s ≤ 8) → kept ≡ raised s r → CanRestart objects s r
     → IsRenewed objects s kept new → IsEnded objects s history → IsLogOf objects s history
@@ -134,16 +187,7 @@ renewed objects s history r kept new node is can has ended log = record {
   serves =
       subst (λ (n : ℕ). ServesSite objects n (as_carried c ∷ H) new.server) (sym has.number)
       (server_after objects s H (as_carried c) kept.know kept.held new.server refl
-      (record {
-        secured = held;
-        order = subst (λ (hs : List Held). OrderIsKept (beside hs (reverse (site H).secured))) (sym
-            held_is) log.keeps.order;
-        restorable = subst (λ (hs : List Held). CanRestore objects s hs) (sym held_is) can.1;
-        aborts = λ u. ap (list_any (is_abort_of u)) outcomes ∙ (ended_informed objects s history u
-            ended).0;
-        commits = λ u. ap (list_any (is_commit_of u)) outcomes ∙ (ended_informed objects s history
-            u ended).1;
-      })
+      (kept_logged objects s history r kept is can ended log)
       (subst (λ (n : ℕ). IsNew n (restored objects s kept.held kept.know) new.server) next
       has.server));
 }
@@ -164,12 +208,5 @@ renewed objects s history r kept new node is can has ended log = record {
     counted : kept.count ≡ count (deeds_of (map as_carried (c ∷ history))) s
     counted = next ∙ sym (count_then objects s history)
 
-    held_is : kept.held ≡ r.held
-    held_is = ap (λ (q : Recovered). q.held) is
-
     held : AreHeld kept.held (reverse (site H).secured)
-    held = subst (λ (hs : List Held). AreHeld hs (reverse (site H).secured)) (sym held_is)
-        log.keeps.secured
-
-    outcomes : kept.know.outcomes ≡ (known objects history).outcomes
-    outcomes = ap (λ (q : Recovered). q.know.outcomes) is ∙ log.keeps.outcomes
+    held = (kept_logged objects s history r kept is can ended log).secured

@@ -9,13 +9,13 @@ use Rattle.cam_recman.specs.declared.Recovered.{Recovered}
 use Rattle.cam_recman.specs.Says.{Says}
 use Rattle.cam_recman.proofs.Said.{said_is_recovered}
 use Rattle.cam_node.specs.Halting.{IsThrough, restarted}
-use Rattle.cam_node.specs.Keeping.{IsLogOf, KeepsHistory, KeepsNode, IsRestart, HasRestarted, IsRestartOf, IsRestartHalt}
+use Rattle.cam_node.specs.Keeping.{IsLogOf, KeepsNode, IsRestart, HasRestarted, IsRestartOf, IsRestartHalt}
 use Rattle.cam_node.specs.Log.{Logged}
 use Rattle.cam_node.specs.Opened.{CanRestart, MayRead, OpensRestarted, Restarts, kept_by, logged_of, raised}
 use Rattle.cam_node.specs.Renewed.{IsRenewed, crash_of}
 use Rattle.cam_node.specs.Represents.{Node}
 use Rattle.cam_node.proofs.HaltedSteps.{reads_said}
-use Rattle.cam_node.proofs.Renewed.{renewed, restart_logged}
+use Rattle.cam_node.proofs.Renewed.{renewed, renewed_order, restart_logged}
 use Rattle.cam_node.proofs.Through.{restarts_go_through}
 
 is_restart : (objects : List ObjectDecl) (s : ℕ) (r kept : Recovered) (replaced : Bool) (new :
@@ -33,14 +33,15 @@ is_restart objects s r kept replaced new now event node is can says has event_is
         through = subst (λ (n : ℕ). IsThrough objects n (restarted objects s history ∷ history))
             (sym has.number) (restarts_go_through objects s history ended);
         represents = renewed objects s history r kept new node is can has ended log;
-        keeps = subst (λ (n : ℕ). KeepsHistory objects n (restarted objects s history ∷ history) now)
-            (sym has.number)
-            (record {
-              recovered = kept_by replaced r kept;
-              says = says;
-              is_log = restart_logged
-                  objects s history r kept replaced node is can.0 log;
-            });
+        keeps = record {
+          recovered = kept_by replaced r kept;
+          says = says;
+          is_log =
+              subst (λ (n : ℕ). IsLogOf objects n (restarted objects s history ∷ history)
+              (logged_of (kept_by replaced r kept))) (sym has.number)
+              (restart_logged objects s history r kept replaced node is can.0 log);
+        };
+        order = renewed_order objects s history r kept replaced new is can has ended log;
       });
 }
 

@@ -1,61 +1,47 @@
--- Where a prepare comes, the order of what the log holds and of what is live goes on.
-use Rattle.std.proofs.Common.{◌≡◌, ◌≤◌, ℕ, true, List, [], ◌∷◌, ◌++◌, map, Option, Some, None, refl, sym, ap, ◌∙◌, subst}
+-- Where a site secures a family, the order of what the log holds and of what is live goes on.
+use Rattle.std.proofs.Common.{◌≡◌, ℕ, true, List, [], ◌∷◌, ◌++◌, map, Option, Some, sym, ap, ◌∙◌, subst}
 use Rattle.std.specs.Prelude.{not, filter}
 use Rattle.std.specs.List.{list_any}
 use Rattle.cam_names.specs.declared.name.Name.{Name}
 use Rattle.cam_names.specs.Names.{ancestors}
 use Rattle.cam_type.specs.declared.ObjectDecl.{ObjectDecl}
 use Rattle.cam_type.specs.declared.Held.{Held}
-use Rattle.cam_type.specs.declared.HeldOp.{HeldOp}
 use Rattle.cam_know.specs.Knowledge.{Knowledge}
 use Rattle.cam_know.specs.Known.{both, news, knows_abort, new_aborts, new_commits}
 use Rattle.cam_know.specs.Order.{told_in_order}
-use Rattle.cam_event.specs.declared.Body.TheVariants as bodies
 use Rattle.cam_event.specs.declared.Deed.{Deed}
 use Rattle.cam_event.specs.declared.Deed.TheVariants.{Secure}
 use Rattle.cam_event.specs.declared.Event.{Event}
 use Rattle.cam_event.specs.declared.Letter.{Letter}
 use Rattle.cam_event.specs.declared.LetterId.{LetterId}
-use Rattle.cam_event.specs.Inputs.{Mail}
 use Rattle.cam_event.specs.Rules.{did, one, vote}
 use Rattle.cam_event.specs.ByPast.{event_of}
 use Rattle.cam_event.specs.ByKnowledge.{new_informs}
 use Rattle.cam_event.specs.Loads.{Load}
 use Rattle.cam_event.specs.ByDeltas.{Received}
 use Rattle.cam_comman.specs.Letters.{load_on}
-use Rattle.cam_recman.specs.declared.Record.{Record}
-use Rattle.cam_recman.specs.declared.Record.TheVariants as records
-use Rattle.cam_commit.specs.declared.Asked.{Asked}
-use Rattle.cam_commit.specs.declared.Asked.TheVariants as asked
-use Rattle.cam_commit.specs.Calls.{asked_of}
 use Rattle.cam_locks.specs.declared.LiveOp.{LiveOp}
 use Rattle.cam_locks.specs.Site as locks
-use Rattle.cam_locks.specs.Calls.{held, held_op, is_of}
+use Rattle.cam_locks.specs.Calls.{held_op, is_of}
 use Rattle.cam_server.specs.Events.{informs_abort}
-use Rattle.cam_server.specs.Steps.{is_call}
 use Rattle.cam_server.proofs.QuietDeeds.{informs_quiet}
-use Rattle.cam_node.specs.declared.did.Doing.{Doing}
 use Rattle.cam_node.specs.declared.knowing.Heard.{Heard}
 use Rattle.cam_node.specs.declared.learning.Learnt.{Learnt}
 use Rattle.cam_node.specs.declared.plan.Change.{Change}
-use Rattle.cam_node.specs.declared.plan.Change.TheVariants as changes
 use Rattle.cam_node.specs.declared.plan.Plan.{Plan}
 use Rattle.cam_node.specs.declared.state.Core.{Core}
 use Rattle.cam_node.specs.Represents.{Node}
 use Rattle.cam_node.specs.Calls.{answers, mail_on}
-use Rattle.cam_node.specs.Entries.{Holding}
 use Rattle.cam_node.specs.LogOrder.{IsInOrder, left_live}
-use Rattle.cam_node.specs.Plans.{HasSecured, Stands, HoldsRecord, IsPlanInOrderFor}
+use Rattle.cam_node.specs.Plans.{HasSecured, HoldsRecord, KeepsOrderFor, Stands, held_in}
 use Rattle.cam_node.specs.Planning.{IsMade}
-use Rattle.cam_node.specs.PlanOrder.{held_in, is_served, KeepsOrderFor}
-use Rattle.cam_node.specs.Prepared.{secures, asked_does}
+use Rattle.cam_node.specs.Prepared.{secures}
 use Rattle.cam_node.proofs.InOrder.{securing_in_order}
-use Rattle.cam_node.proofs.PlanOrder.{plans_keep_order}
 use Rattle.cam_node.proofs.GoesOn.{GoesOn}
 use Rattle.cam_node.proofs.SecureRecorded.{held_then, dropped_alike}
 use Rattle.cam_node.proofs.Unsecured.{informs_unsecured}
 
-secure_order : (objects : List ObjectDecl) (id : LetterId) (letter : Letter) (first core now : Core)
+pub secure_order : (objects : List ObjectDecl) (id : LetterId) (letter : Letter) (first core now : Core)
     (learnt : Learnt) (f : Name) (n : ℕ) (plan : Plan) → GoesOn letter first core now learnt
     → IsMade now id learnt (secures now.number (held_then learnt now f n)) plan
     → KeepsOrderFor objects id letter first now plan
@@ -125,32 +111,3 @@ secure_order objects id letter first core now learnt f n plan goes made new hist
         ∙ (λ i. filter (λ o. not (list_any (knows_abort (news_are i)) (ancestors o.action)))
         (goes.same.server.site i).live)
         ∙ dropped_alike s old.know brought old.server.table.site.live
-
-pub prepare_order : (objects : List ObjectDecl) (id : LetterId) (letter : Letter)
-    (first core now : Core)
-    (learnt : Learnt) (f : Name) (n : ℕ) (doing : Doing) (plan : Plan)
-    → letter.body ≡ bodies.Prepare f n
-    → GoesOn letter first core now learnt
-    → doing
-    ≡ asked_does now.number (held_then learnt now f n)
-    (asked_of now.knowing.known (answers now).families f n now.count)
-    → IsMade now id learnt doing plan → IsPlanInOrderFor objects id letter first now plan
-    → KeepsOrderFor objects id letter first now plan
-prepare_order objects id letter first core now learnt f n doing plan body goes does made is =
-    by (asked_of now.knowing.known (answers now).families f n now.count)
-    (subst (λ (d : Doing). IsMade now id learnt d plan) does made)
-  where
-    others : plan.change ≡ changes.Nothing → plan.adds ≡ None
-        → KeepsOrderFor objects id letter first now plan
-    others nothing none =
-        plans_keep_order objects _ (Some (mail_on letter)) (load_on letter) plan now.knowing.known
-        (answers first) (answers now) (ap is_call body)
-        (ap is_served nothing) (ap held_in none) goes.same is
-
-    by : (r : Asked)
-        → IsMade now id learnt (asked_does now.number (held_then learnt now f n) r) plan
-        → KeepsOrderFor objects id letter first now plan
-    by asked.Late made = others made.change made.adds
-    by asked.AlreadyYes made = others made.change made.adds
-    by asked.Refuse made = others made.change made.adds
-    by asked.Secure made = secure_order objects id letter first core now learnt f n plan goes made

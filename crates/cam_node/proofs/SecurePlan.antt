@@ -1,13 +1,12 @@
 -- The plan of a prepare at which the site secures the family.
-use Rattle.std.proofs.Common.{◌≡◌, ◌≤◌, ℕ, true, false, List, [], ◌∷◌, ◌++◌, length, map, Option, Some, refl, sym, ap, ◌∙◌, subst}
-use Rattle.std.specs.Prelude.{not, ◌||◌, filter}
-use Rattle.std.specs.List.{list_any}
+use Rattle.std.proofs.Common.{◌≡◌, ◌≤◌, ℕ, true, List, [], ◌∷◌, ◌++◌, length, map, Option, Some, sym, ap, ◌∙◌, subst}
+use Rattle.std.specs.Prelude.{◌||◌}
 use Rattle.cam_names.specs.declared.name.Name.{Name}
-use Rattle.cam_names.specs.Names.{ancestors, name_eq}
+use Rattle.cam_names.specs.Names.{name_eq}
 use Rattle.cam_type.specs.declared.ObjectDecl.{ObjectDecl}
 use Rattle.cam_type.specs.declared.Held.{Held}
 use Rattle.cam_know.specs.Knowledge.{Knowledge}
-use Rattle.cam_know.specs.Known.{nothing, both, news, knows_abort, knows_commit, is_abort_of, new_aborts, new_commits}
+use Rattle.cam_know.specs.Known.{nothing, news, knows_abort, knows_commit}
 use Rattle.cam_know.specs.Order.{told_in_order}
 use Rattle.cam_event.specs.declared.Body.TheVariants as bodies
 use Rattle.cam_event.specs.declared.Deed.{Deed}
@@ -18,51 +17,33 @@ use Rattle.cam_event.specs.declared.LetterId.{LetterId}
 use Rattle.cam_event.specs.Inputs.{Receives, Mail}
 use Rattle.cam_event.specs.Rules.{did, one, vote}
 use Rattle.cam_event.specs.ByPast.{event_of}
-use Rattle.cam_event.specs.ByKnowledge.{Carried, deeds_of, site, held_sight, node_step, new_informs}
+use Rattle.cam_event.specs.ByKnowledge.{held_sight, node_step, new_informs}
 use Rattle.cam_event.specs.Loads.{Load, noted_at, with_load}
-use Rattle.cam_event.specs.ByDeltas.{Received, as_carried, known}
-use Rattle.cam_event.proofs.Snoc.{filter_same}
+use Rattle.cam_event.specs.ByDeltas.{as_carried}
 use Rattle.cam_comman.specs.Letters.{load_on}
-use Rattle.cam_recman.specs.declared.Record.{Record}
-use Rattle.cam_recman.specs.declared.Record.TheVariants as records
 use Rattle.cam_commit.specs.declared.Asked.TheVariants as asked
-use Rattle.cam_commit.specs.Calls as commit
 use Rattle.cam_commit.specs.Calls.{asked_of}
 use Rattle.cam_tranman.specs.Calls as tranman
-use Rattle.cam_locks.specs.declared.LiveOp.{LiveOp}
-use Rattle.cam_locks.specs.Site as locks
-use Rattle.cam_locks.specs.Calls.{held, left_by}
 use Rattle.cam_server.specs.Calls as server
-use Rattle.cam_server.specs.Events.{informs_abort}
-use Rattle.cam_server.proofs.Informing.{any_each}
-use Rattle.cam_server.proofs.QuietDeeds.{informs_quiet}
-use Rattle.cam_server.proofs.ToldOutcomes.{any_news, abort_told, told_aborts}
-use Rattle.cam_node.specs.declared.did.Doing.{Doing}
 use Rattle.cam_node.specs.declared.knowing.Heard.{Heard}
 use Rattle.cam_node.specs.declared.learning.Learnt.{Learnt}
 use Rattle.cam_node.specs.declared.plan.Change.{Change}
-use Rattle.cam_node.specs.declared.plan.Change.TheVariants as changes
 use Rattle.cam_node.specs.declared.plan.Plan.{Plan}
 use Rattle.cam_node.specs.declared.state.Core.{Core}
 use Rattle.cam_node.specs.Represents.{Node, Represents}
-use Rattle.cam_node.specs.Calls.{answers, mail_on, letter_as, letters_of, AreSame}
-use Rattle.cam_node.specs.Entries.{Holding, deed_records}
-use Rattle.cam_node.specs.Log.{Logged, KeepsLog}
-use Rattle.cam_node.specs.LogOrder.{IsInOrder, left_live, is_any_secure}
+use Rattle.cam_node.specs.Calls.{answers, mail_on, letter_as, letters_of}
 use Rattle.cam_node.specs.Opened.{IsKnowledge}
-use Rattle.cam_node.specs.Plans.{HasSecured, Stands, IsHeard, IsRecorded, HoldsRecord, IsPlanInOrderFor, as_list}
+use Rattle.cam_node.specs.Plans.{HasSecured, Stands, IsHeard, HoldsRecord, IsPlanFor, IsPlanGiven, in_order}
 use Rattle.cam_node.specs.Planning.{IsMade}
 use Rattle.cam_node.specs.Prepared.{secures}
 use Rattle.cam_node.specs.Securing.{LearntAndSecured}
 use Rattle.cam_node.proofs.HomePlans.{ForEach, informed_before}
-use Rattle.cam_node.proofs.InOrder.{securing_in_order}
-use Rattle.cam_node.proofs.NothingAdded.{informs_add, records_behind}
 use Rattle.cam_node.proofs.Orderly.{put_is_asked, through_orderly}
 use Rattle.cam_node.proofs.GoesOn.{GoesOn}
 use Rattle.cam_node.proofs.PrepareComes.{asked_as, prepare_ruled}
 use Rattle.cam_node.proofs.Secures.{secures_keeps}
+use Rattle.cam_node.proofs.SecureOrder.{secure_order}
 use Rattle.cam_node.proofs.SecureRecorded.{held_then, secure_recorded}
-use Rattle.cam_node.proofs.Unsecured.{informs_unsecured}
 
 -- what the node is then is what its families and its site are after a Secure
 learnt_secured : (f : Name) (letter : Letter) (first core now : Core) (learnt : Learnt) (new : Node)
@@ -106,41 +87,12 @@ pub secure_plan : (objects : List ObjectDecl) (id : LetterId) (letter : Letter)
     → GoesOn letter first core now learnt
     → asked_of now.knowing.known (answers now).families f n now.count ≡ asked.Secure
     → IsMade now id learnt (secures now.number (held_then learnt now f n)) plan
-    → IsPlanInOrderFor objects id letter first now plan
-secure_plan objects id letter first core now learnt f n plan from body goes is made = record {
-  before = goes.received.before;
-  learnt = subst IsKnowledge goes.received.known goes.received.after;
-  heard =
-      subst (IsHeard (Some mail) load old.know) (sym made.heard)
-      (goes.received.news ∙ ap (λ (k : Knowledge). news k old.know) goes.received.known);
-  step = λ new stands. let has = as_made new stands in record {
-    number = has.learnt.number ∙ goes.same.number;
-    next = is_next;
-    represents = λ history through rep may.
-        subst (λ (e : Event). Represents objects (record {
-          event = e;
-          mail = Some mail;
-          load = load;
-        } ∷ history) new)
-        (sym (is_next history through rep may))
-        (secures_keeps objects history id mail load f n old new body
-        (asked_as objects history letter first core now learnt f n goes rep ∙ is)
-        (learnt_secured f letter first core now learnt new goes may.addressed has) from through
-        (through_orderly objects old.number history through)
-        (put_is_asked objects old.number
-        (held_sight objects old.number (map as_carried history) nothing) (Receives id)
-        (Some mail) load may) rep);
-  };
-  letters = λ new stands. let has = as_made new stands in
-      made.letters
-      ∙ (λ i. map
-      (letter_as (sym has.learnt.know i) (sym has.learnt.places_are i) (sym has.learnt.number i)
-      (sym has.learnt.count i)) (vote f n true))
-      ∙ ap (λ (e : Event). letters_of new e.sent) (sym event_is);
-  recorded = λ history logged holds through rep may keeps order held.
-      secure_recorded objects history letter first core now learnt f n plan logged holds goes rep keeps order
-      (subst (HoldsRecord holds) made.adds held) deeds_are made.adds;
-}
+    → IsPlanFor objects id letter first now plan
+secure_plan objects id letter first core now learnt f n plan from body goes is made =
+    record {
+      given = given;
+      order = secure_order objects id letter first core now learnt f n plan goes made;
+    }
   where
     old : Node
     old = answers first
@@ -191,3 +143,40 @@ secure_plan objects id letter first core now learnt f n plan from body goes is m
 
     deeds_are : plan.stepped.event.deeds ≡ first_informs ++ Secure f s n ∷ []
     deeds_are = ap (λ (e : Event). e.deeds) event_is
+
+    given : IsPlanGiven in_order objects (Receives id) (Some mail) load plan now.knowing.known old
+        (answers now)
+    given = record {
+      before = goes.received.before;
+      learnt = subst IsKnowledge goes.received.known goes.received.after;
+      heard =
+          subst (IsHeard (Some mail) load old.know) (sym made.heard)
+          (goes.received.news ∙ ap (λ (k : Knowledge). news k old.know) goes.received.known);
+      step = λ new stands. let has = as_made new stands in record {
+        number = has.learnt.number ∙ goes.same.number;
+        next = is_next;
+        represents = λ history through rep may.
+            subst (λ (e : Event). Represents objects (record {
+              event = e;
+              mail = Some mail;
+              load = load;
+            } ∷ history) new)
+            (sym (is_next history through rep may))
+            (secures_keeps objects history id mail load f n old new body
+            (asked_as objects history letter first core now learnt f n goes rep ∙ is)
+            (learnt_secured f letter first core now learnt new goes may.addressed has) from through
+            (through_orderly objects old.number history through)
+            (put_is_asked objects old.number
+            (held_sight objects old.number (map as_carried history) nothing) (Receives id)
+            (Some mail) load may) rep);
+      };
+      letters = λ new stands. let has = as_made new stands in
+          made.letters
+          ∙ (λ i. map
+          (letter_as (sym has.learnt.know i) (sym has.learnt.places_are i) (sym has.learnt.number i)
+          (sym has.learnt.count i)) (vote f n true))
+          ∙ ap (λ (e : Event). letters_of new e.sent) (sym event_is);
+      recorded = λ history logged holds through rep may keeps order held.
+          secure_recorded objects history letter first core now learnt f n plan logged holds goes rep keeps order
+          (subst (HoldsRecord holds) made.adds held) deeds_are made.adds;
+    }

@@ -1,65 +1,42 @@
 -- What a Secure adds to the entry of its event: what is held of the family stands for what is live of it.
-use Rattle.std.proofs.Common.{◌≡◌, ◌≤◌, ℕ, true, false, List, [], ◌∷◌, ◌++◌, length, map, Option, Some, refl, sym, ap, ◌∙◌, subst}
-use Rattle.std.specs.Prelude.{not, ◌||◌, filter}
+use Rattle.std.proofs.Common.{◌≡◌, ℕ, List, [], ◌∷◌, ◌++◌, map, Some, sym, ap, ◌∙◌}
+use Rattle.std.specs.Prelude.{not, filter}
 use Rattle.std.specs.List.{list_any}
 use Rattle.cam_names.specs.declared.name.Name.{Name}
-use Rattle.cam_names.specs.Names.{ancestors, name_eq}
+use Rattle.cam_names.specs.Names.{ancestors}
 use Rattle.cam_type.specs.declared.ObjectDecl.{ObjectDecl}
 use Rattle.cam_type.specs.declared.Held.{Held}
 use Rattle.cam_know.specs.Knowledge.{Knowledge}
-use Rattle.cam_know.specs.Known.{nothing, both, news, knows_abort, knows_commit, is_abort_of, new_aborts, new_commits}
+use Rattle.cam_know.specs.Known.{both, news, knows_abort, is_abort_of, new_aborts, new_commits}
 use Rattle.cam_know.specs.Order.{told_in_order}
-use Rattle.cam_event.specs.declared.Body.TheVariants as bodies
 use Rattle.cam_event.specs.declared.Deed.{Deed}
 use Rattle.cam_event.specs.declared.Deed.TheVariants.{Secure}
-use Rattle.cam_event.specs.declared.Event.{Event}
 use Rattle.cam_event.specs.declared.Letter.{Letter}
-use Rattle.cam_event.specs.declared.LetterId.{LetterId}
-use Rattle.cam_event.specs.Inputs.{Receives, Mail}
-use Rattle.cam_event.specs.Rules.{did, one, vote}
-use Rattle.cam_event.specs.ByPast.{event_of}
-use Rattle.cam_event.specs.ByKnowledge.{Carried, deeds_of, site, held_sight, node_step, new_informs}
-use Rattle.cam_event.specs.Loads.{Load, noted_at, with_load}
-use Rattle.cam_event.specs.ByDeltas.{Received, as_carried, known}
+use Rattle.cam_event.specs.Inputs.{Mail}
+use Rattle.cam_event.specs.ByKnowledge.{new_informs}
+use Rattle.cam_event.specs.ByDeltas.{Received, as_carried}
 use Rattle.cam_event.proofs.Snoc.{filter_same}
 use Rattle.cam_comman.specs.Letters.{load_on}
-use Rattle.cam_recman.specs.declared.Record.{Record}
 use Rattle.cam_recman.specs.declared.Record.TheVariants as records
-use Rattle.cam_commit.specs.declared.Asked.TheVariants as asked
-use Rattle.cam_commit.specs.Calls as commit
-use Rattle.cam_commit.specs.Calls.{asked_of}
-use Rattle.cam_tranman.specs.Calls as tranman
 use Rattle.cam_locks.specs.declared.LiveOp.{LiveOp}
 use Rattle.cam_locks.specs.Site as locks
 use Rattle.cam_locks.specs.Calls.{held, left_by}
-use Rattle.cam_server.specs.Calls as server
 use Rattle.cam_server.specs.Events.{informs_abort}
 use Rattle.cam_server.proofs.Informing.{any_each}
 use Rattle.cam_server.proofs.QuietDeeds.{informs_quiet}
 use Rattle.cam_server.proofs.ToldOutcomes.{any_news, abort_told, told_aborts}
-use Rattle.cam_node.specs.declared.did.Doing.{Doing}
-use Rattle.cam_node.specs.declared.knowing.Heard.{Heard}
 use Rattle.cam_node.specs.declared.learning.Learnt.{Learnt}
-use Rattle.cam_node.specs.declared.plan.Change.{Change}
-use Rattle.cam_node.specs.declared.plan.Change.TheVariants as changes
 use Rattle.cam_node.specs.declared.plan.Plan.{Plan}
 use Rattle.cam_node.specs.declared.state.Core.{Core}
 use Rattle.cam_node.specs.Represents.{Node, Represents}
-use Rattle.cam_node.specs.Calls.{answers, mail_on, letter_as, letters_of, AreSame}
+use Rattle.cam_node.specs.Calls.{answers, mail_on}
 use Rattle.cam_node.specs.Entries.{Holding, deed_records}
 use Rattle.cam_node.specs.Log.{Logged, KeepsLog}
-use Rattle.cam_node.specs.LogOrder.{IsInOrder, left_live, is_any_secure}
-use Rattle.cam_node.specs.Opened.{IsKnowledge}
-use Rattle.cam_node.specs.Plans.{HasSecured, Stands, IsHeard, IsRecorded, HoldsRecord, IsPlanFor, as_list}
-use Rattle.cam_node.specs.Planning.{IsMade}
-use Rattle.cam_node.specs.Prepared.{secures}
-use Rattle.cam_node.specs.Securing.{LearntAndSecured}
-use Rattle.cam_node.proofs.HomePlans.{ForEach, informed_before}
+use Rattle.cam_node.specs.LogOrder.{IsInOrder, left_live}
+use Rattle.cam_node.specs.Plans.{IsRecorded, as_list}
 use Rattle.cam_node.proofs.InOrder.{securing_in_order}
 use Rattle.cam_node.proofs.NothingAdded.{informs_add, records_behind}
-use Rattle.cam_node.proofs.Orderly.{put_is_asked, through_orderly}
 use Rattle.cam_node.proofs.GoesOn.{GoesOn}
-use Rattle.cam_node.proofs.PrepareComes.{asked_as, prepare_ruled}
 use Rattle.cam_node.proofs.Unsecured.{informs_unsecured}
 
 -- what is held of the family, once the site is informed of the letter's news

@@ -21,6 +21,7 @@ use Rattle.cam_node.specs.declared.did.Doing.{Doing}
 use Rattle.cam_node.specs.AtHome.{IsAtHome}
 use Rattle.cam_node.specs.Calls.{AreToNodes}
 use Rattle.cam_node.specs.Plans.{just}
+use Rattle.cam_node.specs.PlanOrder.{is_served}
 use Rattle.cam_node.specs.Started.{created_or, may_start_by, started_by}
 
 -- the tests, and what is done by them
@@ -61,16 +62,18 @@ start_rule objects g actions k from b counts is home orphan =
         ∙ (λ i. sym (eq-eqb (home_node b) actions.node (home ∙ sym is.node)) i && eqb (home_count b)
         actions.count)
 
--- it concerns the actions at home alone, and adds nothing to the entry; its letter goes to the
--- sender
+-- it concerns the actions at home alone, adds nothing to the entry, and changes them at most; its
+-- letter goes to the sender
+abbrev pub IsHomely : Doing → Type 0
+IsHomely doing = IsAtHome doing.did × (doing.adds ≡ None) × (is_served doing.change ≡ false)
+
 start_home : (from : ℕ) (b : Name) (counts : List ℕ) (here known : Bool) (reason : Option Reason)
-    → IsAtHome (by_tests from b counts here known reason).did ×
-    ((by_tests from b counts here known reason).adds ≡ None)
-start_home from b counts false known reason = (record { alone = refl; begins = λ f. refl }, refl)
-start_home from b counts true true reason = (record { alone = refl; begins = λ f. refl }, refl)
-start_home from b counts true false None = (record { alone = refl; begins = λ f. refl }, refl)
+    → IsHomely (by_tests from b counts here known reason)
+start_home from b counts false known reason = (record { alone = refl; begins = λ f. refl }, refl, refl)
+start_home from b counts true true reason = (record { alone = refl; begins = λ f. refl }, refl, refl)
+start_home from b counts true false None = (record { alone = refl; begins = λ f. refl }, refl, refl)
 start_home from b counts true false (Some reason) =
-    (record { alone = refl; begins = λ f. refl }, refl)
+    (record { alone = refl; begins = λ f. refl }, refl, refl)
 
 start_nodes : (from : ℕ) (b : Name) (counts : List ℕ) (here known : Bool) (reason : Option Reason)
     → (1 ≤ from) × (from ≤ 8)
@@ -91,8 +94,8 @@ starts_to_nodes actions k from b counts doing is node =
 
 pub starts_at_home : (actions : Actions) (k : Knowledge) (from : ℕ) (b : Name) (counts : List ℕ)
     (doing : Doing)
-    → doing ≡ started_by actions k from b counts → IsAtHome doing.did × (doing.adds ≡ None)
+    → doing ≡ started_by actions k from b counts → IsHomely doing
 starts_at_home actions k from b counts doing is =
-    subst (λ (d : Doing). IsAtHome d.did × (d.adds ≡ None)) (sym is)
+    subst IsHomely (sym is)
     (start_home from b counts (may_start_by actions b) (created actions b)
     (known_orphan k b (with_home counts b)))

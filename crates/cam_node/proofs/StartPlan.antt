@@ -1,5 +1,5 @@
 -- What is made of a start is its plan.
-use Rattle.std.proofs.Common.{◌≡◌, ℕ, ◌≤◌, List, length, map, None, sym, ap, ◌∙◌, subst}
+use Rattle.std.proofs.Common.{◌≡◌, ℕ, ◌≤◌, List, length, map, sym, ap, ◌∙◌, subst}
 use Rattle.cam_names.specs.declared.name.Name.{Name}
 use Rattle.cam_names.specs.Dependencies.{has_pair}
 use Rattle.cam_type.specs.declared.ObjectDecl.{ObjectDecl}
@@ -22,7 +22,6 @@ use Rattle.cam_node.specs.declared.learning.Learnt.{Learnt}
 use Rattle.cam_node.specs.declared.plan.Plan.{Plan}
 use Rattle.cam_node.specs.declared.state.Core.{Core}
 use Rattle.cam_node.specs.Represents.{Node}
-use Rattle.cam_node.specs.AtHome.{IsAtHome}
 use Rattle.cam_node.specs.Calls.{answers, mail_on, AreSame}
 use Rattle.cam_node.specs.Lawful.{IsForNode}
 use Rattle.cam_node.specs.Plans.{IsPlanFor}
@@ -31,7 +30,7 @@ use Rattle.cam_node.specs.Started.{started_by}
 use Rattle.cam_node.proofs.GoesBy.{goes_by}
 use Rattle.cam_node.proofs.HomePlans.{IsRuled}
 use Rattle.cam_node.proofs.PlanMade.{home_plan}
-use Rattle.cam_node.proofs.StartComes.{start_rule, starts_at_home}
+use Rattle.cam_node.proofs.StartComes.{IsHomely, start_rule, starts_at_home}
 use Rattle.cam_node.proofs.StartStands.{start_stands}
 
 pub start_plan : (objects : List ObjectDecl) (id : LetterId) (letter : Letter)
@@ -48,7 +47,7 @@ start_plan objects id letter first core now learnt doing plan b counts from body
     home_plan objects id letter first core now learnt doing plan from
     (subst HasCounts (sym body) eight)
     (λ f m n. ap (λ (y : Body). has_pair (yes_in f letter.from y) m n) body) quiet.0 quiet.1
-    received goes_on same made ruled
+    quiet.2 received goes_on same made ruled
     (λ new has.
     start_stands objects old (answers now) new id (mail_on letter) (load_on letter) learnt.heard
     now.knowing.known letter.from b counts doing
@@ -60,7 +59,7 @@ start_plan objects id letter first core now learnt doing plan b counts from body
     does : doing ≡ started_by old.actions now.knowing.known letter.from b counts
     does = is ∙ (λ i. started_by (received.actions i) (sym goes_on i) letter.from b counts)
 
-    quiet : IsAtHome doing.did × (doing.adds ≡ None)
+    quiet : IsHomely doing
     quiet = starts_at_home old.actions now.knowing.known letter.from b counts doing does
 
     ruled : IsRuled objects old id (mail_on letter) (load_on letter) doing.did

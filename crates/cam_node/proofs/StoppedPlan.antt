@@ -26,9 +26,12 @@ use Rattle.cam_node.specs.Calls.{letters_of}
 use Rattle.cam_node.specs.Entries.{AreHoldings, deed_records}
 use Rattle.cam_node.specs.GivingUp.{giving_up}
 use Rattle.cam_node.specs.Opened.{IsKnowledge}
-use Rattle.cam_node.specs.Plans.{HasLearnt, Stands, IsPlan, as_list}
+use Rattle.cam_server.specs.Events.{AreQuiet}
+use Rattle.cam_node.specs.Plans.{HasLearnt, Stands, IsPlan, as_list, held_in}
+use Rattle.cam_node.specs.PlanOrder.{is_served}
 use Rattle.cam_node.proofs.Nothing.{both_nothing}
-use Rattle.cam_node.proofs.Idle.{node_same}
+use Rattle.cam_node.proofs.Idle.{node_same, same_of}
+use Rattle.cam_node.proofs.PlanOrder.{dropping_plan}
 use Rattle.cam_node.proofs.Requested as requested
 use Rattle.cam_node.proofs.Requested.{request_is}
 
@@ -59,33 +62,38 @@ pub stopped_plan : (objects : List ObjectDecl) (a b : Name) (old mid : Node) (kn
     → plan.stepped.letters ≡ []
     → plan.heard ≡ None → plan.change ≡ changes.Nothing → plan.adds ≡ None
     → IsPlan objects (giving_up a b) None no_load plan known old mid
-stopped_plan objects a b old mid known reason plan same settled knows free orphan event_is letters_are heard change adds = record {
-  before = knows;
-  learnt = subst IsKnowledge (sym (told_nothing old.know knows)) knows;
-  heard = heard;
-  step = λ new stands.
-      let is = stays old mid new known same settled (as_made new stands) in
-      subst (λ (n : Node). IsStepThrough objects old n (giving_up a b) None no_load plan.stepped.event) (sym is)
-      (requested.stopped objects old old a (wants.GiveUp b) reason plan.stepped.event knows.counts free
-      (subst (λ (n : Node). Some reason ≡ known_orphan n.know a (pairs_of (deps n.actions a))) same orphan) event_old
-      (record {
-        number = refl;
-        count = refl;
-        know = refl;
-        places = refl;
-        actions = (node_same old).actions;
-        families = (node_same old).families;
-        server = (node_same old).server;
-      }));
-  letters = λ new stands. letters_are ∙ ap (λ (e : Event). letters_of new e.sent) (sym event_old);
-  recorded = λ history logged holds through rep may keeps given held. record {
-    records =
-        ap (λ (e : Event). deed_records holds objects (map as_carried history) None e.deeds) event_old ∙ sym (ap as_list adds);
-    holdings =
-        subst (λ (e : Event). AreHoldings holds (deeds_of (map as_carried history)) None (site (map as_carried history)) logged.held e.deeds)
-        (sym event_old) tt;
-  };
-}
+stopped_plan objects a b old mid known reason plan same settled knows free orphan event_is letters_are
+    heard change adds =
+    dropping_plan objects (giving_up a b) None no_load plan known old mid
+    (ap is_served change) (ap held_in adds) (same_of old mid same)
+    (subst (λ (e : Event). AreQuiet old.number e.deeds) (sym event_old) refl)
+    (record {
+      before = knows;
+      learnt = subst IsKnowledge (sym (told_nothing old.know knows)) knows;
+      heard = heard;
+      step = λ new stands.
+          let is = stays old mid new known same settled (as_made new stands) in
+          subst (λ (n : Node). IsStepThrough objects old n (giving_up a b) None no_load plan.stepped.event) (sym is)
+          (requested.stopped objects old old a (wants.GiveUp b) reason plan.stepped.event knows.counts free
+          (subst (λ (n : Node). Some reason ≡ known_orphan n.know a (pairs_of (deps n.actions a))) same orphan) event_old
+          (record {
+            number = refl;
+            count = refl;
+            know = refl;
+            places = refl;
+            actions = (node_same old).actions;
+            families = (node_same old).families;
+            server = (node_same old).server;
+          }));
+      letters = λ new stands. letters_are ∙ ap (λ (e : Event). letters_of new e.sent) (sym event_old);
+      recorded = λ history logged holds through rep may keeps given held. record {
+        records =
+            ap (λ (e : Event). deed_records holds objects (map as_carried history) None e.deeds) event_old ∙ sym (ap as_list adds);
+        holdings =
+            subst (λ (e : Event). AreHoldings holds (deeds_of (map as_carried history)) None (site (map as_carried history)) logged.held e.deeds)
+            (sym event_old) tt;
+      };
+    })
   where
     event_old : plan.stepped.event ≡ event_of old.number None [] (nothing_but (notes.Stopped a reason))
     event_old = event_is ∙ ap (λ (n : Node). event_of n.number None [] (nothing_but (notes.Stopped a reason))) same

@@ -1,5 +1,5 @@
 -- What comes of a node's own event that has no entry.
-use Rattle.std.proofs.Common.{◌≡◌, ℕ, ◌≤◌, true, List, Option, None, Result, Ok, Err, IfOk, OnErr, subst}
+use Rattle.std.proofs.Common.{◌≡◌, ℕ, ◌≤◌, true, List, Option, None, Result, Ok, Err, IfOk, OnErr, ap, ◌∙◌, subst}
 use Rattle.cam_type.specs.declared.ObjectDecl.{ObjectDecl}
 use Rattle.cam_event.specs.declared.Event.{Event}
 use Rattle.cam_event.specs.Inputs as rules
@@ -45,13 +45,13 @@ step_from objects old mid new input event own same step =
 
 pub keeps_from : (objects : List ObjectDecl) (old mid new : Node) (entries : List (List ℕ))
     (input : Input) (event : Event) → (1 ≤ old.number) × (old.number ≤ 8) → IsKnowledge old.know
-    → is_unlogged (input_of old.number input) ≡ true → mid ≡ old
+    → is_unlogged (input_of old.number input) ≡ true → mid ≡ old → new.server ≡ mid.server
     → IsStepThrough objects mid new (input_of mid.number input) None no_load event
     → KeepsOn objects old entries new entries (input_of old.number input) (mail_of input)
     (load_of input) event
-keeps_from objects old mid new entries input event node knows own same step =
+keeps_from objects old mid new entries input event node knows own same serves step =
     by input own (own_kept_on objects old new entries (input_of old.number input) event node knows
-    own (subst (λ (o : Node). IsStepThrough objects o new (input_of o.number input) None no_load
+    own (serves ∙ ap (λ (n : Node). n.server) same) (subst (λ (o : Node). IsStepThrough objects o new (input_of o.number input) None no_load
     event) same step))
   where
     by : (i : Input) → is_unlogged (input_of old.number i) ≡ true

@@ -1,9 +1,9 @@
 -- A vote that decides its family: what is made of it is its plan.
-use Rattle.std.proofs.Common.{◌≡◌, ℕ, ◌≤◌, eqb, Bool, true, false, not, ◌||◌, List, [], map, Option, Some, refl, sym, ap, ◌∙◌, subst}
+use Rattle.std.proofs.Common.{◌≡◌, ℕ, ◌≤◌, eqb, Bool, true, false, not, ◌||◌, List, Some, refl, sym, ap, ◌∙◌, subst}
 use Rattle.std.proofs.lemmas.Bool.{or_parts, not-false, true≢false}
 use borrow.Author.Tests.{eqb-true}
 use Rattle.cam_names.specs.declared.name.Name.{Name}
-use Rattle.cam_names.specs.Names.{is_top, home_node, home_count}
+use Rattle.cam_names.specs.Names.{is_top, home_count}
 use Rattle.cam_type.specs.declared.ObjectDecl.{ObjectDecl}
 use Rattle.cam_know.specs.Known.{knows_abort, knows_commit}
 use Rattle.cam_know.specs.declared.Outcome.{Outcome}
@@ -28,7 +28,7 @@ use Rattle.cam_node.specs.declared.state.Core.{Core}
 use Rattle.cam_node.specs.Represents.{Node}
 use Rattle.cam_node.specs.Calls.{answers, mail_on, AreSame}
 use Rattle.cam_node.specs.DecideRules.{is_closed, news_to}
-use Rattle.cam_node.specs.Decides.{IsOutcomeOf, MayDecide, decided_action}
+use Rattle.cam_node.specs.Decides.{IsOutcomeOf, decided_action}
 use Rattle.cam_node.specs.Lawful.{IsForNode}
 use Rattle.cam_node.specs.Plans.{IsPlanFor, MayStand, deciding}
 use Rattle.cam_node.specs.Planning.{HasReceived, IsMade, IsMadeDeciding}

@@ -1,23 +1,16 @@
 -- What is made of a vote is its plan.
-use Rattle.std.proofs.Common.{inl, inr, ◌⊎◌, ◌≡◌, ℕ, ◌≤◌, Bool, true, false, not, ◌&&◌, ◌||◌, if◌then◌else◌, List, [], ◌∷◌, map, Option, Some, None, refl, sym, ap, ◌∙◌, subst}
+use Rattle.std.proofs.Common.{inl, inr, ◌⊎◌, ◌≡◌, ℕ, ◌≤◌, Bool, true, false, not, ◌&&◌, ◌||◌, if◌then◌else◌, List, [], ◌∷◌, Some, refl, sym, ap, ◌∙◌, subst}
 use Rattle.std.specs.List.{list_all}
-use Rattle.std.proofs.lemmas.Bool.{cases_Bool, true≢false}
 use Rattle.cam_names.specs.declared.name.Name.{Name}
-use Rattle.cam_names.specs.Names.{is_top, home_node, home_count, name_eq}
+use Rattle.cam_names.specs.Names.{name_eq}
 use Rattle.cam_names.specs.Dependencies.{pairs_of}
 use Rattle.cam_type.specs.declared.ObjectDecl.{ObjectDecl}
-use Rattle.cam_know.specs.Knowledge.{Knowledge}
-use Rattle.cam_know.specs.declared.Outcome.{Outcome}
-use Rattle.cam_know.specs.declared.Outcome.TheVariants.{Aborted, Committed}
-use Rattle.cam_event.specs.declared.Body.{Body}
 use Rattle.cam_event.specs.declared.Body.TheVariants as bodies
 use Rattle.cam_event.specs.declared.Letter.{Letter}
 use Rattle.cam_event.specs.declared.LetterId.{LetterId}
 use Rattle.cam_event.specs.declared.Note.TheVariants as notes
-use Rattle.cam_event.specs.declared.Sent.{Sent}
-use Rattle.cam_event.specs.Rules.{Did, nothing_but}
+use Rattle.cam_event.specs.Rules.{nothing_but}
 use Rattle.cam_event.specs.Loads.{with_load}
-use Rattle.cam_event.specs.ByDeltas.{Received}
 use Rattle.cam_comman.specs.Letters.{load_on}
 use Rattle.cam_tranman.specs.Actions.{Actions, deps}
 use Rattle.cam_tranman.specs.Keeping.{HasCounts}
@@ -34,17 +27,12 @@ use Rattle.cam_node.specs.declared.vote_arrives.Vote.{Vote}
 use Rattle.cam_node.specs.declared.state.Core.{Core}
 use Rattle.cam_node.specs.Represents.{Node}
 use Rattle.cam_node.specs.Calls.{answers, mail_on, AreSame}
-use Rattle.cam_node.specs.DecideRules.{news_to}
-use Rattle.cam_node.specs.Decides.{IsOutcomeOf, decided_action}
-use Rattle.cam_node.specs.Plans.{HasLearnt, IsPlanFor, Stands, counting, deciding, just}
-use Rattle.cam_node.specs.Planning.{HasReceived, IsMade, IsMadeDeciding}
-use Rattle.cam_node.specs.Voting.{HasCounted, is_over, voted_at, weighed}
-use Rattle.cam_node.proofs.LetterPlans.{learnt_of, same_then}
-use Rattle.cam_node.proofs.DecidePlans.{decision_plan}
-use Rattle.cam_node.proofs.Decides.{AtLetter, top_is_learnt}
-use Rattle.cam_node.proofs.HomePlans.{ForEach, IsRuled}
+use Rattle.cam_node.specs.Plans.{HasLearnt, IsPlanFor, Stands, counting, just}
+use Rattle.cam_node.specs.Planning.{HasReceived, IsMade}
+use Rattle.cam_node.specs.Voting.{is_over, voted_at, weighed}
+use Rattle.cam_node.proofs.HomePlans.{IsRuled}
 use Rattle.cam_node.proofs.NotePlans.{note_plan, StandsNoted}
-use Rattle.cam_node.proofs.VoteFamilies.{GoOn, counted_families, decided_families, late_families}
+use Rattle.cam_node.proofs.VoteFamilies.{GoOn, counted_families, late_families}
 use Rattle.cam_node.proofs.VoteRule.{vote_is}
 
 -- the tests of the home, as it answered before the letter was learnt
@@ -145,7 +133,7 @@ pub over_plan : (objects : List ObjectDecl) (id : LetterId) (letter : Letter) (f
 over_plan objects id letter first core learnt f n agrees doing plan from body received over does
     made =
     note_plan objects id letter first core core learnt notes.Late changes.Nothing plan from
-    (subst HasCounts (sym body) tt) received refl received.same
+    (subst HasCounts (sym body) tt) refl received refl received.same
     (subst (λ (d : Doing). IsMade core id learnt d plan) does made)
     (rule_late objects id letter first core learnt f n agrees body received over)
     (stays objects id letter first core learnt f n agrees body received
@@ -172,7 +160,7 @@ pub late_plan : (objects : List ObjectDecl) (id : LetterId) (letter : Letter) (f
 late_plan objects id letter first core learnt f n agrees doing plan from body received in_time is
     does made =
     note_plan objects id letter first core core learnt notes.Late changes.Nothing plan from
-    (subst HasCounts (sym body) tt) received refl received.same
+    (subst HasCounts (sym body) tt) refl received refl received.same
     (subst (λ (d : Doing). IsMade core id learnt d plan) does made)
     (rule_weighed objects id letter first core learnt f n agrees voted.Late body received in_time
     is)
@@ -233,7 +221,7 @@ pub counted_plan : (objects : List ObjectDecl) (id : LetterId) (letter : Letter)
 counted_plan objects id letter first core now learnt vote doing plan from body node depends received
     goes_on same in_time is does made =
     note_plan objects id letter first core now learnt notes.Voted (changes.Voted vote) plan from
-    (subst HasCounts (sym body) tt) received goes_on same
+    (subst HasCounts (sym body) tt) refl received goes_on same
     (subst (λ (d : Doing). IsMade now id learnt d plan) does made)
     (rule_weighed objects id letter first core learnt vote.family vote.count vote.yes voted.Some
     body received in_time is)

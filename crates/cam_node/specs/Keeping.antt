@@ -17,6 +17,7 @@ use Rattle.cam_event.specs.ByDeltas.{Received, as_carried, known}
 use Rattle.cam_recman.specs.declared.Recovered.{Recovered}
 use Rattle.cam_recman.specs.Says.{Says}
 use Rattle.cam_node.specs.Log.{Logged, KeepsLog}
+use Rattle.cam_node.specs.LogOrder.{IsInOrder}
 use Rattle.cam_node.specs.Opened.{IsKnowledge, logged_of}
 use Rattle.cam_node.specs.Lawful.{MayBePut}
 use Rattle.cam_node.specs.Halting.{IsThrough, IsEnded, taken_step, restarted}
@@ -37,12 +38,14 @@ pub record KeepsHistory (objects : List ObjectDecl) (s : ℕ) (history : List Re
   pub says : Says entries recovered
   pub is_log : IsLogOf objects s history (logged_of recovered)
 
--- A node that runs, whose log lists these entries, stands for a history through halts.
+-- A node that runs, whose log lists these entries, stands for a history through halts. What the
+-- log holds of secured families and what is live at the site stand in one order.
 pub record KeepsNode (objects : List ObjectDecl) (history : List Received) (node : Node) (entries :
     List (List ℕ)) : Type 0 where
   pub through : IsThrough objects node.number history
   pub represents : Represents objects history node
   pub keeps : KeepsHistory objects node.number history entries
+  pub order : IsInOrder history keeps.recovered.held node.server.table.site
 
 -- what may be put to a node after its history
 abbrev pub MayBePutThen : List ObjectDecl → ℕ → List Received → Input → Option Mail → Load → Type 0

@@ -1,9 +1,10 @@
 -- An event that is planned: what it makes of the node when it stands, what it needs then, and what
 -- the plan owes.
-use Rattle.std.specs.Prelude.{◌≡◌, ℕ, ◌+◌, ◌≤◌, false, List, [], ◌∷◌, length, map, Option, Some, None}
+use Rattle.std.specs.Prelude.{◌≡◌, ℕ, ◌+◌, ◌≤◌, false, List, [], ◌∷◌, ◌++◌, length, map, Option, Some, None}
 use Rattle.cam_names.specs.declared.name.Name.{Name}
 use Rattle.cam_names.specs.Names.{home_node, home_count}
 use Rattle.cam_type.specs.declared.ObjectDecl.{ObjectDecl}
+use Rattle.cam_type.specs.declared.Held.{Held}
 use Rattle.cam_know.specs.Knowledge.{Knowledge}
 use Rattle.cam_know.specs.Known.{nothing, knows_abort, knows_commit, news}
 use Rattle.cam_know.specs.declared.Outcome.{Outcome}
@@ -247,24 +248,39 @@ nothing_given history logged node = Unit {0}
 abbrev pub in_order : List Received → Logged → Node → Type 0
 in_order history logged node = IsInOrder history logged.held node.server.table.site
 
--- a plan that secures nothing, and one that may secure a family
-abbrev pub IsPlan : List ObjectDecl → Input → Option Mail → Load → Plan → Knowledge → Node → Node
-    → Type 0
-IsPlan objects input mail load plan known old mid =
-    IsPlanGiven nothing_given objects input mail load plan known old mid
+-- what an event's record adds to what the log holds
+abbrev pub held_in : Option Record → List Held
+held_in (Some (records.Secure held)) = held ∷ []
+held_in _ = []
 
-abbrev pub IsPlanInOrder : List ObjectDecl → Input → Option Mail → Load → Plan → Knowledge → Node
+-- Whatever the history and the log: where they are in order with the node before, they are with the
+-- node as it is when the event stands.
+abbrev pub KeepsOrder : List ObjectDecl → Input → Option Mail → Load → Plan → Knowledge → Node
     → Node → Type 0
-IsPlanInOrder objects input mail load plan known old mid =
-    IsPlanGiven in_order objects input mail load plan known old mid
+KeepsOrder objects input mail load plan known old mid =
+    (new : Node) (history : List Received) (logged : Logged) (holds : Holding)
+    → Stands plan.change plan.heard known mid new → IsThrough objects old.number history
+    → Represents objects history old
+    → MayBePut objects old.number (held_sight objects old.number (map as_carried history) nothing)
+    input mail load
+    → KeepsLog objects old.number history logged → in_order history logged old
+    → HoldsRecord holds plan.adds
+    → IsInOrder (record { event = plan.stepped.event; mail = mail; load = load } ∷ history)
+    (logged.held ++ held_in plan.adds) new.server.table.site
+
+abbrev pub KeepsOrderFor : List ObjectDecl → LetterId → Letter → Core → Core → Plan → Type 0
+KeepsOrderFor objects id letter old new plan =
+    KeepsOrder objects (Receives id) (Some (mail_on letter)) (load_on letter) plan new.knowing.known
+    (answers old) (answers new)
+
+-- A PLAN: what it owes where the log is in order, and that the order goes on.
+pub record IsPlan (objects : List ObjectDecl) (input : Input) (mail : Option Mail) (load : Load)
+    (plan : Plan) (known : Knowledge) (old mid : Node) : Type 0 where
+  pub given : IsPlanGiven in_order objects input mail load plan known old mid
+  pub order : KeepsOrder objects input mail load plan known old mid
 
 -- the plan of a letter that comes, as the node's calls say it
 abbrev pub IsPlanFor : List ObjectDecl → LetterId → Letter → Core → Core → Plan → Type 0
 IsPlanFor objects id letter old new plan =
     IsPlan objects (Receives id) (Some (mail_on letter)) (load_on letter) plan new.knowing.known
     (answers old) (answers new)
-
-abbrev pub IsPlanInOrderFor : List ObjectDecl → LetterId → Letter → Core → Core → Plan → Type 0
-IsPlanInOrderFor objects id letter old new plan =
-    IsPlanInOrder objects (Receives id) (Some (mail_on letter)) (load_on letter) plan
-    new.knowing.known (answers old) (answers new)

@@ -1,9 +1,11 @@
 -- What a site does by its answer to a prepare.
-use Rattle.std.specs.Prelude.{◌≡◌, ◌≤◌, ℕ, true, false, length, List, Option, Some, IfSome}
+use Rattle.std.specs.Prelude.{◌≡◌, ◌≤◌, ℕ, true, false, if◌then◌else◌, length, List, Option, Some, IfSome}
 use Rattle.cam_names.specs.declared.name.Name.{Name}
+use Rattle.cam_names.specs.Names.{is_top}
 use Rattle.cam_type.specs.declared.ObjectDecl.{ObjectDecl}
 use Rattle.cam_type.specs.declared.Held.{Held}
 use Rattle.cam_bytes.specs.Ranges.{IsNumber}
+use Rattle.cam_know.specs.Knowledge.{Knowledge}
 use Rattle.cam_event.specs.declared.Deed.TheVariants.{Secure}
 use Rattle.cam_event.specs.declared.Note.TheVariants as notes
 use Rattle.cam_event.specs.Rules.{answers, did, nothing_but, one, vote}
@@ -13,9 +15,16 @@ use Rattle.cam_recman.specs.Versions.{IsOf}
 use Rattle.cam_recman.specs.Writable.{IsWritable}
 use Rattle.cam_commit.specs.declared.Asked.{Asked}
 use Rattle.cam_commit.specs.declared.Asked.TheVariants as asked
+use Rattle.cam_commit.specs.Calls.{asked_of}
+use Rattle.cam_commit.specs.Families.{Families}
 use Rattle.cam_node.specs.declared.did.Doing.{Doing}
 use Rattle.cam_node.specs.declared.plan.Change.TheVariants as changes
 use Rattle.cam_node.specs.Plans.{just}
+
+-- What its families answer. A family that is no top action is asked for by no letter: that is late.
+abbrev pub asked_for : Knowledge → Families → Name → ℕ → ℕ → Asked
+asked_for k families f n present =
+    if is_top f then asked_of k families f n present else asked.Late
 
 -- It secures the family, with what is held of it, and votes yes.
 abbrev pub secures : ℕ → Held → Doing

@@ -26,6 +26,7 @@ impl Core {
         ensures letters { IfOk result (λ stepped.
             stepped.letters ≡ letters_of (answers self.new) stepped.event.sent) }
         ensures err { OnErr result (AreSame (answers self.old) (answers self.new)) }
+        ensures server { (answers self.new).server ≡ (answers self.old).server }
     {
         self.settle()?;
         let deeds = room_for_one(self.alloc)?;

@@ -1,8 +1,8 @@
 //! Whether an input may be put to a node now.
 ghost use Rattle.std.specs.Prelude.{◌≡◌, ◌↔◌, IsTrue};
 ghost use Rattle.cam_event.specs.Runs.{IsNode};
-ghost use Rattle.cam_node.specs.Built.{HasIndex, HasNumber, MayStep, is_built};
 ghost use Rattle.cam_node.specs.Calls.{answers};
+ghost use Rattle.cam_node.specs.Numbers.{HasFewObjects, HasIndex, HasNumber, MayStep};
 
 use crate::Input;
 use crate::node::Node;
@@ -12,25 +12,18 @@ use cam_event::{Body, Request, Want};
 
 impl<L: CheckpointLog> Node<L> {
     /// What [`Node::step`] wants of an input besides that nothing stands against it
-    /// ([`Node::refusal`]): that its step is built, and that numbers are left. It takes no memory.
+    /// ([`Node::refusal`]): that numbers are left, and for a Prepare that at most 64 objects are
+    /// declared. It takes no memory.
     pub fn may_step(&self, input: &Input) -> bool
-        ensures built { IsTrue result → IsTrue (is_built input.now) }
-        ensures may { IsTrue result → MayStep (answers self.now.core) input.now }
-        ensures always { IsTrue (is_built input.now) → MayStep (answers self.now.core) input.now
-            → IsTrue result }
-    {
-        is_built(input) && self.has_numbers_for(input)
-    }
-
-    /// Whether numbers are left for an input.
-    fn has_numbers_for(&self, input: &Input) -> bool
         ensures { IsTrue result ↔ MayStep (answers self.now.core) input.now }
     {
         match input {
             Input::Begin => self.core.actions.tops() < 1_000_000_000,
             Input::Request(request) => self.core.has_number(request),
             Input::Letter(_, letter) => {
-                is_node(letter.from) && self.core.has_index(&letter.body)
+                is_node(letter.from)
+                    && self.core.has_index(&letter.body)
+                    && self.core.has_few_objects(&letter.body)
             }
             Input::Tell(to) => is_node(*to),
             Input::Query(_) => true,
@@ -64,26 +57,15 @@ impl Core {
             _ => true,
         }
     }
-}
 
-/// Whether the step of an input is built.
-fn is_built(input: &Input) -> bool
-    ensures { result ≡ is_built input.now }
-{
-    match input {
-        Input::Letter(_, letter) => {
-            matches!(
-                letter.body,
-                Body::Start { .. }
-                    | Body::Call { .. }
-                    | Body::Answer { .. }
-                    | Body::Finish { .. }
-                    | Body::Quit { .. }
-                    | Body::Vote { .. }
-                    | Body::News
-            )
+    /// Whether what a letter asks for can be logged.
+    fn has_few_objects(&self, body: &Body) -> bool
+        ensures { IsTrue result ↔ HasFewObjects (answers self.now) body.now }
+    {
+        match body {
+            Body::Prepare { .. } => self.server.table().object_count() <= 64,
+            _ => true,
         }
-        Input::Begin | Input::Request(_) | Input::Tell(_) | Input::Query(_) => true,
     }
 }
 

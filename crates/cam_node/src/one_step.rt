@@ -13,10 +13,10 @@ ghost use Rattle.cam_recman.specs.Versions.{AreOf};
 ghost use Rattle.cam_recman.specs.Writable.{IsWritable};
 ghost use Rattle.cam_type.specs.declared.Kind.TheVariants as kinds;
 ghost use Rattle.cam_node.specs.declared.fault.NodeFault.TheVariants.{DiskFault};
-ghost use Rattle.cam_node.specs.Built.{MayStep, is_built};
 ghost use Rattle.cam_node.specs.Calls.{answers, input_of, letters_of, load_of, mail_of, AreSame};
 ghost use Rattle.cam_node.specs.Halting.{IsStepThrough};
 ghost use Rattle.cam_node.specs.Keeping.{IsHalt, KeepsOn};
+ghost use Rattle.cam_node.specs.Numbers.{MayStep};
 ghost use Rattle.cam_node.specs.Opened.{IsKnowledge, MayRead, with_entry_of};
 ghost use Rattle.cam_node.specs.Planned.{heard_records, planned_records, MayBeAdded};
 ghost use Rattle.cam_node.specs.Plans.{as_list, MayStand, Stands};
@@ -101,7 +101,6 @@ impl<L: CheckpointLog> Node<L> {
         counter: &mut C,
     ) -> Result<Stepped, NodeFault>
         requires running { IsFalse self.old.log.halted }
-        requires built { IsTrue (is_built input.now) }
         requires free { IsNotRefused (answers self.old.core) input.now }
         requires may { MayStep (answers self.old.core) input.now }
         requires register { R.kind register.old ≡ kinds.Register }

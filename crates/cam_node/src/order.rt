@@ -14,7 +14,7 @@ pub fn orders_are_kept()
     ensures restart { RestartKeepsOrder }
 {}
 
-/// Where an event stands that was planned, and secures nothing and is no call, that order goes on.
+/// Where an event stands that was planned, and performs and secures nothing, that order goes on.
 pub(crate) fn plans_keep_order()
     ensures { PlansKeepOrder }
 {}

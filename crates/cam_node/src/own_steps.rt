@@ -4,10 +4,10 @@ ghost use Rattle.cam_event.specs.Loads.{no_load};
 ghost use Rattle.cam_type.specs.declared.ObjectDecl.{ObjectDecl};
 ghost use Rattle.cam_event.specs.Inputs.{Requests};
 ghost use Rattle.cam_tranman.specs.Calls.{IsFree};
-ghost use Rattle.cam_node.specs.Built.{HasNumber, MayStep};
 ghost use Rattle.cam_node.specs.Calls.{answers, input_of, letters_of, AreSame};
 ghost use Rattle.cam_node.specs.Halting.{IsStepThrough};
 ghost use Rattle.cam_node.specs.Refused.{IsNotRefused};
+ghost use Rattle.cam_node.specs.Numbers.{HasNumber, MayStep};
 ghost use Rattle.cam_node.specs.Unlogged.{gives_up, is_unlogged};
 
 use crate::state::Core;
@@ -29,6 +29,7 @@ impl Core {
             stepped.letters ≡ letters_of (answers self.new) stepped.event.sent) }
         ensures err { OnErr result (AreSame (answers self.old) (answers self.new)) }
         ensures number { self.new.number ≡ self.old.number }
+        ensures server { (answers self.new).server ≡ (answers self.old).server }
     {
         match input {
             Input::Begin => self.begin(),
@@ -52,6 +53,7 @@ impl Core {
             stepped.letters ≡ letters_of (answers self.new) stepped.event.sent) }
         ensures err { OnErr result (AreSame (answers self.old) (answers self.new)) }
         ensures number { self.new.number ≡ self.old.number }
+        ensures server { (answers self.new).server ≡ (answers self.old).server }
     {
         match &request.want {
             Want::Ask(node) => self.ask(&request.action, *node),

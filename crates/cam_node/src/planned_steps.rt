@@ -10,11 +10,11 @@ ghost use Rattle.cam_log.specs.Moments.{Stays};
 ghost use Rattle.cam_tranman.specs.Calls.{IsFree};
 ghost use Rattle.cam_type.specs.declared.Kind.TheVariants as kinds;
 ghost use Rattle.cam_node.specs.declared.fault.NodeFault.TheVariants.{DiskFault};
-ghost use Rattle.cam_node.specs.Built.{is_built_body, HasIndex};
 ghost use Rattle.cam_node.specs.Calls.{answers, letters_of, mail_on, AreSame};
 ghost use Rattle.cam_node.specs.GivingUp.{giving_up};
 ghost use Rattle.cam_node.specs.Halting.{IsStepThrough};
 ghost use Rattle.cam_node.specs.Keeping.{IsHalt, KeepsOn};
+ghost use Rattle.cam_node.specs.Numbers.{HasFewObjects, HasIndex};
 ghost use Rattle.cam_node.specs.Opened.{MayRead};
 
 use crate::Stepped;
@@ -27,7 +27,7 @@ use cam_names::Name;
 use cam_type::DataType;
 
 impl<L: CheckpointLog> Node<L> {
-    /// A letter comes of which the step is built. A call may go ahead of the news that came with it;
+    /// A letter comes. A call may go ahead of the news that came with it;
     /// where its event is not taken, what was done with it is taken back.
     pub(crate) fn letter<R: DataType, Q: DataType, C: DataType>(
         &mut self,
@@ -39,8 +39,8 @@ impl<L: CheckpointLog> Node<L> {
     ) -> Result<Stepped, NodeFault>
         requires running { IsFalse self.old.log.halted }
         requires from { (1 ≤ letter.now.from) × (letter.now.from ≤ 8) }
-        requires body { IsTrue (is_built_body letter.now.body) }
         requires index { HasIndex (answers self.old.core) letter.now.body }
+        requires few { HasFewObjects (answers self.old.core) letter.now.body }
         requires register { R.kind register.old ≡ kinds.Register }
         requires queue { Q.kind queue.old ≡ kinds.Queue }
         requires counter { C.kind counter.old ≡ kinds.Counter }

@@ -1,15 +1,15 @@
 //! *Prepare arrives*: a site is asked to secure a family at a count. Where it knows how the family ended that is late. Where it has secured the
 //! family before it votes yes again. At another count than its present one it has missed the family's calls, and votes no. Else it secures the
 //! family, and votes yes: the entry of the event has what is live of the family.
-ghost use Rattle.std.specs.Prelude.{◌≡◌, ◌≤◌, List, IfOk};
+ghost use Rattle.std.specs.Prelude.{◌≡◌, ◌≤◌, List, length, IfOk};
 ghost use Rattle.cam_type.specs.declared.ObjectDecl.{ObjectDecl};
 ghost use Rattle.cam_event.specs.declared.Body.TheVariants as bodies;
 ghost use Rattle.cam_event.specs.Rules.{answers as only_answers, vote};
 ghost use Rattle.cam_locks.specs.Calls.{held, left_by};
 ghost use Rattle.cam_node.specs.Calls.{answers, AreSame, AreToNodes};
-ghost use Rattle.cam_node.specs.Plans.{HaveSecured, IsPlanInOrderFor, MayStand, just};
-ghost use Rattle.cam_node.specs.PlanOrder.{KeepsOrderFor};
-ghost use Rattle.cam_node.specs.Prepared.{asked_does, secures, MayBeWritten};
+ghost use Rattle.cam_node.specs.Plans.{HaveSecured, IsPlanFor, MayStand, just};
+ghost use Rattle.cam_node.specs.Planned.{MayBeAdded};
+ghost use Rattle.cam_node.specs.Prepared.{asked_does, asked_for, secures, MayBeWritten};
 
 use crate::did::{Did, Doing};
 use crate::homes::home_of;
@@ -35,22 +35,30 @@ impl Core {
     ) -> Result<Plan, NoMemory>
         requires from { (1 ≤ letter.now.from) × (letter.now.from ≤ 8) }
         requires body { letter.now.body ≡ bodies.Prepare family.now count }
+        requires few { length (answers self.old).server.table.site.objects ≤ 64 }
         ensures same { AreSame (answers self.old) (answers self.new) }
         ensures plan { (objects : List ObjectDecl) → IfOk result (λ plan.
-            IsPlanInOrderFor objects id.now letter.now self.old self.new plan) }
-        ensures order { (objects : List ObjectDecl) → IfOk result (λ plan.
-            KeepsOrderFor objects id.now letter.now self.old self.new plan) }
+            IsPlanFor objects id.now letter.now self.old self.new plan) }
         ensures may { IfOk result (λ plan. MayStand plan self.new) }
-        ensures writable { IfOk result (λ plan. MayBeWritten family.now count
-            (answers self.old).server.table.site.objects plan.adds) }
+        ensures adds { IfOk result (λ plan. MayBeAdded plan.adds) }
     {
         let learnt = self.receive(letter)?;
         self.families.reserve()?;
-        let asked = self
-            .families
-            .asked(family, count, self.count, self.knowing.know());
+        let asked = self.asked(family, count);
         let doing = self.asked_does(&asked, family, count, &learnt.heard.news)?;
         self.planned(id, learnt, doing)
+    }
+
+    /// What the families answer a prepare.
+    fn asked(&self, family: &Name, count: u32) -> Asked
+        ensures { result ≡ asked_for self.now.knowing.known (answers self.now).families
+            family.now count self.now.count }
+    {
+        if family.depth() != 1 {
+            return Asked::Late;
+        }
+        self.families
+            .asked(family, count, self.count, self.knowing.know())
     }
 
     /// What a site does by its answer to a prepare, where it is informed of these outcomes first.

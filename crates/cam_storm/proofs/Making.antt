@@ -1,10 +1,10 @@
 -- What a rule makes of a letter or request that may be put to a node: of its deeds what is created, called and crashed, and of its letters where
 -- they go and what they depend on.
-use Rattle.std.proofs.Common.{◌≡◌, inl, inr, ℕ, ◌≤◌, eqb, Bool, true, false, not, ◌||◌, if◌then◌else◌, List, [], ◌∷◌, Option, Some, None, refl, sym, ◌∙◌, arith}
+use Rattle.std.proofs.Common.{◌≡◌, inl, inr, ℕ, ℤ, ◌≤◌, eqb, Bool, true, false, not, ◌||◌, if◌then◌else◌, List, [], ◌∷◌, Option, Some, None, refl, sym, ap, ◌∙◌, subst, arith}
 use Rattle.std.specs.Prelude.{nat_lt, find, unwrap_or}
 use Rattle.std.specs.List.{list_any}
 use Rattle.cam_names.specs.declared.name.Name.{Name}
-use Rattle.cam_names.specs.Names.{ancestors, parent, home_node, home_count}
+use Rattle.cam_names.specs.Names.{ancestors, is_top, parent, home_node, home_count}
 use Rattle.cam_names.specs.Dependencies.{pairs_of}
 use Rattle.cam_type.specs.declared.ObjectDecl.{ObjectDecl}
 use Rattle.cam_type.specs.declared.Op.{Op}
@@ -18,12 +18,14 @@ use Rattle.cam_event.specs.declared.Note.TheVariants as notes
 use Rattle.cam_event.specs.declared.Deed.TheVariants.{Create, Perform, Bounce, Got, Secure, Crash}
 use Rattle.cam_event.specs.History.{Addressed, created, secured_at, call_of}
 use Rattle.cam_event.specs.Live.{site_of}
-use Rattle.cam_event.specs.Inputs.{Input, Begins, Requests, Receives, Tells, Queries, Restarts, Mail, decider}
+use Rattle.cam_event.specs.Inputs.{Input, Begins, Requests, Receives, Tells, Queries, Restarts, Mail, decider, decider_of}
 use Rattle.cam_event.specs.Sights.{Sight, present, is_present, knows_outcome, is_preparing, kept_reply, votes}
 use Rattle.cam_event.specs.Rules.{Did, did, nothing_but, answers, send, one, stopped_by, commits, aborts, news, wanted, top_name, with_home, start_comes, lift_here, is_conflict_here, on_object, bounced, served, refused_or_served, again_or, call_comes, awaits, got_reply, gone_or, answer_comes, decides_child, commits_or_aborts, prepares, finish_comes, quit_comes, vote, prepare_comes, all_yes, vote_comes, query_comes, arrives, rule}
 use Rattle.cam_event.specs.Loads.{Load}
-use Rattle.cam_node.specs.Lawful.{IsLetter, MayBePut}
+use Rattle.cam_node.specs.Lawful.{IsForNode, IsLetter, MayBePut}
+use Rattle.cam_cut.proofs.TopGood.{parent_top}
 use Rattle.cam_storm.specs.Lawful.{IsFrom, ComesFrom}
+use Rattle.cam_storm.proofs.Driving.{named_at}
 use Rattle.cam_storm.proofs.Rules.{StartOf, LetterFine, Fine, if_fine, none_fine, stopped_fine, one_sent, answers_fine, deed_fine, both_fine, aborts_deeds, commits_deeds, news_one, news_fine, prepares_sent, wanted_fine}
 
 module _ (objects : List ObjectDecl) (g : Sight) (mail : Option Mail) (input : Input) where
@@ -76,17 +78,17 @@ module _ (objects : List ObjectDecl) (g : Sight) (mail : Option Mail) (input : I
   decided_fine b None = record { deeds = commits_deeds objects g mail input b; sent = λ m i. absurd i }
   decided_fine b (Some reason) = record { deeds = aborts_deeds objects g mail input b; sent = λ m i. absurd i }
 
-  prepares_fine : (a : Name) (o : Option Reason) → Fine objects g mail input (prepares g a o)
-  prepares_fine a None = record { deeds = λ x i. absurd i; sent = prepares_sent objects g mail input a (pairs_of (g.deps a)) }
-  prepares_fine a (Some reason) = record { deeds = aborts_deeds objects g mail input a; sent = news_fine objects g mail input a }
+  prepares_fine : (a : Name) (o : Option Reason) → is_top a ≡ true → Fine objects g mail input (prepares g a o)
+  prepares_fine a None top = record { deeds = λ x i. absurd i; sent = λ m i. prepares_sent objects g mail input a (pairs_of (g.deps a)) m top i }
+  prepares_fine a (Some reason) top = record { deeds = aborts_deeds objects g mail input a; sent = news_fine objects g mail input a }
 
-  finish_fine : (b : Name) (p : Option Name) (counts : List ℕ) → Fine objects g mail input (finish_comes g b p counts)
-  finish_fine b (Some p) counts =
+  finish_fine : (b : Name) (p : Option Name) (counts : List ℕ) → (p ≡ None → is_top b ≡ true) → Fine objects g mail input (finish_comes g b p counts)
+  finish_fine b (Some p) counts top =
       let rest : Did = commits_or_aborts g b (g.orphan b (pairs_of counts)) in
       if_fine objects g mail input (not (decides_child g p b)) (nothing_but notes.Late) (stopped_by p (g.orphan p (pairs_of (g.deps p))) rest) (λ e. none_fine objects g mail input notes.Late)
       (λ e. stopped_fine objects g mail input p (g.orphan p (pairs_of (g.deps p))) rest (decided_fine b (g.orphan b (pairs_of counts))))
-  finish_fine b None counts =
-      if_fine objects g mail input (not (is_present g b) || knows_outcome g b || is_preparing g b) (nothing_but notes.Late) (prepares g b (g.orphan b (pairs_of (g.deps b)))) (λ e. none_fine objects g mail input notes.Late) (λ e. prepares_fine b (g.orphan b (pairs_of (g.deps b))))
+  finish_fine b None counts top =
+      if_fine objects g mail input (not (is_present g b) || knows_outcome g b || is_preparing g b) (nothing_but notes.Late) (prepares g b (g.orphan b (pairs_of (g.deps b)))) (λ e. none_fine objects g mail input notes.Late) (λ e. prepares_fine b (g.orphan b (pairs_of (g.deps b))) (top refl))
 
   quit_fine : (b : Name) (p : Option Name) → Fine objects g mail input (quit_comes g b p)
   quit_fine b (Some p) =
@@ -137,14 +139,20 @@ module _ (objects : List ObjectDecl) (g : Sight) (mail : Option Mail) (input : I
       not_not false h = cc
 
 -- a letter that may be handed to the node
-arrives_fine : (objects : List ObjectDecl) (g : Sight) (m : Mail) (input : Input) (s : ℕ) (load : Load) → IsLetter objects s m load → IsFrom m.from m.body → Fine objects g (Some m) input (arrives objects g m.from m.body)
-arrives_fine objects g m input s load is from = by m.body refl from
+arrives_fine : (objects : List ObjectDecl) (g : Sight) (m : Mail) (input : Input) (s : ℕ) (load : Load) → 1 ≤ s → IsLetter objects s m load → IsFrom m.from m.body → Fine objects g (Some m) input (arrives objects g m.from m.body)
+arrives_fine objects g m input s load low is from = by m.body refl from
   where
+    -- a finish of an action without a parent is of a top action
+    top_of : (b : Name) (v : ℤ) (counts : List ℕ) → m.body ≡ bodies.Finish b v counts → parent b ≡ None → is_top b ≡ true
+    top_of b v counts at alone =
+        let home : home_node b ≡ s = ap (decider_of b) (sym alone) ∙ subst (IsForNode objects s) at is.for_node in
+        parent_top b (named_at b (subst (λ (n : ℕ). 1 ≤ n) (sym home) low)) alone
+
     by : (body : Body) → m.body ≡ body → IsFrom m.from body → Fine objects g (Some m) input (arrives objects g m.from body)
     by (bodies.Start b counts) at decides = start_fine objects g (Some m) input m.from b counts decides (λ here. (counts, at, here))
     by (bodies.Call a n x op c counts) at f = call_fine objects g (Some m) input a n x op c counts
     by (bodies.Answer a n reply) at f = answer_fine objects g (Some m) input a n reply
-    by (bodies.Finish b v counts) at f = finish_fine objects g (Some m) input b (parent b) counts
+    by (bodies.Finish b v counts) at f = finish_fine objects g (Some m) input b (parent b) counts (top_of b v counts at)
     by (bodies.Quit b) at f = quit_fine objects g (Some m) input b (parent b)
     by (bodies.Prepare f c) at h = prepare_fine objects g (Some m) input f c
     by (bodies.Vote f c agrees) at h = vote_fine objects g (Some m) input m.from f c agrees
@@ -159,7 +167,7 @@ rule_fine objects s g h mail load (Requests r) low node may from no_tell no_quer
     stopped_fine objects g mail (Requests r) r.action (g.orphan r.action (pairs_of (g.deps r.action))) (wanted objects g r.action r.want)
     (wanted_fine objects g mail (Requests r) r.action r.want (omega (arith, low, node)) (may.0 ∙ sym node) may.2)
 rule_fine objects s g h None load (Receives letter) low node may from no_tell no_query = absurd may
-rule_fine objects s g h (Some m) load (Receives letter) low node may from no_tell no_query = arrives_fine objects g m (Receives letter) s load may from
+rule_fine objects s g h (Some m) load (Receives letter) low node may from no_tell no_query = arrives_fine objects g m (Receives letter) s load low may from
 rule_fine objects s g h mail load (Tells m to) low node may from no_tell no_query = absurd (no_tell m to refl)
 rule_fine objects s g h mail load (Queries m f) low node may from no_tell no_query = absurd (no_query m f refl)
 rule_fine objects s g h mail load (Restarts m) low node may from no_tell no_query = deed_fine objects g mail (Restarts m) (Crash g.node) refl

@@ -105,10 +105,10 @@ module _ (objects : List ObjectDecl) (g : Sight) (mail : Option Mail) (input : I
   pub news_fine : (f : Name) (m : Sent) → In m (news g f) → LetterFine objects g m
   news_fine f m i = all_news (filter (λ p. not (eqb p.0 g.node)) (pairs_of (g.deps f))) m i
 
-  pub prepares_sent : (a : Name) (ps : List (ℕ × ℕ)) (m : Sent) → In m (map (λ p. send p.0 (bodies.Prepare a p.1)) ps) → LetterFine objects g m
-  prepares_sent a ps m i =
+  pub prepares_sent : (a : Name) (ps : List (ℕ × ℕ)) (m : Sent) → is_top a ≡ true → In m (map (λ p. send p.0 (bodies.Prepare a p.1)) ps) → LetterFine objects g m
+  prepares_sent a ps m top i =
       let found = in_image (λ (p : ℕ × ℕ). send p.0 (bodies.Prepare a p.1)) ps m i in
-      subst (LetterFine objects g) (sym found.2) (record { for_node = tt; counts = inl refl; from = tt })
+      subst (LetterFine objects g) (sym found.2) (record { for_node = top; counts = inl refl; from = tt })
 
   -- a request
   pub wanted_fine : (a : Name) (want : Want) → 1 ≤ g.node → home_node a ≡ g.node → IsWant objects want → Fine objects g mail input (wanted objects g a want)

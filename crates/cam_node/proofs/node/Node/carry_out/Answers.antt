@@ -13,13 +13,13 @@ pub returns-in-Ok-clause-step : goal.returns-in-Ok-clause-step
 returns-in-Ok-clause-step g c = λ input mail load before may.
     let new = answers c.take.new.self.core in
     subst (λ (s : Stepped). IsStepThrough c.args.self.now.objects before new input mail load s.event)
-    (sym c.in-Ok.ensures.stepped) (may.planned.step new c.in-Ok.ensures.stands)
+    (sym c.in-Ok.ensures.stepped) (may.planned.given.step new c.in-Ok.ensures.stands)
 
 pub returns-in-Ok-clause-letters : goal.returns-in-Ok-clause-letters
 returns-in-Ok-clause-letters g c = λ input mail load before may.
     let new = answers c.take.new.self.core in
     subst (λ (s : Stepped). s.letters ≡ letters_of new s.event.sent)
-    (sym c.in-Ok.ensures.stepped) (may.planned.letters new c.in-Ok.ensures.stands)
+    (sym c.in-Ok.ensures.stepped) (may.planned.given.letters new c.in-Ok.ensures.stands)
 
 pub returns-in-Ok-clause-keeps : goal.returns-in-Ok-clause-keeps
 returns-in-Ok-clause-keeps g c = λ input mail load before may.

@@ -16,4 +16,4 @@ returns-clause-keeps g c =
     c.args.self.now.core) (answers c.own.new.self)
     (g.L.EntryLog.listed c.args.self.now.log.log) c.args.input.now c.in_ok-own.field-0.event
     c.args.self.now.numbered c.is_knowledge.ensures c.requires.own
-    refl (c.in_ok-own.ensures.step c.args.self.now.objects)
+    refl c.own.ensures.server (c.in_ok-own.ensures.step c.args.self.now.objects)

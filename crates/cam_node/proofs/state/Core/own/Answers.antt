@@ -25,5 +25,11 @@ returns-in-Begin-clause-number c =
 pub returns-in-Tell-clause-number : goal.returns-in-Tell-clause-number
 returns-in-Tell-clause-number c = ap (λ (n : Node). n.number) c.tell.ensures.same
 
+pub returns-in-Tell-clause-server : goal.returns-in-Tell-clause-server
+returns-in-Tell-clause-server c = ap (λ (n : Node). n.server) c.tell.ensures.same
+
+pub returns-in-Query-clause-server : goal.returns-in-Query-clause-server
+returns-in-Query-clause-server c = ap (λ (n : Node). n.server) c.query.ensures.same
+
 pub returns-in-Query-clause-number : goal.returns-in-Query-clause-number
 returns-in-Query-clause-number c = ap (λ (n : Node). n.number) c.query.ensures.same

@@ -15,7 +15,10 @@ use Rattle.cam_node.proofs.state.Core.start_comes.Goals as goal
 
 pub returns-clause-plan : goal.returns-clause-plan
 returns-clause-plan c = λ objects.
-    let now : Core = record c.receive.new.self { actions = c.reserve.new.self } in
+    let now : Core = record c.receive.new.self {
+      actions = c.reserve.new.self;
+      counted = c.self-1.given.0;
+    } in
     IfOk-weaker c.planned.result
     (λ plan. IsMade now c.args.id.now c.in_ok-learnt.learnt c.in_ok-doing.doing plan)
     (λ plan. IsPlanFor objects c.args.id.now c.args.letter.now c.args.self.now now plan)
@@ -33,7 +36,10 @@ returns-clause-plan c = λ objects.
 
 pub returns-clause-may : goal.returns-clause-may
 returns-clause-may c =
-    let now : Core = record c.receive.new.self { actions = c.reserve.new.self } in
+    let now : Core = record c.receive.new.self {
+      actions = c.reserve.new.self;
+      counted = c.self-1.given.0;
+    } in
     IfOk-weaker c.planned.result
     (λ plan. IsMade now c.args.id.now c.in_ok-learnt.learnt c.in_ok-doing.doing plan)
     (λ plan. MayStand plan now)
@@ -49,7 +55,10 @@ returns-clause-may c =
 
 pub returns-clause-adds : goal.returns-clause-adds
 returns-clause-adds c =
-    let now : Core = record c.receive.new.self { actions = c.reserve.new.self } in
+    let now : Core = record c.receive.new.self {
+      actions = c.reserve.new.self;
+      counted = c.self-1.given.0;
+    } in
     IfOk-weaker c.planned.result
     (λ plan. IsMade now c.args.id.now c.in_ok-learnt.learnt c.in_ok-doing.doing plan)
     (λ plan. plan.adds ≡ None)

@@ -1,5 +1,5 @@
 -- A vote comes.
-use Rattle.std.proofs.Common.{◌≡◌, ℕ, List, true, false, refl, sym, ap, ◌∙◌}
+use Rattle.std.proofs.Common.{ℕ, List, refl, ap, ◌∙◌}
 use Rattle.std.proofs.lemmas.Result.{IfOk-weaker}
 use Rattle.cam_know.specs.declared.Outcome.TheVariants.{Aborted, Committed}
 use Rattle.cam_event.specs.declared.Note.TheVariants as notes
@@ -64,7 +64,10 @@ returns-in-Late-clause-plan c = λ objects.
 pub returns-in_ok-reserve-in-Some-clause-plan : goal.returns-in_ok-reserve-in-Some-clause-plan
 returns-in_ok-reserve-in-Some-clause-plan c = λ objects.
     let core : Core = c.receive.new.self in
-    let now : Core = record c.receive.new.self { families = c.reserve.new.self } in
+    let now : Core = record c.receive.new.self {
+      families = c.reserve.new.self;
+      counted = c.self-1.given.0;
+    } in
     let vote : Vote = record {
       family = c.args.family.now;
       node = c.args.letter.now.from;

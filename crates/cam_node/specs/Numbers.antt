@@ -1,5 +1,5 @@
--- The inputs whose steps are built, and what an input must keep that is put to a node.
-use Rattle.std.specs.Prelude.{◌≤◌, ◌<◌, Bool, true, false}
+-- What an input must keep that is put to a node: numbers that are left.
+use Rattle.std.specs.Prelude.{◌≤◌, ◌<◌, length}
 use Rattle.cam_names.specs.declared.name.Name.{Name}
 use Rattle.cam_event.specs.declared.Body.{Body}
 use Rattle.cam_event.specs.declared.Body.TheVariants as bodies
@@ -12,20 +12,6 @@ use Rattle.cam_node.specs.declared.Input.{Input}
 use Rattle.cam_node.specs.declared.Input.TheVariants as inputs
 use Rattle.cam_node.specs.Represents.{Node}
 
-abbrev pub is_built_body : Body → Bool
-is_built_body (bodies.Start b counts) = true
-is_built_body (bodies.Call a n x op c counts) = true
-is_built_body (bodies.Answer a n reply) = true
-is_built_body (bodies.Finish a v counts) = true
-is_built_body (bodies.Quit a) = true
-is_built_body (bodies.Vote f c agrees) = true
-is_built_body bodies.News = true
-is_built_body _ = false
-
-abbrev pub is_built : Input → Bool
-is_built (inputs.Letter id letter) = is_built_body letter.body
-is_built _ = true
-
 -- A child is asked for at one of the eight nodes, and has a number; a call is on an object of one
 -- of them, and has a number.
 abbrev pub HasNumber : Node → Name → Want → Type 0
@@ -33,6 +19,11 @@ HasNumber node a (wants.Ask m) = (1 ≤ m) × (m ≤ 8) × (asks node.actions a 
 HasNumber node a (wants.Call x op) = IsNode (site_of node.server.table.site.objects x) × (calls
     node.actions a < 1000000000)
 HasNumber node a _ = Unit {0}
+
+-- What is secured of a family can be logged where at most 64 objects are declared.
+abbrev pub HasFewObjects : Node → Body → Type 0
+HasFewObjects node (bodies.Prepare f c) = length node.server.table.site.objects ≤ 64
+HasFewObjects node _ = Unit {0}
 
 -- A call that comes gets an index, if it is performed.
 abbrev pub HasIndex : Node → Body → Type 0
@@ -43,6 +34,7 @@ HasIndex node _ = Unit {0}
 abbrev pub MayStep : Node → Input → Type 0
 MayStep node inputs.Begin = node.actions.tops < 1000000000
 MayStep node (inputs.Request request) = HasNumber node request.action request.want
-MayStep node (inputs.Letter id letter) = IsNode letter.from × HasIndex node letter.body
+MayStep node (inputs.Letter id letter) =
+    IsNode letter.from × HasIndex node letter.body × HasFewObjects node letter.body
 MayStep node (inputs.Tell to) = (1 ≤ to) × (to ≤ 8)
 MayStep node (inputs.Query family) = Unit {0}
