@@ -215,8 +215,7 @@ stops_stay objects k s before e lost found a beyond =
 
 pub restarts_find_the_event : RestartsFindTheEvent
 restarts_find_the_event script halts line restarted s before e lost found sites net asleep logged
-new
-    event stands under node eight none whole log restart =
+    new event stands under node eight none whole log restart =
     restarts_stand script halts line restarted found s sites net asleep logged new event under
     node eight none
     (wholes_stand script.objects s before e lost found sites net [] asleep stands whole) log
