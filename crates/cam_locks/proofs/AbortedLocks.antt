@@ -23,10 +23,6 @@ use Rattle.cam_locks.proofs.Members.{in_filter, in_filtered, filter_agree, same_
 use Rattle.cam_locks.proofs.Lifts.{lift_ancestor, lift_below, ancestor_through}
 use Rattle.cam_locks.proofs.NestedLocks.{nested_filter}
 
--- an abort of an action that is not committed drops a leader together with those that it leads
-pub stays : Name → LiveOp → Bool
-stays n o = not (is_below n o)
-
 stays_with : (ns : List Name) (n : Name) (o t : LiveOp) (u : Name) → has_name ns n ≡ false → lift_in ns o.action ≡ Some u → lift_in ns t.action ≡ Some u
     → is_below n o ≡ false → is_below n t ≡ false
 stays_with ns n o t u open_yet is same not_below = by_test (is_below n t) refl

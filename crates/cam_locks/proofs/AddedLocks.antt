@@ -1,19 +1,15 @@
 -- What an operation of each mode makes of what is kept of an object.
-use Rattle.std.proofs.Common.{◌≡◌, ℕ, ℤ, true, List, refl, sym, ap, subst, ◌∙◌}
+use Rattle.std.proofs.Common.{◌≡◌, ℕ, List, refl, sym, ap, subst, ◌∙◌}
 use Rattle.cam_names.specs.declared.name.Name.{Name}
-use Rattle.cam_type.specs.declared.State.{State}
 use Rattle.cam_type.specs.declared.Answer.{Answer}
 use Rattle.cam_type.specs.declared.Mode.{Mode}
 use Rattle.cam_type.specs.declared.Mode.TheVariants.{Read, Write, Add}
-use Rattle.cam_type.specs.declared.State.TheVariants.{Register, Queue, Counter}
-use Rattle.cam_type.specs.declared.Op.{Op}
-use Rattle.cam_type.specs.Table.{kind_of, fits, mode_of, answer_of}
+use Rattle.cam_type.specs.Table.{mode_of, answer_of}
 use Rattle.cam_locks.specs.declared.LiveOp.{LiveOp}
 use Rattle.cam_locks.specs.declared.versions.Version.{Version}
 use Rattle.cam_locks.specs.Holding.{LocksView, leaders_of, KeepsLeaders}
-use Rattle.cam_locks.specs.Changes.{with_leader, with_write, added_by, last_state, met, LastIsLive, LeadersStay, VersionsStay, Tidied, IsDone}
+use Rattle.cam_locks.specs.Changes.{with_leader, with_write, added_by, met, LastIsLive, LeadersStay, VersionsStay, Tidied, IsDone}
 use Rattle.cam_locks.specs.Sums.{sum_on, IsStart}
-use Rattle.cam_locks.proofs.Modes.{counters_have_no_writes}
 
 -- Lists of leaders and versions that stay right make what is kept of the object tidied.
 pub tidied : (ns : List Name) (os : List LiveOp) (l : LocksView) (readers writers adders : List LiveOp) (versions : List Version)
@@ -64,12 +60,6 @@ done_read ns os o answer l room readers tidy mode range read stay last answered 
       (λ i. record l { readers = led i; versions = tidy })
       ∙ sym (ap (λ (m : Mode). added_by m ns os (record l { readers = room; versions = tidy }) o) mode);
 }
-
--- a write that fits meets what was written last
-pub met_by_write : (start : State) (versions : List Version) (sum : ℤ) (op : Op) → fits (kind_of start) op ≡ true → mode_of op ≡ Write → last_state start versions ≡ met start versions sum
-met_by_write (Register v) versions sum op fit mode = refl
-met_by_write (Queue items) versions sum op fit mode = refl
-met_by_write (Counter v) versions sum op fit mode = absurd (counters_have_no_writes v op fit mode)
 
 -- A write was done: what leads the writers has one more, and the versions have its state.
 pub done_write : (ns : List Name) (os : List LiveOp) (o : LiveOp) (answer : Answer) (l : LocksView) (room writers : List LiveOp) (tidy versions : List Version)

@@ -1,7 +1,6 @@
 -- Tests that answer true or false, and what may be there.
-use Rattle.std.proofs.Common.{◌≡◌, ◌≤◌, ◌<◌, ℕ, eqb, Bool, true, false, not, ◌&&◌, ◌||◌, cond, List, [], ◌∷◌, length, inl, inr, Option, Some, None, Result, Ok, Err, refl, ap, ◌∙◌, arith}
+use Rattle.std.proofs.Common.{◌≡◌, ◌≤◌, ◌<◌, ℕ, eqb, Bool, true, false, not, ◌&&◌, ◌||◌, cond, List, [], ◌∷◌, inl, inr, Option, Some, None, Result, Ok, Err, refl, ap, ◌∙◌, arith}
 use Rattle.std.specs.Prelude.{is_none, is_some, nat_le, filter, find, OnErr, OnSome, IsSome}
-use Rattle.std.specs.Bool.{◌==◌}
 use Rattle.std.proofs.lemmas.Bool.{cases_Bool}
 use Rattle.std.specs.List.{list_any}
 
@@ -40,14 +39,6 @@ lt_from i j h = grind arith
 -- where the test of an order passes it holds
 pub le_from : (i j : ℕ) → nat_le i j ≡ true → i ≤ j
 le_from i j h = grind arith
-
-pub any_kept : {X : Type 0} (test : X → Bool) (xs : List X) → not (length (filter test xs) == 0) ≡ list_any test xs
-any_kept test [] = refl
-any_kept {X} test (x ∷ xs) = by_test (test x) (any_kept test xs)
-  where
-    by_test : (b : Bool) → not (length (filter test xs) == 0) ≡ list_any test xs → not (length (cond b (x ∷ filter test xs) (filter test xs)) == 0) ≡ (b || list_any test xs)
-    by_test true rest = grind arith
-    by_test false rest = rest
 
 -- What follows from a fact holds where memory ran out, if the fact does.
 pub on_err : {T E : Type 0} (r : Result T E) (P Q : Type 0) → (P → Q) → OnErr r P → OnErr r Q

@@ -1,16 +1,10 @@
 -- Each operation fits its object, whatever is left out, put at the end or put in order.
 use Rattle.std.proofs.Common.{◌≡◌, ℕ, ◌<◌, nat_lt, Bool, true, false, cond, List, [], ◌∷◌, ◌++◌, length, get_or, Option, Some, None, Result, Ok, Err, zero, suc, sym, ap, subst, ◌∙◌, arith}
-use Rattle.std.specs.Prelude.{filter, slice_get, pos, OnOk, OnErr}
-use Rattle.std.specs.Option.{option_map_or}
-use Rattle.std.proofs.lemmas.Bool.{and_parts}
-use Rattle.cam_type.specs.declared.Op.{Op}
-use Rattle.cam_type.specs.declared.State.TheVariants.{Register}
-use Rattle.cam_type.specs.Table.{kind_of, fits}
+use Rattle.std.specs.Prelude.{filter, OnOk, OnErr}
 use Rattle.cam_names.specs.declared.name.Name.{Name}
 use Rattle.cam_type.specs.declared.ObjectDecl.{ObjectDecl}
 use Rattle.cam_locks.specs.declared.LiveOp.{LiveOp}
-use Rattle.cam_locks.specs.Site.{is_here, fits_here, AreFit}
-use Rattle.cam_type.specs.Objects.{start_of, is_fit}
+use Rattle.cam_locks.specs.Site.{fits_here, AreFit}
 use Rattle.cam_locks.specs.Changes.{by_holder}
 use Rattle.cam_locks.specs.Restored.{put_in_order, in_order}
 
@@ -58,12 +52,3 @@ pub fit_at : (objects : List ObjectDecl) (node : ℕ) (os : List LiveOp) (i : �
 fit_at objects node [] i x lt is fit = absurd (omega arith)
 fit_at objects node (o ∷ os) zero x lt is fit = ap (λ (p : LiveOp). fits_here objects node p.object p.op) is ∙ fit.0
 fit_at objects node (o ∷ os) (suc i) x lt is fit = fit_at objects node os i x (omega arith) is fit.1
-
--- an op that fits an object fits the kind of its start state
-pub fit_start : (objects : List ObjectDecl) (node x : ℕ) (op : Op) → fits_here objects node x op ≡ true → fits (kind_of (start_of objects x)) op ≡ true
-fit_start objects node x op h = by (slice_get objects x) (and_parts (is_here objects node x) (is_fit objects x op) h).1
-  where
-    by : (r : Option ObjectDecl) → option_map_or (λ o. fits (kind_of o.start) op) r false ≡ true
-        → fits (kind_of (option_map_or (λ o. o.start) r (Register (pos 0)))) op ≡ true
-    by None h = cc
-    by (Some o) h = h

@@ -107,10 +107,3 @@ current_found test (w ∷ vs) (suc i) v lt is passes none =
     let rest : last_current test vs ≡ slice_get vs i = current_found test vs i v (omega arith) is passes none in
     let at : slice_get vs i ≡ Some v = got_at vs i v (omega arith) is in
     ap (λ (r : Option Version). option_or r (if test w then Some w else None)) (rest ∙ at) ∙ sym at
-
-pub current_passed : (test : Version → Bool) (vs : List Version) (i : ℕ) (v : Version) → i < length vs → v ≡ get_or vs i v → test v ≡ false
-    → last_current test (drop (suc i) vs) ≡ None → last_current test (drop i vs) ≡ None
-current_passed test [] i v lt is fails none = absurd (omega arith)
-current_passed test (w ∷ vs) zero v lt is fails none =
-    ap (λ (r : Option Version). option_or r (if test w then Some w else None)) none ∙ ap (λ (b : Bool). cond b (Some w) None) (ap test (sym is) ∙ fails)
-current_passed test (w ∷ vs) (suc i) v lt is fails none = current_passed test vs i v (omega arith) is fails none

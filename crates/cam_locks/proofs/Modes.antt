@@ -1,13 +1,13 @@
 -- All that the proofs use of the modes: each is one of the three, writes are not compatible, what is no write leaves the state of an object
 -- that is no counter, and a counter has no writes. And which lists are changed for an operation of a mode.
-use Rattle.std.proofs.Common.{◌≡◌, if◌then◌else◌, true, false, ◌||◌, List, [], ◌∷◌, ℤ, refl}
+use Rattle.std.proofs.Common.{◌≡◌, if◌then◌else◌, true, false, ◌||◌, List, [], ◌∷◌, refl}
 use Rattle.cam_type.specs.declared.State.{State}
 use Rattle.cam_type.specs.declared.State.TheVariants.{Register, Queue, Counter}
 use Rattle.cam_type.specs.declared.Op.{Op}
 use Rattle.cam_type.specs.declared.Op.TheVariants as ops
 use Rattle.cam_type.specs.declared.Mode.{Mode}
 use Rattle.cam_type.specs.declared.Mode.TheVariants.{Read, Write, Add}
-use Rattle.cam_type.specs.Table.{kind_of, fits, state_after, mode_of, compatible}
+use Rattle.cam_type.specs.Table.{state_after, mode_of, compatible}
 use Rattle.cam_names.specs.declared.name.Name.{Name}
 use Rattle.cam_locks.specs.declared.LiveOp.{LiveOp}
 use Rattle.cam_locks.specs.Holding.{mode_eq, LocksView, leaders_of, fresh}
@@ -76,16 +76,6 @@ no_counter (Queue []) ops.Take k = refl
 no_counter (Queue (v ∷ items)) ops.Take k = refl
 no_counter (Queue items) (ops.Add w) k = refl
 no_counter (Counter v) op k = cc
-
--- a counter has no writes
-pub counters_have_no_writes : (v : ℤ) (op : Op) → fits (kind_of (Counter v)) op ≡ true → mode_of op ≡ Write → ⊥
-counters_have_no_writes v ops.Read f m = absurd cc
-counters_have_no_writes v (ops.Write w) f m = absurd cc
-counters_have_no_writes v (ops.Swap w) f m = absurd cc
-counters_have_no_writes v ops.Size f m = absurd cc
-counters_have_no_writes v (ops.Put w) f m = absurd cc
-counters_have_no_writes v ops.Take f m = absurd cc
-counters_have_no_writes v (ops.Add w) f m = absurd cc
 
 -- an operation leaves the start state
 pub added_start : (m : Mode) (ns : List Name) (os : List LiveOp) (l : LocksView) (o : LiveOp) → (added_by m ns os l o).start ≡ l.start

@@ -8,15 +8,13 @@ use Rattle.cam_names.specs.declared.name.Name.{Name}
 use Rattle.cam_type.specs.declared.ObjectDecl.{ObjectDecl}
 use Rattle.cam_type.specs.declared.State.{State}
 use Rattle.cam_type.specs.declared.Mode.{Mode}
-use Rattle.cam_type.specs.declared.Op.{Op}
 use Rattle.cam_type.specs.Objects.{start_of}
 use Rattle.cam_type.specs.Table.{mode_of}
 use Rattle.cam_locks.specs.declared.LiveOp.{LiveOp}
 use Rattle.cam_locks.specs.declared.versions.Version.{Version}
 use Rattle.cam_locks.specs.Members.{In}
 use Rattle.cam_locks.specs.declared.kept.Kept.{Kept}
-use Rattle.cam_locks.specs.Site.{Site, IndicesRise, AreFit}
-use Rattle.cam_locks.specs.Calls.{with_operation}
+use Rattle.cam_locks.specs.Site.{IndicesRise, AreFit}
 use Rattle.cam_locks.specs.Granted.{IsKept, IsTakenBack}
 use Rattle.cam_locks.specs.Moss.{is_on}
 use Rattle.cam_locks.specs.Live.{other}
@@ -181,18 +179,4 @@ none_taken old kept none = record {
   taken = λ before p split also. absurd
       (none p (subst (λ (os : List LiveOp). In p os) (sym split)
       (in_right p before (p ∷ []) (inl refl))) also);
-}
-
--- the site as it was
-pub site_back : (site before : Site) (a : Name) (x : ℕ) (op : Op) (new : Site)
-    → site ≡ with_operation before a x op → new.objects ≡ site.objects → new.node ≡ site.node
-    → new.live ≡ before.live → new.committed ≡ site.committed → new.aborted ≡ site.aborted
-    → new.next ≡ before.next → new ≡ before
-site_back site before a x op new is objects node live committed aborted next = λ i. record {
-  objects = (objects ∙ ap (λ (s : Site). s.objects) is) i;
-  node = (node ∙ ap (λ (s : Site). s.node) is) i;
-  live = live i;
-  committed = (committed ∙ ap (λ (s : Site). s.committed) is) i;
-  aborted = (aborted ∙ ap (λ (s : Site). s.aborted) is) i;
-  next = next i;
 }

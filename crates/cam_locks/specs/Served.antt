@@ -1,27 +1,22 @@
 -- What a server holds behind an operation that was asked of it.
 use Rattle.std.specs.Prelude.{◌≡◌, ℕ, List}
 use Rattle.cam_names.specs.declared.name.Name.{Name}
-use Rattle.cam_type.specs.declared.ObjectDecl.{ObjectDecl}
 use Rattle.cam_type.specs.declared.State.{State}
 use Rattle.cam_type.specs.declared.Op.{Op}
 use Rattle.cam_type.specs.Table.{state_after}
 use Rattle.cam_locks.specs.declared.LiveOp.{LiveOp}
 use Rattle.cam_locks.specs.Site.{Site}
-use Rattle.cam_locks.specs.Moss.{holder_of, holder, value_of, value}
+use Rattle.cam_locks.specs.Moss.{holder, value}
 use Rattle.cam_locks.specs.Holding.{LocksView}
 use Rattle.cam_locks.specs.Sums.{sum_on, IsStart}
 use Rattle.cam_locks.specs.Changes.{met, LastIsLive, Tidied, by_holder}
-
--- Where someone stands in the way it is what the server held, else the state behind the op at the value that it meets.
-abbrev pub served_by : List ObjectDecl → List Name → List LiveOp → LiveOp → State → State
-served_by objects committed live o held =
-    by_holder (holder_of committed live o.action o.object o.op) held (state_after (value_of objects live o.object) o.op)
 
 abbrev pub served : Site → Name → ℕ → Op → State → State
 served site a x op held = by_holder (holder site a x op) held (state_after (value site x) op)
 
 -- The state is that behind an operation: what need not be kept was left out, and then it was done.
-pub record IsServed (committed : List Name) (live : List LiveOp) (o : LiveOp) (state : State) (old : LocksView) : Type 0 where
+pub record IsServed (committed : List Name) (live : List LiveOp) (o : LiveOp) (state : State)
+    (old : LocksView) : Type 0 where
   pub before : LocksView
   pub tidied : Tidied committed live old before
   pub last : LastIsLive live before.versions

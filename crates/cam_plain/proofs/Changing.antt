@@ -1,16 +1,14 @@
 -- What one more deed changes of what is kept of actions.
-use Rattle.std.proofs.Common.{◌≡◌, inl, inr, ℕ, ℤ, ◌+◌, ◌≤◌, Bool, true, false, ◌||◌, if◌then◌else◌, cond, List, ◌∷◌, length, Some, None, unwrap_or, refl, sym, ap, ◌∙◌}
+use Rattle.std.proofs.Common.{◌≡◌, inl, inr, ◌+◌, Bool, true, false, ◌||◌, if◌then◌else◌, cond, List, ◌∷◌, Some, unwrap_or, refl, sym, ap, ◌∙◌}
 use Rattle.std.specs.HashMap.{HashMap, get}
 use Rattle.std.proofs.lemmas.Bool.{cases_Bool}
 use Rattle.cam_names.specs.declared.name.Name.{Name}
 use Rattle.cam_names.specs.Names.{name_eq, is_child, parent}
 use Rattle.cam_names.proofs.Names.{name_eq_same, name_eq_sym}
 use Rattle.cam_names.proofs.Children.{is_some_name, child_of}
-use Rattle.cam_type.specs.declared.Op.{Op}
-use Rattle.cam_event.specs.declared.Seen.{Seen}
 use Rattle.cam_event.specs.declared.Deed.{Deed}
-use Rattle.cam_event.specs.declared.Deed.TheVariants.{Create, Ask, Call, Got, AskCommit, AskAbort}
-use Rattle.cam_event.specs.History.{created, asked_commit, asked_abort, committed, aborted, asks, calls, open_call}
+use Rattle.cam_event.specs.declared.Deed.TheVariants.{Ask}
+use Rattle.cam_event.specs.History.{committed, aborted, asks}
 use Rattle.cam_plain.specs.declared.actions.Action.{Action}
 use Rattle.cam_plain.specs.declared.actions.Change.{Change}
 use Rattle.cam_plain.specs.declared.actions.Change.TheVariants as changes
@@ -34,50 +32,6 @@ change_put old new b change r is put a =
           ap (λ o. unwrap_or o unnamed) (put a ∙ ap (λ t. cond t (Some r) (get name_eq old a)) (name_eq_sym b a ∙ other))
           ∙ ap (λ t. made t change (action_in old a)) (sym other)
     ]
-
--- a deed that changes one action
-pub one_change : {S : Type 0} (L : List Deed) (d : Deed) (b : Name) (change : Change) (old new : HashMap Name Action S)
-    → ((a : Name) → 1 ≤ length a → made (name_eq a b) change (action_of L a) ≡ action_of (d ∷ L) a)
-    → Changes change b old new → KeepsActions L old → KeepsActions (d ∷ L) new
-one_change L d b change old new step changes before a named =
-    changes a ∙ ap (made (name_eq a b) change) (before a named) ∙ step a named
-
--- what each deed says of an action
-pub create_step : (L : List Deed) (b a : Name) → made (name_eq a b) changes.Created (action_of L a) ≡ action_of (Create b ∷ L) a
-create_step L b a = by (name_eq a b)
-  where
-    by : (t : Bool) → made t changes.Created (action_of L a) ≡ record (action_of L a) { is_created = t || created L a }
-    by true = refl
-    by false = refl
-
-pub ask_commit_step : (L : List Deed) (b a : Name) (v : ℤ) → made (name_eq a b) changes.AskedCommit (action_of L a) ≡ action_of (AskCommit b v ∷ L) a
-ask_commit_step L b a v = by (name_eq a b)
-  where
-    by : (t : Bool) → made t changes.AskedCommit (action_of L a) ≡ record (action_of L a) { asked_commit = t || asked_commit L a }
-    by true = refl
-    by false = refl
-
-pub ask_abort_step : (L : List Deed) (b a : Name) → made (name_eq a b) changes.AskedAbort (action_of L a) ≡ action_of (AskAbort b ∷ L) a
-ask_abort_step L b a = by (name_eq a b)
-  where
-    by : (t : Bool) → made t changes.AskedAbort (action_of L a) ≡ record (action_of L a) { asked_abort = t || asked_abort L a }
-    by true = refl
-    by false = refl
-
-pub call_step : (L : List Deed) (b a : Name) (n x : ℕ) (op : Op) (c : ℕ) → made (name_eq a b) (changes.Called n) (action_of L a) ≡ action_of (Call b n x op c ∷ L) a
-call_step L b a n x op c = by (name_eq a b)
-  where
-    by : (t : Bool) → made t (changes.Called n) (action_of L a)
-        ≡ record (action_of L a) { calls = if t then calls L a + 1 else calls L a; open_call = if t then Some n else open_call L a }
-    by true = refl
-    by false = refl
-
-pub got_step : (L : List Deed) (b a : Name) (n : ℕ) (seen : Seen) → made (name_eq a b) changes.Got (action_of L a) ≡ action_of (Got b n seen ∷ L) a
-got_step L b a n seen = by (name_eq a b)
-  where
-    by : (t : Bool) → made t changes.Got (action_of L a) ≡ record (action_of L a) { open_call = if t then None else open_call L a }
-    by true = refl
-    by false = refl
 
 -- an Ask changes its parent and its child
 pub ask_both : {S : Type 0} (L : List Deed) (p b : Name) (old middle new : HashMap Name Action S)
@@ -119,9 +73,3 @@ pub decision_child : {S : Type 0} (L : List Deed) (outcome : Change) (b p : Name
 decision_child L outcome b p d old middle new is up first second before a named =
     second a ∙ ap (λ t. made t changes.ChildDecided (action_in middle a)) (ap (is_some_name a) up ∙ sym (child_of a b named))
     ∙ ap (made (is_child a b) changes.ChildDecided) (first a ∙ ap (made (name_eq a b) outcome) (before a named)) ∙ decided_by outcome b d is L a
-
-pub decision_top : {S : Type 0} (L : List Deed) (outcome : Change) (b : Name) (d : Deed) (old new : HashMap Name Action S) → IsDecision outcome b d → None ≡ parent b
-    → Changes outcome b old new → KeepsActions L old → KeepsActions (d ∷ L) new
-decision_top L outcome b d old new is up first before a named =
-    first a ∙ ap (made (name_eq a b) outcome) (before a named)
-    ∙ ap (λ t. made t changes.ChildDecided (made (name_eq a b) outcome (action_of L a))) (ap (is_some_name a) up ∙ sym (child_of a b named)) ∙ decided_by outcome b d is L a

@@ -1,10 +1,10 @@
 -- What a grant says of a call that comes to its site, and what is kept then.
-use Rattle.std.proofs.Common.{◌≡◌, ℕ, ◌≤◌, eqb, true, false, ◌&&◌, List, [], ◌∷◌, ◌++◌, length, Option, Some, None, refl, sym, ap, ◌∙◌, subst, eq-eqb}
+use Rattle.std.proofs.Common.{◌≡◌, ℕ, ◌≤◌, eqb, true, false, ◌&&◌, List, [], ◌∷◌, ◌++◌, length, Option, Some, None, sym, ap, ◌∙◌, subst, eq-eqb}
 use Rattle.std.specs.Prelude.{find, is_none, slice_get}
 use Rattle.std.specs.Option.{option_map_or}
 use Rattle.std.specs.HashMap.{HashMap}
 use Rattle.cam_names.specs.declared.name.Name.{Name}
-use Rattle.cam_names.specs.Names.{name_eq, ancestors, family}
+use Rattle.cam_names.specs.Names.{ancestors, family}
 use Rattle.cam_type.specs.declared.ObjectDecl.{ObjectDecl}
 use Rattle.cam_type.specs.declared.Op.{Op}
 use Rattle.cam_type.specs.declared.Answer.{Answer}
@@ -20,7 +20,7 @@ use Rattle.cam_event.specs.declared.Deed.{Deed}
 use Rattle.cam_event.specs.declared.Deed.TheVariants.{Perform}
 use Rattle.cam_event.specs.History.{informed, Addressed, call_of}
 use Rattle.cam_event.specs.Live.{live_on, lift_of, op_of, holder, value}
-use Rattle.cam_plain.specs.Tests.{is_performed, is_name, is_bounced}
+use Rattle.cam_plain.specs.Tests.{is_performed}
 use Rattle.cam_plain.specs.declared.site.Site.{Site}
 use Rattle.cam_plain.specs.Sites.{KeepsSite, AfterAttempt, Attempted, KeepsSites, with_abort_of}
 use Rattle.cam_plain.proofs.Alike.{none_same}
@@ -85,33 +85,6 @@ perform_done objects L a answer given call granted =
         → answer_eq answer given ≡ (is_none h && answer_eq answer (answer_of (value objects L call.object) call.op))
     by None g = let same : given ≡ answer_of (value objects L call.object) call.op = cc in ap (answer_eq answer) same
     by (Some u) g = cc
-
-pub perform_conflict : (objects : List ObjectDecl) (L : List Deed) (a : Name) (answer : Answer) (u : Name) (call : Addressed)
-    → Conflict u ≡ grant_by (holder objects L a call.object call.op) (answer_of (value objects L call.object) call.op) → false ≡ is_performed objects L a answer call
-perform_conflict objects L a answer u call granted =
-    by (holder objects L a call.object call.op) granted
-    ∙ ap (λ b. b && answer_eq answer (answer_of (value objects L call.object) call.op)) (sym (none_same (lift_of objects L) op_of a call.op (live_on objects L call.object)))
-  where
-    by : (h : Option Name) → Conflict u ≡ grant_by h (answer_of (value objects L call.object) call.op)
-        → false ≡ (is_none h && answer_eq answer (answer_of (value objects L call.object) call.op))
-    by None g = cc
-    by (Some v) g = refl
-
-pub bounce_done : (objects : List ObjectDecl) (L : List Deed) (a u : Name) (given : Answer) (call : Addressed)
-    → Done given ≡ grant_by (holder objects L a call.object call.op) (answer_of (value objects L call.object) call.op) → false ≡ is_bounced objects L a u call
-bounce_done objects L a u given call granted = by (holder objects L a call.object call.op) granted
-  where
-    by : (h : Option Name) → Done given ≡ grant_by h (answer_of (value objects L call.object) call.op) → false ≡ is_name u h
-    by None g = refl
-    by (Some v) g = cc
-
-pub bounce_conflict : (objects : List ObjectDecl) (L : List Deed) (a u named : Name) (call : Addressed)
-    → Conflict named ≡ grant_by (holder objects L a call.object call.op) (answer_of (value objects L call.object) call.op) → name_eq named u ≡ is_bounced objects L a u call
-bounce_conflict objects L a u named call granted = by (holder objects L a call.object call.op) granted
-  where
-    by : (h : Option Name) → Conflict named ≡ grant_by h (answer_of (value objects L call.object) call.op) → name_eq named u ≡ is_name u h
-    by None g = cc
-    by (Some v) g = let same : named ≡ v = cc in ap (λ w. name_eq w u) same
 
 -- and what is kept of the sites
 pub attempted_done : {S : Type 0} (objects : List ObjectDecl) (L : List Deed) (a : Name) (n : ℕ) (answer given other : Answer) (h : Option Name) (sites : HashMap ℕ Site S)

@@ -1,66 +1,10 @@
 -- Whether the live operations of a family at a site have been handed up, and whether all pairs are secured.
-use Rattle.std.proofs.Common.{◌≡◌, inl, inr, ℕ, ◌+◌, ◌<◌, eqb, Bool, true, false, not, ◌&&◌, ◌||◌, if◌then◌else◌, List, [], ◌∷◌, length, drop, get_or, zero, suc, refl, sym, ap, ◌∙◌, arith}
-use Rattle.std.specs.Prelude.{filter}
+use Rattle.std.proofs.Common.{◌≡◌, inl, inr, ℕ, ◌+◌, ◌<◌, eqb, Bool, true, false, ◌&&◌, ◌||◌, List, [], ◌∷◌, length, drop, get_or, zero, suc, refl, sym, ap, ◌∙◌, arith}
 use Rattle.std.specs.List.{list_all}
 use Rattle.std.proofs.lemmas.Bool.{cases_Bool, and_parts, and_from, true≢false, or_cases}
 use borrow.Author.Tests.{eqb-true}
 use Rattle.std.proofs.lemmas.Bool.Decides.{Decides-eqb}
-use Rattle.cam_names.specs.declared.name.Name.{Name}
-use Rattle.cam_names.specs.Names.{name_eq, family}
 use Rattle.cam_names.specs.Dependencies.{has_pair}
-use Rattle.cam_type.specs.declared.ObjectDecl.{ObjectDecl}
-use Rattle.cam_event.specs.declared.Deed.{Deed}
-use Rattle.cam_event.specs.declared.Operation.{Operation}
-use Rattle.cam_event.specs.Live.{lift, site_of}
-use Rattle.cam_plain.specs.Lines.{is_lift}
-use Rattle.cam_plain.specs.Tests.{is_held_below}
-
--- of these operations, those of the family at the site have been handed up to it
-abbrev pub left_over : List ObjectDecl → List Deed → Name → ℕ → List Operation → Bool
-left_over objects L f s os = list_all (λ o. is_lift f (lift L s o.action)) (filter (λ o. name_eq f (family o.action)) (filter (λ o. eqb (site_of objects o.object) s) os))
-
-all_kept : (P F G : Operation → Bool) → List Operation → Bool
-all_kept P F G os = list_all P (filter F (filter G os))
-
-held_step : (P F G : Operation → Bool) (o : Operation) (os : List Operation) → all_kept P F G (o ∷ os) ≡ (if G o && (F o && not (P o)) then false else all_kept P F G os)
-unfolding all_kept
-held_step P F G o os =
-    elim (cases_Bool (G o)) [
-      | inr g ↦ simp g refl
-      | inl g ↦ elim (cases_Bool (F o)) [
-        | inr f ↦ simp (g, f) refl
-        | inl f ↦ elim (cases_Bool (P o)) [
-          | inr p ↦ simp (g, f, p) refl
-          | inl p ↦ simp (g, f, p) refl
-        ]
-      ]
-    ]
-
-drop_at : (os : List Operation) (i : ℕ) (o : Operation) → i < length os → o ≡ get_or os i o → drop i os ≡ o ∷ drop (suc i) os
-drop_at [] i o h is = absurd (omega (arith, h))
-drop_at (p ∷ os) zero o h is = ap (λ (q : Operation). q ∷ os) (sym is)
-drop_at (p ∷ os) (suc i) o h is = drop_at os i o (omega (arith, h)) is
-
-left_step : (objects : List ObjectDecl) (L : List Deed) (f : Name) (s : ℕ) (o : Operation) (os : List Operation)
-    → left_over objects L f s (o ∷ os) ≡ (if is_held_below objects L f s o then false else left_over objects L f s os)
-unfolding all_kept
-left_step objects L f s o os =
-    held_step (λ o. is_lift f (lift L s o.action)) (λ o. name_eq f (family o.action)) (λ o. eqb (site_of objects o.object) s) o os
-
--- an operation that is held below makes the answer, and another makes none
-pub held_found : (objects : List ObjectDecl) (L : List Deed) (f : Name) (s : ℕ) (os : List Operation) (i : ℕ) (o : Operation) → i < length os → o ≡ get_or os i o
-    → left_over objects L f s (drop i os) ≡ left_over objects L f s os → is_held_below objects L f s o ≡ true → false ≡ left_over objects L f s os
-held_found objects L f s os i o h is so_far held =
-    sym (sym so_far ∙ ap (left_over objects L f s) (drop_at os i o h is) ∙ left_step objects L f s o (drop (suc i) os)
-    ∙ ap (λ (b : Bool). if b then false else left_over objects L f s (drop (suc i) os)) held)
-
-pub held_not : (objects : List ObjectDecl) (L : List Deed) (f : Name) (s : ℕ) (os : List Operation) (i : ℕ) (o : Operation) → i < length os → o ≡ get_or os i o
-    → left_over objects L f s (drop i os) ≡ left_over objects L f s os → is_held_below objects L f s o ≡ false → left_over objects L f s (drop (i + 1) os) ≡ left_over objects L f s os
-held_not objects L f s os i o h is so_far free =
-    let next : i + 1 ≡ suc i = omega arith in
-    ap (λ (k : ℕ). left_over objects L f s (drop k os)) next
-    ∙ sym (ap (left_over objects L f s) (drop_at os i o h is) ∙ left_step objects L f s o (drop (suc i) os)
-    ∙ ap (λ (b : Bool). if b then false else left_over objects L f s (drop (suc i) os)) free) ∙ so_far
 
 -- What holds of all pairs holds of each, and the other way round, so it goes by membership alone.
 pub all_each : (q : ℕ → ℕ → Bool) (ps : List (ℕ × ℕ)) → list_all (λ p. q p.0 p.1) ps ≡ true → (s c : ℕ) → has_pair ps s c ≡ true → q s c ≡ true

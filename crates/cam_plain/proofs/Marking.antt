@@ -1,9 +1,9 @@
 -- What one more Perform adds to the operations of a family, and that they tell whether all live ones have been handed up.
-use Rattle.std.proofs.Common.{◌≡◌, inl, inr, ℕ, ◌+◌, ◌<◌, length, drop, get_or, zero, suc, eqb, Bool, true, false, not, ◌&&◌, ◌||◌, if◌then◌else◌, cond, List, [], ◌∷◌, ◌++◌, map, filter, Option, Some, None, is_some, refl, sym, ap, ◌∙◌, arith}
+use Rattle.std.proofs.Common.{◌≡◌, ℕ, ◌+◌, ◌<◌, length, drop, get_or, zero, suc, eqb, Bool, true, false, not, ◌&&◌, ◌||◌, if◌then◌else◌, cond, List, [], ◌∷◌, ◌++◌, map, filter, Option, Some, None, is_some, refl, sym, ap, ◌∙◌, arith}
 use Rattle.std.specs.Prelude.{find}
 use Rattle.std.specs.HashMap.{HashMap}
 use Rattle.std.specs.List.{list_any, list_all}
-use Rattle.std.proofs.lemmas.Bool.{and_parts, cases_Bool, eqb-true}
+use Rattle.std.proofs.lemmas.Bool.{and_parts, eqb-true}
 use Rattle.std.proofs.lemmas.List.{map-append}
 use Rattle.std.proofs.lemmas.List.Elements.{filter-append}
 use Rattle.cam_names.specs.declared.name.Name.{Name}
@@ -15,10 +15,10 @@ use Rattle.cam_event.specs.declared.Operation.{Operation}
 use Rattle.cam_event.specs.declared.Deed.{Deed}
 use Rattle.cam_event.specs.declared.Deed.TheVariants.{Perform}
 use Rattle.cam_event.specs.History.{count, informed, secured_at, Addressed, call_of}
-use Rattle.cam_event.specs.Live.{site_of, of_call, lift, is_dropped, live, live_at}
+use Rattle.cam_event.specs.Live.{site_of, of_call, lift}
 use Rattle.cam_live.specs.declared.performed.Performed.{Performed}
 use Rattle.cam_live.specs.Tables.{first_secured}
-use Rattle.cam_live.specs.Counted.{counted, performed, is_secured_by, stands, is_live, live_of}
+use Rattle.cam_live.specs.Counted.{counted, performed, is_secured_by, is_live, live_of}
 use Rattle.cam_live.proofs.Counting.{secured_first, live_is}
 use Rattle.cam_plain.specs.declared.marks.Place.{Place}
 use Rattle.cam_plain.specs.declared.marks.Mark.{Mark}
@@ -52,9 +52,6 @@ mark_passed q ms i m h is so_far passes =
     let next : i + 1 ≡ suc i = omega arith in
     ap (λ (k : ℕ). list_all q (drop k ms)) next
     ∙ sym (ap (list_all q) (mark_at ms i m h is) ∙ ap (λ (b : Bool). b && list_all q (drop (suc i) ms)) passes) ∙ so_far
-
-number_turned : (m n : ℕ) → eqb m n ≡ eqb n m
-number_turned m n = grind arith
 
 nothing_more : (ms : List Mark) → ms ++ [] ≡ ms
 nothing_more [] = refl

@@ -15,7 +15,6 @@ use Rattle.cam_event.specs.declared.Seen.TheVariants.{Done, Busy, Gone}
 use Rattle.cam_event.specs.declared.Deed.{Deed}
 use Rattle.cam_event.specs.declared.Deed.TheVariants.{Create, Ask, Call, Perform, Bounce, Got, AskCommit, AskAbort, Commit, Abort, Secure, Inform, Crash}
 use Rattle.cam_event.specs.History.{count, created, decided, asked_commit, runs, asked, informed, secured, secured_at, tops, asks, calls, open_call, has_open_child, Addressed, call_of}
-use Rattle.cam_event.specs.declared.Operation.{Operation}
 use Rattle.cam_event.specs.Live.{site_of, is_fit, live_at, lift, first_conflict, holder, value}
 use Rattle.cam_event.specs.Gained.{deps}
 use Rattle.cam_plain.specs.Lines.{asked_for, replied, is_perform, is_bounce, outcome_in, is_lift}
@@ -25,28 +24,40 @@ is_at_home L a = eqb (count L (home_node a)) (home_count a)
 
 -- a child was asked for, and a top action has the next number
 abbrev pub is_placed : List Deed → Name → Bool
-is_placed L a = if is_top a then eqb (last_part a).number (tops L (home_node a) (home_count a) + 1) else asked_for L a
+is_placed L a =
+    if is_top a then eqb (last_part a).number (tops L (home_node a) (home_count a) + 1)
+    else asked_for L a
 
 abbrev pub create_test : List Deed → Name → Bool
 create_test L a = not (created L a) && (is_at_home L a && is_placed L a)
 
 abbrev pub ask_test : List Deed → Name → Name → Bool
 ask_test L a b =
-    runs L a && (is_none (open_call L a) && (nat_lt (length a) 8 && (is_child a b && (nat_le (home_count b) (count L (home_node b)) && eqb (last_part b).number (asks L a + 1)))))
+    runs L a
+    && (is_none (open_call L a)
+    && (nat_lt (length a) 8
+    && (is_child a b
+    && (nat_le (home_count b) (count L (home_node b)) && eqb (last_part b).number (asks L a + 1)))))
 
 abbrev pub call_test : List ObjectDecl → List Deed → Name → ℕ → ℕ → Op → ℕ → Bool
 call_test objects L a n x op c =
-    runs L a && (is_none (open_call L a) && (not (has_open_child L a) && (eqb n (calls L a + 1) && (is_fit objects x op && nat_le c (count L (site_of objects x))))))
+    runs L a
+    && (is_none (open_call L a)
+    && (not (has_open_child L a)
+    && (eqb n (calls L a + 1) && (is_fit objects x op && nat_le c (count L (site_of objects x))))))
 
 -- a call of this number comes to its site, and there passes a test
 abbrev pub arrival_test : List ObjectDecl → List Deed → Name → ℕ → (Addressed → Bool) → Bool
 arrival_test objects L a n test =
-    not (replied L a n) && option_map_or (λ call. eqb call.count (count L (site_of objects call.object)) && test call) (call_of L a n) false
+    not (replied L a n)
+    && option_map_or (λ call. eqb call.count (count L (site_of objects call.object)) && test call)
+    (call_of L a n) false
 
 -- the call meets no conflict, and this is its answer
 abbrev pub is_performed : List ObjectDecl → List Deed → Name → Answer → Addressed → Bool
 is_performed objects L a answer call =
-    is_none (first_conflict objects L a call.object call.op) && answer_eq answer (answer_of (value objects L call.object) call.op)
+    is_none (first_conflict objects L a call.object call.op)
+    && answer_eq answer (answer_of (value objects L call.object) call.op)
 
 abbrev pub perform_test : List ObjectDecl → List Deed → Name → ℕ → Answer → Bool
 perform_test objects L a n answer = arrival_test objects L a n (is_performed objects L a answer)
@@ -65,14 +76,17 @@ bounce_test objects L a n u = arrival_test objects L a n (is_bounced objects L a
 abbrev pub seen_test : List ObjectDecl → List Deed → Name → ℕ → Seen → Bool
 seen_test objects L a n (Done answer) = list_any (is_perform a n answer) L
 seen_test objects L a n (Busy u) = list_any (is_bounce a n u) L
-seen_test objects L a n Gone = option_map_or (λ call. nat_lt call.count (count L (site_of objects call.object))) (call_of L a n) false
+seen_test objects L a n Gone =
+    option_map_or (λ call. nat_lt call.count (count L (site_of objects call.object)))
+    (call_of L a n) false
 
 abbrev pub is_number : ℕ → Option ℕ → Bool
 is_number n None = false
 is_number n (Some m) = eqb m n
 
 abbrev pub got_test : List ObjectDecl → List Deed → Name → ℕ → Seen → Bool
-got_test objects L a n seen = runs L a && (is_number n (open_call L a) && seen_test objects L a n seen)
+got_test objects L a n seen =
+    runs L a && (is_number n (open_call L a) && seen_test objects L a n seen)
 
 abbrev pub ask_commit_test : List Deed → Name → Bool
 ask_commit_test L a = runs L a && (is_none (open_call L a) && not (has_open_child L a))
@@ -90,22 +104,25 @@ inform_test L s a outcome = outcome_in L a outcome && not (informed L s a outcom
 -- A child is committed by a parent that runs; a top action at home, with each pair on which it depends secured.
 abbrev pub may_commit_test : List ObjectDecl → List Deed → Name → Option Name → Bool
 may_commit_test objects L a (Some p) = runs L p
-may_commit_test objects L a None = is_at_home L a && list_all (λ p. secured L a p.0 p.1) (deps objects L a)
+may_commit_test objects L a None =
+    is_at_home L a && list_all (λ p. secured L a p.0 p.1) (deps objects L a)
 
 abbrev pub commit_test : List ObjectDecl → List Deed → Name → Bool
-commit_test objects L a = asked_commit L a && (not (decided L a) && may_commit_test objects L a (parent a))
-
--- an operation of the family at the site has not been handed up to it
-abbrev pub is_held_below : List ObjectDecl → List Deed → Name → ℕ → Operation → Bool
-is_held_below objects L f s o = eqb (site_of objects o.object) s && (name_eq f (family o.action) && not (is_lift f (lift L s o.action)))
+commit_test objects L a =
+    asked_commit L a && (not (decided L a) && may_commit_test objects L a (parent a))
 
 -- all live operations of the family at the site have been handed up to it
 abbrev pub handed_up : List ObjectDecl → List Deed → Name → ℕ → Bool
-handed_up objects L f s = list_all (λ o. is_lift f (lift L s o.action)) (filter (λ o. name_eq f (family o.action)) (live_at objects L s))
+handed_up objects L f s =
+    list_all (λ o. is_lift f (lift L s o.action))
+    (filter (λ o. name_eq f (family o.action)) (live_at objects L s))
 
 abbrev pub secure_test : List ObjectDecl → List Deed → Name → ℕ → ℕ → Bool
 secure_test objects L f s c =
-    is_top f && (asked_commit L f && (has_pair (deps objects L f) s c && (eqb c (count L s) && (not (secured_at L f s) && handed_up objects L f s))))
+    is_top f
+    && (asked_commit L f
+    && (has_pair (deps objects L f) s c
+    && (eqb c (count L s) && (not (secured_at L f s) && handed_up objects L f s))))
 
 -- the tests of what comes of calls, and of what sites do on their own; the other deeds pass
 abbrev pub call_meets : List ObjectDecl → List Deed → Deed → Bool
