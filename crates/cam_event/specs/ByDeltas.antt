@@ -45,7 +45,8 @@ crashed e = list_any (is_crash e.node) e.deeds
 abbrev pub have_of : List Received → ℕ → ℕ
 have_of [] r = 0
 have_of (c ∷ before) r =
-    if crashed c.event then 0 else if came_from r c then max (have_of before r) c.load.place else have_of before r
+    if crashed c.event then 0 else if came_from r c then max (have_of before r) c.load.place
+    else have_of before r
 
 -- How many outcomes of the node's list another node has acknowledged: the most that its letters since the last crash have said, but of
 -- each no more than the list had with the letter's news.
@@ -53,14 +54,21 @@ abbrev pub acked_of : List ObjectDecl → List Received → ℕ → ℕ
 acked_of objects [] r = 0
 acked_of objects (c ∷ before) r =
     if crashed c.event then 0
-    else if came_from r c then max (acked_of objects before r) (min c.load.have (length (with_load (known objects before) c.load).outcomes))
+    else if came_from r c
+    then max (acked_of objects before r)
+    (min c.load.have (length (with_load (known objects before) c.load).outcomes))
     else acked_of objects before r
 
 -- What a letter carries that the node s sends after its history to the node r. To itself a node tells its counts alone.
 abbrev pub load_for : List ObjectDecl → ℕ → List Received → ℕ → Load
 load_for objects s history r =
     if eqb s r
-    then record { have = 0; place = 0; know = record { outcomes = []; counts = (known objects history).counts } }
+    then record {
+      have = 0;
+      place = 0;
+      know
+          = record { outcomes = []; counts = (known objects history).counts };
+    }
     else
     record {
       have = have_of history r;
@@ -79,33 +87,45 @@ up_to (c ∷ before) i = if eqb i (length before) then c ∷ before else up_to b
 
 -- what a letter carries: by its sender's history up to the event that sent it
 abbrev pub load_by : List ObjectDecl → List Received → Option LetterId → Option Mail → Load
-load_by objects all (Some letter) (Some mail) = load_for objects mail.from (of_node (up_to all letter.event) mail.from) mail.to
+load_by objects all (Some letter) (Some mail) =
+    load_for objects mail.from (of_node (up_to all letter.event) mail.from) mail.to
 load_by objects all _ _ = no_load
 
 -- The events of a trace, each with the letter that it received and what that letter carried.
 abbrev pub received : List ObjectDecl → List Received → Event → Option Mail → Received
-received objects all e mail = record { event = e; mail = mail; load = load_by objects all e.got mail }
+received objects all e mail =
+    record { event = e; mail = mail; load = load_by objects all e.got mail }
 
 abbrev pub received_of : List ObjectDecl → List Event → List Received
 received_of objects [] = []
-received_of objects (e ∷ before) = received objects (received_of objects before) e (mail_got before e.got) ∷ received_of objects before
+received_of objects (e ∷ before) =
+    received objects (received_of objects before) e (mail_got before e.got)
+    ∷ received_of objects before
 
 -- the event of an input: the step of its node after that node's own history
 abbrev pub step_after : List ObjectDecl → List Received → Input → ℕ → Option Mail → Event
 step_after objects all input s mail =
-    node_step objects s (map as_carried (of_node all s)) input mail (told_in_order (load_by objects all (got_of input) mail).know)
+    node_step objects s (map as_carried (of_node all s)) input mail
+    (told_in_order (load_by objects all (got_of input) mail).know)
 
 abbrev pub next_by_deltas : List ObjectDecl → List Event → Input → Event
-next_by_deltas objects t input = step_after objects (received_of objects t) input (node_of t input) (mail_got t (got_of input))
+next_by_deltas objects t input =
+    step_after objects (received_of objects t) input (node_of t input) (mail_got t (got_of input))
 
 -- what a node goes by where an action or a line asks something of it
 abbrev pub sight_by_deltas : List ObjectDecl → List Event → ℕ → Sight
-sight_by_deltas objects t s = held_sight objects s (map as_carried (of_node (received_of objects t) s)) nothing
+sight_by_deltas objects t s =
+    held_sight objects s (map as_carried (of_node (received_of objects t) s)) nothing
 
 -- what a letter of the trace carries
 abbrev pub load_at : List ObjectDecl → List Event → LetterId → Load
-load_at objects t letter = load_by objects (received_of objects t) (Some letter) (letter_at t letter)
+load_at objects t letter =
+    load_by objects (received_of objects t) (Some letter) (letter_at t letter)
 
 -- what a node has noted, for each of the eight nodes
 abbrev pub places_of : List ObjectDecl → List Received → PlacesFields
-places_of objects history = record { have = map (have_of history) each_node; acked = map (acked_of objects history) each_node }
+places_of objects history =
+    record {
+      have = map (have_of history) each_node;
+      acked = map (acked_of objects history) each_node;
+    }

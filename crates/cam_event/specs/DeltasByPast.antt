@@ -45,7 +45,8 @@ abbrev pub have_in : List Event → ℕ → ℕ → ℕ
 have_in [] s r = 0
 have_in (e ∷ before) s r =
     if eqb e.node s
-    then (if crashed e then 0 else if is_of before e s r then max (have_in before s r) (letter_place before e.got) else have_in before s r)
+    then (if crashed e then 0 else if is_of before e s r
+    then max (have_in before s r) (letter_place before e.got) else have_in before s r)
     else have_in before s r
 
 -- the have of a letter of r to s: that of r for s, up to the event that sent the letter
@@ -58,7 +59,8 @@ abbrev pub base_in : List Event → ℕ → ℕ → ℕ
 base_in [] s r = 0
 base_in (e ∷ before) s r =
     if eqb e.node s
-    then (if crashed e then 0 else if is_of before e s r then max (base_in before s r) (letter_have before e.got r s) else base_in before s r)
+    then (if crashed e then 0 else if is_of before e s r
+    then max (base_in before s r) (letter_have before e.got r s) else base_in before s r)
     else base_in before s r
 
 -- the first event of s whose past has as many Commits and Aborts as the base
@@ -69,7 +71,9 @@ or_first None other = other
 abbrev pub first_with : List Event → ℕ → ℕ → Option ℕ
 first_with [] s n = None
 first_with (e ∷ before) s n =
-    or_first (first_with before s n) (if eqb e.node s && eqb (place_at (e ∷ before) (length before)) n then Some (length before) else None)
+    or_first (first_with before s n)
+    (if eqb e.node s && eqb (place_at (e ∷ before) (length before)) n then Some (length before)
+    else None)
 
 -- the outcome stands in the history
 abbrev pub stands_in : List Deed → Outcome → Bool
@@ -81,13 +85,19 @@ abbrev pub without : List Deed → List Outcome → List Outcome
 without M os = filter (λ o. not (stands_in M o)) os
 
 abbrev pub told_from : List Event → ℕ → ℕ → List Outcome → List Outcome
-told_from t s base os = if eqb base 0 then os else without (plain t (λ k. holds (in_past t k) (first_with t s base))) os
+told_from t s base os =
+    if eqb base 0 then os else without (plain t (λ k. holds (in_past t k) (first_with t s base))) os
 
 -- What a letter of s to r carries that the event of this number sent.
 abbrev pub past_load : List ObjectDecl → List Event → ℕ → ℕ → ℕ → Load
 past_load objects t i s r =
     if eqb s r
-    then record { have = 0; place = 0; know = record { outcomes = []; counts = (told objects (past_of t i)).counts } }
+    then record {
+      have = 0;
+      place = 0;
+      know
+          = record { outcomes = []; counts = (told objects (past_of t i)).counts };
+    }
     else
     record {
       have = have_in (trace_to t i) s r;

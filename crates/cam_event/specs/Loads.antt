@@ -27,12 +27,17 @@ each_node = 1 ∷ 2 ∷ 3 ∷ 4 ∷ 5 ∷ 6 ∷ 7 ∷ 8 ∷ []
 
 -- at first, and after a restart
 abbrev pub no_places : PlacesFields
-no_places = record { have = 0 ∷ 0 ∷ 0 ∷ 0 ∷ 0 ∷ 0 ∷ 0 ∷ 0 ∷ []; acked = 0 ∷ 0 ∷ 0 ∷ 0 ∷ 0 ∷ 0 ∷ 0 ∷ 0 ∷ [] }
+no_places =
+    record { have = 0 ∷ 0 ∷ 0 ∷ 0 ∷ 0 ∷ 0 ∷ 0 ∷ 0 ∷ []; acked = 0 ∷ 0 ∷ 0 ∷ 0 ∷ 0 ∷ 0 ∷ 0 ∷ 0 ∷ [] }
 
 -- What is noted where a letter comes from another node: of each place the greater. Nothing that is not in the own list is acknowledged.
 abbrev pub noted : ℕ → PlacesFields → ℕ → Load → PlacesFields
 noted len places from load =
-    record { have = counts_raised places.have from load.place; acked = counts_raised places.acked from (min load.have len) }
+    record {
+      have = counts_raised places.have from load.place;
+      acked = counts_raised places.acked
+          from (min load.have len);
+    }
 
 -- What is noted at node `own` where a letter comes; `len` is the length of its list with the letter's news. Of its own letters a node notes nothing.
 abbrev pub noted_at : ℕ → ℕ → PlacesFields → ℕ → Load → PlacesFields

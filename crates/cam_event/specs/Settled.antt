@@ -12,4 +12,7 @@ is_past_top (Some u) = false
 
 -- the live operations on the object whose lift is past the top, applied in order from its start state
 abbrev pub settled : List ObjectDecl → List Deed → ℕ → State
-settled objects L x = replay (start_of objects x) (filter (λ o. is_past_top (lift L (site_of objects o.object) o.action)) (live_on objects L x))
+settled objects L x =
+    replay (start_of objects x)
+    (filter (λ o. is_past_top (lift L (site_of objects o.object) o.action))
+    (live_on objects L x))

@@ -18,7 +18,8 @@ type Values = BTreeMap<Name, i64>;
 
 /// Keeps the value with which an action asks to commit.
 fn note_value(values: &mut Values, deed: &Deed) -> Result<(), NoMemory>
-    ensures { OnOk result ((L : List Deed) → HasValues L values.old → HasValues (deed.now ∷ L) values.new) }
+    ensures { OnOk result ((L : List Deed) → HasValues L values.old
+        → HasValues (deed.now ∷ L) values.new) }
 {
     if let Deed::AskCommit { action, value } = deed {
         values.insert(*action, *value)?;
@@ -35,7 +36,8 @@ fn own(name: &Name, action: &Name, step: ViewStep) -> Option<ViewStep>
 
 /// The step that a deed gives to the view of an action, where it gives one.
 fn step_of(values: &Values, name: &Name, deed: &Deed) -> Option<ViewStep>
-    ensures { (L : List Deed) → HasValues L values.now → steps_in result ≡ step_of L deed.now name.now }
+    ensures { (L : List Deed) → HasValues L values.now
+        → steps_in result ≡ step_of L deed.now name.now }
 {
     match deed {
         Deed::Create { action } => own(name, action, ViewStep::Created),
@@ -96,7 +98,8 @@ fn add_event(
     deeds: &Deeds,
 ) -> Result<(), NoMemory>
     ensures { OnOk result ((L : List Deed) → HasValues L values.old → steps.old ≡ view L name.now
-        → HasValues (after L deeds.now) values.new × (steps.new ≡ view (after L deeds.now) name.now)) }
+        → HasValues (after L deeds.now) values.new
+        × (steps.new ≡ view (after L deeds.now) name.now)) }
 {
     for deed in deeds.as_slice() {
         add_deed(steps, values, name, deed)?;

@@ -26,7 +26,12 @@ with_abort e = record { aborted = true; committed = e.committed; oldest = e.olde
 
 -- a child of the action committed
 abbrev pub with_child : List ℕ → Entry → Entry
-with_child d e = record { aborted = e.aborted; committed = e.committed; oldest = lesser_counts e.oldest (least_counts (pairs_of d)) }
+with_child d e =
+    record {
+      aborted = e.aborted;
+      committed = e.committed;
+      oldest = lesser_counts e.oldest (least_counts (pairs_of d));
+    }
 
 -- the entry that the index has
 abbrev pub entry_at : Index → Name → Entry
@@ -45,4 +50,5 @@ SaysSame m n = (a : Name) → entry_at n a ≡ entry_at m a
 pub record IsIndexOf (os : List Outcome) (m : Index) : Type 0 where
   pub aborted : (a : Name) → (entry_at m a).aborted ≡ list_any (is_abort_of a) os
   pub committed : (a : Name) → (entry_at m a).committed ≡ list_any (is_commit_of a) os
-  pub oldest : (a : Name) → 1 ≤ length a → (entry_at m a).oldest ≡ least_counts (flat_map (commit_pairs a) os)
+  pub oldest : (a : Name) → 1 ≤ length a
+      → (entry_at m a).oldest ≡ least_counts (flat_map (commit_pairs a) os)

@@ -14,7 +14,8 @@ abbrev pub NoTwice : List Outcome → Type 0
 NoTwice [] = Unit {0}
 NoTwice (o ∷ os) = (list_any (outcome_eq o) os ≡ false) × NoTwice os
 
-pub record IsKnown (outcomes : List Outcome) (index : Index) (commits : Commits) (counts : List ℕ) : Type 0 where
+pub record IsKnown (outcomes : List Outcome) (index : Index) (commits : Commits)
+    (counts : List ℕ) : Type 0 where
   pub distinct : NoTwice outcomes
   pub indexed : IsIndexOf outcomes index
   pub committed : HasCommitsOf outcomes commits

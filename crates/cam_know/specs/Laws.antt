@@ -11,7 +11,9 @@ abbrev pub JoinCommutes : Type 0
 JoinCommutes = (one other : Knowledge) → IsSame (both one other) (both other one)
 
 abbrev pub JoinAssociates : Type 0
-JoinAssociates = (one other third : Knowledge) → IsSame (both (both one other) third) (both one (both other third))
+JoinAssociates =
+    (one other third : Knowledge)
+    → IsSame (both (both one other) third) (both one (both other third))
 
 abbrev pub JoinAgainIsSame : Type 0
 JoinAgainIsSame = (k : Knowledge) → IsSame (both k k) k
@@ -23,11 +25,15 @@ pub record KnowsAtLeast (more less : Knowledge) : Type 0 where
 
 -- An orphan by what is known stays an orphan, maybe for another reason, where more is known.
 abbrev pub OrphanStays : Type 0
-OrphanStays = (more less : Knowledge) → KnowsAtLeast more less → (a : Name) (visited : List (ℕ × ℕ)) → IsSome (known_orphan less a visited) → IsSome (known_orphan more a visited)
+OrphanStays =
+    (more less : Knowledge) → KnowsAtLeast more less → (a : Name) (visited : List (ℕ × ℕ))
+    → IsSome (known_orphan less a visited) → IsSome (known_orphan more a visited)
 
 -- Joined knowledge is more than either.
 abbrev pub JoinKnowsAtLeast : Type 0
-JoinKnowsAtLeast = (one other : Knowledge) → KnowsAtLeast (both one other) one × KnowsAtLeast (both one other) other
+JoinKnowsAtLeast =
+    (one other : Knowledge)
+    → KnowsAtLeast (both one other) one × KnowsAtLeast (both one other) other
 
 -- So is knowledge with one more outcome, and with a count raised.
 abbrev pub AddKnowsAtLeast : Type 0

@@ -8,10 +8,13 @@ lesser_count x y = if eqb x 0 then y else (if eqb y 0 then x else min x y)
 -- the least count that the pairs have of a node, 0 where they have none
 abbrev pub least_count : List (ℕ × ℕ) → ℕ → ℕ
 least_count [] node = 0
-least_count (p ∷ ps) node = if eqb p.0 node then lesser_count p.1 (least_count ps node) else least_count ps node
+least_count (p ∷ ps) node =
+    if eqb p.0 node then lesser_count p.1 (least_count ps node) else least_count ps node
 
 abbrev pub least_counts : List (ℕ × ℕ) → List ℕ
-least_counts ps = least_count ps 1 ∷ least_count ps 2 ∷ least_count ps 3 ∷ least_count ps 4 ∷ least_count ps 5 ∷ least_count ps 6 ∷ least_count ps 7 ∷ least_count ps 8 ∷ []
+least_counts ps =
+    least_count ps 1 ∷ least_count ps 2 ∷ least_count ps 3 ∷ least_count ps 4 ∷ least_count ps 5
+    ∷ least_count ps 6 ∷ least_count ps 7 ∷ least_count ps 8 ∷ []
 
 -- the lesser count at each node
 abbrev pub lesser_counts : List ℕ → List ℕ → List ℕ

@@ -36,8 +36,8 @@ impl Know {
     pub fn lift(&self, name: &Name) -> Option<Name>
         ensures { result ≡ known_lift self.now name.now }
     {
-        // Only for the proof: it gives the fact that the name has at least one part.
-        let _parts = name.parts();
+        // A name has a part.
+        prove!(name.depth() > 0);
         if !self.is_committed(name) {
             return Some(*name);
         }

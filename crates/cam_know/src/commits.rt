@@ -1,3 +1,4 @@
+//! The set of known commits, each with its dependencies.
 ghost use Rattle.std.specs.Prelude.{◌≡◌, ◌+◌, ◌≤◌, ◌||◌, [], length, OnOk};
 ghost use Rattle.std.specs.List.{list_any};
 ghost use Rattle.cam_know.specs.declared.commits.Commit.{Commit as CommitValue};

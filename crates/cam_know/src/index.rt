@@ -1,3 +1,4 @@
+//! The index of what is known: of each action how it ended, and on what the commits of its children depend.
 ghost use Rattle.std.specs.Prelude.{◌≡◌, ◌+◌, ◌*◌, ◌≤◌, if◌then◌else◌, List, [], ◌∷◌, ◌++◌, length, OnOk};
 ghost use Rattle.cam_names.specs.declared.name.Name.{Name as NameValue};
 ghost use Rattle.cam_names.specs.Names.{name_eq};

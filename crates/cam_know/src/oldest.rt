@@ -1,3 +1,4 @@
+//! The least count that some pairs have of each node.
 ghost use Rattle.std.specs.Prelude.{◌≡◌, ◌≤◌, replicate};
 ghost use Rattle.cam_names.specs.Dependencies.{count_of, pairs_of};
 ghost use Rattle.cam_know.specs.LeastCounts.{least_counts, lesser_count, lesser_counts};

@@ -17,7 +17,9 @@ counted objects L o = record { operation = o; count = count L (site_of objects o
 -- the performed operations, each with the count of its site at that time
 abbrev pub performed : List ObjectDecl → List Deed → List Performed
 performed objects [] = []
-performed objects (Perform a n answer ∷ before) = performed objects before ++ map (counted objects before) (of_call a n answer (call_of before a n))
+performed objects (Perform a n answer ∷ before) =
+    performed objects before
+    ++ map (counted objects before) (of_call a n answer (call_of before a n))
 performed objects (_ ∷ before) = performed objects before
 
 -- whether a family was first secured at a count that is no later
@@ -29,7 +31,8 @@ is_secured_by (Some first) c = leb first c
 abbrev pub stands : List ObjectDecl → List Deed → Performed → Bool
 stands objects L p =
     eqb p.count (count L (site_of objects p.operation.object))
-    || is_secured_by (first_secured L (site_of objects p.operation.object) (family p.operation.action)) p.count
+    || is_secured_by
+    (first_secured L (site_of objects p.operation.object) (family p.operation.action)) p.count
 
 -- It is live where besides the site was not informed of an ancestor's abort.
 abbrev pub is_live : List ObjectDecl → List Deed → Performed → Bool

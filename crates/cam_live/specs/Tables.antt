@@ -25,7 +25,8 @@ abbrev pub asked_of : Addressed → AddressedCall
 asked_of call = record { object = call.object; op = call.op; count = call.count }
 
 abbrev pub TellsCalls : List Deed → BTreeMap (Name × ℕ) AddressedCall → Type 0
-TellsCalls L calls = (a : Name) (n : ℕ) → get call_cmp calls (a, n) ≡ option_map asked_of (call_of L a n)
+TellsCalls L calls =
+    (a : Name) (n : ℕ) → get call_cmp calls (a, n) ≡ option_map asked_of (call_of L a n)
 
 -- the count of a site, as the table has it: a site that it has not has never crashed
 abbrev pub count_in : BTreeMap ℕ ℕ → ℕ → ℕ
@@ -38,7 +39,8 @@ TellsCounts L counts = (s : ℕ) → count_in counts s ≡ count L s
 abbrev pub first_secured : List Deed → ℕ → Name → Option ℕ
 first_secured [] s f = None
 first_secured (Secure g site c ∷ before) s f =
-    option_or (first_secured before s f) (if eqb s site && name_eq f g then Some (count before s) else None)
+    option_or (first_secured before s f)
+    (if eqb s site && name_eq f g then Some (count before s) else None)
 first_secured (_ ∷ before) s f = first_secured before s f
 
 abbrev pub TellsSecured : List Deed → BTreeMap (ℕ × Name) ℕ → Type 0
@@ -46,14 +48,19 @@ TellsSecured L secured = (s : ℕ) (f : Name) → get site_name_cmp secured (s, 
 
 -- the new set has this name at this site besides
 abbrev pub AddsName : ℕ → Name → BTreeSet (ℕ × Name) → BTreeSet (ℕ × Name) → Type 0
-AddsName site b old new = (s : ℕ) (a : Name) → contains site_name_cmp new (s, a) ≡ ((eqb s site && name_eq a b) || contains site_name_cmp old (s, a))
+AddsName site b old new =
+    (s : ℕ) (a : Name)
+    → contains site_name_cmp new (s, a)
+    ≡ ((eqb s site && name_eq a b) || contains site_name_cmp old (s, a))
 
 abbrev pub HasSameNames : BTreeSet (ℕ × Name) → BTreeSet (ℕ × Name) → Type 0
-HasSameNames old new = (s : ℕ) (a : Name) → contains site_name_cmp new (s, a) ≡ contains site_name_cmp old (s, a)
+HasSameNames old new =
+    (s : ℕ) (a : Name) → contains site_name_cmp new (s, a) ≡ contains site_name_cmp old (s, a)
 
 -- the names at the sites that were informed of their commit, or of their abort
 abbrev pub TellsInforms : Bool → List Deed → BTreeSet (ℕ × Name) → Type 0
-TellsInforms outcome L names = (s : ℕ) (a : Name) → contains site_name_cmp names (s, a) ≡ informed L s a outcome
+TellsInforms outcome L names =
+    (s : ℕ) (a : Name) → contains site_name_cmp names (s, a) ≡ informed L s a outcome
 
 -- The tables have what the deeds say.
 pub record Tells (L : List Deed) (tables : Tables) : Type 0 where

@@ -35,7 +35,9 @@ pub(crate) fn perform(
     number: u32,
     answer: Answer,
 ) -> Result<(), NoMemory>
-    ensures noted { OnOk result ((L : List Deed) → Tells L tables.now → list.old ≡ performed objects.now L → list.new ≡ performed objects.now (Perform action.now number answer ∷ L)) }
+    ensures noted { OnOk result ((L : List Deed) → Tells L tables.now
+        → list.old ≡ performed objects.now L
+        → list.new ≡ performed objects.now (Perform action.now number answer ∷ L)) }
     ensures failed { OnErr result (list.new ≡ list.old) }
 {
     if let Some(asked) = tables.calls.get(&(*action, number)) {
@@ -83,7 +85,8 @@ pub(crate) fn live_of(
     tables: &Tables,
     list: &PerformedList,
 ) -> Result<Operations, NoMemory>
-    ensures { IfOk result (λ operations. (L : List Deed) → Tells L tables.now → operations ≡ live_of objects.now L list.now) }
+    ensures { IfOk result (λ operations. (L : List Deed) → Tells L tables.now
+        → operations ≡ live_of objects.now L list.now) }
 {
     let mut operations = Operations::new(alloc);
     for performed in list.as_slice() {
@@ -96,7 +99,8 @@ pub(crate) fn live_of(
 
 /// Whether the operation is handed up past the top.
 fn is_past_top(objects: &Objects, tables: &Tables, operation: &Operation) -> bool
-    ensures { (L : List Deed) → Tells L tables.now → result ≡ is_handed_up objects.now L operation.now }
+    ensures { (L : List Deed) → Tells L tables.now
+        → result ≡ is_handed_up objects.now L operation.now }
 {
     let site = site_of(objects, operation.object);
     lift(&tables.committed, site, &operation.action).is_none()
@@ -109,7 +113,8 @@ pub(crate) fn past_top_of(
     tables: &Tables,
     operations: &Operations,
 ) -> Result<Operations, NoMemory>
-    ensures { IfOk result (λ settled. (L : List Deed) → Tells L tables.now → settled ≡ past_top_of objects.now L operations.now) }
+    ensures { IfOk result (λ settled. (L : List Deed) → Tells L tables.now
+        → settled ≡ past_top_of objects.now L operations.now) }
 {
     let mut settled = Operations::new(alloc);
     for operation in operations.as_slice() {

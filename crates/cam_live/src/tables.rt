@@ -64,7 +64,8 @@ impl Tables {
 
     /// Keeps what one more deed says. Where memory runs out, the tables say what they said.
     pub(crate) fn note(&mut self, deed: &Deed) -> Result<(), NoMemory>
-        ensures noted { OnOk result ((L : List Deed) → Tells L self.old → Tells (deed.now ∷ L) self.new) }
+        ensures noted { OnOk result ((L : List Deed) → Tells L self.old
+            → Tells (deed.now ∷ L) self.new) }
         ensures failed { OnErr result ((L : List Deed) → Tells L self.old → Tells L self.new) }
     {
         match deed {
@@ -109,8 +110,10 @@ fn note_call(
     call: &AddressedCall,
 ) -> Result<(), NoMemory>
     ensures noted { OnOk result ((L : List Deed) → TellsCalls L calls.old
-        → TellsCalls (Call action.now number call.now.object call.now.op call.now.count ∷ L) calls.new) }
-    ensures failed { OnErr result ((L : List Deed) → TellsCalls L calls.old → TellsCalls L calls.new) }
+        → TellsCalls (Call action.now number call.now.object call.now.op call.now.count ∷ L)
+        calls.new) }
+    ensures failed { OnErr result ((L : List Deed) → TellsCalls L calls.old
+        → TellsCalls L calls.new) }
 {
     calls.insert((*action, number), *call)?;
     Ok(())
@@ -128,8 +131,10 @@ pub(crate) fn count_of(counts: &Counts, site: u8) -> u64
 
 /// Raises the count of a site that crashes. No memory holds so many deeds that the count could wrap.
 fn note_crash(counts: &mut Counts, site: u8) -> Result<(), NoMemory>
-    ensures noted { OnOk result ((L : List Deed) → TellsCounts L counts.old → TellsCounts (Crash site ∷ L) counts.new) }
-    ensures failed { OnErr result ((L : List Deed) → TellsCounts L counts.old → TellsCounts L counts.new) }
+    ensures noted { OnOk result ((L : List Deed) → TellsCounts L counts.old
+        → TellsCounts (Crash site ∷ L) counts.new) }
+    ensures failed { OnErr result ((L : List Deed) → TellsCounts L counts.old
+        → TellsCounts L counts.new) }
 {
     match count_of(counts, site).checked_add(1) {
         Some(next) => {
@@ -147,8 +152,11 @@ fn note_secure(
     site: u8,
     family: &Name,
 ) -> Result<(), NoMemory>
-    ensures noted { OnOk result ((L : List Deed) (count : ℕ) → TellsCounts L counts.now → TellsSecured L secured.old → TellsSecured (Secure family.now site count ∷ L) secured.new) }
-    ensures failed { OnErr result ((L : List Deed) → TellsSecured L secured.old → TellsSecured L secured.new) }
+    ensures noted { OnOk result ((L : List Deed) (count : ℕ) → TellsCounts L counts.now
+        → TellsSecured L secured.old
+        → TellsSecured (Secure family.now site count ∷ L) secured.new) }
+    ensures failed { OnErr result ((L : List Deed) → TellsSecured L secured.old
+        → TellsSecured L secured.new) }
 {
     let key = (site, *family);
     if !secured.contains_key(&key) {
@@ -168,7 +176,8 @@ fn note_name(names: &mut SiteNames, site: u8, name: &Name) -> Result<(), NoMemor
 
 /// Whether the set has an ancestor of the action at the site.
 pub(crate) fn has_ancestor(names: &SiteNames, site: u8, action: &Name) -> bool
-    ensures { result ≡ list_any (λ u. contains site_name_cmp names.now (site, u)) (ancestors action.now) }
+    ensures { result
+        ≡ list_any (λ u. contains site_name_cmp names.now (site, u)) (ancestors action.now) }
 {
     match action.parent() {
         Some(parent) => has_ancestor(names, site, &parent) || names.contains(&(site, *action)),

@@ -13,7 +13,9 @@ pub fn value_after(
     object: usize,
     operations: &Operations,
 ) -> Result<State, NoMemory>
-    ensures { IfOk result (λ state. state ≡ replay (start_of objects.now object) (filter (λ o. eqb o.object object) operations.now)) }
+    ensures { IfOk result (λ state.
+        state
+        ≡ replay (start_of objects.now object) (filter (λ o. eqb o.object object) operations.now)) }
 {
     let mut state = start_of(objects, object)?;
     for operation in operations.as_slice() {

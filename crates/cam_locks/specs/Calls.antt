@@ -20,11 +20,16 @@ use Rattle.cam_locks.specs.Moss.{holder, value}
 
 -- no operations, and the site was informed of nothing
 abbrev pub new_site : List ObjectDecl → ℕ → Site
-new_site objects node = record { objects = objects; node = node; live = []; committed = []; aborted = []; next = 0 }
+new_site objects node =
+    record { objects = objects; node = node; live = []; committed = []; aborted = []; next = 0 }
 
 -- one more operation at the end, under the next index
 abbrev pub with_operation : Site → Name → ℕ → Op → Site
-with_operation site a x op = record site { live = site.live ++ record { index = site.next; action = a; object = x; op = op } ∷ []; next = site.next + 1 }
+with_operation site a x op =
+    record site {
+      live = site.live ++ record { index = site.next; action = a; object = x; op = op } ∷ [];
+      next = site.next + 1;
+    }
 
 -- where no one stands in the way the op is done, at the value that it meets
 abbrev pub grant_by : Option Name → Answer → Grant
@@ -51,7 +56,11 @@ abbrev pub is_below : Name → LiveOp → Bool
 is_below a o = is_ancestor a o.action
 
 abbrev pub with_abort : Site → Name → Site
-with_abort site a = record site { live = filter (λ o. not (is_below a o)) site.live; aborted = with_name site.aborted a }
+with_abort site a =
+    record site {
+      live = filter (λ o. not (is_below a o)) site.live;
+      aborted = with_name site.aborted a;
+    }
 
 -- whether an operation is of the family
 abbrev pub is_of : Name → LiveOp → Bool
@@ -62,7 +71,8 @@ held_op o = record { index = o.index; object = o.object; op = o.op }
 
 -- what is secured of a family: all its live operations, in order
 abbrev pub held : Site → Name → ℕ → Held
-held site f count = record { family = f; count = count; ops = map held_op (filter (is_of f) site.live) }
+held site f count =
+    record { family = f; count = count; ops = map held_op (filter (is_of f) site.live) }
 
 -- the site without the operations of which the abort of an ancestor is among these outcomes
 abbrev pub is_dropped_by : Knowledge → LiveOp → Bool

@@ -40,7 +40,8 @@ pub record MayBeAsked (k : Kept) (o : LiveOp) (kind : Kind) : Type 0 where
   pub same_kind : kind ≡ kind_of (start_of k.objects o.object)
 
 -- An operation was added, or memory ran out and nothing was.
-pub record IsAdded {T E : Type 0} (old : Kept) (o : LiveOp) (answer : Result T E) (new : Kept) : Type 0 where
+pub record IsAdded {T E : Type 0} (old : Kept) (o : LiveOp) (answer : Result T E)
+    (new : Kept) : Type 0 where
   pub kept : IsKept new
   pub objects : new.objects ≡ old.objects
   pub committed : new.committed ≡ old.committed
@@ -51,13 +52,17 @@ pub record IsAdded {T E : Type 0} (old : Kept) (o : LiveOp) (answer : Result T E
 
 -- What a grant means. Where someone stands in the way it names him and changes nothing. Else the operation was added, and answered at the
 -- value that it meets, and the server holds the state behind it. Where memory ran out the live operations are as before.
-pub record IsGranted {E : Type 0} (old : Kept) (o : LiveOp) (held : State) (answer : Result Grant E) (new : Kept) (after : State) : Type 0 where
+pub record IsGranted {E : Type 0} (old : Kept) (o : LiveOp) (held : State) (answer : Result Grant E)
+    (new : Kept) (after : State) : Type 0 where
   pub kept : IsKept new
   pub objects : new.objects ≡ old.objects
   pub committed : new.committed ≡ old.committed
-  pub grant : IfOk answer (λ granted. granted ≡ grant_by (holder_in old o) (answer_of (value_in old o) o.op))
-  pub served : OnOk answer (after ≡ by_holder (holder_in old o) held (state_after (value_in old o) o.op))
-  pub ops : OnOk answer (new.live.ops ≡ by_holder (holder_in old o) old.live.ops (old.live.ops ++ o ∷ []))
+  pub grant : IfOk answer
+      (λ granted. granted ≡ grant_by (holder_in old o) (answer_of (value_in old o) o.op))
+  pub served : OnOk answer
+      (after ≡ by_holder (holder_in old o) held (state_after (value_in old o) o.op))
+  pub ops : OnOk answer
+      (new.live.ops ≡ by_holder (holder_in old o) old.live.ops (old.live.ops ++ o ∷ []))
   pub next : OnOk answer (new.live.next ≡ by_holder (holder_in old o) old.live.next (o.index + 1))
   pub err_ops : OnErr answer (new.live.ops ≡ old.live.ops)
   pub err_next : OnErr answer (new.live.next ≡ old.live.next)
@@ -69,7 +74,8 @@ pub record IsTakenBack (old new : Kept) : Type 0 where
   pub committed : new.committed ≡ old.committed
   pub fit : (node : ℕ) → AreFit old.objects node old.live.ops → AreFit old.objects node new.live.ops
   pub taken :
-      (before : List LiveOp) (o : LiveOp) → old.live.ops ≡ before ++ o ∷ [] → old.live.next ≡ o.index + 1
+      (before : List LiveOp) (o : LiveOp) → old.live.ops ≡ before ++ o ∷ []
+      → old.live.next ≡ o.index + 1
       → (new.live.ops ≡ before) × (new.live.next ≡ o.index)
 
 -- The operations of an action and of all below it were dropped.

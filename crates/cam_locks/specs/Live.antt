@@ -34,11 +34,13 @@ pub record IsLive (slots : List Slot) (by_name : BTreeSet Placed) (next : ℕ) :
 pub record IsPlaceOf (slots : List Slot) (index place : ℕ) : Type 0 where
   pub within : place ≤ length slots
   pub before : (k : ℕ) (s : Slot) → k < place → (get_or slots k s).operation.index < index
-  pub behind : (k : ℕ) (s : Slot) → place ≤ k → k < length slots → index ≤ (get_or slots k s).operation.index
+  pub behind : (k : ℕ) (s : Slot) → place ≤ k → k < length slots
+      → index ≤ (get_or slots k s).operation.index
 
 -- whether the slot at the place has the index and is not dropped
 abbrev pub is_live_at : List Slot → ℕ → ℕ → Bool
-is_live_at slots place i = option_map_or (λ s. eqb s.operation.index i && not s.is_dropped) (slice_get slots place) false
+is_live_at slots place i =
+    option_map_or (λ s. eqb s.operation.index i && not s.is_dropped) (slice_get slots place) false
 
 -- all but the operation with the index
 abbrev pub other : ℕ → LiveOp → Bool

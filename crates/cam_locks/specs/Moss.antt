@@ -43,7 +43,8 @@ abbrev pub is_settled_on : List Name → ℕ → LiveOp → Bool
 is_settled_on committed x o = is_on x o && is_none (lift_of committed o)
 
 abbrev pub settled_of : List ObjectDecl → List Name → List LiveOp → ℕ → State
-settled_of objects committed live x = replay (start_of objects x) (filter (is_settled_on committed x) live)
+settled_of objects committed live x =
+    replay (start_of objects x) (filter (is_settled_on committed x) live)
 
 -- the three of a site: by the commits that it was informed of, and its live operations
 abbrev pub holder : Site → Name → ℕ → Op → Option Name

@@ -35,14 +35,18 @@ has_placed os p = list_any (λ o. placed_eq p (placed_of o)) os
 
 -- the first of the set that is not before a place
 abbrev pub IsFirstFrom : BTreeSet Placed → Placed → Option Placed → Type 0
-IsFirstFrom set start None = (q : Placed) → contains placed_cmp set q ≡ true → is_before q start ≡ true
+IsFirstFrom set start None =
+    (q : Placed) → contains placed_cmp set q ≡ true → is_before q start ≡ true
 IsFirstFrom set start (Some p) =
     (contains placed_cmp set p ≡ true) × (is_before p start ≡ false)
-    × ((q : Placed) → contains placed_cmp set q ≡ true → is_before q start ≡ false → is_before q p ≡ false)
+    × ((q : Placed) → contains placed_cmp set q ≡ true → is_before q start ≡ false
+    → is_before q p ≡ false)
 
 -- the first operation of an action and of those below it that is not before a place
 abbrev pub IsNextBelow : List LiveOp → Name → Placed → Option LiveOp → Type 0
-IsNextBelow os n start None = (o : LiveOp) → In o os → is_below n o ≡ true → is_before (placed_of o) start ≡ true
+IsNextBelow os n start None =
+    (o : LiveOp) → In o os → is_below n o ≡ true → is_before (placed_of o) start ≡ true
 IsNextBelow os n start (Some p) =
     In p os × (is_below n p ≡ true) × (is_before (placed_of p) start ≡ false)
-    × ((o : LiveOp) → In o os → is_below n o ≡ true → is_before (placed_of o) start ≡ false → is_before (placed_of o) (placed_of p) ≡ false)
+    × ((o : LiveOp) → In o os → is_below n o ≡ true → is_before (placed_of o) start ≡ false
+    → is_before (placed_of o) (placed_of p) ≡ false)

@@ -10,8 +10,11 @@ use Rattle.cam_locks.specs.Placed.{placed_eq, placed_cmp}
 
 -- the order of places is total
 pub placed_total : IsTotalOrder placed_cmp
-placed_total = then_total (on_total (λ p. p.name) name_total) (on_total (λ p. p.index) nat_cmp_total)
+placed_total =
+    then_total (on_total (λ p. p.name) name_total) (on_total (λ p. p.index) nat_cmp_total)
 
 -- places are equal where the order does not part them
 pub placed_ties : (p q : Placed) → placed_eq p q ≡ is_eq (placed_cmp p q)
-placed_ties p q = both_tied _ _ (name_cmp p.name q.name) (nat_cmp p.index q.index) (name_ties p.name q.name) (unsigned_ties p.index q.index)
+placed_ties p q =
+    both_tied _ _ (name_cmp p.name q.name) (nat_cmp p.index q.index) (name_ties p.name q.name)
+    (unsigned_ties p.index q.index)

@@ -59,7 +59,8 @@ informed objects node outcomes =
 -- The operations of the families whose abort is not known, in order, and what is known; the next index is above all that was held.
 abbrev pub restored : List ObjectDecl → ℕ → List Held → Knowledge → Site
 restored objects node held know =
-    record (informed objects node know.outcomes) { live = in_order (flat_map (ops_of know) held); next = next_of (all_held held) }
+    record (informed objects node know.outcomes)
+    { live = in_order (flat_map (ops_of know) held); next = next_of (all_held held) }
 
 -- whether one of the held operations has the index
 abbrev pub has_index : List HeldOp → ℕ → Bool
@@ -74,7 +75,8 @@ InRange (h ∷ hs) = (h.index ≤ 999999999) × InRange hs
 abbrev pub MayBeHeld : List ObjectDecl → ℕ → List HeldOp → Type 0
 MayBeHeld objects node [] = Unit {0}
 MayBeHeld objects node (h ∷ hs) =
-    (fits_here objects node h.object h.op ≡ true) × (h.index ≤ 999999999) × (has_index hs h.index ≡ false) × MayBeHeld objects node hs
+    (fits_here objects node h.object h.op ≡ true) × (h.index ≤ 999999999)
+    × (has_index hs h.index ≡ false) × MayBeHeld objects node hs
 
 abbrev pub CanRestore : List ObjectDecl → ℕ → List Held → Type 0
 CanRestore objects node held = MayBeHeld objects node (all_held held)

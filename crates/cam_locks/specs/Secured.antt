@@ -18,11 +18,13 @@ has_held hs f = list_any (λ h. name_eq f h.family) hs
 -- Each of these is what is secured of its family at this moment, under some count, and no family stands twice.
 abbrev pub AreSecured : Site → List Held → Type 0
 AreSecured site [] = Unit {0}
-AreSecured site (h ∷ hs) = (h ≡ held site h.family h.count) × (has_held hs h.family ≡ false) × AreSecured site hs
+AreSecured site (h ∷ hs) =
+    (h ≡ held site h.family h.count) × (has_held hs h.family ≡ false) × AreSecured site hs
 
 -- such a list can be restored at the node of the site
 abbrev pub SecuredCanBeRestored : Site → Type 0
-SecuredCanBeRestored site = (hs : List Held) → AreSecured site hs → CanRestore site.objects site.node hs
+SecuredCanBeRestored site =
+    (hs : List Held) → AreSecured site hs → CanRestore site.objects site.node hs
 
 -- Indices rise, up to a limit, and each operation fits its object.
 pub record IsWellFormed (site : Site) : Type 0 where
@@ -43,7 +45,8 @@ GrantsLeadOn = (site : Site) (a : Name) (x : ℕ) (op : Op) → IsLater site (af
 
 -- so do a commit and an abort of which the site is informed
 abbrev pub OutcomesLeadOn : Type 0
-OutcomesLeadOn = (site : Site) (a : Name) → IsLater site (with_commit site a) × IsLater site (with_abort site a)
+OutcomesLeadOn =
+    (site : Site) (a : Name) → IsLater site (with_commit site a) × IsLater site (with_abort site a)
 
 -- and what is later than a later moment is later
 abbrev pub LaterLeadsOn : Type 0
@@ -66,8 +69,11 @@ AreOfRun site (m ∷ ms) = (IsLater site m.site ⊎ IsLater m.site site) × AreO
 abbrev pub WereSecured : List Secured → Type 0
 WereSecured [] = Unit {0}
 WereSecured (m ∷ ms) =
-    IsWellFormed m.site × (m.held ≡ held m.site m.held.family m.held.count) × (has_held (all_secured ms) m.held.family ≡ false) × AreOfRun m.site ms × WereSecured ms
+    IsWellFormed m.site × (m.held ≡ held m.site m.held.family m.held.count)
+    × (has_held (all_secured ms) m.held.family ≡ false) × AreOfRun m.site ms × WereSecured ms
 
 -- such a list can be restored at the node of the run
 abbrev pub SecuredAlongCanBeRestored : Type 0
-SecuredAlongCanBeRestored = (site : Site) (ms : List Secured) → AreOfRun site ms → WereSecured ms → CanRestore site.objects site.node (all_secured ms)
+SecuredAlongCanBeRestored =
+    (site : Site) (ms : List Secured) → AreOfRun site ms → WereSecured ms
+    → CanRestore site.objects site.node (all_secured ms)

@@ -34,9 +34,11 @@ fits_here objects node x op = is_here objects node x && is_fit objects x op
 -- the indices of the operations rise, from `low` on, and stay below the next index
 abbrev pub IndicesRise : ℕ → List LiveOp → ℕ → Type 0
 IndicesRise low [] next = low ≤ next
-IndicesRise low (o ∷ os) next = (low ≤ o.index) × IndicesRise (Rattle.std.specs.Prelude.suc o.index) os next
+IndicesRise low (o ∷ os) next =
+    (low ≤ o.index) × IndicesRise (Rattle.std.specs.Prelude.suc o.index) os next
 
 -- each operation is on an object of the node, and fits it
 abbrev pub AreFit : List ObjectDecl → ℕ → List LiveOp → Type 0
 AreFit objects node [] = Unit {0}
-AreFit objects node (o ∷ os) = (fits_here objects node o.object o.op ≡ true) × AreFit objects node os
+AreFit objects node (o ∷ os) =
+    (fits_here objects node o.object o.op ≡ true) × AreFit objects node os

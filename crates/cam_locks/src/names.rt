@@ -1,3 +1,4 @@
+//! Names of actions in order, and a table by which one is found.
 ghost use Rattle.std.specs.Prelude.{◌≡◌, ◌+◌, ◌≤◌, [], OnOk, IfOk};
 ghost use Rattle.cam_know.specs.Known.{lift_by};
 ghost use Rattle.cam_locks.specs.Names.{has_name, with_name, AreKeys};

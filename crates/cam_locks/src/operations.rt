@@ -1,3 +1,4 @@
+//! Objects of a node and operations on them, as a site looks them up.
 ghost use Rattle.std.specs.Prelude.{◌≡◌, IfOk};
 ghost use Rattle.cam_type.specs.Table.{kind_of};
 ghost use Rattle.cam_locks.specs.Site.{is_here, fits_here};

@@ -74,8 +74,11 @@ changed (changes.Called n) r = record r { calls = r.calls + 1; open_call = Some 
 changed changes.Got r = record r { open_call = None }
 
 -- the new table has the change at one action
-abbrev pub Changes : {S : Type 0} → Change → Name → HashMap Name Action S → HashMap Name Action S → Type 0
-Changes change b old new = (a : Name) → action_in new a ≡ (if name_eq a b then changed change (action_in old a) else action_in old a)
+abbrev pub Changes : {S : Type 0} → Change → Name → HashMap Name Action S → HashMap Name Action S
+    → Type 0
+Changes change b old new =
+    (a : Name)
+    → action_in new a ≡ (if name_eq a b then changed change (action_in old a) else action_in old a)
 
 -- the deed decides the action, with this outcome
 abbrev pub IsDecision : Change → Name → Deed → Type 0

@@ -29,16 +29,20 @@ mark_of p = record { action = p.operation.action; count = p.count }
 
 -- an operation of the family at the site
 abbrev pub is_of : List ObjectDecl → ℕ → Name → Performed → Bool
-is_of objects s f p = eqb (site_of objects p.operation.object) s && name_eq f (family p.operation.action)
+is_of objects s f p =
+    eqb (site_of objects p.operation.object) s && name_eq f (family p.operation.action)
 
 abbrev pub marks_of : List ObjectDecl → List Deed → ℕ → Name → List Mark
 marks_of objects L s f = map mark_of (filter (is_of objects s f) (performed objects L))
 
 -- The table has the performed operations of each family at each site.
-abbrev pub KeepsMarks : {S : Type 0} → List ObjectDecl → List Deed → HashMap Place (List Mark) S → Type 0
-KeepsMarks objects L table = (s : ℕ) (f : Name) → marks_in table (place_at s f) ≡ marks_of objects L s f
+abbrev pub KeepsMarks : {S : Type 0} → List ObjectDecl → List Deed → HashMap Place (List Mark) S
+    → Type 0
+KeepsMarks objects L table =
+    (s : ℕ) (f : Name) → marks_in table (place_at s f) ≡ marks_of objects L s f
 
 -- of a family that is not secured at the site: the operation is gone, by a crash or an abort, or has been handed up to the family
 abbrev pub is_clear : List Deed → ℕ → Name → Mark → Bool
 is_clear L s f m =
-    not (eqb m.count (count L s)) || (list_any (λ u. informed L s u false) (ancestors m.action) || is_lift f (lift L s m.action))
+    not (eqb m.count (count L s))
+    || (list_any (λ u. informed L s u false) (ancestors m.action) || is_lift f (lift L s m.action))

@@ -12,13 +12,15 @@ use Rattle.cam_plain.specs.declared.replies.Replies.{Replies}
 -- the answer of a call that was performed, by its last Perform
 abbrev pub answer_to : List Deed → Name → ℕ → Option Answer
 answer_to [] a n = None
-answer_to (Perform b m answer ∷ before) a n = if name_eq a b && eqb n m then Some answer else answer_to before a n
+answer_to (Perform b m answer ∷ before) a n =
+    if name_eq a b && eqb n m then Some answer else answer_to before a n
 answer_to (_ ∷ before) a n = answer_to before a n
 
 -- who stood in the way of a call that was bounced, by its last Bounce
 abbrev pub holder_for : List Deed → Name → ℕ → Option Name
 holder_for [] a n = None
-holder_for (Bounce b m holder ∷ before) a n = if name_eq a b && eqb n m then Some holder else holder_for before a n
+holder_for (Bounce b m holder ∷ before) a n =
+    if name_eq a b && eqb n m then Some holder else holder_for before a n
 holder_for (_ ∷ before) a n = holder_for before a n
 
 -- whether two calls are the same: of one action, under one number

@@ -32,16 +32,18 @@ AreLiveOps (k ∷ ks) [] = ⊥
 -- the family of the operation is among these, or is secured at the site; and an operation is of its family
 abbrev pub is_noted : List Deed → ℕ → List Name → Operation → Bool
 is_noted L s families o =
-    is_ancestor (family o.action) o.action && (has_name families (family o.action) || secured_at L (family o.action) s)
+    is_ancestor (family o.action) o.action
+    && (has_name families (family o.action) || secured_at L (family o.action) s)
 
 -- What is kept of a site: its live operations, and the commits that it was informed of. Each family that a crash would drop is noted.
-pub record KeepsSite (objects : List ObjectDecl) (L : List Deed) (s : ℕ) (site : Site) : Type 0 where
-  pub objects_are : site.locks.site.objects ≡ objects
-  pub node : site.locks.site.node ≡ s
-  pub operations : AreLiveOps site.locks.site.live (live_at objects L s)
-  pub commits : (u : Name) → has_name site.locks.site.committed u ≡ informed L s u true
-  pub tops : list_all is_top site.families ≡ true
-  pub families : list_all (is_noted L s site.families) (live_at objects L s) ≡ true
+pub record KeepsSite (objects : List ObjectDecl) (L : List Deed) (s : ℕ) (site : Site) : Type 0
+  where
+    pub objects_are : site.locks.site.objects ≡ objects
+    pub node : site.locks.site.node ≡ s
+    pub operations : AreLiveOps site.locks.site.live (live_at objects L s)
+    pub commits : (u : Name) → has_name site.locks.site.committed u ≡ informed L s u true
+    pub tops : list_all is_top site.families ≡ true
+    pub families : list_all (is_noted L s site.families) (live_at objects L s) ≡ true
 
 -- of a site without live operations that was informed of no commit, nothing need be kept
 pub record IsUntouched (objects : List ObjectDecl) (L : List Deed) (s : ℕ) : Type 0 where
@@ -59,7 +61,8 @@ abbrev pub KeepsSites : {S : Type 0} → List ObjectDecl → List Deed → HashM
 KeepsSites objects L sites = (s : ℕ) → KeepsIfSome objects L s (site_in sites s)
 
 -- what a site keeps after the call number n of an action came to it: where someone stands in the way it keeps what it kept
-abbrev pub AfterAttempt : List ObjectDecl → List Deed → ℕ → Name → ℕ → Answer → Option Name → Site → Type 0
+abbrev pub AfterAttempt : List ObjectDecl → List Deed → ℕ → Name → ℕ → Answer → Option Name → Site
+    → Type 0
 AfterAttempt objects L s a n answer None site = KeepsSite objects (Perform a n answer ∷ L) s site
 AfterAttempt objects L s a n answer (Some u) site = KeepsSite objects L s site
 
@@ -76,7 +79,8 @@ abbrev pub crashed_families : List Deed → ℕ → List Name → locks.Site →
 crashed_families L s [] site = site
 crashed_families L s (f ∷ fs) site = crashed_families L s fs (crashed_family L s f site)
 
-abbrev pub Attempted : {S : Type 0} → List ObjectDecl → List Deed → Name → ℕ → Answer → Option Name → HashMap ℕ Site S → Type 0
+abbrev pub Attempted : {S : Type 0} → List ObjectDecl → List Deed → Name → ℕ → Answer → Option Name
+    → HashMap ℕ Site S → Type 0
 Attempted objects L a n answer None sites = KeepsSites objects (Perform a n answer ∷ L) sites
 Attempted objects L a n answer (Some u) sites = KeepsSites objects L sites
 

@@ -26,7 +26,8 @@ fn arriving(before: &Before, action: &Name, number: u32) -> Option<AddressedCall
     ensures test { (test : Addressed → Bool)
         → arrival_test before.now.objects.now (history before.now.deeds.now) action.now number test
         ≡ option_map_or test (addressed result) false }
-    ensures fits { IfSome result (λ call. is_fit before.now.objects.now call.object call.op ≡ true) }
+    ensures fits { IfSome result (λ call.
+        is_fit before.now.objects.now call.object call.op ≡ true) }
     ensures called { IfSome result (λ call.
         call_of (history before.now.deeds.now) action.now number ≡ addressed (Some call)) }
 {
@@ -55,9 +56,11 @@ pub(crate) fn may_perform(
     number: u32,
     answer: &Answer,
 ) -> Result<bool, NoMemory>
-    requires known { IsKnown before.now.objects.now (history before.now.deeds.now) before.now.tables.now }
+    requires known { IsKnown before.now.objects.now (history before.now.deeds.now)
+        before.now.tables.now }
     requires kept { KeepsSites before.now.objects.now (history before.now.deeds.now) sites.old }
-    ensures value { IfOk result (λ may. may ≡ perform_test before.now.objects.now (history before.now.deeds.now)
+    ensures value { IfOk result (λ may.
+        may ≡ perform_test before.now.objects.now (history before.now.deeds.now)
         action.now number answer.now) }
     ensures done { IfOk result (λ may. may ≡ true → KeepsSites before.now.objects.now
         (Perform action.now number answer.now ∷ history before.now.deeds.now) sites.new) }
@@ -81,9 +84,11 @@ pub(crate) fn may_bounce(
     number: u32,
     holder: &Name,
 ) -> Result<bool, NoMemory>
-    requires known { IsKnown before.now.objects.now (history before.now.deeds.now) before.now.tables.now }
+    requires known { IsKnown before.now.objects.now (history before.now.deeds.now)
+        before.now.tables.now }
     requires kept { KeepsSites before.now.objects.now (history before.now.deeds.now) sites.old }
-    ensures value { IfOk result (λ may. may ≡ bounce_test before.now.objects.now (history before.now.deeds.now)
+    ensures value { IfOk result (λ may.
+        may ≡ bounce_test before.now.objects.now (history before.now.deeds.now)
         action.now number holder.now) }
     ensures same { IfOk result (λ may. may ≡ true
         → KeepsSites before.now.objects.now (history before.now.deeds.now) sites.new) }

@@ -86,7 +86,8 @@ impl Before<'_> {
     /// Whether the call was performed with this answer.
     pub(crate) fn is_performed(&self, action: &Name, number: u32, answer: &Answer) -> bool
         requires { IsKnown self.now.objects.now (history self.now.deeds.now) self.now.tables.now }
-        ensures { result ≡ list_any (is_perform action.now number answer.now) (history self.now.deeds.now) }
+        ensures { result
+            ≡ list_any (is_perform action.now number answer.now) (history self.now.deeds.now) }
     {
         match self.tables.replies.answer(action, number) {
             Some(given) => *answer == given,
@@ -97,7 +98,8 @@ impl Before<'_> {
     /// Whether the call was bounced with this holder.
     pub(crate) fn is_bounced(&self, action: &Name, number: u32, holder: &Name) -> bool
         requires { IsKnown self.now.objects.now (history self.now.deeds.now) self.now.tables.now }
-        ensures { result ≡ list_any (is_bounce action.now number holder.now) (history self.now.deeds.now) }
+        ensures { result
+            ≡ list_any (is_bounce action.now number holder.now) (history self.now.deeds.now) }
     {
         match self.tables.replies.holder(action, number) {
             Some(named) => *holder == named,

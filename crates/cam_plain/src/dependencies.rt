@@ -39,7 +39,8 @@ pub(crate) fn has_pair(pairs: &Pairs, node: u8, count: u32) -> bool
 /// Adds a pair, if it is not there.
 #[tactic(auto, using(crate::proofs::Dependent::has_pair_end, crate::proofs::Dependent::has_pair_already))]
 fn add_pair(pairs: &mut Pairs, node: u8, count: u32) -> Result<(), NoMemory>
-    ensures { OnOk result ((s c : ℕ) → has_pair pairs.new s c ≡ ((eqb node s && eqb count c) || has_pair pairs.old s c)) }
+    ensures { OnOk result ((s c : ℕ)
+        → has_pair pairs.new s c ≡ ((eqb node s && eqb count c) || has_pair pairs.old s c)) }
 {
     if !has_pair(pairs, node, count) {
         pairs.push((node, count))?;
@@ -49,7 +50,8 @@ fn add_pair(pairs: &mut Pairs, node: u8, count: u32) -> Result<(), NoMemory>
 
 /// Adds pairs, those that are not there.
 fn add_pairs(pairs: &mut Pairs, more: &Pairs) -> Result<(), NoMemory>
-    ensures { OnOk result ((s c : ℕ) → has_pair pairs.new s c ≡ (has_pair more.now s c || has_pair pairs.old s c)) }
+    ensures { OnOk result ((s c : ℕ)
+        → has_pair pairs.new s c ≡ (has_pair more.now s c || has_pair pairs.old s c)) }
 {
     for pair in more.as_slice() {
         add_pair(pairs, pair.0, pair.1)?;
@@ -92,7 +94,9 @@ fn take_create(
     dependencies: &mut Dependencies,
     action: &Name,
 ) -> Result<(), NoMemory>
-    ensures { OnOk result ((objects : List ObjectDecl) (L : List Deed) → DependsOn objects L dependencies.old → DependsOn objects (Create action.now ∷ L) dependencies.new) }
+    ensures { OnOk result ((objects : List ObjectDecl) (L : List Deed)
+        → DependsOn objects L dependencies.old
+        → DependsOn objects (Create action.now ∷ L) dependencies.new) }
 {
     let is_top = action.depth() == 1;
     if !is_top {
@@ -112,7 +116,9 @@ fn take_ask(
     action: &Name,
     child: &Name,
 ) -> Result<(), NoMemory>
-    ensures { OnOk result ((objects : List ObjectDecl) (L : List Deed) → DependsOn objects L dependencies.old → DependsOn objects (Ask action.now child.now ∷ L) dependencies.new) }
+    ensures { OnOk result ((objects : List ObjectDecl) (L : List Deed)
+        → DependsOn objects L dependencies.old
+        → DependsOn objects (Ask action.now child.now ∷ L) dependencies.new) }
 {
     // A name has a part.
     prove!(action.depth() > 0);
@@ -142,7 +148,8 @@ fn take_done(
     call: Option<AddressedCall>,
     action: &Name,
 ) -> Result<(), NoMemory>
-    ensures { OnOk result (AddsPairs dependencies.old action.now (visited objects.now (addressed call)) dependencies.new) }
+    ensures { OnOk result (AddsPairs dependencies.old action.now
+        (visited objects.now (addressed call)) dependencies.new) }
 {
     let pairs = visited(alloc, objects, call)?;
     depend(alloc, dependencies, action, &pairs)?;
@@ -155,7 +162,9 @@ fn take_commit(
     dependencies: &mut Dependencies,
     action: &Name,
 ) -> Result<(), NoMemory>
-    ensures { OnOk result ((objects : List ObjectDecl) (L : List Deed) → DependsOn objects L dependencies.old → DependsOn objects (Commit action.now ∷ L) dependencies.new) }
+    ensures { OnOk result ((objects : List ObjectDecl) (L : List Deed)
+        → DependsOn objects L dependencies.old
+        → DependsOn objects (Commit action.now ∷ L) dependencies.new) }
 {
     // A name has a part.
     prove!(action.depth() > 0);
@@ -177,7 +186,8 @@ pub(crate) fn take_deed(
     ledger: &Ledger,
     deed: &Deed,
 ) -> Result<(), NoMemory>
-    ensures { OnOk result ((L : List Deed) → Keeps objects.now L ledger.now → DependsOn objects.now L dependencies.old
+    ensures { OnOk result ((L : List Deed) → Keeps objects.now L ledger.now
+        → DependsOn objects.now L dependencies.old
         → DependsOn objects.now (deed.now ∷ L) dependencies.new) }
 {
     match deed {

@@ -75,7 +75,8 @@ fn is_legal(
     sites: &mut Sites,
     deed: &Deed,
 ) -> Result<bool, NoMemory>
-    requires known { IsKnown before.now.objects.now (history before.now.deeds.now) before.now.tables.now }
+    requires known { IsKnown before.now.objects.now (history before.now.deeds.now)
+        before.now.tables.now }
     requires kept { KeepsSites before.now.objects.now (history before.now.deeds.now) sites.old }
     ensures value { IfOk result (λ legal.
         legal ≡ meets before.now.objects.now (history before.now.deeds.now) deed.now) }
@@ -103,7 +104,8 @@ fn is_legal_of_call(
     sites: &mut Sites,
     deed: &Deed,
 ) -> Result<bool, NoMemory>
-    requires known { IsKnown before.now.objects.now (history before.now.deeds.now) before.now.tables.now }
+    requires known { IsKnown before.now.objects.now (history before.now.deeds.now)
+        before.now.tables.now }
     requires kept { KeepsSites before.now.objects.now (history before.now.deeds.now) sites.old }
     ensures value { IfOk result (λ legal.
         legal ≡ call_meets before.now.objects.now (history before.now.deeds.now) deed.now) }

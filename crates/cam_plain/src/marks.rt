@@ -39,7 +39,8 @@ pub(crate) type MarkTable = HashMap<Place, Marks>;
 /// Takes out what is kept of a place.
 fn take_out(table: &mut MarkTable, alloc: Global, place: &Place) -> Marks
     ensures value { result ≡ marks_in table.old place.now }
-    ensures others { (q : PlaceValue) → place_eq place.now q ≡ false → marks_in table.new q ≡ marks_in table.old q }
+    ensures others { (q : PlaceValue) → place_eq place.now q ≡ false
+        → marks_in table.new q ≡ marks_in table.old q }
 {
     match table.remove(place) {
         Some(marks) => marks,
@@ -55,7 +56,8 @@ fn add_mark(
     mark: &Mark,
 ) -> Result<(), NoMemory>
     ensures { OnOk result ((q : PlaceValue) → marks_in table.new q
-        ≡ (if place_eq place.now q then marks_in table.old place.now ++ mark.now ∷ [] else marks_in table.old q)) }
+        ≡ (if place_eq place.now q then marks_in table.old place.now ++ mark.now ∷ []
+        else marks_in table.old q)) }
 {
     let mut marks = take_out(table, alloc, place);
     marks.push_copy(mark)?;
@@ -72,9 +74,11 @@ fn note_call(
     action: &Name,
     call: &AddressedCall,
 ) -> Result<(), NoMemory>
-    ensures { OnOk result ((L : List DeedValue) (n : ℕ) (answer : AnswerValue) → Keeps objects.now L ledger.now
+    ensures { OnOk result ((L : List DeedValue) (n : ℕ) (answer : AnswerValue)
+        → Keeps objects.now L ledger.now
         → call_of L action.now n ≡ addressed (Some call.now)
-        → KeepsMarks objects.now L table.old → KeepsMarks objects.now (Perform action.now n answer ∷ L) table.new) }
+        → KeepsMarks objects.now L table.old
+        → KeepsMarks objects.now (Perform action.now n answer ∷ L) table.new) }
 {
     let site = site_of(objects, call.object);
     let count = ledger.count(site);
@@ -96,8 +100,10 @@ fn note_performed(
     action: &Name,
     number: u32,
 ) -> Result<(), NoMemory>
-    ensures { OnOk result ((L : List DeedValue) (answer : AnswerValue) → Keeps objects.now L ledger.now
-        → KeepsMarks objects.now L table.old → KeepsMarks objects.now (Perform action.now number answer ∷ L) table.new) }
+    ensures { OnOk result ((L : List DeedValue) (answer : AnswerValue)
+        → Keeps objects.now L ledger.now
+        → KeepsMarks objects.now L table.old
+        → KeepsMarks objects.now (Perform action.now number answer ∷ L) table.new) }
 {
     match ledger.call(action, number) {
         Some(call) => note_call(table, alloc, objects, ledger, action, &call),

@@ -43,7 +43,8 @@ impl Replies {
 
     /// The answer of a call that was performed.
     pub(crate) fn answer(&self, action: &Name, number: u32) -> Option<Answer>
-        ensures { (L : List Deed) → KeepsReplies L self.now → result ≡ answer_to L action.now number }
+        ensures { (L : List Deed) → KeepsReplies L self.now
+            → result ≡ answer_to L action.now number }
     {
         let call = CallName {
             action: *action,
@@ -54,7 +55,8 @@ impl Replies {
 
     /// Who stood in the way of a call that was bounced.
     pub(crate) fn holder(&self, action: &Name, number: u32) -> Option<Name>
-        ensures { (L : List Deed) → KeepsReplies L self.now → result ≡ holder_for L action.now number }
+        ensures { (L : List Deed) → KeepsReplies L self.now
+            → result ≡ holder_for L action.now number }
     {
         let call = CallName {
             action: *action,
@@ -65,7 +67,8 @@ impl Replies {
 
     /// Keeps what one more deed says of replies.
     pub(crate) fn note(&mut self, deed: &Deed) -> Result<(), NoMemory>
-        ensures { OnOk result ((L : List Deed) → KeepsReplies L self.old → KeepsReplies (deed.now ∷ L) self.new) }
+        ensures { OnOk result ((L : List Deed) → KeepsReplies L self.old
+            → KeepsReplies (deed.now ∷ L) self.new) }
     {
         match deed {
             Deed::Perform {

@@ -22,7 +22,8 @@ use cam_names::Name;
 /// Whether the family is secured at each pair.
 fn all_secured(before: &Before, family: &Name, pairs: &Pairs) -> bool
     requires { IsKnown before.now.objects.now (history before.now.deeds.now) before.now.tables.now }
-    ensures { result ≡ list_all (λ p. secured (history before.now.deeds.now) family.now p.0 p.1) pairs.now }
+    ensures { result
+        ≡ list_all (λ p. secured (history before.now.deeds.now) family.now p.0 p.1) pairs.now }
 {
     for pair in pairs.as_slice() {
         if !before.is_secured(family, pair.0, pair.1) {
@@ -74,7 +75,8 @@ fn is_let_commit(before: &Before, action: &Name) -> bool
 
 pub(crate) fn may_commit(before: &Before, action: &Name) -> bool
     requires { IsKnown before.now.objects.now (history before.now.deeds.now) before.now.tables.now }
-    ensures { result ≡ commit_test before.now.objects.now (history before.now.deeds.now) action.now }
+    ensures { result
+        ≡ commit_test before.now.objects.now (history before.now.deeds.now) action.now }
 {
     let asked = before.action(action).asked_commit;
     let decided = is_decided(before, action);
@@ -100,7 +102,8 @@ fn is_clear(before: &Before, family: &Name, site: u8, mark: &Mark) -> bool
 /// Whether all of these operations of the family at the site are so.
 fn all_clear(before: &Before, family: &Name, site: u8, marks: &Marks) -> bool
     requires { IsKnown before.now.objects.now (history before.now.deeds.now) before.now.tables.now }
-    ensures { result ≡ list_all (is_clear (history before.now.deeds.now) site family.now) marks.now }
+    ensures { result
+        ≡ list_all (is_clear (history before.now.deeds.now) site family.now) marks.now }
 {
     for mark in marks.as_slice() {
         if !is_clear(before, family, site, mark) {
@@ -113,7 +116,8 @@ fn all_clear(before: &Before, family: &Name, site: u8, marks: &Marks) -> bool
 /// Whether all operations of the family at the site are so.
 fn is_place_clear(before: &Before, place: &Place) -> bool
     requires { IsKnown before.now.objects.now (history before.now.deeds.now) before.now.tables.now }
-    ensures { result ≡ list_all (is_clear (history before.now.deeds.now) place.now.site place.now.family)
+    ensures { result
+        ≡ list_all (is_clear (history before.now.deeds.now) place.now.site place.now.family)
         (marks_in before.now.tables.now.marks place.now) }
 {
     match before.tables.marks.get(place) {
@@ -124,9 +128,11 @@ fn is_place_clear(before: &Before, place: &Place) -> bool
 
 /// Whether all live operations of a family have been handed up to it, at a site where it is not secured.
 fn is_handed_up(before: &Before, family: &Name, site: u8) -> bool
-    requires known { IsKnown before.now.objects.now (history before.now.deeds.now) before.now.tables.now }
+    requires known { IsKnown before.now.objects.now (history before.now.deeds.now)
+        before.now.tables.now }
     requires unsecured { secured_at (history before.now.deeds.now) family.now site ≡ false }
-    ensures { result ≡ handed_up before.now.objects.now (history before.now.deeds.now) family.now site }
+    ensures { result
+        ≡ handed_up before.now.objects.now (history before.now.deeds.now) family.now site }
 {
     let place = Place {
         site,

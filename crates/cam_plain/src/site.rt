@@ -59,8 +59,10 @@ impl Site {
             → KeepsSite objects L site self.old → site_of objects call.now.object ≡ site
             → granted ≡ grant_by (holder objects L action.now call.now.object call.now.op)
             (answer_of (value objects L call.now.object) call.now.op)) }
-        ensures kept { OnOk result ((objects : List ObjectDecl) (L : List Deed) (n : ℕ) (answer : AnswerValue)
-            → Keeps objects L ledger.now → KeepsSite objects L site self.old → site_of objects call.now.object ≡ site
+        ensures kept { OnOk result ((objects : List ObjectDecl) (L : List Deed) (n : ℕ)
+            (answer : AnswerValue)
+            → Keeps objects L ledger.now → KeepsSite objects L site self.old
+            → site_of objects call.now.object ≡ site
             → call_of L action.now n ≡ addressed (Some call.now)
             → AfterAttempt objects L site action.now n answer
             (holder objects L action.now call.now.object call.now.op) self.new) }
@@ -79,7 +81,8 @@ impl Site {
 
     /// The site is informed of an outcome.
     pub(crate) fn inform(&mut self, name: &Name, committed: bool) -> Result<(), NoMemory>
-        ensures { OnOk result ((objects : List ObjectDecl) (L : List Deed) (s : ℕ) → KeepsSite objects L s self.old
+        ensures { OnOk result ((objects : List ObjectDecl) (L : List Deed) (s : ℕ)
+            → KeepsSite objects L s self.old
             → KeepsSite objects (Inform s name.now committed ∷ L) s self.new) }
     {
         if committed {
@@ -91,8 +94,10 @@ impl Site {
 
     /// The site crashes: what is of families that are not secured here goes.
     pub(crate) fn crash(&mut self, alloc: Global, ledger: &Ledger, site: u8) -> Result<(), NoMemory>
-        ensures { OnOk result ((objects : List ObjectDecl) (L : List Deed) → Keeps objects L ledger.now
-            → KeepsSite objects L site self.old → KeepsSite objects (Crash site ∷ L) site self.new) }
+        ensures { OnOk result ((objects : List ObjectDecl) (L : List Deed)
+            → Keeps objects L ledger.now
+            → KeepsSite objects L site self.old
+            → KeepsSite objects (Crash site ∷ L) site self.new) }
     {
         crash_families(&mut self.locks, ledger, site, &self.families)?;
         self.families = Names::new(alloc);
@@ -188,7 +193,8 @@ fn drop_aborted(
     action: &Name,
 ) -> Result<(), NoMemory>
     ensures { OnOk result ((objects : List ObjectDecl) (L : List Deed) → Keeps objects L ledger.now
-        → locks.new.site ≡ with_abort_of (find (λ u. informed L site u false) (ancestors action.now))
+        → locks.new.site
+        ≡ with_abort_of (find (λ u. informed L site u false) (ancestors action.now))
         locks.old.site) }
 {
     match aborted_ancestor(ledger, site, action) {

@@ -31,7 +31,8 @@ pub(crate) type Sites = HashMap<u8, Site>;
 fn take_out(sites: &mut Sites, alloc: Global, objects: &Objects, node: u8) -> Result<Site, NoMemory>
     ensures site { IfOk result (λ site. (L : List DeedValue) → KeepsSites objects.now L sites.old
         → KeepsSite objects.now L node site) }
-    ensures others { OnOk result ((t : ℕ) → eqb t node ≡ false → site_in sites.new t ≡ site_in sites.old t) }
+    ensures others { OnOk result ((t : ℕ) → eqb t node ≡ false
+        → site_in sites.new t ≡ site_in sites.old t) }
 {
     match sites.remove(&node) {
         Some(site) => Ok(site),
@@ -56,16 +57,20 @@ pub(crate) fn attempt(
     action: &Name,
     call: &AddressedCall,
 ) -> Result<Grant, NoMemory>
-    requires known { IsKnown before.now.objects.now (history before.now.deeds.now) before.now.tables.now }
+    requires known { IsKnown before.now.objects.now (history before.now.deeds.now)
+        before.now.tables.now }
     requires sites { KeepsSites before.now.objects.now (history before.now.deeds.now) sites.old }
     requires fits { is_fit before.now.objects.now call.now.object call.now.op ≡ true }
     ensures value { IfOk result (λ granted. granted ≡ grant_by
-        (holder before.now.objects.now (history before.now.deeds.now) action.now call.now.object call.now.op)
-        (answer_of (value before.now.objects.now (history before.now.deeds.now) call.now.object) call.now.op)) }
+        (holder before.now.objects.now (history before.now.deeds.now) action.now call.now.object
+        call.now.op)
+        (answer_of (value before.now.objects.now (history before.now.deeds.now) call.now.object)
+        call.now.op)) }
     ensures kept { OnOk result ((n : ℕ) (answer : AnswerValue)
         → call_of (history before.now.deeds.now) action.now n ≡ addressed (Some call.now)
         → Attempted before.now.objects.now (history before.now.deeds.now) action.now n answer
-        (holder before.now.objects.now (history before.now.deeds.now) action.now call.now.object call.now.op)
+        (holder before.now.objects.now (history before.now.deeds.now) action.now call.now.object
+        call.now.op)
         sites.new) }
 {
     let node = site_of(before.objects, call.object);
@@ -100,7 +105,8 @@ fn crash(
     ledger: &Ledger,
     node: u8,
 ) -> Result<(), NoMemory>
-    ensures { OnOk result ((L : List DeedValue) → Keeps objects.now L ledger.now → KeepsSites objects.now L sites.old
+    ensures { OnOk result ((L : List DeedValue) → Keeps objects.now L ledger.now
+        → KeepsSites objects.now L sites.old
         → KeepsSites objects.now (Crash node ∷ L) sites.new) }
 {
     let mut site = take_out(sites, alloc, objects, node)?;
@@ -116,7 +122,8 @@ pub(crate) fn note_at_site(
     ledger: &Ledger,
     deed: &Deed,
 ) -> Result<(), NoMemory>
-    ensures { OnOk result ((L : List DeedValue) → Keeps objects.now L ledger.now → Between objects.now L deed.now sites.old
+    ensures { OnOk result ((L : List DeedValue) → Keeps objects.now L ledger.now
+        → Between objects.now L deed.now sites.old
         → KeepsSites objects.now (deed.now ∷ L) sites.new) }
 {
     match deed {

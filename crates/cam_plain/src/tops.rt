@@ -33,7 +33,8 @@ pub(crate) fn tops_in(tops: &Tops, node: u8, count: u32) -> u64
 
 /// Keeps what one more deed says of top actions.
 pub(crate) fn note_top(tops: &mut Tops, deed: &Deed) -> Result<(), NoMemory>
-    ensures { OnOk result ((L : List Deed) → KeepsTops L tops.old → KeepsTops (deed.now ∷ L) tops.new) }
+    ensures { OnOk result ((L : List Deed) → KeepsTops L tops.old
+        → KeepsTops (deed.now ∷ L) tops.new) }
 {
     match deed {
         Deed::Create { action } => note_created(tops, action),
@@ -44,7 +45,8 @@ pub(crate) fn note_top(tops: &mut Tops, deed: &Deed) -> Result<(), NoMemory>
 /// One more top action of its home, where it is one.
 #[tactic(auto, using(crate::proofs::Topping::child_put))]
 fn note_created(tops: &mut Tops, action: &Name) -> Result<(), NoMemory>
-    ensures { OnOk result ((L : List Deed) → KeepsTops L tops.old → KeepsTops (Create action.now ∷ L) tops.new) }
+    ensures { OnOk result ((L : List Deed) → KeepsTops L tops.old
+        → KeepsTops (Create action.now ∷ L) tops.new) }
 {
     let is_top = action.depth() == 1;
     if is_top {
@@ -57,7 +59,8 @@ fn note_created(tops: &mut Tops, action: &Name) -> Result<(), NoMemory>
 /// One more top action of its home.
 fn note_top_action(tops: &mut Tops, action: &Name) -> Result<(), NoMemory>
     requires { is_top action.now ≡ true }
-    ensures { OnOk result ((L : List Deed) → KeepsTops L tops.old → KeepsTops (Create action.now ∷ L) tops.new) }
+    ensures { OnOk result ((L : List Deed) → KeepsTops L tops.old
+        → KeepsTops (Create action.now ∷ L) tops.new) }
 {
     let home = action.home();
     let number = one_more(tops_in(tops, home.0, home.1))?;

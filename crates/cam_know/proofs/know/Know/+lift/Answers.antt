@@ -1,5 +1,4 @@
-use Rattle.std.proofs.Common.{subst, List, ◌≤◌, length, ◌≡◌, true, false, ◌∙◌, refl, arith}
-use Rattle.cam_names.specs.Part.{PartFields}
+use Rattle.std.proofs.Common.{◌≤◌, length, ◌≡◌, true, false, ◌∙◌, refl, arith}
 use Rattle.cam_know.specs.Known.{knows_commit}
 use Rattle.cam_know.proofs.Climbs.{lift_here, lift_above, lift_top}
 use Rattle.cam_know.proofs.know.Know.+lift.Goals as goal
@@ -7,7 +6,8 @@ use Rattle.cam_know.proofs.know.Know.+lift.Goals as goal
 pub returns-then-not-is_committed : goal.returns-then-not-is_committed
 returns-then-not-is_committed t c =
     let live : knows_commit c.args.self.now c.args.name.now ≡ false = grind arith in
-    lift_here (knows_commit c.args.self.now) c.args.name.now (subst (λ (a : List PartFields). 1 ≤ length a) c.parts-parts.ensures.value c.parts-parts.ensures.from) live
+    let named : 1 ≤ length c.args.name.now = omega (arith, c.depth.ensures.from, c.depth.ensures.value) in
+    lift_here (knows_commit c.args.self.now) c.args.name.now named live
 
 pub returns-in-Some : goal.returns-in-Some
 returns-in-Some t c =
