@@ -32,16 +32,13 @@ Same old new = new ≡ old
 abbrev pub Follows : (List ℕ → List ℕ → Type 0) → (List ℕ → Type 0) → (List ℕ → Type 0) → Type 0
 Follows step old new = (c : List ℕ) → new c → (d : List ℕ) × old d × step d c
 
--- a crash may leave the same before and after
-abbrev pub SameOutcomes : (List ℕ → Type 0) → (List ℕ → Type 0) → Type 0
-SameOutcomes old new = (c : List ℕ) → (old c → new c) × (new c → old c)
-
 -- a crash leaves this and nothing else
 abbrev pub Only : List ℕ → (List ℕ → Type 0) → Type 0
 Only held outcomes = (c : List ℕ) → outcomes c → c ≡ held
 
 -- Time goes on: a crash since t might have left what it might have left before, or what it may leave now.
-pub record Elapses (before now : ℕ) (past since : ℕ → List ℕ → Type 0) (may_leave : List ℕ → Type 0) : Type 0 where
+pub record Elapses (before now : ℕ) (past since : ℕ → List ℕ → Type 0)
+    (may_leave : List ℕ → Type 0) : Type 0 where
   pub later : before ≤ now
   pub nothing_else : (t : ℕ) (c : List ℕ) → t ≤ before → since t c → past t c ⊎ may_leave c
   pub keeps : (t : ℕ) (c : List ℕ) → t ≤ before → past t c → since t c

@@ -33,10 +33,12 @@ pub host_kept : (disk : HostDisk) → IsTrue (host_tells disk) → host_may_leav
 host_kept (Memory disk) h = subst (IsImage (reverse disk.calls.items)) (sym disk.held) (IsImage-held (reverse disk.calls.items) disk.placed)
 host_kept (File disk) h = tt
 
-pub host_counts_now : (disk : HostDisk) (t : ℕ) (c : List ℕ) → IsTrue (host_tells disk) → t ≤ host_moment disk → host_may_leave disk c → host_left_since disk t c
+pub host_counts_now : (disk : HostDisk) (t : ℕ) (c : List ℕ) → IsTrue (host_tells disk)
+    → t ≤ host_moment disk → host_may_leave disk c → host_left_since disk t c
 host_counts_now (Memory disk) t c h le now = LeftSince-now disk.calls.items t c le now
 host_counts_now (File disk) t c h le now = tt
 
-pub host_only_now : (disk : HostDisk) (c : List ℕ) → IsTrue (host_tells disk) → host_left_since disk (host_moment disk) c → host_may_leave disk c
+pub host_only_now : (disk : HostDisk) (c : List ℕ) → IsTrue (host_tells disk)
+    → host_left_since disk (host_moment disk) c → host_may_leave disk c
 host_only_now (Memory disk) c h left = LeftSince-only disk.calls.items c left
 host_only_now (File disk) c h left = tt

@@ -28,7 +28,8 @@ is_record (Sync ∷ calls) = is_record calls
 -- what a crash after these calls may leave
 abbrev pub IsImage : List Call → List ℕ → Type 0
 IsImage [] c = c ≡ []
-IsImage (Write at bytes ∷ calls) c = (d : List ℕ) × IsImage calls d × Torn at (length bytes.items) d c
+IsImage (Write at bytes ∷ calls) c =
+    (d : List ℕ) × IsImage calls d × Torn at (length bytes.items) d c
 IsImage (Resize size ∷ calls) c = (d : List ℕ) × IsImage calls d × Cut size d c
 IsImage (Sync ∷ calls) c = c ≡ held_after calls
 
@@ -51,7 +52,8 @@ Onward old new = Elapses (length old) (length new) (LeftSince old) (LeftSince ne
 abbrev pub Unchanged : List ℕ → List ℕ → List Call → List Call → Type 0
 Unchanged held now old new = (now ≡ held) × Follows Same (MayLeave old) (MayLeave new)
 
-Torn-written : (held bytes : List ℕ) (at : ℕ) → at ≤ length held → Torn at (length bytes) held (written held at bytes)
+Torn-written : (held bytes : List ℕ) (at : ℕ) → at ≤ length held
+    → Torn at (length bytes) held (written held at bytes)
 Torn-written held bytes at within =
     let front : length (take at held) ≡ at = length-take-le at held within in
     let whole : length (take at held ++ bytes) ≡ at + length bytes = omega (arith, length-append (take at held) bytes) in
@@ -79,15 +81,24 @@ both_true false b h = absurd (cc)
 pub IsImage-held : (calls : List Call) → IsTrue (is_record calls) → IsImage calls (held_after calls)
 IsImage-held [] h = refl
 IsImage-held (Write at bytes ∷ calls) h =
-    let parts = both_true (nat_le at (length (held_after calls))) (is_record calls) h in
-    (held_after calls, IsImage-held calls parts.1, Torn-written (held_after calls) bytes.items at (leb-true at (length (held_after calls)) parts.0))
+    let parts = both_true (nat_le at (length (held_after calls))) (is_record calls) h in (
+      held_after calls,
+      IsImage-held calls parts.1,
+      Torn-written (held_after calls) bytes.items at
+          (leb-true at (length (held_after calls)) parts.0),
+    )
 IsImage-held (Resize size ∷ calls) h =
-    let parts = both_true (nat_le size (length (held_after calls))) (is_record calls) h in
-    (held_after calls, IsImage-held calls parts.1, Cut-taken (held_after calls) size (leb-true size (length (held_after calls)) parts.0))
+    let parts = both_true (nat_le size (length (held_after calls))) (is_record calls) h in (
+      held_after calls,
+      IsImage-held calls parts.1,
+      Cut-taken (held_after calls) size
+          (leb-true size (length (held_after calls)) parts.0),
+    )
 IsImage-held (Sync ∷ calls) h = refl
 
 -- one more call
-pub LeftSince-more : (calls : List Call) (call : Call) (t : ℕ) (c : List ℕ) → LeftSince calls t c → LeftSince (calls ++ call ∷ []) t c
+pub LeftSince-more : (calls : List Call) (call : Call) (t : ℕ) (c : List ℕ) → LeftSince calls t c
+    → LeftSince (calls ++ call ∷ []) t c
 LeftSince-more calls call t c left = record {
   made = left.made;
   from = left.from;
@@ -95,14 +106,17 @@ LeftSince-more calls call t c left = record {
   image = rw (take-append-le left.made calls (call ∷ []) left.to) left.image;
 }
 
-pub LeftSince-less : (calls : List Call) (call : Call) (t : ℕ) (c : List ℕ) → LeftSince (calls ++ call ∷ []) t c → LeftSince calls t c ⊎ IsImage (reverse (calls ++ call ∷ [])) c
+pub LeftSince-less : (calls : List Call) (call : Call) (t : ℕ) (c : List ℕ)
+    → LeftSince (calls ++ call ∷ []) t c
+    → LeftSince calls t c ⊎ IsImage (reverse (calls ++ call ∷ [])) c
 LeftSince-less calls call t c left =
     elim (cases_lt (length calls) left.made) [
       | inl last ↦ inr (let all : length (calls ++ call ∷ []) ≤ left.made = omega (arith, length-append calls (call ∷ []), last) in rw (take_all left.made (calls ++ call ∷ []) all) at left.image)
       | inr early ↦ inl (record { made = left.made; from = left.from; to = early; image = rw (take-append-le left.made calls (call ∷ []) early) at left.image })
     ]
 
-pub LeftSince-now : (calls : List Call) (t : ℕ) (c : List ℕ) → t ≤ length calls → IsImage (reverse calls) c → LeftSince calls t c
+pub LeftSince-now : (calls : List Call) (t : ℕ) (c : List ℕ) → t ≤ length calls
+    → IsImage (reverse calls) c → LeftSince calls t c
 LeftSince-now calls t c le now = record {
   made = length calls;
   from = le;
@@ -110,11 +124,14 @@ LeftSince-now calls t c le now = record {
   image = let whole : length calls ≤ length calls = omega arith in rw (take_all (length calls) calls whole) now;
 }
 
-pub LeftSince-only : (calls : List Call) (c : List ℕ) → LeftSince calls (length calls) c → IsImage (reverse calls) c
+pub LeftSince-only : (calls : List Call) (c : List ℕ) → LeftSince calls (length calls) c
+    → IsImage (reverse calls) c
 LeftSince-only calls c left = rw (take_all left.made calls left.from) at left.image
 
 -- time goes on by one call
-pub Elapses-call : (calls : List Call) (call : Call) → Elapses (length calls) (length (calls ++ call ∷ [])) (LeftSince calls) (LeftSince (calls ++ call ∷ [])) (IsImage (reverse (calls ++ call ∷ [])))
+pub Elapses-call : (calls : List Call) (call : Call)
+    → Elapses (length calls) (length (calls ++ call ∷ [])) (LeftSince calls)
+    (LeftSince (calls ++ call ∷ [])) (IsImage (reverse (calls ++ call ∷ [])))
 Elapses-call calls call = record {
   later = omega (arith, length-append calls (call ∷ []));
   nothing_else = λ t c le left. LeftSince-less calls call t c left;
@@ -122,10 +139,12 @@ Elapses-call calls call = record {
 }
 
 -- the newest call is the first of the record
-pub reverse-call : (calls : List Call) (call : Call) → reverse (calls ++ call ∷ []) ≡ call ∷ reverse calls
+pub reverse-call : (calls : List Call) (call : Call)
+    → reverse (calls ++ call ∷ []) ≡ call ∷ reverse calls
 reverse-call calls call = reverse-append calls (call ∷ [])
 
 -- the same of a record that equals that one
-pub Elapses-call_at : (calls new : List Call) (call : Call) → new ≡ calls ++ call ∷ [] → Elapses (length calls) (length new) (LeftSince calls) (LeftSince new) (IsImage (reverse new))
+pub Elapses-call_at : (calls new : List Call) (call : Call) → new ≡ calls ++ call ∷ []
+    → Elapses (length calls) (length new) (LeftSince calls) (LeftSince new) (IsImage (reverse new))
 Elapses-call_at calls new call e =
     subst (λ (n : List Call). Elapses (length calls) (length n) (LeftSince calls) (LeftSince n) (IsImage (reverse n))) (sym e) (Elapses-call calls call)

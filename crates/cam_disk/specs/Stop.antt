@@ -4,13 +4,15 @@ use Rattle.cam_disk.specs.declared.error.DiskError.{DiskError}
 use Rattle.cam_disk.specs.declared.error.DiskError.TheVariants.{Failed}
 
 -- Nothing has happened to what holds the bytes: they are the same, no moment has passed, and a crash might have left the same.
-pub record Untouched {A : Type 0} (before now : ℕ) (past since : ℕ → A → Type 0) (seen_before seen_now : List ℕ) : Type 0 where
+pub record Untouched {A : Type 0} (before now : ℕ) (past since : ℕ → A → Type 0)
+    (seen_before seen_now : List ℕ) : Type 0 where
   pub moment : now ≡ before
   pub outcomes : (t : ℕ) (c : A) → (past t c → since t c) × (since t c → past t c)
   pub bytes : seen_now ≡ seen_before
 
 -- a call that was not done: it failed, the disk counted that as its own fault, and nothing else happened
-pub record NotDone {T : Type 0} (own_before own_now : ℕ) (same : Type 0) (result : Result T DiskError) : Type 0 where
+pub record NotDone {T : Type 0} (own_before own_now : ℕ) (same : Type 0)
+    (result : Result T DiskError) : Type 0 where
   pub failed : result ≡ Err Failed
   pub counted : own_now ≡ min (own_before + 1) (2 ^ 64 - 1)
   pub unchanged : same
@@ -18,7 +20,8 @@ pub record NotDone {T : Type 0} (own_before own_now : ℕ) (same : Type 0) (resu
 -- With none left a call is not done. Else it is, and one less is left.
 abbrev pub Stops : {T : Type 0} → Option ℕ → Option ℕ → ℕ → ℕ → Type 0 → Result T DiskError → Type 0
 Stops None left own_before own_now same result = (left ≡ None) × (own_now ≡ own_before)
-Stops (Some zero) left own_before own_now same result = (left ≡ Some zero) × NotDone own_before own_now same result
+Stops (Some zero) left own_before own_now same result =
+    (left ≡ Some zero) × NotDone own_before own_now same result
 Stops (Some (suc n)) left own_before own_now same result = (left ≡ Some n) × (own_now ≡ own_before)
 
 -- a call is counted where one is left: one less is left then
@@ -27,10 +30,14 @@ IsPassed None left = left ≡ None
 IsPassed (Some zero) left = ⊥
 IsPassed (Some (suc n)) left = left ≡ Some n
 
-pub stops_done : {T : Type 0} (before left : Option ℕ) (own_before own_now : ℕ) (same : Type 0) (result : Result T DiskError) → IsPassed before left → own_now ≡ own_before → Stops before left own_before own_now same result
+pub stops_done : {T : Type 0} (before left : Option ℕ) (own_before own_now : ℕ) (same : Type 0)
+    (result : Result T DiskError) → IsPassed before left → own_now ≡ own_before
+    → Stops before left own_before own_now same result
 stops_done None left own_before own_now same result passed own = (passed, own)
 stops_done (Some (suc n)) left own_before own_now same result passed own = (passed, own)
 stops_done (Some zero) left own_before own_now same result passed own = absurd passed
 
-pub stops_not_done : {T : Type 0} (before left : Option ℕ) (own_before own_now : ℕ) (same : Type 0) (result : Result T DiskError) → before ≡ Some zero → left ≡ Some zero → NotDone own_before own_now same result → Stops before left own_before own_now same result
+pub stops_not_done : {T : Type 0} (before left : Option ℕ) (own_before own_now : ℕ) (same : Type 0)
+    (result : Result T DiskError) → before ≡ Some zero → left ≡ Some zero
+    → NotDone own_before own_now same result → Stops before left own_before own_now same result
 stops_not_done before left own_before own_now same result is now not_done = rw is (now, not_done)

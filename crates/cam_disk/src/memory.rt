@@ -107,7 +107,8 @@ impl Disk for MemoryDisk {
         ensures written { OnOk result
             (Holds self.old.bytes.items at bytes.now self.new.bytes.items) }
         ensures no_memory { IsErrOf result OutOfMemory
-            → Unchanged self.old.bytes.items self.new.bytes.items self.old.calls.items self.new.calls.items }
+            → Unchanged self.old.bytes.items self.new.bytes.items self.old.calls.items
+            self.new.calls.items }
         ensures limit { 2 ^ 62 < at + length bytes.now → result ≡ Err Failed }
         ensures crash { Follows (Torn at (length bytes.now))
             (MayLeave self.old.calls.items) (MayLeave self.new.calls.items) }
@@ -134,7 +135,8 @@ impl Disk for MemoryDisk {
         requires { size ≤ length self.old.bytes.items }
         ensures cut { OnOk result (self.new.bytes.items ≡ take size self.old.bytes.items) }
         ensures no_memory { IsErrOf result OutOfMemory
-            → Unchanged self.old.bytes.items self.new.bytes.items self.old.calls.items self.new.calls.items }
+            → Unchanged self.old.bytes.items self.new.bytes.items self.old.calls.items
+            self.new.calls.items }
         ensures crash { Follows (Cut size) (MayLeave self.old.calls.items)
             (MayLeave self.new.calls.items) }
         ensures time { Onward self.old.calls.items self.new.calls.items }

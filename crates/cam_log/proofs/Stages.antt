@@ -31,11 +31,6 @@ at_rest entries gate g rest bytes place closed is =
       is_closed = λ one. closed (sym here ∙ one);
     }
 
--- the gate stands
-pub reaches : (entries : List (List ℕ)) (gate : ℕ) (bytes : List ℕ) → IsAtRest entries gate bytes → gate + 1 ≤ length bytes
-reaches entries gate bytes rests =
-    omega (arith, ap (λ (b : List ℕ). length b) rests.is, length-append (front entries) (get_or bytes gate 1 ∷ drop (gate + 1) bytes), long_front entries, rests.place)
-
 up_to_gate : (entries : List (List ℕ)) (gate : ℕ) (bytes : List ℕ) → IsAtRest entries gate bytes → take (gate + 1) bytes ≡ front entries ++ get_or bytes gate 1 ∷ []
 up_to_gate entries gate bytes rests =
     let long : length (front entries ++ get_or bytes gate 1 ∷ []) ≡ gate + 1 = omega (arith, length-append (front entries) (get_or bytes gate 1 ∷ []), long_front entries, rests.place) in

@@ -32,7 +32,10 @@ abbrev pub fitting : ℕ → ℕ → ℕ → Result ℕ LogFault
 fitting at end size = if nat_le (at + 8 + size) end then Ok size else Err (NotALog at)
 
 abbrev pub length_at : ℕ → List ℕ → Result ℕ LogFault
-length_at at bytes = if nat_le (at + 8) (length bytes) then fitting at (length bytes) (from_be_bytes w64 (take 8 (drop at bytes))) else Err (NotALog at)
+length_at at bytes =
+    if nat_le (at + 8) (length bytes)
+    then fitting at (length bytes) (from_be_bytes w64 (take 8 (drop at bytes)))
+    else Err (NotALog at)
 
 -- The entries with those from the gate at a place on. Each takes nine bytes at least, so a log has fewer of them than bytes: `room`,
 -- at first the number of bytes, never ends the reading.

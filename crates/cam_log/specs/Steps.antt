@@ -4,7 +4,9 @@ use Rattle.cam_log.specs.Reading.{entries_from}
 
 -- With no entry taken, the gate is closed and these are all. Else reading goes on behind the entry that was taken.
 abbrev pub Takes : List ℕ → ℕ → List (List ℕ) → List (List ℕ) → Option ℕ → Type 0
-Takes bytes at entries now None = ((room : ℕ) → entries_from (suc room) entries at bytes ≡ Ok entries) × (now ≡ entries)
+Takes bytes at entries now None =
+    ((room : ℕ) → entries_from (suc room) entries at bytes ≡ Ok entries) × (now ≡ entries)
 Takes bytes at entries now (Some next) =
     ((room : ℕ) → entries_from (suc room) entries at bytes ≡ entries_from room now next bytes)
-    × ((size : ℕ) × (next ≡ at + 9 + size) × (next ≤ length bytes) × (now ≡ entries ++ take size (drop (at + 9) bytes) ∷ []))
+    × ((size : ℕ) × (next ≡ at + 9 + size) × (next ≤ length bytes)
+    × (now ≡ entries ++ take size (drop (at + 9) bytes) ∷ []))
