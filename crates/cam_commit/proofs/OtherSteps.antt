@@ -14,7 +14,8 @@ use Rattle.cam_event.specs.Inputs.{Input, Begins, Requests, Receives, Tells, Que
 use Rattle.cam_event.specs.Sights.{Sight, is_preparing_note, yes_in, yes_for}
 use Rattle.cam_event.specs.Rules.{finish_comes, arrives, rule}
 use Rattle.cam_event.specs.ByKnowledge.{Carried, held_sight}
-use Rattle.cam_commit.specs.Steps.{is_prepare_of, is_mail, brings, stepped, IsOfKind}
+use Rattle.cam_event.specs.NextStep.{stepped}
+use Rattle.cam_commit.specs.Steps.{is_prepare_of, is_mail, brings, IsOfKind}
 use Rattle.cam_commit.specs.Stepping.{concerns, OtherStepKeeps}
 use Rattle.cam_commit.proofs.Calling.{quiet_keeps}
 use Rattle.cam_commit.proofs.RuleKinds.{request_plain, start_plain, call_plain, answer_plain, child_plain, quit_plain, query_plain}

@@ -14,11 +14,12 @@ use Rattle.cam_event.specs.History.{count}
 use Rattle.cam_event.specs.Inputs.{Input, Receives, Mail}
 use Rattle.cam_event.specs.Sights.{Sight, votes, present, knows_outcome}
 use Rattle.cam_event.specs.ByKnowledge.{Carried, entry_of, deeds_of, held_sight}
+use Rattle.cam_event.specs.NextStep.{stepped}
 use Rattle.cam_commit.specs.declared.Asked.{Asked}
 use Rattle.cam_commit.specs.declared.Asked.TheVariants as asked
 use Rattle.cam_commit.specs.Families.{Families, CommitsFamilies}
 use Rattle.cam_commit.specs.Calls.{yes, AreSame, IsPrepared, IsSecured, IsVoted, voted_by, asked_by}
-use Rattle.cam_commit.specs.Steps.{is_late, is_restarting, is_mail, stepped}
+use Rattle.cam_commit.specs.Steps.{is_late, is_restarting, is_mail}
 
 -- What a node is preparing is of its present count.
 abbrev pub ArePresent : ℕ → List Carried → Type 0

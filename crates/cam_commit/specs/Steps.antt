@@ -19,7 +19,8 @@ use Rattle.cam_event.specs.Sights.{Sight, votes, present, is_present, is_prepari
 use Rattle.cam_event.specs.Sights.{is_preparing_note, knows_outcome}
 use Rattle.cam_event.specs.Rules.{Did, did, one, send, answers, nothing_but, commits, aborts, news}
 use Rattle.cam_event.specs.Rules.{prepares, vote, prepare_comes, vote_comes, query_comes, arrives}
-use Rattle.cam_event.specs.ByKnowledge.{Carried, held_sight, node_step}
+use Rattle.cam_event.specs.ByKnowledge.{Carried, held_sight}
+use Rattle.cam_event.specs.NextStep.{stepped}
 use Rattle.cam_commit.specs.declared.Voted.{Voted}
 use Rattle.cam_commit.specs.declared.Voted.TheVariants as voted
 use Rattle.cam_commit.specs.declared.Asked.{Asked}
@@ -142,11 +143,6 @@ is_mail test (Some mail) = test mail.body
 abbrev pub brings : (Body → Bool) → Input → Option Mail → Bool
 brings test (Receives letter) mail = is_mail test mail
 brings test _ mail = false
-
--- the event that comes next, with its letter
-abbrev pub stepped : List ObjectDecl → ℕ → List Carried → Input → Option Mail → Knowledge → Carried
-stepped objects s before input mail brought =
-    record { event = node_step objects s before input mail brought; mail = mail; brought = brought }
 
 -- Of which kind an event of a node is: just a restart crashes it, just a finish of a family begins
 -- it, just a prepare secures it; and a node's Secures are its own.

@@ -21,21 +21,11 @@ pub counts_append : (xs ys : List (ℕ × ℕ)) → as_counts (xs ++ ys) ≡ gre
 counts_append xs ys =
     λ i. greatest_append xs ys 1 i ∷ greatest_append xs ys 2 i ∷ greatest_append xs ys 3 i ∷ greatest_append xs ys 4 i ∷ greatest_append xs ys 5 i ∷ greatest_append xs ys 6 i ∷ greatest_append xs ys 7 i ∷ greatest_append xs ys 8 i ∷ []
 
--- no count raises none
-none_more : (cs : List ℕ) (n : ℕ) → length cs ≡ n → greater_counts cs (replicate n 0) ≡ cs
-none_more [] zero is = refl
-none_more [] (suc n) is = absurd (omega (arith, is))
-none_more (c ∷ cs) zero is = absurd (omega (arith, is))
-none_more (c ∷ cs) (suc n) is = let e : max c 0 ≡ c = omega arith in λ i. e i ∷ none_more cs n (omega (arith, is)) i
-
 none_first : (cs : List ℕ) (n : ℕ) → length cs ≡ n → greater_counts (replicate n 0) cs ≡ cs
 none_first [] zero is = refl
 none_first [] (suc n) is = absurd (omega (arith, is))
 none_first (c ∷ cs) zero is = absurd (omega (arith, is))
 none_first (c ∷ cs) (suc n) is = let e : max 0 c ≡ c = omega arith in λ i. e i ∷ none_first cs n (omega (arith, is)) i
-
-pub gains_none : (cs : List ℕ) → length cs ≡ 8 → greater_counts cs (as_counts []) ≡ cs
-gains_none cs is = none_more cs 8 is
 
 pub none_gains : (cs : List ℕ) → length cs ≡ 8 → greater_counts (replicate 8 0) cs ≡ cs
 none_gains cs is = none_first cs 8 is

@@ -22,7 +22,8 @@ use Rattle.cam_event.specs.Taken.{is_entered}
 use Rattle.cam_event.specs.ByKnowledge.{Carried, entry_of, deeds_of, start_counts, held_sight, held_informs}
 use Rattle.cam_tranman.specs.Events.{is_at_home}
 use Rattle.cam_event.proofs.Agree.{count_after_other}
-use Rattle.cam_tranman.specs.Orderly.{present_count, IsTopOf, IsOrderly, MailIsForHome, MayBeAsked, stepped, taken, NoneIsOrderly, StepsStayOrderly, TakenStaysOrderly}
+use Rattle.cam_event.specs.NextStep.{stepped}
+use Rattle.cam_tranman.specs.Orderly.{present_count, IsTopOf, IsOrderly, MailIsForHome, MayBeAsked, taken, NoneIsOrderly, StepsStayOrderly, TakenStaysOrderly}
 use Rattle.cam_tranman.specs.Keeping.{home_deeds, RulesMakeThem}
 use Rattle.cam_tranman.proofs.Asks.{asks_run}
 use Rattle.cam_tranman.proofs.Sights.{held_away, same_sight}

@@ -4,10 +4,11 @@ use Rattle.cam_type.specs.declared.ObjectDecl.{ObjectDecl}
 use Rattle.cam_event.specs.declared.Deed.{Deed}
 use Rattle.cam_event.specs.declared.Deed.TheVariants.{Create, Ask, Call, Perform, Bounce, Got, AskCommit, AskAbort, Commit, Abort, Secure, Inform, Crash}
 use Rattle.cam_event.specs.ByKnowledge.{Carried}
+use Rattle.cam_event.specs.NextStep.{stepped}
 use Rattle.cam_tranman.specs.Actions.{Actions, RunsActions}
 use Rattle.cam_tranman.specs.Calls.{AreSame, none_run}
 use Rattle.cam_tranman.specs.Events.{at_home, after_deed}
-use Rattle.cam_tranman.specs.Orderly.{IsOrderly, stepped}
+use Rattle.cam_tranman.specs.Orderly.{IsOrderly}
 use Rattle.cam_tranman.specs.Keeping.{home_deeds, IsCrashOrMayCome, OneMayCome, after_deeds, StepKeeps}
 use Rattle.cam_tranman.proofs.Keeping.{quiet_keeps, deed_keeps}
 use Rattle.cam_tranman.proofs.StepDeeds.{rules_make_them}

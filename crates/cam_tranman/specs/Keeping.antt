@@ -11,10 +11,11 @@ use Rattle.cam_event.specs.declared.Deed.TheVariants.{Crash}
 use Rattle.cam_event.specs.Inputs.{Input, Mail}
 use Rattle.cam_event.specs.Rules.{Did, rule}
 use Rattle.cam_event.specs.ByKnowledge.{Carried, held_sight}
+use Rattle.cam_event.specs.NextStep.{stepped}
 use Rattle.cam_tranman.specs.Actions.{Actions, RunsActions}
 use Rattle.cam_tranman.specs.Calls.{AreSame, none_run}
 use Rattle.cam_tranman.specs.Events.{is_at_home, at_home, MayCome, after_deed}
-use Rattle.cam_tranman.specs.Orderly.{present_count, IsOrderly, MayBeAsked, stepped}
+use Rattle.cam_tranman.specs.Orderly.{present_count, IsOrderly, MayBeAsked}
 
 -- the deeds of a rule that concern the actions at home
 abbrev pub did_at_home : Did → List Deed

@@ -21,7 +21,8 @@ use Rattle.cam_event.specs.Inputs.{Mail, decider}
 use Rattle.cam_event.specs.Sights.{Sight, votes}
 use Rattle.cam_event.specs.Refusals.{refusal}
 use Rattle.cam_event.specs.Taken.{taken_of}
-use Rattle.cam_event.specs.ByKnowledge.{Carried, entry_of, deeds_of, held_sight, node_step}
+use Rattle.cam_event.specs.ByKnowledge.{Carried, entry_of, deeds_of, held_sight}
+use Rattle.cam_event.specs.NextStep.{stepped}
 
 -- the action to which a deed gives something, at that action's home
 abbrev pub subject : Deed → Option Name
@@ -93,12 +94,7 @@ MayBeAsked s g (Tells m to) mail = Unit {0}
 MayBeAsked s g (Queries m f) mail = Unit {0}
 MayBeAsked s g (Restarts m) mail = Unit {0}
 
--- the event that comes next, with its letter; and the same where a halt came and just its log entry
--- was taken
-abbrev pub stepped : List ObjectDecl → ℕ → List Carried → Input → Option Mail → Knowledge → Carried
-stepped objects s before input mail brought =
-    record { event = node_step objects s before input mail brought; mail = mail; brought = brought }
-
+-- such a step where a halt came and just its log entry was taken
 abbrev pub taken : Carried → Carried
 taken c = record c { event = taken_of c.event }
 

@@ -59,7 +59,7 @@ impl Children {
         ensures { result ≡ list_any (is_child action.now) self.now.names }
     {
         // A name has a part.
-        let _parts = action.parts();
+        prove!(action.depth() > 0);
         number_in(&self.counts, action) != 0
     }
 
