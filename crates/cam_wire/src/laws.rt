@@ -1,3 +1,4 @@
+//! What is proved of the spellings of letters.
 ghost use Rattle.cam_wire.specs.OneSet.{HasSpelling, SpelledHasOneSet};
 ghost use Rattle.cam_wire.specs.Laws.{SpellingsAreRead, BeginningsAreShort, NoneBeginsAnother, NoSpellingBeginsAnother, ReadIsSpelled, HasOneSpelling, BytesBehindAreRest, FaultsStay, ShortIsAtTheEnd};
 
