@@ -1,17 +1,10 @@
 -- Whether a test holds of an ancestor: of the action itself or of one of the parent.
-use Rattle.std.proofs.Common.{◌≡◌, Bool, true, false, ◌||◌, length, Some, ap, sym, ◌∙◌, refl}
+use Rattle.std.proofs.Common.{◌≡◌, Bool, true, false, ◌||◌, Some, ap, sym, ◌∙◌, refl}
 use Rattle.std.specs.List.{list_any}
 use Rattle.cam_names.specs.declared.name.Name.{Name}
 use Rattle.cam_names.specs.Names.{ancestors, parent}
 use Rattle.cam_names.proofs.Any.{any_last}
-use Rattle.cam_know.proofs.Climbs.{ancestors_parent, ancestors_top}
-
-pub any_top : (test : Name → Bool) (a : Name) → length a ≡ 1 → test a ≡ list_any test (ancestors a)
-any_top test a one = by (test a) ∙ sym (ap (list_any test) (ancestors_top a one))
-  where
-    by : (b : Bool) → b ≡ (b || false)
-    by true = refl
-    by false = refl
+use Rattle.cam_know.proofs.Climbs.{ancestors_parent}
 
 pub any_above : (test : Name → Bool) (a p : Name) → Some p ≡ parent a → list_any test (ancestors a) ≡ (list_any test (ancestors p) || test a)
 any_above test a p is = ap (list_any test) (ancestors_parent a p is) ∙ any_last test (ancestors p) a

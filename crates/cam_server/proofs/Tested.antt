@@ -1,8 +1,7 @@
 -- The tests that come before the lock table: where one of them holds it decides, and it goes on to hold where the site is informed.
-use Rattle.std.proofs.Common.{◌≡◌, ℕ, eqb, Bool, true, false, not, ◌&&◌, if◌then◌else◌, List, Option, Some, None, sym, ap, ◌∙◌, refl}
+use Rattle.std.proofs.Common.{◌≡◌, eqb, Bool, true, false, not, ◌&&◌, if◌then◌else◌, Option, Some, None, sym, ap, ◌∙◌, refl}
 use Rattle.std.specs.List.{list_any}
 use Rattle.std.specs.Option.{option_map_or}
-use Rattle.cam_names.specs.declared.name.Name.{Name}
 use Rattle.cam_names.specs.Names.{name_eq, ancestors}
 use Rattle.cam_names.specs.Dependencies.{pairs_of}
 use Rattle.cam_know.specs.declared.Reason.{Reason}
@@ -47,19 +46,6 @@ not_served false false (Some reply) why done is = some_is done (performed.Again 
 not_served false false None (Some reason) done is = some_is done (performed.Orphan reason) is refl
 not_served false false None None done is = cc
 
--- where no test holds the call was not answered before
-none_kept : (missed ended : Bool) (kept : Option Reply) (why : Option Reason)
-    → None ≡ (if missed then Some performed.Missed else if ended then Some performed.Ended else replied kept (orphaned why)) → kept ≡ None
-none_kept true ended kept why is = cc
-none_kept false true kept why is = cc
-none_kept false false (Some reply) why is = cc
-none_kept false false None why is = refl
-
-pub untested_is_new : (k : Knowledge) (server : Server) (a : Name) (n c : ℕ) (visited : List ℕ) → None ≡ tested_by k server a n c visited
-    → server.kept_reply a n ≡ None
-untested_is_new k server a n c visited =
-    none_kept (not (eqb c server.count)) (list_any (knows_commit k) (ancestors a)) (server.kept_reply a n) (known_orphan k a (pairs_of visited))
-
 -- A test that holds decides, and changes nothing at the site.
 pub tested_is : (k : Knowledge) (server : Server) (asked : Asked) (done : Performed)
     → Some done ≡ tested_by k server asked.action asked.number asked.count asked.visited → done ≡ performed_by k server asked
@@ -81,12 +67,6 @@ tested_after k server asked done tested =
       site = sym (ap (λ b. if b then after_grant server.table.site asked.action asked.object asked.op else server.table.site) none);
       replies = λ a n. sym (ap (λ b. if b && (name_eq asked.action a && eqb asked.number n) then reply_of done else server.kept_reply a n) none);
     }
-
--- Where none holds the lock table decides.
-pub untested_is : (k : Knowledge) (server : Server) (asked : Asked) → None ≡ tested_by k server asked.action asked.number asked.count asked.visited
-    → granted (grant server.table.site asked.action asked.object asked.op) ≡ performed_by k server asked
-untested_is k server asked none =
-    ap (λ t. decided_or t (granted (grant server.table.site asked.action asked.object asked.op))) none ∙ sym (tested_decides k server asked)
 
 -- A call that a test decides may come before the site is informed: that changes no test.
 pub tested_came : (news k : Knowledge) (asked : Asked) (done : Performed) (old new : Server)

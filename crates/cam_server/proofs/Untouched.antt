@@ -7,7 +7,6 @@ use Rattle.cam_names.specs.Names.{name_eq, ancestors, family}
 use Rattle.cam_names.proofs.Names.{name_eq_same, name_eq_refl, ancestors_any}
 use Rattle.cam_names.proofs.Ancestry.{family_ancestor}
 use Rattle.cam_names.proofs.Any.{any_weaker}
-use Rattle.cam_names.proofs.Every.{Every}
 use Rattle.cam_type.specs.declared.Op.{Op}
 use Rattle.cam_type.specs.Moss.{conflicts}
 use Rattle.cam_know.specs.declared.Outcome.{Outcome}
@@ -23,10 +22,6 @@ use Rattle.cam_locks.specs.Calls.{is_of, has_family}
 use Rattle.cam_locks.proofs.Members.{any_passes}
 use Rattle.cam_locks.proofs.Lifts.{of_reverse}
 use Rattle.cam_server.specs.Ahead.{decided_name, is_apart, AreApart}
-
-pub every_in : {X : Type 0} (P : X → Type 0) (xs : List X) → ((x : X) → In x xs → P x) → Every P xs
-every_in P [] all = tt
-every_in P (x ∷ xs) all = (all x (inl refl), every_in P xs (λ y h. all y (inr h)))
 
 -- the news have an outcome of this action
 abbrev pub is_told : List Outcome → Name → Bool
