@@ -24,7 +24,7 @@ use Rattle.cam_histories.proofs.FoundRuns.{lines_lead_to_the_halt, lines_keep_th
 use Rattle.cam_cluster.specs.FoundHalts.{IsPutIn, FoundLinesPutIn}
 use Rattle.cam_cluster.specs.LineOwes.{input_node, with_taken}
 use Rattle.cam_cluster.specs.Seen.{run_first, run_of_lines}
-use Rattle.cam_cluster.proofs.ActsGrow.{act_adds}
+use Rattle.cam_runs.proofs.LinesGrow.{act_runs}
 use Rattle.cam_cluster.proofs.LastInputs.{last_below, last_node}
 use Rattle.cam_cluster.proofs.LastInputs.{found_halts_differ}
 use Rattle.cam_cluster.proofs.HaltOver.{IsOver, over_stays, restart_over}
@@ -59,8 +59,8 @@ line_stands script k losing taking lost found step later both (inr (inl b)) =
     ]
 line_stands script k losing taking lost found step later both (inr (inr over)) =
     inr (inr (over_stays k lost (after_step losing later script lost step)
-    (act_adds (setting (by_pasts script.objects) losing step later) script.bodies step.line lost
-    step.act) over))
+    (act_runs (setting (by_pasts script.objects) losing step later) losing losing script.bodies lost
+    step.line step.act).grows over))
 
 -- all lines so far
 module _ (script : Script) (range : IsInRange script) (k : ℕ) (losing taking : Halting)

@@ -1,14 +1,14 @@
 -- The last halt of a node that is halted, found to be taken: what that makes of the run of the
 -- lines that were taken so far.
-use Rattle.std.specs.Prelude.{◌≡◌, ℕ, ◌<◌, true, false, List, [], ◌∷◌, Some}
+use Rattle.std.specs.Prelude.{◌≡◌, ℕ, ◌<◌, ◌≤◌, true, false, List, [], ◌∷◌, ◌++◌, Some}
 use Rattle.std.specs.List.{AllByRecursion}
 use Rattle.cam_type.specs.declared.ObjectDecl.{ObjectDecl}
 use Rattle.cam_event.specs.declared.Event.{Event}
-use Rattle.cam_event.specs.Readings.{by_pasts}
+use Rattle.cam_event.specs.Readings.{Reading, by_pasts}
 use Rattle.cam_script.specs.declared.Script.{Script}
 use Rattle.cam_runs.specs.Running.{has_number}
 use Rattle.cam_runs.specs.InRange.{IsInRange}
-use Rattle.cam_runs.specs.Halts.{Halt, halt_at, Turn, given}
+use Rattle.cam_runs.specs.Halts.{Halt, halt_at, Turn, accepted, given}
 use Rattle.cam_runs.specs.Standing.{Standing}
 use Rattle.cam_runs.specs.UnderHalts.{IsUnderHalts}
 use Rattle.cam_histories.specs.Found.{last_input, DifferAt, IsBeyond}
@@ -26,6 +26,14 @@ pub record IsLastHalt (st : Standing) (halts : List Halt) (s k : ℕ) : Type 0 w
   pub halted : has_number st.halted s ≡ true
   pub last : last_input st.turns s ≡ Some k
   pub lost : halt_at halts k ≡ Some false
+
+-- Halts at later inputs change nothing of the lines that were taken.
+abbrev pub LaterHaltsStay : Type 0
+LaterHaltsStay =
+    (reading : List ObjectDecl → Reading) (script : Script) (more halts : List Halt) (n : ℕ)
+    → AllByRecursion (λ (h : Halt).
+    accepted (run_of_lines reading script halts n).turns ≤ h.input) more
+    → run_of_lines reading script (more ++ halts) n ≡ run_of_lines reading script halts n
 
 -- To find it taken changes the halts at that input alone.
 abbrev pub FoundHaltsDiffer : Type 0

@@ -1,5 +1,6 @@
 // What the lines of a script come to, as laws.
-ghost use Rattle.cam_cluster.specs.FoundHalts.{FoundHaltsDiffer, FoundLinesPutIn, LinesAreUnderHalts};
+ghost use Rattle.cam_cluster.specs.FoundHalts.{FoundHaltsDiffer, FoundLinesPutIn, LaterHaltsStay};
+ghost use Rattle.cam_cluster.specs.FoundHalts.{LinesAreUnderHalts};
 ghost use Rattle.cam_cluster.specs.Seen.{AllLinesAreTheRun, LinesMakeTheRun};
 
 /// All lines of a script, one after another, are its run, whichever inputs are halts. So a cluster
@@ -11,9 +12,10 @@ pub fn all_lines()
 
 /// A node is halted since its last input, and a restart finds that its log took the event of it:
 /// this changes the halts at that input alone, and what the lines so far have left by that event
-/// and the mark of the halt alone. Both are under way.
+/// and the mark of the halt alone. Both are under way. Halts at later inputs change nothing of them.
 pub fn found_halts()
     ensures differ { FoundHaltsDiffer }
     ensures lines { FoundLinesPutIn }
     ensures under { LinesAreUnderHalts }
+    ensures later { LaterHaltsStay }
 {}
