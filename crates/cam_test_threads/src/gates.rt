@@ -56,13 +56,18 @@ impl Meeting {
         let came = |place: &AtomicU64| place.load(Ordering::SeqCst) != 0;
         came(&self.first) && came(&self.second) && came(&self.third) && came(&self.fourth)
     }
+
+    // Whether some worker has waited in vain. Then none waits any more.
+    fn is_given_up(&self) -> bool {
+        self.alone.load(Ordering::SeqCst) != 0
+    }
 }
 
 impl Gate for Meeting {
     fn before(&self, worker: u32, _step: u32) -> bool {
         self.place(worker).store(1, Ordering::SeqCst);
         for _ in 0..PATIENCE {
-            if self.is_full() {
+            if self.is_full() || self.is_given_up() {
                 return true;
             }
             yield_now();
