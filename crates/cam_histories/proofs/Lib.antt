@@ -56,4 +56,5 @@ pub mod FoundRestarts
 pub mod FoundLines
 pub mod FoundRuns
 pub mod NamelessNodes
+pub mod Alike
 pub mod FoundWhole

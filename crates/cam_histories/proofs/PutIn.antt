@@ -50,7 +50,7 @@ carried_alike : (h j : List Received) → map nameless h ≡ map nameless j
     → map bare (map as_carried h) ≡ map bare (map as_carried j)
 carried_alike h j same = sym (carried_bare h) ∙ ap (map as_carried) same ∙ carried_bare j
 
-step_alike : (objects : List ObjectDecl) (n : ℕ) (h j : List Received) (input : Input)
+pub step_alike : (objects : List ObjectDecl) (n : ℕ) (h j : List Received) (input : Input)
     (mail : Option Mail) (k : Knowledge) → map nameless h ≡ map nameless j
     → node_step objects n (map as_carried h) input mail k
     ≡ node_step objects n (map as_carried j) input mail k

@@ -15,3 +15,4 @@ pub mod Counted
 pub mod PutIn
 pub mod Found
 pub mod FoundWhole
+pub mod Alike

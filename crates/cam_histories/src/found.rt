@@ -1,4 +1,6 @@
 // A halt that is found to be taken, as laws.
+ghost use Rattle.cam_histories.specs.Alike.{LogsKeepAlike, NodesStandAlike};
+ghost use Rattle.cam_histories.specs.Alike.{OtherHistoriesStay, TakenEventsAreAlike};
 ghost use Rattle.cam_histories.specs.Found.{LinesKeepTheEvent, LinesLeadToTheHalt};
 ghost use Rattle.cam_histories.specs.FoundWhole.{HistoriesHaveTheEvent, LogsHaveTheEvent};
 ghost use Rattle.cam_histories.specs.FoundWhole.{RestartsFindTheEvent, StopsStay, ViewsStay};
@@ -39,4 +41,14 @@ pub fn wholes_found()
     ensures views { ViewsStay }
     ensures stops { StopsStay }
     ensures restart { RestartsFindTheEvent }
+{}
+
+/// Nothing of a node goes by the numbers of its letters: a node, its log and a taken event stand for
+/// a history as for one that differs in these alone. So they stand for the histories of the other
+/// nodes where a halt is found to be taken.
+pub fn histories_alike()
+    ensures nodes { NodesStandAlike }
+    ensures logs { LogsKeepAlike }
+    ensures taken { TakenEventsAreAlike }
+    ensures others { OtherHistoriesStay }
 {}
