@@ -26,7 +26,7 @@ use Rattle.cam_cluster.specs.LineOwes.{input_node, with_taken}
 use Rattle.cam_cluster.specs.Seen.{run_first, run_of_lines}
 use Rattle.cam_runs.proofs.LinesGrow.{act_runs}
 use Rattle.cam_cluster.proofs.LastInputs.{last_below, last_node}
-use Rattle.cam_cluster.proofs.LastInputs.{found_halts_differ}
+use Rattle.cam_cluster.proofs.HaltsDiffer.{found_halts_differ}
 use Rattle.cam_cluster.proofs.HaltOver.{IsOver, over_stays, restart_over}
 use Rattle.cam_cluster.proofs.LinesUnder.{line_counts}
 

@@ -3,7 +3,8 @@ use Rattle.std.proofs.Common.{◌≡◌, ℕ, List, map, Option, sym, ap, ◌∙
 use Rattle.cam_type.specs.declared.ObjectDecl.{ObjectDecl}
 use Rattle.cam_know.specs.Known.{nothing}
 use Rattle.cam_know.specs.Order.{told_in_order}
-use Rattle.cam_event.specs.Inputs.{Input, Begins, Requests, Receives, Tells, Queries, Restarts, Mail}
+use Rattle.cam_event.specs.Inputs.{Input, Begins, Requests, Receives, Tells, Queries, Restarts}
+use Rattle.cam_event.specs.Inputs.{Mail}
 use Rattle.cam_event.specs.Loads.{Load}
 use Rattle.cam_event.specs.Refusals.{refusal, query_refusal}
 use Rattle.cam_event.specs.Sights.{Sight}

@@ -58,3 +58,4 @@ pub mod FoundRuns
 pub mod NamelessNodes
 pub mod Alike
 pub mod FoundWhole
+pub mod FoundRestart

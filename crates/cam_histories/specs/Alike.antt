@@ -1,5 +1,5 @@
--- Histories that differ in the numbers of their letters alone: a node, its log and a taken event stand
--- for the one as for the other.
+-- Histories that differ in the numbers of their letters alone: a node, its log and a taken event
+-- stand for the one as for the other.
 use Rattle.std.specs.Prelude.{◌≡◌, ℕ, List, map}
 use Rattle.cam_type.specs.declared.ObjectDecl.{ObjectDecl}
 use Rattle.cam_event.specs.declared.Event.{Event}

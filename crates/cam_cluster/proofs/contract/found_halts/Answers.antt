@@ -1,6 +1,6 @@
 -- The last halt of a node, found to be taken.
 use Rattle.cam_cluster.proofs.FoundHalts.{found_lines_put_in}
-use Rattle.cam_cluster.proofs.LastInputs.{found_halts_differ}
+use Rattle.cam_cluster.proofs.HaltsDiffer.{found_halts_differ}
 use Rattle.cam_cluster.proofs.LaterHalts.{later_halts_stay}
 use Rattle.cam_cluster.proofs.LinesUnder.{lines_are_under_halts}
 use Rattle.cam_cluster.proofs.contract.found_halts.Goals as goal

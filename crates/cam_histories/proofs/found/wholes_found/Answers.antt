@@ -1,7 +1,7 @@
 -- The parts of a run in which an event is found to be taken.
-use Rattle.cam_histories.proofs.FoundWhole.{wholes_stand, histories_have_the_event}
-use Rattle.cam_histories.proofs.FoundWhole.{logs_have_the_event, views_stay, stops_stay}
-use Rattle.cam_histories.proofs.FoundWhole.{restarts_find_the_event}
+use Rattle.cam_histories.proofs.FoundRestart.{histories_have_the_event, logs_have_the_event}
+use Rattle.cam_histories.proofs.FoundRestart.{views_stay, stops_stay, restarts_find_the_event}
+use Rattle.cam_histories.proofs.FoundWhole.{wholes_stand}
 use Rattle.cam_histories.proofs.found.wholes_found.Goals as goal
 
 pub returns-clause-stand : goal.returns-clause-stand
