@@ -25,7 +25,7 @@ use Rattle.cam_node.proofs.HaltedSteps.{halts}
 use Rattle.cam_node.proofs.KeptSteps.{kept_on}
 
 -- what its entry has
-taken_entry : (objects : List ObjectDecl) (input : Input) (mail : Option Mail) (load : Load)
+pub taken_entry : (objects : List ObjectDecl) (input : Input) (mail : Option Mail) (load : Load)
     (plan : Plan) (known : Knowledge) (old mid : Node)
     → MayBeTaken objects input mail load plan known old mid
     → HasEntry objects old input mail load plan.stepped.event

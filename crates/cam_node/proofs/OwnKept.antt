@@ -33,7 +33,7 @@ nothing_held : Holding
 nothing_held f c = record { family = f; count = c; ops = [] }
 
 -- The node's own event that decides nothing has no entry, and its log stays as it is.
-own_entry : (objects : List ObjectDecl) (old new : Node) (input : Input) (event : Event) →
+pub own_entry : (objects : List ObjectDecl) (old new : Node) (input : Input) (event : Event) →
     AreCounts 1 old.know.counts → is_unlogged input ≡ true
     → IsStepThrough objects old new input None no_load event → HasEntry objects old input None
     no_load event []

@@ -1,5 +1,5 @@
 -- What comes of a node's own event that has no entry.
-use Rattle.std.proofs.Common.{◌≡◌, ℕ, ◌≤◌, true, List, Option, None, Result, Ok, Err, IfOk, OnErr, ap, ◌∙◌, subst}
+use Rattle.std.proofs.Common.{◌≡◌, ℕ, ◌≤◌, true, List, [], Option, None, Result, Ok, Err, IfOk, OnErr, refl, ap, ◌∙◌, subst}
 use Rattle.cam_type.specs.declared.ObjectDecl.{ObjectDecl}
 use Rattle.cam_event.specs.declared.Event.{Event}
 use Rattle.cam_event.specs.Inputs as rules
@@ -8,13 +8,14 @@ use Rattle.cam_event.specs.Loads.{Load, no_load}
 use Rattle.cam_node.specs.declared.Input.{Input}
 use Rattle.cam_node.specs.declared.Input.TheVariants as inputs
 use Rattle.cam_node.specs.declared.Stepped.{Stepped}
+use Rattle.cam_node.specs.Appending.{HasAppended}
 use Rattle.cam_node.specs.Calls.{AreSame, input_of, load_of, mail_of}
 use Rattle.cam_node.specs.Halting.{IsStepThrough}
 use Rattle.cam_node.specs.Keeping.{KeepsOn}
 use Rattle.cam_node.specs.Opened.{IsKnowledge}
 use Rattle.cam_node.specs.Represents.{Node}
 use Rattle.cam_node.specs.Unlogged.{is_unlogged}
-use Rattle.cam_node.proofs.OwnKept.{own_kept_on}
+use Rattle.cam_node.proofs.OwnKept.{own_entry, own_kept_on}
 
 -- Its number stays.
 pub number_kept : {E : Type 0} (result : Result Stepped E) (objects : List ObjectDecl) (old new :
@@ -63,3 +64,29 @@ keeps_from objects old mid new entries input event node knows own same serves st
     by (inputs.Letter id letter) own keeps = absurd (cc)
     by (inputs.Tell to) own keeps = keeps
     by (inputs.Query family) own keeps = keeps
+
+-- It has no entry: the log lists the same, and the disk does no call.
+pub appended_from : (objects : List ObjectDecl) (old new : Node) (entries : List (List ℕ))
+    (passes : Option ℕ) (input : Input) (event : Event) → IsKnowledge old.know
+    → is_unlogged (input_of old.number input) ≡ true
+    → IsStepThrough objects old new (input_of old.number input) None no_load event
+    → HasAppended objects old (input_of old.number input) (mail_of input) (load_of input) event
+    entries entries passes passes
+appended_from objects old new entries passes input event knows own step =
+    by input own (record {
+      records = [];
+      entry = own_entry objects old new (input_of old.number input) event knows.counts own step;
+      listed = refl;
+      spent = refl;
+    })
+  where
+    by : (i : Input) → is_unlogged (input_of old.number i) ≡ true
+        → HasAppended objects old (input_of old.number i) None no_load event entries entries
+        passes passes
+        → HasAppended objects old (input_of old.number i) (mail_of i) (load_of i) event entries
+        entries passes passes
+    by inputs.Begin own has = has
+    by (inputs.Request request) own has = has
+    by (inputs.Letter id letter) own has = absurd (cc)
+    by (inputs.Tell to) own has = has
+    by (inputs.Query family) own has = has

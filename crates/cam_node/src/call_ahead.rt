@@ -100,7 +100,8 @@ impl Core {
     /// An event that was planned does not come to stand: where a call went ahead for it, what was
     /// done with that is taken back. It takes no memory.
     pub(crate) fn forget(&mut self, ahead: &Option<Ahead>)
-        ensures { IsForgotten ahead.now (answers self.old) (answers self.new) }
+        ensures forgotten { IsForgotten ahead.now (answers self.old) (answers self.new) }
+        ensures number { self.new.number ≡ self.old.number }
     {
         if let Some(ahead) = ahead {
             self.take_back(ahead);
@@ -109,7 +110,8 @@ impl Core {
 
     /// What was done with a call that went ahead is taken back.
     fn take_back(&mut self, ahead: &Ahead)
-        ensures { IsTakenBack ahead.now (answers self.old) (answers self.new) }
+        ensures back { IsTakenBack ahead.now (answers self.old) (answers self.new) }
+        ensures number { self.new.number ≡ self.old.number }
     {
         self.server
             .take_back(&ahead.action, ahead.number, &ahead.done);

@@ -1,10 +1,12 @@
 //! A plan is carried out: its entry is forced to the log, and its event stands. Where it does not
 //! come to that, what went ahead for it is taken back.
-ghost use Rattle.std.specs.Prelude.{◌≡◌, ◌≤◌, IsTrue, IsFalse, OnOk, OnErr, IfOk, IsErrOf};
+ghost use Rattle.std.specs.Prelude.{◌≡◌, ◌≤◌, Some, IsTrue, IsFalse, OnOk, OnErr, IfOk, IsErrOf};
 ghost use Rattle.cam_base.specs.Causes.{Rose};
-ghost use Rattle.cam_log.specs.Moments.{Stays};
+ghost use Rattle.cam_disk.specs.Stop.{Untouched};
+ghost use Rattle.cam_log.specs.Moments.{Grows, Stays};
 ghost use Rattle.cam_node.specs.declared.fault.NodeFault.TheVariants.{DiskFault};
 ghost use Rattle.cam_node.specs.Ahead.{CanForget};
+ghost use Rattle.cam_node.specs.Appending.{HasAppended, OpensAsEither};
 ghost use Rattle.cam_node.specs.Calls.{answers, letters_of, AreSame};
 ghost use Rattle.cam_node.specs.Halting.{IsStepThrough};
 ghost use Rattle.cam_node.specs.Keeping.{IsHalt, KeepsOn};
@@ -48,6 +50,23 @@ impl<L: CheckpointLog> Node<L> {
             (answers self.old.core) (λ input mail load before.
             IsHalt self.old.objects before (L.listed self.old.log.log) input mail load
             (MayRead (L.opens_since self.new.log.log) (L.moment self.new.log.log))) }
+        ensures entry { ForEachInput self.old.objects plan self.old.core.knowing.known
+            (answers self.old.core) (λ input mail load before. IfOk result (λ stepped.
+            HasAppended self.old.objects before input mail load stepped.event
+            (L.listed self.old.log.log) (L.listed self.new.log.log)
+            (L.passes self.old.log.log) (L.passes self.new.log.log))) }
+        ensures any_moment { IsTrue (L.tells self.old.log.log)
+            → ForEachInput self.old.objects plan self.old.core.knowing.known
+            (answers self.old.core) (λ input mail load before.
+            Grows (L.moment self.old.log.log) (L.moment self.new.log.log)
+            (L.opens_since self.old.log.log) (L.opens_since self.new.log.log)
+            (OpensAsEither self.old.objects before (L.listed self.old.log.log) input mail load)) }
+        ensures broken { IsTrue self.new.log.halted → IsTrue (L.broken self.new.log.log) }
+        ensures stopped { L.passes self.old.log.log ≡ Some 0
+            → Untouched (L.moment self.old.log.log) (L.moment self.new.log.log)
+            (L.opens_since self.old.log.log) (L.opens_since self.new.log.log)
+            (L.seen self.old.log.log) (L.seen self.new.log.log) }
+        ensures number { self.new.core.number ≡ self.old.core.number }
         ensures runs { OnOk result (IsFalse self.new.log.halted) }
         ensures same { (before : Parts) → CanForget before (answers self.old.core) ahead.now
             → OnErr result (IsFalse self.new.log.halted

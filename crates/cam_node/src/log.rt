@@ -1,10 +1,11 @@
 // The log of one node: what it appends of an event.
-ghost use Rattle.std.specs.Prelude.{◌≡◌, ◌≤◌, [], ◌∷◌, IsTrue, IsFalse, IsOk, OnOk, OnErr, IfOk, IfErr, IsErrOf, All, Ok as Opens, Some, None};
+ghost use Rattle.std.specs.Prelude.{◌≡◌, ◌≤◌, ℕ, List, [], ◌∷◌, IsTrue, IsFalse, IsOk, OnOk, OnErr, IfOk, IfErr, IsErrOf, All, Ok as Opens, Some, None};
 ghost use Rattle.cam_base.specs.Causes.{Rose};
 ghost use Rattle.cam_disk.specs.Stop.{Untouched};
 ghost use Rattle.cam_log.specs.Spent.{Spent};
 ghost use Rattle.cam_log.specs.Moments.{Opened, Grows, Stays};
 ghost use Rattle.cam_ckpt.specs.Moments.{IsOldOrNew};
+ghost use Rattle.cam_ckpt.specs.Reading.{read_ckpt};
 ghost use Rattle.cam_recman.specs.declared.Recovered.{Recovered as Recovery};
 ghost use Rattle.cam_recman.specs.Ranges.{AreRecords};
 ghost use Rattle.cam_recman.specs.Recovery.{with_records};
@@ -13,6 +14,7 @@ ghost use Rattle.cam_recman.specs.Versions.{AreOf};
 ghost use Rattle.cam_recman.specs.Writable.{IsWritable};
 ghost use Rattle.cam_recman.specs.Migrating.{version_entry};
 ghost use Rattle.cam_node.specs.declared.fault.NodeFault.TheVariants.{DiskFault};
+ghost use Rattle.cam_node.specs.Appending.{SpentFor};
 ghost use Rattle.cam_node.specs.Opened.{is_readable, with_entry_of};
 
 use crate::fault::{FormatRefused, NodeFault};
@@ -93,8 +95,12 @@ impl<D: Disk> NodeLog<Ckpt<D>> {
         }
     }
 
-    /// The disk, as it is.
+    /// The disk, as it is. What a crash may leave of it opens as the log would.
     pub fn into_disk(self) -> D
+        ensures opens { IsTrue (D.tells result) → IsFalse self.halted
+            → read_ckpt (D.seen result) ≡ Opens (⟦<Ckpt<D> as EntryLog>⟧.listed self.log) }
+        ensures opens_since { (t : ℕ) (image : List ℕ) → D.left_since result t image
+            → ⟦<Ckpt<D> as EntryLog>⟧.opens_since self.log t (read_ckpt image) }
         ensures tells { D.tells result ≡ ⟦<Ckpt<D> as EntryLog>⟧.tells self.log }
         ensures moment { D.moment result ≡ ⟦<Ckpt<D> as EntryLog>⟧.moment self.log }
         ensures seen { D.seen result ≡ ⟦<Ckpt<D> as EntryLog>⟧.seen self.log }
@@ -148,6 +154,10 @@ impl<L: CheckpointLog> NodeLog<L> {
         ensures says { (r : Recovery) → Says (L.listed self.old.log) r
             → OnOk result (Says (L.listed self.new.log) (with_records r records.now)) }
         ensures runs { OnOk result (IsFalse self.new.halted) }
+        // It halts just where its log has to be opened again.
+        ensures broken { IsTrue self.new.halted → IsTrue (L.broken self.new.log) }
+        ensures spent { OnOk result
+            (SpentFor records.now (L.passes self.old.log) (L.passes self.new.log)) }
         // The records are in their ranges where the disk was called.
         ensures range { OnOk result (AreRecords records.now) }
         ensures halted_range { IsTrue self.new.halted → AreRecords records.now }

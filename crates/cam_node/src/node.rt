@@ -1,6 +1,7 @@
 //! One node: its parts, and its log.
-ghost use Rattle.std.specs.Prelude.{◌≡◌, ◌≤◌, [], IsTrue, IsFalse, IfOk, IfErr, Some, None};
+ghost use Rattle.std.specs.Prelude.{◌≡◌, ◌≤◌, ℕ, List, [], IsTrue, IsFalse, IfOk, IfErr, Ok as Opens, Some, None};
 ghost use Rattle.cam_base.specs.Causes.{Rose};
+ghost use Rattle.cam_ckpt.specs.Reading.{read_ckpt};
 ghost use Rattle.cam_locks.specs.Moss.{settled};
 ghost use Rattle.cam_locks.specs.Site.{is_here};
 ghost use Rattle.cam_log.specs.Moments.{Stays};
@@ -74,8 +75,12 @@ impl<D: Disk> Node<Ckpt<D>> {
         Ok(Node { core, log, objects })
     }
 
-    /// The disk, as it is.
+    /// The disk, as it is. What a crash may leave of it opens as the log of the node would.
     pub fn into_disk(self) -> D
+        ensures opens { IsTrue (D.tells result) → IsFalse self.log.halted
+            → read_ckpt (D.seen result) ≡ Opens (⟦<Ckpt<D> as EntryLog>⟧.listed self.log.log) }
+        ensures opens_since { (t : ℕ) (image : List ℕ) → D.left_since result t image
+            → ⟦<Ckpt<D> as EntryLog>⟧.opens_since self.log.log t (read_ckpt image) }
         ensures tells { D.tells result ≡ ⟦<Ckpt<D> as EntryLog>⟧.tells self.log.log }
         ensures moment { D.moment result ≡ ⟦<Ckpt<D> as EntryLog>⟧.moment self.log.log }
         ensures seen { D.seen result ≡ ⟦<Ckpt<D> as EntryLog>⟧.seen self.log.log }

@@ -4,6 +4,7 @@
 ghost use Rattle.std.specs.Prelude.{◌≡◌, ◌≤◌, List, Some, None, IsTrue, IsFalse, OnOk, OnErr, IfOk, IsErrOf, All, ◌++◌};
 ghost use Rattle.cam_base.specs.Causes.{Rose};
 ghost use Rattle.cam_ckpt.specs.Moments.{IsOldOrNew};
+ghost use Rattle.cam_disk.specs.Stop.{Untouched};
 ghost use Rattle.cam_log.specs.Moments.{Grows, Stays};
 ghost use Rattle.cam_recman.specs.declared.Recovered.{Recovered as Recovery};
 ghost use Rattle.cam_recman.specs.Ranges.{AreRecords};
@@ -13,6 +14,7 @@ ghost use Rattle.cam_recman.specs.Versions.{AreOf};
 ghost use Rattle.cam_recman.specs.Writable.{IsWritable};
 ghost use Rattle.cam_type.specs.declared.Kind.TheVariants as kinds;
 ghost use Rattle.cam_node.specs.declared.fault.NodeFault.TheVariants.{DiskFault};
+ghost use Rattle.cam_node.specs.Appending.{HasAppended, OpensAsEither, SpentFor};
 ghost use Rattle.cam_node.specs.Calls.{answers, input_of, letters_of, load_of, mail_of, AreSame};
 ghost use Rattle.cam_node.specs.Halting.{IsStepThrough};
 ghost use Rattle.cam_node.specs.Keeping.{IsHalt, KeepsOn};
@@ -70,12 +72,14 @@ impl Core {
     }
 
     /// The event stands, and what is known then is knowledge.
+    #[tactic(auto, using(crate::proofs::StandingNumber::stands_number))]
     fn takes(&mut self, plan: Plan) -> Stepped
         requires { MayStand plan self.old }
         ensures stands { Stands plan.change plan.heard self.old.knowing.known
             (answers self.old) (answers self.new) }
         ensures stepped { result ≡ plan.stepped }
         ensures knows { IsKnowledge (answers self.new).know }
+        ensures number { self.new.number ≡ self.old.number }
     {
         let stepped = self.stand(plan);
         self.knowing.is_knowledge();
@@ -118,6 +122,11 @@ impl<L: CheckpointLog> Node<L> {
             (answers self.new.core) (L.listed self.new.log.log)
             (input_of self.old.core.number input.now)
             (mail_of input.now) (load_of input.now) stepped.event) }
+        // The log lists the event's entry, or the same where the event has no record.
+        ensures entry { IfOk result (λ stepped. HasAppended self.old.objects
+            (answers self.old.core) (input_of self.old.core.number input.now) (mail_of input.now)
+            (load_of input.now) stepped.event (L.listed self.old.log.log) (L.listed self.new.log.log)
+            (L.passes self.old.log.log) (L.passes self.new.log.log)) }
         ensures runs { OnOk result (IsFalse self.new.log.halted) }
         ensures same { OnErr result (IsFalse self.new.log.halted
             → AreSame (answers self.old.core) (answers self.new.core)) }
@@ -134,6 +143,21 @@ impl<L: CheckpointLog> Node<L> {
             → IsHalt self.old.objects (answers self.old.core) (L.listed self.old.log.log)
             (input_of self.old.core.number input.now) (mail_of input.now) (load_of input.now)
             (MayRead (L.opens_since self.new.log.log) (L.moment self.new.log.log)) }
+        // A crash at any moment of the call leaves the history before, or that with what was taken
+        // of the event.
+        ensures any_moment { IsTrue (L.tells self.old.log.log)
+            → Grows (L.moment self.old.log.log) (L.moment self.new.log.log)
+            (L.opens_since self.old.log.log) (L.opens_since self.new.log.log)
+            (OpensAsEither self.old.objects (answers self.old.core) (L.listed self.old.log.log)
+            (input_of self.old.core.number input.now) (mail_of input.now) (load_of input.now)) }
+        // It halts only where its log has to be opened again.
+        ensures broken { IsTrue self.new.log.halted → IsTrue (L.broken self.new.log.log) }
+        // With no call of the disk left nothing of it is touched.
+        ensures stopped { L.passes self.old.log.log ≡ Some 0
+            → Untouched (L.moment self.old.log.log) (L.moment self.new.log.log)
+            (L.opens_since self.old.log.log) (L.opens_since self.new.log.log)
+            (L.seen self.old.log.log) (L.seen self.new.log.log) }
+        ensures number { self.new.core.number ≡ self.old.core.number }
         ensures disk_fault { IsErrOf result DiskFault
             → Rose (L.faults self.old.log.log) (L.faults self.new.log.log)
             × IsTrue self.new.log.halted }
@@ -171,6 +195,21 @@ impl<L: CheckpointLog> Node<L> {
             (answers self.new.core) (L.listed self.new.log.log)
             (input_of self.old.core.number input.now)
             (mail_of input.now) (load_of input.now) stepped.event) }
+        ensures entry { IfOk result (λ stepped. HasAppended self.old.objects
+            (answers self.old.core) (input_of self.old.core.number input.now) (mail_of input.now)
+            (load_of input.now) stepped.event (L.listed self.old.log.log) (L.listed self.new.log.log)
+            (L.passes self.old.log.log) (L.passes self.new.log.log)) }
+        ensures any_moment { IsTrue (L.tells self.old.log.log)
+            → Grows (L.moment self.old.log.log) (L.moment self.new.log.log)
+            (L.opens_since self.old.log.log) (L.opens_since self.new.log.log)
+            (OpensAsEither self.old.objects (answers self.old.core) (L.listed self.old.log.log)
+            (input_of self.old.core.number input.now) (mail_of input.now) (load_of input.now)) }
+        ensures broken { IsTrue self.new.log.halted → IsTrue (L.broken self.new.log.log) }
+        ensures stopped { L.passes self.old.log.log ≡ Some 0
+            → Untouched (L.moment self.old.log.log) (L.moment self.new.log.log)
+            (L.opens_since self.old.log.log) (L.opens_since self.new.log.log)
+            (L.seen self.old.log.log) (L.seen self.new.log.log) }
+        ensures number { self.new.core.number ≡ self.old.core.number }
         ensures same { OnErr result (AreSame (answers self.old.core) (answers self.new.core)) }
         ensures runs { IsTrue self.new.log.halted → ⊥ }
         ensures no_fault { IsErrOf result DiskFault → ⊥ }
@@ -211,6 +250,18 @@ impl<L: CheckpointLog> Node<L> {
             self.old.core).know.counts plan)) }
         ensures halted_range { IsTrue self.new.log.halted → AreRecords (planned_records (answers
             self.old.core).know.counts plan) }
+        ensures appended { OnOk result (L.listed self.new.log.log
+            ≡ with_entry_of (L.listed self.old.log.log) (planned_records (answers
+            self.old.core).know.counts plan)) }
+        ensures spent { OnOk result (SpentFor (planned_records (answers
+            self.old.core).know.counts plan) (L.passes self.old.log.log)
+            (L.passes self.new.log.log)) }
+        ensures broken { IsTrue self.new.log.halted → IsTrue (L.broken self.new.log.log) }
+        ensures stopped { L.passes self.old.log.log ≡ Some 0
+            → Untouched (L.moment self.old.log.log) (L.moment self.new.log.log)
+            (L.opens_since self.old.log.log) (L.opens_since self.new.log.log)
+            (L.seen self.old.log.log) (L.seen self.new.log.log) }
+        ensures number { self.new.core.number ≡ self.old.core.number }
         ensures halted_version { IsTrue self.new.log.halted → AreOf 2 (planned_records (answers
             self.old.core).know.counts plan) }
         ensures any_moment { IsTrue (L.tells self.old.log.log)

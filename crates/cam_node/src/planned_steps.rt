@@ -6,10 +6,12 @@ ghost use Rattle.cam_comman.specs.Letters.{load_on};
 ghost use Rattle.cam_event.specs.Inputs.{Receives};
 ghost use Rattle.cam_event.specs.Loads.{no_load};
 ghost use Rattle.cam_event.specs.declared.Want.TheVariants as wants;
-ghost use Rattle.cam_log.specs.Moments.{Stays};
+ghost use Rattle.cam_disk.specs.Stop.{Untouched};
+ghost use Rattle.cam_log.specs.Moments.{Grows, Stays};
 ghost use Rattle.cam_tranman.specs.Calls.{IsFree};
 ghost use Rattle.cam_type.specs.declared.Kind.TheVariants as kinds;
 ghost use Rattle.cam_node.specs.declared.fault.NodeFault.TheVariants.{DiskFault};
+ghost use Rattle.cam_node.specs.Appending.{HasAppended, OpensAsEither};
 ghost use Rattle.cam_node.specs.Calls.{answers, letters_of, mail_on, AreSame};
 ghost use Rattle.cam_node.specs.GivingUp.{giving_up};
 ghost use Rattle.cam_node.specs.Halting.{IsStepThrough};
@@ -53,6 +55,21 @@ impl<L: CheckpointLog> Node<L> {
             (answers self.old.core) (L.listed self.old.log.log)
             (answers self.new.core) (L.listed self.new.log.log)
             (Receives id.now) (Some (mail_on letter.now)) (load_on letter.now) stepped.event) }
+        ensures entry { IfOk result (λ stepped. HasAppended self.old.objects
+            (answers self.old.core) (Receives id.now) (Some (mail_on letter.now))
+            (load_on letter.now) stepped.event (L.listed self.old.log.log) (L.listed self.new.log.log)
+            (L.passes self.old.log.log) (L.passes self.new.log.log)) }
+        ensures any_moment { IsTrue (L.tells self.old.log.log)
+            → Grows (L.moment self.old.log.log) (L.moment self.new.log.log)
+            (L.opens_since self.old.log.log) (L.opens_since self.new.log.log)
+            (OpensAsEither self.old.objects (answers self.old.core) (L.listed self.old.log.log)
+            (Receives id.now) (Some (mail_on letter.now)) (load_on letter.now)) }
+        ensures broken { IsTrue self.new.log.halted → IsTrue (L.broken self.new.log.log) }
+        ensures stopped { L.passes self.old.log.log ≡ Some 0
+            → Untouched (L.moment self.old.log.log) (L.moment self.new.log.log)
+            (L.opens_since self.old.log.log) (L.opens_since self.new.log.log)
+            (L.seen self.old.log.log) (L.seen self.new.log.log) }
+        ensures number { self.new.core.number ≡ self.old.core.number }
         ensures runs { OnOk result (IsFalse self.new.log.halted) }
         ensures same { OnErr result (IsFalse self.new.log.halted
             → AreSame (answers self.old.core) (answers self.new.core)) }
@@ -121,6 +138,21 @@ impl<L: CheckpointLog> Node<L> {
             (answers self.old.core) (L.listed self.old.log.log)
             (answers self.new.core) (L.listed self.new.log.log)
             (giving_up action.now child.now) None no_load stepped.event) }
+        ensures entry { IfOk result (λ stepped. HasAppended self.old.objects
+            (answers self.old.core) (giving_up action.now child.now) None
+            no_load stepped.event (L.listed self.old.log.log) (L.listed self.new.log.log)
+            (L.passes self.old.log.log) (L.passes self.new.log.log)) }
+        ensures any_moment { IsTrue (L.tells self.old.log.log)
+            → Grows (L.moment self.old.log.log) (L.moment self.new.log.log)
+            (L.opens_since self.old.log.log) (L.opens_since self.new.log.log)
+            (OpensAsEither self.old.objects (answers self.old.core) (L.listed self.old.log.log)
+            (giving_up action.now child.now) None no_load) }
+        ensures broken { IsTrue self.new.log.halted → IsTrue (L.broken self.new.log.log) }
+        ensures stopped { L.passes self.old.log.log ≡ Some 0
+            → Untouched (L.moment self.old.log.log) (L.moment self.new.log.log)
+            (L.opens_since self.old.log.log) (L.opens_since self.new.log.log)
+            (L.seen self.old.log.log) (L.seen self.new.log.log) }
+        ensures number { self.new.core.number ≡ self.old.core.number }
         ensures runs { OnOk result (IsFalse self.new.log.halted) }
         ensures same { OnErr result (IsFalse self.new.log.halted
             → AreSame (answers self.old.core) (answers self.new.core)) }

@@ -1,5 +1,5 @@
 -- A child is given up.
-use Rattle.std.proofs.Common.{None, refl, sym, subst}
+use Rattle.std.proofs.Common.{None, refl, sym, ◌∙◌, subst}
 use Rattle.cam_event.specs.Loads.{no_load}
 use Rattle.cam_node.specs.Calls.{answers, AreSame}
 use Rattle.cam_node.specs.GivingUp.{giving_up}
@@ -32,6 +32,27 @@ returns-clause-keeps g c =
       know = c.give_up.ensures.same.know;
       goes_on = refl;
     })
+
+pub returns-clause-entry : goal.returns-clause-entry
+returns-clause-entry g c =
+    c.carry_out.ensures.entry _ _ _ (answers c.args.self.now.core) (record {
+      planned = c.in_ok-plan.ensures.plan c.args.self.now.objects;
+      node = c.args.self.now.numbered;
+      know = c.give_up.ensures.same.know;
+      goes_on = refl;
+    })
+
+pub returns-clause-any_moment : goal.returns-clause-any_moment
+returns-clause-any_moment g c = λ tells.
+    c.carry_out.ensures.any_moment tells _ _ _ (answers c.args.self.now.core) (record {
+      planned = c.in_ok-plan.ensures.plan c.args.self.now.objects;
+      node = c.args.self.now.numbered;
+      know = c.give_up.ensures.same.know;
+      goes_on = refl;
+    })
+
+pub returns-clause-number : goal.returns-clause-number
+returns-clause-number g c = c.carry_out.ensures.number ∙ c.give_up.ensures.same.number
 
 pub returns-clause-halt : goal.returns-clause-halt
 returns-clause-halt g c = λ tells halted.

@@ -1,5 +1,5 @@
 -- A letter comes.
-use Rattle.std.proofs.Common.{Some, refl, sym, subst}
+use Rattle.std.proofs.Common.{Some, refl, sym, ◌∙◌, subst}
 use Rattle.cam_comman.specs.Letters.{load_on}
 use Rattle.cam_event.specs.Inputs.{Receives}
 use Rattle.cam_node.specs.Ahead.{CanForget}
@@ -37,6 +37,29 @@ returns-in_ok-plan-in-Call-clause-keeps g c =
       goes_on = refl;
     })
 
+pub returns-in_ok-plan-in-Call-clause-entry : goal.returns-in_ok-plan-in-Call-clause-entry
+returns-in_ok-plan-in-Call-clause-entry g c =
+    c.carry_out.ensures.entry _ _ _ (answers c.args.self.now.core) (record {
+      planned = c.in_ok-plan-in-Call.ensures.plan c.args.self.now.objects;
+      node = c.args.self.now.numbered;
+      know = c.call_of_kind.ensures.know;
+      goes_on = refl;
+    })
+
+pub returns-in_ok-plan-in-Call-clause-any_moment :
+    goal.returns-in_ok-plan-in-Call-clause-any_moment
+returns-in_ok-plan-in-Call-clause-any_moment g c = λ tells.
+    c.carry_out.ensures.any_moment tells _ _ _ (answers c.args.self.now.core) (record {
+      planned = c.in_ok-plan-in-Call.ensures.plan c.args.self.now.objects;
+      node = c.args.self.now.numbered;
+      know = c.call_of_kind.ensures.know;
+      goes_on = refl;
+    })
+
+pub returns-in_ok-plan-in-Call-clause-number : goal.returns-in_ok-plan-in-Call-clause-number
+returns-in_ok-plan-in-Call-clause-number g c =
+    c.carry_out.ensures.number ∙ c.call_of_kind.ensures.number
+
 pub returns-in_ok-plan-in-Call-clause-halt : goal.returns-in_ok-plan-in-Call-clause-halt
 returns-in_ok-plan-in-Call-clause-halt g c = λ tells halted.
     c.carry_out.ensures.halt tells halted _ _ _ (answers c.args.self.now.core) (record {
@@ -69,6 +92,11 @@ returns-in_ok-plan-in_default g c =
       step = then.step _ _ _ old may;
       letters = then.letters (Receives c.args.id.now) _ (load_on c.args.letter.now) old may;
       keeps = then.keeps _ _ _ old may;
+      entry = then.entry _ _ _ old may;
+      any_moment = λ tells. then.any_moment tells _ _ _ old may;
+      broken = then.broken;
+      stopped = then.stopped;
+      number = then.number ∙ c.comes.ensures.same.number;
       runs = then.runs;
       same = then.same old (λ new stays. subst (AreSame old) (sym stays) c.comes.ensures.same);
       halt = λ tells halted. then.halt tells halted _ _ _ old may;

@@ -4,6 +4,8 @@ use Rattle.cam_event.specs.declared.Want.{Want}
 use Rattle.cam_event.specs.Inputs.{Requests}
 use Rattle.cam_event.specs.Loads.{no_load}
 use Rattle.cam_node.specs.declared.Input.{Input}
+use Rattle.cam_log.specs.Moments.{Grows}
+use Rattle.cam_node.specs.Appending.{HasAppended, OpensAsEither}
 use Rattle.cam_node.specs.Calls.{answers, input_of, load_of, mail_of}
 use Rattle.cam_node.specs.Keeping.{KeepsOn}
 use Rattle.cam_node.proofs.node.Node.step.Goals as goal
@@ -31,3 +33,54 @@ returns-in-GiveUp-clause-keeps g c =
     (g.L.EntryLog.listed c.give_up.new.self.log.log)
     (Requests (record { action = c.in-Request.request.action; want = w })) None no_load
     stepped.event)) (sym c.in-GiveUp.is) c.give_up.ensures.keeps)
+
+pub returns-in-Letter-clause-entry : goal.returns-in-Letter-clause-entry
+returns-in-Letter-clause-entry g c =
+    let old = c.args.self.now in
+    let new = c.letter.new.self in
+    subst (λ (i : Input). IfOk c.letter.result (λ stepped. HasAppended old.objects
+    (answers old.core) (input_of old.core.number i) (mail_of i) (load_of i) stepped.event
+    (g.L.EntryLog.listed old.log.log) (g.L.EntryLog.listed new.log.log)
+    (g.L.EntryLog.passes old.log.log) (g.L.EntryLog.passes new.log.log)))
+    (sym c.in-Letter.is) c.letter.ensures.entry
+
+pub returns-in-Letter-clause-any_moment : goal.returns-in-Letter-clause-any_moment
+returns-in-Letter-clause-any_moment g c = λ tells.
+    let old = c.args.self.now in
+    let new = c.letter.new.self in
+    subst (λ (i : Input). Grows (g.L.EntryLog.moment old.log.log)
+    (g.L.EntryLog.moment new.log.log) (g.L.EntryLog.opens_since old.log.log)
+    (g.L.EntryLog.opens_since new.log.log) (OpensAsEither old.objects (answers old.core)
+    (g.L.EntryLog.listed old.log.log) (input_of old.core.number i) (mail_of i) (load_of i)))
+    (sym c.in-Letter.is) (c.letter.ensures.any_moment tells)
+
+pub returns-in-GiveUp-clause-entry : goal.returns-in-GiveUp-clause-entry
+returns-in-GiveUp-clause-entry g c =
+    let old = c.args.self.now in
+    let new = c.give_up.new.self in
+    subst (λ (i : Input). IfOk c.give_up.result (λ stepped. HasAppended old.objects
+    (answers old.core) (input_of old.core.number i) (mail_of i) (load_of i) stepped.event
+    (g.L.EntryLog.listed old.log.log) (g.L.EntryLog.listed new.log.log)
+    (g.L.EntryLog.passes old.log.log) (g.L.EntryLog.passes new.log.log)))
+    (sym c.in-Request.is)
+    (subst (λ (w : Want). IfOk c.give_up.result (λ stepped. HasAppended old.objects
+    (answers old.core) (Requests (record { action = c.in-Request.request.action; want = w })) None
+    no_load stepped.event (g.L.EntryLog.listed old.log.log) (g.L.EntryLog.listed new.log.log)
+    (g.L.EntryLog.passes old.log.log) (g.L.EntryLog.passes new.log.log)))
+    (sym c.in-GiveUp.is) c.give_up.ensures.entry)
+
+pub returns-in-GiveUp-clause-any_moment : goal.returns-in-GiveUp-clause-any_moment
+returns-in-GiveUp-clause-any_moment g c = λ tells.
+    let old = c.args.self.now in
+    let new = c.give_up.new.self in
+    subst (λ (i : Input). Grows (g.L.EntryLog.moment old.log.log)
+    (g.L.EntryLog.moment new.log.log) (g.L.EntryLog.opens_since old.log.log)
+    (g.L.EntryLog.opens_since new.log.log) (OpensAsEither old.objects (answers old.core)
+    (g.L.EntryLog.listed old.log.log) (input_of old.core.number i) (mail_of i) (load_of i)))
+    (sym c.in-Request.is)
+    (subst (λ (w : Want). Grows (g.L.EntryLog.moment old.log.log)
+    (g.L.EntryLog.moment new.log.log) (g.L.EntryLog.opens_since old.log.log)
+    (g.L.EntryLog.opens_since new.log.log) (OpensAsEither old.objects (answers old.core)
+    (g.L.EntryLog.listed old.log.log)
+    (Requests (record { action = c.in-Request.request.action; want = w })) None no_load))
+    (sym c.in-GiveUp.is) (c.give_up.ensures.any_moment tells))

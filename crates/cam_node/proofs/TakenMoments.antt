@@ -1,0 +1,101 @@
+-- What a crash at any moment leaves, where a plan is carried out: the history before the event, or
+-- that with what was taken of the event.
+use Rattle.std.proofs.Common.{◌≡◌, ◌⊎◌, inl, inr, ℕ, ◌≤◌, Bool, true, false, List, ◌∷◌, Option, refl, subst, arith}
+use Rattle.cam_type.specs.declared.ObjectDecl.{ObjectDecl}
+use Rattle.cam_know.specs.Knowledge.{Knowledge}
+use Rattle.cam_event.specs.declared.Event.{Event}
+use Rattle.cam_event.specs.Inputs.{Input, Mail}
+use Rattle.cam_event.specs.Loads.{Load}
+use Rattle.cam_event.specs.ByDeltas.{Received}
+use Rattle.cam_log.specs.Moments.{Opened, Grows}
+use Rattle.cam_ckpt.specs.Moments.{IsOldOrNew}
+use Rattle.cam_recman.specs.declared.Recovered.{Recovered}
+use Rattle.cam_recman.specs.Ranges.{AreRecords}
+use Rattle.cam_recman.specs.Recovery.{with_records}
+use Rattle.cam_recman.specs.Says.{Says}
+use Rattle.cam_node.specs.declared.plan.Plan.{Plan}
+use Rattle.cam_node.specs.Appending.{OpensAsEither}
+use Rattle.cam_node.specs.Halting.{taken, IsStepThrough}
+use Rattle.cam_node.specs.Keeping.{IsLogOf}
+use Rattle.cam_node.specs.Opened.{IsKnowledge, logged_of, with_entry_of}
+use Rattle.cam_node.specs.Planned.{MayBeTaken, planned_records}
+use Rattle.cam_node.specs.Plans.{Stands}
+use Rattle.cam_node.specs.Represents.{Node}
+use Rattle.cam_node.proofs.CarriedOut.{taken_entry}
+use Rattle.cam_node.proofs.KeptSteps.{logged, known_then}
+
+-- What else may come is one of these too.
+pub grows_as : {A : Type 0} (b n : ℕ) (past since : ℕ → A → Type 0) (added more : A → Type 0)
+    → Grows b n past since added → ((c : A) → added c → more c) → Grows b n past since more
+grows_as {A = A} b n past since added more grows each = record {
+  later = grows.later;
+  keeps = grows.keeps;
+  nothing_else = λ t c le is. by c (grows.nothing_else t c le is);
+}
+  where
+    by : {P : Type 0} (c : A) → P ⊎ added c → P ⊎ more c
+    by c (inl was) = inl was
+    by c (inr is) = inr (each c is)
+
+-- where nothing happened
+pub same_grows : {A : Type 0} (n : ℕ) (since : ℕ → A → Type 0) (more : A → Type 0)
+    → Grows n n since since more
+same_grows n since more = record {
+  later = omega arith;
+  keeps = λ t c le was. was;
+  nothing_else = λ t c le is. inl is;
+}
+
+-- a node is halted, or it is not
+pub by_halt : {P : Type 0} (halted : Bool) → (halted ≡ true → P) → (halted ≡ false → P) → P
+by_halt true there runs = there refl
+by_halt false there runs = runs refl
+
+pub taken_moments : (objects : List ObjectDecl) (input : Input) (mail : Option Mail) (load : Load)
+    (plan : Plan) (known : Knowledge) (old mid new : Node) (before : List (List ℕ)) (b n : ℕ)
+    (past since : ℕ → Opened → Type 0)
+    → IsKnowledge new.know → AreRecords (planned_records mid.know.counts plan)
+    → ((r : Recovered) → Says before r
+    → Says (with_entry_of before (planned_records mid.know.counts plan))
+    (with_records r (planned_records mid.know.counts plan)))
+    → Stands plan.change plan.heard known mid new
+    → Grows b n past since (IsOldOrNew before
+    (with_entry_of before (planned_records mid.know.counts plan)))
+    → MayBeTaken objects input mail load plan known old mid
+    → Grows b n past since (OpensAsEither objects old before input mail load)
+taken_moments objects input mail load plan known old mid new before b n past since knows are says
+    stands grows may =
+    grows_as b n past since (IsOldOrNew before after)
+    (OpensAsEither objects old before input mail load) grows either
+  where
+    after : List (List ℕ)
+    after = with_entry_of before (planned_records mid.know.counts plan)
+
+    step : IsStepThrough objects old new input mail load plan.stepped.event
+    step = may.planned.given.step new stands
+
+    either : (o : Opened) → IsOldOrNew before after o
+        → OpensAsEither objects old before input mail load o
+    either o (inl was) history keeps put =
+        inl (record { entries = before; opens = was; keeps = keeps.keeps })
+    either o (inr is) history keeps put =
+        let r : Recovered = keeps.keeps.recovered in
+        let then : Recovered = with_records r (planned_records mid.know.counts plan) in
+        let has = logged objects old new input mail load plan.stepped.event
+        (planned_records mid.know.counts plan) history before keeps may.node may.goes_on
+        (known_then objects old new input mail load plan.stepped.event knows step) are
+        (taken_entry objects input mail load plan known old mid may) step put in
+        inr (record {
+          entries = after;
+          opens = is;
+          keeps = record {
+            recovered = then;
+            says = says r keeps.keeps.says;
+            is_log = subst (λ (e : Event). IsLogOf objects old.number (taken (record {
+              event = e;
+              mail = mail;
+              load = load;
+            }) ∷ history) (logged_of then))
+                (step.next history keeps.through keeps.represents put) has.taken_so;
+          };
+        })

@@ -1,0 +1,49 @@
+-- What a step's entry makes of the log: what the log lists then, how many calls of the disk that
+-- takes, and what a crash at any moment of the step leaves.
+use Rattle.std.specs.Prelude.{◌≡◌, ◌⊎◌, ℕ, List, [], ◌∷◌, Option, Ok}
+use Rattle.cam_type.specs.declared.ObjectDecl.{ObjectDecl}
+use Rattle.cam_event.specs.declared.Event.{Event}
+use Rattle.cam_event.specs.Inputs.{Input, Mail}
+use Rattle.cam_event.specs.Loads.{Load}
+use Rattle.cam_event.specs.ByDeltas.{Received}
+use Rattle.cam_log.specs.Moments.{Opened}
+use Rattle.cam_log.specs.Spent.{Spent}
+use Rattle.cam_recman.specs.declared.Record.{Record}
+use Rattle.cam_node.specs.Halting.{taken_step}
+use Rattle.cam_node.specs.Keeping.{KeepsHistory, KeepsNode, MayBePutThen}
+use Rattle.cam_node.specs.Opened.{with_entry_of}
+use Rattle.cam_node.specs.Planned.{HasEntry}
+use Rattle.cam_node.specs.Represents.{Node}
+
+-- An entry takes four calls of the disk. Where there is no record, none is done.
+abbrev pub SpentFor : List Record → Option ℕ → Option ℕ → Type 0
+SpentFor [] before left = left ≡ before
+SpentFor (one ∷ rest) before left = Spent 4 before left
+
+-- The log lists the entry of the event behind what it listed, or the same where the event has no
+-- record; and the disk did the calls for that.
+pub record HasAppended (objects : List ObjectDecl) (old : Node) (input : Input)
+    (mail : Option Mail) (load : Load) (event : Event) (before now : List (List ℕ))
+    (passes left : Option ℕ) : Type 0 where
+  pub records : List Record
+  pub entry : HasEntry objects old input mail load event records
+  pub listed : now ≡ with_entry_of before records
+  pub spent : SpentFor records passes left
+
+-- It opens with entries that keep a history.
+pub record OpensAs (objects : List ObjectDecl) (s : ℕ) (history : List Received) (opened : Opened)
+    : Type 0 where
+  pub entries : List (List ℕ)
+  pub opens : opened ≡ Ok entries
+  pub keeps : KeepsHistory objects s history entries
+
+-- It opens with what keeps the history before the event, or that with what was taken of the event:
+-- for each history for which the node and its log, which listed these entries, stood.
+abbrev pub OpensAsEither : List ObjectDecl → Node → List (List ℕ) → Input → Option Mail → Load
+    → Opened → Type 0
+OpensAsEither objects old before input mail load opened =
+    (history : List Received) → KeepsNode objects history old before
+    → MayBePutThen objects old.number history input mail load
+    → OpensAs objects old.number history opened
+    ⊎ OpensAs objects old.number
+    (taken_step objects old.number history input mail load ∷ history) opened
