@@ -80,7 +80,7 @@ use cam_event::{Body, Deed, Letter, LetterId, Reply, Request, Want};
 use cam_know::{Know, Outcome};
 use cam_names::{Name, Part};
 use cam_node::{Input, Node, Stepped};
-use cam_type::{Answer, ObjectDecl, Objects, Op, State};
+use cam_type::{Answer, CounterServer, ObjectDecl, Objects, Op, QueueServer, RegisterServer, State};
 use std::alloc::Global;
 
 /// The node, of which one object stands elsewhere: a counter at node 2.
@@ -228,10 +228,13 @@ impl Alone {
         if self.node.is_halted() {
             bail!("the node is halted");
         }
-        if !self.node.may_step(input) {
+        if self.node.refusal(input).is_some() || !self.node.may_step(input) {
             bail!("the input may not be put to the node");
         }
-        let stepped = self.node.step(input)?;
+        let mut register = RegisterServer::new();
+        let mut queue = QueueServer::new(self.alloc);
+        let mut counter = CounterServer::new();
+        let stepped = self.node.step(input, &mut register, &mut queue, &mut counter)?;
         for letter in stepped.letters.as_slice() {
             if letter.to == 2 {
                 self.told = letter.place;
