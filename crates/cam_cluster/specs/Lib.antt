@@ -14,3 +14,5 @@ pub mod Disks
 pub mod AtWork
 pub mod Arrivals
 pub mod FoundHalts
+pub mod Works
+pub mod Puts
