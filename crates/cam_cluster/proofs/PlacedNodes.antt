@@ -1,8 +1,9 @@
 -- A list of nodes of which one has changed, and what may be read from their disks.
-use Rattle.std.proofs.Common.{◌≡◌, ℕ, ◌+◌, ◌-◌, ◌≤◌, ◌<◌, Bool, true, List, length, get_or, set}
+use Rattle.std.proofs.Common.{None, refl}
+use Rattle.std.proofs.Common.{◌≡◌, ℕ, suc, ◌+◌, ◌-◌, ◌≤◌, ◌<◌, Bool, true, List, length, get_or, set}
 use Rattle.std.proofs.Common.{Option, Some, sym, ap, ◌∙◌, subst, arith}
 use Rattle.std.specs.Prelude.{map, slice_get, option_map, IfSome, OnErr, Result, Ok, Err}
-use Rattle.std.proofs.lemmas.List.{get_or-set_same}
+use Rattle.std.proofs.lemmas.List.{get_or-set_same, length-map}
 use Rattle.std.proofs.lemmas.Option.{same_Some, slice_get-map, slice_get-get_or}
 use Rattle.cam_node.specs.Log.{Logged}
 use Rattle.cam_cluster.specs.Works.{MayReadAt}
@@ -33,6 +34,24 @@ asked_there {N} P nodes now place node same within is holds =
     holds_there P nodes place node
     (taken_there nodes place node within
     (is ∙ ap (λ (ns : List N). get_or ns place node) same)) holds
+
+-- what holds of the node that stands at a place, whichever it is
+pub each_there : {N : Type 0} (P : N → Type 0) (nodes : List N) (place : ℕ)
+    → ((node : N) → slice_get nodes place ≡ Some node → P node) → IfSome (slice_get nodes place) P
+each_there {N} P nodes place each = by (slice_get nodes place) refl
+  where
+    by : (o : Option N) → slice_get nodes place ≡ o → IfSome o P
+    by None at = tt
+    by (Some node) at = each node at
+
+-- as many are seen
+pub sees : {N F : Type 0} (f : N → F) (nodes : List N) (place : ℕ) → place < length nodes
+    → place < length (map f nodes)
+sees f nodes place there = subst (λ (n : ℕ). place < n) (sym (length-map nodes f)) there
+
+-- the number of a place
+pub after_is : (place : ℕ) → place + 1 ≡ suc place
+after_is place = omega arith
 
 -- the node that was put there
 pub put_there : {N : Type 0} (nodes : List N) (place : ℕ) (new node : N) → place < length nodes

@@ -16,3 +16,4 @@ pub mod Arrivals
 pub mod FoundHalts
 pub mod Works
 pub mod Puts
+pub mod SoFar

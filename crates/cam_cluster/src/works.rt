@@ -1,9 +1,10 @@
 //! The nodes of a cluster, the letters between them, and what they did. An input is put to one node: its event is added to the
 //! events and its letters are put next, or the node halts.
-ghost use Rattle.std.specs.Prelude.{◌≡◌, ◌+◌, ◌<◌, ◌++◌, ◌∷◌, [], IfOk, IfSome, IsFalse, IsTrue, OnErr, OnOk, length, set, slice_get, true, false, vec_capacity, vec_len};
+ghost use Rattle.std.specs.Prelude.{◌≡◌, ◌+◌, ◌<◌, ◌++◌, ◌∷◌, [], IfOk, IfSome, IsFalse, IsTrue, OnErr, OnOk, length, set, slice_get, suc, true, false, vec_capacity, vec_len};
 ghost use Rattle.cam_event.specs.declared.Mark.TheVariants as marks;
 ghost use Rattle.std.specs.List.{AllByRecursion};
 ghost use Rattle.cam_net.specs.Outbox.{HasPutSome};
+ghost use Rattle.cam_net.specs.Waiting.{is_halted};
 ghost use Rattle.cam_node.specs.Built.{MayStep, is_built};
 ghost use Rattle.cam_node.specs.Calls.{answers};
 ghost use Rattle.cam_wire.specs.Writable.{IsWritable};
@@ -67,6 +68,13 @@ impl<L: CheckpointLog> AsWorks for Works<L> {
 
     ghost may_read = { λ works. MayReadAt (λ node. L.tells node.log.log)
         (λ node. MayRead (L.opens_since node.log.log) (L.moment node.log.log)) works.nodes.items };
+}
+
+/// Whether the node at a place is halted.
+pub(crate) fn is_halted(halted: &[bool], place: usize) -> bool
+    ensures { result ≡ is_halted halted.now (suc place) }
+{
+    halted.get(place).copied().unwrap_or(false)
 }
 
 impl<L: CheckpointLog> Works<L> {
