@@ -154,7 +154,7 @@ impl<L: CheckpointLog> NodeLog<L> {
         ensures says { (r : Recovery) → Says (L.listed self.old.log) r
             → OnOk result (Says (L.listed self.new.log) (with_records r records.now)) }
         ensures runs { OnOk result (IsFalse self.new.halted) }
-        // It halts just where its log has to be opened again.
+        // It halts only where its log has to be opened again.
         ensures broken { IsTrue self.new.halted → IsTrue (L.broken self.new.log) }
         ensures spent { OnOk result
             (SpentFor records.now (L.passes self.old.log) (L.passes self.new.log)) }

@@ -1,5 +1,5 @@
 //! Whether an input may be put to a node now.
-ghost use Rattle.std.specs.Prelude.{◌≡◌, ◌↔◌, IsTrue};
+ghost use Rattle.std.specs.Prelude.{◌≡◌, ◌↔◌, IsTrue, IsFalse};
 ghost use Rattle.cam_event.specs.Runs.{IsNode};
 ghost use Rattle.cam_node.specs.Calls.{answers};
 ghost use Rattle.cam_node.specs.Numbers.{HasFewObjects, HasIndex, HasNumber, MayStep};
@@ -13,8 +13,9 @@ use cam_event::{Body, Request, Want};
 impl<L: CheckpointLog> Node<L> {
     /// What [`Node::step`] wants of an input besides that nothing stands against it
     /// ([`Node::refusal`]): that numbers are left, and for a Prepare that at most 64 objects are
-    /// declared. It takes no memory.
+    /// declared. The node is not halted. It takes no memory.
     pub fn may_step(&self, input: &Input) -> bool
+        requires running { IsFalse self.now.log.halted }
         ensures { IsTrue result ↔ MayStep (answers self.now.core) input.now }
     {
         match input {

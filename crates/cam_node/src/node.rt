@@ -107,9 +107,10 @@ impl<L: CheckpointLog> Node<L> {
         self.log.is_halted()
     }
 
-    /// The value of an object of the node that is handed up past the top.
+    /// The value of an object of the node that is handed up past the top. The node is not halted.
     pub fn value(&self, object: u8) -> Result<State, NoMemory>
-        requires { IsTrue (is_here (answers self.now.core).server.table.site.objects
+        requires running { IsFalse self.now.log.halted }
+        requires here { IsTrue (is_here (answers self.now.core).server.table.site.objects
             (answers self.now.core).server.table.site.node object) }
         ensures { IfOk result (λ state.
             state ≡ settled (answers self.now.core).server.table.site object) }

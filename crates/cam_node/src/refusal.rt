@@ -66,7 +66,8 @@ impl Core {
 impl<L: CheckpointLog> Node<L> {
     /// What stands against an input, if anything does: against a request by the tests of the rule,
     /// the first that holds, where the node is the action's home; and against a query, or telling a
-    /// node. It takes no memory.
+    /// node. It takes no memory. Of a halted node it goes by its parts, which may stand with an
+    /// event that is not told.
     pub fn refusal(&self, input: &Input) -> Option<LineRefusal>
         ensures rule { (objects : List ObjectDecl)
             → IsRefusalOf objects (answers self.now.core) input.now result }
