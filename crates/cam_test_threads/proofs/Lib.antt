@@ -1,2 +1,2 @@
 pub mod Rings
-pub mod Words
+pub mod Remarks

@@ -13,7 +13,8 @@ pub last_of : {E L : Type 0} (journal : TableId) (nodes : ℕ) (seats front : Li
 last_of journal nodes seats front seat new is =
     let long = ap length is in
     let count = new.count in
-    let more : length front + 1 ≡ nodes = omega (arith, long, count, length-append front (seat ∷ [])) in
+    let more : length front + 1 ≡ nodes =
+    omega (arith, long, count, length-append front (seat ∷ [])) in
     let there : slice_get seats (length front) ≡ Some seat =
     ap (λ (s : List (Sitting _ _)). slice_get s (length front)) is ∙ slice_get-end front seat in
     let last = new.each (length front) seat there in (

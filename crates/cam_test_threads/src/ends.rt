@@ -3,10 +3,10 @@ ghost use Rattle.std.specs.Prelude.{◌≡◌, IfSome, IfOk};
 ghost use Rattle.cam_journal.specs.Rule.{IsNode};
 ghost use Rattle.cam_journal.specs.Seats.{AreNew};
 ghost use Rattle.cam_hall.specs.Ending.{HasLetter};
-ghost use Rattle.cam_test_threads.specs.Speaking.{sends, HasWord};
+ghost use Rattle.cam_test_threads.specs.Speaking.{sends, HasRemark};
 
 use crate::ring::last_cell;
-use crate::speaker::{Speaker, Speech, Word};
+use crate::speaker::{Remark, Speaker, Speech};
 use cam_hall::{Ended, Hall, HallFault, Names, Turned, TurnedOf};
 use cam_journal::{CoreFault, Journal, NodeSeat, Seats};
 use std::alloc::Global;
@@ -49,7 +49,7 @@ fn told(answer: Result<Turned<Row>, HallFault>) -> Seen {
 }
 
 /// What a hall leaves in which no worker worked: nodes 1 and 2 are sound, node 3 has a disk that
-/// fails once, and node 4 is out of memory once. Each has one word to speak.
+/// fails once, and node 4 is out of memory once. Each has one remark to speak.
 fn leave<J: Names>(
     alloc: Global,
     journal: Journal<Row>,
@@ -75,21 +75,21 @@ fn turn(ended: &mut Ended<Row>, node: u8, letter: Option<(u64, u32)>) -> Seen
     requires node { IsNode 4 node }
     requires nodes { ended.old.journal.nodes ≡ 4 }
     requires letter { IfSome letter
-        (λ name. HasLetter sends (λ word. word.to) ended.old.seats node name.0 name.1) }
+        (λ name. HasLetter sends (λ remark. remark.to) ended.old.seats node name.0 name.1) }
     ensures { ended.new.journal ≡ ended.old.journal }
 {
     told(ended.turn(node, letter))
 }
 
 /// The number of an event that spoke to a node.
-#[tactic(auto, using(crate::proofs::Words::letter_found))]
-fn word_to(ended: &Ended<Row>, node: u8) -> Option<u64>
+#[tactic(auto, using(crate::proofs::Remarks::letter_found))]
+fn remark_to(ended: &Ended<Row>, node: u8) -> Option<u64>
     ensures { IfSome result
-        (λ number. HasLetter sends (λ word. word.to) ended.now.seats node number 0) }
+        (λ number. HasLetter sends (λ remark. remark.to) ended.now.seats node number 0) }
 {
     let seats = ended.seats();
     for at in 0..seats.len() {
-        if let Some(number) = word_in(&seats[at], node) {
+        if let Some(number) = remark_in(&seats[at], node) {
             return Some(number);
         }
     }
@@ -97,13 +97,13 @@ fn word_to(ended: &Ended<Row>, node: u8) -> Option<u64>
 }
 
 /// The number of an event of a seat that spoke to a node.
-#[tactic(auto, using(crate::proofs::Words::word_found))]
-fn word_in(seat: &NodeSeat<Row>, node: u8) -> Option<u64>
-    ensures { IfSome result (λ number. HasWord seat.now.history node number) }
+#[tactic(auto, using(crate::proofs::Remarks::remark_found))]
+fn remark_in(seat: &NodeSeat<Row>, node: u8) -> Option<u64>
+    ensures { IfSome result (λ number. HasRemark seat.now.history node number) }
 {
     for at in 0..seat.len() {
-        if let Some((number, Speech::Spoken(word))) = seat.get(at) {
-            if word.to == node {
+        if let Some((number, Speech::Spoken(remark))) = seat.get(at) {
+            if remark.to == node {
                 return Some(number);
             }
         }
@@ -120,16 +120,16 @@ fn nodes_of_what_is_left_go_on_by_themselves_and_with_letters(rt: HostRuntime) -
         notes: 0,
         short: false,
     };
-    assert_eq!(rt; word_to(&ended, 2), None);
+    assert_eq!(rt; remark_to(&ended, 2), None);
     assert_eq!(rt; turn(&mut ended, 1, None), did(0));
     assert_eq!(rt; turn(&mut ended, 1, None), Seen::Nothing);
-    let Some(number) = word_to(&ended, 2) else {
-        return Err(Fail::new("no word to node 2"));
+    let Some(number) = remark_to(&ended, 2) else {
+        return Err(Fail::new("no remark to node 2"));
     };
     assert_eq!(rt; number, 0);
     assert_eq!(rt; turn(&mut ended, 2, Some((number, 0))), did(1));
-    let Some(number) = word_to(&ended, 2) else {
-        return Err(Fail::new("no word to node 2"));
+    let Some(number) = remark_to(&ended, 2) else {
+        return Err(Fail::new("no remark to node 2"));
     };
     assert_eq!(rt; turn(&mut ended, 2, Some((number, 0))), Seen::Nothing);
     assert_eq!(rt;
@@ -145,7 +145,7 @@ fn nodes_of_what_is_left_go_on_by_themselves_and_with_letters(rt: HostRuntime) -
     let (journal, _, seats) = ended.into_parts();
     let mut gathered = journal.gather(seats);
     let spoken = |number, to| {
-        Speech::Spoken(Word {
+        Speech::Spoken(Remark {
             number,
             to,
             twice: true,

@@ -3,7 +3,7 @@
 
 mod speaker;
 
-pub use speaker::{Speaker, Speech, Word};
+pub use speaker::{Remark, Speaker, Speech};
 
 #[cfg(test)]
 mod ends;

@@ -3,7 +3,7 @@ ghost use Rattle.std.specs.Prelude.{◌≡◌};
 ghost use Rattle.cam_journal.specs.Seats.{AreNew};
 
 use crate::ring::ring;
-use crate::speaker::{Speaker, Speech, Word};
+use crate::speaker::{Remark, Speaker, Speech};
 use cam_hall::{End, Handled, ItemOf, Names, OpenGate, Served, serve};
 use cam_journal::{Gathered, Journal, Seats};
 use std::alloc::Global;
@@ -65,7 +65,7 @@ fn events_and_letters_of_two_cells_come_in_one_order(rt: HostRuntime) -> Result<
     assert_eq!(rt; seen.last, Handled::Did { number: 2, sent: 2 });
     let mut gathered = seen.gathered;
     let said = |number| {
-        Speech::Spoken(Word {
+        Speech::Spoken(Remark {
             number,
             to: 2,
             twice: true,

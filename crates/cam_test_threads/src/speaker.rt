@@ -9,7 +9,7 @@ use cam_journal::{Core, CoreFault, CoreInput};
 
 /// A number that a node says to the next one.
 #[derive(Clone, Copy, Debug, PartialEq, Eq)]
-pub struct Word {
+pub struct Remark {
     pub number: u64,
     pub to: u8,
     pub twice: bool,
@@ -19,7 +19,7 @@ pub struct Word {
 #[derive(Clone, Copy, Debug, PartialEq, Eq)]
 pub enum Speech {
     /// To the next node.
-    Spoken(Word),
+    Spoken(Remark),
     /// In answer to the letter of an event, at its place. It sends no letter.
     Answer { number: u64, event: u64, place: u32 },
 }
@@ -30,7 +30,7 @@ impl Speech {
         ensures { result ≡ number_in self.now }
     {
         match self {
-            Speech::Spoken(word) => word.number,
+            Speech::Spoken(remark) => remark.number,
             Speech::Answer { number, .. } => *number,
         }
     }
@@ -49,7 +49,7 @@ pub struct Speaker<const FIRST: u32, const STEP: u32> {
 
 impl<const FIRST: u32, const STEP: u32> Speaker<FIRST, STEP> {
     /// A node that has said nothing. It is to speak by itself as often as its share says, and puts
-    /// each word into the mailbox of the next node once, or twice. Its first step that is not idle
+    /// each remark into the mailbox of the next node once, or twice. Its first step that is not idle
     /// may fail.
     pub fn new(node: u8, share: u32, twice: bool, trouble: Option<CoreFault>) -> Self
         ensures node { result.node ≡ node }
@@ -76,7 +76,7 @@ impl<const FIRST: u32, const STEP: u32> Speaker<FIRST, STEP> {
 impl<const FIRST: u32, const STEP: u32> Core for Speaker<FIRST, STEP> {
     type Event = Speech;
 
-    type Letter = Word;
+    type Letter = Remark;
 
     ghost use Rattle.cam_test_threads.specs.Speaking.{names, sends, copies, faults_by, is_idle, Answers, IsLawful, IsReplay};
 
@@ -86,7 +86,7 @@ impl<const FIRST: u32, const STEP: u32> Core for Speaker<FIRST, STEP> {
 
     ghost sends = { sends };
 
-    ghost goes_to = { λ word. word.to };
+    ghost goes_to = { λ remark. remark.to };
 
     ghost copied = { copies };
 
@@ -98,11 +98,11 @@ impl<const FIRST: u32, const STEP: u32> Core for Speaker<FIRST, STEP> {
 
     ghost is_idle = { λ core input. is_idle core.share core.answered input };
 
-    fn step(&mut self, input: CoreInput<Word>) -> Result<Option<Speech>, CoreFault>
+    fn step(&mut self, input: CoreInput<Remark>) -> Result<Option<Speech>, CoreFault>
         requires { CanStep (λ core node history. IsReplay core.node core.said node history) sends
-            (λ word. word.to) (IsLawful FIRST STEP) self.old input }
+            (λ remark. remark.to) (IsLawful FIRST STEP) self.old input }
         ensures step { IsStep (λ core node history. IsReplay core.node core.said node history)
-            names (λ word. word.to) (IsLawful FIRST STEP)
+            names (λ remark. remark.to) (IsLawful FIRST STEP)
             (λ node history input speech. Answers input speech) self.old input self.new result }
         ensures none { IfOk result
             (λ made. IsNone made ↔ IsTrue (is_idle self.old.share self.old.answered input)) }
@@ -120,7 +120,7 @@ impl<const FIRST: u32, const STEP: u32> Core for Speaker<FIRST, STEP> {
         match input {
             CoreInput::Drive => {
                 self.share -= 1;
-                Ok(Some(Speech::Spoken(Word {
+                Ok(Some(Speech::Spoken(Remark {
                     number,
                     to: self.node % 4 + 1,
                     twice: self.twice,
@@ -141,19 +141,19 @@ impl<const FIRST: u32, const STEP: u32> Core for Speaker<FIRST, STEP> {
         }
     }
 
-    fn idle(&self, input: &CoreInput<Word>) -> bool {
+    fn idle(&self, input: &CoreInput<Remark>) -> bool {
         match input {
             CoreInput::Drive => self.share == 0,
             CoreInput::Letter { number, .. } => self.answered == Some(*number),
         }
     }
 
-    fn copies(word: &Word) -> u8 {
-        if word.twice { 2 } else { 1 }
+    fn copies(remark: &Remark) -> u8 {
+        if remark.twice { 2 } else { 1 }
     }
 
-    fn to(word: &Word) -> u8 {
-        word.to
+    fn to(remark: &Remark) -> u8 {
+        remark.to
     }
 
     fn letters(speech: &Speech) -> u32 {
@@ -163,14 +163,14 @@ impl<const FIRST: u32, const STEP: u32> Core for Speaker<FIRST, STEP> {
         }
     }
 
-    fn letter(speech: &Speech, _place: u32) -> Result<Word, NoMemory> {
+    fn letter(speech: &Speech, _place: u32) -> Result<Remark, NoMemory> {
         match speech {
-            Speech::Spoken(word) => Ok(*word),
+            Speech::Spoken(remark) => Ok(*remark),
             Speech::Answer { .. } => unreachable!(),
         }
     }
 
-    fn copy(word: &Word) -> Result<Word, NoMemory> {
-        Ok(*word)
+    fn copy(remark: &Remark) -> Result<Remark, NoMemory> {
+        Ok(*remark)
     }
 }

@@ -85,7 +85,7 @@ fn work<R: Wait, J: Names, G: Gate>(
     }
 }
 
-// How many words each node speaks, and how many events that makes: each word has an answer.
+// How many remarks each node speaks, and how many events that makes: each remark has an answer.
 const SHARE: u32 = 1_250;
 
 const EVENTS: u64 = 10_000;
