@@ -1,17 +1,15 @@
 -- The line `begin`.
 use Rattle.std.proofs.Common.{◌≡◌, ◌-◌, Err, refl, sym, ap, ◌∙◌, subst, arith, rules}
 use Rattle.cam_net.specs.Waiting.{is_halted}
-use Rattle.cam_node.specs.Calls.{answers}
-use Rattle.cam_node.specs.Opened.{MayRead}
 use Rattle.cam_event.specs.Inputs.{Begins}
 use Rattle.cam_script.specs.declared.Act.TheVariants as acts
 use Rattle.cam_cluster.specs.declared.LineFault.TheVariants as line_faults
 use Rattle.cam_cluster.specs.SoFar.{IsLineOfInput}
-use Rattle.cam_cluster.specs.Works.{MayReadAt}
-use Rattle.cam_cluster.proofs.BegunLine.{begin_led, begin_may, begin_refused, begin_wanting}
-use Rattle.cam_cluster.proofs.BegunLine.{begin_within, unput_may_be_written}
+use Rattle.cam_cluster.proofs.AsSeen.{lines_of, part, reads_of}
+use Rattle.cam_cluster.proofs.BeginEnds.{begin_led, begin_may, begin_refused, begin_wanting}
+use Rattle.cam_cluster.proofs.BeginEnds.{begin_within}
+use Rattle.cam_cluster.proofs.BegunLine.{unput_may_be_written}
 use Rattle.cam_cluster.proofs.PlacedNodes.{after_is, each_there, seen_there, sees}
-use Rattle.cam_cluster.proofs.PutWorks.{seen}
 use Rattle.cam_cluster.proofs.lines.Lines.begin.Goals as goal
 
 pub overflow_cast-place : goal.overflow_cast-place
@@ -25,147 +23,38 @@ overflow_sub-place g c =
 pub returns-in_err-refuse : goal.returns-in_err-refuse
 returns-in_err-refuse g c =
     let wants : c.from_residual.result ≡ Err line_faults.NoMemory = search rules in
-    subst (λ r. IsLineOfInput c.args.line (acts.Begin c.args.node) (Begins c.args.node) (record {
-      works = seen (λ node. record {
-        site = record { node = answers node.core; entries = g.L.EntryLog.listed node.log.log };
-        objects = node.objects;
-        halted = node.log.halted;
-      })
-          (λ node. g.L.EntryLog.tells node.log.log)
-          (λ node. MayRead (g.L.EntryLog.opens_since node.log.log) (g.L.EntryLog.moment node.log.log))
-          c.args.self.now.works.nodes.items c.args.self.now.works.outbox c.args.self.now.works.halted c.args.self.now.works.events.items c.args.self.now.works.marks.items;
-      bound = c.args.self.now.bound.items;
-    })
-    (MayReadAt (λ node. g.L.EntryLog.tells node.log.log)
-    (λ node. MayRead (g.L.EntryLog.opens_since node.log.log) (g.L.EntryLog.moment node.log.log))
-    c.args.self.now.works.nodes.items)
-    (record {
-      works = seen (λ node. record {
-        site = record { node = answers node.core; entries = g.L.EntryLog.listed node.log.log };
-        objects = node.objects;
-        halted = node.log.halted;
-      })
-          (λ node. g.L.EntryLog.tells node.log.log)
-          (λ node. MayRead (g.L.EntryLog.opens_since node.log.log) (g.L.EntryLog.moment node.log.log))
-          c.refuse.new.self.works.nodes.items c.refuse.new.self.works.outbox c.refuse.new.self.works.halted c.refuse.new.self.works.events.items c.refuse.new.self.works.marks.items;
-      bound = c.refuse.new.self.bound.items;
-    })
-    (MayReadAt (λ node. g.L.EntryLog.tells node.log.log)
-    (λ node. MayRead (g.L.EntryLog.opens_since node.log.log) (g.L.EntryLog.moment node.log.log))
-    c.refuse.new.self.works.nodes.items) r) (sym wants)
-    (begin_wanting c.args.line (c.args.node - 1) c.args.node (let low = c.requires.low in omega (arith, low)) (record {
-      works = seen (λ node. record {
-        site = record { node = answers node.core; entries = g.L.EntryLog.listed node.log.log };
-        objects = node.objects;
-        halted = node.log.halted;
-      })
-          (λ node. g.L.EntryLog.tells node.log.log)
-          (λ node. MayRead (g.L.EntryLog.opens_since node.log.log) (g.L.EntryLog.moment node.log.log))
-          c.args.self.now.works.nodes.items c.args.self.now.works.outbox c.args.self.now.works.halted c.args.self.now.works.events.items c.args.self.now.works.marks.items;
-      bound = c.args.self.now.bound.items;
-    })
-    (record {
-      works = seen (λ node. record {
-        site = record { node = answers node.core; entries = g.L.EntryLog.listed node.log.log };
-        objects = node.objects;
-        halted = node.log.halted;
-      })
-          (λ node. g.L.EntryLog.tells node.log.log)
-          (λ node. MayRead (g.L.EntryLog.opens_since node.log.log) (g.L.EntryLog.moment node.log.log))
-          c.refuse.new.self.works.nodes.items c.refuse.new.self.works.outbox c.refuse.new.self.works.halted c.refuse.new.self.works.events.items c.refuse.new.self.works.marks.items;
-      bound = c.refuse.new.self.bound.items;
-    })
-    (MayReadAt (λ node. g.L.EntryLog.tells node.log.log)
-    (λ node. MayRead (g.L.EntryLog.opens_since node.log.log) (g.L.EntryLog.moment node.log.log))
-    c.args.self.now.works.nodes.items)
-    (MayReadAt (λ node. g.L.EntryLog.tells node.log.log)
-    (λ node. MayRead (g.L.EntryLog.opens_since node.log.log) (g.L.EntryLog.moment node.log.log))
-    c.refuse.new.self.works.nodes.items)
+    subst (λ r. IsLineOfInput c.args.line (acts.Begin c.args.node) (Begins c.args.node)
+    (lines_of g.L.CheckpointLog g.L.EntryLog c.args.self.now) (reads_of g.L.CheckpointLog g.L.EntryLog c.args.self.now.works)
+    (lines_of g.L.CheckpointLog g.L.EntryLog c.refuse.new.self) (reads_of g.L.CheckpointLog g.L.EntryLog c.refuse.new.self.works) r) (sym wants)
+    (begin_wanting c.args.line (c.args.node - 1) c.args.node (let low = c.requires.low in omega (arith, low))
+    (lines_of g.L.CheckpointLog g.L.EntryLog c.args.self.now) (lines_of g.L.CheckpointLog g.L.EntryLog c.refuse.new.self)
+    (reads_of g.L.CheckpointLog g.L.EntryLog c.args.self.now.works) (reads_of g.L.CheckpointLog g.L.EntryLog c.refuse.new.self.works)
     c.in_err-refuse.ensures.as_before)
 
 pub returns-then-is_halted : goal.returns-then-is_halted
 returns-then-is_halted g c =
-    begin_refused c.args.line (c.args.node - 1) c.args.node (let low = c.requires.low in omega (arith, low)) (record {
-      works = seen (λ node. record {
-        site = record { node = answers node.core; entries = g.L.EntryLog.listed node.log.log };
-        objects = node.objects;
-        halted = node.log.halted;
-      })
-          (λ node. g.L.EntryLog.tells node.log.log)
-          (λ node. MayRead (g.L.EntryLog.opens_since node.log.log) (g.L.EntryLog.moment node.log.log))
-          c.args.self.now.works.nodes.items c.args.self.now.works.outbox c.args.self.now.works.halted c.args.self.now.works.events.items c.args.self.now.works.marks.items;
-      bound = c.args.self.now.bound.items;
-    })
-    (record {
-      works = seen (λ node. record {
-        site = record { node = answers node.core; entries = g.L.EntryLog.listed node.log.log };
-        objects = node.objects;
-        halted = node.log.halted;
-      })
-          (λ node. g.L.EntryLog.tells node.log.log)
-          (λ node. MayRead (g.L.EntryLog.opens_since node.log.log) (g.L.EntryLog.moment node.log.log))
-          c.refuse.new.self.works.nodes.items c.refuse.new.self.works.outbox c.refuse.new.self.works.halted c.refuse.new.self.works.events.items c.refuse.new.self.works.marks.items;
-      bound = c.refuse.new.self.bound.items;
-    })
-    (MayReadAt (λ node. g.L.EntryLog.tells node.log.log)
-    (λ node. MayRead (g.L.EntryLog.opens_since node.log.log) (g.L.EntryLog.moment node.log.log))
-    c.args.self.now.works.nodes.items)
-    (MayReadAt (λ node. g.L.EntryLog.tells node.log.log)
-    (λ node. MayRead (g.L.EntryLog.opens_since node.log.log) (g.L.EntryLog.moment node.log.log))
-    c.refuse.new.self.works.nodes.items)
-    (sees (λ node. record {
-      site = record { node = answers node.core; entries = g.L.EntryLog.listed node.log.log };
-      objects = node.objects;
-      halted = node.log.halted;
-    }) c.args.self.now.works.nodes.items (c.args.node - 1) (let low = c.requires.low in let node = c.requires.node in omega (arith, low, node))) (ap (is_halted c.args.self.now.works.halted) (after_is (c.args.node - 1)) ∙ sym c.is_halted.ensures ∙ c.if-is_halted.true) c.in_ok-refuse.ensures.refused
+    begin_refused c.args.line (c.args.node - 1) c.args.node (let low = c.requires.low in omega (arith, low))
+    (lines_of g.L.CheckpointLog g.L.EntryLog c.args.self.now) (lines_of g.L.CheckpointLog g.L.EntryLog c.refuse.new.self)
+    (reads_of g.L.CheckpointLog g.L.EntryLog c.args.self.now.works) (reads_of g.L.CheckpointLog g.L.EntryLog c.refuse.new.self.works)
+    (sees (part g.L.CheckpointLog g.L.EntryLog) c.args.self.now.works.nodes.items (c.args.node - 1)
+    (let low = c.requires.low in let node = c.requires.node in omega (arith, low, node)))
+    (ap (is_halted c.args.self.now.works.halted) (after_is (c.args.node - 1)) ∙ sym c.is_halted.ensures ∙ c.if-is_halted.true)
+    c.in_ok-refuse.ensures.refused
 
 pub lead-requires-clause-place : goal.lead-requires-clause-place
 lead-requires-clause-place g c =
-    begin_within (record {
-      works = seen (λ node. record {
-        site = record { node = answers node.core; entries = g.L.EntryLog.listed node.log.log };
-        objects = node.objects;
-        halted = node.log.halted;
-      })
-          (λ node. g.L.EntryLog.tells node.log.log)
-          (λ node. MayRead (g.L.EntryLog.opens_since node.log.log) (g.L.EntryLog.moment node.log.log))
-          c.args.self.now.works.nodes.items c.args.self.now.works.outbox c.args.self.now.works.halted c.args.self.now.works.events.items c.args.self.now.works.marks.items;
-      bound = c.args.self.now.bound.items;
-    })
-    (MayReadAt (λ node. g.L.EntryLog.tells node.log.log)
-    (λ node. MayRead (g.L.EntryLog.opens_since node.log.log) (g.L.EntryLog.moment node.log.log))
-    c.args.self.now.works.nodes.items) (c.args.node - 1) c.requires.stand (sees (λ node. record {
-      site = record { node = answers node.core; entries = g.L.EntryLog.listed node.log.log };
-      objects = node.objects;
-      halted = node.log.halted;
-    }) c.args.self.now.works.nodes.items (c.args.node - 1) (let low = c.requires.low in let node = c.requires.node in omega (arith, low, node)))
+    begin_within (lines_of g.L.CheckpointLog g.L.EntryLog c.args.self.now) (reads_of g.L.CheckpointLog g.L.EntryLog c.args.self.now.works) (c.args.node - 1) c.requires.stand
+    (sees (part g.L.CheckpointLog g.L.EntryLog) c.args.self.now.works.nodes.items (c.args.node - 1)
+    (let low = c.requires.low in let node = c.requires.node in omega (arith, low, node)))
 
 pub lead-requires-clause-may : goal.lead-requires-clause-may
 lead-requires-clause-may g c =
     each_there _ c.args.self.now.works.nodes.items (c.args.node - 1) (λ node at.
-    let may = begin_may (record {
-      works = seen (λ node. record {
-        site = record { node = answers node.core; entries = g.L.EntryLog.listed node.log.log };
-        objects = node.objects;
-        halted = node.log.halted;
-      })
-          (λ node. g.L.EntryLog.tells node.log.log)
-          (λ node. MayRead (g.L.EntryLog.opens_since node.log.log) (g.L.EntryLog.moment node.log.log))
-          c.args.self.now.works.nodes.items c.args.self.now.works.outbox c.args.self.now.works.halted c.args.self.now.works.events.items c.args.self.now.works.marks.items;
-      bound = c.args.self.now.bound.items;
-    })
-    (MayReadAt (λ node. g.L.EntryLog.tells node.log.log)
-    (λ node. MayRead (g.L.EntryLog.opens_since node.log.log) (g.L.EntryLog.moment node.log.log))
-    c.args.self.now.works.nodes.items) (c.args.node - 1) c.requires.stand (sees (λ node. record {
-      site = record { node = answers node.core; entries = g.L.EntryLog.listed node.log.log };
-      objects = node.objects;
-      halted = node.log.halted;
-    }) c.args.self.now.works.nodes.items (c.args.node - 1) (let low = c.requires.low in let node = c.requires.node in omega (arith, low, node)))
-    (ap (is_halted c.args.self.now.works.halted) (after_is (c.args.node - 1)) ∙ sym c.is_halted.ensures ∙ c.if-is_halted.false) _ (seen_there (λ node. record {
-      site = record { node = answers node.core; entries = g.L.EntryLog.listed node.log.log };
-      objects = node.objects;
-      halted = node.log.halted;
-    }) c.args.self.now.works.nodes.items (c.args.node - 1) node at) in
+    let may = begin_may (lines_of g.L.CheckpointLog g.L.EntryLog c.args.self.now) (reads_of g.L.CheckpointLog g.L.EntryLog c.args.self.now.works) (c.args.node - 1) c.requires.stand
+    (sees (part g.L.CheckpointLog g.L.EntryLog) c.args.self.now.works.nodes.items (c.args.node - 1)
+    (let low = c.requires.low in let node = c.requires.node in omega (arith, low, node)))
+    (ap (is_halted c.args.self.now.works.halted) (after_is (c.args.node - 1)) ∙ sym c.is_halted.ensures ∙ c.if-is_halted.false) _
+    (seen_there (part g.L.CheckpointLog g.L.EntryLog) c.args.self.now.works.nodes.items (c.args.node - 1) node at) in
     (may.0, refl, may.1))
 
 pub lead-requires-clause-there : goal.lead-requires-clause-there
@@ -179,96 +68,20 @@ lead-requires-clause-writable g c =
 pub returns-in_err-lead : goal.returns-in_err-lead
 returns-in_err-lead g c =
     let wants : c.from_residual-in_err-lead.result ≡ Err line_faults.NoMemory = search rules in
-    subst (λ r. IsLineOfInput c.args.line (acts.Begin c.args.node) (Begins c.args.node) (record {
-      works = seen (λ node. record {
-        site = record { node = answers node.core; entries = g.L.EntryLog.listed node.log.log };
-        objects = node.objects;
-        halted = node.log.halted;
-      })
-          (λ node. g.L.EntryLog.tells node.log.log)
-          (λ node. MayRead (g.L.EntryLog.opens_since node.log.log) (g.L.EntryLog.moment node.log.log))
-          c.args.self.now.works.nodes.items c.args.self.now.works.outbox c.args.self.now.works.halted c.args.self.now.works.events.items c.args.self.now.works.marks.items;
-      bound = c.args.self.now.bound.items;
-    })
-    (MayReadAt (λ node. g.L.EntryLog.tells node.log.log)
-    (λ node. MayRead (g.L.EntryLog.opens_since node.log.log) (g.L.EntryLog.moment node.log.log))
-    c.args.self.now.works.nodes.items)
-    (record {
-      works = seen (λ node. record {
-        site = record { node = answers node.core; entries = g.L.EntryLog.listed node.log.log };
-        objects = node.objects;
-        halted = node.log.halted;
-      })
-          (λ node. g.L.EntryLog.tells node.log.log)
-          (λ node. MayRead (g.L.EntryLog.opens_since node.log.log) (g.L.EntryLog.moment node.log.log))
-          c.lead.new.self.works.nodes.items c.lead.new.self.works.outbox c.lead.new.self.works.halted c.lead.new.self.works.events.items c.lead.new.self.works.marks.items;
-      bound = c.lead.new.self.bound.items;
-    })
-    (MayReadAt (λ node. g.L.EntryLog.tells node.log.log)
-    (λ node. MayRead (g.L.EntryLog.opens_since node.log.log) (g.L.EntryLog.moment node.log.log))
-    c.lead.new.self.works.nodes.items) r) (sym wants)
-    (begin_wanting c.args.line (c.args.node - 1) c.args.node (let low = c.requires.low in omega (arith, low)) (record {
-      works = seen (λ node. record {
-        site = record { node = answers node.core; entries = g.L.EntryLog.listed node.log.log };
-        objects = node.objects;
-        halted = node.log.halted;
-      })
-          (λ node. g.L.EntryLog.tells node.log.log)
-          (λ node. MayRead (g.L.EntryLog.opens_since node.log.log) (g.L.EntryLog.moment node.log.log))
-          c.args.self.now.works.nodes.items c.args.self.now.works.outbox c.args.self.now.works.halted c.args.self.now.works.events.items c.args.self.now.works.marks.items;
-      bound = c.args.self.now.bound.items;
-    })
-    (record {
-      works = seen (λ node. record {
-        site = record { node = answers node.core; entries = g.L.EntryLog.listed node.log.log };
-        objects = node.objects;
-        halted = node.log.halted;
-      })
-          (λ node. g.L.EntryLog.tells node.log.log)
-          (λ node. MayRead (g.L.EntryLog.opens_since node.log.log) (g.L.EntryLog.moment node.log.log))
-          c.lead.new.self.works.nodes.items c.lead.new.self.works.outbox c.lead.new.self.works.halted c.lead.new.self.works.events.items c.lead.new.self.works.marks.items;
-      bound = c.lead.new.self.bound.items;
-    })
-    (MayReadAt (λ node. g.L.EntryLog.tells node.log.log)
-    (λ node. MayRead (g.L.EntryLog.opens_since node.log.log) (g.L.EntryLog.moment node.log.log))
-    c.args.self.now.works.nodes.items)
-    (MayReadAt (λ node. g.L.EntryLog.tells node.log.log)
-    (λ node. MayRead (g.L.EntryLog.opens_since node.log.log) (g.L.EntryLog.moment node.log.log))
-    c.lead.new.self.works.nodes.items)
+    subst (λ r. IsLineOfInput c.args.line (acts.Begin c.args.node) (Begins c.args.node)
+    (lines_of g.L.CheckpointLog g.L.EntryLog c.args.self.now) (reads_of g.L.CheckpointLog g.L.EntryLog c.args.self.now.works)
+    (lines_of g.L.CheckpointLog g.L.EntryLog c.lead.new.self) (reads_of g.L.CheckpointLog g.L.EntryLog c.lead.new.self.works) r) (sym wants)
+    (begin_wanting c.args.line (c.args.node - 1) c.args.node (let low = c.requires.low in omega (arith, low))
+    (lines_of g.L.CheckpointLog g.L.EntryLog c.args.self.now) (lines_of g.L.CheckpointLog g.L.EntryLog c.lead.new.self)
+    (reads_of g.L.CheckpointLog g.L.EntryLog c.args.self.now.works) (reads_of g.L.CheckpointLog g.L.EntryLog c.lead.new.self.works)
     c.in_err-lead.ensures.as_before)
 
 pub returns : goal.returns
 returns g c =
-    begin_led c.args.line (c.args.node - 1) c.args.node (let low = c.requires.low in omega (arith, low)) (record {
-      works = seen (λ node. record {
-        site = record { node = answers node.core; entries = g.L.EntryLog.listed node.log.log };
-        objects = node.objects;
-        halted = node.log.halted;
-      })
-          (λ node. g.L.EntryLog.tells node.log.log)
-          (λ node. MayRead (g.L.EntryLog.opens_since node.log.log) (g.L.EntryLog.moment node.log.log))
-          c.args.self.now.works.nodes.items c.args.self.now.works.outbox c.args.self.now.works.halted c.args.self.now.works.events.items c.args.self.now.works.marks.items;
-      bound = c.args.self.now.bound.items;
-    })
-    (record {
-      works = seen (λ node. record {
-        site = record { node = answers node.core; entries = g.L.EntryLog.listed node.log.log };
-        objects = node.objects;
-        halted = node.log.halted;
-      })
-          (λ node. g.L.EntryLog.tells node.log.log)
-          (λ node. MayRead (g.L.EntryLog.opens_since node.log.log) (g.L.EntryLog.moment node.log.log))
-          c.lead.new.self.works.nodes.items c.lead.new.self.works.outbox c.lead.new.self.works.halted c.lead.new.self.works.events.items c.lead.new.self.works.marks.items;
-      bound = c.lead.new.self.bound.items;
-    })
-    (MayReadAt (λ node. g.L.EntryLog.tells node.log.log)
-    (λ node. MayRead (g.L.EntryLog.opens_since node.log.log) (g.L.EntryLog.moment node.log.log))
-    c.args.self.now.works.nodes.items)
-    (MayReadAt (λ node. g.L.EntryLog.tells node.log.log)
-    (λ node. MayRead (g.L.EntryLog.opens_since node.log.log) (g.L.EntryLog.moment node.log.log))
-    c.lead.new.self.works.nodes.items) c.in_ok-lead.field-0
-    (sees (λ node. record {
-      site = record { node = answers node.core; entries = g.L.EntryLog.listed node.log.log };
-      objects = node.objects;
-      halted = node.log.halted;
-    }) c.args.self.now.works.nodes.items (c.args.node - 1) (let low = c.requires.low in let node = c.requires.node in omega (arith, low, node))) (ap (is_halted c.args.self.now.works.halted) (after_is (c.args.node - 1)) ∙ sym c.is_halted.ensures ∙ c.if-is_halted.false) c.in_ok-lead.ensures.led
+    begin_led c.args.line (c.args.node - 1) c.args.node (let low = c.requires.low in omega (arith, low))
+    (lines_of g.L.CheckpointLog g.L.EntryLog c.args.self.now) (lines_of g.L.CheckpointLog g.L.EntryLog c.lead.new.self)
+    (reads_of g.L.CheckpointLog g.L.EntryLog c.args.self.now.works) (reads_of g.L.CheckpointLog g.L.EntryLog c.lead.new.self.works) c.in_ok-lead.field-0
+    (sees (part g.L.CheckpointLog g.L.EntryLog) c.args.self.now.works.nodes.items (c.args.node - 1)
+    (let low = c.requires.low in let node = c.requires.node in omega (arith, low, node)))
+    (ap (is_halted c.args.self.now.works.halted) (after_is (c.args.node - 1)) ∙ sym c.is_halted.ensures ∙ c.if-is_halted.false)
+    c.in_ok-lead.ensures.led

@@ -3,8 +3,7 @@ use Rattle.std.proofs.Common.{refl, sym, ap, ◌∙◌, subst, arith, rules, ◌
 use Rattle.std.specs.Prelude.{length, vec_len, ◌<◌}
 use Rattle.std.proofs.lemmas.Grind.{common_steps}
 use Rattle.cam_event.specs.declared.Mark.TheVariants as marks
-use Rattle.cam_node.specs.Calls.{answers}
-use Rattle.cam_node.specs.Opened.{MayRead}
+use Rattle.cam_cluster.proofs.AsSeen.{part, reads_at, tells_of}
 use Rattle.cam_cluster.proofs.PlacedNodes.{asked_there, put_there, on_err}
 use Rattle.cam_cluster.proofs.PutWorks.{room_made, seen_as, as_before_in, stood_in, halted_in}
 use Rattle.cam_cluster.proofs.works.Works.put.Goals as goal
@@ -21,13 +20,8 @@ pub returns-in_err-make_room-clause-as_before : goal.returns-in_err-make_room-cl
 returns-in_err-make_room-clause-as_before g c =
     let old = c.args.self.now in
     let mid = c.make_room.new.self in
-    on_err c.from_residual.result _ (room_made (λ node. record {
-      site = record { node = answers node.core; entries = g.L.EntryLog.listed node.log.log };
-      objects = node.objects;
-      halted = node.log.halted;
-    })
-    (λ node. g.L.EntryLog.tells node.log.log)
-    (λ node. MayRead (g.L.EntryLog.opens_since node.log.log) (g.L.EntryLog.moment node.log.log))
+    on_err c.from_residual.result _ (room_made (part g.L.CheckpointLog g.L.EntryLog) (tells_of g.L.CheckpointLog g.L.EntryLog)
+    (reads_at g.L.CheckpointLog g.L.EntryLog)
     old.nodes.items mid.nodes.items old.outbox mid.outbox old.halted mid.halted old.events.items
     mid.events.items old.marks.items mid.marks.items
     (ap (λ v. v.items) c.make_room.ensures.nodes) c.make_room.ensures.some
@@ -78,22 +72,12 @@ returns-then-not-is_halted-clause-as_before g c =
     c.index_mut.ensures.value c.requires.may).0 in
     let runs = sym (ap (λ n. n.log.halted) (put_there mid.nodes.items c.args.place new c.index.result.now (subst (λ n. c.args.place < n) (ap (λ v. length v.items) (sym c.make_room.ensures.nodes)) c.requires.there) c.index.ensures)) ∙ sym c.is_halted.ensures ∙ c.if-not-is_halted.true in
     λ script st is keeps.
-    as_before_in (λ node. record {
-      site = record { node = answers node.core; entries = g.L.EntryLog.listed node.log.log };
-      objects = node.objects;
-      halted = node.log.halted;
-    })
-    (λ node. g.L.EntryLog.tells node.log.log)
-    (λ node. MayRead (g.L.EntryLog.opens_since node.log.log) (g.L.EntryLog.moment node.log.log))
+    as_before_in (part g.L.CheckpointLog g.L.EntryLog) (tells_of g.L.CheckpointLog g.L.EntryLog)
+    (reads_at g.L.CheckpointLog g.L.EntryLog)
     c.args.place mid.nodes.items mid.outbox mid.halted mid.events.items mid.marks.items node new
     (subst (λ n. c.args.place < n) (ap (λ v. length v.items) (sym c.make_room.ensures.nodes)) c.requires.there) c.requires.place c.index_mut.ensures.value _ refl c.step.ensures.objects ran runs (c.in-Err.ensures.same runs) c.in-Err.ensures.not_listed
-    script st is (room_made (λ node. record {
-      site = record { node = answers node.core; entries = g.L.EntryLog.listed node.log.log };
-      objects = node.objects;
-      halted = node.log.halted;
-    })
-    (λ node. g.L.EntryLog.tells node.log.log)
-    (λ node. MayRead (g.L.EntryLog.opens_since node.log.log) (g.L.EntryLog.moment node.log.log))
+    script st is (room_made (part g.L.CheckpointLog g.L.EntryLog) (tells_of g.L.CheckpointLog g.L.EntryLog)
+    (reads_at g.L.CheckpointLog g.L.EntryLog)
     old.nodes.items mid.nodes.items old.outbox mid.outbox old.halted mid.halted old.events.items
     mid.events.items old.marks.items mid.marks.items
     (ap (λ v. v.items) c.make_room.ensures.nodes) c.make_room.ensures.some
@@ -118,36 +102,21 @@ returns-in-Ok-clause-put g c =
     c.index_mut.result.now (ap (λ v. v.items) c.make_room.ensures.nodes) c.requires.there
     c.index_mut.ensures.value c.requires.may).0 in
     λ script st halts restarted is keeps put_so none.
-    seen_as (λ node. record {
-      site = record { node = answers node.core; entries = g.L.EntryLog.listed node.log.log };
-      objects = node.objects;
-      halted = node.log.halted;
-    })
-    (λ node. g.L.EntryLog.tells node.log.log)
-    (λ node. MayRead (g.L.EntryLog.opens_since node.log.log) (g.L.EntryLog.moment node.log.log))
+    seen_as (part g.L.CheckpointLog g.L.EntryLog) (tells_of g.L.CheckpointLog g.L.EntryLog)
+    (reads_at g.L.CheckpointLog g.L.EntryLog)
     script _ end.nodes.items (record { net = mid.outbox.net; unput = c.in-Ok.stepped.letters }) end.outbox
     mid.halted end.halted (mid.events.items ++ c.in-Ok.stepped.event ∷ []) end.events.items
     mid.marks.items end.marks.items c.stand.ensures.outbox c.stand.ensures.halted
     c.stand.ensures.events (ap (λ v. v.items) c.stand.ensures.marks)
-    (stood_in (λ node. record {
-      site = record { node = answers node.core; entries = g.L.EntryLog.listed node.log.log };
-      objects = node.objects;
-      halted = node.log.halted;
-    })
-    (λ node. g.L.EntryLog.tells node.log.log)
-    (λ node. MayRead (g.L.EntryLog.opens_since node.log.log) (g.L.EntryLog.moment node.log.log))
+    (stood_in (part g.L.CheckpointLog g.L.EntryLog) (tells_of g.L.CheckpointLog g.L.EntryLog)
+    (reads_at g.L.CheckpointLog g.L.EntryLog)
     c.args.place mid.nodes.items mid.outbox mid.halted mid.events.items mid.marks.items node new
     (subst (λ n. c.args.place < n) (ap (λ v. length v.items) (sym c.make_room.ensures.nodes)) c.requires.there) c.requires.place c.index_mut.ensures.value end.nodes.items (ap (λ v. v.items) c.stand.ensures.nodes) c.step.ensures.objects
     c.args.line c.args.input.now c.in-Ok.stepped.event c.in-Ok.stepped.letters
     c.in_ok-make_room.ensures.all c.in_ok-make_room.ensures.few (c.in-Ok.ensures.runs ∙ sym ran)
     c.in-Ok.ensures.step c.in-Ok.ensures.keeps c.in-Ok.ensures.letters script st halts restarted is
-    (room_made (λ node. record {
-      site = record { node = answers node.core; entries = g.L.EntryLog.listed node.log.log };
-      objects = node.objects;
-      halted = node.log.halted;
-    })
-    (λ node. g.L.EntryLog.tells node.log.log)
-    (λ node. MayRead (g.L.EntryLog.opens_since node.log.log) (g.L.EntryLog.moment node.log.log))
+    (room_made (part g.L.CheckpointLog g.L.EntryLog) (tells_of g.L.CheckpointLog g.L.EntryLog)
+    (reads_at g.L.CheckpointLog g.L.EntryLog)
     old.nodes.items mid.nodes.items old.outbox mid.outbox old.halted mid.halted old.events.items
     mid.events.items old.marks.items mid.marks.items
     (ap (λ v. v.items) c.make_room.ensures.nodes) c.make_room.ensures.some
@@ -162,36 +131,21 @@ returns-else-not-is_halted-clause-put g c =
     let end = c.halt.new.self in
     let stops = sym (ap (λ n. n.log.halted) (put_there mid.nodes.items c.args.place new c.index.result.now (subst (λ n. c.args.place < n) (ap (λ v. length v.items) (sym c.make_room.ensures.nodes)) c.requires.there) c.index.ensures)) ∙ sym c.is_halted.ensures ∙ c.if-not-is_halted.false in
     λ script st halts restarted is keeps put_so lost.
-    seen_as (λ node. record {
-      site = record { node = answers node.core; entries = g.L.EntryLog.listed node.log.log };
-      objects = node.objects;
-      halted = node.log.halted;
-    })
-    (λ node. g.L.EntryLog.tells node.log.log)
-    (λ node. MayRead (g.L.EntryLog.opens_since node.log.log) (g.L.EntryLog.moment node.log.log))
+    seen_as (part g.L.CheckpointLog g.L.EntryLog) (tells_of g.L.CheckpointLog g.L.EntryLog)
+    (reads_at g.L.CheckpointLog g.L.EntryLog)
     script _ end.nodes.items mid.outbox end.outbox (set mid.halted c.args.place true) end.halted
     mid.events.items end.events.items
     (mid.marks.items ++ marks.Halted c.args.line (c.args.place + 1) false ∷ []) end.marks.items
     c.halt.ensures.outbox c.halt.ensures.halted (ap (λ v. v.items) c.halt.ensures.events)
     c.halt.ensures.marks
-    (halted_in (λ node. record {
-      site = record { node = answers node.core; entries = g.L.EntryLog.listed node.log.log };
-      objects = node.objects;
-      halted = node.log.halted;
-    })
-    (λ node. g.L.EntryLog.tells node.log.log)
-    (λ node. MayRead (g.L.EntryLog.opens_since node.log.log) (g.L.EntryLog.moment node.log.log))
+    (halted_in (part g.L.CheckpointLog g.L.EntryLog) (tells_of g.L.CheckpointLog g.L.EntryLog)
+    (reads_at g.L.CheckpointLog g.L.EntryLog)
     c.args.place mid.nodes.items mid.outbox mid.halted mid.events.items mid.marks.items node new
     (subst (λ n. c.args.place < n) (ap (λ v. length v.items) (sym c.make_room.ensures.nodes)) c.requires.there) c.requires.place c.index_mut.ensures.value end.nodes.items (ap (λ v. v.items) c.halt.ensures.nodes) c.step.ensures.objects
     c.args.line c.args.input.now c.in_ok-make_room.ensures.all stops c.step.ensures.number
     (λ told. c.step.ensures.halt (sym c.step.ensures.tells ∙ told) stops) script st halts restarted is
-    (room_made (λ node. record {
-      site = record { node = answers node.core; entries = g.L.EntryLog.listed node.log.log };
-      objects = node.objects;
-      halted = node.log.halted;
-    })
-    (λ node. g.L.EntryLog.tells node.log.log)
-    (λ node. MayRead (g.L.EntryLog.opens_since node.log.log) (g.L.EntryLog.moment node.log.log))
+    (room_made (part g.L.CheckpointLog g.L.EntryLog) (tells_of g.L.CheckpointLog g.L.EntryLog)
+    (reads_at g.L.CheckpointLog g.L.EntryLog)
     old.nodes.items mid.nodes.items old.outbox mid.outbox old.halted mid.halted old.events.items
     mid.events.items old.marks.items mid.marks.items
     (ap (λ v. v.items) c.make_room.ensures.nodes) c.make_room.ensures.some
