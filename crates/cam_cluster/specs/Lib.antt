@@ -15,5 +15,6 @@ pub mod AtWork
 pub mod Arrivals
 pub mod FoundHalts
 pub mod Works
+pub mod Servers
 pub mod Puts
 pub mod SoFar

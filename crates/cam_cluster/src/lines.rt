@@ -4,14 +4,17 @@ ghost use Rattle.std.specs.Prelude.{◌≡◌, ◌<◌, ◌++◌, ◌∷◌, [],
 ghost use Rattle.std.specs.List.{AllByRecursion};
 ghost use Rattle.cam_event.specs.declared.Deed.{Deed};
 ghost use Rattle.cam_runs.specs.Requests.{asked_in, created_in, newest_deeds};
-ghost use Rattle.cam_node.specs.Built.{MayStep, is_built};
+ghost use Rattle.cam_node.specs.Numbers.{MayStep};
+ghost use Rattle.cam_node.specs.Refused.{IsNotRefused};
 ghost use Rattle.cam_node.specs.Calls.{answers};
 ghost use Rattle.cam_wire.specs.Writable.{IsWritable};
+ghost use Rattle.cam_cluster.specs.Servers.{AreServers};
 ghost use Rattle.cam_cluster.specs.SoFar.{HasLed, HasRefused, IsBinding, KeepsLinesAsBefore, bound_by};
 
 mod begin;
 
 use crate::room::{push_reserved, reserve_one};
+use crate::servers::Servers;
 use crate::works::{AsWorks, Put, Works};
 use cam_base::NoMemory;
 use cam_ckpt::CheckpointLog;
@@ -19,6 +22,7 @@ use cam_event::{Deed, Deeds, Event, LineRefusal, Mark};
 use cam_log::EntryLog;
 use cam_names::Name;
 use cam_node::Input;
+use cam_type::DataType;
 
 /// The works of a cluster, and for each line so far the action that its variable stands for.
 #[derive(Drop)]
@@ -107,10 +111,19 @@ impl<L: CheckpointLog> Lines<L> {
     /// Puts the input of a line to the node at a place, against which nothing stands there, and binds the line's variable. Where
     /// memory runs out the lines are those before.
     #[tactic(none)]
-    pub(crate) fn lead(&mut self, line: u32, place: usize, input: &Input) -> Result<Put, NoMemory>
+    pub(crate) fn lead<R: DataType, Q: DataType, C: DataType>(
+        &mut self,
+        line: u32,
+        place: usize,
+        input: &Input,
+        servers: &mut Servers<R, Q, C>,
+    ) -> Result<Put, NoMemory>
         requires place { place < 8 }
         requires may { IfSome (slice_get self.old.works.nodes.items place) (λ node.
-            IsFalse node.log.halted × IsTrue (is_built input.now) × MayStep (answers node.core) input.now) }
+            IsFalse node.log.halted × IsNotRefused (answers node.core) input.now
+            × MayStep (answers node.core) input.now) }
+        requires servers { AreServers R.kind Q.kind C.kind
+            servers.old.register servers.old.queue servers.old.counter }
         requires there { place < length self.old.works.nodes.items }
         requires writable { AllByRecursion IsWritable self.old.works.outbox.unput }
         ensures led { IfOk result (λ done. HasLed line place input.now
@@ -119,9 +132,11 @@ impl<L: CheckpointLog> Lines<L> {
         ensures as_before { OnErr result (KeepsLinesAsBefore
             (⟦<Lines<L> as AsLines>⟧.fields self.old) (⟦<Lines<L> as AsLines>⟧.may_read self.old)
             (⟦<Lines<L> as AsLines>⟧.fields self.new) (⟦<Lines<L> as AsLines>⟧.may_read self.new)) }
+        ensures servers { AreServers R.kind Q.kind C.kind
+            servers.new.register servers.new.queue servers.new.counter }
     {
         reserve_one(&mut self.bound)?;
-        let done = self.works.put(line, place, input)?;
+        let done = self.works.put(line, place, input, servers)?;
         let binds = bound_after(done, input, self.works.events.as_slice());
         push_reserved(&mut self.bound, &binds);
         Ok(done)

@@ -5,18 +5,22 @@ ghost use Rattle.cam_event.specs.declared.Mark.TheVariants as marks;
 ghost use Rattle.std.specs.List.{AllByRecursion};
 ghost use Rattle.cam_net.specs.Outbox.{HasPutSome};
 ghost use Rattle.cam_net.specs.Waiting.{is_halted};
-ghost use Rattle.cam_node.specs.Built.{MayStep, is_built};
+ghost use Rattle.cam_node.specs.Numbers.{MayStep};
+ghost use Rattle.cam_node.specs.Refused.{IsNotRefused};
 ghost use Rattle.cam_node.specs.Calls.{answers};
 ghost use Rattle.cam_wire.specs.Writable.{IsWritable};
 ghost use Rattle.cam_cluster.specs.Puts.{HasPut, KeepsAsBefore};
+ghost use Rattle.cam_cluster.specs.Servers.{AreServers};
 
 use crate::room::{push_reserved, reserve_one};
+use crate::servers::Servers;
 use cam_base::NoMemory;
 use cam_ckpt::CheckpointLog;
 use cam_event::{Event, Mark};
 use cam_log::EntryLog;
 use cam_net::Outbox;
 use cam_node::{Input, Node, Stepped};
+use cam_type::DataType;
 
 /// How an input ended that was put to a node.
 #[derive(Clone, Copy, Debug)]
@@ -83,10 +87,18 @@ impl<L: CheckpointLog> Works<L> {
     /// Its event stands and its letters are put next; or the node halted, which leaves a mark. Where memory runs out before
     /// that all is as it was, but that letters of the event before may have been put.
     #[tactic(none)]
-    pub(crate) fn put(&mut self, line: u32, place: usize, input: &Input) -> Result<Put, NoMemory>
+    pub(crate) fn put<R: DataType, Q: DataType, C: DataType>(
+        &mut self,
+        line: u32,
+        place: usize,
+        input: &Input,
+        servers: &mut Servers<R, Q, C>,
+    ) -> Result<Put, NoMemory>
         requires place { place < 8 }
         requires may { IfSome (slice_get self.old.nodes.items place) (λ node. IsFalse node.log.halted
-            × IsTrue (is_built input.now) × MayStep (answers node.core) input.now) }
+            × IsNotRefused (answers node.core) input.now × MayStep (answers node.core) input.now) }
+        requires servers { AreServers R.kind Q.kind C.kind
+            servers.old.register servers.old.queue servers.old.counter }
         requires there { place < length self.old.nodes.items }
         requires writable { AllByRecursion IsWritable self.old.outbox.unput }
         ensures put { IfOk result (λ done. HasPut line place input.now
@@ -95,9 +107,16 @@ impl<L: CheckpointLog> Works<L> {
         ensures as_before { OnErr result (KeepsAsBefore
             (⟦<Works<L> as AsWorks>⟧.fields self.old) (⟦<Works<L> as AsWorks>⟧.may_read self.old)
             (⟦<Works<L> as AsWorks>⟧.fields self.new) (⟦<Works<L> as AsWorks>⟧.may_read self.new)) }
+        ensures servers { AreServers R.kind Q.kind C.kind
+            servers.new.register servers.new.queue servers.new.counter }
     {
         self.make_room()?;
-        match self.nodes[place].step(input) {
+        match self.nodes[place].step(
+            input,
+            &mut servers.register,
+            &mut servers.queue,
+            &mut servers.counter,
+        ) {
             Ok(stepped) => {
                 self.stand(stepped);
                 Ok(Put::Stood)

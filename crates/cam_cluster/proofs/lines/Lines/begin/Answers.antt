@@ -1,5 +1,5 @@
 -- The line `begin`.
-use Rattle.std.proofs.Common.{◌≡◌, ◌-◌, Err, refl, sym, ap, ◌∙◌, subst, arith, rules}
+use Rattle.std.proofs.Common.{◌≡◌, ◌-◌, Err, tt, refl, sym, ap, ◌∙◌, subst, arith, rules}
 use Rattle.cam_net.specs.Waiting.{is_halted}
 use Rattle.cam_event.specs.Inputs.{Begins}
 use Rattle.cam_script.specs.declared.Act.TheVariants as acts
@@ -20,8 +20,8 @@ pub overflow_sub-place : goal.overflow_sub-place
 overflow_sub-place g c =
     c.requires.low
 
-pub returns-in_err-refuse : goal.returns-in_err-refuse
-returns-in_err-refuse g c =
+pub returns-in_err-refuse-clause-line : goal.returns-in_err-refuse-clause-line
+returns-in_err-refuse-clause-line g c =
     let wants : c.from_residual.result ≡ Err line_faults.NoMemory = search rules in
     subst (λ r. IsLineOfInput c.args.line (acts.Begin c.args.node) (Begins c.args.node)
     (lines_of g.L.CheckpointLog g.L.EntryLog c.args.self.now) (reads_of g.L.CheckpointLog g.L.EntryLog c.args.self.now.works)
@@ -31,8 +31,8 @@ returns-in_err-refuse g c =
     (reads_of g.L.CheckpointLog g.L.EntryLog c.args.self.now.works) (reads_of g.L.CheckpointLog g.L.EntryLog c.refuse.new.self.works)
     c.in_err-refuse.ensures.as_before)
 
-pub returns-then-is_halted : goal.returns-then-is_halted
-returns-then-is_halted g c =
+pub returns-then-is_halted-clause-line : goal.returns-then-is_halted-clause-line
+returns-then-is_halted-clause-line g c =
     begin_refused c.args.line (c.args.node - 1) c.args.node (let low = c.requires.low in omega (arith, low))
     (lines_of g.L.CheckpointLog g.L.EntryLog c.args.self.now) (lines_of g.L.CheckpointLog g.L.EntryLog c.refuse.new.self)
     (reads_of g.L.CheckpointLog g.L.EntryLog c.args.self.now.works) (reads_of g.L.CheckpointLog g.L.EntryLog c.refuse.new.self.works)
@@ -55,7 +55,7 @@ lead-requires-clause-may g c =
     (let low = c.requires.low in let node = c.requires.node in omega (arith, low, node)))
     (ap (is_halted c.args.self.now.works.halted) (after_is (c.args.node - 1)) ∙ sym c.is_halted.ensures ∙ c.if-is_halted.false) _
     (seen_there (part g.L.CheckpointLog g.L.EntryLog) c.args.self.now.works.nodes.items (c.args.node - 1) node at) in
-    (may.0, refl, may.1))
+    (may.0, tt, may.1))
 
 pub lead-requires-clause-there : goal.lead-requires-clause-there
 lead-requires-clause-there g c =
@@ -65,8 +65,8 @@ pub lead-requires-clause-writable : goal.lead-requires-clause-writable
 lead-requires-clause-writable g c =
     unput_may_be_written _ _ c.requires.stand
 
-pub returns-in_err-lead : goal.returns-in_err-lead
-returns-in_err-lead g c =
+pub returns-in_err-lead-clause-line : goal.returns-in_err-lead-clause-line
+returns-in_err-lead-clause-line g c =
     let wants : c.from_residual-in_err-lead.result ≡ Err line_faults.NoMemory = search rules in
     subst (λ r. IsLineOfInput c.args.line (acts.Begin c.args.node) (Begins c.args.node)
     (lines_of g.L.CheckpointLog g.L.EntryLog c.args.self.now) (reads_of g.L.CheckpointLog g.L.EntryLog c.args.self.now.works)
@@ -76,8 +76,8 @@ returns-in_err-lead g c =
     (reads_of g.L.CheckpointLog g.L.EntryLog c.args.self.now.works) (reads_of g.L.CheckpointLog g.L.EntryLog c.lead.new.self.works)
     c.in_err-lead.ensures.as_before)
 
-pub returns : goal.returns
-returns g c =
+pub returns-clause-line : goal.returns-clause-line
+returns-clause-line g c =
     begin_led c.args.line (c.args.node - 1) c.args.node (let low = c.requires.low in omega (arith, low))
     (lines_of g.L.CheckpointLog g.L.EntryLog c.args.self.now) (lines_of g.L.CheckpointLog g.L.EntryLog c.lead.new.self)
     (reads_of g.L.CheckpointLog g.L.EntryLog c.args.self.now.works) (reads_of g.L.CheckpointLog g.L.EntryLog c.lead.new.self.works) c.in_ok-lead.field-0
@@ -85,3 +85,23 @@ returns g c =
     (let low = c.requires.low in let node = c.requires.node in omega (arith, low, node)))
     (ap (is_halted c.args.self.now.works.halted) (after_is (c.args.node - 1)) ∙ sym c.is_halted.ensures ∙ c.if-is_halted.false)
     c.in_ok-lead.ensures.led
+
+pub lead-requires-clause-servers : goal.lead-requires-clause-servers
+lead-requires-clause-servers g c =
+    c.requires.servers
+
+pub returns-in_err-refuse-clause-servers : goal.returns-in_err-refuse-clause-servers
+returns-in_err-refuse-clause-servers g c =
+    c.requires.servers
+
+pub returns-then-is_halted-clause-servers : goal.returns-then-is_halted-clause-servers
+returns-then-is_halted-clause-servers g c =
+    c.requires.servers
+
+pub returns-in_err-lead-clause-servers : goal.returns-in_err-lead-clause-servers
+returns-in_err-lead-clause-servers g c =
+    c.lead.ensures.servers
+
+pub returns-clause-servers : goal.returns-clause-servers
+returns-clause-servers g c =
+    c.lead.ensures.servers

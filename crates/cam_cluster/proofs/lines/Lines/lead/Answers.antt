@@ -60,3 +60,19 @@ returns-clause-led g c =
     c.as_slice.ensures.value c.bound_after-binds.ensures)
     (c.push_reserved.ensures
     ∙ ap (λ bs. bs ++ c.bound_after-binds.result ∷ []) c.reserve_one.ensures.same)
+
+pub put-requires-clause-servers : goal.put-requires-clause-servers
+put-requires-clause-servers g c =
+    c.requires.servers
+
+pub returns-in_err-reserve_one-clause-servers : goal.returns-in_err-reserve_one-clause-servers
+returns-in_err-reserve_one-clause-servers g c =
+    c.requires.servers
+
+pub returns-in_err-done-clause-servers : goal.returns-in_err-done-clause-servers
+returns-in_err-done-clause-servers g c =
+    c.put.ensures.servers
+
+pub returns-clause-servers : goal.returns-clause-servers
+returns-clause-servers g c =
+    c.put.ensures.servers

@@ -37,8 +37,8 @@ step-requires-clause-running g c =
     c.index_mut.result.now (ap (λ v. v.items) c.make_room.ensures.nodes) c.requires.there
     c.index_mut.ensures.value c.requires.may).0
 
-pub step-requires-clause-built : goal.step-requires-clause-built
-step-requires-clause-built g c =
+pub step-requires-clause-free : goal.step-requires-clause-free
+step-requires-clause-free g c =
     (asked_there _ c.args.self.now.nodes.items c.make_room.new.self.nodes.items c.args.place
     c.index_mut.result.now (ap (λ v. v.items) c.make_room.ensures.nodes) c.requires.there
     c.index_mut.ensures.value c.requires.may).1
@@ -150,3 +150,38 @@ returns-else-not-is_halted-clause-put g c =
     mid.events.items old.marks.items mid.marks.items
     (ap (λ v. v.items) c.make_room.ensures.nodes) c.make_room.ensures.some
     c.make_room.ensures.halted c.make_room.ensures.events c.make_room.ensures.marks script st is keeps) put_so lost)
+
+-- the servers stay of their kinds
+pub step-requires-clause-register : goal.step-requires-clause-register
+step-requires-clause-register g c =
+    c.requires.servers.0
+
+pub step-requires-clause-queue : goal.step-requires-clause-queue
+step-requires-clause-queue g c =
+    c.requires.servers.1
+
+pub step-requires-clause-counter : goal.step-requires-clause-counter
+step-requires-clause-counter g c =
+    c.requires.servers.2
+
+pub returns-in_err-make_room-clause-servers : goal.returns-in_err-make_room-clause-servers
+returns-in_err-make_room-clause-servers g c =
+    c.requires.servers
+
+pub returns-then-not-is_halted-clause-servers : goal.returns-then-not-is_halted-clause-servers
+returns-then-not-is_halted-clause-servers g c =
+    let stays = c.step.ensures in
+    let are = c.requires.servers in
+    (stays.register_stays ∙ are.0, stays.queue_stays ∙ are.1, stays.counter_stays ∙ are.2)
+
+pub returns-in-Ok-clause-servers : goal.returns-in-Ok-clause-servers
+returns-in-Ok-clause-servers g c =
+    let stays = c.step.ensures in
+    let are = c.requires.servers in
+    (stays.register_stays ∙ are.0, stays.queue_stays ∙ are.1, stays.counter_stays ∙ are.2)
+
+pub returns-else-not-is_halted-clause-servers : goal.returns-else-not-is_halted-clause-servers
+returns-else-not-is_halted-clause-servers g c =
+    let stays = c.step.ensures in
+    let are = c.requires.servers in
+    (stays.register_stays ∙ are.0, stays.queue_stays ∙ are.1, stays.counter_stays ∙ are.2)
