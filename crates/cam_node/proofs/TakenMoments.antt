@@ -1,12 +1,11 @@
 -- What a crash at any moment leaves, where a plan is carried out: the history before the event, or
 -- that with what was taken of the event.
-use Rattle.std.proofs.Common.{◌≡◌, ◌⊎◌, inl, inr, ℕ, ◌≤◌, Bool, true, false, List, ◌∷◌, Option, refl, subst, arith}
+use Rattle.std.proofs.Common.{◌≡◌, ◌⊎◌, inl, inr, ℕ, Bool, true, false, List, ◌∷◌, Option, refl, subst, arith}
 use Rattle.cam_type.specs.declared.ObjectDecl.{ObjectDecl}
 use Rattle.cam_know.specs.Knowledge.{Knowledge}
 use Rattle.cam_event.specs.declared.Event.{Event}
 use Rattle.cam_event.specs.Inputs.{Input, Mail}
 use Rattle.cam_event.specs.Loads.{Load}
-use Rattle.cam_event.specs.ByDeltas.{Received}
 use Rattle.cam_log.specs.Moments.{Opened, Grows}
 use Rattle.cam_ckpt.specs.Moments.{IsOldOrNew}
 use Rattle.cam_recman.specs.declared.Recovered.{Recovered}
