@@ -14,3 +14,7 @@ pub mod Disks
 pub mod AtWork
 pub mod Arrivals
 pub mod FoundHalts
+pub mod Works
+pub mod Servers
+pub mod Puts
+pub mod SoFar

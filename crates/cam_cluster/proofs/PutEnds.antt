@@ -1,0 +1,92 @@
+-- How an input ends that is put to a node, by what the node's step says.
+use Rattle.std.proofs.Common.{◌≡◌, ℕ, ◌+◌, ◌≤◌, ◌<◌, Bool, true, false, List, [], ◌∷◌, ◌++◌, length}
+use Rattle.std.proofs.Common.{set, Some, None, subst}
+use Rattle.std.specs.Prelude.{slice_get}
+use Rattle.cam_type.specs.declared.ObjectDecl.{ObjectDecl}
+use Rattle.cam_event.specs.declared.Event.{Event}
+use Rattle.cam_event.specs.declared.Letter.{Letter}
+use Rattle.cam_event.specs.declared.Mark.TheVariants as marks
+use Rattle.cam_node.specs.declared.Input.{Input as NodeInput}
+use Rattle.cam_node.specs.Calls.{input_of, mail_of, load_of, letters_of}
+use Rattle.cam_node.specs.Halting.{IsStepThrough}
+use Rattle.cam_node.specs.Keeping.{IsHalt, KeepsOn}
+use Rattle.cam_node.specs.Log.{Logged}
+use Rattle.cam_runs.specs.Halts.{Halting}
+use Rattle.cam_runs.specs.Standing.{Standing, put}
+use Rattle.cam_script.specs.declared.Script.{Script}
+use Rattle.cam_histories.specs.InputLaws.{held_setting, halt_of}
+use Rattle.cam_cluster.specs.Puts.{IsPutAt}
+use Rattle.cam_cluster.specs.Works.{NodeFields, WorksFields, KeepsRun}
+use Rattle.cam_cluster.proofs.PutNode.{over, number}
+use Rattle.cam_cluster.proofs.PutStands.{stood}
+use Rattle.cam_cluster.proofs.PutHalts.{halted}
+
+module _ (script : Script) (st : Standing) (place : ℕ) (input : NodeInput) (works : WorksFields)
+    (might : ℕ → Logged → Type 0) (old : NodeFields) (keeps : KeepsRun script st works might)
+    (put_so : IsPutAt script st place (input_of (place + 1) input) (mail_of input) (load_of input))
+    (there : slice_get works.nodes place ≡ Some old) (within : place < 8) (halts : Halting)
+    (line : ℕ) (restarted : ℕ → Bool) (new : NodeFields) (may : ℕ → Logged → Type 0)
+    (nodes : List NodeFields) (are : nodes ≡ set works.nodes place new)
+    (objects : new.objects ≡ old.objects)
+    (others : (s : ℕ) (logged : Logged) → 1 ≤ s → (s ≡ place + 1 → ⊥) → may s logged
+    → might s logged) where
+  -- what is said over the node's objects and by its number is said over the script's and by its place
+  by_place : (P : List ObjectDecl → ℕ → Type 0) → P old.objects old.site.node.number
+      → P script.objects (place + 1)
+  by_place P is =
+      subst (λ (xs : List ObjectDecl). P xs (place + 1))
+      (over script st place (input_of (place + 1) input) (mail_of input) (load_of input) works might
+      old keeps put_so there)
+      (subst (λ (s : ℕ). P old.objects s)
+      (number script st place (input_of (place + 1) input) (mail_of input) (load_of input) works
+      might old keeps put_so there) is)
+
+  pub put_stood : (event : Event) (letters : List Letter) → works.outbox.unput ≡ []
+      → length works.events + 1 < 1000000000 → new.halted ≡ old.halted
+      → halt_of (held_setting script.objects halts line restarted) st (input_of (place + 1) input)
+      ≡ None
+      → IsStepThrough old.objects old.site.node new.site.node (input_of old.site.node.number input)
+      (mail_of input) (load_of input) event
+      → KeepsOn old.objects old.site.node old.site.entries new.site.node new.site.entries
+      (input_of old.site.node.number input) (mail_of input) (load_of input) event
+      → letters ≡ letters_of new.site.node event.sent
+      → KeepsRun script
+      (put (held_setting script.objects halts line restarted) st (input_of (place + 1) input))
+      (record {
+        nodes = nodes;
+        outbox = record { net = works.outbox.net; unput = letters };
+        halted = works.halted;
+        events = works.events ++ event ∷ [];
+        marks = works.marks;
+      }) may
+  put_stood event letters none_left few runs none step on sent =
+      stood script st place (input_of (place + 1) input) (mail_of input) (load_of input) works might
+      old keeps put_so there within halts line restarted new may nodes are objects others event
+      letters none_left few runs none
+      (by_place (λ xs s. IsStepThrough xs old.site.node new.site.node (input_of s input)
+      (mail_of input) (load_of input) event) step)
+      (by_place (λ xs s. KeepsOn xs old.site.node old.site.entries new.site.node new.site.entries
+      (input_of s input) (mail_of input) (load_of input) event) on)
+      sent
+
+  pub put_halted : works.outbox.unput ≡ [] → new.halted ≡ true
+      → halt_of (held_setting script.objects halts line restarted) st (input_of (place + 1) input)
+      ≡ Some false
+      → new.site.node.number ≡ old.site.node.number
+      → IsHalt old.objects old.site.node old.site.entries (input_of old.site.node.number input)
+      (mail_of input) (load_of input) (may (place + 1))
+      → KeepsRun script
+      (put (held_setting script.objects halts line restarted) st (input_of (place + 1) input))
+      (record {
+        nodes = nodes;
+        outbox = works.outbox;
+        halted = set works.halted place true;
+        events = works.events;
+        marks = works.marks ++ marks.Halted line (place + 1) false ∷ [];
+      }) may
+  put_halted none_left stops lost same halt =
+      halted script st place (input_of (place + 1) input) (mail_of input) (load_of input) works might
+      old keeps put_so there within halts line restarted new may nodes are objects others none_left
+      stops lost same
+      (by_place (λ xs s. IsHalt xs old.site.node old.site.entries (input_of s input)
+      (mail_of input) (load_of input) (may (place + 1))) halt)

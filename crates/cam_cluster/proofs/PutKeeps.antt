@@ -1,0 +1,160 @@
+-- What the works keep of a run, where letters are put or a node finds no memory.
+use Rattle.std.proofs.Common.{◌≡◌, inl, inr, ℕ, ◌+◌, ◌≤◌, ◌<◌, Bool, true, false}
+use Rattle.std.proofs.Common.{List, length, set, Some}
+use Rattle.std.proofs.Common.{refl, sym, ap, ◌∙◌, subst, arith}
+use Rattle.std.specs.Prelude.{slice_get}
+use Rattle.std.proofs.lemmas.Bool.{true≢false}
+use Rattle.std.proofs.lemmas.Option.{slice_get_within}
+use Rattle.std.proofs.lemmas.List.{length-set, length-reverse}
+use Rattle.cam_type.specs.declared.ObjectDecl.{ObjectDecl}
+use Rattle.cam_event.specs.declared.Event.{Event}
+use Rattle.cam_event.specs.ByDeltas.{Received}
+use Rattle.cam_net.specs.Outbox.{OutboxFields, HasPutSome}
+use Rattle.cam_net.specs.Waiting.{is_halted}
+use Rattle.cam_node.specs.Calls.{AreSame}
+use Rattle.cam_node.specs.Keeping.{KeepsHistory}
+use Rattle.cam_node.specs.Log.{Logged}
+use Rattle.cam_runs.specs.Running.{has_number}
+use Rattle.cam_runs.specs.Standing.{Standing}
+use Rattle.cam_script.specs.declared.Script.{Script}
+use Rattle.cam_script.specs.Law.{IsScript}
+use Rattle.cam_histories.specs.Laws.{history_of}
+use Rattle.cam_histories.specs.Whole.{IsSiteOf, AreSitesOf}
+use Rattle.cam_histories.proofs.ManyPut.{all_may_be_written, some_put_stand}
+use Rattle.cam_histories.proofs.Sites.{site_at, sites_with}
+use Rattle.cam_cluster.specs.Works.{NodeFields, WorksFields, IsLogOfHalted, IsNodeOf, KeepsRun}
+use Rattle.cam_cluster.specs.Works.{sites_of}
+use Rattle.cam_cluster.proofs.SameNode.{same_represents}
+use Rattle.cam_cluster.proofs.WorksNodes.{set_tells, site_there, sites_set}
+
+-- Letters that were to be put next are put.
+pub keeps_as_put : (script : Script) (st : Standing) (works : WorksFields) (now : OutboxFields)
+    (may : ℕ → Logged → Type 0)
+    → IsScript script → HasPutSome works.outbox now → KeepsRun script st works may
+    → KeepsRun script st (record works { outbox = now }) may
+keeps_as_put script st works now may is some keeps = record {
+  under = keeps.under;
+  one_each = keeps.one_each;
+  eight = keeps.eight;
+  nodes = keeps.nodes;
+  whole = record {
+    nodes = keeps.whole.nodes;
+    network =
+        some_put_stand script.objects st works.outbox now works.halted
+        (all_may_be_written script.objects (has_number st.taken) st works.outbox.net
+        works.outbox.unput works.halted keeps.under.run is.object_limit
+        (let few = keeps.few in
+        let long = ap (λ (es : List Event). length es) keeps.events
+        ∙ length-reverse st.running.trace in
+        omega (arith, few, long)) keeps.whole.network).1
+        some keeps.whole.network;
+  };
+  halted_logs = keeps.halted_logs;
+  events = keeps.events;
+  all_marks = keeps.all_marks;
+  few = keeps.few;
+}
+
+-- what is kept of a halted node goes by its history and by what may be read of its disk
+pub logs_moved : (objects : List ObjectDecl) (s : ℕ) (h now : List Received)
+    (might may : Logged → Type 0) → h ≡ now → ((logged : Logged) → may logged → might logged)
+    → IsLogOfHalted objects s h might → IsLogOfHalted objects s now may
+logs_moved objects s h now might may same back log =
+    subst (λ (x : List Received). IsLogOfHalted objects s x may) same
+    (record {
+      halted = log.halted;
+      taken = log.taken;
+      either = λ logged read. log.either logged (back logged read);
+    })
+
+-- One node of works has changed, with its disk alone.
+module _ (script : Script) (st : Standing) (place : ℕ) (works : WorksFields)
+    (might : ℕ → Logged → Type 0) (old : NodeFields) (keeps : KeepsRun script st works might)
+    (there : slice_get works.nodes place ≡ Some old) (new : NodeFields)
+    (may : ℕ → Logged → Type 0) (nodes : List NodeFields) (are : nodes ≡ set works.nodes place new)
+    (objects : new.objects ≡ old.objects)
+    (others : (s : ℕ) (logged : Logged) → 1 ≤ s → (s ≡ place + 1 → ⊥) → may s logged
+    → might s logged) where
+  pub as_many : length nodes ≡ script.nodes
+  as_many = ap (λ (ns : List NodeFields). length ns) are ∙ length-set works.nodes place new
+      ∙ keeps.one_each
+
+  pub sites_are : set (sites_of works.nodes) place new.site ≡ sites_of nodes
+  sites_are = sym (sites_set works.nodes place new) ∙ ap sites_of (sym are)
+
+  pub nodes_are : (halted : List Bool) → new.halted ≡ is_halted halted (place + 1)
+      → ((m : ℕ) → 1 ≤ m → (m ≡ place + 1 → ⊥) → is_halted works.halted m ≡ is_halted halted m)
+      → (q : ℕ) (n : NodeFields) → slice_get nodes q ≡ Some n
+      → IsNodeOf script.objects halted (q + 1) n
+  nodes_are halted here elsewhere q n at =
+      elim (set_tells works.nodes place q new n (slice_get_within works.nodes place old there)
+      (ap (λ (ns : List NodeFields). slice_get ns q) (sym are) ∙ at)) [
+        | inl y ↦ subst (IsNodeOf script.objects halted (q + 1)) y.1 (record {
+          over = objects ∙ (keeps.nodes place old there).over;
+          is_halted = here ∙ ap (λ (p : ℕ). is_halted halted (p + 1)) (sym y.0);
+        })
+        | inr off ↦ record {
+          over = (keeps.nodes q n off.1).over;
+          is_halted =
+              (keeps.nodes q n off.1).is_halted
+              ∙ elsewhere (q + 1) (omega arith) (λ e. off.0 (omega (arith, e)));
+        }
+      ]
+
+  -- It answers as before, and its log lists what it listed.
+  module _ (within : place < 8) (ran : old.halted ≡ false) (runs : new.halted ≡ false)
+      (same : AreSame old.site.node new.site.node)
+      (entries : new.site.entries ≡ old.site.entries) where
+    awake : has_number st.halted (place + 1) ≡ false
+    awake =
+        sym (keeps.whole.network.stands.nodes (place + 1) (omega arith) (omega (arith, within)))
+        ∙ sym (keeps.nodes place old there).is_halted ∙ ran
+
+    off : (m : ℕ) → has_number st.halted m ≡ true → (m ≡ place + 1 → ⊥)
+    off m said e = true≢false (sym said ∙ ap (has_number st.halted) e ∙ awake)
+
+    site_was : IsSiteOf script.objects st (place + 1) old.site
+    site_was =
+        subst (λ (s : ℕ). IsSiteOf script.objects st s old.site) (omega arith)
+        (site_at script.objects st 1 place (sites_of works.nodes) old.site keeps.whole.nodes
+        (site_there works.nodes place old there))
+
+    site_is : IsSiteOf script.objects st (place + 1) new.site
+    site_is = record {
+      number = same.number ∙ site_was.number;
+      stands = λ still. record {
+        represents =
+            same_represents script.objects
+            (history_of script.objects st.running.trace (place + 1)) old.site.node new.site.node
+            same (site_was.stands still).represents;
+        keeps =
+            subst (KeepsHistory script.objects (place + 1)
+            (history_of script.objects st.running.trace (place + 1))) (sym entries)
+            (site_was.stands still).keeps;
+      };
+    }
+
+    pub keeps_as_before : KeepsRun script st (record works { nodes = nodes }) may
+    keeps_as_before = record {
+      under = keeps.under;
+      one_each = as_many;
+      eight = keeps.eight;
+      nodes =
+          nodes_are works.halted
+          (runs ∙ sym ran ∙ (keeps.nodes place old there).is_halted) (λ m low away. refl);
+      whole = record {
+        nodes =
+            subst (AreSitesOf script.objects st 1) sites_are
+            (sites_with script.objects st st (place + 1) new.site site_is (λ m n away is. is) 1
+            place (sites_of works.nodes) (omega arith) keeps.whole.nodes);
+        network = keeps.whole.network;
+      };
+      halted_logs = λ m low high said.
+          logs_moved script.objects m (history_of script.objects st.running.trace m)
+          (history_of script.objects st.running.trace m) (might m) (may m) refl
+          (λ logged read. others m logged low (off m said) read)
+          (keeps.halted_logs m low high said);
+      events = keeps.events;
+      all_marks = keeps.all_marks;
+      few = keeps.few;
+    }

@@ -1,0 +1,129 @@
+-- What an input makes of works, by what each call of theirs leaves of their parts.
+use Rattle.std.proofs.Common.{◌≡◌, ℕ, ◌+◌, ◌≤◌, ◌<◌, Bool, true, false, List, [], ◌∷◌, ◌++◌}
+use Rattle.std.proofs.Common.{length, get_or, set, Some, sym, ap, ◌∙◌, subst}
+use Rattle.std.specs.Prelude.{map, slice_get}
+use Rattle.std.proofs.lemmas.List.{map-set}
+use Rattle.cam_event.specs.declared.Event.{Event}
+use Rattle.cam_event.specs.declared.Letter.{Letter}
+use Rattle.cam_event.specs.declared.Mark.{Mark}
+use Rattle.cam_event.specs.declared.Mark.TheVariants as marks
+use Rattle.cam_net.specs.Outbox.{OutboxFields, HasPutSome}
+use Rattle.cam_node.specs.declared.Input.{Input as NodeInput}
+use Rattle.cam_node.specs.Calls.{input_of, mail_of, load_of, letters_of, AreSame}
+use Rattle.cam_node.specs.Halting.{IsStepThrough}
+use Rattle.cam_node.specs.Keeping.{IsHalt, KeepsOn}
+use Rattle.cam_node.specs.Log.{Logged}
+use Rattle.cam_runs.specs.Standing.{Standing}
+use Rattle.cam_script.specs.declared.Script.{Script}
+use Rattle.cam_cluster.specs.declared.works.Put.TheVariants as puts
+use Rattle.cam_cluster.specs.Puts.{HasPut, KeepsAsBefore}
+use Rattle.cam_cluster.specs.Works.{NodeFields, WorksFields, KeepsRun, MayReadAt}
+use Rattle.cam_cluster.proofs.PlacedNodes.{taken_there, seen_there, reads_elsewhere, reads_there}
+use Rattle.cam_cluster.proofs.PutKeeps.{keeps_as_put, keeps_as_before}
+use Rattle.cam_cluster.proofs.PutEnds.{put_stood, put_halted}
+
+module _ {N : Type 0} (part : N → NodeFields) (tells : N → Bool) (may : N → Logged → Type 0) where
+  abbrev pub seen : List N → OutboxFields → List Bool → List Event → List Mark → WorksFields
+  seen nodes outbox halted events marks = record {
+    nodes = map part nodes;
+    outbox = outbox;
+    halted = halted;
+    events = events;
+    marks = marks;
+  }
+
+  -- room was made: letters were put
+  pub room_made : (nodes now : List N) (o later : OutboxFields) (h halted : List Bool)
+      (e events : List Event) (m marks : List Mark)
+      → now ≡ nodes → HasPutSome o later → halted ≡ h → events ≡ e → marks ≡ m
+      → KeepsAsBefore (seen nodes o h e m) (MayReadAt tells may nodes)
+      (seen now later halted events marks) (MayReadAt tells may now)
+  room_made nodes now o later h halted e events m marks same some is_h is_e is_m script st is keeps =
+      subst (λ (ns : List N). KeepsRun script st (seen ns later halted events marks)
+      (MayReadAt tells may ns)) (sym same)
+      (subst (λ (x : List Bool). KeepsRun script st (seen nodes later x events marks)
+      (MayReadAt tells may nodes)) (sym is_h)
+      (subst (λ (x : List Event). KeepsRun script st (seen nodes later h x marks)
+      (MayReadAt tells may nodes)) (sym is_e)
+      (subst (λ (x : List Mark). KeepsRun script st (seen nodes later h e x)
+      (MayReadAt tells may nodes)) (sym is_m)
+      (keeps_as_put script st (seen nodes o h e m) later (MayReadAt tells may nodes) is some
+      keeps))))
+
+  pub seen_as : (script : Script) (st : Standing) (nodes : List N) (o later : OutboxFields)
+      (h halted : List Bool) (e events : List Event) (m marks : List Mark)
+      → later ≡ o → halted ≡ h → events ≡ e → marks ≡ m
+      → KeepsRun script st (seen nodes o h e m) (MayReadAt tells may nodes)
+      → KeepsRun script st (seen nodes later halted events marks) (MayReadAt tells may nodes)
+  seen_as script st nodes o later h halted e events m marks is_o is_h is_e is_m keeps =
+      subst (λ (x : OutboxFields). KeepsRun script st (seen nodes x halted events marks)
+      (MayReadAt tells may nodes)) (sym is_o)
+      (subst (λ (x : List Bool). KeepsRun script st (seen nodes o x events marks)
+      (MayReadAt tells may nodes)) (sym is_h)
+      (subst (λ (x : List Event). KeepsRun script st (seen nodes o h x marks)
+      (MayReadAt tells may nodes)) (sym is_e)
+      (subst (λ (x : List Mark). KeepsRun script st (seen nodes o h e x)
+      (MayReadAt tells may nodes)) (sym is_m) keeps)))
+
+  -- One of the nodes was asked for a step.
+  module _ (place : ℕ) (nodes : List N) (o : OutboxFields) (h : List Bool) (e : List Event)
+      (m : List Mark) (old new : N) (there : place < length nodes) (within : place < 8)
+      (is_old : old ≡ get_or nodes place old) (now : List N) (set_is : now ≡ set nodes place new)
+      (objects : (part new).objects ≡ (part old).objects) where
+    at : slice_get (map part nodes) place ≡ Some (part old)
+    at = seen_there part nodes place old (taken_there nodes place old there is_old)
+
+    are : map part now ≡ set (map part nodes) place (part new)
+    are = ap (map part) set_is ∙ map-set part nodes place new
+
+    others : (s : ℕ) (logged : Logged) → 1 ≤ s → (s ≡ place + 1 → ⊥)
+        → MayReadAt tells may now s logged → MayReadAt tells may nodes s logged
+    others s logged low away read =
+        reads_elsewhere tells may nodes place new s logged low away
+        (subst (λ (ns : List N). MayReadAt tells may ns s logged) set_is read)
+
+    pub as_before_in : (part old).halted ≡ false → (part new).halted ≡ false
+        → AreSame (part old).site.node (part new).site.node
+        → (part new).site.entries ≡ (part old).site.entries
+        → KeepsAsBefore (seen nodes o h e m) (MayReadAt tells may nodes) (seen now o h e m)
+        (MayReadAt tells may now)
+    as_before_in ran runs same entries script st is keeps =
+        keeps_as_before script st place (seen nodes o h e m) (MayReadAt tells may nodes) (part old)
+        keeps at (part new) (MayReadAt tells may now) (map part now) are objects others within ran
+        runs same entries
+
+    pub stood_in : (line : ℕ) (input : NodeInput) (event : Event) (letters : List Letter)
+        → o.unput ≡ [] → length e + 1 < 1000000000 → (part new).halted ≡ (part old).halted
+        → IsStepThrough (part old).objects (part old).site.node (part new).site.node
+        (input_of (part old).site.node.number input) (mail_of input) (load_of input) event
+        → KeepsOn (part old).objects (part old).site.node (part old).site.entries
+        (part new).site.node (part new).site.entries (input_of (part old).site.node.number input)
+        (mail_of input) (load_of input) event
+        → letters ≡ letters_of (part new).site.node event.sent
+        → HasPut line place input (seen nodes o h e m) (MayReadAt tells may nodes) puts.Stood
+        (seen now (record { net = o.net; unput = letters }) h (e ++ event ∷ []) m)
+        (MayReadAt tells may now)
+    stood_in line input event letters none_left few runs step on sent script st halts restarted is
+        keeps put_so none =
+        put_stood script st place input (seen nodes o h e m) (MayReadAt tells may nodes) (part old)
+        keeps put_so at within halts line restarted (part new) (MayReadAt tells may now)
+        (map part now) are objects others event letters none_left few runs none step on sent
+
+    pub halted_in : (line : ℕ) (input : NodeInput) → o.unput ≡ [] → (part new).halted ≡ true
+        → (part new).site.node.number ≡ (part old).site.node.number
+        → (tells new ≡ true → IsHalt (part old).objects (part old).site.node
+        (part old).site.entries (input_of (part old).site.node.number input) (mail_of input)
+        (load_of input) (may new))
+        → HasPut line place input (seen nodes o h e m) (MayReadAt tells may nodes) puts.Halted
+        (seen now o (set h place true) e (m ++ marks.Halted line (place + 1) false ∷ []))
+        (MayReadAt tells may now)
+    halted_in line input none_left stops same halt script st halts restarted is keeps put_so lost =
+        put_halted script st place input (seen nodes o h e m) (MayReadAt tells may nodes) (part old)
+        keeps put_so at within halts line restarted (part new) (MayReadAt tells may now)
+        (map part now) are objects others none_left stops lost same
+        (record {
+          either = λ history logged node_keeps may_then read.
+              let own = reads_there tells may nodes place new logged there
+              (subst (λ (ns : List N). MayReadAt tells may ns (place + 1) logged) set_is read) in
+              (halt own.0).either history logged node_keeps may_then own.1;
+        })

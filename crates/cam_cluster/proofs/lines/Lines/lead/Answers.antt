@@ -1,0 +1,78 @@
+-- The input of a line is put.
+use Rattle.std.proofs.Common.{ap, ◌∙◌, ◌++◌, ◌∷◌, [], rules, subst}
+use Rattle.cam_cluster.specs.SoFar.{IsBinding}
+use Rattle.cam_cluster.proofs.AsSeen.{reads_of, works_of}
+use Rattle.cam_cluster.proofs.Led.{led_by, unchanged_lines}
+use Rattle.cam_cluster.proofs.PlacedNodes.{on_err}
+use Rattle.cam_cluster.proofs.lines.Lines.lead.Goals as goal
+
+pub returns-in_err-reserve_one-clause-led : goal.returns-in_err-reserve_one-clause-led
+returns-in_err-reserve_one-clause-led g c =
+    search rules
+
+pub returns-in_err-reserve_one-clause-as_before : goal.returns-in_err-reserve_one-clause-as_before
+returns-in_err-reserve_one-clause-as_before g c =
+    on_err c.from_residual.result _
+    (unchanged_lines (works_of g.L.CheckpointLog g.L.EntryLog c.args.self.now.works) (works_of g.L.CheckpointLog g.L.EntryLog c.args.self.now.works)
+    (reads_of g.L.CheckpointLog g.L.EntryLog c.args.self.now.works) (reads_of g.L.CheckpointLog g.L.EntryLog c.args.self.now.works)
+    c.args.self.now.bound.items c.reserve_one.new.list.items (λ script st is keeps. keeps)
+    c.reserve_one.ensures.same)
+
+pub put-requires-clause-place : goal.put-requires-clause-place
+put-requires-clause-place g c =
+    c.requires.place
+
+pub put-requires-clause-may : goal.put-requires-clause-may
+put-requires-clause-may g c =
+    c.requires.may
+
+pub put-requires-clause-there : goal.put-requires-clause-there
+put-requires-clause-there g c =
+    c.requires.there
+
+pub put-requires-clause-writable : goal.put-requires-clause-writable
+put-requires-clause-writable g c =
+    c.requires.writable
+
+pub returns-in_err-done-clause-led : goal.returns-in_err-done-clause-led
+returns-in_err-done-clause-led g c =
+    search rules
+
+pub returns-in_err-done-clause-as_before : goal.returns-in_err-done-clause-as_before
+returns-in_err-done-clause-as_before g c =
+    on_err c.from_residual-in_err-done.result _
+    (unchanged_lines (works_of g.L.CheckpointLog g.L.EntryLog c.args.self.now.works) (works_of g.L.CheckpointLog g.L.EntryLog c.put.new.self)
+    (reads_of g.L.CheckpointLog g.L.EntryLog c.args.self.now.works) (reads_of g.L.CheckpointLog g.L.EntryLog c.put.new.self)
+    c.args.self.now.bound.items c.reserve_one.new.list.items c.in_err-done.ensures.as_before
+    c.reserve_one.ensures.same)
+
+pub push_reserved-requires : goal.push_reserved-requires
+push_reserved-requires g c =
+    c.in_ok-reserve_one.ensures.room
+
+pub returns-clause-led : goal.returns-clause-led
+returns-clause-led g c =
+    led_by c.args.line c.args.place c.args.input.now (works_of g.L.CheckpointLog g.L.EntryLog c.args.self.now.works)
+    (works_of g.L.CheckpointLog g.L.EntryLog c.put.new.self) (reads_of g.L.CheckpointLog g.L.EntryLog c.args.self.now.works)
+    (reads_of g.L.CheckpointLog g.L.EntryLog c.put.new.self) c.args.self.now.bound.items c.push_reserved.new.list.items
+    c.bound_after-binds.result c.in_ok-done.done c.in_ok-done.ensures.put
+    (subst (λ es. IsBinding c.args.input.now es c.in_ok-done.done c.bound_after-binds.result)
+    c.as_slice.ensures.value c.bound_after-binds.ensures)
+    (c.push_reserved.ensures
+    ∙ ap (λ bs. bs ++ c.bound_after-binds.result ∷ []) c.reserve_one.ensures.same)
+
+pub put-requires-clause-servers : goal.put-requires-clause-servers
+put-requires-clause-servers g c =
+    c.requires.servers
+
+pub returns-in_err-reserve_one-clause-servers : goal.returns-in_err-reserve_one-clause-servers
+returns-in_err-reserve_one-clause-servers g c =
+    c.requires.servers
+
+pub returns-in_err-done-clause-servers : goal.returns-in_err-done-clause-servers
+returns-in_err-done-clause-servers g c =
+    c.put.ensures.servers
+
+pub returns-clause-servers : goal.returns-clause-servers
+returns-clause-servers g c =
+    c.put.ensures.servers

@@ -1,0 +1,47 @@
+-- A line is refused.
+use Rattle.std.proofs.Common.{refl, ap, ◌∙◌, ◌++◌, ◌∷◌, [], None, rules}
+use Rattle.cam_event.specs.declared.Mark.TheVariants as marks
+use Rattle.cam_cluster.proofs.AsSeen.{reads_of, works_of}
+use Rattle.cam_cluster.proofs.Led.{refused_by, same_works, unchanged_lines}
+use Rattle.cam_cluster.proofs.PlacedNodes.{on_err}
+use Rattle.cam_cluster.proofs.lines.Lines.refuse.Goals as goal
+
+pub returns-in_err-reserve_one-clause-refused : goal.returns-in_err-reserve_one-clause-refused
+returns-in_err-reserve_one-clause-refused g c =
+    search rules
+
+pub returns-in_err-reserve_one-clause-as_before : goal.returns-in_err-reserve_one-clause-as_before
+returns-in_err-reserve_one-clause-as_before g c =
+    on_err c.from_residual.result _
+    (unchanged_lines (works_of g.L.CheckpointLog g.L.EntryLog c.args.self.now.works)
+    (record (works_of g.L.CheckpointLog g.L.EntryLog c.args.self.now.works) { marks = c.reserve_one.new.list.items }) (reads_of g.L.CheckpointLog g.L.EntryLog c.args.self.now.works)
+    (reads_of g.L.CheckpointLog g.L.EntryLog c.args.self.now.works) c.args.self.now.bound.items c.args.self.now.bound.items
+    (same_works (works_of g.L.CheckpointLog g.L.EntryLog c.args.self.now.works) c.reserve_one.new.list.items (reads_of g.L.CheckpointLog g.L.EntryLog c.args.self.now.works) c.reserve_one.ensures.same) refl)
+
+pub returns-in_err-reserve_one-2-clause-refused : goal.returns-in_err-reserve_one-2-clause-refused
+returns-in_err-reserve_one-2-clause-refused g c =
+    search rules
+
+pub returns-in_err-reserve_one-2-clause-as_before : goal.returns-in_err-reserve_one-2-clause-as_before
+returns-in_err-reserve_one-2-clause-as_before g c =
+    on_err c.from_residual-in_err-reserve_one-2.result _
+    (unchanged_lines (works_of g.L.CheckpointLog g.L.EntryLog c.args.self.now.works)
+    (record (works_of g.L.CheckpointLog g.L.EntryLog c.args.self.now.works) { marks = c.reserve_one.new.list.items }) (reads_of g.L.CheckpointLog g.L.EntryLog c.args.self.now.works)
+    (reads_of g.L.CheckpointLog g.L.EntryLog c.args.self.now.works) c.args.self.now.bound.items c.reserve_one-2.new.list.items
+    (same_works (works_of g.L.CheckpointLog g.L.EntryLog c.args.self.now.works) c.reserve_one.new.list.items (reads_of g.L.CheckpointLog g.L.EntryLog c.args.self.now.works) c.reserve_one.ensures.same) c.reserve_one-2.ensures.same)
+
+pub push_reserved-requires : goal.push_reserved-requires
+push_reserved-requires g c =
+    c.in_ok-reserve_one.ensures.room
+
+pub push_reserved-requires-2 : goal.push_reserved-requires-2
+push_reserved-requires-2 g c =
+    c.in_ok-reserve_one-2.ensures.room
+
+pub returns-clause-refused : goal.returns-clause-refused
+returns-clause-refused g c =
+    refused_by c.args.line c.args.refusal (works_of g.L.CheckpointLog g.L.EntryLog c.args.self.now.works) c.push_reserved.new.list.items
+    (reads_of g.L.CheckpointLog g.L.EntryLog c.args.self.now.works) c.args.self.now.bound.items c.push_reserved-2.new.list.items
+    (c.push_reserved.ensures
+    ∙ ap (λ ms. ms ++ marks.Refused c.args.line c.args.refusal ∷ []) c.reserve_one.ensures.same)
+    (c.push_reserved-2.ensures ∙ ap (λ bs. bs ++ None ∷ []) c.reserve_one-2.ensures.same)

@@ -1,0 +1,187 @@
+-- An input is put to a node.
+use Rattle.std.proofs.Common.{refl, sym, ap, ◌∙◌, subst, arith, rules, ◌+◌, ◌++◌, ◌∷◌, [], set, true, false}
+use Rattle.std.specs.Prelude.{length, vec_len, ◌<◌}
+use Rattle.std.proofs.lemmas.Grind.{common_steps}
+use Rattle.cam_event.specs.declared.Mark.TheVariants as marks
+use Rattle.cam_cluster.proofs.AsSeen.{part, reads_at, tells_of}
+use Rattle.cam_cluster.proofs.PlacedNodes.{asked_there, put_there, on_err}
+use Rattle.cam_cluster.proofs.PutWorks.{room_made, seen_as, as_before_in, stood_in, halted_in}
+use Rattle.cam_cluster.proofs.works.Works.put.Goals as goal
+
+pub make_room-requires : goal.make_room-requires
+make_room-requires g c =
+    c.requires.writable
+
+pub returns-in_err-make_room-clause-put : goal.returns-in_err-make_room-clause-put
+returns-in_err-make_room-clause-put g c =
+    search rules
+
+pub returns-in_err-make_room-clause-as_before : goal.returns-in_err-make_room-clause-as_before
+returns-in_err-make_room-clause-as_before g c =
+    let old = c.args.self.now in
+    let mid = c.make_room.new.self in
+    on_err c.from_residual.result _ (room_made (part g.L.CheckpointLog g.L.EntryLog) (tells_of g.L.CheckpointLog g.L.EntryLog)
+    (reads_at g.L.CheckpointLog g.L.EntryLog)
+    old.nodes.items mid.nodes.items old.outbox mid.outbox old.halted mid.halted old.events.items
+    mid.events.items old.marks.items mid.marks.items
+    (ap (λ v. v.items) c.make_room.ensures.nodes) c.make_room.ensures.some
+    c.make_room.ensures.halted c.make_room.ensures.events c.make_room.ensures.marks)
+
+pub index_mut-requires : goal.index_mut-requires
+index_mut-requires g c =
+    subst (λ v. c.args.place < vec_len v) (sym c.make_room.ensures.nodes) (first_of (search rules, grind (arith, common_steps, c.requires.there)))
+
+pub step-requires-clause-running : goal.step-requires-clause-running
+step-requires-clause-running g c =
+    (asked_there _ c.args.self.now.nodes.items c.make_room.new.self.nodes.items c.args.place
+    c.index_mut.result.now (ap (λ v. v.items) c.make_room.ensures.nodes) c.requires.there
+    c.index_mut.ensures.value c.requires.may).0
+
+pub step-requires-clause-free : goal.step-requires-clause-free
+step-requires-clause-free g c =
+    (asked_there _ c.args.self.now.nodes.items c.make_room.new.self.nodes.items c.args.place
+    c.index_mut.result.now (ap (λ v. v.items) c.make_room.ensures.nodes) c.requires.there
+    c.index_mut.ensures.value c.requires.may).1
+
+pub step-requires-clause-may : goal.step-requires-clause-may
+step-requires-clause-may g c =
+    (asked_there _ c.args.self.now.nodes.items c.make_room.new.self.nodes.items c.args.place
+    c.index_mut.result.now (ap (λ v. v.items) c.make_room.ensures.nodes) c.requires.there
+    c.index_mut.ensures.value c.requires.may).2
+
+pub stand-requires-clause-room : goal.stand-requires-clause-room
+stand-requires-clause-room g c =
+    c.in_ok-make_room.ensures.event_room
+
+pub stand-requires-clause-none : goal.stand-requires-clause-none
+stand-requires-clause-none g c =
+    c.in_ok-make_room.ensures.all
+
+pub index-requires : goal.index-requires
+index-requires g c =
+    subst (λ v. c.args.place < vec_len v) (sym c.make_room.ensures.nodes) (first_of (search rules, grind (arith, common_steps, c.requires.there)))
+
+pub returns-then-not-is_halted-clause-as_before : goal.returns-then-not-is_halted-clause-as_before
+returns-then-not-is_halted-clause-as_before g c =
+    let old = c.args.self.now in
+    let mid = c.make_room.new.self in
+    let node = c.index_mut.result.now in
+    let new = c.step.new.self in
+    let ran = (asked_there _ c.args.self.now.nodes.items c.make_room.new.self.nodes.items c.args.place
+    c.index_mut.result.now (ap (λ v. v.items) c.make_room.ensures.nodes) c.requires.there
+    c.index_mut.ensures.value c.requires.may).0 in
+    let runs = sym (ap (λ n. n.log.halted) (put_there mid.nodes.items c.args.place new c.index.result.now (subst (λ n. c.args.place < n) (ap (λ v. length v.items) (sym c.make_room.ensures.nodes)) c.requires.there) c.index.ensures)) ∙ sym c.is_halted.ensures ∙ c.if-not-is_halted.true in
+    λ script st is keeps.
+    as_before_in (part g.L.CheckpointLog g.L.EntryLog) (tells_of g.L.CheckpointLog g.L.EntryLog)
+    (reads_at g.L.CheckpointLog g.L.EntryLog)
+    c.args.place mid.nodes.items mid.outbox mid.halted mid.events.items mid.marks.items node new
+    (subst (λ n. c.args.place < n) (ap (λ v. length v.items) (sym c.make_room.ensures.nodes)) c.requires.there) c.requires.place c.index_mut.ensures.value _ refl c.step.ensures.objects ran runs (c.in-Err.ensures.same runs) c.in-Err.ensures.not_listed
+    script st is (room_made (part g.L.CheckpointLog g.L.EntryLog) (tells_of g.L.CheckpointLog g.L.EntryLog)
+    (reads_at g.L.CheckpointLog g.L.EntryLog)
+    old.nodes.items mid.nodes.items old.outbox mid.outbox old.halted mid.halted old.events.items
+    mid.events.items old.marks.items mid.marks.items
+    (ap (λ v. v.items) c.make_room.ensures.nodes) c.make_room.ensures.some
+    c.make_room.ensures.halted c.make_room.ensures.events c.make_room.ensures.marks script st is keeps)
+
+pub halt-requires-clause-place : goal.halt-requires-clause-place
+halt-requires-clause-place g c =
+    c.requires.place
+
+pub halt-requires-clause-room : goal.halt-requires-clause-room
+halt-requires-clause-room g c =
+    c.in_ok-make_room.ensures.mark_room
+
+pub returns-in-Ok-clause-put : goal.returns-in-Ok-clause-put
+returns-in-Ok-clause-put g c =
+    let old = c.args.self.now in
+    let mid = c.make_room.new.self in
+    let node = c.index_mut.result.now in
+    let new = c.step.new.self in
+    let end = c.stand.new.self in
+    let ran = (asked_there _ c.args.self.now.nodes.items c.make_room.new.self.nodes.items c.args.place
+    c.index_mut.result.now (ap (λ v. v.items) c.make_room.ensures.nodes) c.requires.there
+    c.index_mut.ensures.value c.requires.may).0 in
+    λ script st halts restarted is keeps put_so none.
+    seen_as (part g.L.CheckpointLog g.L.EntryLog) (tells_of g.L.CheckpointLog g.L.EntryLog)
+    (reads_at g.L.CheckpointLog g.L.EntryLog)
+    script _ end.nodes.items (record { net = mid.outbox.net; unput = c.in-Ok.stepped.letters }) end.outbox
+    mid.halted end.halted (mid.events.items ++ c.in-Ok.stepped.event ∷ []) end.events.items
+    mid.marks.items end.marks.items c.stand.ensures.outbox c.stand.ensures.halted
+    c.stand.ensures.events (ap (λ v. v.items) c.stand.ensures.marks)
+    (stood_in (part g.L.CheckpointLog g.L.EntryLog) (tells_of g.L.CheckpointLog g.L.EntryLog)
+    (reads_at g.L.CheckpointLog g.L.EntryLog)
+    c.args.place mid.nodes.items mid.outbox mid.halted mid.events.items mid.marks.items node new
+    (subst (λ n. c.args.place < n) (ap (λ v. length v.items) (sym c.make_room.ensures.nodes)) c.requires.there) c.requires.place c.index_mut.ensures.value end.nodes.items (ap (λ v. v.items) c.stand.ensures.nodes) c.step.ensures.objects
+    c.args.line c.args.input.now c.in-Ok.stepped.event c.in-Ok.stepped.letters
+    c.in_ok-make_room.ensures.all c.in_ok-make_room.ensures.few (c.in-Ok.ensures.runs ∙ sym ran)
+    c.in-Ok.ensures.step c.in-Ok.ensures.keeps c.in-Ok.ensures.letters script st halts restarted is
+    (room_made (part g.L.CheckpointLog g.L.EntryLog) (tells_of g.L.CheckpointLog g.L.EntryLog)
+    (reads_at g.L.CheckpointLog g.L.EntryLog)
+    old.nodes.items mid.nodes.items old.outbox mid.outbox old.halted mid.halted old.events.items
+    mid.events.items old.marks.items mid.marks.items
+    (ap (λ v. v.items) c.make_room.ensures.nodes) c.make_room.ensures.some
+    c.make_room.ensures.halted c.make_room.ensures.events c.make_room.ensures.marks script st is keeps) put_so none)
+
+pub returns-else-not-is_halted-clause-put : goal.returns-else-not-is_halted-clause-put
+returns-else-not-is_halted-clause-put g c =
+    let old = c.args.self.now in
+    let mid = c.make_room.new.self in
+    let node = c.index_mut.result.now in
+    let new = c.step.new.self in
+    let end = c.halt.new.self in
+    let stops = sym (ap (λ n. n.log.halted) (put_there mid.nodes.items c.args.place new c.index.result.now (subst (λ n. c.args.place < n) (ap (λ v. length v.items) (sym c.make_room.ensures.nodes)) c.requires.there) c.index.ensures)) ∙ sym c.is_halted.ensures ∙ c.if-not-is_halted.false in
+    λ script st halts restarted is keeps put_so lost.
+    seen_as (part g.L.CheckpointLog g.L.EntryLog) (tells_of g.L.CheckpointLog g.L.EntryLog)
+    (reads_at g.L.CheckpointLog g.L.EntryLog)
+    script _ end.nodes.items mid.outbox end.outbox (set mid.halted c.args.place true) end.halted
+    mid.events.items end.events.items
+    (mid.marks.items ++ marks.Halted c.args.line (c.args.place + 1) false ∷ []) end.marks.items
+    c.halt.ensures.outbox c.halt.ensures.halted (ap (λ v. v.items) c.halt.ensures.events)
+    c.halt.ensures.marks
+    (halted_in (part g.L.CheckpointLog g.L.EntryLog) (tells_of g.L.CheckpointLog g.L.EntryLog)
+    (reads_at g.L.CheckpointLog g.L.EntryLog)
+    c.args.place mid.nodes.items mid.outbox mid.halted mid.events.items mid.marks.items node new
+    (subst (λ n. c.args.place < n) (ap (λ v. length v.items) (sym c.make_room.ensures.nodes)) c.requires.there) c.requires.place c.index_mut.ensures.value end.nodes.items (ap (λ v. v.items) c.halt.ensures.nodes) c.step.ensures.objects
+    c.args.line c.args.input.now c.in_ok-make_room.ensures.all stops c.step.ensures.number
+    (λ told. c.step.ensures.halt (sym c.step.ensures.tells ∙ told) stops) script st halts restarted is
+    (room_made (part g.L.CheckpointLog g.L.EntryLog) (tells_of g.L.CheckpointLog g.L.EntryLog)
+    (reads_at g.L.CheckpointLog g.L.EntryLog)
+    old.nodes.items mid.nodes.items old.outbox mid.outbox old.halted mid.halted old.events.items
+    mid.events.items old.marks.items mid.marks.items
+    (ap (λ v. v.items) c.make_room.ensures.nodes) c.make_room.ensures.some
+    c.make_room.ensures.halted c.make_room.ensures.events c.make_room.ensures.marks script st is keeps) put_so lost)
+
+-- the servers stay of their kinds
+pub step-requires-clause-register : goal.step-requires-clause-register
+step-requires-clause-register g c =
+    c.requires.servers.0
+
+pub step-requires-clause-queue : goal.step-requires-clause-queue
+step-requires-clause-queue g c =
+    c.requires.servers.1
+
+pub step-requires-clause-counter : goal.step-requires-clause-counter
+step-requires-clause-counter g c =
+    c.requires.servers.2
+
+pub returns-in_err-make_room-clause-servers : goal.returns-in_err-make_room-clause-servers
+returns-in_err-make_room-clause-servers g c =
+    c.requires.servers
+
+pub returns-then-not-is_halted-clause-servers : goal.returns-then-not-is_halted-clause-servers
+returns-then-not-is_halted-clause-servers g c =
+    let stays = c.step.ensures in
+    let are = c.requires.servers in
+    (stays.register_stays ∙ are.0, stays.queue_stays ∙ are.1, stays.counter_stays ∙ are.2)
+
+pub returns-in-Ok-clause-servers : goal.returns-in-Ok-clause-servers
+returns-in-Ok-clause-servers g c =
+    let stays = c.step.ensures in
+    let are = c.requires.servers in
+    (stays.register_stays ∙ are.0, stays.queue_stays ∙ are.1, stays.counter_stays ∙ are.2)
+
+pub returns-else-not-is_halted-clause-servers : goal.returns-else-not-is_halted-clause-servers
+returns-else-not-is_halted-clause-servers g c =
+    let stays = c.step.ensures in
+    let are = c.requires.servers in
+    (stays.register_stays ∙ are.0, stays.queue_stays ∙ are.1, stays.counter_stays ∙ are.2)

@@ -1,0 +1,192 @@
+//! The nodes of a cluster, the letters between them, and what they did. An input is put to one node: its event is added to the
+//! events and its letters are put next, or the node halts.
+ghost use Rattle.std.specs.Prelude.{◌≡◌, ◌+◌, ◌<◌, ◌++◌, ◌∷◌, [], IfOk, IfSome, IsFalse, IsTrue, OnErr, OnOk, length, set, slice_get, suc, true, false, vec_capacity, vec_len};
+ghost use Rattle.cam_event.specs.declared.Mark.TheVariants as marks;
+ghost use Rattle.std.specs.List.{AllByRecursion};
+ghost use Rattle.cam_net.specs.Outbox.{HasPutSome};
+ghost use Rattle.cam_net.specs.Waiting.{is_halted};
+ghost use Rattle.cam_node.specs.Numbers.{MayStep};
+ghost use Rattle.cam_node.specs.Refused.{IsNotRefused};
+ghost use Rattle.cam_node.specs.Calls.{answers};
+ghost use Rattle.cam_wire.specs.Writable.{IsWritable};
+ghost use Rattle.cam_cluster.specs.Puts.{HasPut, KeepsAsBefore};
+ghost use Rattle.cam_cluster.specs.Servers.{AreServers};
+
+use crate::room::{push_reserved, reserve_one};
+use crate::servers::Servers;
+use cam_base::NoMemory;
+use cam_ckpt::CheckpointLog;
+use cam_event::{Event, Mark};
+use cam_log::EntryLog;
+use cam_net::Outbox;
+use cam_node::{Input, Node, Stepped};
+use cam_type::DataType;
+
+/// How an input ended that was put to a node.
+#[derive(Clone, Copy, Debug)]
+pub(crate) enum Put {
+    /// Its event stands.
+    Stood,
+    /// The node halted. What its disk has of the event is read when it restarts.
+    Halted,
+}
+
+/// The nodes in order, the letters between them, which of the eight nodes are halted, and the events and marks so far.
+#[derive(Drop)]
+pub(crate) struct Works<L: CheckpointLog> {
+    pub(crate) nodes: Vec<Node<L>>,
+    pub(crate) outbox: Outbox,
+    pub(crate) halted: [bool; 8],
+    pub(crate) events: Vec<Event>,
+    pub(crate) marks: Vec<Mark>,
+}
+
+/// What contracts see of works.
+pub(crate) trait AsWorks {
+    ghost use Rattle.std.specs.Prelude.{ℕ};
+    ghost use Rattle.cam_node.specs.Log.{Logged};
+    ghost use Rattle.cam_cluster.specs.Works.{WorksFields};
+
+    ghost fields: { Self → WorksFields };
+
+    ghost may_read: { Self → ℕ → Logged → Type 0 };
+}
+
+impl<L: CheckpointLog> AsWorks for Works<L> {
+    ghost use Rattle.std.specs.Prelude.{map};
+    ghost use Rattle.cam_node.specs.Calls.{answers};
+    ghost use Rattle.cam_node.specs.Opened.{MayRead};
+    ghost use Rattle.cam_cluster.specs.Works.{MayReadAt};
+
+    ghost fields = { λ works. record {
+      nodes = map (λ node. record {
+        site = record { node = answers node.core; entries = L.listed node.log.log };
+        objects = node.objects;
+        halted = node.log.halted;
+      }) works.nodes.items;
+      outbox = works.outbox;
+      halted = works.halted;
+      events = works.events.items;
+      marks = works.marks.items;
+    } };
+
+    ghost may_read = { λ works. MayReadAt (λ node. L.tells node.log.log)
+        (λ node. MayRead (L.opens_since node.log.log) (L.moment node.log.log)) works.nodes.items };
+}
+
+/// Whether the node at a place is halted.
+pub(crate) fn is_halted(halted: &[bool], place: usize) -> bool
+    ensures { result ≡ is_halted halted.now (suc place) }
+{
+    halted.get(place).copied().unwrap_or(false)
+}
+
+impl<L: CheckpointLog> Works<L> {
+    /// Puts an input to the node at a place, against which nothing stands there.
+    ///
+    /// Its event stands and its letters are put next; or the node halted, which leaves a mark. Where memory runs out before
+    /// that all is as it was, but that letters of the event before may have been put.
+    #[tactic(none)]
+    pub(crate) fn put<R: DataType, Q: DataType, C: DataType>(
+        &mut self,
+        line: u32,
+        place: usize,
+        input: &Input,
+        servers: &mut Servers<R, Q, C>,
+    ) -> Result<Put, NoMemory>
+        requires place { place < 8 }
+        requires may { IfSome (slice_get self.old.nodes.items place) (λ node. IsFalse node.log.halted
+            × IsNotRefused (answers node.core) input.now × MayStep (answers node.core) input.now) }
+        requires servers { AreServers R.kind Q.kind C.kind
+            servers.old.register servers.old.queue servers.old.counter }
+        requires there { place < length self.old.nodes.items }
+        requires writable { AllByRecursion IsWritable self.old.outbox.unput }
+        ensures put { IfOk result (λ done. HasPut line place input.now
+            (⟦<Works<L> as AsWorks>⟧.fields self.old) (⟦<Works<L> as AsWorks>⟧.may_read self.old) done
+            (⟦<Works<L> as AsWorks>⟧.fields self.new) (⟦<Works<L> as AsWorks>⟧.may_read self.new)) }
+        ensures as_before { OnErr result (KeepsAsBefore
+            (⟦<Works<L> as AsWorks>⟧.fields self.old) (⟦<Works<L> as AsWorks>⟧.may_read self.old)
+            (⟦<Works<L> as AsWorks>⟧.fields self.new) (⟦<Works<L> as AsWorks>⟧.may_read self.new)) }
+        ensures servers { AreServers R.kind Q.kind C.kind
+            servers.new.register servers.new.queue servers.new.counter }
+    {
+        self.make_room()?;
+        match self.nodes[place].step(
+            input,
+            &mut servers.register,
+            &mut servers.queue,
+            &mut servers.counter,
+        ) {
+            Ok(stepped) => {
+                self.stand(stepped);
+                Ok(Put::Stood)
+            }
+            Err(_) => {
+                if !self.nodes[place].is_halted() {
+                    return Err(NoMemory);
+                }
+                self.halt(line, place);
+                Ok(Put::Halted)
+            }
+        }
+    }
+
+    /// Puts the letters that are put next, and makes room for one event and one mark.
+    fn make_room(&mut self) -> Result<(), NoMemory>
+        requires { AllByRecursion IsWritable self.old.outbox.unput }
+        ensures nodes { self.new.nodes ≡ self.old.nodes }
+        ensures halted { self.new.halted ≡ self.old.halted }
+        ensures events { self.new.events.items ≡ self.old.events.items }
+        ensures marks { self.new.marks.items ≡ self.old.marks.items }
+        ensures some { HasPutSome self.old.outbox self.new.outbox }
+        ensures all { OnOk result (self.new.outbox.unput ≡ []) }
+        ensures few { OnOk result (length self.new.events.items + 1 < 1000000000) }
+        ensures event_room { OnOk result (vec_len self.new.events < vec_capacity self.new.events) }
+        ensures mark_room { OnOk result (vec_len self.new.marks < vec_capacity self.new.marks) }
+    {
+        self.outbox.put_all()?;
+        if self.events.len() >= 999_999_999 {
+            return Err(NoMemory);
+        }
+        reserve_one(&mut self.events)?;
+        reserve_one(&mut self.marks)?;
+        Ok(())
+    }
+
+    /// The event stands, and its letters are put next.
+    fn stand(&mut self, stepped: Stepped)
+        requires room { vec_len self.old.events < vec_capacity self.old.events }
+        requires none { self.old.outbox.unput ≡ [] }
+        ensures nodes { self.new.nodes ≡ self.old.nodes }
+        ensures halted { self.new.halted ≡ self.old.halted }
+        ensures events { self.new.events.items ≡ self.old.events.items ++ stepped.event ∷ [] }
+        ensures marks { self.new.marks ≡ self.old.marks }
+        ensures outbox { self.new.outbox ≡ record { net = self.old.outbox.net; unput = stepped.letters } }
+    {
+        match self.events.push(stepped.event) {
+            Ok(()) => {}
+            // there is room
+            Err(_) => unreachable!(),
+        }
+        self.outbox.send(stepped.letters);
+    }
+
+    /// The node at a place is halted, and no event of it stands.
+    fn halt(&mut self, line: u32, place: usize)
+        requires place { place < 8 }
+        requires room { vec_len self.old.marks < vec_capacity self.old.marks }
+        ensures nodes { self.new.nodes ≡ self.old.nodes }
+        ensures halted { self.new.halted ≡ set self.old.halted place true }
+        ensures events { self.new.events ≡ self.old.events }
+        ensures marks { self.new.marks.items ≡ self.old.marks.items ++ marks.Halted line (place + 1) false ∷ [] }
+        ensures outbox { self.new.outbox ≡ self.old.outbox }
+    {
+        self.halted[place] = true;
+        let mark = Mark::Halted {
+            line,
+            node: place as u8 + 1,
+            taken: false,
+        };
+        push_reserved(&mut self.marks, &mark);
+    }
+}
