@@ -15,8 +15,9 @@ use Rattle.cam_commit.specs.Families.{Families, IsUndecided, CommitsFamilies}
 use Rattle.cam_server.specs.Recovered.{AreHeld, OrderIsKept, beside}
 use Rattle.cam_server.specs.Server.{Server, IsSiteOf, ServesSite}
 use Rattle.cam_tranman.specs.Actions.{Actions, AnswersDeeds, RunsActions}
-use Rattle.cam_node.specs.Keeping.{IsLogOf}
+use Rattle.cam_node.specs.Keeping.{IsLogOf, KeepsHistory}
 use Rattle.cam_node.specs.Log.{Logged, KeepsLog, secure_counts}
+use Rattle.cam_node.specs.LogOrder.{OrderIsKeptWith}
 use Rattle.cam_node.specs.Opened.{IsKnowledge, logged_of}
 use Rattle.cam_node.specs.Represents.{Node, Represents}
 use Rattle.cam_histories.specs.PutIn.{nameless}
@@ -150,9 +151,18 @@ module _ (objects : List ObjectDecl) (h j : List Received) (same : map nameless 
         → whole.StandsAt objects n j s
     stands_alike n s stands = record {
       represents = represents_alike s.node stands.represents;
-      keeps = record {
-        recovered = stands.keeps.recovered;
-        says = stands.keeps.says;
-        is_log = is_log_alike n (logged_of stands.keeps.recovered) stands.keeps.is_log;
+      log = record {
+        keeps = record {
+          recovered = kept.recovered;
+          says = kept.says;
+          is_log = is_log_alike n (logged_of kept.recovered) kept.is_log;
+        };
+        order =
+            subst (λ (at : Site). OrderIsKeptWith at kept.recovered.held
+            s.node.server.table.site.live s.node.server.table.site.next) site_alike
+            stands.log.order;
       };
     }
+      where
+        kept : KeepsHistory objects n h s.entries
+        kept = stands.log.keeps

@@ -14,7 +14,6 @@ use Rattle.cam_event.specs.Taken.{IsRunTaking}
 use Rattle.cam_agree.proofs.Ran.{Ran}
 use Rattle.cam_agree.proofs.RunAsks.{AsksOf}
 use Rattle.cam_node.specs.Calls.{letters_of}
-use Rattle.cam_node.specs.Keeping.{KeepsHistory}
 use Rattle.cam_node.specs.Opened.{logged_of}
 use Rattle.cam_node.specs.Represents.{Represents}
 use Rattle.cam_script.specs.declared.Script.{Script}
@@ -29,13 +28,13 @@ use Rattle.cam_histories.specs.Laws.{history_of, load_of_input}
 use Rattle.cam_histories.specs.ReadBack.{received_with}
 use Rattle.cam_histories.specs.Stepping.{IsPut, HasStepped}
 use Rattle.cam_histories.specs.Flight.{IsNetworkOf}
-use Rattle.cam_histories.specs.Whole.{Site, StandsAt, IsSiteOf, IsWhole}
+use Rattle.cam_histories.specs.Whole.{Site, KeepsInOrder, StandsAt, IsSiteOf, IsWhole}
 use Rattle.cam_histories.specs.InputLaws.{held_setting, IsIdleFor, InputsLeadOn, halt_of, with_site}
 use Rattle.cam_histories.specs.InputLaws.{KeepsEvent, InputsStand}
 use Rattle.cam_histories.proofs.Sites.{site_at, sites_with}
 use Rattle.cam_histories.proofs.InRange.{travels, input_node}
 use Rattle.cam_histories.proofs.ScriptNodes.{standings_hold}
-use Rattle.cam_histories.proofs.ReadBack.{logs_go_on}
+use Rattle.cam_histories.proofs.ReadBack.{logs_go_on, in_order_as_good}
 use Rattle.cam_histories.proofs.Stepping.{steps_lead_on}
 use Rattle.cam_histories.proofs.Handing.{handed_out_are_sent}
 use Rattle.cam_histories.proofs.Carried.{event_sends}
@@ -102,10 +101,10 @@ module _ (script : Script) (c : Setting) (st : Standing) (input : Input) (new : 
       sym (stepped.others m (λ e. off (sym stepped.node ∙ e)))
       ∙ ap (λ (t : List Event). history_of script.objects t m) trace_with
 
-  pub own_site : KeepsHistory script.objects (node_of st.running.trace input)
+  pub own_site : KeepsInOrder script.objects (node_of st.running.trace input)
       (received_with event (mail_got st.running.trace (got_of input))
       (load_of_input script.objects st.running.trace input)
-      ∷ history_of script.objects st.running.trace (node_of st.running.trace input)) new.entries
+      ∷ history_of script.objects st.running.trace (node_of st.running.trace input)) new
       → IsSiteOf script.objects (plain_put script c st input) (node_of st.running.trace input) new
   own_site keeps =
       let t : List Event = st.running.trace in
@@ -118,8 +117,7 @@ module _ (script : Script) (c : Setting) (st : Standing) (input : Input) (new : 
               new.node) trace_with
               (subst (λ (m : ℕ). Represents script.objects
               (history_of script.objects (event ∷ t) m) new.node) stepped.node stepped.represents);
-          keeps =
-              subst (λ h. KeepsHistory script.objects s h new.entries) (sym own_history) keeps;
+          log = subst (λ h. KeepsInOrder script.objects s h new) (sym own_history) keeps;
         };
       }
 
@@ -135,19 +133,23 @@ module _ (script : Script) (c : Setting) (st : Standing) (input : Input) (new : 
 kept_as_good : (objects : List ObjectDecl) (t : List Event) (input : Input) (mail : Option Mail)
     (load : Load) (event : Event) (new : Site) → IsPut objects t input mail load
     → KeepsEvent objects t input mail load event new
-    → KeepsHistory objects (node_of t input)
+    → KeepsInOrder objects (node_of t input)
     (received_with event (mail_got t (got_of input)) (load_of_input objects t input)
-    ∷ history_of objects t (node_of t input)) new.entries
+    ∷ history_of objects t (node_of t input)) new
 kept_as_good objects t input mail load event new put_so keeps =
     let s : ℕ = node_of t input in
     let h : List Received = history_of objects t s in
-    subst (λ (o : Option Mail). KeepsHistory objects s
-    (received_with event o (load_of_input objects t input) ∷ h) new.entries) put_so.is_mail
+    subst (λ (o : Option Mail). KeepsInOrder objects s
+    (received_with event o (load_of_input objects t input) ∷ h) new) put_so.is_mail
     (record {
-      recovered = keeps.recovered;
-      says = keeps.says;
-      is_log = logs_go_on objects s h event mail load (load_of_input objects t input)
-          (logged_of keeps.recovered) put_so.as_good keeps.is_log;
+      keeps = record {
+        recovered = keeps.keeps.recovered;
+        says = keeps.keeps.says;
+        is_log = logs_go_on objects s h event mail load (load_of_input objects t input)
+            (logged_of keeps.keeps.recovered) put_so.as_good keeps.keeps.is_log;
+      };
+      order = in_order_as_good objects h event mail load (load_of_input objects t input)
+          keeps.keeps.recovered.held new.node put_so.as_good keeps.order;
     })
 
 pub inputs_stand : InputsStand

@@ -6,6 +6,7 @@ use Rattle.std.specs.Prelude.{slice_index, nat_le}
 use Rattle.std.specs.List.{list_all}
 use Rattle.std.proofs.lemmas.Option.{same_Some}
 use Rattle.cam_names.specs.Dependencies.{pairs_of}
+use Rattle.cam_type.specs.declared.Held.{Held}
 use Rattle.cam_type.specs.declared.ObjectDecl.{ObjectDecl}
 use Rattle.cam_know.specs.declared.Outcome.{Outcome}
 use Rattle.cam_know.specs.declared.Outcome.TheVariants.{Aborted, Committed}
@@ -36,7 +37,9 @@ use Rattle.cam_wire.specs.OfTrace.{letter_with}
 use Rattle.cam_node.specs.Lawful.{IsLetter, are_known, body_counts, is_known_outcome}
 use Rattle.cam_node.specs.Keeping.{IsLogOf}
 use Rattle.cam_node.specs.Log.{Logged, secure_counts}
+use Rattle.cam_node.specs.LogOrder.{IsInOrder, OrderIsKeptWith}
 use Rattle.cam_node.specs.Opened.{IsKnowledge}
+use Rattle.cam_node.specs.Represents.{Node}
 use Rattle.cam_histories.specs.ReadBack.{IsAsGood, LettersAreReadBack, received_with}
 use Rattle.cam_histories.specs.ReadBack.{NodesStandAsGood, LogsKeepAsGood}
 use Rattle.cam_histories.proofs.Sent.{ran_letters_put}
@@ -208,3 +211,13 @@ logs_go_on objects s history event mail one other logged good is = record {
       subst (λ (h : List Carried). IsKnowledge (held objects h))
       (carried objects history event mail one other good) is.known;
 }
+
+-- and the order of what it holds and of what is live
+pub in_order_as_good : (objects : List ObjectDecl) (history : List Received) (event : Event)
+    (mail : Option Mail) (one other : Load) (hs : List Held) (node : Node)
+    → IsAsGood one other
+    → IsInOrder (received_with event mail one ∷ history) hs node.server.table.site
+    → IsInOrder (received_with event mail other ∷ history) hs node.server.table.site
+in_order_as_good objects history event mail one other hs node good =
+    subst (λ (h : List Carried). OrderIsKeptWith (site h) hs node.server.table.site.live
+    node.server.table.site.next) (carried objects history event mail one other good)

@@ -10,7 +10,7 @@ use Rattle.cam_event.specs.Loads.{no_load}
 use Rattle.cam_event.specs.Taken.{IsRunTaking}
 use Rattle.cam_net.specs.Waiting.{is_halted}
 use Rattle.cam_node.specs.Calls.{letters_of}
-use Rattle.cam_node.specs.Keeping.{KeepsHistory}
+use Rattle.cam_node.specs.Keeping.{KeepsNode}
 use Rattle.cam_node.specs.Represents.{Represents}
 use Rattle.cam_runs.specs.Running.{has_number}
 use Rattle.cam_runs.specs.UnderHalts.{IsUnderHalts}
@@ -20,7 +20,7 @@ use Rattle.cam_histories.specs.Laws.{history_of}
 use Rattle.cam_histories.specs.Flight.{IsNetworkOf}
 use Rattle.cam_histories.specs.ReadBack.{received_with}
 use Rattle.cam_histories.specs.Stepping.{HasStepped}
-use Rattle.cam_histories.specs.Whole.{Site, StandsAt, IsSiteOf, IsWhole}
+use Rattle.cam_histories.specs.Whole.{Site, KeepsInOrder, StandsAt, IsSiteOf, IsWhole}
 use Rattle.cam_histories.specs.InputLaws.{held_setting}
 use Rattle.cam_histories.specs.LineLaws.{RestartsStand}
 use Rattle.cam_histories.proofs.ScriptNodes.{standings_hold}
@@ -78,15 +78,20 @@ restarts_stand script halts line restarted st s sites net halted logged new even
         node
         ((standings_hold script st under).ended s) keeps restart
 
-    log : KeepsHistory script.objects s (history_of script.objects (event ∷ t) s) new.entries
+    mine : KeepsNode script.objects
+        (received_with event None no_load ∷ history_of script.objects t s) new.node new.entries
+    mine =
+        restart.keeps (history_of script.objects t s) ((standings_hold script st under).ended s)
+        keeps
+
+    log : KeepsInOrder script.objects s (history_of script.objects (event ∷ t) s) new
     log =
-        subst (λ (h : List Received). KeepsHistory script.objects s h new.entries)
+        subst (λ (h : List Received). KeepsInOrder script.objects s h new)
         (sym (subst (λ (m : ℕ). history_of script.objects (event ∷ t) m
         ≡ received_with event None no_load ∷ history_of script.objects t m) stepped.node stepped.own))
-        (subst (λ (n : ℕ). KeepsHistory script.objects n
-        (received_with event None no_load ∷ history_of script.objects t s) new.entries) restart.number
-        (restart.keeps (history_of script.objects t s) ((standings_hold script st under).ended s)
-        keeps).keeps)
+        (subst (λ (n : ℕ). KeepsInOrder script.objects n
+        (received_with event None no_load ∷ history_of script.objects t s) new) restart.number
+        (record { keeps = mine.keeps; order = mine.order }))
 
     trace : event ∷ t ≡ behind.running.trace
     trace = ap (λ (e : Event). e ∷ t) stepped.held
@@ -101,7 +106,7 @@ restarts_stand script halts line restarted st s sites net halted logged new even
                 subst (λ (m : ℕ). Represents script.objects
                 (history_of script.objects (event ∷ t) m) new.node) stepped.node
                 stepped.represents;
-            keeps = log;
+            log = log;
           });
     }
 

@@ -12,7 +12,6 @@ use Rattle.cam_event.specs.Runs.{MayCome}
 use Rattle.cam_net.specs.Letters.{InFlightFields}
 use Rattle.cam_node.specs.Calls.{letters_of}
 use Rattle.cam_node.specs.Halting.{IsStepThrough}
-use Rattle.cam_node.specs.Keeping.{KeepsHistory}
 use Rattle.cam_script.specs.declared.Script.{Script}
 use Rattle.cam_runs.specs.Running.{has_number}
 use Rattle.cam_runs.specs.Playing.{body_number}
@@ -23,7 +22,7 @@ use Rattle.cam_runs.specs.Standing.{Standing, Setting, put}
 use Rattle.cam_histories.specs.Laws.{history_of}
 use Rattle.cam_histories.specs.ReadBack.{received_with}
 use Rattle.cam_histories.specs.Stepping.{IsPut, HasStepped}
-use Rattle.cam_histories.specs.Whole.{Site, IsWhole}
+use Rattle.cam_histories.specs.Whole.{Site, KeepsInOrder, IsWhole}
 
 -- a line by what nodes hold, whichever inputs are halts
 abbrev pub held_setting : List ObjectDecl → Halting → ℕ → (ℕ → Bool) → Setting
@@ -77,12 +76,12 @@ pub record HasPut (script : Script) (c : Setting) (st : Standing) (input : Input
       IsWhole script.objects (put c st input) (with_site st.running.trace input sites new) net
       (letters_of new.node event.sent) halted
 
--- the log of the node that made the step
+-- the node that made the step, and its log
 abbrev pub KeepsEvent :
     List ObjectDecl → List Event → Input → Option Mail → Load → Event → Site → Type 0
 KeepsEvent objects t input mail load event new =
     let s = node_of t input in
-    KeepsHistory objects s (received_with event mail load ∷ history_of objects t s) new.entries
+    KeepsInOrder objects s (received_with event mail load ∷ history_of objects t s) new
 
 abbrev pub InputsStand : Type 0
 InputsStand =

@@ -5,6 +5,7 @@ use Rattle.cam_event.specs.declared.Letter.{Letter}
 use Rattle.cam_event.specs.ByDeltas.{Received}
 use Rattle.cam_net.specs.Letters.{InFlightFields}
 use Rattle.cam_node.specs.Keeping.{KeepsHistory}
+use Rattle.cam_node.specs.LogOrder.{IsInOrder}
 use Rattle.cam_node.specs.Represents.{Node, Represents}
 use Rattle.cam_runs.specs.Running.{has_number}
 use Rattle.cam_runs.specs.Standing.{Standing}
@@ -16,11 +17,18 @@ pub record Site : Type 0 where
   pub node : Node
   pub entries : List (List ℕ)
 
+-- The entries keep a history. What they hold of secured families and what is live at the node stand
+-- in one order.
+pub record KeepsInOrder (objects : List ObjectDecl) (s : ℕ) (history : List Received)
+    (site : Site) : Type 0 where
+  pub keeps : KeepsHistory objects s history site.entries
+  pub order : IsInOrder history keeps.recovered.held site.node.server.table.site
+
 -- Both stand for a history.
 pub record StandsAt (objects : List ObjectDecl) (s : ℕ) (history : List Received)
     (site : Site) : Type 0 where
   pub represents : Represents objects history site.node
-  pub keeps : KeepsHistory objects s history site.entries
+  pub log : KeepsInOrder objects s history site
 
 -- A node of the run: while it is not halted it stands for its history, and so does its log.
 pub record IsSiteOf (objects : List ObjectDecl) (st : Standing) (s : ℕ) (site : Site) : Type 0 where
