@@ -9,17 +9,19 @@ use Rattle.std.proofs.lemmas.List.{length-set, length-reverse}
 use Rattle.cam_type.specs.declared.ObjectDecl.{ObjectDecl}
 use Rattle.cam_event.specs.declared.Event.{Event}
 use Rattle.cam_event.specs.ByDeltas.{Received}
+use Rattle.cam_locks.specs.Site.{Site}
 use Rattle.cam_net.specs.Outbox.{OutboxFields, HasPutSome}
 use Rattle.cam_net.specs.Waiting.{is_halted}
 use Rattle.cam_node.specs.Calls.{AreSame}
-use Rattle.cam_node.specs.Keeping.{KeepsHistory}
 use Rattle.cam_node.specs.Log.{Logged}
+use Rattle.cam_node.specs.LogOrder.{IsInOrder}
+use Rattle.cam_recman.specs.Says.{Says}
 use Rattle.cam_runs.specs.Running.{has_number}
 use Rattle.cam_runs.specs.Standing.{Standing}
 use Rattle.cam_script.specs.declared.Script.{Script}
 use Rattle.cam_script.specs.Law.{IsScript}
 use Rattle.cam_histories.specs.Laws.{history_of}
-use Rattle.cam_histories.specs.Whole.{IsSiteOf, AreSitesOf}
+use Rattle.cam_histories.specs.Whole.{KeepsInOrder, StandsAt, IsSiteOf, AreSitesOf}
 use Rattle.cam_histories.proofs.ManyPut.{all_may_be_written, some_put_stand}
 use Rattle.cam_histories.proofs.Sites.{site_at, sites_with}
 use Rattle.cam_cluster.specs.Works.{NodeFields, WorksFields, IsLogOfHalted, IsNodeOf, KeepsRun}
@@ -119,18 +121,31 @@ module _ (script : Script) (st : Standing) (place : ℕ) (works : WorksFields)
         (site_at script.objects st 1 place (sites_of works.nodes) old.site keeps.whole.nodes
         (site_there works.nodes place old there))
 
+    abbrev mine : List Received
+    mine = history_of script.objects st.running.trace (place + 1)
+
+    log_is : StandsAt script.objects (place + 1) mine old.site
+        → KeepsInOrder script.objects (place + 1) mine new.site
+    log_is was =
+        let kept = was.log.keeps in record {
+          keeps = record {
+            recovered = kept.recovered;
+            says = subst (λ (es : List (List ℕ)). Says es kept.recovered) (sym entries) kept.says;
+            is_log = kept.is_log;
+          };
+          order =
+              subst (λ (table : Site). IsInOrder mine kept.recovered.held table)
+              (sym same.server.site) was.log.order;
+        }
+
     site_is : IsSiteOf script.objects st (place + 1) new.site
     site_is = record {
       number = same.number ∙ site_was.number;
       stands = λ still. record {
         represents =
-            same_represents script.objects
-            (history_of script.objects st.running.trace (place + 1)) old.site.node new.site.node
-            same (site_was.stands still).represents;
-        keeps =
-            subst (KeepsHistory script.objects (place + 1)
-            (history_of script.objects st.running.trace (place + 1))) (sym entries)
-            (site_was.stands still).keeps;
+            same_represents script.objects mine old.site.node new.site.node same
+            (site_was.stands still).represents;
+        log = log_is (site_was.stands still);
       };
     }
 

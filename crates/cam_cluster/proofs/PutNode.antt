@@ -7,13 +7,13 @@ use Rattle.cam_event.specs.Inputs.{Input, Mail, node_of}
 use Rattle.cam_event.specs.Loads.{Load}
 use Rattle.cam_event.specs.ByDeltas.{Received}
 use Rattle.cam_node.specs.Halting.{IsThrough}
-use Rattle.cam_node.specs.Keeping.{KeepsHistory, KeepsNode}
-use Rattle.cam_node.specs.Keeping.{MayBePutThen}
+use Rattle.cam_node.specs.Keeping.{IsLogOf, KeepsNode, MayBePutThen}
 use Rattle.cam_node.specs.Log.{Logged}
+use Rattle.cam_node.specs.Opened.{logged_of}
 use Rattle.cam_runs.specs.Standing.{Standing}
 use Rattle.cam_script.specs.declared.Script.{Script}
 use Rattle.cam_histories.specs.Laws.{history_of}
-use Rattle.cam_histories.specs.Whole.{IsSiteOf}
+use Rattle.cam_histories.specs.Whole.{StandsAt, IsSiteOf}
 use Rattle.cam_histories.proofs.ScriptNodes.{standings_hold}
 use Rattle.cam_histories.proofs.Sites.{site_at}
 use Rattle.cam_cluster.specs.Puts.{IsPutAt}
@@ -52,11 +52,19 @@ module _ (script : Script) (st : Standing) (place : ℕ) (input : Input) (mail :
         subst (λ (s : ℕ). IsThrough script.objects s history) (sym site_is.number)
         ((standings_hold script st keeps.under).through (node_of st.running.trace input)
         put_so.coming.awake);
-    represents = (site_is.stands put_so.coming.awake).represents;
-    keeps =
-        subst (λ (s : ℕ). KeepsHistory script.objects s history old.site.entries)
-        (sym site_is.number) (site_is.stands put_so.coming.awake).keeps;
+    represents = stands.represents;
+    keeps = record {
+      recovered = stands.log.keeps.recovered;
+      says = stands.log.keeps.says;
+      is_log =
+          subst (λ (s : ℕ). IsLogOf script.objects s history
+          (logged_of stands.log.keeps.recovered)) (sym site_is.number) stands.log.keeps.is_log;
+    };
+    order = stands.log.order;
   }
+    where
+      stands : StandsAt script.objects (node_of st.running.trace input) history old.site
+      stands = site_is.stands put_so.coming.awake
 
   pub may_then : MayBePutThen script.objects old.site.node.number
       (history_of script.objects st.running.trace (node_of st.running.trace input)) input mail load

@@ -11,7 +11,7 @@ use Rattle.cam_event.specs.Inputs.{Input, Mail, node_of}
 use Rattle.cam_event.specs.Loads.{Load}
 use Rattle.cam_node.specs.Calls.{letters_of}
 use Rattle.cam_node.specs.Halting.{IsStepThrough}
-use Rattle.cam_node.specs.Keeping.{KeepsHistory, KeepsNode, KeepsOn}
+use Rattle.cam_node.specs.Keeping.{KeepsNode, KeepsOn}
 use Rattle.cam_node.specs.Log.{Logged}
 use Rattle.cam_runs.specs.Halts.{Halting}
 use Rattle.cam_runs.specs.Running.{has_number}
@@ -21,7 +21,7 @@ use Rattle.cam_script.specs.declared.Script.{Script}
 use Rattle.cam_histories.specs.InputLaws as laws
 use Rattle.cam_histories.specs.InputLaws.{held_setting, halt_of, with_site, KeepsEvent}
 use Rattle.cam_histories.specs.Laws.{history_of}
-use Rattle.cam_histories.specs.Whole.{Site, IsWhole}
+use Rattle.cam_histories.specs.Whole.{Site, KeepsInOrder, IsWhole}
 use Rattle.cam_histories.proofs.OneInput.{inputs_lead_on, inputs_stand, plain_put, put_plain}
 use Rattle.cam_histories.proofs.OneInput.{other_history}
 use Rattle.cam_cluster.specs.Puts.{IsPutAt}
@@ -83,12 +83,18 @@ module _ (script : Script) (st : Standing) (place : ℕ) (input : Input) (mail :
 
     keeps_event : KeepsEvent script.objects st.running.trace input mail load event new.site
     keeps_event =
-        subst (λ (s : ℕ). KeepsHistory script.objects s
+        subst (λ (s : ℕ). KeepsInOrder script.objects s
         (record { event = event; mail = mail; load = load }
-        ∷ history_of script.objects st.running.trace r) new.site.entries)
+        ∷ history_of script.objects st.running.trace r) new.site)
         (step.number ∙ (site_is script st place input mail load works might old keeps put_so there).number)
-        (on (history_of script.objects st.running.trace r) mine
-        (may_then script st place input mail load works might old keeps put_so there)).keeps
+        (record { keeps = goes_on.keeps; order = goes_on.order })
+      where
+        goes_on : KeepsNode script.objects
+            (record { event = event; mail = mail; load = load }
+            ∷ history_of script.objects st.running.trace r) new.site.node new.site.entries
+        goes_on =
+            on (history_of script.objects st.running.trace r) mine
+            (may_then script st place input mail load works might old keeps put_so there)
 
     has : laws.HasPut script c st input (sites_of works.nodes) works.outbox.net works.halted new.site event
     has =
