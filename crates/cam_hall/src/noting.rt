@@ -8,7 +8,7 @@ use cam_journal::{Core, Journal, NodeSeat, Note};
 use std::alloc::Global;
 
 /// Notes of the letters of the event with this number, in order, each as often as it is copied; and
-/// whether want of memory left some of them out. The seat stays as it is.
+/// whether want of memory may have left some out. The seat stays as it is.
 pub(crate) fn notes_of<C: Core>(
     alloc: Global,
     journal: &Journal<C>,
