@@ -39,7 +39,7 @@ use Rattle.cam_cluster.proofs.WorksNodes.{site_there}
 use Rattle.std.specs.List.{list_any}
 
 -- the events of a run are few
-few_events : (script : Script) (st : Standing) (works : WorksFields) (may : ℕ → Logged → Type 0)
+pub few_events : (script : Script) (st : Standing) (works : WorksFields) (may : ℕ → Logged → Type 0)
     → KeepsRun script st works may → length st.running.trace < 1000000000
 few_events script st works may keeps =
     let few = keeps.few in
@@ -86,7 +86,8 @@ module _ (script : Script) (st : Standing) (works : WorksFields) (may : ℕ → 
       ((keeps.nodes place node at).is_halted ∙ awake, omega (arith, tops, few))
 
 -- what the next line comes to is under way
-next_leads : (script : Script) (st : Standing) (step : Step) (halts : Halting) (later : List Step)
+pub next_leads : (script : Script) (st : Standing) (step : Step) (halts : Halting) (later : List
+Step)
     → IsScript script → IsUnderHalts script st → IsNextStep script st step
     → IsUnderHalts script (after_line st step.line (act_by by_knowledge halts later script st step))
 next_leads script st step halts later is under next =
@@ -131,7 +132,8 @@ module _ (script : Script) (st : Standing) (halts : Halting) (later : List Step)
       awake = sym (told_halted script st old.works might is keeps.runs place there) ∙ runs
 
       node : IsNode (place + 1)
-      node = (omega arith, let few = within script st old.works might is keeps.runs place there in omega (arith, few))
+      node = (omega arith, let few = within script st old.works might is keeps.runs place there in
+      omega (arith, few))
 
       passes : act c script.bodies st (acts.Begin (place + 1)) ≡ leads
       passes = ap (λ (b : Bool). unless (where_so b refusals.Halted) leads) awake

@@ -1,9 +1,9 @@
 -- What is known of the step that is taken next.
-use Rattle.std.proofs.Common.{◌≡◌, ℕ, zero, suc, ◌≤◌, true, false, List, [], ◌∷◌, ◌++◌, length, Option, Some, None, refl, sym, subst, arith}
+use Rattle.std.proofs.Common.{◌≡◌, ℕ, ◌≤◌, true, false, List, [], ◌∷◌, length, Option, Some, None, refl, sym, arith}
 use Rattle.std.specs.Prelude.{nat_le, slice_get}
 use Rattle.std.specs.Option.{option_map_or}
 use Rattle.std.proofs.lemmas.Bool.{and_parts, true≢false}
-use Rattle.std.proofs.lemmas.Option.{same_Some, slice_get_within}
+use Rattle.std.proofs.lemmas.Option.{slice_get_within}
 use Rattle.cam_type.specs.declared.ObjectDecl.{ObjectDecl}
 use Rattle.cam_type.specs.declared.Op.{Op}
 use Rattle.cam_type.specs.Table.{kind_of, fits}
@@ -12,12 +12,13 @@ use Rattle.cam_script.specs.declared.Act.{Act}
 use Rattle.cam_script.specs.declared.Act.TheVariants as acts
 use Rattle.cam_script.specs.declared.Step.{Step}
 use Rattle.cam_script.specs.declared.Script.{Script}
-use Rattle.cam_script.specs.Law.{IsScript, is_node, is_placed, may_use, act_holds, are_steps, op_holds, spent_in, sizes_of}
+use Rattle.cam_script.specs.Law.{IsScript, is_node, is_placed, may_use, op_holds, spent_in, sizes_of}
 use Rattle.cam_script.specs.declared.Use.TheVariants as uses
 use Rattle.cam_script.specs.SoFar.{Size, step_cost}
 use Rattle.cam_script.specs.FirstPath.{is_first_step, is_first_act, IsFirstPath}
 use Rattle.cam_cluster.proofs.Letters.{all_at}
 use Rattle.cam_cluster.proofs.BeginLine.{nat_le_is}
+use Rattle.cam_cluster.proofs.StepHolds.{step_holds}
 
 -- each step costs something, so there are no more than 512
 cost_some : (sizes : List Size) (act : Act) → 1 ≤ step_cost sizes act
@@ -49,15 +50,6 @@ few_taken script taken step S at = omega (arith, slice_get_within script.steps t
 -- the step is one of the first path
 pub next_first : (script : Script) (taken : ℕ) (step : Step) → IsFirstPath script → slice_get script.steps taken ≡ Some step → is_first_act step.act ≡ true
 next_first script taken step F at = all_at is_first_step script.steps taken step F at
-
--- a step holds behind those before it
-step_holds : (nodes : ℕ) (objects : List ObjectDecl) (bodies : ℕ) (earlier steps : List Step) (k : ℕ) (step : Step) → are_steps nodes objects bodies earlier steps ≡ true → slice_get steps k ≡ Some step
-    → (before : List Step) × (act_holds nodes objects bodies before step.act ≡ true)
-step_holds nodes objects bodies earlier [] k step hold at = let gone : ◌≡◌ {A = Option Step} None (Some step) = at in cc
-step_holds nodes objects bodies earlier (s ∷ steps) zero step hold at =
-    (earlier, subst (λ (z : Step). act_holds nodes objects bodies earlier z.act ≡ true) (same_Some s step at) (and_parts (act_holds nodes objects bodies earlier s.act) (are_steps nodes objects bodies (earlier ++ s ∷ []) steps) hold).0)
-step_holds nodes objects bodies earlier (s ∷ steps) (suc k) step hold at =
-    step_holds nodes objects bodies (earlier ++ s ∷ []) steps k step (and_parts (act_holds nodes objects bodies earlier s.act) (are_steps nodes objects bodies (earlier ++ s ∷ []) steps) hold).1 at
 
 -- the node of a `begin`
 pub begin_node : (script : Script) (taken line node : ℕ) → IsScript script → slice_get script.steps taken ≡ Some (record { line = line; act = acts.Begin node }) → (1 ≤ node) × (node ≤ script.nodes)

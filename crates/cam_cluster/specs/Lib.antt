@@ -18,3 +18,6 @@ pub mod Works
 pub mod Servers
 pub mod Puts
 pub mod SoFar
+pub mod InputLines
+pub mod VariableLines
+pub mod AtNodes

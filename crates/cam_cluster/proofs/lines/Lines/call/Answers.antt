@@ -1,0 +1,35 @@
+-- A call.
+use Rattle.cam_event.specs.declared.Want.TheVariants as wants
+use Rattle.cam_script.specs.declared.Act.TheVariants as acts
+use Rattle.cam_cluster.proofs.ActEnds.{makes_line, makes_some}
+use Rattle.cam_cluster.proofs.AsSeen.{lines_of, reads_of}
+use Rattle.cam_cluster.proofs.VariableActs.{call_by}
+use Rattle.cam_cluster.proofs.lines.Lines.call.Goals as goal
+
+pub request-requires-clause-by : goal.request-requires-clause-by
+request-requires-clause-by g c =
+    makes_some c.args.line c.args.action (wants.Call c.args.object c.args.op) (acts.Call
+    c.args.action c.args.object c.args.op) (lines_of g.L.CheckpointLog g.L.EntryLog
+    c.args.self.now) (lines_of g.L.CheckpointLog g.L.EntryLog c.args.self.now) (reads_of
+    g.L.CheckpointLog g.L.EntryLog c.args.self.now.works) (reads_of g.L.CheckpointLog g.L.EntryLog
+    c.args.self.now.works)
+    (λ script st is keeps next. call_by script st c.args.line is c.args.action c.args.object
+    c.args.op next) c.requires.next
+
+pub request-requires-clause-servers : goal.request-requires-clause-servers
+request-requires-clause-servers g c =
+    c.requires.servers
+
+pub returns-clause-line : goal.returns-clause-line
+returns-clause-line g c =
+    makes_line c.args.line c.args.action (wants.Call c.args.object c.args.op) (acts.Call
+    c.args.action c.args.object c.args.op) (lines_of g.L.CheckpointLog g.L.EntryLog
+    c.args.self.now) (lines_of g.L.CheckpointLog g.L.EntryLog c.request.new.self) (reads_of
+    g.L.CheckpointLog g.L.EntryLog c.args.self.now.works) (reads_of g.L.CheckpointLog g.L.EntryLog
+    c.request.new.self.works)
+    (λ script st is keeps next. call_by script st c.args.line is c.args.action c.args.object
+    c.args.op next) c.request.result c.request.ensures.line
+
+pub returns-clause-servers : goal.returns-clause-servers
+returns-clause-servers g c =
+    c.request.ensures.servers

@@ -1,0 +1,78 @@
+-- A request of a variable's action.
+use Rattle.std.proofs.Common.{ℕ, ◌≤◌, sym, ap, subst, rules}
+use Rattle.cam_node.specs.declared.Input.TheVariants as inputs
+use Rattle.cam_cluster.specs.InputLines.{IsLineToSome, IsTriedLine}
+use Rattle.cam_cluster.proofs.AsSeen.{lines_of, reads_of}
+use Rattle.cam_cluster.proofs.VariableEnds.{home_place, request_ended, request_to, request_unbound}
+use Rattle.cam_cluster.proofs.lines.Lines.request.Goals as goal
+
+pub overflow_cast-place : goal.overflow_cast-place
+overflow_cast-place g c =
+    search rules
+
+pub overflow_sub-place : goal.overflow_sub-place
+overflow_sub-place g c =
+    subst (λ (n : ℕ). 1 ≤ n) (sym (ap (λ (p : ℕ × ℕ). p.0) c.home.ensures)) (request_to c.args.line
+    c.args.variable c.args.want (lines_of g.L.CheckpointLog g.L.EntryLog c.args.self.now) (lines_of
+    g.L.CheckpointLog g.L.EntryLog c.args.self.now) (reads_of g.L.CheckpointLog g.L.EntryLog
+    c.args.self.now.works) (reads_of g.L.CheckpointLog g.L.EntryLog c.args.self.now.works)
+    c.requires.by c.in-Some.action (sym c.in-Some.ensures)).is_line.low
+
+pub try_lead-requires-clause-to : goal.try_lead-requires-clause-to
+try_lead-requires-clause-to g c =
+    subst (λ (n : ℕ). IsLineToSome n (inputs.Request (record {
+      action = c.in-Some.action;
+      want =
+          c.args.want;
+    })) (lines_of g.L.CheckpointLog g.L.EntryLog c.args.self.now) (reads_of
+    g.L.CheckpointLog g.L.EntryLog c.args.self.now.works)) (sym (home_place c.home.result _ _
+    c.home.ensures (request_to c.args.line c.args.variable c.args.want (lines_of g.L.CheckpointLog
+    g.L.EntryLog c.args.self.now) (lines_of g.L.CheckpointLog g.L.EntryLog c.args.self.now)
+    (reads_of g.L.CheckpointLog g.L.EntryLog c.args.self.now.works) (reads_of g.L.CheckpointLog
+    g.L.EntryLog c.args.self.now.works) c.requires.by c.in-Some.action (sym
+    c.in-Some.ensures)).is_line.low))
+    (request_to c.args.line c.args.variable c.args.want (lines_of g.L.CheckpointLog g.L.EntryLog
+    c.args.self.now) (lines_of g.L.CheckpointLog g.L.EntryLog c.args.self.now) (reads_of
+    g.L.CheckpointLog g.L.EntryLog c.args.self.now.works) (reads_of g.L.CheckpointLog g.L.EntryLog
+    c.args.self.now.works) c.requires.by c.in-Some.action (sym c.in-Some.ensures))
+
+pub try_lead-requires-clause-servers : goal.try_lead-requires-clause-servers
+try_lead-requires-clause-servers g c =
+    c.requires.servers
+
+pub returns-in-Some-clause-line : goal.returns-in-Some-clause-line
+returns-in-Some-clause-line g c =
+    request_ended c.args.line c.args.variable c.args.want (lines_of g.L.CheckpointLog g.L.EntryLog
+    c.args.self.now) (lines_of g.L.CheckpointLog g.L.EntryLog c.try_lead.new.self) (reads_of
+    g.L.CheckpointLog g.L.EntryLog c.args.self.now.works) (reads_of g.L.CheckpointLog g.L.EntryLog
+    c.try_lead.new.self.works)
+    c.requires.by c.in-Some.action (sym c.in-Some.ensures) c.try_lead.result
+    (subst (λ (n : ℕ). IsTriedLine c.args.line n (inputs.Request (record {
+      action =
+          c.in-Some.action;
+      want = c.args.want;
+    })) (lines_of g.L.CheckpointLog g.L.EntryLog
+    c.args.self.now) (reads_of g.L.CheckpointLog g.L.EntryLog c.args.self.now.works)
+    (lines_of g.L.CheckpointLog g.L.EntryLog c.try_lead.new.self) (reads_of g.L.CheckpointLog
+    g.L.EntryLog c.try_lead.new.self.works) c.try_lead.result) (home_place c.home.result _ _
+    c.home.ensures (request_to c.args.line c.args.variable c.args.want (lines_of g.L.CheckpointLog
+    g.L.EntryLog c.args.self.now) (lines_of g.L.CheckpointLog g.L.EntryLog c.args.self.now)
+    (reads_of g.L.CheckpointLog g.L.EntryLog c.args.self.now.works) (reads_of g.L.CheckpointLog
+    g.L.EntryLog c.args.self.now.works) c.requires.by c.in-Some.action (sym
+    c.in-Some.ensures)).is_line.low) c.try_lead.ensures.line)
+
+pub returns-in-Some-clause-servers : goal.returns-in-Some-clause-servers
+returns-in-Some-clause-servers g c =
+    c.try_lead.ensures.servers
+
+pub returns-in-None-clause-line : goal.returns-in-None-clause-line
+returns-in-None-clause-line g c =
+    request_unbound c.args.line c.args.variable c.args.want (lines_of g.L.CheckpointLog
+    g.L.EntryLog c.args.self.now) (lines_of g.L.CheckpointLog g.L.EntryLog c.refused.new.self)
+    (reads_of g.L.CheckpointLog g.L.EntryLog c.args.self.now.works) (reads_of g.L.CheckpointLog
+    g.L.EntryLog c.refused.new.self.works)
+    (sym c.in-None.ensures) c.refused.result c.refused.ensures
+
+pub returns-in-None-clause-servers : goal.returns-in-None-clause-servers
+returns-in-None-clause-servers g c =
+    c.requires.servers

@@ -1,0 +1,100 @@
+-- The line `start`.
+use Rattle.std.proofs.Common.{◌≡◌, ◌-◌, Err, sym, ap, ◌∙◌, subst, arith, rules}
+use Rattle.cam_net.specs.Waiting.{is_halted}
+use Rattle.cam_cluster.specs.declared.LineFault.TheVariants as line_faults
+use Rattle.cam_cluster.proofs.AsSeen.{lines_of, part, reads_of}
+use Rattle.cam_cluster.proofs.BeginEnds.{begin_may, begin_within}
+use Rattle.cam_cluster.proofs.BegunLine.{unput_may_be_written}
+use Rattle.cam_cluster.proofs.PlacedNodes.{after_is, each_there, seen_there, sees}
+use Rattle.cam_cluster.proofs.StartedLine.{IsStart, start_halted, start_led, start_wanting}
+use Rattle.cam_cluster.proofs.lines.Lines.start.Goals as goal
+
+pub overflow_cast-place : goal.overflow_cast-place
+overflow_cast-place g c =
+    search rules
+
+pub overflow_sub-place : goal.overflow_sub-place
+overflow_sub-place g c =
+    c.requires.low
+
+pub returns-then-is_halted-clause-line : goal.returns-then-is_halted-clause-line
+returns-then-is_halted-clause-line g c =
+    start_halted c.args.line (c.args.node - 1) c.args.node (let low = c.requires.low in omega
+    (arith, low)) (lines_of g.L.CheckpointLog g.L.EntryLog c.args.self.now) (lines_of
+    g.L.CheckpointLog g.L.EntryLog c.refused.new.self) (reads_of g.L.CheckpointLog g.L.EntryLog
+    c.args.self.now.works) (reads_of g.L.CheckpointLog g.L.EntryLog c.refused.new.self.works)
+    (sees (part g.L.CheckpointLog g.L.EntryLog) c.args.self.now.works.nodes.items (c.args.node - 1)
+    (let low = c.requires.low in let node = c.requires.node in omega (arith, low, node)))
+    (ap (is_halted c.args.self.now.works.halted) (after_is (c.args.node - 1)) ∙ sym
+    c.is_halted.ensures ∙ c.if-is_halted.true) c.refused.result c.refused.ensures
+
+pub returns-then-is_halted-clause-servers : goal.returns-then-is_halted-clause-servers
+returns-then-is_halted-clause-servers g c =
+    c.requires.servers
+
+pub lead-requires-clause-place : goal.lead-requires-clause-place
+lead-requires-clause-place g c =
+    begin_within (lines_of g.L.CheckpointLog g.L.EntryLog c.args.self.now) (reads_of
+    g.L.CheckpointLog g.L.EntryLog c.args.self.now.works) (c.args.node - 1) c.requires.stand
+    (sees (part g.L.CheckpointLog g.L.EntryLog) c.args.self.now.works.nodes.items (c.args.node - 1)
+    (let low = c.requires.low in let node = c.requires.node in omega (arith, low, node)))
+
+pub lead-requires-clause-may : goal.lead-requires-clause-may
+lead-requires-clause-may g c =
+    each_there _ c.args.self.now.works.nodes.items (c.args.node - 1) (λ node at.
+    let may = begin_may (lines_of g.L.CheckpointLog g.L.EntryLog c.args.self.now) (reads_of
+    g.L.CheckpointLog g.L.EntryLog c.args.self.now.works) (c.args.node - 1) c.requires.stand
+    (sees (part g.L.CheckpointLog g.L.EntryLog) c.args.self.now.works.nodes.items (c.args.node - 1)
+    (let low = c.requires.low in let node = c.requires.node in omega (arith, low, node)))
+    (ap (is_halted c.args.self.now.works.halted) (after_is (c.args.node - 1)) ∙ sym
+    c.is_halted.ensures ∙ c.if-is_halted.false) _
+    (seen_there (part g.L.CheckpointLog g.L.EntryLog) c.args.self.now.works.nodes.items
+    (c.args.node - 1) node at) in
+    (may.0, tt, may.1))
+
+pub lead-requires-clause-servers : goal.lead-requires-clause-servers
+lead-requires-clause-servers g c =
+    c.requires.servers
+
+pub lead-requires-clause-there : goal.lead-requires-clause-there
+lead-requires-clause-there g c =
+    (let low = c.requires.low in let node = c.requires.node in omega (arith, low, node))
+
+pub lead-requires-clause-writable : goal.lead-requires-clause-writable
+lead-requires-clause-writable g c =
+    unput_may_be_written _ _ c.requires.stand
+
+pub returns-in_err-lead-clause-line : goal.returns-in_err-lead-clause-line
+returns-in_err-lead-clause-line g c =
+    let wants : c.from_residual.result ≡ Err line_faults.NoMemory = search rules in
+    subst (λ r. IsStart c.args.line c.args.node (lines_of g.L.CheckpointLog g.L.EntryLog
+    c.args.self.now) (reads_of g.L.CheckpointLog g.L.EntryLog c.args.self.now.works)
+    (lines_of g.L.CheckpointLog g.L.EntryLog c.lead.new.self) (reads_of g.L.CheckpointLog
+    g.L.EntryLog c.lead.new.self.works) r) (sym wants)
+    (start_wanting c.args.line (c.args.node - 1) c.args.node (let low = c.requires.low in omega
+    (arith, low)) (lines_of g.L.CheckpointLog g.L.EntryLog c.args.self.now) (lines_of
+    g.L.CheckpointLog g.L.EntryLog c.lead.new.self) (reads_of g.L.CheckpointLog g.L.EntryLog
+    c.args.self.now.works) (reads_of g.L.CheckpointLog g.L.EntryLog c.lead.new.self.works)
+    c.in_err-lead.ensures.as_before)
+
+pub returns-in_err-lead-clause-servers : goal.returns-in_err-lead-clause-servers
+returns-in_err-lead-clause-servers g c =
+    c.lead.ensures.servers
+
+pub returns-clause-line : goal.returns-clause-line
+returns-clause-line g c =
+    start_led c.args.line (c.args.node - 1) c.args.node (let low = c.requires.low in omega (
+      arith,
+      low,
+    )) (lines_of g.L.CheckpointLog g.L.EntryLog c.args.self.now) (lines_of g.L.CheckpointLog
+    g.L.EntryLog c.lead.new.self) (reads_of g.L.CheckpointLog g.L.EntryLog c.args.self.now.works)
+    (reads_of g.L.CheckpointLog g.L.EntryLog c.lead.new.self.works) c.in_ok-lead.field-0
+    (sees (part g.L.CheckpointLog g.L.EntryLog) c.args.self.now.works.nodes.items (c.args.node - 1)
+    (let low = c.requires.low in let node = c.requires.node in omega (arith, low, node)))
+    (ap (is_halted c.args.self.now.works.halted) (after_is (c.args.node - 1)) ∙ sym
+    c.is_halted.ensures ∙ c.if-is_halted.false)
+    c.in_ok-lead.ensures.led
+
+pub returns-clause-servers : goal.returns-clause-servers
+returns-clause-servers g c =
+    c.lead.ensures.servers

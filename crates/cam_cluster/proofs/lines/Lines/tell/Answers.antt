@@ -1,0 +1,53 @@
+-- The line `tell`.
+use Rattle.std.proofs.Common.{ℕ, sym, subst}
+use Rattle.cam_node.specs.declared.Input.TheVariants as inputs
+use Rattle.cam_cluster.specs.InputLines.{IsLineToSome, IsTriedLine}
+use Rattle.cam_cluster.proofs.ActEnds.{tell_line, tell_some}
+use Rattle.cam_cluster.proofs.AsSeen.{lines_of, reads_of}
+use Rattle.cam_cluster.proofs.VariableEnds.{before_after}
+use Rattle.cam_cluster.proofs.lines.Lines.tell.Goals as goal
+
+pub overflow_sub-node : goal.overflow_sub-node
+overflow_sub-node g c =
+    (tell_some c.args.line c.args.node c.args.to (lines_of g.L.CheckpointLog g.L.EntryLog
+    c.args.self.now) (lines_of g.L.CheckpointLog g.L.EntryLog c.args.self.now) (reads_of
+    g.L.CheckpointLog g.L.EntryLog c.args.self.now.works) (reads_of g.L.CheckpointLog g.L.EntryLog
+    c.args.self.now.works) c.requires.next).is_line.low
+
+pub try_lead-requires-clause-to : goal.try_lead-requires-clause-to
+try_lead-requires-clause-to g c =
+    subst (λ (n : ℕ). IsLineToSome n (inputs.Tell c.args.to) (lines_of g.L.CheckpointLog
+    g.L.EntryLog c.args.self.now) (reads_of g.L.CheckpointLog g.L.EntryLog c.args.self.now.works))
+    (sym (before_after c.args.node (tell_some c.args.line c.args.node c.args.to (lines_of
+    g.L.CheckpointLog g.L.EntryLog c.args.self.now) (lines_of g.L.CheckpointLog g.L.EntryLog
+    c.args.self.now) (reads_of g.L.CheckpointLog g.L.EntryLog c.args.self.now.works) (reads_of
+    g.L.CheckpointLog g.L.EntryLog c.args.self.now.works) c.requires.next).is_line.low)) (tell_some
+    c.args.line c.args.node c.args.to (lines_of g.L.CheckpointLog g.L.EntryLog c.args.self.now)
+    (lines_of g.L.CheckpointLog g.L.EntryLog c.args.self.now) (reads_of g.L.CheckpointLog
+    g.L.EntryLog c.args.self.now.works) (reads_of g.L.CheckpointLog g.L.EntryLog
+    c.args.self.now.works) c.requires.next)
+
+pub try_lead-requires-clause-servers : goal.try_lead-requires-clause-servers
+try_lead-requires-clause-servers g c =
+    c.requires.servers
+
+pub returns-clause-line : goal.returns-clause-line
+returns-clause-line g c =
+    tell_line c.args.line c.args.node c.args.to (lines_of g.L.CheckpointLog g.L.EntryLog
+    c.args.self.now) (lines_of g.L.CheckpointLog g.L.EntryLog c.try_lead.new.self) (reads_of
+    g.L.CheckpointLog g.L.EntryLog c.args.self.now.works) (reads_of g.L.CheckpointLog g.L.EntryLog
+    c.try_lead.new.self.works) c.try_lead.result
+    (subst (λ (n : ℕ). IsTriedLine c.args.line n (inputs.Tell c.args.to) (lines_of
+    g.L.CheckpointLog g.L.EntryLog c.args.self.now) (reads_of g.L.CheckpointLog g.L.EntryLog
+    c.args.self.now.works)
+    (lines_of g.L.CheckpointLog g.L.EntryLog c.try_lead.new.self) (reads_of g.L.CheckpointLog
+    g.L.EntryLog c.try_lead.new.self.works) c.try_lead.result)
+    (before_after c.args.node (tell_some c.args.line c.args.node c.args.to (lines_of
+    g.L.CheckpointLog g.L.EntryLog c.args.self.now) (lines_of g.L.CheckpointLog g.L.EntryLog
+    c.args.self.now) (reads_of g.L.CheckpointLog g.L.EntryLog c.args.self.now.works) (reads_of
+    g.L.CheckpointLog g.L.EntryLog c.args.self.now.works) c.requires.next).is_line.low)
+    c.try_lead.ensures.line)
+
+pub returns-clause-servers : goal.returns-clause-servers
+returns-clause-servers g c =
+    c.try_lead.ensures.servers

@@ -1,0 +1,168 @@
+-- The input of a line, put unless it is refused.
+use Rattle.std.proofs.Common.{◌≡◌, ◌+◌, Err, refl, sym, ap, ◌∙◌, subst, rules, arith}
+use Rattle.std.proofs.lemmas.Grind.{common_steps}
+use Rattle.cam_net.specs.Waiting.{is_halted}
+use Rattle.cam_cluster.specs.declared.LineFault.TheVariants as line_faults
+use Rattle.cam_cluster.specs.InputLines.{IsTriedLine}
+use Rattle.cam_cluster.proofs.AsSeen.{lines_of, part, reads_of}
+use Rattle.cam_cluster.proofs.BeginEnds.{begin_may, begin_within}
+use Rattle.cam_cluster.proofs.BegunLine.{unput_may_be_written}
+use Rattle.cam_cluster.proofs.PlacedNodes.{after_is, seen_there, taken_there}
+use Rattle.cam_cluster.proofs.TriedEnds.{one_there, place_of, tried_halted, tried_led, tried_lines}
+use Rattle.cam_cluster.proofs.TriedEnds.{tried_may, tried_refused, tried_there, tried_wanting}
+use Rattle.cam_cluster.proofs.lines.Lines.try_lead.Goals as goal
+
+pub returns-then-is_halted-clause-line : goal.returns-then-is_halted-clause-line
+returns-then-is_halted-clause-line g c =
+    tried_halted c.args.line c.args.place c.args.input.now (lines_of g.L.CheckpointLog g.L.EntryLog
+    c.args.self.now) (lines_of g.L.CheckpointLog g.L.EntryLog c.refused.new.self) (reads_of
+    g.L.CheckpointLog g.L.EntryLog c.args.self.now.works) (reads_of g.L.CheckpointLog g.L.EntryLog
+    c.refused.new.self.works)
+    (tried_there c.args.place c.args.input.now (lines_of g.L.CheckpointLog g.L.EntryLog
+    c.args.self.now) (reads_of g.L.CheckpointLog g.L.EntryLog c.args.self.now.works) c.requires.to)
+    (ap (is_halted c.args.self.now.works.halted) (after_is c.args.place) ∙ sym c.is_halted.ensures
+    ∙ c.if-is_halted.true) c.refused.result c.refused.ensures
+
+pub returns-then-is_halted-clause-servers : goal.returns-then-is_halted-clause-servers
+returns-then-is_halted-clause-servers g c =
+    c.requires.servers
+
+pub index-requires : goal.index-requires
+index-requires g c =
+    let there = (place_of (part g.L.CheckpointLog g.L.EntryLog) c.args.self.now.works.nodes.items
+    c.args.place (tried_there c.args.place c.args.input.now (lines_of g.L.CheckpointLog
+    g.L.EntryLog c.args.self.now) (reads_of g.L.CheckpointLog g.L.EntryLog c.args.self.now.works)
+    c.requires.to)) in
+    first_of (search rules, grind (arith, common_steps, there))
+
+pub lead-requires-clause-place : goal.lead-requires-clause-place
+lead-requires-clause-place g c =
+    begin_within (lines_of g.L.CheckpointLog g.L.EntryLog c.args.self.now) (reads_of
+    g.L.CheckpointLog g.L.EntryLog c.args.self.now.works) c.args.place (tried_lines (c.args.place +
+    1) c.args.input.now (lines_of g.L.CheckpointLog g.L.EntryLog c.args.self.now) (reads_of
+    g.L.CheckpointLog g.L.EntryLog c.args.self.now.works) c.requires.to)
+    (tried_there c.args.place c.args.input.now (lines_of g.L.CheckpointLog g.L.EntryLog
+    c.args.self.now) (reads_of g.L.CheckpointLog g.L.EntryLog c.args.self.now.works) c.requires.to)
+
+pub lead-requires-clause-may : goal.lead-requires-clause-may
+lead-requires-clause-may g c =
+    one_there _ c.args.self.now.works.nodes.items c.args.place c.index.result.now (taken_there
+    c.args.self.now.works.nodes.items c.args.place c.index.result.now (place_of (part
+    g.L.CheckpointLog g.L.EntryLog) c.args.self.now.works.nodes.items c.args.place (tried_there
+    c.args.place c.args.input.now (lines_of g.L.CheckpointLog g.L.EntryLog c.args.self.now)
+    (reads_of g.L.CheckpointLog g.L.EntryLog c.args.self.now.works) c.requires.to))
+    c.index.ensures) (
+      (begin_may (lines_of g.L.CheckpointLog g.L.EntryLog c.args.self.now) (reads_of
+          g.L.CheckpointLog g.L.EntryLog c.args.self.now.works) c.args.place (tried_lines (c.args.place
+          + 1) c.args.input.now (lines_of g.L.CheckpointLog g.L.EntryLog c.args.self.now) (reads_of
+          g.L.CheckpointLog g.L.EntryLog c.args.self.now.works) c.requires.to) (tried_there
+          c.args.place c.args.input.now (lines_of g.L.CheckpointLog g.L.EntryLog c.args.self.now)
+          (reads_of g.L.CheckpointLog g.L.EntryLog c.args.self.now.works) c.requires.to)
+          (ap (is_halted c.args.self.now.works.halted) (after_is c.args.place) ∙ sym
+          c.is_halted.ensures ∙ c.if-is_halted.false) _
+          (seen_there (part g.L.CheckpointLog g.L.EntryLog) c.args.self.now.works.nodes.items
+          c.args.place c.index.result.now (taken_there c.args.self.now.works.nodes.items
+          c.args.place c.index.result.now (place_of (part g.L.CheckpointLog g.L.EntryLog)
+          c.args.self.now.works.nodes.items c.args.place (tried_there c.args.place c.args.input.now
+          (lines_of g.L.CheckpointLog g.L.EntryLog c.args.self.now) (reads_of g.L.CheckpointLog
+          g.L.EntryLog c.args.self.now.works) c.requires.to)) c.index.ensures))).0,
+      c.in-None.ensures.free refl,
+      tried_may c.args.line c.args.place c.args.input.now (lines_of g.L.CheckpointLog g.L.EntryLog
+          c.args.self.now) (lines_of g.L.CheckpointLog g.L.EntryLog c.args.self.now) (reads_of
+          g.L.CheckpointLog g.L.EntryLog c.args.self.now.works) (reads_of g.L.CheckpointLog
+          g.L.EntryLog c.args.self.now.works)
+          (tried_there c.args.place c.args.input.now (lines_of g.L.CheckpointLog g.L.EntryLog
+          c.args.self.now) (reads_of g.L.CheckpointLog g.L.EntryLog c.args.self.now.works)
+          c.requires.to) c.requires.to
+          (ap (is_halted c.args.self.now.works.halted) (after_is c.args.place) ∙ sym
+          c.is_halted.ensures ∙ c.if-is_halted.false) _
+          (seen_there (part g.L.CheckpointLog g.L.EntryLog) c.args.self.now.works.nodes.items
+          c.args.place c.index.result.now (taken_there c.args.self.now.works.nodes.items
+          c.args.place c.index.result.now (place_of (part g.L.CheckpointLog g.L.EntryLog)
+          c.args.self.now.works.nodes.items c.args.place (tried_there c.args.place c.args.input.now
+          (lines_of g.L.CheckpointLog g.L.EntryLog c.args.self.now) (reads_of g.L.CheckpointLog
+          g.L.EntryLog c.args.self.now.works) c.requires.to)) c.index.ensures))
+          c.in-None.ensures.rule,
+    )
+
+pub lead-requires-clause-servers : goal.lead-requires-clause-servers
+lead-requires-clause-servers g c =
+    c.requires.servers
+
+pub lead-requires-clause-there : goal.lead-requires-clause-there
+lead-requires-clause-there g c =
+    (place_of (part g.L.CheckpointLog g.L.EntryLog) c.args.self.now.works.nodes.items c.args.place
+    (tried_there c.args.place c.args.input.now (lines_of g.L.CheckpointLog g.L.EntryLog
+    c.args.self.now) (reads_of g.L.CheckpointLog g.L.EntryLog c.args.self.now.works) c.requires.to))
+
+pub lead-requires-clause-writable : goal.lead-requires-clause-writable
+lead-requires-clause-writable g c =
+    unput_may_be_written _ _ (tried_lines (c.args.place + 1) c.args.input.now (lines_of
+    g.L.CheckpointLog g.L.EntryLog c.args.self.now) (reads_of g.L.CheckpointLog g.L.EntryLog
+    c.args.self.now.works) c.requires.to)
+
+pub returns-in_err-lead-in-None-clause-line : goal.returns-in_err-lead-in-None-clause-line
+returns-in_err-lead-in-None-clause-line g c =
+    let wants : c.from_residual.result ≡ Err line_faults.NoMemory = search rules in
+    subst (λ r. IsTriedLine c.args.line (c.args.place + 1) c.args.input.now (lines_of
+    g.L.CheckpointLog g.L.EntryLog c.args.self.now) (reads_of g.L.CheckpointLog g.L.EntryLog
+    c.args.self.now.works)
+    (lines_of g.L.CheckpointLog g.L.EntryLog c.lead.new.self) (reads_of g.L.CheckpointLog
+    g.L.EntryLog c.lead.new.self.works) r) (sym wants)
+    (tried_wanting c.args.line c.args.place c.args.input.now (lines_of g.L.CheckpointLog
+    g.L.EntryLog c.args.self.now) (lines_of g.L.CheckpointLog g.L.EntryLog c.lead.new.self)
+    (reads_of g.L.CheckpointLog g.L.EntryLog c.args.self.now.works) (reads_of g.L.CheckpointLog
+    g.L.EntryLog c.lead.new.self.works)
+    (tried_there c.args.place c.args.input.now (lines_of g.L.CheckpointLog g.L.EntryLog
+    c.args.self.now) (reads_of g.L.CheckpointLog g.L.EntryLog c.args.self.now.works) c.requires.to)
+    c.in_err-lead-in-None.ensures.as_before)
+
+pub returns-in_err-lead-in-None-clause-servers : goal.returns-in_err-lead-in-None-clause-servers
+returns-in_err-lead-in-None-clause-servers g c =
+    c.lead.ensures.servers
+
+pub returns-in-Some-clause-line : goal.returns-in-Some-clause-line
+returns-in-Some-clause-line g c =
+    tried_refused c.args.line c.args.place c.args.input.now (lines_of g.L.CheckpointLog
+    g.L.EntryLog c.args.self.now) (lines_of g.L.CheckpointLog g.L.EntryLog
+    c.refused-in-Some.new.self) (reads_of g.L.CheckpointLog g.L.EntryLog c.args.self.now.works)
+    (reads_of g.L.CheckpointLog g.L.EntryLog c.refused-in-Some.new.self.works)
+    (tried_there c.args.place c.args.input.now (lines_of g.L.CheckpointLog g.L.EntryLog
+    c.args.self.now) (reads_of g.L.CheckpointLog g.L.EntryLog c.args.self.now.works) c.requires.to)
+    c.in-Some.refusal
+    (ap (is_halted c.args.self.now.works.halted) (after_is c.args.place) ∙ sym c.is_halted.ensures
+    ∙ c.if-is_halted.false) _
+    (seen_there (part g.L.CheckpointLog g.L.EntryLog) c.args.self.now.works.nodes.items
+    c.args.place c.index.result.now (taken_there c.args.self.now.works.nodes.items c.args.place
+    c.index.result.now (place_of (part g.L.CheckpointLog g.L.EntryLog)
+    c.args.self.now.works.nodes.items c.args.place (tried_there c.args.place c.args.input.now
+    (lines_of g.L.CheckpointLog g.L.EntryLog c.args.self.now) (reads_of g.L.CheckpointLog
+    g.L.EntryLog c.args.self.now.works) c.requires.to)) c.index.ensures)) c.in-Some.ensures.rule
+    c.refused-in-Some.result c.refused-in-Some.ensures
+
+pub returns-in-Some-clause-servers : goal.returns-in-Some-clause-servers
+returns-in-Some-clause-servers g c =
+    c.requires.servers
+
+pub returns-in_ok-lead-in-None-clause-line : goal.returns-in_ok-lead-in-None-clause-line
+returns-in_ok-lead-in-None-clause-line g c =
+    tried_led c.args.line c.args.place c.args.input.now (lines_of g.L.CheckpointLog g.L.EntryLog
+    c.args.self.now) (lines_of g.L.CheckpointLog g.L.EntryLog c.lead.new.self) (reads_of
+    g.L.CheckpointLog g.L.EntryLog c.args.self.now.works) (reads_of g.L.CheckpointLog g.L.EntryLog
+    c.lead.new.self.works)
+    (tried_there c.args.place c.args.input.now (lines_of g.L.CheckpointLog g.L.EntryLog
+    c.args.self.now) (reads_of g.L.CheckpointLog g.L.EntryLog c.args.self.now.works) c.requires.to)
+    c.in_ok-lead-in-None.field-0
+    (ap (is_halted c.args.self.now.works.halted) (after_is c.args.place) ∙ sym c.is_halted.ensures
+    ∙ c.if-is_halted.false) _
+    (seen_there (part g.L.CheckpointLog g.L.EntryLog) c.args.self.now.works.nodes.items
+    c.args.place c.index.result.now (taken_there c.args.self.now.works.nodes.items c.args.place
+    c.index.result.now (place_of (part g.L.CheckpointLog g.L.EntryLog)
+    c.args.self.now.works.nodes.items c.args.place (tried_there c.args.place c.args.input.now
+    (lines_of g.L.CheckpointLog g.L.EntryLog c.args.self.now) (reads_of g.L.CheckpointLog
+    g.L.EntryLog c.args.self.now.works) c.requires.to)) c.index.ensures)) c.in-None.ensures.rule
+    c.in_ok-lead-in-None.ensures.led
+
+pub returns-in_ok-lead-in-None-clause-servers : goal.returns-in_ok-lead-in-None-clause-servers
+returns-in_ok-lead-in-None-clause-servers g c =
+    c.lead.ensures.servers

@@ -1,0 +1,47 @@
+//! `start A NODE BODY`: a top action is created at the node, which works at the body, and the
+//! variable stands for it. The line is refused where the node is halted.
+ghost use Rattle.std.specs.Prelude.{◌≤◌, ℕ, length};
+ghost use Rattle.cam_event.specs.Inputs.{Begins};
+ghost use Rattle.cam_script.specs.declared.Act.TheVariants as acts;
+ghost use Rattle.cam_cluster.specs.Servers.{AreServers};
+ghost use Rattle.cam_cluster.specs.SoFar.{AreLinesOfSome, IsLineOfInput};
+
+use super::{AsLines, Lines};
+use crate::LineFault;
+use crate::servers::Servers;
+use crate::works::{Put, is_halted};
+use cam_ckpt::CheckpointLog;
+use cam_event::LineRefusal;
+use cam_node::Input;
+use cam_type::DataType;
+
+impl<L: CheckpointLog> Lines<L> {
+    /// Begins a top action at a node, whichever body the line gives it. What works at a body is not
+    /// kept here.
+    #[tactic(none)]
+    pub(crate) fn start<R: DataType, Q: DataType, C: DataType>(
+        &mut self,
+        line: u32,
+        node: u8,
+        servers: &mut Servers<R, Q, C>,
+    ) -> Result<Put, LineFault>
+        requires low { 1 ≤ node }
+        requires node { node ≤ length self.old.works.nodes.items }
+        requires stand { AreLinesOfSome (⟦<Lines<L> as AsLines>⟧.fields self.old)
+            (⟦<Lines<L> as AsLines>⟧.may_read self.old) }
+        requires servers { AreServers R.kind Q.kind C.kind
+            servers.old.register servers.old.queue servers.old.counter }
+        ensures line { (body : ℕ) → IsLineOfInput line (acts.Start node body) (Begins node)
+            (⟦<Lines<L> as AsLines>⟧.fields self.old) (⟦<Lines<L> as AsLines>⟧.may_read self.old)
+            (⟦<Lines<L> as AsLines>⟧.fields self.new) (⟦<Lines<L> as AsLines>⟧.may_read self.new)
+            result }
+        ensures servers { AreServers R.kind Q.kind C.kind
+            servers.new.register servers.new.queue servers.new.counter }
+    {
+        let place = node as usize - 1;
+        if is_halted(&self.works.halted, place) {
+            return Err(self.refused(line, LineRefusal::Halted));
+        }
+        Ok(self.lead(line, place, &Input::Begin, servers)?)
+    }
+}
