@@ -21,3 +21,5 @@ pub mod SoFar
 pub mod InputLines
 pub mod VariableLines
 pub mod AtNodes
+pub mod ActionViews
+pub mod Workers

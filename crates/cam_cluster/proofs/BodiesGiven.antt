@@ -1,0 +1,130 @@
+-- A body that is given to an action, and its coming into the table.
+use Rattle.std.proofs.Common.{◌≡◌, ◌⊎◌, inl, inr, ℕ, zero, suc, ◌≤◌, ◌<◌, ◌+◌, cond, List, [], ◌∷◌, ◌++◌}
+use Rattle.std.proofs.Common.{length, take, Some, None, refl, sym, ap, ◌∙◌, arith, subst}
+use Rattle.std.specs.Prelude.{slice_get}
+use Rattle.std.specs.Ordering.{is_eq}
+use Rattle.std.specs.BTreeMap.{BTreeMap, IsOrdered, get, insert_entry, keys}
+use Rattle.std.specs.Map.{keys_of}
+use Rattle.std.proofs.lemmas.List.{length-append, take-append-le, take_all, take_more}
+use Rattle.std.proofs.lemmas.Option.{get_or_from_slice_get, same_Some, slice_get_within}
+use Rattle.cam_names.specs.declared.name.Name.{Name}
+use Rattle.cam_names.specs.Names.{name_cmp}
+use Rattle.cam_runs.specs.HaltedPlaying.{given_body}
+use Rattle.cam_runs.specs.Playing as playing
+use Rattle.cam_runs.specs.Playing.{body_number}
+use Rattle.cam_runs.specs.Standing.{Standing}
+use Rattle.cam_cluster.specs.declared.workers.Workers.{Workers}
+use Rattle.cam_cluster.specs.ActionViews.{HasSeen}
+use Rattle.cam_cluster.specs.Workers.{AreWorkers, IsOnceEach, IsTableOf, first_events}
+use Rattle.cam_cluster.proofs.InOrder.{body_number_more, in_order_more, insert_is_put}
+
+-- what stands in a list with one element more behind it
+behind_last : {X : Type 0} (xs : List X) (x : X) (i : ℕ) (y : X)
+    → slice_get (xs ++ x ∷ []) i ≡ Some y
+    → (slice_get xs i ≡ Some y) ⊎ ((i ≡ length xs) × (x ≡ y))
+behind_last [] x zero y there = inr (refl, same_Some x y there)
+behind_last [] x (suc i) y there = cc
+behind_last (z ∷ xs) x zero y there = inl there
+behind_last (z ∷ xs) x (suc i) y there =
+    elim (behind_last xs x i y there) [
+      | inl before ↦ inl before
+      | inr last ↦ inr (ap suc last.0, last.1)
+    ]
+
+once_more : (given : List (Name × ℕ)) (a : Name) (body : ℕ) → IsOnceEach given
+    → body_number given a ≡ None → IsOnceEach (given ++ (a, body) ∷ [])
+once_more given a body once bare i p there =
+    elim (behind_last given (a, body) i p there) [
+      | inl before ↦
+          ap (λ (ps : List (Name × ℕ)). body_number ps p.0)
+          (take-append-le i given ((a, body) ∷ [])
+          (let within = slice_get_within given i p before in omega (arith, within)))
+          ∙ once i p before
+      | inr last ↦
+          ap (λ (ps : List (Name × ℕ)). body_number ps p.0)
+          (take-append-le i given ((a, body) ∷ []) (omega (arith, last.0))
+          ∙ take_all i given (omega (arith, last.0)))
+          ∙ ap (λ (q : Name × ℕ). body_number given q.0) (sym last.1) ∙ bare
+    ]
+
+-- A body more is given.
+pub one_given : (st : Standing) (a : Name) (body : ℕ) (old new : Workers)
+    → new.given.items ≡ old.given.items ++ (a, body) ∷ [] → new.placed ≡ old.placed
+    → new.bodies ≡ old.bodies → new.seen ≡ old.seen → new.events ≡ old.events
+    → body_number st.running.bodies a ≡ None → AreWorkers st old
+    → AreWorkers (given_body (Some body) (Some a) st) new
+one_given st a body old new all placed bodies seen events bare are = record {
+  given = record {
+    all = all ∙ ap (λ (ps : List (Name × ℕ)). ps ++ (a, body) ∷ []) are.given.all;
+    once = once_more st.running.bodies a body are.given.once bare;
+    within =
+        let within = are.given.within in
+        let long : length (st.running.bodies ++ (a, body) ∷ []) ≡ length st.running.bodies + 1 =
+        length-append st.running.bodies ((a, body) ∷ []) in
+        omega (arith, within, placed, long);
+    table =
+        subst (λ (b : BTreeMap Name ℕ). IsTableOf (take new.placed (st.running.bodies ++ (a, body) ∷ [])) b) (sym bodies)
+        (subst (λ (ps : List (Name × ℕ)). IsTableOf ps old.bodies)
+        (sym
+        (ap (λ n. take n (st.running.bodies ++ (a, body) ∷ [])) placed
+        ∙ take-append-le old.placed st.running.bodies ((a, body) ∷ []) are.given.within))
+        are.given.table);
+  };
+  within = let within = are.within in omega (arith, within, events);
+  seen =
+      subst (λ s. HasSeen (first_events new.events st.running.trace) s) (sym seen)
+      (subst (λ n. HasSeen (first_events n st.running.trace) old.seen) (sym events) are.seen);
+}
+
+-- The next of the bodies that were given comes into the table.
+pub one_placed : (given : List (Name × ℕ)) (i : ℕ) (p : Name × ℕ) (old new : BTreeMap Name ℕ)
+    → IsOnceEach given → slice_get given i ≡ Some p → i < length given → IsTableOf (take i given) old
+    → keys new ≡ keys_of (insert_entry name_cmp old.entries p.0 p.1) → IsOrdered name_cmp new
+    → ((q : Name) → get name_cmp new q
+    ≡ cond (is_eq (name_cmp p.0 q)) (Some p.1) (get name_cmp old q))
+    → IsTableOf (take (i + 1) given) new
+one_placed given i p old new once there within table names ordered put =
+    let bare = once i p there in
+    let more : take (i + 1) given ≡ take i given ++ p ∷ [] =
+    take_more given i p within
+    ∙ ap (λ (q : Name × ℕ). take i given ++ q ∷ []) (get_or_from_slice_get given i p p there) in
+    subst (λ (ps : List (Name × ℕ)). IsTableOf ps new) (sym more) (record {
+      names =
+          names ∙ insert_is_put old.entries p.0 p.1 (table.at p.0 ∙ bare)
+          ∙ ap (playing.put p.0) table.names
+          ∙ sym (in_order_more (take i given) p.0 p.1 bare);
+      ordered = ordered;
+      at = λ q.
+          put q ∙ ap (λ o. cond (is_eq (name_cmp p.0 q)) (Some p.1) o) (table.at q)
+          ∙ sym (body_number_more (take i given) p.0 p.1 q bare);
+    })
+
+pub placed_more : (st : Standing) (old new : Workers) (p : Name × ℕ)
+    → slice_get old.given.items old.placed ≡ Some p → new.given.items ≡ old.given.items
+    → new.placed ≡ old.placed + 1
+    → keys new.bodies ≡ keys_of (insert_entry name_cmp old.bodies.entries p.0 p.1)
+    → IsOrdered name_cmp new.bodies
+    → ((q : Name) → get name_cmp new.bodies q
+    ≡ cond (is_eq (name_cmp p.0 q)) (Some p.1) (get name_cmp old.bodies q))
+    → new.seen ≡ old.seen → new.events ≡ old.events → AreWorkers st old → AreWorkers st new
+placed_more st old new p at items one_more names ordered put seen events are = record {
+  given = record {
+    all = items ∙ are.given.all;
+    once = are.given.once;
+    within = omega (arith, within, one_more);
+    table =
+        subst (λ n. IsTableOf (take n st.running.bodies) new.bodies) (sym one_more)
+        (one_placed st.running.bodies old.placed p old.bodies new.bodies are.given.once there within
+        are.given.table names ordered put);
+  };
+  within = let fits = are.within in omega (arith, fits, events);
+  seen =
+      subst (λ s. HasSeen (first_events new.events st.running.trace) s) (sym seen)
+      (subst (λ n. HasSeen (first_events n st.running.trace) old.seen) (sym events) are.seen);
+}
+  where
+    there : slice_get st.running.bodies old.placed ≡ Some p
+    there = ap (λ (ps : List (Name × ℕ)). slice_get ps old.placed) (sym are.given.all) ∙ at
+
+    within : old.placed < length st.running.bodies
+    within = slice_get_within st.running.bodies old.placed p there

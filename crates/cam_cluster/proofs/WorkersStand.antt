@@ -1,0 +1,132 @@
+-- The actions that work at a body, as they are kept while events come and are taken in.
+use Rattle.std.proofs.Common.{◌≡◌, ℕ, ◌≤◌, ◌+◌, ◌-◌, List, [], ◌++◌, length, take, drop, reverse, sym, ap, ◌∙◌, arith}
+use Rattle.std.proofs.Common.{length-drop, subst}
+use Rattle.std.specs.BTreeMap.{BTreeMap}
+use Rattle.std.proofs.lemmas.List.{length-append, length-reverse, reverse-append, reverse-reverse}
+use Rattle.std.proofs.lemmas.List.{take-append-drop, take-append-le, take_all}
+use Rattle.cam_names.specs.declared.name.Name.{Name}
+use Rattle.cam_event.specs.declared.Event.{Event}
+use Rattle.cam_runs.specs.Standing.{Standing}
+use Rattle.cam_cluster.specs.declared.workers.Workers.{Workers}
+use Rattle.cam_cluster.specs.ActionViews.{HasSeen}
+use Rattle.cam_cluster.specs.Workers.{AreWorkers, HaveCaughtUp, IsGiven, IsTableOf, first_events}
+
+-- all events are the first ones, as many as there are
+pub all_first : (t : List Event) → first_events (length t) t ≡ t
+all_first t =
+    ap (λ (es : List Event). reverse es)
+    (take_all (length t) (reverse t) (let long = length-reverse t in omega (arith, long)))
+    ∙ reverse-reverse t
+
+-- the first events, and those behind them
+pub first_and_others : (n : ℕ) (events t : List Event) → events ≡ reverse t
+    → reverse (drop n events) ++ first_events n t ≡ first_events (length events) t
+first_and_others n events t is =
+    ap (λ (es : List Event). reverse (drop n events) ++ reverse (take n es)) (sym is)
+    ∙ sym (reverse-append (take n events) (drop n events))
+    ∙ ap (λ (es : List Event). reverse es)
+    (take-append-drop n events ∙ sym (take_all (length events) events (omega arith)))
+    ∙ ap (λ (es : List Event). reverse (take (length events) es)) is
+
+-- further events change nothing of the first ones
+pub first_stay : (n : ℕ) (more t : List Event) → n ≤ length t
+    → first_events n (more ++ t) ≡ first_events n t
+first_stay n more t within =
+    ap (λ (es : List Event). reverse (take n es)) (reverse-append more t)
+    ∙ ap (λ (es : List Event). reverse es)
+    (take-append-le n (reverse t) (reverse more)
+    (let long = length-reverse t in omega (arith, long, within)))
+
+-- Further events leave them as they were, over the first ones.
+pub workers_stay : (old new : Standing) (workers : Workers) (more : List Event)
+    → new.running.bodies ≡ old.running.bodies → new.running.trace ≡ more ++ old.running.trace
+    → AreWorkers old workers → AreWorkers new workers
+workers_stay old new workers more bodies trace are = record {
+  given = subst (λ (given : List (Name × ℕ)). IsGiven given workers) (sym bodies) are.given;
+  within =
+      let within = are.within in
+      let long : length new.running.trace ≡ length more + length old.running.trace =
+      ap (λ (t : List Event). length t) trace ∙ length-append more old.running.trace in
+      omega (arith, within, long);
+  seen =
+      subst (λ (t : List Event). HasSeen t workers.seen)
+      (sym
+      (ap (first_events workers.events) trace
+      ∙ first_stay workers.events more old.running.trace are.within)) are.seen;
+}
+
+-- as many events as are given in order
+pub as_many : (events t : List Event) → events ≡ reverse t → length events ≡ length t
+as_many events t is = ap (λ (es : List Event). length es) is ∙ length-reverse t
+
+-- the others as a slice has them
+all_behind : (n : ℕ) (events : List Event) → take (length events - n) (drop n events) ≡ drop n events
+all_behind n events =
+    take_all (length events - n) (drop n events)
+    (let long = length-drop n events in omega (arith, long))
+
+-- the same bodies are given, and the same of them are in the table
+same_given : (given : List (Name × ℕ)) (old new : Workers) → new.given.items ≡ old.given.items
+    → new.placed ≡ old.placed → new.bodies ≡ old.bodies → IsGiven given old → IsGiven given new
+same_given given old new items placed bodies is = record {
+  all = items ∙ is.all;
+  once = is.once;
+  within = let within = is.within in omega (arith, within, placed);
+  table =
+      subst (λ (b : BTreeMap Name ℕ). IsTableOf (take new.placed given) b) (sym bodies)
+      (subst (λ n. IsTableOf (take n given) old.bodies) (sym placed) is.table);
+}
+
+-- The same workers stand, with room for more.
+pub same_workers : (st : Standing) (old new : Workers) → new.given.items ≡ old.given.items
+    → new.placed ≡ old.placed → new.bodies ≡ old.bodies → new.seen ≡ old.seen
+    → new.events ≡ old.events → AreWorkers st old → AreWorkers st new
+same_workers st old new items placed bodies seen events are = record {
+  given = same_given st.running.bodies old new items placed bodies are.given;
+  within = let within = are.within in omega (arith, within, events);
+  seen =
+      subst (λ s. HasSeen (first_events new.events st.running.trace) s) (sym seen)
+      (subst (λ n. HasSeen (first_events n st.running.trace) old.seen) (sym events) are.seen);
+}
+
+-- The events that were missing are taken in.
+pub taken_in : (st : Standing) (old new : Workers) (events : List Event)
+    → events ≡ reverse st.running.trace → new.given.items ≡ old.given.items
+    → new.placed ≡ old.placed → new.bodies ≡ old.bodies → new.events ≡ length events
+    → HasSeen (reverse (take (length events - old.events) (drop old.events events))
+    ++ first_events old.events st.running.trace) new.seen
+    → AreWorkers st old → AreWorkers st new
+taken_in st old new events is items placed bodies counted seen are = record {
+  given = same_given st.running.bodies old new items placed bodies are.given;
+  within = let many = as_many events st.running.trace is in omega (arith, many, counted);
+  seen =
+      subst (λ (t : List Event). HasSeen t new.seen)
+      (ap (λ (es : List Event). reverse es ++ first_events old.events st.running.trace)
+      (all_behind old.events events)
+      ∙ first_and_others old.events events st.running.trace is
+      ∙ ap (λ n. first_events n st.running.trace) (sym counted)) seen;
+}
+
+-- No event is taken in.
+pub forgotten : (st : Standing) (old new : Workers) → new.given.items ≡ old.given.items
+    → new.placed ≡ old.placed → new.bodies ≡ old.bodies → new.events ≡ 0 → HasSeen [] new.seen
+    → IsGiven st.running.bodies old → AreWorkers st new
+forgotten st old new items placed bodies none seen is = record {
+  given = same_given st.running.bodies old new items placed bodies is;
+  within = omega (arith, none);
+  seen =
+      subst (λ n. HasSeen (first_events n st.running.trace) new.seen) (sym none) seen;
+}
+
+-- All bodies are placed, and all events are taken in.
+pub have_caught_up : (st : Standing) (workers : Workers) → AreWorkers st workers
+    → workers.placed ≡ length st.running.bodies → workers.events ≡ length st.running.trace
+    → HaveCaughtUp st workers
+have_caught_up st workers are placed counted = record {
+  table =
+      subst (λ (given : List (Name × ℕ)). IsTableOf given workers.bodies)
+      (take_all workers.placed st.running.bodies (omega (arith, placed))) are.given.table;
+  seen =
+      subst (λ (t : List Event). HasSeen t workers.seen)
+      (ap (λ n. first_events n st.running.trace) counted ∙ all_first st.running.trace) are.seen;
+}

@@ -1,0 +1,17 @@
+-- The value of one more request to commit.
+use Rattle.std.proofs.Common.{rules, ◌≡◌, ◌∷◌, ℤ, w64, sym, subst}
+use mir.Val.{to_z, of_z}
+use Rattle.cam_event.specs.declared.Deed.{Deed}
+use Rattle.cam_event.specs.declared.Deed.TheVariants.{AskCommit}
+use Rattle.cam_event.specs.Values.{HasValues}
+use Rattle.cam_event.proofs.Viewed.{values_put}
+use Rattle.cam_cluster.proofs.views.note_value.Goals as goal
+
+pub returns-in_ok-insert : goal.returns-in_ok-insert
+returns-in_ok-insert c = λ L before.
+    let arm = c.in-AskCommit in
+    let given = to_z w64 (of_z w64 arm.value) in
+    let whole : to_z w64 (of_z w64 arm.value) ≡ arm.value = search rules in
+    subst (λ (d : Deed). HasValues (d ∷ L) c.insert.new.self) (sym arm.is)
+    (subst (λ (z : ℤ). HasValues (AskCommit arm.action z ∷ L) c.insert.new.self) whole
+    (values_put L arm.action given c.args.values.now c.insert.new.self before c.in_ok-insert.ensures.updates.0))
