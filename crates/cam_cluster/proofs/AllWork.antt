@@ -1,5 +1,6 @@
 -- Each action that is kept as one that works at a body is one of what stands.
-use Rattle.std.proofs.Common.{◌≡◌, ℕ, ◌≤◌, suc, true, List, [], ◌∷◌, length, map, Some, refl, sym, ap, ◌∙◌, arith}
+use Rattle.std.proofs.Common.{◌≡◌, ℕ, ◌≤◌, suc, true, List, [], ◌∷◌, length, map, Some}
+use Rattle.std.proofs.Common.{refl, sym, ap, ◌∙◌, arith}
 use Rattle.std.specs.BTreeMap.{get}
 use Rattle.std.specs.List.{All, AllByRecursion}
 use Rattle.std.specs.Map.{keys_of}
@@ -9,7 +10,7 @@ use Rattle.cam_names.specs.Names.{name_cmp, is_ancestor}
 use Rattle.cam_names.proofs.Order.{name_total}
 use Rattle.cam_cluster.specs.declared.workers.Workers.{Workers}
 use Rattle.cam_cluster.specs.AtWork.{IsWorker, Worker}
-use Rattle.cam_cluster.specs.Workers.{AllWork, worker_of, workers_of}
+use Rattle.cam_cluster.specs.Workers.{AllWork, worker_of}
 
 is_named : (a : Name) → is_ancestor a a ≡ true → 1 ≤ length a
 is_named [] h = cc
@@ -43,5 +44,6 @@ all_work script st workers under caught = record {
         saw = caught.seen.views.views e.0 (is_named e.0 (under.works e.0 e.1 given).named);
         was_stopped = caught.seen.stopped e.0;
       }) workers.bodies.entries
-      (by_places _ workers.bodies.entries (All-found name_total workers.bodies caught.table.ordered));
+      (by_places _ workers.bodies.entries
+      (All-found name_total workers.bodies caught.table.ordered));
 }

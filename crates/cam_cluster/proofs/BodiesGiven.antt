@@ -1,6 +1,6 @@
 -- A body that is given to an action, and its coming into the table.
-use Rattle.std.proofs.Common.{◌≡◌, ◌⊎◌, inl, inr, ℕ, zero, suc, ◌≤◌, ◌<◌, ◌+◌, cond, List, [], ◌∷◌, ◌++◌}
-use Rattle.std.proofs.Common.{length, take, Some, None, refl, sym, ap, ◌∙◌, arith, subst}
+use Rattle.std.proofs.Common.{◌≡◌, ◌⊎◌, inl, inr, ℕ, zero, suc, ◌<◌, ◌+◌, cond}
+use Rattle.std.proofs.Common.{List, [], ◌∷◌, ◌++◌, length, take, Some, None, refl, sym, ap, ◌∙◌, arith, subst}
 use Rattle.std.specs.Prelude.{slice_get}
 use Rattle.std.specs.Ordering.{is_eq}
 use Rattle.std.specs.BTreeMap.{BTreeMap, IsOrdered, get, insert_entry, keys}
@@ -63,7 +63,8 @@ one_given st a body old new all placed bodies seen events bare are = record {
         length-append st.running.bodies ((a, body) ∷ []) in
         omega (arith, within, placed, long);
     table =
-        subst (λ (b : BTreeMap Name ℕ). IsTableOf (take new.placed (st.running.bodies ++ (a, body) ∷ [])) b) (sym bodies)
+        subst (λ (b : BTreeMap Name ℕ).
+        IsTableOf (take new.placed (st.running.bodies ++ (a, body) ∷ [])) b) (sym bodies)
         (subst (λ (ps : List (Name × ℕ)). IsTableOf ps old.bodies)
         (sym
         (ap (λ n. take n (st.running.bodies ++ (a, body) ∷ [])) placed
@@ -78,7 +79,8 @@ one_given st a body old new all placed bodies seen events bare are = record {
 
 -- The next of the bodies that were given comes into the table.
 pub one_placed : (given : List (Name × ℕ)) (i : ℕ) (p : Name × ℕ) (old new : BTreeMap Name ℕ)
-    → IsOnceEach given → slice_get given i ≡ Some p → i < length given → IsTableOf (take i given) old
+    → IsOnceEach given → slice_get given i ≡ Some p → i < length given
+    → IsTableOf (take i given) old
     → keys new ≡ keys_of (insert_entry name_cmp old.entries p.0 p.1) → IsOrdered name_cmp new
     → ((q : Name) → get name_cmp new q
     ≡ cond (is_eq (name_cmp p.0 q)) (Some p.1) (get name_cmp old q))

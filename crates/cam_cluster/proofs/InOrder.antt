@@ -1,6 +1,6 @@
 -- The names of the actions that work at a body, in order, and the table of them.
-use Rattle.std.proofs.Common.{◌≡◌, inl, inr, ℕ, Bool, true, false, if◌then◌else◌, cond, List, [], ◌∷◌, ◌++◌}
-use Rattle.std.proofs.Common.{Option, Some, None, refl, sym, ap, ◌∙◌, subst}
+use Rattle.std.proofs.Common.{◌≡◌, inl, inr, ℕ, Bool, true, false, if◌then◌else◌, cond}
+use Rattle.std.proofs.Common.{List, [], ◌∷◌, ◌++◌, Some, None, refl, sym, ap, ◌∙◌, subst}
 use Rattle.std.specs.Ordering.{is_eq, is_lt, match_ordering}
 use Rattle.std.specs.declared.cmp.Ordering.{Ordering}
 use Rattle.std.specs.declared.cmp.Ordering.TheVariants.{Less, Equal, Greater}
@@ -23,7 +23,8 @@ not_behind a b before =
     ]
 
 -- two names are put in whichever order
-put_before : (a b : Name) (xs : List Name) → name_lt a b ≡ true → put a (put b xs) ≡ put b (put a xs)
+put_before : (a b : Name) (xs : List Name) → name_lt a b ≡ true
+    → put a (put b xs) ≡ put b (put a xs)
 put_before a b [] before = let other = not_behind a b before in rw (before, other) refl
 put_before a b (c ∷ cs) before =
     elim (cases_Bool (name_lt b c)) [
@@ -36,17 +37,20 @@ put_before a b (c ∷ cs) before =
             let other = not_behind a b before in
             rw (no_less, first, other, no_less) refl
         | inr not_first ↦
-            rw (no_less, not_first, no_less) (ap (λ (ns : List Name). c ∷ ns) (put_before a b cs before))
+            rw (no_less, not_first, no_less)
+            (ap (λ (ns : List Name). c ∷ ns) (put_before a b cs before))
       ]
     ]
 
-put_either : (a b : Name) (xs : List Name) → name_eq a b ≡ false → put a (put b xs) ≡ put b (put a xs)
+put_either : (a b : Name) (xs : List Name) → name_eq a b ≡ false
+    → put a (put b xs) ≡ put b (put a xs)
 put_either a b xs apart =
     elim (name_three a b) [
       | inl before ↦ put_before a b xs before
       | inr (inl behind) ↦ sym (put_before b a xs behind)
       | inr (inr same) ↦
-          absurd (true≢false (sym (subst (λ (n : Name). name_eq a n ≡ true) same (name_eq_refl a)) ∙ apart))
+          absurd (true≢false
+          (sym (subst (λ (n : Name). name_eq a n ≡ true) same (name_eq_refl a)) ∙ apart))
     ]
 
 -- a name without a body is not the first of the given ones, nor has it one by the others
@@ -71,7 +75,8 @@ pub body_number_more : (given : List (Name × ℕ)) (a : Name) (body : ℕ) (q :
     → body_number given a ≡ None
     → body_number (given ++ (a, body) ∷ []) q
     ≡ cond (is_eq (name_cmp a q)) (Some body) (body_number given q)
-body_number_more [] a body q bare = by (name_eq a q) ∙ ap (λ t. cond t (Some body) None) (name_ties a q)
+body_number_more [] a body q bare =
+    by (name_eq a q) ∙ ap (λ t. cond t (Some body) None) (name_ties a q)
   where
     by : (t : Bool) → (if t then Some body else None) ≡ cond t (Some body) None
     by true = refl
@@ -89,7 +94,9 @@ body_number_more (p ∷ ps) a body q bare =
           ]
           in
           ap (λ t. if t then Some p.1 else body_number (ps ++ (a, body) ∷ []) q) same
-          ∙ sym (ap (λ t. cond t (Some body) (if name_eq p.0 q then Some p.1 else body_number ps q)) (sym (name_ties a q) ∙ other)
+          ∙ sym
+          (ap (λ t. cond t (Some body) (if name_eq p.0 q then Some p.1 else body_number ps q))
+          (sym (name_ties a q) ∙ other)
           ∙ ap (λ t. if t then Some p.1 else body_number ps q) same)
       | inr other ↦
           ap (λ t. if t then Some p.1 else body_number (ps ++ (a, body) ∷ []) q) other

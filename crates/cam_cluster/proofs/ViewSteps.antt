@@ -1,10 +1,9 @@
 -- What one more deed, and one more event, adds to what is kept of views.
-use Rattle.std.proofs.Common.{◌≡◌, inl, inr, ℕ, ℤ, ◌≤◌, Bool, true, false, ◌&&◌, ◌||◌, if◌then◌else◌, cond}
-use Rattle.std.proofs.Common.{List, [], ◌∷◌, ◌++◌, length, eqb, eq-eqb, Option, Some, None, unwrap_or}
-use Rattle.std.proofs.Common.{refl, sym, ap, ◌∙◌, append-nil, append_assoc}
+use Rattle.std.proofs.Common.{◌≡◌, inl, inr, ℕ, ℤ, ◌≤◌, Bool, true, false, ◌&&◌, ◌||◌}
+use Rattle.std.proofs.Common.{if◌then◌else◌, cond, List, [], ◌∷◌, ◌++◌, length, eqb, eq-eqb}
+use Rattle.std.proofs.Common.{Option, Some, None, unwrap_or, refl, sym, ap, ◌∙◌, append-nil, append_assoc}
 use Rattle.std.specs.Ordering.{is_eq}
 use Rattle.std.specs.BTreeMap.{BTreeMap, get}
-use Rattle.std.specs.BTreeSet.{BTreeSet, contains}
 use Rattle.std.specs.List.{list_any}
 use Rattle.std.proofs.lemmas.Bool.{and_left, and_right, cases_Bool, ne_eqb, or_parts}
 use Rattle.cam_names.specs.declared.name.Name.{Name}
@@ -12,9 +11,8 @@ use Rattle.cam_names.specs.Names.{name_cmp, name_eq, home_node, is_child, parent
 use Rattle.cam_names.proofs.Children.{is_some_name, child_of}
 use Rattle.cam_names.proofs.Names.{name_eq_same, name_ties_back}
 use Rattle.cam_event.specs.declared.Deed.{Deed}
-use Rattle.cam_event.specs.declared.Deed.TheVariants.{Create, Ask, Call, Perform, Bounce, Got, AskCommit, AskAbort}
-use Rattle.cam_event.specs.declared.Deed.TheVariants.{Commit, Abort, Secure, Inform, Crash}
-use Rattle.cam_event.specs.declared.Event.{Event}
+use Rattle.cam_event.specs.declared.Deed.TheVariants.{Create, Ask, Call, Perform, Bounce, Got}
+use Rattle.cam_event.specs.declared.Deed.TheVariants.{AskCommit, AskAbort, Commit, Abort, Secure, Inform, Crash}
 use Rattle.cam_event.specs.declared.ViewStep.{ViewStep}
 use Rattle.cam_event.specs.declared.ViewStep.TheVariants as steps
 use Rattle.cam_event.specs.History.{after, commit_value}
@@ -52,11 +50,16 @@ view_put old gone new b step out put a =
 pub child_has_parent : (a b u : Name) (v : Option ℤ) → 1 ≤ length a → parent b ≡ Some u
     → steps_for a (Some (u, steps.Child b v)) ≡ child_end a b v
 child_has_parent a b u v named is =
-    sym (ap (λ t. if t then steps.Child b v ∷ [] else []) (child_of a b named ∙ ap (is_some_name a) is))
+    sym
+    (ap (λ t. if t then steps.Child b v ∷ [] else [])
+    (child_of a b named ∙ ap (is_some_name a) is))
 
-pub top_has_none : (a b : Name) (v : Option ℤ) → 1 ≤ length a → parent b ≡ None → [] ≡ child_end a b v
+pub top_has_none : (a b : Name) (v : Option ℤ) → 1 ≤ length a → parent b ≡ None
+    → [] ≡ child_end a b v
 top_has_none a b v named is =
-    sym (ap (λ t. if t then steps.Child b v ∷ [] else []) (child_of a b named ∙ ap (is_some_name a) is))
+    sym
+    (ap (λ t. if t then steps.Child b v ∷ [] else [])
+    (child_of a b named ∙ ap (is_some_name a) is))
 
 -- a commit is seen with the value that the child asked for, or not at all
 pub committed_with : (L : List Deed) (a b : Name) (v : ℤ) → commit_value L b ≡ Some v

@@ -1,6 +1,6 @@
 -- The actions that work at a body, as they are kept while events come and are taken in.
-use Rattle.std.proofs.Common.{◌≡◌, ℕ, ◌≤◌, ◌+◌, ◌-◌, List, [], ◌++◌, length, take, drop, reverse, sym, ap, ◌∙◌, arith}
-use Rattle.std.proofs.Common.{length-drop, subst}
+use Rattle.std.proofs.Common.{◌≡◌, ℕ, ◌≤◌, ◌+◌, ◌-◌, List, [], ◌++◌, length, take}
+use Rattle.std.proofs.Common.{drop, reverse, length-drop, sym, ap, ◌∙◌, subst, arith}
 use Rattle.std.specs.BTreeMap.{BTreeMap}
 use Rattle.std.proofs.lemmas.List.{length-append, length-reverse, reverse-append, reverse-reverse}
 use Rattle.std.proofs.lemmas.List.{take-append-drop, take-append-le, take_all}
@@ -60,7 +60,8 @@ pub as_many : (events t : List Event) → events ≡ reverse t → length events
 as_many events t is = ap (λ (es : List Event). length es) is ∙ length-reverse t
 
 -- the others as a slice has them
-all_behind : (n : ℕ) (events : List Event) → take (length events - n) (drop n events) ≡ drop n events
+all_behind : (n : ℕ) (events : List Event)
+    → take (length events - n) (drop n events) ≡ drop n events
 all_behind n events =
     take_all (length events - n) (drop n events)
     (let long = length-drop n events in omega (arith, long))

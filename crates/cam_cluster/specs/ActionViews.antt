@@ -1,4 +1,5 @@
--- What is kept of the views of actions over the events so far, and what one more event adds to a view.
+-- What is kept of the views of actions over the events so far, and what one more event adds to a
+-- view.
 use Rattle.std.specs.Prelude.{◌≡◌, ℤ, ◌≤◌, Bool, false, if◌then◌else◌, List, [], ◌∷◌, ◌++◌, length}
 use Rattle.std.specs.Prelude.{Option, Some, None, unwrap_or}
 use Rattle.std.specs.BTreeMap.{BTreeMap, get}
@@ -7,7 +8,8 @@ use Rattle.std.specs.List.{list_any}
 use Rattle.cam_names.specs.declared.name.Name.{Name}
 use Rattle.cam_names.specs.Names.{name_cmp, name_eq, is_child}
 use Rattle.cam_event.specs.declared.Deed.{Deed}
-use Rattle.cam_event.specs.declared.Deed.TheVariants.{Create, Ask, Call, Got, AskCommit, AskAbort, Commit, Abort}
+use Rattle.cam_event.specs.declared.Deed.TheVariants.{Create, Ask, Call, Got, AskCommit}
+use Rattle.cam_event.specs.declared.Deed.TheVariants.{AskAbort, Commit, Abort}
 use Rattle.cam_event.specs.declared.Event.{Event}
 use Rattle.cam_event.specs.declared.ViewStep.{ViewStep}
 use Rattle.cam_event.specs.declared.ViewStep.TheVariants as steps

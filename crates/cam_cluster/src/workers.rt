@@ -118,7 +118,8 @@ impl Workers {
     /// No event is taken in any more, and the next `catch_up` takes in them all. It is for events of which one came to stand before
     /// others, as where a restart finds one that was taken.
     pub(crate) fn forget(&mut self)
-        ensures given { (st : Standing) → IsGiven st.running.bodies self.old → AreWorkers st self.new }
+        ensures given { (st : Standing) → IsGiven st.running.bodies self.old
+            → AreWorkers st self.new }
         ensures placed { self.new.placed ≡ self.old.placed }
     {
         self.seen = ActionViews::new(self.alloc);

@@ -1,5 +1,5 @@
 -- An event may stop an action at its home.
-use Rattle.std.proofs.Common.{◌≡◌, ◌||◌, ap, sym, ◌∙◌}
+use Rattle.std.proofs.Common.{◌||◌, ap, sym, ◌∙◌}
 use Rattle.std.specs.BTreeSet.{contains}
 use Rattle.cam_names.specs.Names.{name_cmp}
 use Rattle.cam_runs.specs.Playing.{is_stop_note}
@@ -14,8 +14,10 @@ returns-in_ok-insert c a =
     let e = c.args.event.now in
     let before = contains name_cmp c.args.stopped.now a in
     c.in_ok-insert.ensures.updates.0 a
-    ∙ stop_put e.node a c.in-Stopped.action before (c.if-event-home.true ∙ ap (λ p. p.0) c.home.ensures)
-    ∙ ap (λ (n : Note). (eqb e.node (home_node a) && is_stop_note a n) || before) (sym c.in-Stopped.is)
+    ∙ stop_put e.node a c.in-Stopped.action before
+    (c.if-event-home.true ∙ ap (λ p. p.0) c.home.ensures)
+    ∙ ap (λ (n : Note). (eqb e.node (home_node a) && is_stop_note a n) || before)
+    (sym c.in-Stopped.is)
 
 pub returns-else-event-home : goal.returns-else-event-home
 returns-else-event-home c a =
@@ -23,4 +25,5 @@ returns-else-event-home c a =
     let before = contains name_cmp c.args.stopped.now a in
     stop_elsewhere e.node a c.in-Stopped.action before
     (λ same. c.if-event-home.false (same ∙ sym (ap (λ p. p.0) c.home.ensures)))
-    ∙ ap (λ (n : Note). (eqb e.node (home_node a) && is_stop_note a n) || before) (sym c.in-Stopped.is)
+    ∙ ap (λ (n : Note). (eqb e.node (home_node a) && is_stop_note a n) || before)
+    (sym c.in-Stopped.is)

@@ -14,4 +14,5 @@ returns-in_ok-insert c = λ L before.
     let whole : to_z w64 (of_z w64 arm.value) ≡ arm.value = search rules in
     subst (λ (d : Deed). HasValues (d ∷ L) c.insert.new.self) (sym arm.is)
     (subst (λ (z : ℤ). HasValues (AskCommit arm.action z ∷ L) c.insert.new.self) whole
-    (values_put L arm.action given c.args.values.now c.insert.new.self before c.in_ok-insert.ensures.updates.0))
+    (values_put L arm.action given c.args.values.now c.insert.new.self before
+    c.in_ok-insert.ensures.updates.0))

@@ -1,5 +1,5 @@
 -- One more event is taken in.
-use Rattle.std.proofs.Common.{◌≡◌, ◌||◌, List, ◌∷◌, ap, sym, ◌∙◌}
+use Rattle.std.proofs.Common.{◌||◌, ap, ◌∙◌}
 use Rattle.std.specs.Prelude.{OnOk, Result, Ok, Err}
 use Rattle.std.specs.BTreeSet.{contains}
 use Rattle.cam_names.specs.Names.{name_cmp}
@@ -7,7 +7,8 @@ use Rattle.cam_event.specs.Pasts.{plain_all}
 use Rattle.cam_runs.specs.Playing.{is_stop_of}
 use Rattle.cam_cluster.proofs.views.ActionViews.take_event.Goals as goal
 
-on_ok : {T E : Type 0} (result : Result T E) (P Q : Type 0) → (P → Q) → OnOk result P → OnOk result Q
+on_ok : {T E : Type 0} (result : Result T E) (P Q : Type 0) → (P → Q) → OnOk result P
+    → OnOk result Q
 on_ok (Ok x) P Q f holds = f holds
 on_ok (Err e) P Q f holds = tt
 

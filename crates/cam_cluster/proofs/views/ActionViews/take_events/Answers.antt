@@ -1,5 +1,5 @@
 -- Events are taken in, one after another.
-use Rattle.std.proofs.Common.{◌≡◌, List, ◌++◌, take, reverse, sym, ap, subst}
+use Rattle.std.proofs.Common.{List, ◌++◌, reverse, sym, subst}
 use Rattle.std.proofs.lemmas.List.{take_all}
 use Rattle.cam_base.proofs.Newest.{taken_back}
 use Rattle.cam_event.specs.declared.Event.{Event}
@@ -9,7 +9,9 @@ use Rattle.cam_cluster.proofs.views.ActionViews.take_events.Goals as goal
 pub loop-event-preserved : goal.loop-event-preserved
 loop-event-preserved c = λ t has.
     let es = c.args.events.now in
-    let more = taken_back es c.loop-event.event-index c.event-item.result c.loop-event-test.true c.event-item.is in
+    let more =
+    taken_back es c.loop-event.event-index c.event-item.result c.loop-event-test.true
+    c.event-item.is in
     subst (λ (u : List Event). HasSeen (u ++ t) c.take_event.new.self) (sym more)
     (c.in_ok-take_event.ensures _ (c.loop-event.invariant t has))
 
