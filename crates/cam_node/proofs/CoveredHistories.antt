@@ -31,7 +31,7 @@ use Rattle.cam_node.proofs.CoveredMore.{covers_more}
 use Rattle.cam_node.proofs.CoveredSteps.{none_counted, crash_counted, g, xs, ys, step_deed, present_is, step_brings, no_crash, crash_is}
 
 -- What is taken of a step.
-none_taken : (s : ℕ) (ds : List Deed) → list_any (is_crash s) ds ≡ false
+pub none_taken : (s : ℕ) (ds : List Deed) → list_any (is_crash s) ds ≡ false
     → list_any (is_crash s) (filter is_entered ds) ≡ false
 none_taken s [] none = refl
 none_taken s (d ∷ ds) none =

@@ -1,5 +1,5 @@
 -- The restart of a node with its log, whether it comes to its end or not.
-use Rattle.std.proofs.Common.{◌≡◌, inl, inr, ◌⊎◌, ℕ, ◌+◌, ◌≤◌, ◌<◌, Bool, List, ◌∷◌, Ok, None, refl, sym, ap, subst, arith}
+use Rattle.std.proofs.Common.{◌≡◌, inl, inr, ◌⊎◌, ℕ, ◌+◌, ◌≤◌, ◌<◌, Bool, List, ◌∷◌, Option, Ok, None, refl, sym, ap, subst, arith}
 use Rattle.cam_type.specs.declared.ObjectDecl.{ObjectDecl}
 use Rattle.cam_event.specs.declared.Event.{Event}
 use Rattle.cam_event.specs.Loads.{no_load}
@@ -9,11 +9,15 @@ use Rattle.cam_recman.specs.declared.Recovered.{Recovered}
 use Rattle.cam_recman.specs.Says.{Says}
 use Rattle.cam_recman.proofs.Said.{said_is_recovered}
 use Rattle.cam_node.specs.Halting.{IsThrough, restarted}
-use Rattle.cam_node.specs.Keeping.{IsLogOf, KeepsNode, IsRestart, HasRestarted, IsRestartOf, IsRestartHalt}
+use Rattle.cam_node.specs.declared.found.Restarted.{Restarted}
+use Rattle.cam_node.specs.declared.restart.Reread.{Reread}
+use Rattle.cam_node.specs.Found.{found_by, HasRestarted}
+use Rattle.cam_node.specs.Keeping.{IsLogOf, KeepsNode, IsRestart, IsRestartOf, IsRestartHalt}
 use Rattle.cam_node.specs.Log.{Logged}
-use Rattle.cam_node.specs.Opened.{CanRestart, MayRead, OpensRestarted, Restarts, kept_by, logged_of, raised}
+use Rattle.cam_node.specs.Opened.{CanRestart, MayRead, OpensRestarted, Rereads, Restarts, kept_by, logged_of, raised}
 use Rattle.cam_node.specs.Renewed.{IsRenewed, crash_of}
 use Rattle.cam_node.specs.Represents.{Node}
+use Rattle.cam_node.proofs.FoundEvents.{tells_which}
 use Rattle.cam_node.proofs.HaltedSteps.{reads_said}
 use Rattle.cam_node.proofs.Renewed.{renewed, renewed_order, restart_logged}
 use Rattle.cam_node.proofs.Through.{restarts_go_through}
@@ -45,15 +49,24 @@ is_restart objects s r kept replaced new now event node is can says has event_is
       });
 }
 
-pub node_restarted : (objects : List ObjectDecl) (s : ℕ) (tells : Bool) (past : ℕ → Opened → Type
-    0) (b : ℕ) (now : List (List ℕ)) (kept : Recovered) (new : Node) (event : Event)
-    → (1 ≤ s) × (s ≤ 8) → Restarts objects s tells (past b) now kept → IsRenewed objects s kept new
-    → event ≡ crash_of s
-    → HasRestarted objects s tells (MayRead past b) new now event
-node_restarted objects s tells past b now kept new event node from has event_is =
+pub node_restarted : (objects : List ObjectDecl) (old : Node) (halted_at : Option Event)
+    (tells : Bool) (past : ℕ → Opened → Type 0) (b : ℕ) (now : List (List ℕ)) (reread : Reread)
+    (new : Node) (restarted : Restarted) → (1 ≤ old.number) × (old.number ≤ 8)
+    → Rereads objects old.number tells (past b) now reread
+    → IsRenewed objects old.number reread.kept new
+    → restarted.stepped.event ≡ crash_of old.number
+    → restarted.found ≡ found_by old halted_at reread
+    → HasRestarted objects old.number tells (MayRead past b) old halted_at new now restarted
+node_restarted objects old halted_at tells past b now reread new restarted node read has event_is
+    found_is =
+    let from = read.restarts in
     let done = from.restarted in
     record {
-      logged = logged_of done.recovered;
+      read = from.read;
+      kept = reread.kept;
+      left = done;
+      renewed = has;
+      event = event_is;
       was = λ told. record {
         entries = from.read;
         opens = from.was told;
@@ -61,8 +74,10 @@ node_restarted objects s tells past b now kept new event node from has event_is 
         recovers = (said_is_recovered from.read done.recovered done.says).0;
         is = refl;
       };
-      restart = is_restart objects s done.recovered kept done.replaced new now event node done.is
-          done.can done.says_now has event_is;
+      restart = is_restart objects old.number done.recovered reread.kept done.replaced new now
+          restarted.stepped.event node done.is done.can done.says_now has event_is;
+      tells_which = tells_which objects old halted_at done.recovered reread restarted.found node
+          done.can.0 done.is read.counts found_is;
     }
 
 pub restart_halts : (objects : List ObjectDecl) (s b n : ℕ) (past since : ℕ → Opened → Type 0) → (1

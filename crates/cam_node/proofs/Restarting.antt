@@ -32,7 +32,7 @@ nothing_adds k counts =
     (λ i. record { outcomes = append-nil k.outcomes i; counts = sym same i })
 
 -- lists of eight are the same where they are so at each place
-eight_same : (one other : List ℕ) → length one ≡ 8 → length other ≡ 8 → ((j : ℕ) → j < 8 → get_or one j 0 ≡ get_or other j 0) → one ≡ other
+pub eight_same : (one other : List ℕ) → length one ≡ 8 → length other ≡ 8 → ((j : ℕ) → j < 8 → get_or one j 0 ≡ get_or other j 0) → one ≡ other
 eight_same one other long long' each =
     greater_counts_is other other one long' long' long (λ j less. omega (arith, each j less))
     ∙ sym (greater_counts_is other other other long' long' long' (λ j less. omega arith))
@@ -43,7 +43,7 @@ other_at j ls ks same =
     ap (λ (i : ℕ). get_or ls i 0) (sym place) ∙ same ∙ ap (λ (i : ℕ). get_or ks i 0) place
 
 -- the raised counts
-raised_counts : (s c d : ℕ) (ls ks : List ℕ) → 1 ≤ s → s ≤ 8 → length ls ≡ 8 → length ks ≡ 8 → c ≡ d
+pub raised_counts : (s c d : ℕ) (ls ks : List ℕ) → 1 ≤ s → s ≤ 8 → length ls ≡ 8 → length ks ≡ 8 → c ≡ d
     → ((m : ℕ) → 1 ≤ m → m ≤ 8 → m ≢ s → slice_index ls (m - 1) ≡ slice_index ks (m - 1))
     → max (slice_index ls (s - 1)) c ≡ max (slice_index ks (s - 1)) d → counts_raised ls s c ≡ counts_raised ks s d
 raised_counts s c d ls ks low high long long' same others own =
@@ -61,7 +61,7 @@ raised_counts s c d ls ks low high long long' same others own =
     ])
 
 -- what is known after a restart
-known_then : (objects : List ObjectDecl) (s : ℕ) (history : List Received) → AreCounts 1 (known objects history).counts
+pub known_then : (objects : List ObjectDecl) (s : ℕ) (history : List Received) → AreCounts 1 (known objects history).counts
     → known objects (restarted objects s history ∷ history) ≡ with_count s (count (deeds_of (map as_carried history)) s + 1) (known objects history)
 known_then objects s history counts =
     ap (λ (k : Knowledge). with_count s (count (deeds_of (map as_carried history)) s + 1) k) (nothing_adds (known objects history) counts)

@@ -125,7 +125,7 @@ right_all objects s n owner (g ∷ gs) groups =
     right_append objects s n owner g.1 (all_of gs) groups.0.0
     (right_all objects s n owner gs groups.1)
 
-held_names : (held : List Held) (gs : List (Name × List Placed)) → AreHeld held gs
+pub held_names : (held : List Held) (gs : List (Name × List Placed)) → AreHeld held gs
     → families_of held ≡ names_of gs
 held_names [] [] are = refl
 held_names [] (g ∷ gs) are = absurd are

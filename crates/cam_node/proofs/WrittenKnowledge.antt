@@ -39,7 +39,7 @@ raised_at m c j ks low high eight = elim (eqb_tells j (m - 1)) [
   | inr n ↦ inr (get_or-set_other ks (m - 1) j (max (slice_index ks (m - 1)) c) 0 n.1)
 ]
 
-counts_more : (m c : ℕ) (ks : List ℕ) → 1 ≤ m → m ≤ 8 → c ≤ 1000000000 → AreCounts 1 ks → AreCounts
+pub counts_more : (m c : ℕ) (ks : List ℕ) → 1 ≤ m → m ≤ 8 → c ≤ 1000000000 → AreCounts 1 ks → AreCounts
     1 (counts_raised ks m c)
 counts_more m c ks low high top are = record {
   eight = length-set ks (m - 1) (max (slice_index ks (m - 1)) c) ∙ are.eight;

@@ -79,17 +79,6 @@ pub record IsHalt (objects : List ObjectDecl) (old : Node) (before : List (List 
       → IsLogOfEither objects old.number history (taken_step objects old.number history input mail
       load) logged
 
--- A halted node stands for a history, and for the event at which it halted, by what its disk may be
--- read as.
-pub record IsHalted (objects : List ObjectDecl) (s : ℕ) (history : List Received) (input : Input)
-    (mail : Option Mail)
-    (load : Load) (may_read : Logged → Type 0) : Type 0 where
-  pub through : IsThrough objects s history
-  pub may : MayBePutThen objects s history input mail load
-  pub either :
-      (logged : Logged) → may_read logged → IsLogOfEither objects s history (taken_step objects s
-      history input mail load) logged
-
 -- A RESTART that comes to its end, from a log that is read so: after each history whose log it is,
 -- the taken event with it or
 -- not, the event is the restart, and node and log stand for the longer history.
@@ -102,14 +91,6 @@ pub record IsRestart (objects : List ObjectDecl) (s : ℕ) (logged : Logged) (ne
   pub keeps :
       (history : List Received) → IsEnded objects s history → IsLogOf objects s history logged
       → KeepsNode objects (record { event = event; mail = None; load = no_load } ∷ history) new now
-
--- It read a log that might be read before, where the disk tells what it holds.
-pub record HasRestarted (objects : List ObjectDecl) (s : ℕ) (tells : Bool) (might_read : Logged →
-    Type 0) (new : Node)
-    (now : List (List ℕ)) (event : Event) : Type 0 where
-  pub logged : Logged
-  pub was : tells ≡ true → might_read logged
-  pub restart : IsRestart objects s logged new now event
 
 -- A log with the restart: it keeps what one that might be read before kept, with the restart.
 pub record IsRestartOf (objects : List ObjectDecl) (s : ℕ) (might_read : Logged → Type 0) (logged :

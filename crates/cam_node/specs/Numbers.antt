@@ -3,6 +3,7 @@ use Rattle.std.specs.Prelude.{◌≤◌, ◌<◌, length}
 use Rattle.cam_names.specs.declared.name.Name.{Name}
 use Rattle.cam_event.specs.declared.Body.{Body}
 use Rattle.cam_event.specs.declared.Body.TheVariants as bodies
+use Rattle.cam_event.specs.declared.Letter.{Letter}
 use Rattle.cam_event.specs.declared.Want.{Want}
 use Rattle.cam_event.specs.declared.Want.TheVariants as wants
 use Rattle.cam_event.specs.Runs.{IsNode}
@@ -30,11 +31,16 @@ abbrev pub HasIndex : Node → Body → Type 0
 HasIndex node (bodies.Call a n x op c counts) = node.server.table.site.next ≤ 999999999
 HasIndex node _ = Unit {0}
 
+-- WHAT A LETTER MUST BE that comes: of one of the eight nodes, with an index left for a call, and
+-- for a prepare with few enough objects.
+abbrev pub MayCome : Node → Letter → Type 0
+MayCome node letter =
+    IsNode letter.from × HasIndex node letter.body × HasFewObjects node letter.body
+
 -- Numbers are left; nodes are those from 1 to 8.
 abbrev pub MayStep : Node → Input → Type 0
 MayStep node inputs.Begin = node.actions.tops < 1000000000
 MayStep node (inputs.Request request) = HasNumber node request.action request.want
-MayStep node (inputs.Letter id letter) =
-    IsNode letter.from × HasIndex node letter.body × HasFewObjects node letter.body
+MayStep node (inputs.Letter id letter) = MayCome node letter
 MayStep node (inputs.Tell to) = (1 ≤ to) × (to ≤ 8)
 MayStep node (inputs.Query family) = Unit {0}

@@ -3,7 +3,7 @@ use Rattle.std.specs.Prelude.{◌≡◌, ◌⊎◌, ℕ, ◌+◌, ◌<◌, Bool,
 use Rattle.cam_names.specs.Dependencies.{AreCounts}
 use Rattle.cam_type.specs.declared.ObjectDecl.{ObjectDecl}
 use Rattle.cam_know.specs.Knowledge.{Knowledge}
-use Rattle.cam_know.specs.Known.{with_count}
+use Rattle.cam_know.specs.Known.{counts_raised, with_count}
 use Rattle.cam_know.specs.Invariant.{NoTwice}
 use Rattle.cam_log.specs.Moments.{Opened}
 use Rattle.cam_locks.specs.Restored.{CanRestore}
@@ -14,6 +14,7 @@ use Rattle.cam_recman.specs.Records.{entry_bytes}
 use Rattle.cam_recman.specs.Recovery.{with_records, recover}
 use Rattle.cam_recman.specs.Says.{Says, are_version2}
 use Rattle.cam_recman.specs.Snapshot.{snapshot}
+use Rattle.cam_node.specs.declared.restart.Reread.{Reread}
 use Rattle.cam_node.specs.Log.{Logged}
 use Rattle.cam_node.specs.Restartable.{are_low, depend_on_known, AreOnce}
 
@@ -89,6 +90,11 @@ pub record Restarts (objects : List ObjectDecl) (s : ℕ) (tells : Bool) (before
   pub read : List (List ℕ)
   pub was : tells ≡ true → before (Ok read)
   pub restarted : IsRestarted objects s read now kept
+
+-- The same with what the restart answers: what is kept, and the counts that were known by what it read.
+pub record Rereads (objects : List ObjectDecl) (s : ℕ) (tells : Bool) (before : Opened → Type 0) (now : List (List ℕ)) (reread : Reread) : Type 0 where
+  pub restarts : Restarts objects s tells before now reread.kept
+  pub counts : reread.counts ≡ counts_raised restarts.restarted.recovered.know.counts s restarts.restarted.recovered.count
 
 -- it opens as a restart leaves it that read one of these
 pub record OpensRestarted (objects : List ObjectDecl) (s : ℕ) (before : Opened → Type 0) (opened : Opened) : Type 0 where

@@ -8,6 +8,7 @@ ghost use Rattle.cam_node.specs.declared.fault.NodeFault.TheVariants.{DiskFault}
 ghost use Rattle.cam_node.specs.Ahead.{CanForget};
 ghost use Rattle.cam_node.specs.Appending.{HasAppended, OpensAsEither};
 ghost use Rattle.cam_node.specs.Calls.{answers, letters_of, AreSame};
+ghost use Rattle.cam_node.specs.Found.{HaltsAt};
 ghost use Rattle.cam_node.specs.Halting.{IsStepThrough};
 ghost use Rattle.cam_node.specs.Keeping.{IsHalt, KeepsOn};
 ghost use Rattle.cam_node.specs.Opened.{MayRead};
@@ -50,6 +51,12 @@ impl<L: CheckpointLog> Node<L> {
             (answers self.old.core) (λ input mail load before.
             IsHalt self.old.objects before (L.listed self.old.log.log) input mail load
             (MayRead (L.opens_since self.new.log.log) (L.moment self.new.log.log))) }
+        ensures halted_at { IsTrue self.new.log.halted
+            → ForEachInput self.old.objects plan self.old.core.knowing.known
+            (answers self.old.core) (λ input mail load before.
+            HaltsAt self.old.objects before (L.listed self.old.log.log) input mail load
+            (answers self.new.core) self.new.halted_at) }
+        ensures no_halt { IsFalse self.new.log.halted → self.new.halted_at ≡ self.old.halted_at }
         ensures entry { ForEachInput self.old.objects plan self.old.core.knowing.known
             (answers self.old.core) (λ input mail load before. IfOk result (λ stepped.
             HasAppended self.old.objects before input mail load stepped.event

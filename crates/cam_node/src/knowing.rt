@@ -126,6 +126,16 @@ impl Knowing {
         let _counts = self.know.counts();
     }
 
+    /// How many outcomes stand.
+    pub(crate) fn len(&self) -> u64
+        ensures { result ≡ length self.now.stands.outcomes }
+    {
+        match self.mark {
+            Some(mark) => mark.outcomes as u64,
+            None => self.know.len(),
+        }
+    }
+
     /// The counts of what stands.
     pub(crate) fn counts(&self) -> [u32; 8]
         ensures value { result ≡ self.now.stands.counts }

@@ -2,6 +2,7 @@
 ghost use Rattle.std.specs.Prelude.{◌≡◌, ◌≤◌, ℕ, List, [], IsTrue, IsFalse, IfOk, IfErr, Ok as Opens, Some, None};
 ghost use Rattle.cam_base.specs.Causes.{Rose};
 ghost use Rattle.cam_ckpt.specs.Reading.{read_ckpt};
+ghost use Rattle.cam_event.specs.ByDeltas.{Received};
 ghost use Rattle.cam_locks.specs.Moss.{settled};
 ghost use Rattle.cam_locks.specs.Site.{is_here};
 ghost use Rattle.cam_log.specs.Moments.{Stays};
@@ -9,6 +10,8 @@ ghost use Rattle.cam_log.specs.Spent.{Spent};
 ghost use Rattle.cam_node.specs.declared.fault.NodeFault.TheVariants.{DiskFault};
 ghost use Rattle.cam_node.specs.Calls.{answers};
 ghost use Rattle.cam_node.specs.Keeping.{KeepsNode};
+ghost use Rattle.cam_node.specs.Represents.{Represents};
+ghost use Rattle.cam_node.specs.Values.{handed_up};
 
 use crate::fault::{FormatRefused, NodeFault};
 use crate::log::NodeLog;
@@ -16,6 +19,7 @@ use crate::state::Core;
 use cam_base::NoMemory;
 use cam_ckpt::{CheckpointLog, Ckpt};
 use cam_disk::Disk;
+use cam_event::Event;
 use cam_log::{EntryLog, StopLog};
 use cam_type::{Objects, State};
 use std::alloc::Global;
@@ -28,6 +32,8 @@ pub struct Node<L: CheckpointLog> {
     pub(crate) core: Core,
     pub(crate) log: NodeLog<L>,
     pub(crate) objects: Objects,
+    /// What its log may have taken of the event at which it halted; none where it is not halted.
+    pub(crate) halted_at: Option<Event>,
     ghost numbered: { (1 ≤ core.number) × (core.number ≤ 8) },
 }
 
@@ -47,6 +53,7 @@ impl<D: Disk> Node<Ckpt<D>> {
         ensures number { IfOk result (λ node. node.core.number ≡ number) }
         ensures objects { IfOk result (λ node. node.objects ≡ objects) }
         ensures running { IfOk result (λ node. IsFalse node.log.halted) }
+        ensures never_halted { IfOk result (λ node. node.halted_at ≡ None) }
         // It takes seven calls of the disk.
         ensures spent { IfOk result
             (λ node. Spent 7 (D.passes disk) (⟦<Ckpt<D> as EntryLog>⟧.passes node.log.log)) }
@@ -72,7 +79,12 @@ impl<D: Disk> Node<Ckpt<D>> {
             Ok(log) => log,
             Err(refused) => return Err(refused),
         };
-        Ok(Node { core, log, objects })
+        Ok(Node {
+            core,
+            log,
+            objects,
+            halted_at: None,
+        })
     }
 
     /// The disk, as it is. What a crash may leave of it opens as the log of the node would.
@@ -112,8 +124,12 @@ impl<L: CheckpointLog> Node<L> {
         requires running { IsFalse self.now.log.halted }
         requires here { IsTrue (is_here (answers self.now.core).server.table.site.objects
             (answers self.now.core).server.table.site.node object) }
-        ensures { IfOk result (λ state.
+        ensures table { IfOk result (λ state.
             state ≡ settled (answers self.now.core).server.table.site object) }
+        // It is the value by each history that the node represents.
+        ensures history { IfOk result (λ state. (history : List Received)
+            → Represents self.now.objects history (answers self.now.core)
+            → state ≡ handed_up self.now.objects self.now.core.number history object) }
     {
         self.core.server.table().value(object)
     }
@@ -126,6 +142,7 @@ impl<L: CheckpointLog + StopLog> Node<L> {
         ensures passes { L.passes self.new.log.log ≡ Some calls }
         ensures core { self.new.core ≡ self.old.core }
         ensures objects { self.new.objects ≡ self.old.objects }
+        ensures halted_at { self.new.halted_at ≡ self.old.halted_at }
         ensures listed { L.listed self.new.log.log ≡ L.listed self.old.log.log }
         ensures halted { self.new.log.halted ≡ self.old.log.halted }
         ensures tells { L.tells self.new.log.log ≡ L.tells self.old.log.log }
@@ -142,6 +159,7 @@ impl<L: CheckpointLog + StopLog> Node<L> {
         ensures passes { L.passes self.new.log.log ≡ None }
         ensures core { self.new.core ≡ self.old.core }
         ensures objects { self.new.objects ≡ self.old.objects }
+        ensures halted_at { self.new.halted_at ≡ self.old.halted_at }
         ensures listed { L.listed self.new.log.log ≡ L.listed self.old.log.log }
         ensures halted { self.new.log.halted ≡ self.old.log.halted }
         ensures tells { L.tells self.new.log.log ≡ L.tells self.old.log.log }

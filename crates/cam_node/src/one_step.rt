@@ -5,6 +5,7 @@ ghost use Rattle.std.specs.Prelude.{◌≡◌, ◌≤◌, List, Some, None, IsTr
 ghost use Rattle.cam_base.specs.Causes.{Rose};
 ghost use Rattle.cam_ckpt.specs.Moments.{IsOldOrNew};
 ghost use Rattle.cam_disk.specs.Stop.{Untouched};
+ghost use Rattle.cam_event.specs.Taken.{taken_of};
 ghost use Rattle.cam_log.specs.Moments.{Grows, Stays};
 ghost use Rattle.cam_recman.specs.declared.Recovered.{Recovered as Recovery};
 ghost use Rattle.cam_recman.specs.Ranges.{AreRecords};
@@ -16,6 +17,7 @@ ghost use Rattle.cam_type.specs.declared.Kind.TheVariants as kinds;
 ghost use Rattle.cam_node.specs.declared.fault.NodeFault.TheVariants.{DiskFault};
 ghost use Rattle.cam_node.specs.Appending.{HasAppended, OpensAsEither, SpentFor};
 ghost use Rattle.cam_node.specs.Calls.{answers, input_of, letters_of, load_of, mail_of, AreSame};
+ghost use Rattle.cam_node.specs.Found.{HaltsAt};
 ghost use Rattle.cam_node.specs.Halting.{IsStepThrough};
 ghost use Rattle.cam_node.specs.Keeping.{IsHalt, KeepsOn};
 ghost use Rattle.cam_node.specs.Numbers.{MayStep};
@@ -23,9 +25,9 @@ ghost use Rattle.cam_node.specs.Opened.{IsKnowledge, MayRead, with_entry_of};
 ghost use Rattle.cam_node.specs.Planned.{heard_records, planned_records, MayBeAdded};
 ghost use Rattle.cam_node.specs.Plans.{as_list, MayStand, Stands};
 ghost use Rattle.cam_node.specs.Refused.{IsNotRefused};
-ghost use Rattle.cam_node.specs.Unlogged.{is_unlogged};
 
 use crate::fault::NodeFault;
+use crate::found::taken_of;
 use crate::knowing::Heard;
 use crate::news::news_records;
 use crate::node::Node;
@@ -143,6 +145,12 @@ impl<L: CheckpointLog> Node<L> {
             → IsHalt self.old.objects (answers self.old.core) (L.listed self.old.log.log)
             (input_of self.old.core.number input.now) (mail_of input.now) (load_of input.now)
             (MayRead (L.opens_since self.new.log.log) (L.moment self.new.log.log)) }
+        // A halted node keeps what its log may have taken of the event.
+        ensures halted_at { IsTrue self.new.log.halted → HaltsAt self.old.objects
+            (answers self.old.core) (L.listed self.old.log.log)
+            (input_of self.old.core.number input.now) (mail_of input.now) (load_of input.now)
+            (answers self.new.core) self.new.halted_at }
+        ensures no_halt { IsFalse self.new.log.halted → self.new.halted_at ≡ self.old.halted_at }
         // A crash at any moment of the call leaves the history before, or that with what was taken
         // of the event.
         ensures any_moment { IsTrue (L.tells self.old.log.log)
@@ -178,52 +186,6 @@ impl<L: CheckpointLog> Node<L> {
         }
     }
 
-    /// The node's own step that decides nothing. No entry is due, and nothing of the log changes.
-    fn own(&mut self, input: &Input) -> Result<Stepped, NodeFault>
-        requires running { IsFalse self.old.log.halted }
-        requires own { IsTrue (is_unlogged (input_of self.old.core.number input.now)) }
-        requires free { IsNotRefused (answers self.old.core) input.now }
-        requires may { MayStep (answers self.old.core) input.now }
-        ensures step { IfOk result (λ stepped. IsStepThrough self.old.objects
-            (answers self.old.core) (answers self.new.core) (input_of self.old.core.number
-            input.now)
-            (mail_of input.now) (load_of input.now) stepped.event) }
-        ensures letters { IfOk result (λ stepped.
-            stepped.letters ≡ letters_of (answers self.new.core) stepped.event.sent) }
-        ensures keeps { IfOk result (λ stepped. KeepsOn self.old.objects
-            (answers self.old.core) (L.listed self.old.log.log)
-            (answers self.new.core) (L.listed self.new.log.log)
-            (input_of self.old.core.number input.now)
-            (mail_of input.now) (load_of input.now) stepped.event) }
-        ensures entry { IfOk result (λ stepped. HasAppended self.old.objects
-            (answers self.old.core) (input_of self.old.core.number input.now) (mail_of input.now)
-            (load_of input.now) stepped.event (L.listed self.old.log.log) (L.listed self.new.log.log)
-            (L.passes self.old.log.log) (L.passes self.new.log.log)) }
-        ensures any_moment { IsTrue (L.tells self.old.log.log)
-            → Grows (L.moment self.old.log.log) (L.moment self.new.log.log)
-            (L.opens_since self.old.log.log) (L.opens_since self.new.log.log)
-            (OpensAsEither self.old.objects (answers self.old.core) (L.listed self.old.log.log)
-            (input_of self.old.core.number input.now) (mail_of input.now) (load_of input.now)) }
-        ensures broken { IsTrue self.new.log.halted → IsTrue (L.broken self.new.log.log) }
-        ensures stopped { L.passes self.old.log.log ≡ Some 0
-            → Untouched (L.moment self.old.log.log) (L.moment self.new.log.log)
-            (L.opens_since self.old.log.log) (L.opens_since self.new.log.log)
-            (L.seen self.old.log.log) (L.seen self.new.log.log) }
-        ensures number { self.new.core.number ≡ self.old.core.number }
-        ensures same { OnErr result (AreSame (answers self.old.core) (answers self.new.core)) }
-        ensures runs { IsTrue self.new.log.halted → ⊥ }
-        ensures no_fault { IsErrOf result DiskFault → ⊥ }
-        ensures stays { Stays (L.moment self.old.log.log) (L.moment self.new.log.log)
-            (L.opens_since self.old.log.log) (L.opens_since self.new.log.log)
-            (L.seen self.old.log.log) (L.seen self.new.log.log)
-            (L.faults self.old.log.log) (L.faults self.new.log.log) }
-        ensures log { self.new.log ≡ self.old.log }
-        ensures objects { self.new.objects ≡ self.old.objects }
-    {
-        self.core.knowing.is_knowledge();
-        Ok(self.core.own(input)?)
-    }
-
     /// Appends the entry of an event that may stand, and forces it; then the event stands. Where
     /// the node is halted its log may have the
     /// entry, and its parts stand with the event, which is not told. After an error without a halt
@@ -243,6 +205,9 @@ impl<L: CheckpointLog> Node<L> {
         ensures halted_knows { IsTrue self.new.log.halted → IsKnowledge (answers
             self.new.core).know }
         ensures core { OnErr result (IsFalse self.new.log.halted → self.new.core ≡ self.old.core) }
+        ensures halted_at { IsTrue self.new.log.halted
+            → self.new.halted_at ≡ Some (taken_of plan.stepped.event) }
+        ensures no_halt { IsFalse self.new.log.halted → self.new.halted_at ≡ self.old.halted_at }
         ensures says { (r : Recovery) → Says (L.listed self.old.log.log) r
             → OnOk result (Says (L.listed self.new.log.log) (with_records r (planned_records
             (answers self.old.core).know.counts plan))) }
@@ -291,7 +256,8 @@ impl<L: CheckpointLog> Node<L> {
             Ok(()) => Ok(self.core.takes(plan)),
             Err(fault) => {
                 if self.log.is_halted() {
-                    let _untold = self.core.takes(plan);
+                    let untold = self.core.takes(plan);
+                    self.halted_at = Some(taken_of(untold.event));
                 }
                 Err(fault)
             }

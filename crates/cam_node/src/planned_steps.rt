@@ -13,10 +13,11 @@ ghost use Rattle.cam_type.specs.declared.Kind.TheVariants as kinds;
 ghost use Rattle.cam_node.specs.declared.fault.NodeFault.TheVariants.{DiskFault};
 ghost use Rattle.cam_node.specs.Appending.{HasAppended, OpensAsEither};
 ghost use Rattle.cam_node.specs.Calls.{answers, letters_of, mail_on, AreSame};
+ghost use Rattle.cam_node.specs.Found.{HaltsAt};
 ghost use Rattle.cam_node.specs.GivingUp.{giving_up};
 ghost use Rattle.cam_node.specs.Halting.{IsStepThrough};
 ghost use Rattle.cam_node.specs.Keeping.{IsHalt, KeepsOn};
-ghost use Rattle.cam_node.specs.Numbers.{HasFewObjects, HasIndex};
+ghost use Rattle.cam_node.specs.Numbers.{MayCome};
 ghost use Rattle.cam_node.specs.Opened.{MayRead};
 
 use crate::Stepped;
@@ -40,9 +41,7 @@ impl<L: CheckpointLog> Node<L> {
         counter: &mut C,
     ) -> Result<Stepped, NodeFault>
         requires running { IsFalse self.old.log.halted }
-        requires from { (1 ≤ letter.now.from) × (letter.now.from ≤ 8) }
-        requires index { HasIndex (answers self.old.core) letter.now.body }
-        requires few { HasFewObjects (answers self.old.core) letter.now.body }
+        requires may { MayCome (answers self.old.core) letter.now }
         requires register { R.kind register.old ≡ kinds.Register }
         requires queue { Q.kind queue.old ≡ kinds.Queue }
         requires counter { C.kind counter.old ≡ kinds.Counter }
@@ -77,6 +76,11 @@ impl<L: CheckpointLog> Node<L> {
             → IsHalt self.old.objects (answers self.old.core) (L.listed self.old.log.log)
             (Receives id.now) (Some (mail_on letter.now)) (load_on letter.now)
             (MayRead (L.opens_since self.new.log.log) (L.moment self.new.log.log)) }
+        ensures halted_at { IsTrue self.new.log.halted → HaltsAt self.old.objects
+            (answers self.old.core) (L.listed self.old.log.log)
+            (Receives id.now) (Some (mail_on letter.now)) (load_on letter.now)
+            (answers self.new.core) self.new.halted_at }
+        ensures no_halt { IsFalse self.new.log.halted → self.new.halted_at ≡ self.old.halted_at }
         ensures not_listed { OnErr result
             (L.listed self.new.log.log ≡ L.listed self.old.log.log) }
         ensures unchanged { OnErr result (IsFalse self.new.log.halted
@@ -160,6 +164,11 @@ impl<L: CheckpointLog> Node<L> {
             → IsHalt self.old.objects (answers self.old.core) (L.listed self.old.log.log)
             (giving_up action.now child.now) None no_load
             (MayRead (L.opens_since self.new.log.log) (L.moment self.new.log.log)) }
+        ensures halted_at { IsTrue self.new.log.halted → HaltsAt self.old.objects
+            (answers self.old.core) (L.listed self.old.log.log)
+            (giving_up action.now child.now) None no_load
+            (answers self.new.core) self.new.halted_at }
+        ensures no_halt { IsFalse self.new.log.halted → self.new.halted_at ≡ self.old.halted_at }
         ensures not_listed { OnErr result
             (L.listed self.new.log.log ≡ L.listed self.old.log.log) }
         ensures unchanged { OnErr result (IsFalse self.new.log.halted

@@ -1,18 +1,22 @@
 //! The restart of a node: it reads its log again, and goes on from what that keeps.
-ghost use Rattle.std.specs.Prelude.{◌≡◌, ◌≤◌, [], IsTrue, IsFalse, IfOk, OnOk, OnErr, IsErrOf};
+ghost use Rattle.std.specs.Prelude.{◌≡◌, ◌≤◌, [], None, IsTrue, IsFalse, IfOk, OnOk, OnErr, IsErrOf};
 ghost use Rattle.cam_base.specs.Causes.{Rose};
 ghost use Rattle.cam_locks.specs.Restored.{CanRestore};
+ghost use Rattle.cam_log.specs.Moments.{Grows};
 ghost use Rattle.cam_node.specs.declared.fault.NodeFault.TheVariants.{DiskFault};
 ghost use Rattle.cam_node.specs.Calls.{answers};
-ghost use Rattle.cam_node.specs.Keeping.{IsRestartHalt, HasRestarted};
+ghost use Rattle.cam_node.specs.Found.{found_by, HasRestarted};
+ghost use Rattle.cam_node.specs.Keeping.{IsRestartHalt};
 ghost use Rattle.cam_node.specs.Log.{Logged};
-ghost use Rattle.cam_node.specs.Opened.{MayRead};
+ghost use Rattle.cam_node.specs.Opened.{MayRead, OpensRestarted};
 ghost use Rattle.cam_node.specs.Renewed.{IsRenewed, crash_of};
 ghost use Rattle.cam_node.specs.RestartLaws.{IsOfHistory};
 
 use crate::fault::NodeFault;
+use crate::found::{Found, Restarted};
 use crate::knowing::Knowing;
 use crate::node::Node;
+use crate::restart::Reread;
 use crate::room::one;
 use crate::state::Core;
 use crate::{Letters, Stepped};
@@ -75,25 +79,41 @@ impl Core {
 impl<L: CheckpointLog> Node<L> {
     /// The parts of the node become those that a restart makes of what its log keeps. It fails
     /// where memory runs out, and is then as it was.
-    fn renew(&mut self, kept: Recovered) -> Result<Stepped, NoMemory>
-        requires count { (1 ≤ kept.count) × (kept.count ≤ 1000000000) }
-        requires held { CanRestore self.old.objects self.old.core.number kept.held }
-        ensures renewed { OnOk result (IsRenewed self.old.objects self.old.core.number kept
+    fn renew(&mut self, reread: Reread) -> Result<Restarted, NoMemory>
+        requires count { (1 ≤ reread.kept.count) × (reread.kept.count ≤ 1000000000) }
+        requires held { CanRestore self.old.objects self.old.core.number reread.kept.held }
+        ensures renewed { OnOk result (IsRenewed self.old.objects self.old.core.number reread.kept
             (answers self.new.core)) }
-        ensures event { IfOk result (λ stepped. stepped.event ≡ crash_of self.old.core.number) }
-        ensures letters { IfOk result (λ stepped. stepped.letters ≡ []) }
+        ensures event { IfOk result (λ restarted.
+            restarted.stepped.event ≡ crash_of self.old.core.number) }
+        ensures letters { IfOk result (λ restarted. restarted.stepped.letters ≡ []) }
+        ensures found { IfOk result (λ restarted. restarted.found
+            ≡ found_by (answers self.old.core) self.old.halted_at reread) }
+        ensures goes_on { OnOk result (self.new.halted_at ≡ None) }
+        ensures still { OnErr result (self.new.halted_at ≡ self.old.halted_at) }
+        ensures core { OnErr result (self.new.core ≡ self.old.core) }
         ensures log { self.new.log ≡ self.old.log }
         ensures number { self.new.core.number ≡ self.old.core.number }
         ensures objects { self.new.objects ≡ self.old.objects }
     {
         let stepped = self.core.crashed()?;
-        self.core = Core::renewed(self.core.alloc, self.core.number, &self.objects, kept)?;
-        Ok(stepped)
+        let has_event = self.core.has_halted_at(&self.halted_at, &reread);
+        let restarts = (reread.kept.count - 1).saturating_sub(self.core.count);
+        self.core = Core::renewed(
+            self.core.alloc,
+            self.core.number,
+            &self.objects,
+            reread.kept,
+        )?;
+        let found = Found::of(self.halted_at.take(), has_event, restarts);
+        Ok(Restarted { stepped, found })
     }
 
     /// Restarts the node, halted or not: it reads its log again, puts all that is kept with the
     /// raised count in place of what it read, and
     /// goes on from that. The event is the restart; no letter is sent.
+    /// It tells what it found: whether the log has what was taken of the event at which the node
+    /// had halted, and how many restarts that failed had reached the log.
     ///
     /// `DiskFault` comes where what was read cannot be restarted: a count that is the last, an
     /// operation that is not on an object of the node or does not fit it, an index that stands
@@ -102,18 +122,30 @@ impl<L: CheckpointLog> Node<L> {
     /// then. Of what a history's log holds, just the count and the indices may be such; so over a
     /// disk of which nothing else can be read `DiskFault` comes only where the disk's count of
     /// faults rose. After an error the node is halted, and may be restarted again.
-    pub fn restart(&mut self) -> Result<Stepped, NodeFault>
-        ensures restarted { IfOk result (λ stepped. HasRestarted self.old.objects
+    pub fn restart(&mut self) -> Result<Restarted, NodeFault>
+        ensures restarted { IfOk result (λ restarted. HasRestarted self.old.objects
             self.old.core.number (L.tells self.old.log.log)
             (MayRead (L.opens_since self.old.log.log) (L.moment self.old.log.log))
-            (answers self.new.core) (L.listed self.new.log.log) stepped.event) }
-        ensures letters { IfOk result (λ stepped. stepped.letters ≡ []) }
+            (answers self.old.core) self.old.halted_at
+            (answers self.new.core) (L.listed self.new.log.log) restarted) }
+        ensures letters { IfOk result (λ restarted. restarted.stepped.letters ≡ []) }
         ensures runs { OnOk result (IsFalse self.new.log.halted) }
+        ensures goes_on { OnOk result (self.new.halted_at ≡ None) }
         ensures halted { OnErr result (IsTrue self.new.log.halted) }
+        // The event and what the node knows with it are kept for the next restart.
+        ensures still { OnErr result (self.new.halted_at ≡ self.old.halted_at) }
+        ensures core { OnErr result (self.new.core ≡ self.old.core) }
         ensures failed { IsTrue (L.tells self.old.log.log) → OnErr result
             (IsRestartHalt self.old.objects self.old.core.number
             (MayRead (L.opens_since self.old.log.log) (L.moment self.old.log.log))
             (MayRead (L.opens_since self.new.log.log) (L.moment self.new.log.log))) }
+        // A crash at any moment of the call leaves what it could leave before, or what the restart of
+        // one of those leaves.
+        ensures any_moment { IsTrue (L.tells self.old.log.log)
+            → Grows (L.moment self.old.log.log) (L.moment self.new.log.log)
+            (L.opens_since self.old.log.log) (L.opens_since self.new.log.log)
+            (OpensRestarted self.old.objects self.old.core.number
+            (L.opens_since self.old.log.log (L.moment self.old.log.log))) }
         ensures tells { L.tells self.new.log.log ≡ L.tells self.old.log.log }
         ensures later { L.faults self.old.log.log ≤ L.faults self.new.log.log }
         // Whatever may be read is the log of a history, in which numbers are left.
@@ -125,9 +157,9 @@ impl<L: CheckpointLog> Node<L> {
         ensures number { self.new.core.number ≡ self.old.core.number }
         ensures objects { self.new.objects ≡ self.old.objects }
     {
-        let kept = self.log.restart(&self.objects, self.core.number)?;
-        match self.renew(kept) {
-            Ok(stepped) => Ok(stepped),
+        let reread = self.log.restart(&self.objects, self.core.number)?;
+        match self.renew(reread) {
+            Ok(restarted) => Ok(restarted),
             Err(NoMemory) => {
                 self.log.halt();
                 Err(NodeFault::NoMemory)

@@ -11,11 +11,11 @@ ghost use Rattle.cam_recman.specs.Ranges.{IsHeld};
 ghost use Rattle.cam_recman.specs.Records.{entry_bytes};
 ghost use Rattle.cam_recman.specs.Says.{Says};
 ghost use Rattle.cam_node.specs.declared.fault.NodeFault.TheVariants.{DiskFault};
-ghost use Rattle.cam_node.specs.Opened.{is_readable, kept_entries, kept_by, raised, IsReadOrKept, CanRestart, MayRestart, Restarts, OpensRestarted};
+ghost use Rattle.cam_node.specs.Opened.{is_readable, kept_entries, kept_by, raised, IsReadOrKept, CanRestart, MayRestart, OpensRestarted, Rereads};
 
 use crate::fault::NodeFault;
 use crate::log::NodeLog;
-use crate::restartable::can_restart;
+use crate::restartable::{can_restart, known_counts};
 use cam_base::NoMemory;
 use cam_ckpt::CheckpointLog;
 use cam_log::{Entries, Entry, EntryLog, LogFault};
@@ -139,6 +139,15 @@ fn raise(mut recovered: Recovered, node: u8) -> Recovered
     recovered
 }
 
+/// What a restart of a log read, and put in its place.
+#[derive(Drop)]
+pub struct Reread {
+    /// All that is kept, with the count that is one more than the one read.
+    pub kept: Recovered,
+    /// The counts of the nodes that were known by what was read, the node's own among them.
+    pub counts: [u32; 8],
+}
+
 impl<L: CheckpointLog> NodeLog<L> {
     /// Restarts the node's log: reads the disk again, and puts one entry of all that is kept then, with the count that is one more, in place
     /// of what it read. Where the log's list cannot be replaced, as the number of its generation is the last, the raised count goes behind
@@ -149,11 +158,11 @@ impl<L: CheckpointLog> NodeLog<L> {
     /// index that stands twice or is above 499,999,999, a family that is secured twice, a commit that depends on a count above the known one
     /// of its node. A disk that does not tell what it holds is spoiled then. Over a disk of which nothing such can be read it comes only where
     /// the disk's count of faults rose. After an error the node is halted.
-    pub fn restart(&mut self, objects: &Objects, node: u8) -> Result<Recovered, NodeFault>
+    pub fn restart(&mut self, objects: &Objects, node: u8) -> Result<Reread, NodeFault>
         requires node { (1 ≤ node) × (node ≤ 8) }
-        ensures restarted { IfOk result (λ kept.
-            Restarts objects.now node (L.tells self.old.log)
-            (L.opens_since self.old.log (L.moment self.old.log)) (L.listed self.new.log) kept) }
+        ensures restarted { IfOk result (λ reread.
+            Rereads objects.now node (L.tells self.old.log)
+            (L.opens_since self.old.log (L.moment self.old.log)) (L.listed self.new.log) reread) }
         ensures runs { OnOk result (IsFalse self.new.halted) }
         ensures halted { OnErr result (IsTrue self.new.halted) }
         ensures any_moment { IsTrue (L.tells self.old.log)
@@ -172,9 +181,10 @@ impl<L: CheckpointLog> NodeLog<L> {
         if !can_restart(self.alloc, objects, node, &recovered)? {
             return Err(spoiled(&mut self.log));
         }
+        let counts = known_counts(&recovered.know, node, recovered.count);
         let kept = raise(recovered, node);
         keep(self.alloc, &mut self.log, &kept)?;
         self.halted = false;
-        Ok(kept)
+        Ok(Reread { kept, counts })
     }
 }

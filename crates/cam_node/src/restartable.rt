@@ -93,7 +93,7 @@ fn depend_on_known(know: &Know, node: u8, count: u32) -> bool
 }
 
 /// The known counts of the nodes, where one of them has reached this count.
-fn known_counts(know: &Know, node: u8, count: u32) -> [u32; 8]
+pub(crate) fn known_counts(know: &Know, node: u8, count: u32) -> [u32; 8]
     requires { (1 ≤ node) × (node ≤ 8) }
     ensures { result ≡ counts_raised know.now.counts node count }
 {

@@ -61,3 +61,25 @@ invariant_of-self-2-clause-readable g c = λ opened tells left.
     ∙ says_readable (g.L.EntryLog.listed c.keep.new.log)
     (kept_by (can_follow (g.L.EntryLog.broken mid) (g.L.CheckpointLog.generation mid)) c.in_ok-recovered.recovered c.raise-kept.result)
     (c.in_ok-keep.ensures.says c.in_ok-recovered.recovered c.in_ok-recovered.ensures.says)
+
+pub returns-clause-restarted : goal.returns-clause-restarted
+returns-clause-restarted g c =
+    let mid = c.read_again.new.log in
+    record {
+      restarts = record {
+        read = g.L.EntryLog.listed mid;
+        was = c.in_ok-recovered.ensures.was;
+        restarted = record {
+          recovered = c.in_ok-recovered.recovered;
+          says = c.in_ok-recovered.ensures.says;
+          can = c.in_ok-can_restart.ensures.0 c.if-not-branch.false;
+          is = c.raise-kept.ensures;
+          replaced = can_follow (g.L.EntryLog.broken mid) (g.L.CheckpointLog.generation mid);
+          left = c.in_ok-keep.ensures.kept;
+          says_now =
+              c.in_ok-keep.ensures.says c.in_ok-recovered.recovered
+              c.in_ok-recovered.ensures.says;
+        };
+      };
+      counts = c.known_counts-counts.ensures;
+    }

@@ -12,6 +12,7 @@ use Rattle.cam_node.specs.Keeping.{KeepsOn}
 use Rattle.cam_node.specs.Planned.{planned_records}
 use Rattle.cam_node.proofs.CarriedOut.{taken_entry, taken_halts, taken_keeps}
 use Rattle.cam_node.proofs.Entered.{entry_would_say}
+use Rattle.cam_node.proofs.KeptHalts.{keeps_halt}
 use Rattle.cam_node.proofs.Moments.{stays_grows}
 use Rattle.cam_node.proofs.TakenMoments.{by_halt, taken_moments}
 use Rattle.cam_node.proofs.node.Node.carry_out.Goals as goal
@@ -118,3 +119,12 @@ returns-in-Err-clause-same g c = λ before forgets running.
     forgets (answers c.forget.new.self)
     (subst (λ (core : Core). IsForgotten c.args.ahead.now (answers core) (answers c.forget.new.self))
     (c.in-Err.ensures.core running) c.forget.ensures.forgotten)
+
+pub returns-in-Err-clause-halted_at : goal.returns-in-Err-clause-halted_at
+returns-in-Err-clause-halted_at g c = λ halted input mail load before may.
+    keeps_halt c.args.self.now.objects input mail load c.args.plan
+    c.args.self.now.core.knowing.known before (answers c.args.self.now.core)
+    (answers c.take.new.self.core) (answers c.forget.new.self)
+    (g.L.EntryLog.listed c.args.self.now.log.log) c.args.ahead.now c.take.new.self.halted_at
+    (c.take.ensures.halted_knows halted) (c.take.ensures.halted_stands halted)
+    c.forget.ensures.forgotten (c.take.ensures.halted_at halted) may

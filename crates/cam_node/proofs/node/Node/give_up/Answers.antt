@@ -63,6 +63,16 @@ returns-clause-halt g c = λ tells halted.
       goes_on = refl;
     })
 
+pub returns-clause-halted_at : goal.returns-clause-halted_at
+returns-clause-halted_at g c = λ halted.
+    c.carry_out.ensures.halted_at halted (giving_up c.args.action.now c.args.child.now) None
+    no_load (answers c.args.self.now.core) (record {
+      planned = c.in_ok-plan.ensures.plan c.args.self.now.objects;
+      node = c.args.self.now.numbered;
+      know = c.give_up.ensures.same.know;
+      goes_on = refl;
+    })
+
 pub returns-clause-same : goal.returns-clause-same
 returns-clause-same g c =
     c.carry_out.ensures.same (answers c.args.self.now.core)

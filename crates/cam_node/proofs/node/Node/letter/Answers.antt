@@ -69,6 +69,18 @@ returns-in_ok-plan-in-Call-clause-halt g c = λ tells halted.
       goes_on = refl;
     })
 
+pub returns-in_ok-plan-in-Call-clause-halted_at :
+    goal.returns-in_ok-plan-in-Call-clause-halted_at
+returns-in_ok-plan-in-Call-clause-halted_at g c = λ halted.
+    c.carry_out.ensures.halted_at halted (Receives c.args.id.now)
+    (Some (mail_on c.args.letter.now)) (load_on c.args.letter.now)
+    (answers c.args.self.now.core) (record {
+      planned = c.in_ok-plan-in-Call.ensures.plan c.args.self.now.objects;
+      node = c.args.self.now.numbered;
+      know = c.call_of_kind.ensures.know;
+      goes_on = refl;
+    })
+
 pub returns-in_ok-plan-in-Call-clause-same : goal.returns-in_ok-plan-in-Call-clause-same
 returns-in_ok-plan-in-Call-clause-same g c =
     c.carry_out.ensures.same (answers c.args.self.now.core)
@@ -100,6 +112,9 @@ returns-in_ok-plan-in_default g c =
       runs = then.runs;
       same = then.same old (λ new stays. subst (AreSame old) (sym stays) c.comes.ensures.same);
       halt = λ tells halted. then.halt tells halted _ _ _ old may;
+      halted_at = λ halted. then.halted_at halted (Receives c.args.id.now)
+          (Some (mail_on c.args.letter.now)) (load_on c.args.letter.now) old may;
+      no_halt = then.no_halt;
       not_listed = then.not_listed;
       unchanged = then.unchanged;
       tells = then.tells;

@@ -1,7 +1,8 @@
 -- A node is restarted.
 use Rattle.std.proofs.Common.{◌∙◌, IsTrue, sym, ap, subst, rules}
 use Rattle.cam_node.specs.Calls.{answers}
-use Rattle.cam_node.specs.Keeping.{IsRestartHalt, HasRestarted}
+use Rattle.cam_node.specs.Found.{HasRestarted}
+use Rattle.cam_node.specs.Keeping.{IsRestartHalt}
 use Rattle.cam_node.specs.Opened.{MayRead}
 use Rattle.cam_node.proofs.RestartTaken.{may_restart}
 use Rattle.cam_node.proofs.RestartedNodes.{node_restarted, restart_halts, restart_range}
@@ -13,17 +14,17 @@ renew-requires-clause-count g c =
     let log = c.args.self.now.log.log in
     (restart_range c.args.self.now.objects c.args.self.now.core.number (g.L.EntryLog.tells log)
     (g.L.EntryLog.opens_since log (g.L.EntryLog.moment log))
-    (g.L.EntryLog.listed c.restart.new.self.log) c.in_ok-kept.kept c.in_ok-kept.ensures.restarted).0
+    (g.L.EntryLog.listed c.restart.new.self.log) c.in_ok-reread.reread.kept c.in_ok-reread.ensures.restarted.restarts).0
 
 pub renew-requires-clause-held : goal.renew-requires-clause-held
 renew-requires-clause-held g c =
     let log = c.args.self.now.log.log in
     (restart_range c.args.self.now.objects c.args.self.now.core.number (g.L.EntryLog.tells log)
     (g.L.EntryLog.opens_since log (g.L.EntryLog.moment log))
-    (g.L.EntryLog.listed c.restart.new.self.log) c.in_ok-kept.kept c.in_ok-kept.ensures.restarted).1
+    (g.L.EntryLog.listed c.restart.new.self.log) c.in_ok-reread.reread.kept c.in_ok-reread.ensures.restarted.restarts).1
 
-pub returns-in_err-kept-clause-failed : goal.returns-in_err-kept-clause-failed
-returns-in_err-kept-clause-failed g c = λ tells.
+pub returns-in_err-reread-clause-failed : goal.returns-in_err-reread-clause-failed
+returns-in_err-reread-clause-failed g c = λ tells.
     let log = c.args.self.now.log.log in
     let after = c.restart.new.self.log in
     let grows = c.restart.ensures.any_moment tells in
@@ -38,14 +39,16 @@ pub returns-in-Ok-clause-restarted : goal.returns-in-Ok-clause-restarted
 returns-in-Ok-clause-restarted g c =
     let log = c.args.self.now.log.log in
     let past = g.L.EntryLog.opens_since log in
-    let s = c.args.self.now.core.number in
-    subst (λ node. HasRestarted c.args.self.now.objects s (g.L.EntryLog.tells log) (MayRead past
-    (g.L.EntryLog.moment log)) (answers c.renew.new.self.core)
-    (g.L.EntryLog.listed node.log) c.in-Ok.stepped.event) (sym c.renew.ensures.log)
-    (node_restarted c.args.self.now.objects s (g.L.EntryLog.tells log) past (g.L.EntryLog.moment
-    log) (g.L.EntryLog.listed c.restart.new.self.log) c.in_ok-kept.kept
-    (answers c.renew.new.self.core) c.in-Ok.stepped.event c.args.self.now.numbered
-    c.in_ok-kept.ensures.restarted c.in-Ok.ensures.renewed c.in-Ok.ensures.event)
+    let old = answers c.args.self.now.core in
+    subst (λ node. HasRestarted c.args.self.now.objects old.number (g.L.EntryLog.tells log)
+    (MayRead past (g.L.EntryLog.moment log)) old c.args.self.now.halted_at
+    (answers c.renew.new.self.core) (g.L.EntryLog.listed node.log) c.in-Ok.restarted)
+    (sym c.renew.ensures.log)
+    (node_restarted c.args.self.now.objects old c.args.self.now.halted_at (g.L.EntryLog.tells log)
+    past (g.L.EntryLog.moment log) (g.L.EntryLog.listed c.restart.new.self.log)
+    c.in_ok-reread.reread (answers c.renew.new.self.core) c.in-Ok.restarted
+    c.args.self.now.numbered c.in_ok-reread.ensures.restarted c.in-Ok.ensures.renewed
+    c.in-Ok.ensures.event c.in-Ok.ensures.found)
 
 pub returns-in-Err-clause-failed : goal.returns-in-Err-clause-failed
 returns-in-Err-clause-failed g c = λ tells.
@@ -62,10 +65,10 @@ returns-in-Err-clause-failed g c = λ tells.
     (g.L.EntryLog.opens_since after) c.args.self.now.numbered grows (λ o is.
     g.met.L.EntryLog.counts_now after (g.L.EntryLog.moment log) o there grows.later is))
 
-pub returns-in_err-kept-clause-disk_fault : goal.returns-in_err-kept-clause-disk_fault
-returns-in_err-kept-clause-disk_fault g c = λ of is.
+pub returns-in_err-reread-clause-disk_fault : goal.returns-in_err-reread-clause-disk_fault
+returns-in_err-reread-clause-disk_fault g c = λ of is.
     let log = c.args.self.now.log.log in
-    c.in_err-kept.ensures.disk_fault
+    c.in_err-reread.ensures.disk_fault
     (λ opened tells left. may_restart c.args.self.now.objects c.args.self.now.core.number
     (g.L.EntryLog.opens_since log) (g.L.EntryLog.moment log) opened c.args.self.now.numbered
     (λ logged read. of logged tells read) left)

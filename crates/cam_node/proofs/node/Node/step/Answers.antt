@@ -7,6 +7,7 @@ use Rattle.cam_node.specs.declared.Input.{Input}
 use Rattle.cam_log.specs.Moments.{Grows}
 use Rattle.cam_node.specs.Appending.{HasAppended, OpensAsEither}
 use Rattle.cam_node.specs.Calls.{answers, input_of, load_of, mail_of}
+use Rattle.cam_node.specs.Found.{HaltsAt}
 use Rattle.cam_node.specs.Keeping.{KeepsOn}
 use Rattle.cam_node.proofs.node.Node.step.Goals as goal
 
@@ -84,3 +85,26 @@ returns-in-GiveUp-clause-any_moment g c = λ tells.
     (g.L.EntryLog.listed old.log.log)
     (Requests (record { action = c.in-Request.request.action; want = w })) None no_load))
     (sym c.in-GiveUp.is) (c.give_up.ensures.any_moment tells))
+
+pub returns-in-Letter-clause-halted_at : goal.returns-in-Letter-clause-halted_at
+returns-in-Letter-clause-halted_at g c = λ halted.
+    let old = c.args.self.now in
+    let new = c.letter.new.self in
+    subst (λ (i : Input). HaltsAt old.objects (answers old.core)
+    (g.L.EntryLog.listed old.log.log) (input_of old.core.number i) (mail_of i) (load_of i)
+    (answers new.core) new.halted_at)
+    (sym c.in-Letter.is) (c.letter.ensures.halted_at halted)
+
+pub returns-in-GiveUp-clause-halted_at : goal.returns-in-GiveUp-clause-halted_at
+returns-in-GiveUp-clause-halted_at g c = λ halted.
+    let old = c.args.self.now in
+    let new = c.give_up.new.self in
+    subst (λ (i : Input). HaltsAt old.objects (answers old.core)
+    (g.L.EntryLog.listed old.log.log) (input_of old.core.number i) (mail_of i) (load_of i)
+    (answers new.core) new.halted_at)
+    (sym c.in-Request.is)
+    (subst (λ (w : Want). HaltsAt old.objects (answers old.core)
+    (g.L.EntryLog.listed old.log.log)
+    (Requests (record { action = c.in-Request.request.action; want = w })) None no_load
+    (answers new.core) new.halted_at)
+    (sym c.in-GiveUp.is) (c.give_up.ensures.halted_at halted))
