@@ -74,3 +74,58 @@ fn a_query_aborts_an_open_family_of_an_older_count(rt: HostRuntime) -> Result<()
     assert_eq!(rt; families.query(&family, 3, &know), Queried::Tell);
     Ok(())
 }
+
+/// *A prepare arrives*, test *late*: the family has committed meanwhile, whether the site has secured it or not, and at whatever count.
+#[test]
+fn a_prepare_comes_late_for_a_family_that_has_committed(rt: HostRuntime) -> Result<(), Fail> {
+    let family = Name::parse("1.1.1")?;
+    let other = Name::parse("1.1.2")?;
+    let mut know = Know::new(rt.alloc());
+    let mut families = Families::new(rt.alloc());
+    families.reserve()?;
+    families.secured(&family);
+    know.add(&Outcome::Committed(family, Deps::none().with(1, 1).with(2, 1)))?;
+    know.add(&Outcome::Committed(other, Deps::none().with(1, 1)))?;
+    assert_eq!(rt; families.asked(&family, 1, 1, &know), Asked::Late);
+    assert_eq!(rt; families.asked(&family, 1, 2, &know), Asked::Late);
+    assert_eq!(rt; families.asked(&other, 1, 1, &know), Asked::Late);
+    assert_eq!(rt; families.asked(&other, 1, 2, &know), Asked::Late);
+    Ok(())
+}
+
+/// *A prepare arrives*, test *missed*, and *A vote arrives*, test *no*: node 2 restarts before the family that called it asks to commit.
+#[test]
+fn a_site_that_restarted_votes_no(rt: HostRuntime) -> Result<(), Fail> {
+    let family = Name::parse("1.1.1")?;
+    let deps = Deps::none().with(1, 1).with(2, 1);
+    let know = Know::new(rt.alloc());
+    let site = Families::of(rt.alloc(), &[])?;
+    assert_eq!(rt; site.asked(&family, 1, 2, &know), Asked::Refuse);
+    let mut home = Families::new(rt.alloc());
+    home.reserve()?;
+    home.prepare(&family);
+    home.reserve()?;
+    assert_eq!(rt; home.vote(&family, 1, 1, true, &deps), Voted::Some);
+    home.reserve()?;
+    assert_eq!(rt; home.vote(&family, 2, 1, false, &deps), Voted::No);
+    assert!(rt; !home.is_preparing(&family));
+    Ok(())
+}
+
+/// *A query arrives*: the home has restarted before it decided. It aborts the family, and tells the abort whenever it is asked again; the vote
+/// that was under way is late.
+#[test]
+fn a_query_is_told_an_abort(rt: HostRuntime) -> Result<(), Fail> {
+    let family = Name::parse("1.1.1")?;
+    let deps = Deps::none().with(1, 1).with(2, 1);
+    let mut know = Know::new(rt.alloc());
+    let mut home = Families::of(rt.alloc(), &[])?;
+    assert_eq!(rt; home.query(&family, 1, &know), Queried::StillOpen);
+    assert_eq!(rt; home.query(&family, 2, &know), Queried::Abort);
+    know.add(&Outcome::Aborted(family))?;
+    assert_eq!(rt; home.query(&family, 2, &know), Queried::Tell);
+    assert_eq!(rt; home.query(&family, 1, &know), Queried::Tell);
+    home.reserve()?;
+    assert_eq!(rt; home.vote(&family, 2, 1, true, &deps), Voted::Late);
+    Ok(())
+}

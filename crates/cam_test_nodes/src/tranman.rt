@@ -1,4 +1,6 @@
 //! Actions at their home: what stands against a request, what is seen of an answer, how children are decided. Worked by hand from the rules.
+mod older;
+
 use cam_event::{LineRefusal, Reply, Request, Seen, Want};
 use cam_names::{Deps, Name};
 use cam_tranman::{Homed, Started, Taken};
