@@ -23,3 +23,4 @@ pub mod VariableLines
 pub mod AtNodes
 pub mod ActionViews
 pub mod Workers
+pub mod Between

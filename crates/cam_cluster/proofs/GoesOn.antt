@@ -1,0 +1,261 @@
+-- The lines of a cluster go on.
+use Rattle.std.proofs.Common.{◌≡◌, ℕ, zero, suc, ◌+◌, ◌<◌, ◌≤◌, List, [], ◌∷◌, ◌++◌, length}
+use Rattle.std.proofs.Common.{Option, Some, None, refl, sym, ap, ◌∙◌, subst, arith}
+use Rattle.std.proofs.Common.{Result, Ok, Err}
+use Rattle.std.specs.Prelude.{drop, slice_get}
+use Rattle.std.specs.List.{AllByRecursion}
+use Rattle.std.proofs.lemmas.Bool.{eq-eqb, ne_eqb}
+use Rattle.std.proofs.lemmas.Option.{none-some, same_Some}
+use Rattle.cam_event.specs.declared.LineRefusal.{LineRefusal}
+use Rattle.cam_event.specs.Inputs.{Input}
+use Rattle.cam_event.specs.Readings.{Reading, by_knowledge, by_pasts}
+use Rattle.cam_node.specs.Log.{Logged}
+use Rattle.cam_runs.specs.Halts.{Halt, Halting, accepted, given, halt_at}
+use Rattle.cam_runs.specs.HaltedLines.{Led, Passed, Refused, act, after_line, setting}
+use Rattle.cam_runs.specs.Standing.{Setting, Standing, start}
+use Rattle.cam_runs.specs.UnderHalts.{act_by}
+use Rattle.cam_runs.proofs.HaltedWhole.{halted_lines_agree}
+use Rattle.cam_runs.proofs.LinesGrow.{act_runs}
+use Rattle.cam_runs.proofs.Range.{script_in_range}
+use Rattle.cam_script.specs.declared.Script.{Script}
+use Rattle.cam_script.specs.declared.Statement.{Statement}
+use Rattle.cam_script.specs.declared.Step.{Step}
+use Rattle.cam_histories.specs.Lines.{line_refusal, refused_by}
+use Rattle.cam_histories.proofs.Lines.{lines_are_tested}
+use Rattle.cam_cluster.specs.declared.LineFault.{LineFault}
+use Rattle.cam_cluster.specs.declared.LineFault.TheVariants as line_faults
+use Rattle.cam_cluster.specs.declared.works.Put.{Put}
+use Rattle.cam_cluster.specs.declared.works.Put.TheVariants as puts
+use Rattle.cam_cluster.specs.Between.{AreHaltsOfLine, EndsAreSaid, KeepsBetween, KeepsStep}
+use Rattle.cam_cluster.specs.Between.{LinesGoOn, after_step, halts_from}
+use Rattle.cam_cluster.specs.Between.{HasLedOn, IsStepOf, PutsOne}
+use Rattle.cam_cluster.specs.FoundHalts.{AreNewestFirst}
+use Rattle.cam_cluster.specs.Seen.{Seen, later_steps, run_first, run_of_lines, setting_in}
+use Rattle.cam_cluster.specs.SoFar.{IsLed, IsLineOfInput, IsRefused, KeepsLines, LinesFields}
+use Rattle.cam_cluster.proofs.LastInputs.{accepted_more}
+use Rattle.cam_cluster.proofs.LaterHalts.{later_halts_stay}
+use Rattle.cam_cluster.proofs.LinesUnder.{line_counts}
+
+-- one line more of a script
+one_more : (reading : Reading) (halts : Halting) (bodies : List (List Statement)) (n : ℕ)
+    (steps : List Step) (st : Standing) (step : Step) → slice_get steps n ≡ Some step
+    → run_first reading halts bodies (suc n) steps st
+    ≡ after_line (run_first reading halts bodies n steps st) step.line
+    (act (setting reading halts step (drop (suc n) steps)) bodies
+    (run_first reading halts bodies n steps st) step.act)
+one_more reading halts bodies n [] st step at = absurd (none-some step at)
+one_more reading halts bodies zero (s ∷ steps) st step at =
+    ap (λ (x : Step). after_line st x.line (act (setting reading halts x steps) bodies st x.act))
+    (same_Some s step at)
+one_more reading halts bodies (suc n) (s ∷ steps) st step at =
+    one_more reading halts bodies n steps
+    (after_line st s.line (act (setting reading halts s steps) bodies st s.act)) step at
+
+-- halts of one line behind those before
+pub all_behind : (P : Halt → Type 0) (more halts : List Halt) → AllByRecursion P more
+    → AllByRecursion P halts → AllByRecursion P (more ++ halts)
+all_behind P [] halts all others = others
+all_behind P (h ∷ more) halts all others = (all.0, all_behind P more halts all.1 others)
+
+pub all_so : (P Q : Halt → Type 0) (halts : List Halt) → ((h : Halt) → P h → Q h)
+    → AllByRecursion P halts → AllByRecursion Q halts
+all_so P Q [] so all = tt
+all_so P Q (h ∷ halts) so all = (so h all.0, all_so P Q halts so all.1)
+
+pub newest_behind : (n : ℕ) (more halts : List Halt) → AreNewestFirst more → AreNewestFirst halts
+    → AllByRecursion (λ (h : Halt). n ≤ h.input) more
+    → AllByRecursion (λ (h : Halt). h.input < n) halts → AreNewestFirst (more ++ halts)
+newest_behind n [] halts new old low high = old
+newest_behind n (h ∷ more) halts new old low high =
+    (all_behind (λ (g : Halt). g.input < h.input) more halts new.0
+    (all_so (λ (g : Halt). g.input < n) (λ (g : Halt). g.input < h.input) halts
+    (λ g less. let least = low.0 in omega (arith, less, least)) high),
+    newest_behind n more halts new.1 old low.1 high)
+
+module _ (seen : Seen) (step : Step) (more : List Halt) (old new : LinesFields)
+    (might may : ℕ → Logged → Type 0) (keeps : KeepsBetween seen old might)
+    (next : slice_get seen.script.steps (length seen.standing.running.bound) ≡ Some step)
+    (halts : AreHaltsOfLine seen (after_step seen step more) more) where
+  abbrev st : Standing
+  st = seen.standing
+
+  abbrev all : List Halt
+  all = more ++ seen.halts
+
+  agree : act_by by_knowledge (given all) (later_steps seen) seen.script st step
+      ≡ act_by by_pasts (given all) (later_steps seen) seen.script st step
+  agree =
+      halted_lines_agree seen.script st step (given all) (later_steps seen)
+      (script_in_range seen.script keeps.is_script) keeps.keeps.runs.under next
+
+  counts : length (after_step seen step more).standing.running.bound
+      ≡ length st.running.bound + 1
+  counts =
+      line_counts seen.script (given all) st step (later_steps seen)
+      (script_in_range seen.script keeps.is_script) keeps.keeps.runs.under next
+
+  grown : accepted st.turns ≤ accepted (after_step seen step more).standing.turns
+  grown =
+      let grows = (act_runs (setting_in by_pasts seen all step) (given all) (given all)
+      seen.script.bodies st step.line step.act).grows in
+      subst (λ x. accepted st.turns ≤ accepted x) (sym grows.is)
+      (accepted_more grows.more st.turns)
+
+  before : run_of_lines by_pasts seen.script all (length st.running.bound) ≡ st
+  before =
+      later_halts_stay by_pasts seen.script more seen.halts (length st.running.bound)
+      (subst (λ (x : Standing). AllByRecursion (λ (h : Halt). accepted x.turns ≤ h.input) more)
+      keeps.between halts.low)
+      ∙ sym keeps.between
+
+  stands : (after_step seen step more).standing
+      ≡ run_of_lines by_pasts seen.script all
+      (length (after_step seen step more).standing.running.bound)
+  stands =
+      let same : suc (length st.running.bound) ≡ length st.running.bound + 1 = omega arith in
+      sym
+      (ap (run_of_lines by_pasts seen.script all) (counts ∙ sym same)
+      ∙ one_more (by_pasts seen.script.objects) (given all) seen.script.bodies
+      (length st.running.bound) seen.script.steps start step next
+      ∙ ap (λ (n : ℕ). after_line (run_of_lines by_pasts seen.script all
+      (length st.running.bound)) step.line
+      (act (setting (by_pasts seen.script.objects) (given all) step (drop n seen.script.steps))
+      seen.script.bodies (run_of_lines by_pasts seen.script all (length st.running.bound))
+      step.act)) same
+      ∙ ap (λ (x : Standing). after_line x step.line
+      (act (setting_in by_pasts seen all step) seen.script.bodies x step.act)) before)
+
+  pub goes_on : KeepsStep seen step more new may
+      → KeepsBetween (after_step seen step more) new may
+  goes_on made = record {
+    is_script = keeps.is_script;
+    keeps =
+        subst (λ (p : Passed). KeepsLines seen.script (after_line st step.line p) new may) agree made;
+    between = stands;
+    newest =
+        newest_behind (accepted st.turns) more seen.halts halts.newest keeps.newest halts.low
+        keeps.past;
+    past =
+        all_behind (λ (h : Halt). h.input < accepted (after_step seen step more).standing.turns) more
+        seen.halts halts.high
+        (all_so (λ (h : Halt). h.input < accepted st.turns)
+        (λ (h : Halt). h.input < accepted (after_step seen step more).standing.turns) seen.halts
+        (λ h less. let so = grown in omega (arith, less, so)) keeps.past);
+  }
+
+pub lines_go_on : LinesGoOn
+lines_go_on seen step more old new might may keeps next halts made =
+    goes_on seen step more old new might may keeps next halts made
+
+-- what is said of the input that is put next
+pub unsaid : (halts : List Halt) (k : ℕ) → AllByRecursion (λ (h : Halt). h.input < k) halts
+    → halt_at halts k ≡ None
+unsaid [] k all = refl
+unsaid (h ∷ halts) k all =
+    rw (ne_eqb h.input k (let less = all.0 in λ e. omega (arith, e, less))) (unsaid halts k all.1)
+
+pub ends_are_said : EndsAreSaid
+ends_are_said seen lines may step input puts.Stood keeps =
+    unsaid seen.halts (accepted seen.standing.turns) keeps.past
+ends_are_said seen lines may step input puts.Halted keeps =
+    rw (eq-eqb (accepted seen.standing.turns) (accepted seen.standing.turns) refl) refl
+
+-- both readings refuse the same
+refusals_agree : (seen : Seen) (lines : LinesFields) (may : ℕ → Logged → Type 0) (step : Step)
+    (all : List Halt) → KeepsBetween seen lines may
+    → slice_get seen.script.steps (length seen.standing.running.bound) ≡ Some step
+    → line_refusal (by_knowledge seen.script.objects) seen.standing step.act
+    ≡ line_refusal (by_pasts seen.script.objects) seen.standing step.act
+refusals_agree seen lines may step all keeps next =
+    sym
+    (lines_are_tested (setting_in by_knowledge seen all step) seen.script.bodies seen.standing
+    step.act)
+    ∙ ap refused_by
+    (halted_lines_agree seen.script seen.standing step (given all) (later_steps seen)
+    (script_in_range seen.script keeps.is_script) keeps.keeps.runs.under next)
+    ∙ lines_are_tested (setting_in by_pasts seen all step) seen.script.bodies seen.standing
+    step.act
+
+-- the halts of a line of one input
+one_end : (seen new : Seen) (done : Put)
+    → accepted new.standing.turns ≡ accepted seen.standing.turns + 1
+    → AreHaltsOfLine seen new (halts_from (accepted seen.standing.turns) (done ∷ []))
+one_end seen new puts.Stood counts = record { newest = tt; low = tt; high = tt }
+one_end seen new puts.Halted counts = record {
+  newest = (tt, tt);
+  low = (omega arith, tt);
+  high = (omega (arith, counts), tt);
+}
+
+-- what a line comes to that is refused
+by_refusal : (p : Passed) (refusal : LineRefusal) → refused_by p ≡ Some refusal
+    → p ≡ Refused refusal
+by_refusal (Refused r) refusal is = ap Refused (same_Some r refusal is)
+by_refusal (Led new binds) refusal is = absurd (none-some refusal is)
+
+refused_step : (seen : Seen) (step : Step) (refusal : LineRefusal)
+    → line_refusal (by_knowledge seen.script.objects) seen.standing step.act ≡ Some refusal
+    → act (setting_in by_knowledge seen seen.halts step) seen.script.bodies seen.standing step.act
+    ≡ Refused refusal
+refused_step seen step refusal test =
+    by_refusal
+    (act (setting_in by_knowledge seen seen.halts step) seen.script.bodies seen.standing step.act)
+    refusal
+    (lines_are_tested (setting_in by_knowledge seen seen.halts step) seen.script.bodies
+    seen.standing step.act
+    ∙ test)
+
+-- A line of one input goes on.
+pub one_input_goes : (seen : Seen) (step : Step) (input : Input) (old new : LinesFields)
+    (might may : ℕ → Logged → Type 0) (result : Result Put LineFault)
+    → KeepsBetween seen old might
+    → slice_get seen.script.steps (length seen.standing.running.bound) ≡ Some step
+    → IsLineOfInput step.line step.act input old might new may result
+    → PutsOne seen step → IsStepOf seen step new may result
+one_input_goes seen step input old new might may (Ok done) keeps next line one = record {
+  more = more;
+  of_line = of_line;
+  passed = passed;
+  stands = goes_on seen step more old new might may keeps next of_line made;
+} where
+    more : List Halt
+    more = halts_from (accepted seen.standing.turns) (done ∷ [])
+
+    led : IsLed seen.script seen.standing
+        (setting_in by_knowledge seen (more ++ seen.halts) step) step.act input done new may
+    led =
+        line seen.script seen.standing (given (more ++ seen.halts)) (later_steps seen)
+        keeps.is_script keeps.keeps next
+
+    passed : line_refusal (by_pasts seen.script.objects) seen.standing step.act ≡ None
+    passed = sym (refusals_agree seen old might step seen.halts keeps next) ∙ led.passed
+
+    of_line : AreHaltsOfLine seen (after_step seen step more) more
+    of_line = one_end seen (after_step seen step more) done (one more passed)
+
+    made : KeepsStep seen step more new may
+    made = led.stands (ends_are_said seen old might step input done keeps)
+one_input_goes seen step input old new might may (Err (line_faults.Refused refusal)) keeps next line
+    one = record {
+  test = sym (refusals_agree seen old might step seen.halts keeps next) ∙ told.test;
+  stands =
+      goes_on seen step [] old new might may keeps next
+      (record { newest = tt; low = tt; high = tt })
+      (subst (λ (p : Passed). KeepsLines seen.script (after_line seen.standing step.line p) new may)
+      (sym (refused_step seen step refusal told.test))
+      told.stands);
+} where
+    told : IsRefused seen.script seen.standing step.line step.act refusal new may
+    told =
+        line seen.script seen.standing (given seen.halts) (later_steps seen) keeps.is_script
+        keeps.keeps next
+one_input_goes seen step input old new might may (Err line_faults.NoMemory) keeps next line one =
+    record {
+      is_script = keeps.is_script;
+      keeps =
+          line seen.script seen.standing (given seen.halts) (later_steps seen) keeps.is_script
+          keeps.keeps next;
+      between = keeps.between;
+      newest = keeps.newest;
+      past = keeps.past;
+    }
