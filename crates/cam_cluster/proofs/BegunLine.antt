@@ -86,8 +86,8 @@ module _ (script : Script) (st : Standing) (works : WorksFields) (may : ℕ → 
       ((keeps.nodes place node at).is_halted ∙ awake, omega (arith, tops, few))
 
 -- what the next line comes to is under way
-pub next_leads : (script : Script) (st : Standing) (step : Step) (halts : Halting) (later : List
-Step)
+pub next_leads : (script : Script) (st : Standing) (step : Step) (halts : Halting)
+    (later : List Step)
     → IsScript script → IsUnderHalts script st → IsNextStep script st step
     → IsUnderHalts script (after_line st step.line (act_by by_knowledge halts later script st step))
 next_leads script st step halts later is under next =

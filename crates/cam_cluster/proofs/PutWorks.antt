@@ -1,12 +1,14 @@
 -- What an input makes of works, by what each call of theirs leaves of their parts.
 use Rattle.std.proofs.Common.{◌≡◌, ℕ, ◌+◌, ◌≤◌, ◌<◌, Bool, true, false, List, [], ◌∷◌, ◌++◌}
-use Rattle.std.proofs.Common.{length, get_or, set, Some, sym, ap, ◌∙◌, subst}
+use Rattle.std.proofs.Common.{length, length-append, get_or, set, take, Some, sym, ap, ◌∙◌, subst}
+use Rattle.std.proofs.Common.{arith}
 use Rattle.std.specs.Prelude.{map, slice_get}
 use Rattle.std.proofs.lemmas.List.{map-set}
 use Rattle.cam_event.specs.declared.Event.{Event}
 use Rattle.cam_event.specs.declared.Letter.{Letter}
 use Rattle.cam_event.specs.declared.Mark.{Mark}
 use Rattle.cam_event.specs.declared.Mark.TheVariants as marks
+use Rattle.cam_net.specs.Letters.{InFlightFields, put_as}
 use Rattle.cam_net.specs.Outbox.{OutboxFields, HasPutSome}
 use Rattle.cam_node.specs.declared.Input.{Input as NodeInput}
 use Rattle.cam_node.specs.Calls.{input_of, mail_of, load_of, letters_of, AreSame}
@@ -21,6 +23,13 @@ use Rattle.cam_cluster.specs.Works.{NodeFields, WorksFields, KeepsRun, MayReadAt
 use Rattle.cam_cluster.proofs.PlacedNodes.{taken_there, seen_there, reads_elsewhere, reads_there}
 use Rattle.cam_cluster.proofs.PutKeeps.{keeps_as_put, keeps_as_before}
 use Rattle.cam_cluster.proofs.PutEnds.{put_stood, put_halted}
+
+-- letters are put behind those that the network has
+pub net_grows : (o later : OutboxFields) → HasPutSome o later → length o.net ≤ length later.net
+net_grows o later some =
+    let are = ap (λ (xs : List InFlightFields). length xs) some.net
+    ∙ length-append o.net (map put_as (take some.many o.unput)) in
+    omega (arith, are)
 
 module _ {N : Type 0} (part : N → NodeFields) (tells : N → Bool) (may : N → Logged → Type 0) where
   abbrev pub seen : List N → OutboxFields → List Bool → List Event → List Mark → WorksFields

@@ -24,3 +24,5 @@ pub mod AtNodes
 pub mod ActionViews
 pub mod Workers
 pub mod Between
+pub mod Coming
+pub mod LetterLines

@@ -17,6 +17,10 @@ mod query;
 mod requests;
 mod start;
 mod tell;
+mod cut;
+mod deliver;
+mod letters;
+mod lose;
 
 use crate::room::{push_reserved, reserve_one};
 use crate::servers::Servers;

@@ -1,6 +1,6 @@
 //! The nodes of a cluster, the letters between them, and what they did. An input is put to one node: its event is added to the
 //! events and its letters are put next, or the node halts.
-ghost use Rattle.std.specs.Prelude.{◌≡◌, ◌+◌, ◌<◌, ◌++◌, ◌∷◌, [], IfOk, IfSome, IsFalse, IsTrue, OnErr, OnOk, length, set, slice_get, suc, true, false, vec_capacity, vec_len};
+ghost use Rattle.std.specs.Prelude.{◌≡◌, ◌+◌, ◌≤◌, ◌<◌, ◌++◌, ◌∷◌, [], IfOk, IfSome, IsFalse, IsTrue, OnErr, OnOk, length, set, slice_get, suc, true, false, vec_capacity, vec_len};
 ghost use Rattle.cam_event.specs.declared.Mark.TheVariants as marks;
 ghost use Rattle.std.specs.List.{AllByRecursion};
 ghost use Rattle.cam_net.specs.Outbox.{HasPutSome};
@@ -12,6 +12,8 @@ ghost use Rattle.cam_wire.specs.Writable.{IsWritable};
 ghost use Rattle.cam_cluster.specs.Puts.{HasPut, KeepsAsBefore};
 ghost use Rattle.cam_cluster.specs.Servers.{AreServers};
 
+mod letters;
+
 use crate::room::{push_reserved, reserve_one};
 use crate::servers::Servers;
 use cam_base::NoMemory;
@@ -21,6 +23,7 @@ use cam_log::EntryLog;
 use cam_net::Outbox;
 use cam_node::{Input, Node, Stepped};
 use cam_type::DataType;
+pub(crate) use letters::Coming;
 
 /// How an input ended that was put to a node.
 #[derive(Clone, Copy, Debug)]
@@ -107,6 +110,7 @@ impl<L: CheckpointLog> Works<L> {
         ensures as_before { OnErr result (KeepsAsBefore
             (⟦<Works<L> as AsWorks>⟧.fields self.old) (⟦<Works<L> as AsWorks>⟧.may_read self.old)
             (⟦<Works<L> as AsWorks>⟧.fields self.new) (⟦<Works<L> as AsWorks>⟧.may_read self.new)) }
+        ensures net { length self.old.outbox.net ≤ length self.new.outbox.net }
         ensures servers { AreServers R.kind Q.kind C.kind
             servers.new.register servers.new.queue servers.new.counter }
     {

@@ -1,11 +1,12 @@
 -- An input is put to a node.
 use Rattle.std.proofs.Common.{refl, sym, ap, ◌∙◌, subst, arith, rules, ◌+◌, ◌++◌, ◌∷◌, [], set, true, false}
-use Rattle.std.specs.Prelude.{length, vec_len, ◌<◌}
+use Rattle.std.specs.Prelude.{length, vec_len, ◌<◌, ◌≤◌}
 use Rattle.std.proofs.lemmas.Grind.{common_steps}
 use Rattle.cam_event.specs.declared.Mark.TheVariants as marks
+use Rattle.cam_net.specs.Outbox.{OutboxFields}
 use Rattle.cam_cluster.proofs.AsSeen.{part, reads_at, tells_of}
 use Rattle.cam_cluster.proofs.PlacedNodes.{asked_there, put_there, on_err}
-use Rattle.cam_cluster.proofs.PutWorks.{room_made, seen_as, as_before_in, stood_in, halted_in}
+use Rattle.cam_cluster.proofs.PutWorks.{net_grows, room_made, seen_as, as_before_in, stood_in, halted_in}
 use Rattle.cam_cluster.proofs.works.Works.put.Goals as goal
 
 pub make_room-requires : goal.make_room-requires
@@ -185,3 +186,24 @@ returns-else-not-is_halted-clause-servers g c =
     let stays = c.step.ensures in
     let are = c.requires.servers in
     (stays.register_stays ∙ are.0, stays.queue_stays ∙ are.1, stays.counter_stays ∙ are.2)
+
+-- the network only grows
+pub returns-in_err-make_room-clause-net : goal.returns-in_err-make_room-clause-net
+returns-in_err-make_room-clause-net g c =
+    net_grows c.args.self.now.outbox c.make_room.new.self.outbox c.make_room.ensures.some
+
+pub returns-then-not-is_halted-clause-net : goal.returns-then-not-is_halted-clause-net
+returns-then-not-is_halted-clause-net g c =
+    net_grows c.args.self.now.outbox c.make_room.new.self.outbox c.make_room.ensures.some
+
+pub returns-in-Ok-clause-net : goal.returns-in-Ok-clause-net
+returns-in-Ok-clause-net g c =
+    subst (λ (o : OutboxFields). length c.args.self.now.outbox.net ≤ length o.net)
+    (sym c.stand.ensures.outbox)
+    (net_grows c.args.self.now.outbox c.make_room.new.self.outbox c.make_room.ensures.some)
+
+pub returns-else-not-is_halted-clause-net : goal.returns-else-not-is_halted-clause-net
+returns-else-not-is_halted-clause-net g c =
+    subst (λ (o : OutboxFields). length c.args.self.now.outbox.net ≤ length o.net)
+    (sym c.halt.ensures.outbox)
+    (net_grows c.args.self.now.outbox c.make_room.new.self.outbox c.make_room.ensures.some)

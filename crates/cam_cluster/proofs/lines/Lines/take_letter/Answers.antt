@@ -1,0 +1,119 @@
+-- The letter of a line is found and tested.
+use Rattle.std.proofs.Common.{◌≡◌, Err, refl, sym, ◌∙◌, subst, rules}
+use Rattle.cam_cluster.specs.declared.LineFault.TheVariants as line_faults
+use Rattle.cam_cluster.specs.LetterLines.{HasTaken}
+use Rattle.cam_cluster.proofs.AsSeen.{lines_of, reads_of, works_of}
+use Rattle.cam_cluster.proofs.HandedOver.{works_may_be_written}
+use Rattle.cam_cluster.proofs.Led.{unchanged_lines}
+use Rattle.cam_cluster.proofs.LetterEnds.{halted_letter, no_letter}
+use Rattle.cam_cluster.proofs.LineEnds.{both_before, works_of_lines}
+use Rattle.cam_cluster.proofs.lines.Lines.take_letter.Goals as goal
+
+pub put_letters-requires : goal.put_letters-requires
+put_letters-requires g c = record {
+  writable =
+      works_may_be_written (works_of g.L.CheckpointLog g.L.EntryLog c.args.self.now.works) (reads_of g.L.CheckpointLog g.L.EntryLog c.args.self.now.works)
+      (works_of_lines (lines_of g.L.CheckpointLog g.L.EntryLog c.args.self.now) (reads_of g.L.CheckpointLog g.L.EntryLog c.args.self.now.works) c.requires.stand);
+}
+
+pub returns-in_err-put_letters : goal.returns-in_err-put_letters
+returns-in_err-put_letters g c =
+    let wants : c.from_residual.result ≡ Err line_faults.NoMemory = search rules in
+    subst (λ r. HasTaken c.args.line c.args.number (lines_of g.L.CheckpointLog g.L.EntryLog c.args.self.now)
+    (reads_of g.L.CheckpointLog g.L.EntryLog c.args.self.now.works) (record {
+      works = works_of g.L.CheckpointLog g.L.EntryLog c.put_letters.new.self;
+      bound = c.args.self.now.bound.items;
+    })
+    (reads_of g.L.CheckpointLog g.L.EntryLog c.put_letters.new.self) r) (sym wants)
+    (unchanged_lines (works_of g.L.CheckpointLog g.L.EntryLog c.args.self.now.works) (works_of g.L.CheckpointLog g.L.EntryLog c.put_letters.new.self)
+    (reads_of g.L.CheckpointLog g.L.EntryLog c.args.self.now.works)
+    (reads_of g.L.CheckpointLog g.L.EntryLog c.put_letters.new.self) c.args.self.now.bound.items c.args.self.now.bound.items
+    c.put_letters.ensures.as_before refl)
+
+pub coming-requires : goal.coming-requires
+coming-requires g c = record { all = c.in_ok-put_letters.ensures.all }
+
+pub returns-in_err-refuse : goal.returns-in_err-refuse
+returns-in_err-refuse g c =
+    let wants : c.from_residual-in_err-refuse.result ≡ Err line_faults.NoMemory = search rules in
+    subst (λ r. HasTaken c.args.line c.args.number (lines_of g.L.CheckpointLog g.L.EntryLog c.args.self.now)
+    (reads_of g.L.CheckpointLog g.L.EntryLog c.args.self.now.works)
+    (lines_of g.L.CheckpointLog g.L.EntryLog c.refuse.new.self)
+    (reads_of g.L.CheckpointLog g.L.EntryLog c.refuse.new.self.works) r) (sym wants)
+    (both_before (lines_of g.L.CheckpointLog g.L.EntryLog c.args.self.now) (record {
+      works = works_of g.L.CheckpointLog g.L.EntryLog c.put_letters.new.self;
+      bound = c.args.self.now.bound.items;
+    })
+    (lines_of g.L.CheckpointLog g.L.EntryLog c.refuse.new.self)
+    (reads_of g.L.CheckpointLog g.L.EntryLog c.args.self.now.works)
+    (reads_of g.L.CheckpointLog g.L.EntryLog c.put_letters.new.self)
+    (reads_of g.L.CheckpointLog g.L.EntryLog c.refuse.new.self.works)
+    (unchanged_lines (works_of g.L.CheckpointLog g.L.EntryLog c.args.self.now.works) (works_of g.L.CheckpointLog g.L.EntryLog c.put_letters.new.self)
+    (reads_of g.L.CheckpointLog g.L.EntryLog c.args.self.now.works)
+    (reads_of g.L.CheckpointLog g.L.EntryLog c.put_letters.new.self) c.args.self.now.bound.items c.args.self.now.bound.items
+    c.put_letters.ensures.as_before refl) c.in_err-refuse.ensures.as_before)
+
+pub returns-in_default : goal.returns-in_default
+returns-in_default g c =
+    no_letter c.args.line c.args.number (lines_of g.L.CheckpointLog g.L.EntryLog c.args.self.now) (record {
+      works = works_of g.L.CheckpointLog g.L.EntryLog c.put_letters.new.self;
+      bound = c.args.self.now.bound.items;
+    })
+    (reads_of g.L.CheckpointLog g.L.EntryLog c.args.self.now.works)
+    (reads_of g.L.CheckpointLog g.L.EntryLog c.put_letters.new.self)
+    (unchanged_lines (works_of g.L.CheckpointLog g.L.EntryLog c.args.self.now.works) (works_of g.L.CheckpointLog g.L.EntryLog c.put_letters.new.self)
+    (reads_of g.L.CheckpointLog g.L.EntryLog c.args.self.now.works)
+    (reads_of g.L.CheckpointLog g.L.EntryLog c.put_letters.new.self) c.args.self.now.bound.items c.args.self.now.bound.items
+    c.put_letters.ensures.as_before refl) c.in_ok-put_letters.ensures.all
+    (lines_of g.L.CheckpointLog g.L.EntryLog c.refuse.new.self)
+    (reads_of g.L.CheckpointLog g.L.EntryLog c.refuse.new.self.works)
+    c.in_default.ensures.found c.in_ok-refuse.ensures.refused
+
+pub returns-in_err-refuse-2 : goal.returns-in_err-refuse-2
+returns-in_err-refuse-2 g c =
+    let wants : c.from_residual-in_err-refuse-2.result ≡ Err line_faults.NoMemory = search rules in
+    subst (λ r. HasTaken c.args.line c.args.number (lines_of g.L.CheckpointLog g.L.EntryLog c.args.self.now)
+    (reads_of g.L.CheckpointLog g.L.EntryLog c.args.self.now.works)
+    (lines_of g.L.CheckpointLog g.L.EntryLog c.refuse-then-is_halted.new.self)
+    (reads_of g.L.CheckpointLog g.L.EntryLog c.refuse-then-is_halted.new.self.works) r) (sym wants)
+    (both_before (lines_of g.L.CheckpointLog g.L.EntryLog c.args.self.now) (record {
+      works = works_of g.L.CheckpointLog g.L.EntryLog c.put_letters.new.self;
+      bound = c.args.self.now.bound.items;
+    })
+    (lines_of g.L.CheckpointLog g.L.EntryLog c.refuse-then-is_halted.new.self)
+    (reads_of g.L.CheckpointLog g.L.EntryLog c.args.self.now.works)
+    (reads_of g.L.CheckpointLog g.L.EntryLog c.put_letters.new.self)
+    (reads_of g.L.CheckpointLog g.L.EntryLog c.refuse-then-is_halted.new.self.works)
+    (unchanged_lines (works_of g.L.CheckpointLog g.L.EntryLog c.args.self.now.works) (works_of g.L.CheckpointLog g.L.EntryLog c.put_letters.new.self)
+    (reads_of g.L.CheckpointLog g.L.EntryLog c.args.self.now.works)
+    (reads_of g.L.CheckpointLog g.L.EntryLog c.put_letters.new.self) c.args.self.now.bound.items c.args.self.now.bound.items
+    c.put_letters.ensures.as_before refl) c.in_err-refuse-2.ensures.as_before)
+
+pub returns-then-is_halted : goal.returns-then-is_halted
+returns-then-is_halted g c =
+    halted_letter c.args.line c.args.number (lines_of g.L.CheckpointLog g.L.EntryLog c.args.self.now) (record {
+      works = works_of g.L.CheckpointLog g.L.EntryLog c.put_letters.new.self;
+      bound = c.args.self.now.bound.items;
+    })
+    (reads_of g.L.CheckpointLog g.L.EntryLog c.args.self.now.works)
+    (reads_of g.L.CheckpointLog g.L.EntryLog c.put_letters.new.self)
+    (unchanged_lines (works_of g.L.CheckpointLog g.L.EntryLog c.args.self.now.works) (works_of g.L.CheckpointLog g.L.EntryLog c.put_letters.new.self)
+    (reads_of g.L.CheckpointLog g.L.EntryLog c.args.self.now.works)
+    (reads_of g.L.CheckpointLog g.L.EntryLog c.put_letters.new.self) c.args.self.now.bound.items c.args.self.now.bound.items
+    c.put_letters.ensures.as_before refl) c.in_ok-put_letters.ensures.all
+    (lines_of g.L.CheckpointLog g.L.EntryLog c.refuse-then-is_halted.new.self)
+    (reads_of g.L.CheckpointLog g.L.EntryLog c.refuse-then-is_halted.new.self.works)
+    c.in-Some.coming c.in-Some.ensures.found (sym c.is_halted.ensures ∙ c.if-is_halted.true)
+    c.in_ok-refuse-2.ensures.refused
+
+pub returns : goal.returns
+returns g c = record {
+  as_before =
+      (unchanged_lines (works_of g.L.CheckpointLog g.L.EntryLog c.args.self.now.works) (works_of g.L.CheckpointLog g.L.EntryLog c.put_letters.new.self)
+      (reads_of g.L.CheckpointLog g.L.EntryLog c.args.self.now.works)
+      (reads_of g.L.CheckpointLog g.L.EntryLog c.put_letters.new.self) c.args.self.now.bound.items c.args.self.now.bound.items
+      c.put_letters.ensures.as_before refl);
+  all = c.in_ok-put_letters.ensures.all;
+  found = c.in-Some.ensures.found;
+  awake = sym c.is_halted.ensures ∙ c.if-is_halted.false;
+}

@@ -1,0 +1,104 @@
+-- A letter is handed over to its node.
+use Rattle.std.proofs.Common.{◌≡◌, ◌<◌, sym, subst, rules}
+use Rattle.std.specs.List.{AllByRecursion}
+use Rattle.std.specs.Prelude.{slice_get}
+use Rattle.cam_node.specs.Calls.{answers}
+use Rattle.cam_wire.specs.Writable.{IsWritable}
+use Rattle.cam_cluster.specs.Coming.{HasDelivered}
+use Rattle.cam_cluster.proofs.AsSeen.{part, reads_at, reads_of, tells_of, works_of}
+use Rattle.cam_cluster.proofs.HandedOver.{handed, may_so, node_awake, place_within, there_so}
+use Rattle.cam_cluster.proofs.PlacedNodes.{each_there, on_err, seen_there, sees}
+use Rattle.cam_cluster.proofs.PutWorks.{seen}
+use Rattle.cam_cluster.proofs.works.Works.hand_over.Goals as goal
+
+pub has_numbers-requires : goal.has_numbers-requires
+has_numbers-requires g c = record {
+  running =
+      each_there _ c.args.self.now.nodes.items c.args.coming.now.place (λ node at.
+      node_awake (works_of g.L.CheckpointLog g.L.EntryLog c.args.self.now)
+      (reads_of g.L.CheckpointLog g.L.EntryLog c.args.self.now) c.args.coming.now.place
+      c.requires.stand c.requires.awake _
+      (seen_there (part g.L.CheckpointLog g.L.EntryLog) c.args.self.now.nodes.items
+      c.args.coming.now.place node at));
+}
+
+pub returns-then-not-has_numbers-clause-as_before :
+    goal.returns-then-not-has_numbers-clause-as_before
+returns-then-not-has_numbers-clause-as_before g c =
+    λ script st is keeps. keeps
+
+pub returns-then-not-has_numbers-clause-servers : goal.returns-then-not-has_numbers-clause-servers
+returns-then-not-has_numbers-clause-servers g c =
+    c.requires.servers
+
+pub put-requires-clause-place : goal.put-requires-clause-place
+put-requires-clause-place g c =
+    place_within (works_of g.L.CheckpointLog g.L.EntryLog c.args.self.now)
+    (reads_of g.L.CheckpointLog g.L.EntryLog c.args.self.now) c.args.coming.now.place
+    c.requires.stand
+    (sees (part g.L.CheckpointLog g.L.EntryLog) c.args.self.now.nodes.items
+    c.args.coming.now.place
+    (there_so _ c.args.self.now.nodes.items c.args.coming.now.place
+    (c.has_numbers.ensures.0 c.if-not-has_numbers.false)))
+
+pub put-requires-clause-may : goal.put-requires-clause-may
+put-requires-clause-may g c =
+    may_so _ _ (slice_get c.args.self.now.nodes.items c.args.coming.now.place)
+    (each_there _ c.args.self.now.nodes.items c.args.coming.now.place (λ node at.
+    node_awake (works_of g.L.CheckpointLog g.L.EntryLog c.args.self.now)
+    (reads_of g.L.CheckpointLog g.L.EntryLog c.args.self.now) c.args.coming.now.place
+    c.requires.stand c.requires.awake _
+    (seen_there (part g.L.CheckpointLog g.L.EntryLog) c.args.self.now.nodes.items
+    c.args.coming.now.place node at)))
+    (c.has_numbers.ensures.0 c.if-not-has_numbers.false)
+
+pub put-requires-clause-servers : goal.put-requires-clause-servers
+put-requires-clause-servers g c =
+    c.requires.servers
+
+pub put-requires-clause-there : goal.put-requires-clause-there
+put-requires-clause-there g c =
+    there_so _ c.args.self.now.nodes.items c.args.coming.now.place
+    (c.has_numbers.ensures.0 c.if-not-has_numbers.false)
+
+pub put-requires-clause-writable : goal.put-requires-clause-writable
+put-requires-clause-writable g c =
+    subst (AllByRecursion IsWritable) (sym c.requires.all) tt
+
+pub returns-in_err-done-clause-delivered : goal.returns-in_err-done-clause-delivered
+returns-in_err-done-clause-delivered g c =
+    search rules
+
+pub returns-in_err-done-clause-as_before : goal.returns-in_err-done-clause-as_before
+returns-in_err-done-clause-as_before g c =
+    on_err c.from_residual.result _ c.in_err-done.ensures.as_before
+
+pub returns-in_err-done-clause-servers : goal.returns-in_err-done-clause-servers
+returns-in_err-done-clause-servers g c =
+    c.put.ensures.servers
+
+pub returns-clause-delivered : goal.returns-clause-delivered
+returns-clause-delivered g c =
+    let old = c.args.self.now in
+    let mid = c.put.new.self in
+    subst (λ o. HasDelivered c.args.line c.args.number
+    (works_of g.L.CheckpointLog g.L.EntryLog old) (reads_of g.L.CheckpointLog g.L.EntryLog old)
+    c.in_ok-done.done
+    (seen (part g.L.CheckpointLog g.L.EntryLog) (tells_of g.L.CheckpointLog g.L.EntryLog)
+    (reads_at g.L.CheckpointLog g.L.EntryLog) mid.nodes.items o mid.halted mid.events.items
+    mid.marks.items)
+    (reads_of g.L.CheckpointLog g.L.EntryLog mid)) (sym c.delivered.ensures)
+    (handed c.args.line c.args.number c.args.coming.now c.args.letter
+    (works_of g.L.CheckpointLog g.L.EntryLog old) (reads_of g.L.CheckpointLog g.L.EntryLog old)
+    c.requires.found c.requires.all c.requires.awake c.requires.read c.in_ok-done.done
+    (works_of g.L.CheckpointLog g.L.EntryLog mid) (reads_of g.L.CheckpointLog g.L.EntryLog mid)
+    (place_within (works_of g.L.CheckpointLog g.L.EntryLog old)
+    (reads_of g.L.CheckpointLog g.L.EntryLog old) c.args.coming.now.place c.requires.stand
+    (sees (part g.L.CheckpointLog g.L.EntryLog) old.nodes.items c.args.coming.now.place
+    (there_so _ old.nodes.items c.args.coming.now.place
+    (c.has_numbers.ensures.0 c.if-not-has_numbers.false))))
+    c.in_ok-done.ensures.put c.put.ensures.net)
+
+pub returns-clause-servers : goal.returns-clause-servers
+returns-clause-servers g c =
+    c.put.ensures.servers

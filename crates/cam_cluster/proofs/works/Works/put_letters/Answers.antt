@@ -1,0 +1,29 @@
+-- The letters that are put next are put.
+use Rattle.std.proofs.Common.{refl}
+use Rattle.cam_cluster.proofs.AsSeen.{part, reads_at, tells_of}
+use Rattle.cam_cluster.proofs.PutWorks.{room_made}
+use Rattle.cam_cluster.proofs.works.Works.put_letters.Goals as goal
+
+pub put_all-requires : goal.put_all-requires
+put_all-requires g c =
+    c.requires.writable
+
+pub returns-clause-as_before : goal.returns-clause-as_before
+returns-clause-as_before g c =
+    let old = c.args.self.now in
+    room_made (part g.L.CheckpointLog g.L.EntryLog) (tells_of g.L.CheckpointLog g.L.EntryLog)
+    (reads_at g.L.CheckpointLog g.L.EntryLog) old.nodes.items old.nodes.items old.outbox
+    c.put_all.new.self old.halted old.halted old.events.items old.events.items old.marks.items
+    old.marks.items refl c.put_all.ensures.some refl refl refl
+
+pub returns-clause-all : goal.returns-clause-all
+returns-clause-all g c =
+    c.put_all.ensures.all
+
+pub returns-clause-nodes : goal.returns-clause-nodes
+returns-clause-nodes g c =
+    refl
+
+pub returns-clause-halted : goal.returns-clause-halted
+returns-clause-halted g c =
+    refl

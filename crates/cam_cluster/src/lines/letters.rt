@@ -1,0 +1,76 @@
+//! The lines that hand a letter over: it is found and tested, and its bytes are read.
+ghost use Rattle.std.specs.Prelude.{◌≡◌, IfOk, OnErr, Some, [], false, suc};
+ghost use Rattle.cam_net.specs.Waiting.{is_halted};
+ghost use Rattle.cam_cluster.specs.Coming.{HasFound, HasRead};
+ghost use Rattle.cam_cluster.specs.LetterLines.{HasLedLetter, HasTaken};
+ghost use Rattle.cam_cluster.specs.Servers.{AreServers};
+ghost use Rattle.cam_cluster.specs.SoFar.{AreLinesOfSome, KeepsLinesAsBefore};
+
+use super::{AsLines, Lines};
+use crate::LineFault;
+use crate::room::{push_reserved, reserve_one};
+use crate::servers::Servers;
+use crate::works::{Coming, Put, is_halted};
+use cam_base::NoMemory;
+use cam_ckpt::CheckpointLog;
+use cam_event::{Letter, LineRefusal};
+use cam_type::DataType;
+
+impl<L: CheckpointLog> Lines<L> {
+    /// The letter of a number, for a line that hands it over. The line is refused where the letter was never sent or is lost, and
+    /// where its node is halted.
+    #[tactic(none)]
+    pub(super) fn take_letter(&mut self, line: u32, number: u32) -> Result<Coming, LineFault>
+        requires stand { AreLinesOfSome (⟦<Lines<L> as AsLines>⟧.fields self.old)
+            (⟦<Lines<L> as AsLines>⟧.may_read self.old) }
+        ensures { HasTaken line number
+            (⟦<Lines<L> as AsLines>⟧.fields self.old) (⟦<Lines<L> as AsLines>⟧.may_read self.old)
+            (⟦<Lines<L> as AsLines>⟧.fields self.new) (⟦<Lines<L> as AsLines>⟧.may_read self.new) result }
+    {
+        self.works.put_letters()?;
+        let Some(coming) = self.works.coming(number) else {
+            self.refuse(line, LineRefusal::NoLetter)?;
+            return Err(LineFault::Refused(LineRefusal::NoLetter));
+        };
+        if is_halted(&self.works.halted, coming.place) {
+            self.refuse(line, LineRefusal::Halted)?;
+            return Err(LineFault::Refused(LineRefusal::Halted));
+        }
+        Ok(coming)
+    }
+
+    /// Hands a letter over to its node, which is not halted; the line's variable stands for nothing.
+    #[tactic(none)]
+    pub(super) fn lead_letter<R: DataType, Q: DataType, C: DataType>(
+        &mut self,
+        line: u32,
+        number: u32,
+        coming: &Coming,
+        letter: Letter,
+        servers: &mut Servers<R, Q, C>,
+    ) -> Result<Put, NoMemory>
+        requires stand { AreLinesOfSome (⟦<Lines<L> as AsLines>⟧.fields self.old)
+            (⟦<Lines<L> as AsLines>⟧.may_read self.old) }
+        requires all { self.old.works.outbox.unput ≡ [] }
+        requires found { HasFound number (⟦<Lines<L> as AsLines>⟧.fields self.old).works
+            (⟦<Lines<L> as AsLines>⟧.may_read self.old) (Some coming.now) }
+        requires awake { is_halted self.old.works.halted (suc coming.now.place) ≡ false }
+        requires read { HasRead coming.now.letter (⟦<Lines<L> as AsLines>⟧.fields self.old).works
+            (⟦<Lines<L> as AsLines>⟧.may_read self.old) letter }
+        requires servers { AreServers R.kind Q.kind C.kind
+            servers.old.register servers.old.queue servers.old.counter }
+        ensures led { IfOk result (λ done. HasLedLetter line number
+            (⟦<Lines<L> as AsLines>⟧.fields self.old) (⟦<Lines<L> as AsLines>⟧.may_read self.old) done
+            (⟦<Lines<L> as AsLines>⟧.fields self.new) (⟦<Lines<L> as AsLines>⟧.may_read self.new)) }
+        ensures as_before { OnErr result (KeepsLinesAsBefore
+            (⟦<Lines<L> as AsLines>⟧.fields self.old) (⟦<Lines<L> as AsLines>⟧.may_read self.old)
+            (⟦<Lines<L> as AsLines>⟧.fields self.new) (⟦<Lines<L> as AsLines>⟧.may_read self.new)) }
+        ensures servers { AreServers R.kind Q.kind C.kind
+            servers.new.register servers.new.queue servers.new.counter }
+    {
+        reserve_one(&mut self.bound)?;
+        let done = self.works.hand_over(line, number, coming, letter, servers)?;
+        push_reserved(&mut self.bound, &None);
+        Ok(done)
+    }
+}
