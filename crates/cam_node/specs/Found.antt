@@ -5,7 +5,7 @@
 -- event until a restart comes to its end. So a restart tells by what the log holds which of the two
 -- it read: the log has the event where it tells all outcomes and counts that the node knows, and
 -- holds each family that the event secures.
-use Rattle.std.specs.Prelude.{◌≡◌, ◌⊎◌, ℕ, zero, suc, ◌-◌, eqb, nat_lt, Bool, true, false, ◌&&◌, if◌then◌else◌, List, [], ◌∷◌, map, length, Option, Some, None}
+use Rattle.std.specs.Prelude.{◌≡◌, ◌⊎◌, ℕ, zero, suc, ◌-◌, eqb, nat_lt, Bool, true, false, ◌&&◌, if◌then◌else◌, List, ◌∷◌, map, length, Option, Some, None}
 use Rattle.std.specs.List.{list_any, list_all}
 use Rattle.cam_names.specs.Names.{name_eq}
 use Rattle.cam_type.specs.declared.ObjectDecl.{ObjectDecl}

@@ -6,7 +6,7 @@
 -- leaves both with the longer history. At a halt the log may have the event's entry or not. A
 -- restart goes on from a history
 -- that the log which it read keeps.
-use Rattle.std.specs.Prelude.{◌≡◌, ◌⊎◌, ℕ, Bool, true, List, ◌∷◌, map, Option, None}
+use Rattle.std.specs.Prelude.{◌≡◌, ◌⊎◌, ℕ, List, ◌∷◌, map, Option, None}
 use Rattle.cam_type.specs.declared.ObjectDecl.{ObjectDecl}
 use Rattle.cam_know.specs.Known.{nothing}
 use Rattle.cam_event.specs.declared.Event.{Event}

@@ -1,7 +1,7 @@
 -- What a family's home does when a vote comes, by what it knows with the letter and what its
 -- families
 -- and actions answer.
-use Rattle.std.specs.Prelude.{◌≡◌, ℕ, Bool, true, false, not, ◌||◌, if◌then◌else◌, List, []}
+use Rattle.std.specs.Prelude.{◌≡◌, ℕ, Bool, not, ◌||◌, if◌then◌else◌, List}
 use Rattle.cam_names.specs.declared.name.Name.{Name}
 use Rattle.cam_names.specs.Names.{is_top}
 use Rattle.cam_know.specs.Knowledge.{Knowledge}

@@ -1,8 +1,7 @@
 -- What is left of an event's deeds are those that an entry has.
-use Rattle.std.proofs.Common.{◌≡◌, ◌∙◌, List, ap, rules}
+use Rattle.std.proofs.Common.{◌≡◌, ◌∙◌, ap, rules}
 use Rattle.std.proofs.lemmas.Fn.{filter_same}
 use Rattle.std.specs.Prelude.{filter}
-use Rattle.cam_event.specs.declared.Deed.{Deed}
 use Rattle.cam_event.specs.declared.Note.TheVariants as notes
 use Rattle.cam_event.specs.Taken.{is_entered}
 use Rattle.cam_node.proofs.found.taken_of.Goals as goal
