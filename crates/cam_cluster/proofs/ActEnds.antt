@@ -24,8 +24,8 @@ use Rattle.cam_cluster.specs.SoFar.{IsEnded, IsLineOfInput, KeepsLines, LinesFie
 use Rattle.cam_cluster.specs.VariableLines.{IsItsInput, IsLineBy, IsNextOfSome, IsRequestBy}
 use Rattle.cam_cluster.specs.VariableLines.{IsRequestBySome, IsRequestLine, action_of, give_up_of}
 use Rattle.cam_cluster.specs.VariableLines.{query_of, request_of}
-use Rattle.cam_cluster.proofs.VariableActs.{give_up_by, give_up_unbound, query_to, query_unbound}
-use Rattle.cam_cluster.proofs.VariableActs.{tell_to}
+use Rattle.cam_cluster.proofs.NodeActs.{query_to, query_unbound, tell_to}
+use Rattle.cam_cluster.proofs.VariableActs.{give_up_by, give_up_unbound}
 use Rattle.cam_cluster.proofs.VariableEnds.{stands_for, unbound_line}
 
 -- in each run whose next step is of this act it makes the request

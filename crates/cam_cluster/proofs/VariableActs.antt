@@ -1,9 +1,8 @@
--- The acts of lines of one input, which is a request of a variable's action, or put to a node that
--- the line names.
+-- The acts of lines that make a request of a variable's action.
 use Rattle.std.proofs.Common.{◌≡◌, ℕ, ℤ, Option, Some, None, refl, sym, ap, ◌∙◌}
 use Rattle.std.proofs.lemmas.Bool.{and_parts}
 use Rattle.cam_names.specs.declared.name.Name.{Name}
-use Rattle.cam_names.specs.Names.{family, home_node}
+use Rattle.cam_names.specs.Names.{home_node}
 use Rattle.cam_type.specs.declared.Op.{Op}
 use Rattle.cam_event.specs.declared.LineRefusal.TheVariants as refusals
 use Rattle.cam_event.specs.declared.Want.{Want}
@@ -11,8 +10,7 @@ use Rattle.cam_event.specs.declared.Want.TheVariants as wants
 use Rattle.cam_event.specs.Live.{site_of, is_fit}
 use Rattle.cam_event.specs.Readings.{by_knowledge}
 use Rattle.cam_node.specs.declared.Input.TheVariants as inputs
-use Rattle.cam_runs.specs.HaltedLines.{Refused, act, halted_or, of_variable, take_request}
-use Rattle.cam_runs.specs.HaltedLines.{unless}
+use Rattle.cam_runs.specs.HaltedLines.{Refused, act, of_variable, take_request}
 use Rattle.cam_runs.specs.InRange.{is_free, is_node, is_op}
 use Rattle.cam_runs.specs.Requests.{variable}
 use Rattle.cam_runs.specs.Standing.{Standing, Setting}
@@ -22,13 +20,11 @@ use Rattle.cam_runs.proofs.HaltedParts.{bare_at}
 use Rattle.cam_script.specs.declared.Act.{Act}
 use Rattle.cam_script.specs.declared.Act.TheVariants as acts
 use Rattle.cam_script.specs.declared.Script.{Script}
-use Rattle.cam_script.specs.declared.Use.TheVariants as uses
-use Rattle.cam_script.specs.Law as law
-use Rattle.cam_script.specs.Law.{IsScript, may_use}
+use Rattle.cam_script.specs.Law.{IsScript}
 use Rattle.cam_histories.specs.Lines.{line_refusal, test_request, test_variable}
-use Rattle.cam_cluster.specs.InputLines.{IsLineTo, led_by, refusal_of}
+use Rattle.cam_cluster.specs.InputLines.{IsLineTo}
 use Rattle.cam_cluster.specs.VariableLines.{AreAtNodes, IsRequestBy}
-use Rattle.cam_cluster.proofs.StepHolds.{next_holds, next_in_range, node_within}
+use Rattle.cam_cluster.proofs.StepHolds.{next_in_range}
 
 module _ (script : Script) (st : Standing) (line : ℕ) (is : IsScript script) where
   pub ask_by : (v m : ℕ) → IsNextStep script st (record { line = line; act = acts.Ask v m })
@@ -148,58 +144,3 @@ give_up_unbound script st v w none = record {
       (λ y. take_request c st x (wants.GiveUp y)))) none
       ∙ no_child_taken (variable st.running v);
 }
-
-module _ (script : Script) (st : Standing) (line : ℕ) (is : IsScript script) where
-  -- `tell` puts its input to its node,
-  pub tell_to : (s to : ℕ) → IsNextStep script st (record { line = line; act = acts.Tell s to })
-      → IsLineTo script st (acts.Tell s to) s (inputs.Tell to)
-  tell_to s to next =
-      let holds = next_holds script st line (acts.Tell s to) is next in
-      let node = node_within script.nodes s
-      (and_parts (law.is_node script.nodes s) (law.is_node script.nodes to) holds.1).0 in
-      record {
-        low = node.0;
-        high = node.1;
-        at = refl;
-        own =
-            node_of_test to (and_parts (is_node s) (is_node to)
-            (next_in_range script st line (acts.Tell s to) is next)).1;
-        idle = tt;
-        tests = refl;
-        takes = λ c. refl;
-      }
-
-  -- and so does `query`, where its variable stands for an action.
-  pub query_to : (s v : ℕ) (a : Name) → variable st.running v ≡ Some a
-      → IsNextStep script st (record { line = line; act = acts.Query s v })
-      → IsLineTo script st (acts.Query s v) s (inputs.Query (family a))
-  query_to s v a at next =
-      let holds = next_holds script st line (acts.Query s v) is next in
-      let node = node_within script.nodes s
-      (and_parts (law.is_node script.nodes s) (may_use holds.0 uses.Query v) holds.1).0 in
-      record {
-        low = node.0;
-        high = node.1;
-        at = refl;
-        own = tt;
-        idle = tt;
-        tests =
-            ap (λ o. test_variable o (λ x. halted_or st s
-            (refusal_of (by_knowledge script.objects) st s (inputs.Query (family x))))) at;
-        takes = λ c.
-            ap (λ o. of_variable o (λ x. unless (halted_or st s
-            (refusal_of c.reading st s (inputs.Query (family x))))
-            (led_by c st s (inputs.Query (family x))))) at;
-      }
-
-  pub query_unbound : (s v : ℕ) → variable st.running v ≡ None
-      → IsUnbound script st (acts.Query s v)
-  query_unbound s v none = record {
-    test =
-        ap (λ o. test_variable o (λ x. halted_or st s
-        (refusal_of (by_knowledge script.objects) st s (inputs.Query (family x))))) none;
-    takes = λ c.
-        ap (λ o. of_variable o (λ x. unless (halted_or st s
-        (refusal_of c.reading st s (inputs.Query (family x))))
-        (led_by c st s (inputs.Query (family x))))) none;
-  }

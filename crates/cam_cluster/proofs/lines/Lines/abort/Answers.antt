@@ -8,10 +8,9 @@ use Rattle.cam_cluster.proofs.lines.Lines.abort.Goals as goal
 
 pub request-requires-clause-by : goal.request-requires-clause-by
 request-requires-clause-by g c =
-    makes_some c.args.line c.args.action wants.Abort (acts.Abort c.args.action) (lines_of
-    g.L.CheckpointLog g.L.EntryLog c.args.self.now) (lines_of g.L.CheckpointLog g.L.EntryLog
-    c.args.self.now) (reads_of g.L.CheckpointLog g.L.EntryLog c.args.self.now.works) (reads_of
-    g.L.CheckpointLog g.L.EntryLog c.args.self.now.works)
+    let old = lines_of g.L.CheckpointLog g.L.EntryLog c.args.self.now in
+    let might = reads_of g.L.CheckpointLog g.L.EntryLog c.args.self.now.works in
+    makes_some c.args.line c.args.action wants.Abort (acts.Abort c.args.action) old old might might
     (λ script st is keeps next. abort_by script st c.args.line is c.args.action next)
     c.requires.next
 
@@ -21,10 +20,11 @@ request-requires-clause-servers g c =
 
 pub returns-clause-line : goal.returns-clause-line
 returns-clause-line g c =
-    makes_line c.args.line c.args.action wants.Abort (acts.Abort c.args.action) (lines_of
-    g.L.CheckpointLog g.L.EntryLog c.args.self.now) (lines_of g.L.CheckpointLog g.L.EntryLog
-    c.request.new.self) (reads_of g.L.CheckpointLog g.L.EntryLog c.args.self.now.works) (reads_of
-    g.L.CheckpointLog g.L.EntryLog c.request.new.self.works)
+    let old = lines_of g.L.CheckpointLog g.L.EntryLog c.args.self.now in
+    let might = reads_of g.L.CheckpointLog g.L.EntryLog c.args.self.now.works in
+    let new = lines_of g.L.CheckpointLog g.L.EntryLog c.request.new.self in
+    let may = reads_of g.L.CheckpointLog g.L.EntryLog c.request.new.self.works in
+    makes_line c.args.line c.args.action wants.Abort (acts.Abort c.args.action) old new might may
     (λ script st is keeps next. abort_by script st c.args.line is c.args.action next)
     c.request.result c.request.ensures.line
 

@@ -8,12 +8,11 @@ use Rattle.cam_cluster.proofs.lines.Lines.ask.Goals as goal
 
 pub request-requires-clause-by : goal.request-requires-clause-by
 request-requires-clause-by g c =
+    let old = lines_of g.L.CheckpointLog g.L.EntryLog c.args.self.now in
+    let might = reads_of g.L.CheckpointLog g.L.EntryLog c.args.self.now.works in
     makes_some c.args.line c.args.parent (wants.Ask c.args.node) (acts.Ask c.args.parent
-    c.args.node) (lines_of g.L.CheckpointLog g.L.EntryLog c.args.self.now) (lines_of
-    g.L.CheckpointLog g.L.EntryLog c.args.self.now) (reads_of g.L.CheckpointLog g.L.EntryLog
-    c.args.self.now.works) (reads_of g.L.CheckpointLog g.L.EntryLog c.args.self.now.works)
-    (λ script st is keeps next. ask_by script st c.args.line is c.args.parent c.args.node next)
-    c.requires.next
+    c.args.node) old old might might (λ script st is keeps next. ask_by script st c.args.line is
+    c.args.parent c.args.node next) c.requires.next
 
 pub request-requires-clause-servers : goal.request-requires-clause-servers
 request-requires-clause-servers g c =
@@ -21,12 +20,13 @@ request-requires-clause-servers g c =
 
 pub returns-clause-line : goal.returns-clause-line
 returns-clause-line g c =
+    let old = lines_of g.L.CheckpointLog g.L.EntryLog c.args.self.now in
+    let might = reads_of g.L.CheckpointLog g.L.EntryLog c.args.self.now.works in
+    let new = lines_of g.L.CheckpointLog g.L.EntryLog c.request.new.self in
+    let may = reads_of g.L.CheckpointLog g.L.EntryLog c.request.new.self.works in
     makes_line c.args.line c.args.parent (wants.Ask c.args.node) (acts.Ask c.args.parent
-    c.args.node) (lines_of g.L.CheckpointLog g.L.EntryLog c.args.self.now) (lines_of
-    g.L.CheckpointLog g.L.EntryLog c.request.new.self) (reads_of g.L.CheckpointLog g.L.EntryLog
-    c.args.self.now.works) (reads_of g.L.CheckpointLog g.L.EntryLog c.request.new.self.works)
-    (λ script st is keeps next. ask_by script st c.args.line is c.args.parent c.args.node next)
-    c.request.result c.request.ensures.line
+    c.args.node) old new might may (λ script st is keeps next. ask_by script st c.args.line is
+    c.args.parent c.args.node next) c.request.result c.request.ensures.line
 
 pub returns-clause-servers : goal.returns-clause-servers
 returns-clause-servers g c =

@@ -1,5 +1,5 @@
 -- The line `begin`.
-use Rattle.std.proofs.Common.{◌≡◌, ◌-◌, Err, refl, sym, ap, ◌∙◌, subst, arith, rules}
+use Rattle.std.proofs.Common.{◌≡◌, ◌-◌, Err, sym, ap, ◌∙◌, subst, arith, rules}
 use Rattle.cam_net.specs.Waiting.{is_halted}
 use Rattle.cam_event.specs.Inputs.{Begins}
 use Rattle.cam_script.specs.declared.Act.TheVariants as acts

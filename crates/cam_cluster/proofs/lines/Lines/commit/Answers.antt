@@ -10,18 +10,12 @@ use Rattle.cam_cluster.proofs.lines.Lines.commit.Goals as goal
 
 pub request-requires-clause-by : goal.request-requires-clause-by
 request-requires-clause-by g c =
-    subst (λ (v : ℤ). IsRequestBySome c.args.action (wants.Commit v)
-    (lines_of g.L.CheckpointLog g.L.EntryLog c.args.self.now)
-    (reads_of g.L.CheckpointLog g.L.EntryLog c.args.self.now.works)) (sym (to_z-of_z
-    c.ranges.value))
-    (makes_some c.args.line c.args.action (wants.Commit c.args.value)
-    (acts.Commit c.args.action c.args.value)
-    (lines_of g.L.CheckpointLog g.L.EntryLog c.args.self.now) (lines_of g.L.CheckpointLog
-    g.L.EntryLog c.args.self.now)
-    (reads_of g.L.CheckpointLog g.L.EntryLog c.args.self.now.works) (reads_of g.L.CheckpointLog
-    g.L.EntryLog c.args.self.now.works)
-    (λ script st is keeps next. commit_by script st c.args.line is c.args.action c.args.value next)
-    c.requires.next)
+    let old = lines_of g.L.CheckpointLog g.L.EntryLog c.args.self.now in
+    let might = reads_of g.L.CheckpointLog g.L.EntryLog c.args.self.now.works in
+    subst (λ (v : ℤ). IsRequestBySome c.args.action (wants.Commit v) old might) (sym (to_z-of_z
+    c.ranges.value)) (makes_some c.args.line c.args.action (wants.Commit c.args.value) (acts.Commit
+    c.args.action c.args.value) old old might might (λ script st is keeps next. commit_by script st
+    c.args.line is c.args.action c.args.value next) c.requires.next)
 
 pub request-requires-clause-servers : goal.request-requires-clause-servers
 request-requires-clause-servers g c =
@@ -29,20 +23,15 @@ request-requires-clause-servers g c =
 
 pub returns-clause-line : goal.returns-clause-line
 returns-clause-line g c =
-    makes_line c.args.line c.args.action (wants.Commit c.args.value)
-    (acts.Commit c.args.action c.args.value)
-    (lines_of g.L.CheckpointLog g.L.EntryLog c.args.self.now) (lines_of g.L.CheckpointLog
-    g.L.EntryLog c.request.new.self)
-    (reads_of g.L.CheckpointLog g.L.EntryLog c.args.self.now.works) (reads_of g.L.CheckpointLog
-    g.L.EntryLog c.request.new.self.works)
-    (λ script st is keeps next. commit_by script st c.args.line is c.args.action c.args.value next)
-    c.request.result
-    (subst (λ (v : ℤ). IsRequestLine c.args.line c.args.action (wants.Commit v)
-    (lines_of g.L.CheckpointLog g.L.EntryLog c.args.self.now) (reads_of g.L.CheckpointLog
-    g.L.EntryLog c.args.self.now.works)
-    (lines_of g.L.CheckpointLog g.L.EntryLog c.request.new.self) (reads_of g.L.CheckpointLog
-    g.L.EntryLog c.request.new.self.works)
-    c.request.result) (to_z-of_z c.ranges.value) c.request.ensures.line)
+    let old = lines_of g.L.CheckpointLog g.L.EntryLog c.args.self.now in
+    let might = reads_of g.L.CheckpointLog g.L.EntryLog c.args.self.now.works in
+    let new = lines_of g.L.CheckpointLog g.L.EntryLog c.request.new.self in
+    let may = reads_of g.L.CheckpointLog g.L.EntryLog c.request.new.self.works in
+    makes_line c.args.line c.args.action (wants.Commit c.args.value) (acts.Commit c.args.action
+    c.args.value) old new might may (λ script st is keeps next. commit_by script st c.args.line is
+    c.args.action c.args.value next) c.request.result (subst (λ (v : ℤ). IsRequestLine c.args.line
+    c.args.action (wants.Commit v) old might new may c.request.result) (to_z-of_z c.ranges.value)
+    c.request.ensures.line)
 
 pub returns-clause-servers : goal.returns-clause-servers
 returns-clause-servers g c =

@@ -8,14 +8,11 @@ use Rattle.cam_cluster.proofs.lines.Lines.give_up.Goals as goal
 
 pub request-requires-clause-by : goal.request-requires-clause-by
 request-requires-clause-by g c =
+    let old = lines_of g.L.CheckpointLog g.L.EntryLog c.args.self.now in
+    let might = reads_of g.L.CheckpointLog g.L.EntryLog c.args.self.now.works in
     makes_some c.args.line c.args.action (wants.GiveUp c.in-Some.given_up) (acts.GiveUp
-    c.args.action c.args.child) (lines_of g.L.CheckpointLog g.L.EntryLog c.args.self.now) (lines_of
-    g.L.CheckpointLog g.L.EntryLog c.args.self.now) (reads_of g.L.CheckpointLog g.L.EntryLog
-    c.args.self.now.works) (reads_of g.L.CheckpointLog g.L.EntryLog c.args.self.now.works)
-    (give_up_makes c.args.line c.args.action c.args.child (lines_of g.L.CheckpointLog g.L.EntryLog
-    c.args.self.now) (lines_of g.L.CheckpointLog g.L.EntryLog c.args.self.now) (reads_of
-    g.L.CheckpointLog g.L.EntryLog c.args.self.now.works) (reads_of g.L.CheckpointLog g.L.EntryLog
-    c.args.self.now.works) c.in-Some.given_up (sym c.in-Some.ensures)) c.requires.next
+    c.args.action c.args.child) old old might might (give_up_makes c.args.line c.args.action
+    c.args.child old old might might c.in-Some.given_up (sym c.in-Some.ensures)) c.requires.next
 
 pub request-requires-clause-servers : goal.request-requires-clause-servers
 request-requires-clause-servers g c =
@@ -23,11 +20,12 @@ request-requires-clause-servers g c =
 
 pub returns-in-Some-clause-line : goal.returns-in-Some-clause-line
 returns-in-Some-clause-line g c =
-    give_up_line c.args.line c.args.action c.args.child (lines_of g.L.CheckpointLog g.L.EntryLog
-    c.args.self.now) (lines_of g.L.CheckpointLog g.L.EntryLog c.request.new.self) (reads_of
-    g.L.CheckpointLog g.L.EntryLog c.args.self.now.works) (reads_of g.L.CheckpointLog g.L.EntryLog
-    c.request.new.self.works)
-    c.in-Some.given_up (sym c.in-Some.ensures) c.request.result c.request.ensures.line
+    let old = lines_of g.L.CheckpointLog g.L.EntryLog c.args.self.now in
+    let might = reads_of g.L.CheckpointLog g.L.EntryLog c.args.self.now.works in
+    let new = lines_of g.L.CheckpointLog g.L.EntryLog c.request.new.self in
+    let may = reads_of g.L.CheckpointLog g.L.EntryLog c.request.new.self.works in
+    give_up_line c.args.line c.args.action c.args.child old new might may c.in-Some.given_up (sym
+    c.in-Some.ensures) c.request.result c.request.ensures.line
 
 pub returns-in-Some-clause-servers : goal.returns-in-Some-clause-servers
 returns-in-Some-clause-servers g c =
@@ -35,11 +33,12 @@ returns-in-Some-clause-servers g c =
 
 pub returns-in-None-clause-line : goal.returns-in-None-clause-line
 returns-in-None-clause-line g c =
-    give_up_refused c.args.line c.args.action c.args.child (lines_of g.L.CheckpointLog g.L.EntryLog
-    c.args.self.now) (lines_of g.L.CheckpointLog g.L.EntryLog c.refused.new.self) (reads_of
-    g.L.CheckpointLog g.L.EntryLog c.args.self.now.works) (reads_of g.L.CheckpointLog g.L.EntryLog
-    c.refused.new.self.works)
-    (sym c.in-None.ensures) c.refused.result c.refused.ensures
+    let old = lines_of g.L.CheckpointLog g.L.EntryLog c.args.self.now in
+    let might = reads_of g.L.CheckpointLog g.L.EntryLog c.args.self.now.works in
+    let new = lines_of g.L.CheckpointLog g.L.EntryLog c.refused.new.self in
+    let may = reads_of g.L.CheckpointLog g.L.EntryLog c.refused.new.self.works in
+    give_up_refused c.args.line c.args.action c.args.child old new might may (sym
+    c.in-None.ensures) c.refused.result c.refused.ensures
 
 pub returns-in-None-clause-servers : goal.returns-in-None-clause-servers
 returns-in-None-clause-servers g c =

@@ -12,29 +12,24 @@ overflow_cast-place g c =
 
 pub overflow_sub-place : goal.overflow_sub-place
 overflow_sub-place g c =
-    subst (λ (n : ℕ). 1 ≤ n) (sym (ap (λ (p : ℕ × ℕ). p.0) c.home.ensures)) (request_to c.args.line
-    c.args.variable c.args.want (lines_of g.L.CheckpointLog g.L.EntryLog c.args.self.now) (lines_of
-    g.L.CheckpointLog g.L.EntryLog c.args.self.now) (reads_of g.L.CheckpointLog g.L.EntryLog
-    c.args.self.now.works) (reads_of g.L.CheckpointLog g.L.EntryLog c.args.self.now.works)
-    c.requires.by c.in-Some.action (sym c.in-Some.ensures)).is_line.low
+    let old = lines_of g.L.CheckpointLog g.L.EntryLog c.args.self.now in
+    let might = reads_of g.L.CheckpointLog g.L.EntryLog c.args.self.now.works in
+    let some = request_to c.args.line c.args.variable c.args.want old old might might c.requires.by
+    c.in-Some.action (sym c.in-Some.ensures) in
+    subst (λ (n : ℕ). 1 ≤ n) (sym (ap (λ (p : ℕ × ℕ). p.0) c.home.ensures)) some.is_line.low
 
 pub try_lead-requires-clause-to : goal.try_lead-requires-clause-to
 try_lead-requires-clause-to g c =
+    let old = lines_of g.L.CheckpointLog g.L.EntryLog c.args.self.now in
+    let might = reads_of g.L.CheckpointLog g.L.EntryLog c.args.self.now.works in
+    let some = request_to c.args.line c.args.variable c.args.want old old might might c.requires.by
+    c.in-Some.action (sym c.in-Some.ensures) in
+    let back = home_place c.home.result _ _ c.home.ensures some.is_line.low in
     subst (λ (n : ℕ). IsLineToSome n (inputs.Request (record {
       action = c.in-Some.action;
       want =
           c.args.want;
-    })) (lines_of g.L.CheckpointLog g.L.EntryLog c.args.self.now) (reads_of
-    g.L.CheckpointLog g.L.EntryLog c.args.self.now.works)) (sym (home_place c.home.result _ _
-    c.home.ensures (request_to c.args.line c.args.variable c.args.want (lines_of g.L.CheckpointLog
-    g.L.EntryLog c.args.self.now) (lines_of g.L.CheckpointLog g.L.EntryLog c.args.self.now)
-    (reads_of g.L.CheckpointLog g.L.EntryLog c.args.self.now.works) (reads_of g.L.CheckpointLog
-    g.L.EntryLog c.args.self.now.works) c.requires.by c.in-Some.action (sym
-    c.in-Some.ensures)).is_line.low))
-    (request_to c.args.line c.args.variable c.args.want (lines_of g.L.CheckpointLog g.L.EntryLog
-    c.args.self.now) (lines_of g.L.CheckpointLog g.L.EntryLog c.args.self.now) (reads_of
-    g.L.CheckpointLog g.L.EntryLog c.args.self.now.works) (reads_of g.L.CheckpointLog g.L.EntryLog
-    c.args.self.now.works) c.requires.by c.in-Some.action (sym c.in-Some.ensures))
+    })) old might) (sym back) some
 
 pub try_lead-requires-clause-servers : goal.try_lead-requires-clause-servers
 try_lead-requires-clause-servers g c =
@@ -42,24 +37,17 @@ try_lead-requires-clause-servers g c =
 
 pub returns-in-Some-clause-line : goal.returns-in-Some-clause-line
 returns-in-Some-clause-line g c =
-    request_ended c.args.line c.args.variable c.args.want (lines_of g.L.CheckpointLog g.L.EntryLog
-    c.args.self.now) (lines_of g.L.CheckpointLog g.L.EntryLog c.try_lead.new.self) (reads_of
-    g.L.CheckpointLog g.L.EntryLog c.args.self.now.works) (reads_of g.L.CheckpointLog g.L.EntryLog
-    c.try_lead.new.self.works)
-    c.requires.by c.in-Some.action (sym c.in-Some.ensures) c.try_lead.result
-    (subst (λ (n : ℕ). IsTriedLine c.args.line n (inputs.Request (record {
-      action =
-          c.in-Some.action;
-      want = c.args.want;
-    })) (lines_of g.L.CheckpointLog g.L.EntryLog
-    c.args.self.now) (reads_of g.L.CheckpointLog g.L.EntryLog c.args.self.now.works)
-    (lines_of g.L.CheckpointLog g.L.EntryLog c.try_lead.new.self) (reads_of g.L.CheckpointLog
-    g.L.EntryLog c.try_lead.new.self.works) c.try_lead.result) (home_place c.home.result _ _
-    c.home.ensures (request_to c.args.line c.args.variable c.args.want (lines_of g.L.CheckpointLog
-    g.L.EntryLog c.args.self.now) (lines_of g.L.CheckpointLog g.L.EntryLog c.args.self.now)
-    (reads_of g.L.CheckpointLog g.L.EntryLog c.args.self.now.works) (reads_of g.L.CheckpointLog
-    g.L.EntryLog c.args.self.now.works) c.requires.by c.in-Some.action (sym
-    c.in-Some.ensures)).is_line.low) c.try_lead.ensures.line)
+    let old = lines_of g.L.CheckpointLog g.L.EntryLog c.args.self.now in
+    let might = reads_of g.L.CheckpointLog g.L.EntryLog c.args.self.now.works in
+    let new = lines_of g.L.CheckpointLog g.L.EntryLog c.try_lead.new.self in
+    let may = reads_of g.L.CheckpointLog g.L.EntryLog c.try_lead.new.self.works in
+    let some = request_to c.args.line c.args.variable c.args.want old old might might c.requires.by
+    c.in-Some.action (sym c.in-Some.ensures) in
+    let back = home_place c.home.result _ _ c.home.ensures some.is_line.low in
+    request_ended c.args.line c.args.variable c.args.want old new might may c.requires.by
+    c.in-Some.action (sym c.in-Some.ensures) c.try_lead.result (subst (λ (n : ℕ). IsTriedLine
+    c.args.line n (inputs.Request (record { action = c.in-Some.action; want = c.args.want })) old
+    might new may c.try_lead.result) back c.try_lead.ensures.line)
 
 pub returns-in-Some-clause-servers : goal.returns-in-Some-clause-servers
 returns-in-Some-clause-servers g c =
@@ -67,11 +55,12 @@ returns-in-Some-clause-servers g c =
 
 pub returns-in-None-clause-line : goal.returns-in-None-clause-line
 returns-in-None-clause-line g c =
-    request_unbound c.args.line c.args.variable c.args.want (lines_of g.L.CheckpointLog
-    g.L.EntryLog c.args.self.now) (lines_of g.L.CheckpointLog g.L.EntryLog c.refused.new.self)
-    (reads_of g.L.CheckpointLog g.L.EntryLog c.args.self.now.works) (reads_of g.L.CheckpointLog
-    g.L.EntryLog c.refused.new.self.works)
-    (sym c.in-None.ensures) c.refused.result c.refused.ensures
+    let old = lines_of g.L.CheckpointLog g.L.EntryLog c.args.self.now in
+    let might = reads_of g.L.CheckpointLog g.L.EntryLog c.args.self.now.works in
+    let new = lines_of g.L.CheckpointLog g.L.EntryLog c.refused.new.self in
+    let may = reads_of g.L.CheckpointLog g.L.EntryLog c.refused.new.self.works in
+    request_unbound c.args.line c.args.variable c.args.want old new might may (sym
+    c.in-None.ensures) c.refused.result c.refused.ensures
 
 pub returns-in-None-clause-servers : goal.returns-in-None-clause-servers
 returns-in-None-clause-servers g c =

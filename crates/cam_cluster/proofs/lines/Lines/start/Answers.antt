@@ -19,14 +19,20 @@ overflow_sub-place g c =
 
 pub returns-then-is_halted-clause-line : goal.returns-then-is_halted-clause-line
 returns-then-is_halted-clause-line g c =
+    let old = lines_of g.L.CheckpointLog g.L.EntryLog c.args.self.now in
+    let might = reads_of g.L.CheckpointLog g.L.EntryLog c.args.self.now.works in
+    let new = lines_of g.L.CheckpointLog g.L.EntryLog c.refused.new.self in
+    let may = reads_of g.L.CheckpointLog g.L.EntryLog c.refused.new.self.works in
+    let there = sees (part g.L.CheckpointLog g.L.EntryLog) c.args.self.now.works.nodes.items
+    (c.args.node - 1) (let low = c.requires.low in let node = c.requires.node in omega (
+      arith,
+      low,
+      node,
+    )) in
+    let stops = ap (is_halted c.args.self.now.works.halted) (after_is (c.args.node - 1)) ∙ sym
+    c.is_halted.ensures ∙ c.if-is_halted.true in
     start_halted c.args.line (c.args.node - 1) c.args.node (let low = c.requires.low in omega
-    (arith, low)) (lines_of g.L.CheckpointLog g.L.EntryLog c.args.self.now) (lines_of
-    g.L.CheckpointLog g.L.EntryLog c.refused.new.self) (reads_of g.L.CheckpointLog g.L.EntryLog
-    c.args.self.now.works) (reads_of g.L.CheckpointLog g.L.EntryLog c.refused.new.self.works)
-    (sees (part g.L.CheckpointLog g.L.EntryLog) c.args.self.now.works.nodes.items (c.args.node - 1)
-    (let low = c.requires.low in let node = c.requires.node in omega (arith, low, node)))
-    (ap (is_halted c.args.self.now.works.halted) (after_is (c.args.node - 1)) ∙ sym
-    c.is_halted.ensures ∙ c.if-is_halted.true) c.refused.result c.refused.ensures
+    (arith, low)) old new might may there stops c.refused.result c.refused.ensures
 
 pub returns-then-is_halted-clause-servers : goal.returns-then-is_halted-clause-servers
 returns-then-is_halted-clause-servers g c =
@@ -34,22 +40,31 @@ returns-then-is_halted-clause-servers g c =
 
 pub lead-requires-clause-place : goal.lead-requires-clause-place
 lead-requires-clause-place g c =
-    begin_within (lines_of g.L.CheckpointLog g.L.EntryLog c.args.self.now) (reads_of
-    g.L.CheckpointLog g.L.EntryLog c.args.self.now.works) (c.args.node - 1) c.requires.stand
-    (sees (part g.L.CheckpointLog g.L.EntryLog) c.args.self.now.works.nodes.items (c.args.node - 1)
-    (let low = c.requires.low in let node = c.requires.node in omega (arith, low, node)))
+    let old = lines_of g.L.CheckpointLog g.L.EntryLog c.args.self.now in
+    let might = reads_of g.L.CheckpointLog g.L.EntryLog c.args.self.now.works in
+    let there = sees (part g.L.CheckpointLog g.L.EntryLog) c.args.self.now.works.nodes.items
+    (c.args.node - 1) (let low = c.requires.low in let node = c.requires.node in omega (
+      arith,
+      low,
+      node,
+    )) in
+    begin_within old might (c.args.node - 1) c.requires.stand there
 
 pub lead-requires-clause-may : goal.lead-requires-clause-may
 lead-requires-clause-may g c =
-    each_there _ c.args.self.now.works.nodes.items (c.args.node - 1) (λ node at.
-    let may = begin_may (lines_of g.L.CheckpointLog g.L.EntryLog c.args.self.now) (reads_of
-    g.L.CheckpointLog g.L.EntryLog c.args.self.now.works) (c.args.node - 1) c.requires.stand
-    (sees (part g.L.CheckpointLog g.L.EntryLog) c.args.self.now.works.nodes.items (c.args.node - 1)
-    (let low = c.requires.low in let node = c.requires.node in omega (arith, low, node)))
-    (ap (is_halted c.args.self.now.works.halted) (after_is (c.args.node - 1)) ∙ sym
-    c.is_halted.ensures ∙ c.if-is_halted.false) _
-    (seen_there (part g.L.CheckpointLog g.L.EntryLog) c.args.self.now.works.nodes.items
-    (c.args.node - 1) node at) in
+    let old = lines_of g.L.CheckpointLog g.L.EntryLog c.args.self.now in
+    let might = reads_of g.L.CheckpointLog g.L.EntryLog c.args.self.now.works in
+    let there = sees (part g.L.CheckpointLog g.L.EntryLog) c.args.self.now.works.nodes.items
+    (c.args.node - 1) (let low = c.requires.low in let node = c.requires.node in omega (
+      arith,
+      low,
+      node,
+    )) in
+    let runs = ap (is_halted c.args.self.now.works.halted) (after_is (c.args.node - 1)) ∙ sym
+    c.is_halted.ensures ∙ c.if-is_halted.false in
+    each_there _ c.args.self.now.works.nodes.items (c.args.node - 1) (λ node at. let may =
+    begin_may old might (c.args.node - 1) c.requires.stand there runs _ (seen_there (part
+    g.L.CheckpointLog g.L.EntryLog) c.args.self.now.works.nodes.items (c.args.node - 1) node at) in
     (may.0, tt, may.1))
 
 pub lead-requires-clause-servers : goal.lead-requires-clause-servers
@@ -66,16 +81,14 @@ lead-requires-clause-writable g c =
 
 pub returns-in_err-lead-clause-line : goal.returns-in_err-lead-clause-line
 returns-in_err-lead-clause-line g c =
-    let wants : c.from_residual.result ≡ Err line_faults.NoMemory = search rules in
-    subst (λ r. IsStart c.args.line c.args.node (lines_of g.L.CheckpointLog g.L.EntryLog
-    c.args.self.now) (reads_of g.L.CheckpointLog g.L.EntryLog c.args.self.now.works)
-    (lines_of g.L.CheckpointLog g.L.EntryLog c.lead.new.self) (reads_of g.L.CheckpointLog
-    g.L.EntryLog c.lead.new.self.works) r) (sym wants)
-    (start_wanting c.args.line (c.args.node - 1) c.args.node (let low = c.requires.low in omega
-    (arith, low)) (lines_of g.L.CheckpointLog g.L.EntryLog c.args.self.now) (lines_of
-    g.L.CheckpointLog g.L.EntryLog c.lead.new.self) (reads_of g.L.CheckpointLog g.L.EntryLog
-    c.args.self.now.works) (reads_of g.L.CheckpointLog g.L.EntryLog c.lead.new.self.works)
-    c.in_err-lead.ensures.as_before)
+    let old = lines_of g.L.CheckpointLog g.L.EntryLog c.args.self.now in
+    let might = reads_of g.L.CheckpointLog g.L.EntryLog c.args.self.now.works in
+    let new = lines_of g.L.CheckpointLog g.L.EntryLog c.lead.new.self in
+    let may = reads_of g.L.CheckpointLog g.L.EntryLog c.lead.new.self.works in
+    let wants : c.from_residual.result ≡ Err line_faults.NoMemory = search rules in subst (λ r.
+    IsStart c.args.line c.args.node old might new may r) (sym wants) (start_wanting c.args.line
+    (c.args.node - 1) c.args.node (let low = c.requires.low in omega (arith, low)) old new might
+    may c.in_err-lead.ensures.as_before)
 
 pub returns-in_err-lead-clause-servers : goal.returns-in_err-lead-clause-servers
 returns-in_err-lead-clause-servers g c =
@@ -83,17 +96,22 @@ returns-in_err-lead-clause-servers g c =
 
 pub returns-clause-line : goal.returns-clause-line
 returns-clause-line g c =
+    let old = lines_of g.L.CheckpointLog g.L.EntryLog c.args.self.now in
+    let might = reads_of g.L.CheckpointLog g.L.EntryLog c.args.self.now.works in
+    let new = lines_of g.L.CheckpointLog g.L.EntryLog c.lead.new.self in
+    let may = reads_of g.L.CheckpointLog g.L.EntryLog c.lead.new.self.works in
+    let there = sees (part g.L.CheckpointLog g.L.EntryLog) c.args.self.now.works.nodes.items
+    (c.args.node - 1) (let low = c.requires.low in let node = c.requires.node in omega (
+      arith,
+      low,
+      node,
+    )) in
+    let runs = ap (is_halted c.args.self.now.works.halted) (after_is (c.args.node - 1)) ∙ sym
+    c.is_halted.ensures ∙ c.if-is_halted.false in
     start_led c.args.line (c.args.node - 1) c.args.node (let low = c.requires.low in omega (
       arith,
       low,
-    )) (lines_of g.L.CheckpointLog g.L.EntryLog c.args.self.now) (lines_of g.L.CheckpointLog
-    g.L.EntryLog c.lead.new.self) (reads_of g.L.CheckpointLog g.L.EntryLog c.args.self.now.works)
-    (reads_of g.L.CheckpointLog g.L.EntryLog c.lead.new.self.works) c.in_ok-lead.field-0
-    (sees (part g.L.CheckpointLog g.L.EntryLog) c.args.self.now.works.nodes.items (c.args.node - 1)
-    (let low = c.requires.low in let node = c.requires.node in omega (arith, low, node)))
-    (ap (is_halted c.args.self.now.works.halted) (after_is (c.args.node - 1)) ∙ sym
-    c.is_halted.ensures ∙ c.if-is_halted.false)
-    c.in_ok-lead.ensures.led
+    )) old new might may c.in_ok-lead.field-0 there runs c.in_ok-lead.ensures.led
 
 pub returns-clause-servers : goal.returns-clause-servers
 returns-clause-servers g c =

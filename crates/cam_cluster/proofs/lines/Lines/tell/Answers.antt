@@ -9,23 +9,18 @@ use Rattle.cam_cluster.proofs.lines.Lines.tell.Goals as goal
 
 pub overflow_sub-node : goal.overflow_sub-node
 overflow_sub-node g c =
-    (tell_some c.args.line c.args.node c.args.to (lines_of g.L.CheckpointLog g.L.EntryLog
-    c.args.self.now) (lines_of g.L.CheckpointLog g.L.EntryLog c.args.self.now) (reads_of
-    g.L.CheckpointLog g.L.EntryLog c.args.self.now.works) (reads_of g.L.CheckpointLog g.L.EntryLog
-    c.args.self.now.works) c.requires.next).is_line.low
+    let old = lines_of g.L.CheckpointLog g.L.EntryLog c.args.self.now in
+    let might = reads_of g.L.CheckpointLog g.L.EntryLog c.args.self.now.works in
+    let some = tell_some c.args.line c.args.node c.args.to old old might might c.requires.next in
+    some.is_line.low
 
 pub try_lead-requires-clause-to : goal.try_lead-requires-clause-to
 try_lead-requires-clause-to g c =
-    subst (λ (n : ℕ). IsLineToSome n (inputs.Tell c.args.to) (lines_of g.L.CheckpointLog
-    g.L.EntryLog c.args.self.now) (reads_of g.L.CheckpointLog g.L.EntryLog c.args.self.now.works))
-    (sym (before_after c.args.node (tell_some c.args.line c.args.node c.args.to (lines_of
-    g.L.CheckpointLog g.L.EntryLog c.args.self.now) (lines_of g.L.CheckpointLog g.L.EntryLog
-    c.args.self.now) (reads_of g.L.CheckpointLog g.L.EntryLog c.args.self.now.works) (reads_of
-    g.L.CheckpointLog g.L.EntryLog c.args.self.now.works) c.requires.next).is_line.low)) (tell_some
-    c.args.line c.args.node c.args.to (lines_of g.L.CheckpointLog g.L.EntryLog c.args.self.now)
-    (lines_of g.L.CheckpointLog g.L.EntryLog c.args.self.now) (reads_of g.L.CheckpointLog
-    g.L.EntryLog c.args.self.now.works) (reads_of g.L.CheckpointLog g.L.EntryLog
-    c.args.self.now.works) c.requires.next)
+    let old = lines_of g.L.CheckpointLog g.L.EntryLog c.args.self.now in
+    let might = reads_of g.L.CheckpointLog g.L.EntryLog c.args.self.now.works in
+    let some = tell_some c.args.line c.args.node c.args.to old old might might c.requires.next in
+    let back = before_after c.args.node some.is_line.low in
+    subst (λ (n : ℕ). IsLineToSome n (inputs.Tell c.args.to) old might) (sym back) some
 
 pub try_lead-requires-clause-servers : goal.try_lead-requires-clause-servers
 try_lead-requires-clause-servers g c =
@@ -33,19 +28,14 @@ try_lead-requires-clause-servers g c =
 
 pub returns-clause-line : goal.returns-clause-line
 returns-clause-line g c =
-    tell_line c.args.line c.args.node c.args.to (lines_of g.L.CheckpointLog g.L.EntryLog
-    c.args.self.now) (lines_of g.L.CheckpointLog g.L.EntryLog c.try_lead.new.self) (reads_of
-    g.L.CheckpointLog g.L.EntryLog c.args.self.now.works) (reads_of g.L.CheckpointLog g.L.EntryLog
-    c.try_lead.new.self.works) c.try_lead.result
-    (subst (λ (n : ℕ). IsTriedLine c.args.line n (inputs.Tell c.args.to) (lines_of
-    g.L.CheckpointLog g.L.EntryLog c.args.self.now) (reads_of g.L.CheckpointLog g.L.EntryLog
-    c.args.self.now.works)
-    (lines_of g.L.CheckpointLog g.L.EntryLog c.try_lead.new.self) (reads_of g.L.CheckpointLog
-    g.L.EntryLog c.try_lead.new.self.works) c.try_lead.result)
-    (before_after c.args.node (tell_some c.args.line c.args.node c.args.to (lines_of
-    g.L.CheckpointLog g.L.EntryLog c.args.self.now) (lines_of g.L.CheckpointLog g.L.EntryLog
-    c.args.self.now) (reads_of g.L.CheckpointLog g.L.EntryLog c.args.self.now.works) (reads_of
-    g.L.CheckpointLog g.L.EntryLog c.args.self.now.works) c.requires.next).is_line.low)
+    let old = lines_of g.L.CheckpointLog g.L.EntryLog c.args.self.now in
+    let might = reads_of g.L.CheckpointLog g.L.EntryLog c.args.self.now.works in
+    let new = lines_of g.L.CheckpointLog g.L.EntryLog c.try_lead.new.self in
+    let may = reads_of g.L.CheckpointLog g.L.EntryLog c.try_lead.new.self.works in
+    let some = tell_some c.args.line c.args.node c.args.to old old might might c.requires.next in
+    let back = before_after c.args.node some.is_line.low in
+    tell_line c.args.line c.args.node c.args.to old new might may c.try_lead.result (subst (λ (n :
+    ℕ). IsTriedLine c.args.line n (inputs.Tell c.args.to) old might new may c.try_lead.result) back
     c.try_lead.ensures.line)
 
 pub returns-clause-servers : goal.returns-clause-servers

@@ -14,14 +14,15 @@ use Rattle.cam_cluster.proofs.lines.Lines.try_lead.Goals as goal
 
 pub returns-then-is_halted-clause-line : goal.returns-then-is_halted-clause-line
 returns-then-is_halted-clause-line g c =
-    tried_halted c.args.line c.args.place c.args.input.now (lines_of g.L.CheckpointLog g.L.EntryLog
-    c.args.self.now) (lines_of g.L.CheckpointLog g.L.EntryLog c.refused.new.self) (reads_of
-    g.L.CheckpointLog g.L.EntryLog c.args.self.now.works) (reads_of g.L.CheckpointLog g.L.EntryLog
-    c.refused.new.self.works)
-    (tried_there c.args.place c.args.input.now (lines_of g.L.CheckpointLog g.L.EntryLog
-    c.args.self.now) (reads_of g.L.CheckpointLog g.L.EntryLog c.args.self.now.works) c.requires.to)
-    (ap (is_halted c.args.self.now.works.halted) (after_is c.args.place) ∙ sym c.is_halted.ensures
-    ∙ c.if-is_halted.true) c.refused.result c.refused.ensures
+    let old = lines_of g.L.CheckpointLog g.L.EntryLog c.args.self.now in
+    let might = reads_of g.L.CheckpointLog g.L.EntryLog c.args.self.now.works in
+    let new = lines_of g.L.CheckpointLog g.L.EntryLog c.refused.new.self in
+    let may = reads_of g.L.CheckpointLog g.L.EntryLog c.refused.new.self.works in
+    let within = tried_there c.args.place c.args.input.now old might c.requires.to in
+    let stops = ap (is_halted c.args.self.now.works.halted) (after_is c.args.place) ∙ sym
+    c.is_halted.ensures ∙ c.if-is_halted.true in
+    tried_halted c.args.line c.args.place c.args.input.now old new might may within stops
+    c.refused.result c.refused.ensures
 
 pub returns-then-is_halted-clause-servers : goal.returns-then-is_halted-clause-servers
 returns-then-is_halted-clause-servers g c =
@@ -29,60 +30,40 @@ returns-then-is_halted-clause-servers g c =
 
 pub index-requires : goal.index-requires
 index-requires g c =
-    let there = (place_of (part g.L.CheckpointLog g.L.EntryLog) c.args.self.now.works.nodes.items
-    c.args.place (tried_there c.args.place c.args.input.now (lines_of g.L.CheckpointLog
-    g.L.EntryLog c.args.self.now) (reads_of g.L.CheckpointLog g.L.EntryLog c.args.self.now.works)
-    c.requires.to)) in
-    first_of (search rules, grind (arith, common_steps, there))
+    let old = lines_of g.L.CheckpointLog g.L.EntryLog c.args.self.now in
+    let might = reads_of g.L.CheckpointLog g.L.EntryLog c.args.self.now.works in
+    let within = tried_there c.args.place c.args.input.now old might c.requires.to in
+    let item = place_of (part g.L.CheckpointLog g.L.EntryLog) c.args.self.now.works.nodes.items
+    c.args.place within in
+    first_of (search rules, grind (arith, common_steps, item))
 
 pub lead-requires-clause-place : goal.lead-requires-clause-place
 lead-requires-clause-place g c =
-    begin_within (lines_of g.L.CheckpointLog g.L.EntryLog c.args.self.now) (reads_of
-    g.L.CheckpointLog g.L.EntryLog c.args.self.now.works) c.args.place (tried_lines (c.args.place +
-    1) c.args.input.now (lines_of g.L.CheckpointLog g.L.EntryLog c.args.self.now) (reads_of
-    g.L.CheckpointLog g.L.EntryLog c.args.self.now.works) c.requires.to)
-    (tried_there c.args.place c.args.input.now (lines_of g.L.CheckpointLog g.L.EntryLog
-    c.args.self.now) (reads_of g.L.CheckpointLog g.L.EntryLog c.args.self.now.works) c.requires.to)
+    let old = lines_of g.L.CheckpointLog g.L.EntryLog c.args.self.now in
+    let might = reads_of g.L.CheckpointLog g.L.EntryLog c.args.self.now.works in
+    let within = tried_there c.args.place c.args.input.now old might c.requires.to in
+    let some = tried_lines (c.args.place + 1) c.args.input.now old might c.requires.to in
+    begin_within old might c.args.place some within
 
 pub lead-requires-clause-may : goal.lead-requires-clause-may
 lead-requires-clause-may g c =
-    one_there _ c.args.self.now.works.nodes.items c.args.place c.index.result.now (taken_there
-    c.args.self.now.works.nodes.items c.args.place c.index.result.now (place_of (part
-    g.L.CheckpointLog g.L.EntryLog) c.args.self.now.works.nodes.items c.args.place (tried_there
-    c.args.place c.args.input.now (lines_of g.L.CheckpointLog g.L.EntryLog c.args.self.now)
-    (reads_of g.L.CheckpointLog g.L.EntryLog c.args.self.now.works) c.requires.to))
-    c.index.ensures) (
-      (begin_may (lines_of g.L.CheckpointLog g.L.EntryLog c.args.self.now) (reads_of
-          g.L.CheckpointLog g.L.EntryLog c.args.self.now.works) c.args.place (tried_lines (c.args.place
-          + 1) c.args.input.now (lines_of g.L.CheckpointLog g.L.EntryLog c.args.self.now) (reads_of
-          g.L.CheckpointLog g.L.EntryLog c.args.self.now.works) c.requires.to) (tried_there
-          c.args.place c.args.input.now (lines_of g.L.CheckpointLog g.L.EntryLog c.args.self.now)
-          (reads_of g.L.CheckpointLog g.L.EntryLog c.args.self.now.works) c.requires.to)
-          (ap (is_halted c.args.self.now.works.halted) (after_is c.args.place) ∙ sym
-          c.is_halted.ensures ∙ c.if-is_halted.false) _
-          (seen_there (part g.L.CheckpointLog g.L.EntryLog) c.args.self.now.works.nodes.items
-          c.args.place c.index.result.now (taken_there c.args.self.now.works.nodes.items
-          c.args.place c.index.result.now (place_of (part g.L.CheckpointLog g.L.EntryLog)
-          c.args.self.now.works.nodes.items c.args.place (tried_there c.args.place c.args.input.now
-          (lines_of g.L.CheckpointLog g.L.EntryLog c.args.self.now) (reads_of g.L.CheckpointLog
-          g.L.EntryLog c.args.self.now.works) c.requires.to)) c.index.ensures))).0,
+    let old = lines_of g.L.CheckpointLog g.L.EntryLog c.args.self.now in
+    let might = reads_of g.L.CheckpointLog g.L.EntryLog c.args.self.now.works in
+    let within = tried_there c.args.place c.args.input.now old might c.requires.to in
+    let item = place_of (part g.L.CheckpointLog g.L.EntryLog) c.args.self.now.works.nodes.items
+    c.args.place within in
+    let taken = taken_there c.args.self.now.works.nodes.items c.args.place c.index.result.now item
+    c.index.ensures in
+    let seen = seen_there (part g.L.CheckpointLog g.L.EntryLog) c.args.self.now.works.nodes.items
+    c.args.place c.index.result.now taken in
+    let some = tried_lines (c.args.place + 1) c.args.input.now old might c.requires.to in
+    let runs = ap (is_halted c.args.self.now.works.halted) (after_is c.args.place) ∙ sym
+    c.is_halted.ensures ∙ c.if-is_halted.false in
+    one_there _ c.args.self.now.works.nodes.items c.args.place c.index.result.now taken (
+      (begin_may old might c.args.place some within runs _ seen).0,
       c.in-None.ensures.free refl,
-      tried_may c.args.line c.args.place c.args.input.now (lines_of g.L.CheckpointLog g.L.EntryLog
-          c.args.self.now) (lines_of g.L.CheckpointLog g.L.EntryLog c.args.self.now) (reads_of
-          g.L.CheckpointLog g.L.EntryLog c.args.self.now.works) (reads_of g.L.CheckpointLog
-          g.L.EntryLog c.args.self.now.works)
-          (tried_there c.args.place c.args.input.now (lines_of g.L.CheckpointLog g.L.EntryLog
-          c.args.self.now) (reads_of g.L.CheckpointLog g.L.EntryLog c.args.self.now.works)
-          c.requires.to) c.requires.to
-          (ap (is_halted c.args.self.now.works.halted) (after_is c.args.place) ∙ sym
-          c.is_halted.ensures ∙ c.if-is_halted.false) _
-          (seen_there (part g.L.CheckpointLog g.L.EntryLog) c.args.self.now.works.nodes.items
-          c.args.place c.index.result.now (taken_there c.args.self.now.works.nodes.items
-          c.args.place c.index.result.now (place_of (part g.L.CheckpointLog g.L.EntryLog)
-          c.args.self.now.works.nodes.items c.args.place (tried_there c.args.place c.args.input.now
-          (lines_of g.L.CheckpointLog g.L.EntryLog c.args.self.now) (reads_of g.L.CheckpointLog
-          g.L.EntryLog c.args.self.now.works) c.requires.to)) c.index.ensures))
-          c.in-None.ensures.rule,
+      tried_may c.args.line c.args.place c.args.input.now old old might might within
+          c.requires.to runs _ seen c.in-None.ensures.rule,
     )
 
 pub lead-requires-clause-servers : goal.lead-requires-clause-servers
@@ -91,30 +72,29 @@ lead-requires-clause-servers g c =
 
 pub lead-requires-clause-there : goal.lead-requires-clause-there
 lead-requires-clause-there g c =
+    let old = lines_of g.L.CheckpointLog g.L.EntryLog c.args.self.now in
+    let might = reads_of g.L.CheckpointLog g.L.EntryLog c.args.self.now.works in
+    let within = tried_there c.args.place c.args.input.now old might c.requires.to in
     (place_of (part g.L.CheckpointLog g.L.EntryLog) c.args.self.now.works.nodes.items c.args.place
-    (tried_there c.args.place c.args.input.now (lines_of g.L.CheckpointLog g.L.EntryLog
-    c.args.self.now) (reads_of g.L.CheckpointLog g.L.EntryLog c.args.self.now.works) c.requires.to))
+    within)
 
 pub lead-requires-clause-writable : goal.lead-requires-clause-writable
 lead-requires-clause-writable g c =
-    unput_may_be_written _ _ (tried_lines (c.args.place + 1) c.args.input.now (lines_of
-    g.L.CheckpointLog g.L.EntryLog c.args.self.now) (reads_of g.L.CheckpointLog g.L.EntryLog
-    c.args.self.now.works) c.requires.to)
+    let old = lines_of g.L.CheckpointLog g.L.EntryLog c.args.self.now in
+    let might = reads_of g.L.CheckpointLog g.L.EntryLog c.args.self.now.works in
+    let some = tried_lines (c.args.place + 1) c.args.input.now old might c.requires.to in
+    unput_may_be_written _ _ some
 
 pub returns-in_err-lead-in-None-clause-line : goal.returns-in_err-lead-in-None-clause-line
 returns-in_err-lead-in-None-clause-line g c =
-    let wants : c.from_residual.result ≡ Err line_faults.NoMemory = search rules in
-    subst (λ r. IsTriedLine c.args.line (c.args.place + 1) c.args.input.now (lines_of
-    g.L.CheckpointLog g.L.EntryLog c.args.self.now) (reads_of g.L.CheckpointLog g.L.EntryLog
-    c.args.self.now.works)
-    (lines_of g.L.CheckpointLog g.L.EntryLog c.lead.new.self) (reads_of g.L.CheckpointLog
-    g.L.EntryLog c.lead.new.self.works) r) (sym wants)
-    (tried_wanting c.args.line c.args.place c.args.input.now (lines_of g.L.CheckpointLog
-    g.L.EntryLog c.args.self.now) (lines_of g.L.CheckpointLog g.L.EntryLog c.lead.new.self)
-    (reads_of g.L.CheckpointLog g.L.EntryLog c.args.self.now.works) (reads_of g.L.CheckpointLog
-    g.L.EntryLog c.lead.new.self.works)
-    (tried_there c.args.place c.args.input.now (lines_of g.L.CheckpointLog g.L.EntryLog
-    c.args.self.now) (reads_of g.L.CheckpointLog g.L.EntryLog c.args.self.now.works) c.requires.to)
+    let old = lines_of g.L.CheckpointLog g.L.EntryLog c.args.self.now in
+    let might = reads_of g.L.CheckpointLog g.L.EntryLog c.args.self.now.works in
+    let new = lines_of g.L.CheckpointLog g.L.EntryLog c.lead.new.self in
+    let may = reads_of g.L.CheckpointLog g.L.EntryLog c.lead.new.self.works in
+    let within = tried_there c.args.place c.args.input.now old might c.requires.to in
+    let wants : c.from_residual.result ≡ Err line_faults.NoMemory = search rules in subst (λ r.
+    IsTriedLine c.args.line (c.args.place + 1) c.args.input.now old might new may r) (sym wants)
+    (tried_wanting c.args.line c.args.place c.args.input.now old new might may within
     c.in_err-lead-in-None.ensures.as_before)
 
 pub returns-in_err-lead-in-None-clause-servers : goal.returns-in_err-lead-in-None-clause-servers
@@ -123,22 +103,22 @@ returns-in_err-lead-in-None-clause-servers g c =
 
 pub returns-in-Some-clause-line : goal.returns-in-Some-clause-line
 returns-in-Some-clause-line g c =
-    tried_refused c.args.line c.args.place c.args.input.now (lines_of g.L.CheckpointLog
-    g.L.EntryLog c.args.self.now) (lines_of g.L.CheckpointLog g.L.EntryLog
-    c.refused-in-Some.new.self) (reads_of g.L.CheckpointLog g.L.EntryLog c.args.self.now.works)
-    (reads_of g.L.CheckpointLog g.L.EntryLog c.refused-in-Some.new.self.works)
-    (tried_there c.args.place c.args.input.now (lines_of g.L.CheckpointLog g.L.EntryLog
-    c.args.self.now) (reads_of g.L.CheckpointLog g.L.EntryLog c.args.self.now.works) c.requires.to)
-    c.in-Some.refusal
-    (ap (is_halted c.args.self.now.works.halted) (after_is c.args.place) ∙ sym c.is_halted.ensures
-    ∙ c.if-is_halted.false) _
-    (seen_there (part g.L.CheckpointLog g.L.EntryLog) c.args.self.now.works.nodes.items
-    c.args.place c.index.result.now (taken_there c.args.self.now.works.nodes.items c.args.place
-    c.index.result.now (place_of (part g.L.CheckpointLog g.L.EntryLog)
-    c.args.self.now.works.nodes.items c.args.place (tried_there c.args.place c.args.input.now
-    (lines_of g.L.CheckpointLog g.L.EntryLog c.args.self.now) (reads_of g.L.CheckpointLog
-    g.L.EntryLog c.args.self.now.works) c.requires.to)) c.index.ensures)) c.in-Some.ensures.rule
-    c.refused-in-Some.result c.refused-in-Some.ensures
+    let old = lines_of g.L.CheckpointLog g.L.EntryLog c.args.self.now in
+    let might = reads_of g.L.CheckpointLog g.L.EntryLog c.args.self.now.works in
+    let new = lines_of g.L.CheckpointLog g.L.EntryLog c.refused-in-Some.new.self in
+    let may = reads_of g.L.CheckpointLog g.L.EntryLog c.refused-in-Some.new.self.works in
+    let within = tried_there c.args.place c.args.input.now old might c.requires.to in
+    let item = place_of (part g.L.CheckpointLog g.L.EntryLog) c.args.self.now.works.nodes.items
+    c.args.place within in
+    let taken = taken_there c.args.self.now.works.nodes.items c.args.place c.index.result.now item
+    c.index.ensures in
+    let seen = seen_there (part g.L.CheckpointLog g.L.EntryLog) c.args.self.now.works.nodes.items
+    c.args.place c.index.result.now taken in
+    let runs = ap (is_halted c.args.self.now.works.halted) (after_is c.args.place) ∙ sym
+    c.is_halted.ensures ∙ c.if-is_halted.false in
+    tried_refused c.args.line c.args.place c.args.input.now old new might may within
+    c.in-Some.refusal runs _ seen c.in-Some.ensures.rule c.refused-in-Some.result
+    c.refused-in-Some.ensures
 
 pub returns-in-Some-clause-servers : goal.returns-in-Some-clause-servers
 returns-in-Some-clause-servers g c =
@@ -146,22 +126,21 @@ returns-in-Some-clause-servers g c =
 
 pub returns-in_ok-lead-in-None-clause-line : goal.returns-in_ok-lead-in-None-clause-line
 returns-in_ok-lead-in-None-clause-line g c =
-    tried_led c.args.line c.args.place c.args.input.now (lines_of g.L.CheckpointLog g.L.EntryLog
-    c.args.self.now) (lines_of g.L.CheckpointLog g.L.EntryLog c.lead.new.self) (reads_of
-    g.L.CheckpointLog g.L.EntryLog c.args.self.now.works) (reads_of g.L.CheckpointLog g.L.EntryLog
-    c.lead.new.self.works)
-    (tried_there c.args.place c.args.input.now (lines_of g.L.CheckpointLog g.L.EntryLog
-    c.args.self.now) (reads_of g.L.CheckpointLog g.L.EntryLog c.args.self.now.works) c.requires.to)
-    c.in_ok-lead-in-None.field-0
-    (ap (is_halted c.args.self.now.works.halted) (after_is c.args.place) ∙ sym c.is_halted.ensures
-    ∙ c.if-is_halted.false) _
-    (seen_there (part g.L.CheckpointLog g.L.EntryLog) c.args.self.now.works.nodes.items
-    c.args.place c.index.result.now (taken_there c.args.self.now.works.nodes.items c.args.place
-    c.index.result.now (place_of (part g.L.CheckpointLog g.L.EntryLog)
-    c.args.self.now.works.nodes.items c.args.place (tried_there c.args.place c.args.input.now
-    (lines_of g.L.CheckpointLog g.L.EntryLog c.args.self.now) (reads_of g.L.CheckpointLog
-    g.L.EntryLog c.args.self.now.works) c.requires.to)) c.index.ensures)) c.in-None.ensures.rule
-    c.in_ok-lead-in-None.ensures.led
+    let old = lines_of g.L.CheckpointLog g.L.EntryLog c.args.self.now in
+    let might = reads_of g.L.CheckpointLog g.L.EntryLog c.args.self.now.works in
+    let new = lines_of g.L.CheckpointLog g.L.EntryLog c.lead.new.self in
+    let may = reads_of g.L.CheckpointLog g.L.EntryLog c.lead.new.self.works in
+    let within = tried_there c.args.place c.args.input.now old might c.requires.to in
+    let item = place_of (part g.L.CheckpointLog g.L.EntryLog) c.args.self.now.works.nodes.items
+    c.args.place within in
+    let taken = taken_there c.args.self.now.works.nodes.items c.args.place c.index.result.now item
+    c.index.ensures in
+    let seen = seen_there (part g.L.CheckpointLog g.L.EntryLog) c.args.self.now.works.nodes.items
+    c.args.place c.index.result.now taken in
+    let runs = ap (is_halted c.args.self.now.works.halted) (after_is c.args.place) ∙ sym
+    c.is_halted.ensures ∙ c.if-is_halted.false in
+    tried_led c.args.line c.args.place c.args.input.now old new might may within
+    c.in_ok-lead-in-None.field-0 runs _ seen c.in-None.ensures.rule c.in_ok-lead-in-None.ensures.led
 
 pub returns-in_ok-lead-in-None-clause-servers : goal.returns-in_ok-lead-in-None-clause-servers
 returns-in_ok-lead-in-None-clause-servers g c =
