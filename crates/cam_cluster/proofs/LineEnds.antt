@@ -70,6 +70,12 @@ pub both_before : (old mid new : LinesFields) (might mays may : ℕ → Logged �
 both_before old mid new might mays may one other script st is keeps =
     other script st is (one script st is keeps)
 
+pub then_before : (old mid new : WorksFields) (might mays may : ℕ → Logged → Type 0)
+    → KeepsAsBefore old might mid mays → KeepsAsBefore mid mays new may
+    → KeepsAsBefore old might new may
+then_before old mid new might mays may one other script st is keeps =
+    other script st is (one script st is keeps)
+
 -- some run is kept still
 pub some_lines : (old new : LinesFields) (might may : ℕ → Logged → Type 0)
     → KeepsLinesAsBefore old might new may → AreLinesOfSome old might → AreLinesOfSome new may

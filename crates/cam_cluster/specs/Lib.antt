@@ -26,3 +26,4 @@ pub mod Workers
 pub mod Between
 pub mod Coming
 pub mod LetterLines
+pub mod Drains

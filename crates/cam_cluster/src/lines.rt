@@ -19,6 +19,7 @@ mod start;
 mod tell;
 mod cut;
 mod deliver;
+mod drain;
 mod letters;
 mod lose;
 

@@ -12,6 +12,7 @@ ghost use Rattle.cam_wire.specs.Writable.{IsWritable};
 ghost use Rattle.cam_cluster.specs.Puts.{HasPut, KeepsAsBefore};
 ghost use Rattle.cam_cluster.specs.Servers.{AreServers};
 
+mod drain;
 mod letters;
 
 use crate::room::{push_reserved, reserve_one};
