@@ -1,8 +1,8 @@
 -- A letter of works: what is found of it by its number, and what is read from its bytes.
-use Rattle.std.proofs.Common.{◌≡◌, ℕ, zero, suc, ◌+◌, ◌-◌, ◌≤◌, ◌<◌, eqb, Bool, true, false, ◌||◌}
-use Rattle.std.proofs.Common.{if◌then◌else◌, List, [], ◌∷◌, ◌++◌, length, take, drop, Option, Some}
-use Rattle.std.proofs.Common.{None, is_some, refl, sym, ap, ◌∙◌, subst, arith}
-use Rattle.std.specs.Prelude.{nat_lt, reverse, slice_get, option_map}
+use Rattle.std.proofs.Common.{◌≡◌, ℕ, zero, suc, ◌+◌, ◌-◌, ◌≤◌, eqb, Bool, true, false, ◌||◌}
+use Rattle.std.proofs.Common.{if◌then◌else◌, List, [], ◌∷◌, Option, Some}
+use Rattle.std.proofs.Common.{None, is_some, refl, sym, ap, ◌∙◌, subst}
+use Rattle.std.specs.Prelude.{reverse, slice_get, option_map}
 use Rattle.std.specs.Option.{option_map_or}
 use Rattle.std.proofs.lemmas.Bool.{true≢false}
 use Rattle.std.proofs.lemmas.List.{append-nil, reverse-reverse}
@@ -19,7 +19,6 @@ use Rattle.cam_runs.specs.Running.{letters, has_number, letter_of}
 use Rattle.cam_runs.specs.Standing.{Standing, addressee}
 use Rattle.cam_runs.proofs.Delivering.{letters_sent, letter_numbered}
 use Rattle.cam_script.specs.declared.Script.{Script}
-use Rattle.cam_script.specs.Law.{IsScript}
 use Rattle.cam_wire.specs.Laws.{IsSpelled}
 use Rattle.cam_wire.specs.OfTrace.{spelling_of}
 use Rattle.cam_wire.specs.Spelling.{spelled}
@@ -28,7 +27,6 @@ use Rattle.cam_histories.specs.Network.{StandsFor}
 use Rattle.cam_histories.proofs.Echoing.{Travels}
 use Rattle.cam_histories.proofs.InRange.{travels}
 use Rattle.cam_histories.proofs.Networks.{has_run_letters}
-use Rattle.cam_cluster.specs.declared.works.letters.Coming.{Coming}
 use Rattle.cam_cluster.specs.Coming.{IsFound, numbered}
 use Rattle.cam_cluster.specs.Works.{WorksFields, KeepsRun}
 

@@ -1,30 +1,24 @@
 -- Deliveries one after another, until none waits.
-use Rattle.std.proofs.Common.{◌≡◌, ℕ, zero, suc, ◌+◌, Bool, true, false, List, [], ◌∷◌, ◌++◌, length, Option}
+use Rattle.std.proofs.Common.{◌≡◌, ℕ, zero, suc, Bool, true, false, List, [], ◌∷◌, ◌++◌, length, Option}
 use Rattle.std.proofs.Common.{Some, None, is_some, refl, sym, ap, ◌∙◌, subst, true≢false}
 use Rattle.cam_names.specs.declared.name.Name.{Name}
 use Rattle.cam_event.specs.declared.LetterId.{LetterId}
 use Rattle.cam_event.specs.Inputs.{Input, Receives, node_of}
 use Rattle.cam_event.specs.Readings.{by_knowledge}
 use Rattle.cam_node.specs.Log.{Logged}
-use Rattle.cam_runs.specs.Halts.{Halting, appends}
-use Rattle.cam_runs.specs.HaltedDraining.{DrainGoesOn}
+use Rattle.cam_runs.specs.Halts.{appends}
 use Rattle.cam_runs.specs.HaltedLines.{Led, after_line, is_restart, setting}
 use Rattle.cam_runs.specs.Standing.{Standing, Setting, after_input, deliver, deliver_waiting}
-use Rattle.cam_runs.specs.Standing.{deliveries, drain, put, waiting}
+use Rattle.cam_runs.specs.Standing.{deliveries, drain, waiting}
 use Rattle.cam_runs.specs.Running.{waiting_weight}
-use Rattle.cam_runs.specs.UnderHalts.{IsUnderHalts}
 use Rattle.cam_runs.proofs.DrainsGoOn.{drains_are_over, halted_drains_go_on}
 use Rattle.cam_script.specs.declared.Act.TheVariants as acts
-use Rattle.cam_script.specs.declared.Script.{Script}
-use Rattle.cam_script.specs.declared.Step.{Step}
-use Rattle.cam_script.specs.Law.{IsScript}
 use Rattle.cam_histories.specs.InputLaws.{held_setting, halt_of}
 use Rattle.cam_cluster.specs.declared.works.Put.{Put}
-use Rattle.cam_cluster.specs.Drains.{AreDelivered, AreDue, AreSaid, HasDeliveredSome, HasDrained}
-use Rattle.cam_cluster.specs.Drains.{HasNextDelivered, IsDrained, IsLineOfDrain, IsNextDelivered}
+use Rattle.cam_cluster.specs.Drains.{AreDue, AreSaid, HasDeliveredSome, HasDrained}
+use Rattle.cam_cluster.specs.Drains.{HasNextDelivered, IsLineOfDrain}
 use Rattle.cam_cluster.specs.Drains.{IsPartOfDrain, IsSaid}
-use Rattle.cam_cluster.specs.Puts.{KeepsAsBefore, as_halt}
-use Rattle.cam_cluster.specs.SoFar.{KeepsLines, LinesFields}
+use Rattle.cam_cluster.specs.Puts.{KeepsAsBefore}
 use Rattle.cam_cluster.specs.Works.{WorksFields, KeepsRun}
 use Rattle.cam_cluster.proofs.BegunLine.{next_leads}
 use Rattle.cam_cluster.proofs.Led.{keeps_others}

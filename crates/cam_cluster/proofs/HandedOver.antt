@@ -1,5 +1,5 @@
 -- A letter is handed over to its node: what the node wants for the step, and what the works keep then.
-use Rattle.std.proofs.Common.{◌≡◌, ℕ, suc, ◌+◌, ◌-◌, ◌≤◌, ◌<◌, Bool, true, false, List, [], ◌∷◌}
+use Rattle.std.proofs.Common.{◌≡◌, ℕ, suc, ◌+◌, ◌≤◌, ◌<◌, Bool, true, false, List, [], ◌∷◌}
 use Rattle.std.proofs.Common.{get_or, true≢false, length, Option, Some, None, is_some, refl, sym, ap, ◌∙◌, subst, arith}
 use Rattle.std.specs.Prelude.{nat_lt, slice_get, IfSome, MatchOption}
 use Rattle.std.specs.List.{AllByRecursion}
@@ -8,17 +8,15 @@ use Rattle.cam_type.specs.declared.ObjectDecl.{ObjectDecl}
 use Rattle.cam_event.specs.declared.Event.{Event}
 use Rattle.cam_event.specs.declared.Letter.{Letter}
 use Rattle.cam_event.specs.declared.LetterId.{LetterId}
-use Rattle.cam_event.specs.Inputs.{Receives, letter_at}
-use Rattle.cam_net.specs.Letters.{InFlightFields, as_delivered, changed}
+use Rattle.cam_event.specs.Inputs.{Receives}
+use Rattle.cam_net.specs.Letters.{as_delivered, changed}
 use Rattle.cam_net.specs.Waiting.{is_halted}
 use Rattle.cam_net.proofs.Changes.{has_within}
 use Rattle.cam_node.specs.declared.Input.TheVariants as inputs
 use Rattle.cam_node.specs.Calls.{load_of, mail_of}
 use Rattle.cam_node.specs.Log.{Logged}
-use Rattle.cam_runs.specs.Halts.{Halting}
-use Rattle.cam_runs.specs.Running.{has_number, letter_of}
-use Rattle.cam_runs.specs.Standing.{Standing, addressee, deliver, put}
-use Rattle.cam_runs.specs.UnderHalts.{IsUnderHalts}
+use Rattle.cam_runs.specs.Running.{has_number}
+use Rattle.cam_runs.specs.Standing.{Standing, deliver, put}
 use Rattle.cam_runs.proofs.Delivering.{letters_sent, letter_numbered}
 use Rattle.cam_script.specs.declared.Script.{Script}
 use Rattle.cam_script.specs.Law.{IsScript}
@@ -32,7 +30,7 @@ use Rattle.cam_histories.proofs.ManyPut.{all_may_be_written}
 use Rattle.cam_histories.proofs.Stepping.{letters_are_put}
 use Rattle.cam_cluster.specs.declared.works.Put.{Put}
 use Rattle.cam_cluster.specs.declared.works.letters.Coming.{Coming}
-use Rattle.cam_cluster.specs.Coming.{AreWorksOfSome, HasDelivered, HasFound, HasRead, IsReadOf}
+use Rattle.cam_cluster.specs.Coming.{AreWorksOfSome, HasDelivered, HasFound, HasRead}
 use Rattle.cam_cluster.specs.Puts.{HasPut, IsPutAt, as_halt}
 use Rattle.cam_cluster.specs.Works.{NodeFields, WorksFields, KeepsRun, sites_of}
 use Rattle.cam_cluster.proofs.BegunLine.{few_events, within}

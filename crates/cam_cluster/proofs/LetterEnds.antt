@@ -1,49 +1,40 @@
 -- How a line ends that hands a letter over.
-use Rattle.std.proofs.Common.{◌≡◌, ℕ, suc, ◌+◌, ◌<◌, Bool, true, false, List, [], ◌∷◌, ◌++◌, length}
-use Rattle.std.proofs.Common.{Option, Some, None, Ok, Err, refl, sym, ap, ◌∙◌, subst, arith}
-use Rattle.std.specs.Prelude.{nat_lt}
+use Rattle.std.proofs.Common.{◌≡◌, ℕ, suc, ◌+◌, Bool, true, List, [], ◌∷◌, ◌++◌}
+use Rattle.std.proofs.Common.{Option, Some, None, Err, refl, sym, ap, ◌∙◌, subst, arith}
 use Rattle.std.specs.Option.{option_map_or}
 use Rattle.cam_names.specs.declared.name.Name.{Name}
-use Rattle.cam_bytes.specs.declared.WireFault.{WireFault}
-use Rattle.cam_bytes.specs.declared.WireFault.TheVariants as faults
 use Rattle.cam_event.specs.declared.LetterFault.TheVariants.{Short}
 use Rattle.cam_event.specs.declared.LetterId.{LetterId}
-use Rattle.cam_event.specs.declared.LineRefusal.{LineRefusal}
 use Rattle.cam_event.specs.declared.LineRefusal.TheVariants as refusals
 use Rattle.cam_event.specs.declared.Mark.{Mark}
 use Rattle.cam_event.specs.declared.Mark.TheVariants as marks
 use Rattle.cam_event.specs.Inputs.{Mail, Receives}
 use Rattle.cam_event.specs.Readings.{by_knowledge}
 use Rattle.cam_event.specs.Refusals.{where_so}
-use Rattle.cam_net.specs.Letters.{as_lost, changed, has_letter}
 use Rattle.cam_net.specs.Waiting as net
 use Rattle.cam_node.specs.Log.{Logged}
 use Rattle.cam_runs.specs.Halts.{Halting}
-use Rattle.cam_runs.specs.HaltedLines.{Passed, Refused, Led, act, after_line, cut, is_halted, is_restart, lose, of_letter, setting, unless}
+use Rattle.cam_runs.specs.HaltedLines.{Passed, Led, act, after_line, is_halted, is_restart, setting}
 use Rattle.cam_runs.specs.Running.{has_number, letter_of}
 use Rattle.cam_runs.specs.Standing.{Standing, Setting, addressee, deliver}
 use Rattle.cam_runs.specs.UnderHalts.{IsNextStep, IsUnderHalts}
 use Rattle.cam_script.specs.declared.Act.{Act}
-use Rattle.cam_script.specs.declared.Act.TheVariants as acts
 use Rattle.cam_script.specs.declared.Script.{Script}
 use Rattle.cam_script.specs.declared.Step.{Step}
 use Rattle.cam_script.specs.Law.{IsScript}
-use Rattle.cam_wire.specs.OfTrace.{spelling_of}
 use Rattle.cam_histories.specs.InputLaws.{held_setting}
 use Rattle.cam_histories.specs.Lines.{line_refusal, test_letter}
 use Rattle.cam_cluster.specs.declared.LineFault.TheVariants as line_faults
-use Rattle.cam_cluster.specs.declared.lines.cut.CutLetter.TheVariants as cuts
 use Rattle.cam_cluster.specs.declared.works.Put.{Put}
 use Rattle.cam_cluster.specs.declared.works.letters.Coming.{Coming}
-use Rattle.cam_cluster.specs.Coming.{HasArrived, HasDelivered, HasFound}
-use Rattle.cam_cluster.specs.LetterLines.{HasLedLetter, HasMarkedCut, HasTaken, IsCut, IsDelivery}
-use Rattle.cam_cluster.specs.LetterLines.{IsLedByLetter, IsLineBy, IsTaken, letter_refusal, with_cut}
+use Rattle.cam_cluster.specs.Coming.{HasDelivered, HasFound}
+use Rattle.cam_cluster.specs.LetterLines.{HasLedLetter, HasMarkedCut, HasTaken}
+use Rattle.cam_cluster.specs.LetterLines.{IsLedByLetter, with_cut}
 use Rattle.cam_cluster.specs.SoFar.{HasRefused, KeepsLines, KeepsLinesAsBefore, LinesFields}
 use Rattle.cam_cluster.specs.Works.{WorksFields, KeepsRun}
 use Rattle.cam_cluster.proofs.BegunLine.{next_leads}
 use Rattle.cam_cluster.proofs.ComingLetters.{IsThere, there}
 use Rattle.cam_cluster.proofs.Led.{bound_stays, keeps_others}
-use Rattle.cam_cluster.proofs.LineEnds.{RefusesLine, refusal_ends}
 use Rattle.cam_cluster.proofs.PlacedNodes.{after_is}
 use Rattle.std.specs.List.{list_any}
 

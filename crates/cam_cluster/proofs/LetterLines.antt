@@ -1,8 +1,7 @@
 -- The lines that deliver, cut or lose a letter: what each comes to.
-use Rattle.std.proofs.Common.{◌≡◌, ℕ, suc, ◌+◌, Bool, true, false, if◌then◌else◌, List, [], ◌∷◌}
-use Rattle.std.proofs.Common.{◌++◌, length, Option, Some, None, Ok, Err, is_some, refl, sym, ap, ◌∙◌}
+use Rattle.std.proofs.Common.{◌≡◌, ℕ, ◌+◌, Bool, true, false, if◌then◌else◌, List, [], ◌∷◌}
+use Rattle.std.proofs.Common.{◌++◌, Option, Some, None, Ok, Err, is_some, refl, sym, ap, ◌∙◌}
 use Rattle.std.proofs.Common.{subst, true≢false}
-use Rattle.std.specs.Prelude.{nat_lt}
 use Rattle.cam_names.specs.declared.name.Name.{Name}
 use Rattle.cam_bytes.specs.declared.WireFault.{WireFault}
 use Rattle.cam_bytes.specs.declared.WireFault.TheVariants as faults
@@ -13,7 +12,6 @@ use Rattle.cam_event.specs.Readings.{by_knowledge}
 use Rattle.cam_event.specs.Refusals.{where_so}
 use Rattle.cam_net.specs.Letters.{as_lost, changed, has_letter}
 use Rattle.cam_node.specs.Log.{Logged}
-use Rattle.cam_runs.specs.Halts.{Halting}
 use Rattle.cam_runs.specs.HaltedLines.{Passed, Led, act, after_line, cut, is_halted, lose, of_letter}
 use Rattle.cam_runs.specs.HaltedLines.{setting, unless}
 use Rattle.cam_runs.specs.Running.{has_number, letter_of}
@@ -22,7 +20,6 @@ use Rattle.cam_runs.specs.UnderHalts.{IsUnderHalts}
 use Rattle.cam_script.specs.declared.Act.{Act}
 use Rattle.cam_script.specs.declared.Act.TheVariants as acts
 use Rattle.cam_script.specs.declared.Script.{Script}
-use Rattle.cam_wire.specs.OfTrace.{spelling_of}
 use Rattle.cam_histories.specs.Lines.{line_refusal, test_letter}
 use Rattle.cam_histories.specs.Whole.{IsWhole}
 use Rattle.cam_histories.proofs.ManyLines.{losses_stand}
@@ -32,7 +29,7 @@ use Rattle.cam_cluster.specs.declared.arrival.Arrival.TheVariants.{Whole, Cut}
 use Rattle.cam_cluster.specs.declared.lines.cut.CutLetter.TheVariants as cuts
 use Rattle.cam_cluster.specs.declared.works.Put.{Put}
 use Rattle.cam_cluster.specs.declared.works.letters.Coming.{Coming}
-use Rattle.cam_cluster.specs.Coming.{HasArrived, HasRead}
+use Rattle.cam_cluster.specs.Coming.{HasArrived}
 use Rattle.cam_cluster.specs.LetterLines.{HasLedLetter, HasMarkedCut, HasTaken, IsCut, IsDelivery}
 use Rattle.cam_cluster.specs.LetterLines.{IsLineBy, IsLoss, IsTaken, letter_refusal, with_cut}
 use Rattle.cam_cluster.specs.LineOwes.{short_at}
@@ -41,7 +38,7 @@ use Rattle.cam_cluster.specs.Works.{WorksFields, KeepsRun, sites_of}
 use Rattle.cam_cluster.proofs.ComingLetters.{found_lost, has_it}
 use Rattle.cam_cluster.proofs.LetterEnds.{comes_under_way, delivered_by, halted_as}
 use Rattle.cam_cluster.proofs.Led.{keeps_others}
-use Rattle.cam_cluster.proofs.LineEnds.{RefusesLine, refusal_ends, wanting_ends}
+use Rattle.cam_cluster.proofs.LineEnds.{refusal_ends, wanting_ends}
 
 -- A line was refused, or found no memory, when its letter was to be taken.
 module _ {T : Type 0}

@@ -1,5 +1,5 @@
 -- How a line ends that is refused, or that finds no memory; and what the lines keep then.
-use Rattle.std.proofs.Common.{◌≡◌, ℕ, Option, Some, None, Ok, Err, refl, sym, ap, ◌∙◌, subst}
+use Rattle.std.proofs.Common.{◌≡◌, ℕ, Some, Err, ap, ◌∙◌, subst}
 use Rattle.cam_event.specs.declared.LineRefusal.{LineRefusal}
 use Rattle.cam_event.specs.Readings.{by_knowledge}
 use Rattle.cam_node.specs.Log.{Logged}

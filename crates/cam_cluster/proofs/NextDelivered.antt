@@ -1,22 +1,19 @@
 -- The letter that waits is handed over, and what the letters weigh that wait then.
-use Rattle.std.proofs.Common.{◌≡◌, ℕ, zero, suc, ◌+◌, ◌<◌, Bool, true, false, ◌||◌, if◌then◌else◌}
-use Rattle.std.proofs.Common.{List, [], ◌∷◌, ◌++◌, length, Option, Some, None, is_some, refl, sym, ap}
+use Rattle.std.proofs.Common.{◌≡◌, ℕ, suc, ◌+◌, ◌<◌, Bool, false, ◌||◌, if◌then◌else◌}
+use Rattle.std.proofs.Common.{List, [], ◌∷◌, Some, None, refl, sym, ap}
 use Rattle.std.proofs.Common.{◌∙◌, subst, arith}
-use Rattle.std.specs.Prelude.{reverse}
 use Rattle.std.proofs.lemmas.Option.{same_Some}
 use Rattle.cam_event.specs.declared.Event.{Event}
 use Rattle.cam_event.specs.declared.Letter.{Letter}
 use Rattle.cam_event.specs.declared.LetterId.{LetterId}
-use Rattle.cam_event.specs.Readings.{by_knowledge}
 use Rattle.cam_net.specs.Letters.{InFlightFields}
 use Rattle.cam_net.specs.Waiting.{is_halted, next_of}
 use Rattle.cam_node.specs.Log.{Logged}
 use Rattle.cam_runs.specs.Running.{letters, has_number, letter_of, waiting_weight, weight_from}
 use Rattle.cam_runs.specs.Running.{weight_of}
-use Rattle.cam_runs.specs.Standing.{Standing, Setting, addressee, deliver, waiting}
+use Rattle.cam_runs.specs.Standing.{Standing, addressee, deliver, waiting}
 use Rattle.cam_runs.proofs.HaltedDrained.{halted_deliveries_lower}
 use Rattle.cam_script.specs.declared.Script.{Script}
-use Rattle.cam_script.specs.Law.{IsScript}
 use Rattle.cam_histories.specs.Flight.{with_put}
 use Rattle.cam_histories.specs.InputLaws.{held_setting}
 use Rattle.cam_histories.specs.LineLaws.{HasNext}

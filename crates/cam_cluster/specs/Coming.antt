@@ -1,8 +1,8 @@
 -- The letters of works: one is found by its number, read from its bytes, and handed to its node; and
 -- so on, until none waits.
-use Rattle.std.specs.Prelude.{◌≡◌, ℕ, zero, suc, ◌+◌, ◌-◌, eqb, Bool, true, false}
-use Rattle.std.specs.Prelude.{if◌then◌else◌, List, [], ◌∷◌, length, reverse, slice_get}
-use Rattle.std.specs.Prelude.{Option, Some, None, is_some, nat_lt}
+use Rattle.std.specs.Prelude.{◌≡◌, ℕ, ◌+◌, ◌-◌, eqb, Bool, true, false}
+use Rattle.std.specs.Prelude.{if◌then◌else◌, List, length, reverse, slice_get}
+use Rattle.std.specs.Prelude.{Option, Some, None, nat_lt}
 use Rattle.cam_bytes.specs.declared.WireFault.TheVariants.{Short}
 use Rattle.cam_event.specs.declared.Event.{Event}
 use Rattle.cam_event.specs.declared.Letter.{Letter}
@@ -11,9 +11,8 @@ use Rattle.cam_event.specs.Inputs.{Mail, Receives, letter_at}
 use Rattle.cam_event.specs.Readings.{by_knowledge}
 use Rattle.cam_node.specs.Log.{Logged}
 use Rattle.cam_runs.specs.Halts.{Halting}
-use Rattle.cam_runs.specs.Running.{ids_from, letters, letter_of}
-use Rattle.cam_runs.specs.Standing.{Standing, Setting, addressee, deliver, deliver_waiting, waiting}
-use Rattle.cam_runs.specs.Standing.{deliveries, drain}
+use Rattle.cam_runs.specs.Running.{letters, letter_of}
+use Rattle.cam_runs.specs.Standing.{Standing, addressee, deliver}
 use Rattle.cam_script.specs.declared.Script.{Script}
 use Rattle.cam_script.specs.Law.{IsScript}
 use Rattle.cam_wire.specs.OfTrace.{spelling_of}

@@ -1,6 +1,5 @@
 -- The lines that deliver, cut or lose a letter.
 use Rattle.std.specs.Prelude.{◌≡◌, ℕ, suc, Bool, false, List, [], Option, Some, None, Result, Ok, Err}
-use Rattle.cam_bytes.specs.declared.WireFault.{WireFault}
 use Rattle.cam_event.specs.declared.LetterId.{LetterId}
 use Rattle.cam_event.specs.declared.LetterFault.TheVariants.{Short}
 use Rattle.cam_event.specs.declared.LineRefusal.{LineRefusal}

@@ -1,5 +1,5 @@
 -- A letter is handed over, and the line's variable stands for nothing.
-use Rattle.std.proofs.Common.{refl, ap, ◌∙◌, ◌++◌, ◌∷◌, [], None, rules}
+use Rattle.std.proofs.Common.{ap, ◌∙◌, ◌++◌, ◌∷◌, [], None, rules}
 use Rattle.cam_cluster.proofs.AsSeen.{lines_of, reads_of, works_of}
 use Rattle.cam_cluster.proofs.Led.{unchanged_lines}
 use Rattle.cam_cluster.proofs.LetterEnds.{led_letter}

@@ -1,5 +1,5 @@
 -- The line `lose`.
-use Rattle.std.proofs.Common.{◌≡◌, ◌++◌, ◌∷◌, [], None, Ok, Err, refl, sym, ap, ◌∙◌, subst, rules}
+use Rattle.std.proofs.Common.{◌≡◌, Ok, Err, refl, sym, ◌∙◌, subst, rules}
 use Rattle.cam_event.specs.declared.LineRefusal.TheVariants as refusals
 use Rattle.cam_script.specs.declared.Act.TheVariants as acts
 use Rattle.cam_cluster.specs.declared.LineFault.TheVariants as line_faults

@@ -1,5 +1,5 @@
 -- A letter is read from the bytes that are left of it.
-use Rattle.std.proofs.Common.{sym, ap, ◌∙◌}
+use Rattle.std.proofs.Common.{ap, ◌∙◌}
 use Rattle.cam_net.specs.Letters.{cut_of}
 use Rattle.cam_cluster.proofs.AsSeen.{reads_of, works_of}
 use Rattle.cam_cluster.proofs.ReadLetters.{arrives, no_front}

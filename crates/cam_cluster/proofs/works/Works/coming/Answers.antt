@@ -1,5 +1,5 @@
 -- The letter of a number is found.
-use Rattle.std.proofs.Common.{Some, None, true, sym, ap, ◌∙◌, subst, rules, arith}
+use Rattle.std.proofs.Common.{Some, None, sym, ap, ◌∙◌, subst, rules, arith}
 use Rattle.std.specs.Prelude.{option_map, reverse}
 use Rattle.cam_event.specs.Inputs.{letter_at}
 use Rattle.cam_cluster.specs.Coming.{IsFound, numbered}

@@ -1,5 +1,5 @@
 -- The letter that waits is handed over.
-use Rattle.std.proofs.Common.{Some, sym, ap, ◌∙◌, rules}
+use Rattle.std.proofs.Common.{ap, ◌∙◌, rules}
 use Rattle.cam_net.specs.Waiting.{next_of}
 use Rattle.cam_cluster.proofs.AsSeen.{reads_of, works_of}
 use Rattle.cam_cluster.proofs.HandedOver.{works_may_be_written}

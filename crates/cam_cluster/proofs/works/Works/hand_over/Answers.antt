@@ -1,8 +1,7 @@
 -- A letter is handed over to its node.
-use Rattle.std.proofs.Common.{◌≡◌, ◌<◌, sym, subst, rules}
+use Rattle.std.proofs.Common.{sym, subst, rules}
 use Rattle.std.specs.List.{AllByRecursion}
 use Rattle.std.specs.Prelude.{slice_get}
-use Rattle.cam_node.specs.Calls.{answers}
 use Rattle.cam_wire.specs.Writable.{IsWritable}
 use Rattle.cam_cluster.specs.Coming.{HasDelivered}
 use Rattle.cam_cluster.proofs.AsSeen.{part, reads_at, reads_of, tells_of, works_of}

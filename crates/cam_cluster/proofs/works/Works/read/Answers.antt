@@ -1,5 +1,5 @@
 -- A letter is read from all of its bytes.
-use Rattle.std.proofs.Common.{sym, ap, ◌∙◌, rules}
+use Rattle.std.proofs.Common.{ap, ◌∙◌, rules}
 use Rattle.cam_net.specs.Letters.{whole_of}
 use Rattle.cam_cluster.proofs.AsSeen.{reads_of, works_of}
 use Rattle.cam_cluster.proofs.ReadLetters.{no_bytes, no_cut, reads_it}

@@ -1,5 +1,5 @@
 -- The number goes on over the letters of one event after another.
-use Rattle.std.proofs.Common.{◌≡◌, ◌-◌, ◌+◌, ◌<◌, ◌≤◌, drop, length, sym, ap, ◌∙◌, subst}
+use Rattle.std.proofs.Common.{◌-◌, ◌+◌, ◌<◌, ◌≤◌, drop, length, sym, ap, ◌∙◌, subst}
 use Rattle.std.specs.Prelude.{slice_get}
 use Rattle.cam_cluster.proofs.NumberedLetters.{first_of_all, further_on, here_it_is, letters_from}
 use Rattle.cam_cluster.proofs.works.letters.numbered.Goals as goal

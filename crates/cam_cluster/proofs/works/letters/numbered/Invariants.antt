@@ -1,5 +1,5 @@
 -- The letters of the events before the place have lesser numbers.
-use Rattle.std.proofs.Common.{◌≡◌, ◌≤◌, ◌-◌, drop, length}
+use Rattle.std.proofs.Common.{◌≡◌, ◌-◌, drop, length}
 use Rattle.std.specs.Prelude.{slice_get}
 use Rattle.cam_cluster.specs.Coming.{numbered}
 use Rattle.cam_cluster.proofs.NumberedLetters.{letters_from}
