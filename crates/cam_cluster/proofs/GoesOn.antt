@@ -66,11 +66,12 @@ pub newest_behind : (n : ℕ) (more halts : List Halt) → AreNewestFirst more �
     → AllByRecursion (λ (h : Halt). n ≤ h.input) more
     → AllByRecursion (λ (h : Halt). h.input < n) halts → AreNewestFirst (more ++ halts)
 newest_behind n [] halts new old low high = old
-newest_behind n (h ∷ more) halts new old low high =
-    (all_behind (λ (g : Halt). g.input < h.input) more halts new.0
-    (all_so (λ (g : Halt). g.input < n) (λ (g : Halt). g.input < h.input) halts
-    (λ g less. let least = low.0 in omega (arith, less, least)) high),
-    newest_behind n more halts new.1 old low.1 high)
+newest_behind n (h ∷ more) halts new old low high = (
+  all_behind (λ (g : Halt). g.input < h.input) more halts new.0
+      (all_so (λ (g : Halt). g.input < n) (λ (g : Halt). g.input < h.input) halts
+      (λ g less. let least = low.0 in omega (arith, less, least)) high),
+  newest_behind n more halts new.1 old low.1 high,
+)
 
 module _ (seen : Seen) (step : Step) (more : List Halt) (old new : LinesFields)
     (might may : ℕ → Logged → Type 0) (keeps : KeepsBetween seen old might)
@@ -218,37 +219,37 @@ one_input_goes seen step input old new might may (Ok done) keeps next line one =
   passed = passed;
   stands = goes_on seen step more old new might may keeps next of_line made;
 } where
-    more : List Halt
-    more = halts_from (accepted seen.standing.turns) (done ∷ [])
+  more : List Halt
+  more = halts_from (accepted seen.standing.turns) (done ∷ [])
 
-    led : IsLed seen.script seen.standing
-        (setting_in by_knowledge seen (more ++ seen.halts) step) step.act input done new may
-    led =
-        line seen.script seen.standing (given (more ++ seen.halts)) (later_steps seen)
-        keeps.is_script keeps.keeps next
+  led : IsLed seen.script seen.standing
+      (setting_in by_knowledge seen (more ++ seen.halts) step) step.act input done new may
+  led =
+      line seen.script seen.standing (given (more ++ seen.halts)) (later_steps seen)
+      keeps.is_script keeps.keeps next
 
-    passed : line_refusal (by_pasts seen.script.objects) seen.standing step.act ≡ None
-    passed = sym (refusals_agree seen old might step seen.halts keeps next) ∙ led.passed
+  passed : line_refusal (by_pasts seen.script.objects) seen.standing step.act ≡ None
+  passed = sym (refusals_agree seen old might step seen.halts keeps next) ∙ led.passed
 
-    of_line : AreHaltsOfLine seen (after_step seen step more) more
-    of_line = one_end seen (after_step seen step more) done (one more passed)
+  of_line : AreHaltsOfLine seen (after_step seen step more) more
+  of_line = one_end seen (after_step seen step more) done (one more passed)
 
-    made : KeepsStep seen step more new may
-    made = led.stands (ends_are_said seen old might step input done keeps)
+  made : KeepsStep seen step more new may
+  made = led.stands (ends_are_said seen old might step input done keeps)
 one_input_goes seen step input old new might may (Err (line_faults.Refused refusal)) keeps next line
     one = record {
-  test = sym (refusals_agree seen old might step seen.halts keeps next) ∙ told.test;
-  stands =
-      goes_on seen step [] old new might may keeps next
-      (record { newest = tt; low = tt; high = tt })
-      (subst (λ (p : Passed). KeepsLines seen.script (after_line seen.standing step.line p) new may)
-      (sym (refused_step seen step refusal told.test))
-      told.stands);
-} where
-    told : IsRefused seen.script seen.standing step.line step.act refusal new may
-    told =
-        line seen.script seen.standing (given seen.halts) (later_steps seen) keeps.is_script
-        keeps.keeps next
+      test = sym (refusals_agree seen old might step seen.halts keeps next) ∙ told.test;
+      stands =
+          goes_on seen step [] old new might may keeps next
+          (record { newest = tt; low = tt; high = tt })
+          (subst (λ (p : Passed). KeepsLines seen.script (after_line seen.standing step.line p) new may)
+          (sym (refused_step seen step refusal told.test))
+          told.stands);
+    } where
+      told : IsRefused seen.script seen.standing step.line step.act refusal new may
+      told =
+          line seen.script seen.standing (given seen.halts) (later_steps seen) keeps.is_script
+          keeps.keeps next
 one_input_goes seen step input old new might may (Err line_faults.NoMemory) keeps next line one =
     record {
       is_script = keeps.is_script;

@@ -12,16 +12,16 @@ ghost use Rattle.cam_cluster.specs.Servers.{AreServers};
 ghost use Rattle.cam_cluster.specs.SoFar.{HasLed, HasRefused, IsBinding, KeepsLinesAsBefore, bound_by};
 
 mod begin;
-mod one_input;
-mod query;
-mod requests;
-mod start;
-mod tell;
 mod cut;
 mod deliver;
 mod drain;
 mod letters;
 mod lose;
+mod one_input;
+mod query;
+mod requests;
+mod start;
+mod tell;
 
 use crate::room::{push_reserved, reserve_one};
 use crate::servers::Servers;
