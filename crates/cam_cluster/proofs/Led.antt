@@ -98,7 +98,7 @@ nothing_bound (inputs.Letter id letter) = refl
 nothing_bound (inputs.Tell to) = refl
 nothing_bound (inputs.Query family) = refl
 
-binding_is : (input : NodeInput) (c : Setting) (st : Standing) (put_as : Input) (events : List Event)
+pub binding_is : (input : NodeInput) (c : Setting) (st : Standing) (put_as : Input) (events : List Event)
     (done : Put) (binds : Option Name) → halt_of c st put_as ≡ as_halt done
     → events ≡ reverse (put c st put_as).running.trace → IsBinding input events done binds
     → binds ≡ bound_by input (made st (put c st put_as))

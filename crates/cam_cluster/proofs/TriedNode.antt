@@ -58,13 +58,13 @@ module _ (script : Script) (st : Standing) (works : WorksFields) (may : ℕ → 
   awake : has_number st.halted (place + 1) ≡ false
   awake = sym (told_halted script st works may is keeps place there) ∙ runs
 
-  here : IsSiteOf script.objects st (place + 1) node.site
+  pub here : IsSiteOf script.objects st (place + 1) node.site
   here =
       subst (λ (s : ℕ). IsSiteOf script.objects st s node.site) (omega arith)
       (site_at script.objects st 1 place (sites_of works.nodes) node.site keeps.whole.nodes
       (site_there works.nodes place node at))
 
-  stands : Represents script.objects history node.site.node
+  pub stands : Represents script.objects history node.site.node
   stands = (here.stands awake).represents
 
   through : IsThrough script.objects node.site.node.number history

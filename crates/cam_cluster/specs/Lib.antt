@@ -27,3 +27,4 @@ pub mod Between
 pub mod Coming
 pub mod LetterLines
 pub mod Drains
+pub mod Goes

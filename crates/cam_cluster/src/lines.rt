@@ -108,7 +108,7 @@ fn bound_by_newest(input: &Input, events: &[Event]) -> Option<Name>
 }
 
 /// What a line binds its variable to, by how its input ended.
-fn bound_after(done: Put, input: &Input, events: &[Event]) -> Option<Name>
+pub(crate) fn bound_after(done: Put, input: &Input, events: &[Event]) -> Option<Name>
     ensures { IsBinding input.now events.now done result }
 {
     match done {

@@ -13,6 +13,7 @@ ghost use Rattle.cam_cluster.specs.Puts.{HasPut, KeepsAsBefore};
 ghost use Rattle.cam_cluster.specs.Servers.{AreServers};
 
 mod drain;
+mod go;
 mod letters;
 
 use crate::room::{push_reserved, reserve_one};

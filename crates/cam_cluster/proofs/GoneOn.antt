@@ -1,0 +1,245 @@
+-- The next request of an action by its body, put to the node of its home: that it may be put there,
+-- and what the works and the workers are behind it.
+use Rattle.std.proofs.Common.{◌≡◌, ◌⊎◌, inl, inr, ℕ, ◌+◌, ◌<◌, false, List, length, map, reverse, Option, Some, None}
+use Rattle.std.proofs.Common.{refl, sym, ap, ◌∙◌, subst, arith}
+use Rattle.std.specs.Prelude.{slice_get}
+use Rattle.std.specs.List.{AllByRecursion}
+use Rattle.cam_names.specs.declared.name.Name.{Name}
+use Rattle.cam_names.specs.Names.{home_node}
+use Rattle.cam_know.specs.Known.{nothing}
+use Rattle.cam_event.specs.declared.Event.{Event}
+use Rattle.cam_event.specs.declared.Request.{Request}
+use Rattle.cam_event.specs.declared.Want.{Want}
+use Rattle.cam_event.specs.ByDeltas.{Received, as_carried}
+use Rattle.cam_event.specs.ByKnowledge.{held_sight}
+use Rattle.cam_event.specs.Inputs.{Requests}
+use Rattle.cam_event.specs.Pasts.{plain_all}
+use Rattle.cam_event.specs.Readings.{by_knowledge}
+use Rattle.cam_event.specs.Refusals.{refusal}
+use Rattle.cam_event.specs.Views.{view}
+use Rattle.cam_tranman.proofs.Requests.{refusal_is_rule}
+use Rattle.cam_tranman.proofs.Sights.{sight_is_answered}
+use Rattle.cam_body.specs.declared.Next.{Next}
+use Rattle.cam_body.specs.declared.Next.TheVariants as nexts
+use Rattle.cam_body.specs.Work.{child_body}
+use Rattle.cam_net.specs.Waiting.{is_halted}
+use Rattle.cam_node.specs.declared.Input.TheVariants as inputs
+use Rattle.cam_node.specs.Calls.{input_of, load_of, mail_of}
+use Rattle.cam_node.specs.Log.{Logged}
+use Rattle.cam_node.specs.Numbers.{MayStep}
+use Rattle.cam_node.specs.Represents.{Represents}
+use Rattle.cam_node.specs.Refused.{IsNotRefused}
+use Rattle.cam_runs.specs.Halts.{Halting, appends}
+use Rattle.cam_runs.specs.HaltedPlaying.{given_body}
+use Rattle.cam_runs.specs.Playing.{body_number, body_of}
+use Rattle.cam_runs.specs.Requests.{asked_in}
+use Rattle.cam_runs.specs.Running.{has_number}
+use Rattle.cam_runs.specs.Standing.{Setting, Standing, made, put}
+use Rattle.cam_script.specs.declared.Script.{Script}
+use Rattle.cam_script.specs.declared.Statement.{Statement}
+use Rattle.cam_script.specs.Law.{IsScript}
+use Rattle.cam_histories.specs.InputLaws.{halt_of, held_setting}
+use Rattle.cam_histories.specs.Laws.{history_of}
+use Rattle.cam_wire.specs.Writable.{IsWritable}
+use Rattle.cam_cluster.specs.declared.workers.Intention.{Intention}
+use Rattle.cam_cluster.specs.declared.workers.Workers.{Workers}
+use Rattle.cam_cluster.specs.declared.works.Put.{Put}
+use Rattle.cam_cluster.specs.Coming.{AreWorksOfSome}
+use Rattle.cam_cluster.specs.Goes.{GoesOfSome, HasGone, is_request, next_of}
+use Rattle.cam_cluster.specs.Puts.{HasPut, IsPutAt}
+use Rattle.cam_cluster.specs.SoFar.{IsBinding}
+use Rattle.cam_cluster.specs.Workers.{AreWorkers, HaveCaughtUp, IsIntention}
+use Rattle.cam_cluster.specs.Works.{KeepsRun, NodeFields, WorksFields}
+use Rattle.cam_cluster.proofs.BegunLine.{told_halted, within}
+use Rattle.cam_cluster.proofs.BodyGoes.{after_bodies, after_stays, gone_on, stayed}
+use Rattle.cam_cluster.proofs.BodyRequests.{asks_by_body, asks_freely, child_is_bare, request_put}
+use Rattle.cam_cluster.proofs.HandedOver.{works_may_be_written}
+use Rattle.cam_cluster.proofs.Led.{binding_is}
+use Rattle.cam_cluster.proofs.TriedNode.{here, numbers_left, stands}
+
+-- what a call of the workers says of the bodies of the script and of what stands
+abbrev pub Intends : List (List Statement) → Name → Workers → Intention → Type 0
+Intends bodies a caught intention =
+    (st : Standing) → HaveCaughtUp st caught → IsIntention bodies st a intention
+
+-- The workers have caught up with the events.
+abbrev pub CatchesUp : List Event → Workers → Workers → Type 0
+CatchesUp events old caught =
+    (st : Standing) → events ≡ reverse st.running.trace → AreWorkers st old
+    → AreWorkers st caught × HaveCaughtUp st caught
+
+-- the next request, as the script's own bodies have it
+module _ (bodies : List (List Statement)) (a : Name) (works : WorksFields) (old caught : Workers)
+    (intention : Intention) (caught_up : CatchesUp works.events old caught)
+    (intends : Intends bodies a caught intention) where
+  pub is_next : (script : Script) (st : Standing) → bodies ≡ script.bodies
+      → works.events ≡ reverse st.running.trace → AreWorkers st old
+      → next_of script.bodies st a ≡ intention.next
+  is_next script st bodies_are events are =
+      ap (λ bs. next_of bs st a) (sym bodies_are)
+      ∙ sym (intends st (caught_up st events are).1).next
+
+  pub is_child : (script : Script) (st : Standing) → bodies ≡ script.bodies
+      → works.events ≡ reverse st.running.trace → AreWorkers st old
+      → child_body (body_of script.bodies st.running a)
+      (view (plain_all st.running.trace) a)
+      ≡ intention.child
+  is_child script st bodies_are events are =
+      ap (λ bs. child_body (body_of bs st.running a) (view (plain_all st.running.trace) a)) (sym bodies_are)
+      ∙ sym (intends st (caught_up st events are).1).child
+
+-- Some run is kept in which the action may go on, and its next request is this one: what its home
+-- gives for the step.
+module _ (a : Name) (bodies : List (List Statement)) (works : WorksFields)
+    (may : ℕ → Logged → Type 0) (workers : Workers)
+    (goes : GoesOfSome a bodies works may workers) (place : ℕ) (home : home_node a ≡ place + 1) where
+  abbrev st : Standing
+  st = goes.standing
+
+  pub home_there : place < length works.nodes
+  home_there =
+      let high = goes.may.high in
+      let each = goes.keeps.one_each in
+      omega (arith, high, each, home)
+
+  pub home_within : place < 8
+  home_within = within goes.script st works may goes.is_script goes.keeps place home_there
+
+  pub home_awake : is_halted works.halted (place + 1) ≡ false
+  home_awake =
+      told_halted goes.script st works may goes.is_script goes.keeps place home_there
+      ∙ ap (has_number st.halted) (sym home) ∙ goes.may.awake
+
+  pub home_runs : (node : NodeFields) → slice_get works.nodes place ≡ Some node
+      → node.halted ≡ false
+  home_runs node at = (goes.keeps.nodes place node at).is_halted ∙ home_awake
+
+  module _ (want : Want) (asks : next_of goes.script.bodies st a ≡ nexts.Request want) where
+    free : refusal ((by_knowledge goes.script.objects).sight st.running.trace (place + 1)) a want
+        ≡ None
+    free =
+        ap (λ s. refusal ((by_knowledge goes.script.objects).sight st.running.trace s) a want)
+        (sym home)
+        ∙ asks_freely goes.script st a goes.is_script goes.keeps.under goes.may want asks
+
+    pub home_is_free : (node : NodeFields) → slice_get works.nodes place ≡ Some node
+        → IsNotRefused node.site.node (inputs.Request (record { action = a; want = want }))
+    home_is_free node at =
+        sym
+        (refusal_is_rule goes.script.objects
+        (held_sight goes.script.objects node.site.node.number (map as_carried history) nothing)
+        node.site.node.actions a want
+        (sight_is_answered goes.script.objects node.site.node.number (map as_carried history)
+        nothing node.site.node.actions rep.runs) (home ∙ sym number))
+        ∙ ap (λ s. refusal (held_sight goes.script.objects s (map as_carried history) nothing) a want)
+        number
+        ∙ free
+      where
+        history : List Received
+        history = history_of goes.script.objects st.running.trace (place + 1)
+
+        rep : Represents goes.script.objects history node.site.node
+        rep = stands goes.script st works may goes.is_script goes.keeps place home_there home_awake node at
+
+        number : node.site.node.number ≡ place + 1
+        number = (here goes.script st works may goes.is_script goes.keeps place home_there home_awake node at).number
+
+    pub home_has_numbers : (node : NodeFields) → slice_get works.nodes place ≡ Some node
+        → MayStep node.site.node (inputs.Request (record { action = a; want = want }))
+    home_has_numbers node at =
+        numbers_left goes.script st works may goes.is_script goes.keeps place home_there home_awake
+        node at (inputs.Request (record { action = a; want = want })) home
+        (asks_by_body goes.script st a goes.is_script goes.keeps.under goes.may want asks).may.1 free
+
+-- letters of the event before may be written
+pub goes_writably : (a : Name) (bodies : List (List Statement)) (works : WorksFields)
+    (may : ℕ → Logged → Type 0) (workers : Workers) → GoesOfSome a bodies works may workers
+    → AllByRecursion IsWritable works.outbox.unput
+goes_writably a bodies works may workers goes =
+    works_may_be_written works may (record {
+      script = goes.script;
+      standing = goes.standing;
+      is_script = goes.is_script;
+      keeps = goes.keeps;
+    })
+
+-- It makes none where it waits or is over.
+pub rests : (n : Next) → (n ≡ nexts.Wait) ⊎ (n ≡ nexts.Over) → is_request n ≡ false
+rests n so = elim so [
+  | inl e ↦ ap is_request e
+  | inr e ↦ ap is_request e
+]
+
+-- How it ends.
+module _ (line : ℕ) (bodies : List (List Statement)) (a : Name) (old : WorksFields)
+    (might : ℕ → Logged → Type 0) (before caught : Workers) (intention : Intention)
+    (caught_up : CatchesUp old.events before caught)
+    (intends : Intends bodies a caught intention) where
+  -- The action asks for nothing.
+  pub idle_gone : is_request intention.next ≡ false
+      → HasGone line a bodies old might before None old might caught
+  idle_gone idle script st halts restarted is bodies_are keeps are may =
+      stayed script st a is keeps.under may halts line restarted intention.next old might caught
+      (is_next bodies a old before caught intention caught_up intends script st bodies_are
+      keeps.events are) idle keeps (caught_up st keeps.events are).0
+
+  -- It makes a request, which was put.
+  pub request_gone : (want : Want) (place : ℕ) (done : Put) (new : WorksFields)
+      (may_read : ℕ → Logged → Type 0) (asked : Option Name) (behind : Workers)
+      → intention.next ≡ nexts.Request want → home_node a ≡ place + 1
+      → HasPut line place (inputs.Request (record { action = a; want = want })) old might done new
+      may_read
+      → IsBinding (inputs.Request (record { action = a; want = want })) new.events done asked
+      → ((z : Standing) → ((b : Name) → asked ≡ Some b → body_number z.running.bodies b ≡ None)
+      → AreWorkers z caught → AreWorkers (given_body intention.child asked z) behind)
+      → HasGone line a bodies old might before (Some done) new may_read behind
+  request_gone want place done new may_read asked behind is_want home has binds gives script st
+      halts restarted is bodies_are keeps are may =
+      gone_on script st a is keeps.under may halts line restarted want done new may_read behind asks
+      (λ said. has script st halts restarted is keeps put_so said)
+      (λ said.
+      let runs = has script st halts restarted is keeps put_so said in
+      let binding =
+      binding_is (inputs.Request request) c st (Requests request) new.events done asked said
+      runs.events binds in
+      subst (λ o. AreWorkers (given_body o (asked_in (made st now)) now) behind)
+      (sym (is_child bodies a old before caught intention caught_up intends script st bodies_are
+      keeps.events are))
+      (subst (λ o. AreWorkers (given_body intention.child o now) behind) binding
+      (gives now
+      (λ b is_b.
+      ap (λ given. body_number given b) bodies_stay
+      ∙ child_is_bare script st a is keeps.under may halts line restarted want b asks
+      (sym binding ∙ is_b)) still)))
+    where
+      request : Request
+      request = record { action = a; want = want }
+
+      c : Setting
+      c = held_setting script.objects halts line restarted
+
+      now : Standing
+      now = put c st (Requests request)
+
+      asks : next_of script.bodies st a ≡ nexts.Request want
+      asks =
+          is_next bodies a old before caught intention caught_up intends script st bodies_are
+          keeps.events are ∙ is_want
+
+      put_so : IsPutAt script st place (input_of (place + 1) (inputs.Request request))
+          (mail_of (inputs.Request request)) (load_of (inputs.Request request))
+      put_so = request_put script st a is keeps.under may place want home asks
+
+      bodies_stay : now.running.bodies ≡ st.running.bodies
+      bodies_stay =
+          after_bodies line (restarted (home_node a)) st (home_node a)
+          (c.reading.next st.running.trace (Requests request))
+          (appends c.reading st.running.trace (Requests request))
+          (halt_of c st (Requests request))
+
+      still : AreWorkers now caught
+      still =
+          after_stays line (restarted (home_node a)) st (home_node a)
+          (c.reading.next st.running.trace (Requests request))
+          (appends c.reading st.running.trace (Requests request))
+          (halt_of c st (Requests request)) caught (caught_up st keeps.events are).0
