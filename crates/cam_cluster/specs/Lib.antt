@@ -28,3 +28,4 @@ pub mod Coming
 pub mod LetterLines
 pub mod Drains
 pub mod Goes
+pub mod GoLines

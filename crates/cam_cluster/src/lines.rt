@@ -15,6 +15,7 @@ mod begin;
 mod cut;
 mod deliver;
 mod drain;
+mod go;
 mod letters;
 mod lose;
 mod one_input;

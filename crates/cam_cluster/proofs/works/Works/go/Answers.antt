@@ -3,9 +3,9 @@ use Rattle.std.proofs.Common.{ℕ, ◌≤◌, ◌-◌, length, rules, sym, ◌�
 use Rattle.cam_node.specs.declared.Input.TheVariants as inputs
 use Rattle.cam_cluster.specs.SoFar.{IsBinding}
 use Rattle.cam_cluster.proofs.AsSeen.{part, reads_of, works_of}
-use Rattle.cam_cluster.proofs.GoneOn.{CatchesUp, goes_writably, home_has_numbers, home_is_free}
-use Rattle.cam_cluster.proofs.GoneOn.{home_runs, home_there, home_within, idle_gone, is_next}
-use Rattle.cam_cluster.proofs.GoneOn.{request_gone, rests}
+use Rattle.cam_cluster.proofs.GoneOn.{CatchesUp, idle_gone, is_next, request_gone, rests}
+use Rattle.cam_cluster.proofs.HomeSteps.{goes_writably, home_has_numbers, home_is_free}
+use Rattle.cam_cluster.proofs.HomeSteps.{home_runs, home_there, home_within}
 use Rattle.cam_cluster.proofs.PlacedNodes.{each_there, on_err, seen_there}
 use Rattle.cam_cluster.proofs.TriedEnds.{place_of}
 use Rattle.cam_cluster.proofs.VariableEnds.{home_place}
