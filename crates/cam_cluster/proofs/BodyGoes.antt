@@ -1,4 +1,5 @@
--- The next request of an action by its body, by cases of whether it makes one: what stands behind it.
+-- The next request of an action by its body, by cases of whether it makes one: what stands behind
+-- it.
 use Rattle.std.proofs.Common.{◌≡◌, ℕ, Bool, true, false, List, [], ◌∷◌, Option, Some, None}
 use Rattle.std.proofs.Common.{refl, sym, ap, subst}
 use Rattle.cam_names.specs.declared.name.Name.{Name}
@@ -89,7 +90,8 @@ module _ (script : Script) (st : Standing) (a : Name) (is : IsScript script)
   gone_on want done new may_read workers e keeps are = record {
     made = sym (ap is_request e);
     runs = λ said.
-        subst (λ (x : Standing). KeepsRun script x new may_read) (sym (go_is (nexts.Request want) e))
+        subst (λ (x : Standing). KeepsRun script x new may_read) (sym (go_is (nexts.Request want)
+        e))
         (given_keeps script child (asked want) (behind want) new may_read
         (subst (IsUnderHalts script) (go_is (nexts.Request want) e)
         (gone_under script st a is under may halts line restarted)) (keeps (said_of said)));
@@ -109,11 +111,13 @@ module _ (script : Script) (st : Standing) (a : Name) (is : IsScript script)
   stayed (nexts.Request want) new may_read workers e idle keeps are = cc
   stayed nexts.Wait new may_read workers e idle keeps are = record {
     made = sym (ap is_request e);
-    runs = λ said. subst (λ (x : Standing). KeepsRun script x new may_read) (sym (go_is nexts.Wait e)) keeps;
+    runs = λ said. subst (λ (x : Standing). KeepsRun script x new may_read) (sym (go_is nexts.Wait
+        e)) keeps;
     workers = λ said. subst (λ (x : Standing). AreWorkers x workers) (sym (go_is nexts.Wait e)) are;
   }
   stayed nexts.Over new may_read workers e idle keeps are = record {
     made = sym (ap is_request e);
-    runs = λ said. subst (λ (x : Standing). KeepsRun script x new may_read) (sym (go_is nexts.Over e)) keeps;
+    runs = λ said. subst (λ (x : Standing). KeepsRun script x new may_read) (sym (go_is nexts.Over
+        e)) keeps;
     workers = λ said. subst (λ (x : Standing). AreWorkers x workers) (sym (go_is nexts.Over e)) are;
   }

@@ -1,5 +1,6 @@
 -- The request that an action makes next by its body: nothing stands against it, and it may be put.
-use Rattle.std.proofs.Common.{◌≡◌, ℕ, ◌+◌, Bool, true, false, List, [], ◌∷◌, ◌++◌, Option, Some, None}
+use Rattle.std.proofs.Common.{◌≡◌, ℕ, ◌+◌, Bool, true, false, List, [], ◌∷◌, ◌++◌, Option, Some}
+use Rattle.std.proofs.Common.{None}
 use Rattle.std.proofs.Common.{refl, sym, ap, ◌∙◌, subst}
 use Rattle.cam_names.specs.declared.name.Name.{Name}
 use Rattle.cam_names.specs.Names.{home_node}
@@ -60,15 +61,21 @@ module _ (script : Script) (st : Standing) (a : Name) (is : IsScript script)
   running_by_pasts : has_ended (home_sight (by_pasts script.objects) st.running a) a ≡ None
   running_by_pasts =
       sym
-      (ap (λ g. has_ended g a) (nodes_go_by_the_same script.objects st.running.trace (home_node a) (ran_addressed script.objects st.running.trace (ran script st under.run)))
-      ∙ λ i. has_ended (plain_sight (home_node a) (entries_same script.objects st.running.trace (home_node a) i) (ran_informs script.objects st.running.trace (home_node a) None (ran script st under.run) tt i)) a)
+      (ap (λ g. has_ended g a) (nodes_go_by_the_same script.objects st.running.trace (home_node a)
+      (ran_addressed script.objects st.running.trace (ran script st under.run)))
+      ∙ λ i. has_ended (plain_sight (home_node a) (entries_same script.objects st.running.trace
+      (home_node a) i) (ran_informs script.objects st.running.trace (home_node a) None (ran
+      script st under.run) tt i)) a)
       ∙ may.running
 
   open_by_pasts : is_not_open (home_sight (by_pasts script.objects) st.running a) a ≡ None
   open_by_pasts =
       sym
-      (ap (λ g. is_not_open g a) (nodes_go_by_the_same script.objects st.running.trace (home_node a) (ran_addressed script.objects st.running.trace (ran script st under.run)))
-      ∙ λ i. is_not_open (plain_sight (home_node a) (entries_same script.objects st.running.trace (home_node a) i) (ran_informs script.objects st.running.trace (home_node a) None (ran script st under.run) tt i)) a)
+      (ap (λ g. is_not_open g a) (nodes_go_by_the_same script.objects st.running.trace (home_node
+      a) (ran_addressed script.objects st.running.trace (ran script st under.run)))
+      ∙ λ i. is_not_open (plain_sight (home_node a) (entries_same script.objects st.running.trace
+      (home_node a) i) (ran_informs script.objects st.running.trace (home_node a) None (ran
+      script st under.run) tt i)) a)
       ∙ may.is_open
 
   pub asks_by_body : (want : Want) → next_of script.bodies st a ≡ nexts.Request want
@@ -82,8 +89,11 @@ module _ (script : Script) (st : Standing) (a : Name) (is : IsScript script)
   pub asks_freely : (want : Want) → next_of script.bodies st a ≡ nexts.Request want
       → refusal (home_sight (by_knowledge script.objects) st.running a) a want ≡ None
   asks_freely want e =
-      ap (λ g. refusal g a want) (nodes_go_by_the_same script.objects st.running.trace (home_node a) (ran_addressed script.objects st.running.trace (ran script st under.run)))
-      ∙ (λ i. refusal (plain_sight (home_node a) (entries_same script.objects st.running.trace (home_node a) i) (ran_informs script.objects st.running.trace (home_node a) None (ran script st under.run) tt i)) a want)
+      ap (λ g. refusal g a want) (nodes_go_by_the_same script.objects st.running.trace (home_node
+      a) (ran_addressed script.objects st.running.trace (ran script st under.run)))
+      ∙ (λ i. refusal (plain_sight (home_node a) (entries_same script.objects st.running.trace
+      (home_node a) i) (ran_informs script.objects st.running.trace (home_node a) None (ran
+      script st under.run) tt i)) a want)
       ∙ (asks_by_body want e).may.0
 
   -- the request may be put to its home
@@ -131,6 +141,7 @@ module _ (script : Script) (st : Standing) (a : Name) (is : IsScript script)
         (ap (λ (x : Standing). asked_in (made st x)) (sym both.same) ∙ asked) in
         by (body_number st.running.bodies b) refl new.0.fresh
       where
-        by : (o : Option ℕ) → body_number st.running.bodies b ≡ o → (Known (plain_all st.running.trace) b → ⊥) → body_number st.running.bodies b ≡ None
+        by : (o : Option ℕ) → body_number st.running.bodies b ≡ o → (Known (plain_all
+            st.running.trace) b → ⊥) → body_number st.running.bodies b ≡ None
         by None at fresh = at
         by (Some m) at fresh = absurd (fresh (under.works b m at).known)

@@ -1,61 +1,51 @@
--- The line `go`: how it ends where no action stands for the variable, where the action's home is
--- halted or refuses it, and where the action goes on.
-use Rattle.std.proofs.Common.{◌≡◌, ◌≤◌, ℤ, ℕ, ◌+◌, ◌<◌, Bool, true, false, List, [], ◌∷◌, ◌++◌, length}
-use Rattle.std.proofs.Common.{Option, Ok, Err, Some, None, refl, sym, ap, ◌∙◌, subst, arith}
+-- The line `go` where the action goes on, and where memory runs out.
+use Rattle.std.proofs.Common.{◌≡◌, ℤ, ℕ, ◌+◌, Bool, true, false, List, [], ◌∷◌, ◌++◌}
+use Rattle.std.proofs.Common.{Option, Ok, Err, Some, None, refl, sym, ap, ◌∙◌, subst}
 use Rattle.std.specs.Prelude.{slice_get}
 use Rattle.std.specs.List.{list_any}
 use Rattle.cam_names.specs.declared.name.Name.{Name}
 use Rattle.cam_names.specs.Names.{home_node}
 use Rattle.cam_event.specs.declared.Event.{Event}
 use Rattle.cam_event.specs.declared.LineRefusal.{LineRefusal}
-use Rattle.cam_event.specs.declared.LineRefusal.TheVariants as refusals
-use Rattle.cam_event.specs.declared.Want.{Want}
 use Rattle.cam_event.specs.declared.Want.TheVariants as wants
 use Rattle.cam_event.specs.Inputs.{Requests}
 use Rattle.cam_event.specs.Readings.{by_knowledge}
-use Rattle.cam_event.specs.Refusals.{first_of_two, has_call, has_child, has_ended, is_not_open, where_so}
+use Rattle.cam_event.specs.Refusals.{first_of_two, has_call, has_child, has_ended, is_not_open}
 use Rattle.cam_event.specs.Sights.{Sight}
 use Rattle.cam_body.specs.declared.Next.{Next}
 use Rattle.cam_body.specs.declared.Next.TheVariants as nexts
 use Rattle.cam_net.specs.Waiting.{is_halted}
 use Rattle.cam_node.specs.declared.Input.TheVariants as inputs
 use Rattle.cam_node.specs.Log.{Logged}
-use Rattle.cam_runs.specs.Halts.{Halting, appends}
-use Rattle.cam_runs.specs.HaltedLines.{Led, Passed, Refused, act, after_line, halted_or, is_restart}
-use Rattle.cam_runs.specs.HaltedLines.{of_variable, setting, unless}
+use Rattle.cam_runs.specs.Halts.{appends}
+use Rattle.cam_runs.specs.HaltedLines.{Led, Passed, act, after_line, is_restart}
+use Rattle.cam_runs.specs.HaltedLines.{setting}
 use Rattle.cam_runs.specs.HaltedPlaying.{given_body, go, make_request}
 use Rattle.cam_runs.specs.Playing.{go_refusal}
-use Rattle.cam_runs.specs.Requests.{asked_in, home_sight, variable}
-use Rattle.cam_runs.specs.Running.{has_number}
+use Rattle.cam_runs.specs.Requests.{asked_in, home_sight}
 use Rattle.cam_runs.specs.Standing.{Setting, Standing, after_input, made, put}
-use Rattle.cam_runs.specs.UnderHalts.{IsNextStep, IsUnderHalts}
+use Rattle.cam_runs.specs.UnderHalts.{IsUnderHalts}
 use Rattle.cam_runs.proofs.MayAsk.{first_two}
 use Rattle.cam_script.specs.declared.Act.TheVariants as acts
 use Rattle.cam_script.specs.declared.Script.{Script}
 use Rattle.cam_script.specs.declared.Statement.{Statement}
-use Rattle.cam_script.specs.declared.Step.{Step}
 use Rattle.cam_script.specs.Law.{IsScript}
 use Rattle.cam_histories.specs.InputLaws.{halt_of}
-use Rattle.cam_histories.specs.Lines.{line_refusal, test_variable}
-use Rattle.cam_cluster.specs.declared.LineFault.{LineFault}
 use Rattle.cam_cluster.specs.declared.LineFault.TheVariants as line_faults
 use Rattle.cam_cluster.specs.declared.works.Put.{Put}
 use Rattle.cam_cluster.specs.declared.workers.Workers.{Workers}
 use Rattle.cam_cluster.specs.GoLines.{IsGoOfSome, IsLineOfGo, KeepsLinesAtWork}
-use Rattle.cam_cluster.specs.Goes.{GoesOfSome, HasGone, IsSaidOf, KeepsWorkersAsBefore, MayGo, next_of}
-use Rattle.cam_cluster.specs.InputLines.{IsRefusedAs}
+use Rattle.cam_cluster.specs.Goes.{GoesOfSome, HasGone, KeepsWorkersAsBefore, MayGo, next_of}
 use Rattle.cam_cluster.specs.Puts.{KeepsAsBefore}
-use Rattle.cam_cluster.specs.SoFar.{AreLinesOfSome, IsRefused, LinesFields}
-use Rattle.cam_cluster.specs.VariableLines.{AreAtNodes, action_of}
-use Rattle.cam_cluster.specs.Workers.{AreWorkers}
-use Rattle.cam_cluster.specs.Works.{NodeFields, WorksFields}
-use Rattle.cam_cluster.proofs.BegunLine.{next_leads, told_halted}
+use Rattle.cam_cluster.specs.SoFar.{LinesFields}
+use Rattle.cam_cluster.specs.VariableLines.{action_of}
+use Rattle.cam_cluster.specs.Works.{NodeFields}
+use Rattle.cam_cluster.proofs.BegunLine.{next_leads}
 use Rattle.cam_cluster.proofs.Led.{keeps_others}
 use Rattle.cam_cluster.proofs.TriedEnds.{IsSaid}
-use Rattle.cam_cluster.proofs.TriedLine.{refused_line}
-use Rattle.cam_cluster.proofs.TriedNode.{refuses}
-use Rattle.cam_cluster.proofs.VariableEnds.{placed_in_each, stands_for}
 use Rattle.cam_cluster.proofs.WorkersStand.{workers_stay}
+use Rattle.cam_cluster.proofs.GoTests.{home_said, named, node_says, placed, says_node, taken}
+use Rattle.cam_cluster.proofs.GoTests.{tested}
 
 -- a request leaves what the variables stand for
 bound_after_input : (line : ℕ) (again : Bool) (st : Standing) (s : ℕ) (e : Event) (appends : Bool)
@@ -93,208 +83,91 @@ go_free g a none =
     let three = first_two (has_child g a) (is_not_open g a) two.1 in
     (one.0, three.1)
 
--- the run of a script with these bodies, whose next line it is
+-- the node of its home says this of it
+module _ (line v : ℕ) (bodies : List (List Statement)) (old new : LinesFields)
+    (might may : ℕ → Logged → Type 0) (before : Workers)
+    (some : IsGoOfSome line v bodies old might before) (a : Name)
+    (at : action_of old.bound v ≡ Some a) (place : ℕ) (home : home_node a ≡ place + 1)
+    (runs : is_halted old.works.halted (place + 1) ≡ false) (node : NodeFields)
+    (is_node : slice_get old.works.nodes place ≡ Some node) (value : ℤ) (o : Option LineRefusal)
+    (told : IsSaid node (inputs.Request (record { action = a; want = wants.Commit value })) o) where
+  may_go : o ≡ None → (script : Script) (st : Standing) → IsScript script
+      → KeepsLinesAtWork script st old might before → MayGo script st a
+  may_go free script st is keeps =
+      let tests = go_free (home_sight (by_knowledge script.objects) st.running a) a
+      (node_says line v bodies old new might may before some a at place home runs node is_node
+      value o told script st is keeps ∙ free) in record {
+        low = (placed line v bodies old new might may before some a at script st keeps v a (named
+            line v bodies old new might may before some a at script st keeps)).0;
+        high = (placed line v bodies old new might may before some a at script st keeps v a (named
+            line v bodies old new might may before some a at script st keeps)).1;
+        awake = home_said line v bodies old new might may before some a at place home script st
+            false is keeps runs;
+        running = tests.0;
+        is_open = tests.1;
+      }
+
+  -- it may go on
+  pub goes_of_some : o ≡ None → GoesOfSome a bodies old.works might before
+  goes_of_some free = record {
+    script = some.script;
+    standing = some.standing;
+    is_script = some.is_script;
+    bodies_are = some.bodies_are;
+    keeps = some.keeps.lines.runs;
+    are_workers = some.keeps.workers;
+    may = may_go free some.script some.standing some.is_script some.keeps;
+  }
+
+  -- and went on.
+  pub gone_line : o ≡ None → (behind : Workers) (end : Option Put)
+      → HasGone line a bodies old.works might before end new.works may behind
+      → new.bound ≡ old.bound ++ None ∷ []
+      → IsLineOfGo line v bodies old might before new may behind (Ok end)
+  gone_line free behind end has is_now script st halts later is bodies_are keeps next =
+      let c = setting (by_knowledge script.objects) halts
+      (record { line = line; act = acts.Go v }) later in
+      let gone = has script st halts (λ s. list_any (is_restart s) later) is bodies_are
+      keeps.lines.runs keeps.workers (may_go free script st is keeps) in
+      let said = says_node line v bodies old new might may before some a at place home runs node
+      is_node value o told script st is keeps ∙ free in
+      let now : Standing = go c script.bodies st a in
+      let passes = taken line v bodies old new might may before some a at script st None keeps said
+      halts later in record {
+        name = a;
+        at = named line v bodies old new might may before some a at script st keeps;
+        passed = tested line v bodies old new might may before some a at script st None keeps said;
+        made = gone.made;
+        stands = λ ends.
+            subst (λ (p : Passed). KeepsLinesAtWork script (after_line st line p) new may behind)
+            (sym passes) (record {
+              lines = record {
+                runs =
+                    keeps_others script now (after_line st line (Led now None)) new.works
+                    new.works.marks may
+                    (record { trace = refl; lost = refl; delivered = refl }) refl
+                    (gone.runs ends).all_marks
+                    (subst (λ (p : Passed). IsUnderHalts script (after_line st line p)) passes
+                    (next_leads script st (record { line = line; act = acts.Go v }) halts later
+                    is keeps.lines.runs.under next)) (gone.runs ends);
+                variables =
+                    is_now
+                    ∙ ap (λ (bs : List (Option Name)). bs ++ None ∷ [])
+                    (keeps.lines.variables ∙ sym (bound_made c st a _ (next_of script.bodies st
+                    a)));
+              };
+              workers = workers_stay now (after_line st line (Led now None)) behind [] refl refl
+                  (gone.workers ends);
+            });
+      }
+
 module _ (line v : ℕ) (bodies : List (List Statement)) (old new : LinesFields)
     (might may : ℕ → Logged → Type 0) (before : Workers)
     (some : IsGoOfSome line v bodies old might before) where
-  abbrev leads : Standing → Setting → Name → Passed
-  leads st c a = Led (go c bodies st a) None
-
-  still_at_work : (st : Standing) (why : LineRefusal) → AreWorkers st before
-      → AreWorkers (after_line st line (Refused why)) before
-  still_at_work st why are = workers_stay st _ before [] refl refl are
-
-  -- a line that is refused
-  refused_so : (why : LineRefusal) (fault : LineFault)
-      → ((script : Script) (st : Standing) → IsScript script
-      → KeepsLinesAtWork script st old might before
-      → (line_refusal (by_knowledge script.objects) st (acts.Go v) ≡ Some why)
-      × ((halts : Halting) (later : List Step) → act (setting (by_knowledge script.objects) halts (record { line = line; act = acts.Go v }) later) script.bodies st (acts.Go v) ≡ Refused why))
-      → IsRefusedAs line why old might new may fault
-      → IsLineOfGo line v bodies old might before new may before (Err fault)
-  refused_so why line_faults.NoMemory tests has script st halts later is bodies_are keeps next =
-      record { lines = has script st is keeps.lines; workers = keeps.workers }
-  refused_so why (line_faults.Refused told) tests has script st halts later is bodies_are keeps next =
-      let test = tests script st is keeps in record {
-        refused =
-            subst (λ (r : LineRefusal). IsRefused script st line (acts.Go v) r new may) (sym has.0)
-            (refused_line script st halts later line (acts.Go v) why old new might may is keeps.lines
-            next test.0 (test.1 halts later) has.1);
-        workers = still_at_work st told keeps.workers;
-      }
-
-  pub go_unbound : action_of old.bound v ≡ None → (fault : LineFault)
-      → IsRefusedAs line refusals.Unbound old might new may fault
-      → IsLineOfGo line v bodies old might before new may before (Err fault)
-  go_unbound none fault has =
-      refused_so refusals.Unbound fault (λ script st is keeps.
-      let at = stands_for script st old might v None keeps.lines none in (
-        ap (λ o. test_variable o (λ a. halted_or st (home_node a) (go_refusal (home_sight (by_knowledge script.objects) st.running a) a))) at,
-        λ halts later. let c = setting (by_knowledge script.objects) halts (record { line = line; act = acts.Go v }) later in
-            ap (λ o. of_variable o (λ a. unless (halted_or st (home_node a) (go_refusal (home_sight c.reading st.running a) a)) (Led (go c script.bodies st a) None))) at,
-      )) has
-
-  module _ (a : Name) (at : action_of old.bound v ≡ Some a) where
-    -- the home is a node of each such script
-    placed : (script : Script) (st : Standing) → KeepsLinesAtWork script st old might before
-        → AreAtNodes script.nodes st.running.bound
-    placed script st keeps =
-        placed_in_each some.script script some.standing st old might some.keeps.lines keeps.lines
-        some.placed
-
-    named : (script : Script) (st : Standing) → KeepsLinesAtWork script st old might before
-        → variable st.running v ≡ Some a
-    named script st keeps = stands_for script st old might v (Some a) keeps.lines at
-
-    -- what the tests say of the line
-    abbrev says : Script → Standing → Option LineRefusal
-    says script st =
-        halted_or st (home_node a) (go_refusal (home_sight (by_knowledge script.objects) st.running a) a)
-
-    tested : (script : Script) (st : Standing) (o : Option LineRefusal)
-        → KeepsLinesAtWork script st old might before → says script st ≡ o
-        → line_refusal (by_knowledge script.objects) st (acts.Go v) ≡ o
-    tested script st o keeps said =
-        ap (λ x. test_variable x (λ b. halted_or st (home_node b) (go_refusal (home_sight (by_knowledge script.objects) st.running b) b))) (named script st keeps)
-        ∙ said
-
-    taken : (script : Script) (st : Standing) (o : Option LineRefusal)
-        → KeepsLinesAtWork script st old might before → says script st ≡ o
-        → (halts : Halting) (later : List Step)
-        → act (setting (by_knowledge script.objects) halts (record { line = line; act = acts.Go v }) later) script.bodies st (acts.Go v)
-        ≡ unless o (Led (go (setting (by_knowledge script.objects) halts (record { line = line; act = acts.Go v }) later) script.bodies st a) None)
-    taken script st o keeps said halts later =
-        let c = setting (by_knowledge script.objects) halts (record { line = line; act = acts.Go v }) later in
-        ap (λ x. of_variable x (λ b. unless (halted_or st (home_node b) (go_refusal (home_sight c.reading st.running b) b)) (Led (go c script.bodies st b) None))) (named script st keeps)
-        ∙ ap (λ x. unless x (Led (go c script.bodies st a) None)) said
-
-    pub go_low : 1 ≤ home_node a
-    go_low = (some.placed v a (named some.script some.standing some.keeps)).0
-
-    module _ (place : ℕ) (home : home_node a ≡ place + 1) where
-      pub go_there : place < length old.works.nodes
-      go_there =
-          let high = (some.placed v a (named some.script some.standing some.keeps)).1 in
-          let each = some.keeps.lines.runs.one_each in
-          omega (arith, high, each, home)
-
-      home_said : (script : Script) (st : Standing) (b : Bool) → IsScript script
-          → KeepsLinesAtWork script st old might before
-          → is_halted old.works.halted (place + 1) ≡ b → has_number st.halted (home_node a) ≡ b
-      home_said script st b is keeps said =
-          ap (has_number st.halted) home
-          ∙ sym (told_halted script st old.works might is keeps.lines.runs place go_there) ∙ said
-
-      says_by : (script : Script) (st : Standing) (b : Bool) → IsScript script
-          → KeepsLinesAtWork script st old might before
-          → is_halted old.works.halted (place + 1) ≡ b
-          → says script st ≡ first_of_two (where_so b refusals.Halted) (go_refusal (home_sight (by_knowledge script.objects) st.running a) a)
-      says_by script st b is keeps said =
-          ap (λ (x : Bool). first_of_two (where_so x refusals.Halted) (go_refusal (home_sight (by_knowledge script.objects) st.running a) a))
-          (home_said script st b is keeps said)
-
-      pub go_halted : is_halted old.works.halted (place + 1) ≡ true → (fault : LineFault)
-          → IsRefusedAs line refusals.Halted old might new may fault
-          → IsLineOfGo line v bodies old might before new may before (Err fault)
-      go_halted stops fault has =
-          refused_so refusals.Halted fault (λ script st is keeps.
-          let said = says_by script st true is keeps stops in
-          (tested script st (Some refusals.Halted) keeps said, taken script st (Some refusals.Halted) keeps said))
-          has
-
-      -- what the node of the home says of it
-      module _ (runs : is_halted old.works.halted (place + 1) ≡ false) (node : NodeFields)
-          (is_node : slice_get old.works.nodes place ≡ Some node) (value : ℤ)
-          (o : Option LineRefusal)
-          (told : IsSaid node (inputs.Request (record { action = a; want = wants.Commit value })) o) where
-        node_says : (script : Script) (st : Standing) → IsScript script
-            → KeepsLinesAtWork script st old might before
-            → go_refusal (home_sight (by_knowledge script.objects) st.running a) a ≡ o
-        node_says script st is keeps =
-            ap (λ s. go_refusal ((by_knowledge script.objects).sight st.running.trace s) a) home
-            ∙ sym
-            (refuses script st old.works might is keeps.lines.runs place go_there runs node is_node
-            (inputs.Request (record { action = a; want = wants.Commit value })) o home
-            (told script.objects))
-
-        says_node : (script : Script) (st : Standing) → IsScript script
-            → KeepsLinesAtWork script st old might before → says script st ≡ o
-        says_node script st is keeps =
-            says_by script st false is keeps runs ∙ node_says script st is keeps
-
-        pub go_refused : (why : LineRefusal) → o ≡ Some why → (fault : LineFault)
-            → IsRefusedAs line why old might new may fault
-            → IsLineOfGo line v bodies old might before new may before (Err fault)
-        go_refused why is_why fault has =
-            refused_so why fault (λ script st is keeps.
-            let said = says_node script st is keeps ∙ is_why in
-            (tested script st (Some why) keeps said, taken script st (Some why) keeps said)) has
-
-        may_go : o ≡ None → (script : Script) (st : Standing) → IsScript script
-            → KeepsLinesAtWork script st old might before → MayGo script st a
-        may_go free script st is keeps =
-            let tests = go_free (home_sight (by_knowledge script.objects) st.running a) a
-            (node_says script st is keeps ∙ free) in record {
-              low = (placed script st keeps v a (named script st keeps)).0;
-              high = (placed script st keeps v a (named script st keeps)).1;
-              awake = home_said script st false is keeps runs;
-              running = tests.0;
-              is_open = tests.1;
-            }
-
-        -- it may go on
-        pub goes_of_some : o ≡ None → GoesOfSome a bodies old.works might before
-        goes_of_some free = record {
-          script = some.script;
-          standing = some.standing;
-          is_script = some.is_script;
-          bodies_are = some.bodies_are;
-          keeps = some.keeps.lines.runs;
-          are_workers = some.keeps.workers;
-          may = may_go free some.script some.standing some.is_script some.keeps;
-        }
-
-        -- and went on.
-        pub gone_line : o ≡ None → (behind : Workers) (end : Option Put)
-            → HasGone line a bodies old.works might before end new.works may behind
-            → new.bound ≡ old.bound ++ None ∷ []
-            → IsLineOfGo line v bodies old might before new may behind (Ok end)
-        gone_line free behind end has is_now script st halts later is bodies_are keeps next =
-            let c = setting (by_knowledge script.objects) halts
-            (record { line = line; act = acts.Go v }) later in
-            let gone = has script st halts (λ s. list_any (is_restart s) later) is bodies_are
-            keeps.lines.runs keeps.workers (may_go free script st is keeps) in
-            let said = says_node script st is keeps ∙ free in
-            let now : Standing = go c script.bodies st a in
-            let passes = taken script st None keeps said halts later in record {
-              name = a;
-              at = named script st keeps;
-              passed = tested script st None keeps said;
-              made = gone.made;
-              stands = λ ends.
-                  subst (λ (p : Passed). KeepsLinesAtWork script (after_line st line p) new may behind)
-                  (sym passes) (record {
-                    lines = record {
-                      runs =
-                          keeps_others script now (after_line st line (Led now None)) new.works
-                          new.works.marks may
-                          (record { trace = refl; lost = refl; delivered = refl }) refl
-                          (gone.runs ends).all_marks
-                          (subst (λ (p : Passed). IsUnderHalts script (after_line st line p)) passes
-                          (next_leads script st (record { line = line; act = acts.Go v }) halts later
-                          is keeps.lines.runs.under next)) (gone.runs ends);
-                      variables =
-                          is_now
-                          ∙ ap (λ (bs : List (Option Name)). bs ++ None ∷ [])
-                          (keeps.lines.variables ∙ sym (bound_made c st a _ (next_of script.bodies st a)));
-                    };
-                    workers = workers_stay now (after_line st line (Led now None)) behind [] refl refl (gone.workers ends);
-                  });
-            }
-
   -- Memory ran out.
   pub go_wanting : KeepsAsBefore old.works might new.works may
-      → new.bound ≡ old.bound → (behind : Workers) → KeepsWorkersAsBefore old.works might before behind
+      → new.bound ≡ old.bound → (behind : Workers) → KeepsWorkersAsBefore old.works might before
+      behind
       → IsLineOfGo line v bodies old might before new may behind (Err line_faults.NoMemory)
   go_wanting same is_now behind at_work script st halts later is bodies_are keeps next = record {
     lines = record {

@@ -66,7 +66,8 @@ module _ (bodies : List (List Statement)) (a : Name) (works : WorksFields) (old 
       (view (plain_all st.running.trace) a)
       ≡ intention.child
   is_child script st bodies_are events are =
-      ap (λ bs. child_body (body_of bs st.running a) (view (plain_all st.running.trace) a)) (sym bodies_are)
+      ap (λ bs. child_body (body_of bs st.running a) (view (plain_all st.running.trace) a)) (sym
+      bodies_are)
       ∙ sym (intends st (caught_up st events are).1).child
 
 -- It makes none where it waits or is over.

@@ -37,64 +37,69 @@ use Rattle.cam_cluster.proofs.TriedNode.{here, numbers_left, stands}
 -- gives for the step.
 module _ (a : Name) (bodies : List (List Statement)) (works : WorksFields)
     (may : ℕ → Logged → Type 0) (workers : Workers)
-    (goes : GoesOfSome a bodies works may workers) (place : ℕ) (home : home_node a ≡ place + 1) where
-  abbrev st : Standing
-  st = goes.standing
+    (goes : GoesOfSome a bodies works may workers) (place : ℕ) (home : home_node a ≡ place + 1)
+  where
+    abbrev st : Standing
+    st = goes.standing
 
-  pub home_there : place < length works.nodes
-  home_there =
-      let high = goes.may.high in
-      let each = goes.keeps.one_each in
-      omega (arith, high, each, home)
+    pub home_there : place < length works.nodes
+    home_there =
+        let high = goes.may.high in
+        let each = goes.keeps.one_each in
+        omega (arith, high, each, home)
 
-  pub home_within : place < 8
-  home_within = within goes.script st works may goes.is_script goes.keeps place home_there
+    pub home_within : place < 8
+    home_within = within goes.script st works may goes.is_script goes.keeps place home_there
 
-  pub home_awake : is_halted works.halted (place + 1) ≡ false
-  home_awake =
-      told_halted goes.script st works may goes.is_script goes.keeps place home_there
-      ∙ ap (has_number st.halted) (sym home) ∙ goes.may.awake
+    pub home_awake : is_halted works.halted (place + 1) ≡ false
+    home_awake =
+        told_halted goes.script st works may goes.is_script goes.keeps place home_there
+        ∙ ap (has_number st.halted) (sym home) ∙ goes.may.awake
 
-  pub home_runs : (node : NodeFields) → slice_get works.nodes place ≡ Some node
-      → node.halted ≡ false
-  home_runs node at = (goes.keeps.nodes place node at).is_halted ∙ home_awake
+    pub home_runs : (node : NodeFields) → slice_get works.nodes place ≡ Some node
+        → node.halted ≡ false
+    home_runs node at = (goes.keeps.nodes place node at).is_halted ∙ home_awake
 
-  module _ (want : Want) (asks : next_of goes.script.bodies st a ≡ nexts.Request want) where
-    free : refusal ((by_knowledge goes.script.objects).sight st.running.trace (place + 1)) a want
-        ≡ None
-    free =
-        ap (λ s. refusal ((by_knowledge goes.script.objects).sight st.running.trace s) a want)
-        (sym home)
-        ∙ asks_freely goes.script st a goes.is_script goes.keeps.under goes.may want asks
+    module _ (want : Want) (asks : next_of goes.script.bodies st a ≡ nexts.Request want) where
+      free : refusal ((by_knowledge goes.script.objects).sight st.running.trace (place + 1)) a want
+          ≡ None
+      free =
+          ap (λ s. refusal ((by_knowledge goes.script.objects).sight st.running.trace s) a want)
+          (sym home)
+          ∙ asks_freely goes.script st a goes.is_script goes.keeps.under goes.may want asks
 
-    pub home_is_free : (node : NodeFields) → slice_get works.nodes place ≡ Some node
-        → IsNotRefused node.site.node (inputs.Request (record { action = a; want = want }))
-    home_is_free node at =
-        sym
-        (refusal_is_rule goes.script.objects
-        (held_sight goes.script.objects node.site.node.number (map as_carried history) nothing)
-        node.site.node.actions a want
-        (sight_is_answered goes.script.objects node.site.node.number (map as_carried history)
-        nothing node.site.node.actions rep.runs) (home ∙ sym number))
-        ∙ ap (λ s. refusal (held_sight goes.script.objects s (map as_carried history) nothing) a want)
-        number
-        ∙ free
-      where
-        history : List Received
-        history = history_of goes.script.objects st.running.trace (place + 1)
+      pub home_is_free : (node : NodeFields) → slice_get works.nodes place ≡ Some node
+          → IsNotRefused node.site.node (inputs.Request (record { action = a; want = want }))
+      home_is_free node at =
+          sym
+          (refusal_is_rule goes.script.objects
+          (held_sight goes.script.objects node.site.node.number (map as_carried history) nothing)
+          node.site.node.actions a want
+          (sight_is_answered goes.script.objects node.site.node.number (map as_carried history)
+          nothing node.site.node.actions rep.runs) (home ∙ sym number))
+          ∙ ap (λ s. refusal (held_sight goes.script.objects s (map as_carried history) nothing) a
+          want)
+          number
+          ∙ free
+        where
+          history : List Received
+          history = history_of goes.script.objects st.running.trace (place + 1)
 
-        rep : Represents goes.script.objects history node.site.node
-        rep = stands goes.script st works may goes.is_script goes.keeps place home_there home_awake node at
+          rep : Represents goes.script.objects history node.site.node
+          rep = stands goes.script st works may goes.is_script goes.keeps place home_there home_awake
+              node at
 
-        number : node.site.node.number ≡ place + 1
-        number = (here goes.script st works may goes.is_script goes.keeps place home_there home_awake node at).number
+          number : node.site.node.number ≡ place + 1
+          number = (here goes.script st works may goes.is_script goes.keeps place home_there
+              home_awake node at).number
 
-    pub home_has_numbers : (node : NodeFields) → slice_get works.nodes place ≡ Some node
-        → MayStep node.site.node (inputs.Request (record { action = a; want = want }))
-    home_has_numbers node at =
-        numbers_left goes.script st works may goes.is_script goes.keeps place home_there home_awake
-        node at (inputs.Request (record { action = a; want = want })) home
-        (asks_by_body goes.script st a goes.is_script goes.keeps.under goes.may want asks).may.1 free
+      pub home_has_numbers : (node : NodeFields) → slice_get works.nodes place ≡ Some node
+          → MayStep node.site.node (inputs.Request (record { action = a; want = want }))
+      home_has_numbers node at =
+          numbers_left goes.script st works may goes.is_script goes.keeps place home_there home_awake
+          node at (inputs.Request (record { action = a; want = want })) home
+          (asks_by_body goes.script st a goes.is_script goes.keeps.under goes.may want asks).may.1
+          free
 
 -- letters of the event before may be written
 pub goes_writably : (a : Name) (bodies : List (List Statement)) (works : WorksFields)

@@ -56,7 +56,8 @@ pub record HasGoneOn (script : Script) (st : Standing) (c : Setting) (v : ℕ) (
       may_read workers
 
 -- It is refused.
-pub record IsGoRefused (script : Script) (st : Standing) (c : Setting) (v : ℕ) (refusal : LineRefusal)
+pub record IsGoRefused (script : Script) (st : Standing) (c : Setting) (v : ℕ) (refusal :
+    LineRefusal)
     (new : LinesFields) (may_read : ℕ → Logged → Type 0) (at_work : Workers) : Type 0 where
   pub refused : IsRefused script st c.line (acts.Go v) refusal new may_read
   pub workers : AreWorkers (after_line st c.line (Refused refusal)) at_work

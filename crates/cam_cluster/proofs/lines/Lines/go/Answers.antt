@@ -1,13 +1,14 @@
 -- The line `go`.
-use Rattle.std.proofs.Common.{◌≡◌, ◌≤◌, pos, ℕ, ◌+◌, ◌-◌, ◌++◌, ◌∷◌, [], None, Err, refl, sym, ap, ◌∙◌, subst, rules, arith}
+use Rattle.std.proofs.Common.{◌≡◌, ◌≤◌, pos, ℕ, ◌+◌, ◌-◌, ◌++◌, ◌∷◌, [], None, Err, refl, sym, ap}
+use Rattle.std.proofs.Common.{◌∙◌, subst, rules, arith}
 use Rattle.std.proofs.lemmas.Grind.{common_steps}
 use Rattle.cam_net.specs.Waiting.{is_halted}
 use Rattle.cam_cluster.specs.declared.LineFault.TheVariants as line_faults
 use Rattle.cam_cluster.specs.GoLines.{IsLineOfGo}
 use Rattle.cam_cluster.specs.SoFar.{LinesFields}
 use Rattle.cam_cluster.proofs.AsSeen.{lines_of, part, reads_of, works_of}
-use Rattle.cam_cluster.proofs.GoLine.{go_halted, go_low, go_refused, go_there, go_unbound, go_wanting}
-use Rattle.cam_cluster.proofs.GoLine.{goes_of_some, gone_line}
+use Rattle.cam_cluster.proofs.GoLine.{go_wanting, goes_of_some, gone_line}
+use Rattle.cam_cluster.proofs.GoTests.{go_halted, go_low, go_refused, go_there, go_unbound}
 use Rattle.cam_cluster.proofs.PlacedNodes.{after_is, seen_there, taken_there}
 use Rattle.cam_cluster.proofs.TriedEnds.{place_of}
 use Rattle.cam_cluster.proofs.VariableEnds.{home_place}
@@ -19,7 +20,8 @@ returns-in_default-clause-line g c =
     let might = reads_of g.L.CheckpointLog g.L.EntryLog c.args.self.now.works in
     let new = lines_of g.L.CheckpointLog g.L.EntryLog c.refused.new.self in
     let may = reads_of g.L.CheckpointLog g.L.EntryLog c.refused.new.self.works in
-    go_unbound c.args.line c.args.action c.args.bodies.now old new might may c.args.workers.now c.requires.go (sym c.in_default.ensures) c.refused.result c.refused.ensures
+    go_unbound c.args.line c.args.action c.args.bodies.now old new might may c.args.workers.now
+    c.requires.go (sym c.in_default.ensures) c.refused.result c.refused.ensures
 
 pub returns-in_default-clause-servers : goal.returns-in_default-clause-servers
 returns-in_default-clause-servers g c =
@@ -34,7 +36,8 @@ overflow_sub-place g c =
     let old = lines_of g.L.CheckpointLog g.L.EntryLog c.args.self.now in
     let might = reads_of g.L.CheckpointLog g.L.EntryLog c.args.self.now.works in
     let at = sym c.in-Some.ensures in
-    let low = go_low c.args.line c.args.action c.args.bodies.now old old might might c.args.workers.now c.requires.go c.in-Some.name at in
+    let low = go_low c.args.line c.args.action c.args.bodies.now old old might might
+    c.args.workers.now c.requires.go c.in-Some.name at in
     subst (λ (n : ℕ). 1 ≤ n) (sym (ap (λ (p : ℕ × ℕ). p.0) c.home.ensures)) low
 
 pub returns-then-is_halted-clause-line : goal.returns-then-is_halted-clause-line
@@ -44,12 +47,15 @@ returns-then-is_halted-clause-line g c =
     let new = lines_of g.L.CheckpointLog g.L.EntryLog c.refused-then-is_halted.new.self in
     let may = reads_of g.L.CheckpointLog g.L.EntryLog c.refused-then-is_halted.new.self.works in
     let at = sym c.in-Some.ensures in
-    let low = go_low c.args.line c.args.action c.args.bodies.now old old might might c.args.workers.now c.requires.go c.in-Some.name at in
+    let low = go_low c.args.line c.args.action c.args.bodies.now old old might might
+    c.args.workers.now c.requires.go c.in-Some.name at in
     let home = sym (home_place c.home.result _ _ c.home.ensures low) in
     let place = c.home.result.0 - 1 in
     let runs = ap (is_halted c.args.self.now.works.halted) (after_is place) ∙ sym
     c.is_halted.ensures ∙ c.if-is_halted.true in
-    go_halted c.args.line c.args.action c.args.bodies.now old new might may c.args.workers.now c.requires.go c.in-Some.name at place home runs c.refused-then-is_halted.result c.refused-then-is_halted.ensures
+    go_halted c.args.line c.args.action c.args.bodies.now old new might may c.args.workers.now
+    c.requires.go c.in-Some.name at place home runs c.refused-then-is_halted.result
+    c.refused-then-is_halted.ensures
 
 pub returns-then-is_halted-clause-servers : goal.returns-then-is_halted-clause-servers
 returns-then-is_halted-clause-servers g c =
@@ -60,10 +66,12 @@ index-requires g c =
     let old = lines_of g.L.CheckpointLog g.L.EntryLog c.args.self.now in
     let might = reads_of g.L.CheckpointLog g.L.EntryLog c.args.self.now.works in
     let at = sym c.in-Some.ensures in
-    let low = go_low c.args.line c.args.action c.args.bodies.now old old might might c.args.workers.now c.requires.go c.in-Some.name at in
+    let low = go_low c.args.line c.args.action c.args.bodies.now old old might might
+    c.args.workers.now c.requires.go c.in-Some.name at in
     let home = sym (home_place c.home.result _ _ c.home.ensures low) in
     let place = c.home.result.0 - 1 in
-    let within = go_there c.args.line c.args.action c.args.bodies.now old old might might c.args.workers.now c.requires.go c.in-Some.name at place home in
+    let within = go_there c.args.line c.args.action c.args.bodies.now old old might might
+    c.args.workers.now c.requires.go c.in-Some.name at place home in
     let item = place_of (part g.L.CheckpointLog g.L.EntryLog) c.args.self.now.works.nodes.items
     place within in
     first_of (search rules, grind (arith, common_steps, item))
@@ -75,10 +83,12 @@ returns-in-Some-refusal-clause-line g c =
     let new = lines_of g.L.CheckpointLog g.L.EntryLog c.refused-in-Some-refusal.new.self in
     let may = reads_of g.L.CheckpointLog g.L.EntryLog c.refused-in-Some-refusal.new.self.works in
     let at = sym c.in-Some.ensures in
-    let low = go_low c.args.line c.args.action c.args.bodies.now old old might might c.args.workers.now c.requires.go c.in-Some.name at in
+    let low = go_low c.args.line c.args.action c.args.bodies.now old old might might
+    c.args.workers.now c.requires.go c.in-Some.name at in
     let home = sym (home_place c.home.result _ _ c.home.ensures low) in
     let place = c.home.result.0 - 1 in
-    let within = go_there c.args.line c.args.action c.args.bodies.now old old might might c.args.workers.now c.requires.go c.in-Some.name at place home in
+    let within = go_there c.args.line c.args.action c.args.bodies.now old old might might
+    c.args.workers.now c.requires.go c.in-Some.name at place home in
     let item = place_of (part g.L.CheckpointLog g.L.EntryLog) c.args.self.now.works.nodes.items
     place within in
     let taken = taken_there c.args.self.now.works.nodes.items place c.index.result.now item
@@ -87,7 +97,9 @@ returns-in-Some-refusal-clause-line g c =
     place c.index.result.now taken in
     let runs = ap (is_halted c.args.self.now.works.halted) (after_is place) ∙ sym
     c.is_halted.ensures ∙ c.if-is_halted.false in
-    go_refused c.args.line c.args.action c.args.bodies.now old new might may c.args.workers.now c.requires.go c.in-Some.name at place home runs _ seen (pos 0) _ c.in-Some-refusal.ensures.rule c.in-Some-refusal.refusal refl
+    go_refused c.args.line c.args.action c.args.bodies.now old new might may c.args.workers.now
+    c.requires.go c.in-Some.name at place home runs _ seen (pos 0) _
+    c.in-Some-refusal.ensures.rule c.in-Some-refusal.refusal refl
     c.refused-in-Some-refusal.result c.refused-in-Some-refusal.ensures
 
 pub returns-in-Some-refusal-clause-servers : goal.returns-in-Some-refusal-clause-servers
@@ -103,7 +115,8 @@ returns-in_err-reserve_one-clause-line g c =
     let wants : c.from_residual.result ≡ Err line_faults.NoMemory = search rules in
     subst (λ r. IsLineOfGo c.args.line c.args.action c.args.bodies.now old might c.args.workers.now
     new may c.args.workers.now r) (sym wants)
-    (go_wanting c.args.line c.args.action c.args.bodies.now old new might may c.args.workers.now c.requires.go (λ script st is keeps. keeps) c.reserve_one.ensures.same c.args.workers.now
+    (go_wanting c.args.line c.args.action c.args.bodies.now old new might may c.args.workers.now
+    c.requires.go (λ script st is keeps. keeps) c.reserve_one.ensures.same c.args.workers.now
     (λ script st keeps are. are))
 
 pub returns-in_err-reserve_one-clause-servers : goal.returns-in_err-reserve_one-clause-servers
@@ -115,10 +128,12 @@ go-requires-clause-goes g c =
     let old = lines_of g.L.CheckpointLog g.L.EntryLog c.args.self.now in
     let might = reads_of g.L.CheckpointLog g.L.EntryLog c.args.self.now.works in
     let at = sym c.in-Some.ensures in
-    let low = go_low c.args.line c.args.action c.args.bodies.now old old might might c.args.workers.now c.requires.go c.in-Some.name at in
+    let low = go_low c.args.line c.args.action c.args.bodies.now old old might might
+    c.args.workers.now c.requires.go c.in-Some.name at in
     let home = sym (home_place c.home.result _ _ c.home.ensures low) in
     let place = c.home.result.0 - 1 in
-    let within = go_there c.args.line c.args.action c.args.bodies.now old old might might c.args.workers.now c.requires.go c.in-Some.name at place home in
+    let within = go_there c.args.line c.args.action c.args.bodies.now old old might might
+    c.args.workers.now c.requires.go c.in-Some.name at place home in
     let item = place_of (part g.L.CheckpointLog g.L.EntryLog) c.args.self.now.works.nodes.items
     place within in
     let taken = taken_there c.args.self.now.works.nodes.items place c.index.result.now item
@@ -127,7 +142,9 @@ go-requires-clause-goes g c =
     place c.index.result.now taken in
     let runs = ap (is_halted c.args.self.now.works.halted) (after_is place) ∙ sym
     c.is_halted.ensures ∙ c.if-is_halted.false in
-    goes_of_some c.args.line c.args.action c.args.bodies.now old old might might c.args.workers.now c.requires.go c.in-Some.name at place home runs _ seen (pos 0) None c.in_default-refusal.ensures.rule refl
+    goes_of_some c.args.line c.args.action c.args.bodies.now old old might might c.args.workers.now
+    c.requires.go c.in-Some.name at place home runs _ seen (pos 0) None
+    c.in_default-refusal.ensures.rule refl
 
 pub go-requires-clause-servers : goal.go-requires-clause-servers
 go-requires-clause-servers g c =
@@ -145,7 +162,8 @@ returns-in_err-done-clause-line g c =
     let wants : c.from_residual-in_err-done.result ≡ Err line_faults.NoMemory = search rules in
     subst (λ r. IsLineOfGo c.args.line c.args.action c.args.bodies.now old might c.args.workers.now
     new may c.go.new.workers r) (sym wants)
-    (go_wanting c.args.line c.args.action c.args.bodies.now old new might may c.args.workers.now c.requires.go c.in_err-done.ensures.as_before c.reserve_one.ensures.same c.go.new.workers
+    (go_wanting c.args.line c.args.action c.args.bodies.now old new might may c.args.workers.now
+    c.requires.go c.in_err-done.ensures.as_before c.reserve_one.ensures.same c.go.new.workers
     c.in_err-done.ensures.workers_as_before)
 
 pub returns-in_err-done-clause-servers : goal.returns-in_err-done-clause-servers
@@ -166,10 +184,12 @@ returns-clause-line g c =
     } in
     let may = reads_of g.L.CheckpointLog g.L.EntryLog c.go.new.self in
     let at = sym c.in-Some.ensures in
-    let low = go_low c.args.line c.args.action c.args.bodies.now old old might might c.args.workers.now c.requires.go c.in-Some.name at in
+    let low = go_low c.args.line c.args.action c.args.bodies.now old old might might
+    c.args.workers.now c.requires.go c.in-Some.name at in
     let home = sym (home_place c.home.result _ _ c.home.ensures low) in
     let place = c.home.result.0 - 1 in
-    let within = go_there c.args.line c.args.action c.args.bodies.now old old might might c.args.workers.now c.requires.go c.in-Some.name at place home in
+    let within = go_there c.args.line c.args.action c.args.bodies.now old old might might
+    c.args.workers.now c.requires.go c.in-Some.name at place home in
     let item = place_of (part g.L.CheckpointLog g.L.EntryLog) c.args.self.now.works.nodes.items
     place within in
     let taken = taken_there c.args.self.now.works.nodes.items place c.index.result.now item
@@ -178,7 +198,9 @@ returns-clause-line g c =
     place c.index.result.now taken in
     let runs = ap (is_halted c.args.self.now.works.halted) (after_is place) ∙ sym
     c.is_halted.ensures ∙ c.if-is_halted.false in
-    gone_line c.args.line c.args.action c.args.bodies.now old new might may c.args.workers.now c.requires.go c.in-Some.name at place home runs _ seen (pos 0) None c.in_default-refusal.ensures.rule refl c.go.new.workers
+    gone_line c.args.line c.args.action c.args.bodies.now old new might may c.args.workers.now
+    c.requires.go c.in-Some.name at place home runs _ seen (pos 0) None
+    c.in_default-refusal.ensures.rule refl c.go.new.workers
     c.in_ok-done.done c.in_ok-done.ensures.gone
     (c.push_reserved.ensures ∙ ap (λ bs. bs ++ None ∷ []) c.reserve_one.ensures.same)
 

@@ -28,7 +28,8 @@ pub returns-in_err-catch_up-clause-as_before : goal.returns-in_err-catch_up-clau
 returns-in_err-catch_up-clause-as_before g c =
     on_err c.from_residual.result _ (λ script st is keeps. keeps)
 
-pub returns-in_err-catch_up-clause-workers_as_before : goal.returns-in_err-catch_up-clause-workers_as_before
+pub returns-in_err-catch_up-clause-workers_as_before :
+    goal.returns-in_err-catch_up-clause-workers_as_before
 returns-in_err-catch_up-clause-workers_as_before g c =
     on_err c.from_residual.result _ (λ script st keeps are.
     c.catch_up.ensures.stay st (c.as_slice.ensures.value ∙ keeps.events) are)
@@ -45,7 +46,8 @@ pub returns-in_err-reserve-clause-as_before : goal.returns-in_err-reserve-clause
 returns-in_err-reserve-clause-as_before g c =
     on_err c.from_residual-in_err-reserve.result _ (λ script st is keeps. keeps)
 
-pub returns-in_err-reserve-clause-workers_as_before : goal.returns-in_err-reserve-clause-workers_as_before
+pub returns-in_err-reserve-clause-workers_as_before :
+    goal.returns-in_err-reserve-clause-workers_as_before
 returns-in_err-reserve-clause-workers_as_before g c =
     on_err c.from_residual-in_err-reserve.result _ (λ script st keeps are.
     c.reserve.ensures.stay st
@@ -79,7 +81,8 @@ put-requires-clause-place g c =
     let reads = reads_of g.L.CheckpointLog g.L.EntryLog c.args.self.now in
     let goes = c.requires.goes in
     let home = sym (home_place c.home.result _ _ c.home.ensures goes.may.low) in
-    home_within c.args.name.now c.args.bodies.now works reads c.args.workers.now goes (c.home.result.0 - 1) home
+    home_within c.args.name.now c.args.bodies.now works reads c.args.workers.now goes
+    (c.home.result.0 - 1) home
 
 pub put-requires-clause-there : goal.put-requires-clause-there
 put-requires-clause-there g c =
@@ -88,7 +91,8 @@ put-requires-clause-there g c =
     let goes = c.requires.goes in
     let home = sym (home_place c.home.result _ _ c.home.ensures goes.may.low) in
     place_of (part g.L.CheckpointLog g.L.EntryLog) c.args.self.now.nodes.items
-    (c.home.result.0 - 1) (home_there c.args.name.now c.args.bodies.now works reads c.args.workers.now goes (c.home.result.0 - 1) home)
+    (c.home.result.0 - 1) (home_there c.args.name.now c.args.bodies.now works reads
+    c.args.workers.now goes (c.home.result.0 - 1) home)
 
 pub put-requires-clause-may : goal.put-requires-clause-may
 put-requires-clause-may g c =
@@ -111,9 +115,12 @@ put-requires-clause-may g c =
     let seen =
     seen_there (part g.L.CheckpointLog g.L.EntryLog) c.args.self.now.nodes.items
     (c.home.result.0 - 1) node at in (
-      home_runs c.args.name.now c.args.bodies.now works reads c.args.workers.now goes (c.home.result.0 - 1) home _ seen,
-      home_is_free c.args.name.now c.args.bodies.now works reads c.args.workers.now goes (c.home.result.0 - 1) home c.in-Request.want asks _ seen,
-      home_has_numbers c.args.name.now c.args.bodies.now works reads c.args.workers.now goes (c.home.result.0 - 1) home c.in-Request.want asks _ seen,
+      home_runs c.args.name.now c.args.bodies.now works reads c.args.workers.now goes
+          (c.home.result.0 - 1) home _ seen,
+      home_is_free c.args.name.now c.args.bodies.now works reads c.args.workers.now goes
+          (c.home.result.0 - 1) home c.in-Request.want asks _ seen,
+      home_has_numbers c.args.name.now c.args.bodies.now works reads c.args.workers.now goes
+          (c.home.result.0 - 1) home c.in-Request.want asks _ seen,
     ))
 
 pub put-requires-clause-writable : goal.put-requires-clause-writable
@@ -123,18 +130,21 @@ put-requires-clause-writable g c =
     (reads_of g.L.CheckpointLog g.L.EntryLog c.args.self.now) c.args.workers.now
     c.requires.goes
 
-pub returns-in_err-done-in-Request-clause-as_before : goal.returns-in_err-done-in-Request-clause-as_before
+pub returns-in_err-done-in-Request-clause-as_before :
+    goal.returns-in_err-done-in-Request-clause-as_before
 returns-in_err-done-in-Request-clause-as_before g c =
     on_err c.from_residual-in_err-done-in-Request.result _
     c.in_err-done-in-Request.ensures.as_before
 
-pub returns-in_err-done-in-Request-clause-workers_as_before : goal.returns-in_err-done-in-Request-clause-workers_as_before
+pub returns-in_err-done-in-Request-clause-workers_as_before :
+    goal.returns-in_err-done-in-Request-clause-workers_as_before
 returns-in_err-done-in-Request-clause-workers_as_before g c =
     on_err c.from_residual-in_err-done-in-Request.result _ (λ script st keeps are.
     c.reserve.ensures.stay st
     (c.catch_up.ensures.stay st (c.as_slice.ensures.value ∙ keeps.events) are))
 
-pub returns-in_err-done-in-Request-clause-servers : goal.returns-in_err-done-in-Request-clause-servers
+pub returns-in_err-done-in-Request-clause-servers :
+    goal.returns-in_err-done-in-Request-clause-servers
 returns-in_err-done-in-Request-clause-servers g c =
     c.put.ensures.servers
 
