@@ -1,5 +1,5 @@
 -- The request that an action makes next by its body: nothing stands against it, and it may be put.
-use Rattle.std.proofs.Common.{◌≡◌, ℕ, ◌+◌, Bool, true, false, List, [], ◌∷◌, ◌++◌, Option, Some}
+use Rattle.std.proofs.Common.{◌≡◌, ℕ, ◌+◌, Bool, false, List, [], Option, Some}
 use Rattle.std.proofs.Common.{None}
 use Rattle.std.proofs.Common.{refl, sym, ap, ◌∙◌, subst}
 use Rattle.cam_names.specs.declared.name.Name.{Name}
@@ -32,7 +32,7 @@ use Rattle.cam_runs.proofs.BodyRequests.{BodyRequest, body_request_by}
 use Rattle.cam_runs.proofs.HaltedEvents.{ran}
 use Rattle.cam_runs.proofs.HaltedGoes.{go_both}
 use Rattle.cam_runs.proofs.HaltedNew.{asked_new}
-use Rattle.cam_runs.proofs.HaltedPuts.{pasts, put_both, ready_by}
+use Rattle.cam_runs.proofs.HaltedPuts.{put_both, ready_by}
 use Rattle.cam_runs.proofs.Range.{script_in_range}
 use Rattle.cam_script.specs.declared.Script.{Script}
 use Rattle.cam_script.specs.Law.{IsScript}

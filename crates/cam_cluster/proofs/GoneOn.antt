@@ -4,7 +4,6 @@ use Rattle.std.proofs.Common.{◌≡◌, ◌⊎◌, inl, inr, ℕ, ◌+◌, fals
 use Rattle.std.proofs.Common.{sym, ap, ◌∙◌, subst}
 use Rattle.cam_names.specs.declared.name.Name.{Name}
 use Rattle.cam_names.specs.Names.{home_node}
-use Rattle.cam_know.specs.Known.{nothing}
 use Rattle.cam_event.specs.declared.Event.{Event}
 use Rattle.cam_event.specs.declared.Request.{Request}
 use Rattle.cam_event.specs.declared.Want.{Want}
@@ -36,7 +35,6 @@ use Rattle.cam_cluster.specs.Works.{WorksFields}
 use Rattle.cam_cluster.proofs.BodyGoes.{after_bodies, after_stays, gone_on, stayed}
 use Rattle.cam_cluster.proofs.BodyRequests.{child_is_bare, request_put}
 use Rattle.cam_cluster.proofs.Led.{binding_is}
-use Rattle.cam_cluster.proofs.TriedNode.{stands}
 
 -- what a call of the workers says of the bodies of the script and of what stands
 abbrev pub Intends : List (List Statement) → Name → Workers → Intention → Type 0
