@@ -39,11 +39,11 @@ letters_forward es =
     ap (λ (t : List Event). letters t) (sym (append-nil (reverse es))) ∙ forward es []
 
 -- the letters of one event
-ids_many : (event place : ℕ) (sent : List Sent) → length (ids_from event place sent) ≡ length sent
+pub ids_many : (event place : ℕ) (sent : List Sent) → length (ids_from event place sent) ≡ length sent
 ids_many event place [] = refl
 ids_many event place (s ∷ sent) = ap (λ (n : ℕ). suc n) (ids_many event (place + 1) sent)
 
-id_there : (event place : ℕ) (sent : List Sent) (k : ℕ) → k < length sent
+pub id_there : (event place : ℕ) (sent : List Sent) (k : ℕ) → k < length sent
     → slice_get (ids_from event place sent) k ≡ Some (record { event = event; place = place + k })
 id_there event place [] k less = absurd (omega (arith, less))
 id_there event place (s ∷ sent) zero less =

@@ -29,3 +29,4 @@ pub mod LetterLines
 pub mod Drains
 pub mod Goes
 pub mod GoLines
+pub mod LetterCounts

@@ -15,17 +15,19 @@ ghost use Rattle.cam_cluster.specs.Servers.{AreServers};
 mod drain;
 mod go;
 mod letters;
+mod numbered;
 
 use crate::room::{push_reserved, reserve_one};
 use crate::servers::Servers;
 use cam_base::NoMemory;
 use cam_ckpt::CheckpointLog;
-use cam_event::{Event, Mark};
+use cam_event::Mark;
 use cam_log::EntryLog;
 use cam_net::Outbox;
 use cam_node::{Input, Node, Stepped};
 use cam_type::DataType;
 pub(crate) use letters::Coming;
+pub(crate) use numbered::NumberedEvents;
 
 /// How an input ended that was put to a node.
 #[derive(Clone, Copy, Debug)]
@@ -42,7 +44,7 @@ pub(crate) struct Works<L: CheckpointLog> {
     pub(crate) nodes: Vec<Node<L>>,
     pub(crate) outbox: Outbox,
     pub(crate) halted: [bool; 8],
-    pub(crate) events: Vec<Event>,
+    pub(crate) events: NumberedEvents,
     pub(crate) marks: Vec<Mark>,
 }
 
@@ -71,7 +73,7 @@ impl<L: CheckpointLog> AsWorks for Works<L> {
       }) works.nodes.items;
       outbox = works.outbox;
       halted = works.halted;
-      events = works.events.items;
+      events = works.events.events.items;
       marks = works.marks.items;
     } };
 
@@ -142,38 +144,37 @@ impl<L: CheckpointLog> Works<L> {
         requires { AllByRecursion IsWritable self.old.outbox.unput }
         ensures nodes { self.new.nodes ≡ self.old.nodes }
         ensures halted { self.new.halted ≡ self.old.halted }
-        ensures events { self.new.events.items ≡ self.old.events.items }
+        ensures events { self.new.events.events.items ≡ self.old.events.events.items }
         ensures marks { self.new.marks.items ≡ self.old.marks.items }
         ensures some { HasPutSome self.old.outbox self.new.outbox }
         ensures all { OnOk result (self.new.outbox.unput ≡ []) }
-        ensures few { OnOk result (length self.new.events.items + 1 < 1000000000) }
-        ensures event_room { OnOk result (vec_len self.new.events < vec_capacity self.new.events) }
+        ensures few { OnOk result (length self.new.events.events.items + 1 < 1000000000) }
+        ensures event_room { OnOk result (
+            (vec_len self.new.events.events < vec_capacity self.new.events.events)
+            × (vec_len self.new.events.counts < vec_capacity self.new.events.counts)) }
         ensures mark_room { OnOk result (vec_len self.new.marks < vec_capacity self.new.marks) }
     {
         self.outbox.put_all()?;
         if self.events.len() >= 999_999_999 {
             return Err(NoMemory);
         }
-        reserve_one(&mut self.events)?;
+        self.events.reserve_one()?;
         reserve_one(&mut self.marks)?;
         Ok(())
     }
 
     /// The event stands, and its letters are put next.
     fn stand(&mut self, stepped: Stepped)
-        requires room { vec_len self.old.events < vec_capacity self.old.events }
+        requires room { (vec_len self.old.events.events < vec_capacity self.old.events.events)
+            × (vec_len self.old.events.counts < vec_capacity self.old.events.counts) }
         requires none { self.old.outbox.unput ≡ [] }
         ensures nodes { self.new.nodes ≡ self.old.nodes }
         ensures halted { self.new.halted ≡ self.old.halted }
-        ensures events { self.new.events.items ≡ self.old.events.items ++ stepped.event ∷ [] }
+        ensures events { self.new.events.events.items ≡ self.old.events.events.items ++ stepped.event ∷ [] }
         ensures marks { self.new.marks ≡ self.old.marks }
         ensures outbox { self.new.outbox ≡ record { net = self.old.outbox.net; unput = stepped.letters } }
     {
-        match self.events.push(stepped.event) {
-            Ok(()) => {}
-            // there is room
-            Err(_) => unreachable!(),
-        }
+        self.events.push(stepped.event);
         self.outbox.send(stepped.letters);
     }
 

@@ -7,7 +7,7 @@ ghost use Rattle.cam_node.specs.Calls.{answers};
 ghost use Rattle.cam_node.specs.Numbers.{MayStep};
 ghost use Rattle.cam_wire.specs.Writable.{IsWritable};
 ghost use Rattle.cam_cluster.specs.Coming.{AreWorksOfSome, HasArrived, HasDelivered, HasFound};
-ghost use Rattle.cam_cluster.specs.Coming.{HasRead, numbered};
+ghost use Rattle.cam_cluster.specs.Coming.{HasRead};
 ghost use Rattle.cam_cluster.specs.Puts.{KeepsAsBefore};
 ghost use Rattle.cam_cluster.specs.Servers.{AreServers};
 
@@ -25,26 +25,6 @@ use cam_type::DataType;
 pub(crate) struct Coming {
     pub(crate) letter: LetterId,
     pub(crate) place: usize,
-}
-
-/// The letter of this number among those that these events sent.
-fn numbered(events: &[Event], number: u32) -> Option<LetterId>
-    ensures { result ≡ numbered events.now number }
-{
-    let mut left = number.checked_sub(1)?;
-    let mut place = 0;
-    while place < events.len() {
-        let many = events[place].sent.len();
-        if (left as usize) < many {
-            return Some(LetterId {
-                event: place as u64,
-                place: left,
-            });
-        }
-        left -= many as u32;
-        place += 1;
-    }
-    None
 }
 
 /// The node to which these events sent a letter.
@@ -84,7 +64,7 @@ impl<L: CheckpointLog> Works<L> {
         if self.outbox.net().whole(number).is_none() {
             return None;
         }
-        let letter = numbered(self.events.as_slice(), number)?;
+        let letter = self.events.numbered(number)?;
         let to = receiver(self.events.as_slice(), &letter)?;
         let place = (to as usize).checked_sub(1)?;
         Some(Coming { letter, place })
@@ -108,7 +88,7 @@ impl<L: CheckpointLog> Works<L> {
             (⟦<Works<L> as AsWorks>⟧.fields self.now) (⟦<Works<L> as AsWorks>⟧.may_read self.now)) }
     {
         match self.outbox.net().cut(number, bytes) {
-            Some(left) => read_arrival(*self.events.allocator(), left),
+            Some(left) => read_arrival(self.events.allocator(), left),
             // the network has it
             None => unreachable!(),
         }
@@ -130,7 +110,7 @@ impl<L: CheckpointLog> Works<L> {
             // the network has it
             unreachable!()
         };
-        match read_arrival(*self.events.allocator(), bytes)? {
+        match read_arrival(self.events.allocator(), bytes)? {
             Arrival::Whole(letter) => Ok(letter),
             // these are all bytes of a letter
             Arrival::Cut(_) => unreachable!(),

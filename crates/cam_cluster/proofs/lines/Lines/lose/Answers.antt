@@ -84,7 +84,7 @@ returns-in_err-refuse g c =
             works =
                 seen (part g.L.CheckpointLog g.L.EntryLog) (tells_of g.L.CheckpointLog g.L.EntryLog) (reads_at g.L.CheckpointLog g.L.EntryLog)
                 c.put_letters.new.self.nodes.items o c.put_letters.new.self.halted
-                c.put_letters.new.self.events.items c.put_letters.new.self.marks.items;
+                c.put_letters.new.self.events.events.items c.put_letters.new.self.marks.items;
             bound = c.reserve_one.new.list.items;
           }) (reads_of g.L.CheckpointLog g.L.EntryLog c.put_letters.new.self) (lines_of g.L.CheckpointLog g.L.EntryLog c.refuse.new.self) (reads_of g.L.CheckpointLog g.L.EntryLog c.refuse.new.self.works))
           (c.lose.ensures.unchanged c.if-not-lose.true) c.in_err-refuse.ensures.as_before)));
@@ -104,7 +104,7 @@ returns-then-not-lose g c = record {
         works =
             seen (part g.L.CheckpointLog g.L.EntryLog) (tells_of g.L.CheckpointLog g.L.EntryLog) (reads_at g.L.CheckpointLog g.L.EntryLog)
             c.put_letters.new.self.nodes.items o c.put_letters.new.self.halted
-            c.put_letters.new.self.events.items c.put_letters.new.self.marks.items;
+            c.put_letters.new.self.events.events.items c.put_letters.new.self.marks.items;
         bound = c.reserve_one.new.list.items;
       }) (reads_of g.L.CheckpointLog g.L.EntryLog c.put_letters.new.self) (lines_of g.L.CheckpointLog g.L.EntryLog c.refuse.new.self) (reads_of g.L.CheckpointLog g.L.EntryLog c.refuse.new.self.works))
       (c.lose.ensures.unchanged c.if-not-lose.true) c.in_ok-refuse.ensures.refused);
@@ -122,7 +122,7 @@ returns g c = record {
         works =
             seen (part g.L.CheckpointLog g.L.EntryLog) (tells_of g.L.CheckpointLog g.L.EntryLog) (reads_at g.L.CheckpointLog g.L.EntryLog)
             c.put_letters.new.self.nodes.items o c.put_letters.new.self.halted
-            c.put_letters.new.self.events.items c.put_letters.new.self.marks.items;
+            c.put_letters.new.self.events.events.items c.put_letters.new.self.marks.items;
         bound = c.push_reserved.new.list.items;
       }) (reads_of g.L.CheckpointLog g.L.EntryLog c.put_letters.new.self) (Ok tt)) (sym c.lose.ensures.lost)
       (loss_ends c.args.line c.args.letter (lines_of g.L.CheckpointLog g.L.EntryLog c.args.self.now) (reads_of g.L.CheckpointLog g.L.EntryLog c.args.self.now.works) (reads_of g.L.CheckpointLog g.L.EntryLog c.put_letters.new.self)

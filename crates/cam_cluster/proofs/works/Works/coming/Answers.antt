@@ -2,7 +2,7 @@
 use Rattle.std.proofs.Common.{Some, None, sym, ap, ◌∙◌, subst, rules, arith}
 use Rattle.std.specs.Prelude.{option_map, reverse}
 use Rattle.cam_event.specs.Inputs.{letter_at}
-use Rattle.cam_cluster.specs.Coming.{IsFound, numbered}
+use Rattle.cam_cluster.specs.Coming.{IsFound}
 use Rattle.cam_cluster.proofs.AsSeen.{reads_of, works_of}
 use Rattle.cam_cluster.proofs.ComingLetters.{found_lost, found_there, has_as, is_numbered}
 use Rattle.cam_cluster.proofs.ComingLetters.{no_receiver, receiver_is}
@@ -25,8 +25,7 @@ returns-in_err-letter g c = record {
       (reads_of g.L.CheckpointLog g.L.EntryLog c.args.self.now) keeps c.requires.all c.args.number None
       (has_as c.whole.result (λ b. b.now) c.args.self.now.outbox.net c.net.result.now
       c.args.number c.whole.ensures c.net.ensures ∙ c.if-is_none.ensures)
-      (sym c.in_err-letter.was ∙ c.numbered.ensures
-      ∙ ap (λ es. numbered es c.args.number) c.as_slice.ensures.value));
+      (sym c.in_err-letter.was ∙ c.numbered.ensures));
 }
 
 pub returns-in_err-to : goal.returns-in_err-to
@@ -40,11 +39,10 @@ returns-in_err-to g c = record {
       (Some c.in_ok-letter.letter)
       (has_as c.whole.result (λ b. b.now) c.args.self.now.outbox.net c.net.result.now
       c.args.number c.whole.ensures c.net.ensures ∙ c.if-is_none.ensures)
-      (sym c.in_ok-letter.was ∙ c.numbered.ensures
-      ∙ ap (λ es. numbered es c.args.number) c.as_slice.ensures.value))
+      (sym c.in_ok-letter.was ∙ c.numbered.ensures))
       (sym c.in_err-to.was ∙ c.receiver.ensures
       ∙ ap (λ es. option_map (λ m. m.to) (letter_at (reverse es) c.in_ok-letter.letter))
-      c.as_slice-2.ensures.value));
+      c.as_slice.ensures.value));
 }
 
 pub overflow_cast-to : goal.overflow_cast-to
@@ -63,11 +61,10 @@ returns-in_err-place g c = record {
       (Some c.in_ok-letter.letter)
       (has_as c.whole.result (λ b. b.now) c.args.self.now.outbox.net c.net.result.now
       c.args.number c.whole.ensures c.net.ensures ∙ c.if-is_none.ensures)
-      (sym c.in_ok-letter.was ∙ c.numbered.ensures
-      ∙ ap (λ es. numbered es c.args.number) c.as_slice.ensures.value))
+      (sym c.in_ok-letter.was ∙ c.numbered.ensures))
       (sym c.in_ok-to.was ∙ c.receiver.ensures
       ∙ ap (λ es. option_map (λ m. m.to) (letter_at (reverse es) c.in_ok-letter.letter))
-      c.as_slice-2.ensures.value)).0);
+      c.as_slice.ensures.value)).0);
 }
 
 pub returns : goal.returns
@@ -78,10 +75,9 @@ returns g c = record {
       c.in_ok-place.place c.in_ok-letter.letter c.in_ok-to.to
       (has_as c.whole.result (λ b. b.now) c.args.self.now.outbox.net c.net.result.now
       c.args.number c.whole.ensures c.net.ensures ∙ c.if-is_none.ensures)
-      (sym c.in_ok-letter.was ∙ c.numbered.ensures
-      ∙ ap (λ es. numbered es c.args.number) c.as_slice.ensures.value)
+      (sym c.in_ok-letter.was ∙ c.numbered.ensures)
       (sym c.in_ok-to.was ∙ c.receiver.ensures
       ∙ ap (λ es. option_map (λ m. m.to) (letter_at (reverse es) c.in_ok-letter.letter))
-      c.as_slice-2.ensures.value)
+      c.as_slice.ensures.value)
       (λ low. let is = c.in_ok-place.ensures.1 in omega (arith, is, low));
 }

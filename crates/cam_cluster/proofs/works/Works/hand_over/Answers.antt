@@ -84,7 +84,7 @@ returns-clause-delivered g c =
     (works_of g.L.CheckpointLog g.L.EntryLog old) (reads_of g.L.CheckpointLog g.L.EntryLog old)
     c.in_ok-done.done
     (seen (part g.L.CheckpointLog g.L.EntryLog) (tells_of g.L.CheckpointLog g.L.EntryLog)
-    (reads_at g.L.CheckpointLog g.L.EntryLog) mid.nodes.items o mid.halted mid.events.items
+    (reads_at g.L.CheckpointLog g.L.EntryLog) mid.nodes.items o mid.halted mid.events.events.items
     mid.marks.items)
     (reads_of g.L.CheckpointLog g.L.EntryLog mid)) (sym c.delivered.ensures)
     (handed c.args.line c.args.number c.args.coming.now c.args.letter

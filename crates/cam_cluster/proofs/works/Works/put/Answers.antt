@@ -23,8 +23,8 @@ returns-in_err-make_room-clause-as_before g c =
     let mid = c.make_room.new.self in
     on_err c.from_residual.result _ (room_made (part g.L.CheckpointLog g.L.EntryLog) (tells_of g.L.CheckpointLog g.L.EntryLog)
     (reads_at g.L.CheckpointLog g.L.EntryLog)
-    old.nodes.items mid.nodes.items old.outbox mid.outbox old.halted mid.halted old.events.items
-    mid.events.items old.marks.items mid.marks.items
+    old.nodes.items mid.nodes.items old.outbox mid.outbox old.halted mid.halted old.events.events.items
+    mid.events.events.items old.marks.items mid.marks.items
     (ap (λ v. v.items) c.make_room.ensures.nodes) c.make_room.ensures.some
     c.make_room.ensures.halted c.make_room.ensures.events c.make_room.ensures.marks)
 
@@ -75,12 +75,12 @@ returns-then-not-is_halted-clause-as_before g c =
     λ script st is keeps.
     as_before_in (part g.L.CheckpointLog g.L.EntryLog) (tells_of g.L.CheckpointLog g.L.EntryLog)
     (reads_at g.L.CheckpointLog g.L.EntryLog)
-    c.args.place mid.nodes.items mid.outbox mid.halted mid.events.items mid.marks.items node new
+    c.args.place mid.nodes.items mid.outbox mid.halted mid.events.events.items mid.marks.items node new
     (subst (λ n. c.args.place < n) (ap (λ v. length v.items) (sym c.make_room.ensures.nodes)) c.requires.there) c.requires.place c.index_mut.ensures.value _ refl c.step.ensures.objects ran runs (c.in-Err.ensures.same runs) c.in-Err.ensures.not_listed
     script st is (room_made (part g.L.CheckpointLog g.L.EntryLog) (tells_of g.L.CheckpointLog g.L.EntryLog)
     (reads_at g.L.CheckpointLog g.L.EntryLog)
-    old.nodes.items mid.nodes.items old.outbox mid.outbox old.halted mid.halted old.events.items
-    mid.events.items old.marks.items mid.marks.items
+    old.nodes.items mid.nodes.items old.outbox mid.outbox old.halted mid.halted old.events.events.items
+    mid.events.events.items old.marks.items mid.marks.items
     (ap (λ v. v.items) c.make_room.ensures.nodes) c.make_room.ensures.some
     c.make_room.ensures.halted c.make_room.ensures.events c.make_room.ensures.marks script st is keeps)
 
@@ -106,20 +106,20 @@ returns-in-Ok-clause-put g c =
     seen_as (part g.L.CheckpointLog g.L.EntryLog) (tells_of g.L.CheckpointLog g.L.EntryLog)
     (reads_at g.L.CheckpointLog g.L.EntryLog)
     script _ end.nodes.items (record { net = mid.outbox.net; unput = c.in-Ok.stepped.letters }) end.outbox
-    mid.halted end.halted (mid.events.items ++ c.in-Ok.stepped.event ∷ []) end.events.items
+    mid.halted end.halted (mid.events.events.items ++ c.in-Ok.stepped.event ∷ []) end.events.events.items
     mid.marks.items end.marks.items c.stand.ensures.outbox c.stand.ensures.halted
     c.stand.ensures.events (ap (λ v. v.items) c.stand.ensures.marks)
     (stood_in (part g.L.CheckpointLog g.L.EntryLog) (tells_of g.L.CheckpointLog g.L.EntryLog)
     (reads_at g.L.CheckpointLog g.L.EntryLog)
-    c.args.place mid.nodes.items mid.outbox mid.halted mid.events.items mid.marks.items node new
+    c.args.place mid.nodes.items mid.outbox mid.halted mid.events.events.items mid.marks.items node new
     (subst (λ n. c.args.place < n) (ap (λ v. length v.items) (sym c.make_room.ensures.nodes)) c.requires.there) c.requires.place c.index_mut.ensures.value end.nodes.items (ap (λ v. v.items) c.stand.ensures.nodes) c.step.ensures.objects
     c.args.line c.args.input.now c.in-Ok.stepped.event c.in-Ok.stepped.letters
     c.in_ok-make_room.ensures.all c.in_ok-make_room.ensures.few (c.in-Ok.ensures.runs ∙ sym ran)
     c.in-Ok.ensures.step c.in-Ok.ensures.keeps c.in-Ok.ensures.letters script st halts restarted is
     (room_made (part g.L.CheckpointLog g.L.EntryLog) (tells_of g.L.CheckpointLog g.L.EntryLog)
     (reads_at g.L.CheckpointLog g.L.EntryLog)
-    old.nodes.items mid.nodes.items old.outbox mid.outbox old.halted mid.halted old.events.items
-    mid.events.items old.marks.items mid.marks.items
+    old.nodes.items mid.nodes.items old.outbox mid.outbox old.halted mid.halted old.events.events.items
+    mid.events.events.items old.marks.items mid.marks.items
     (ap (λ v. v.items) c.make_room.ensures.nodes) c.make_room.ensures.some
     c.make_room.ensures.halted c.make_room.ensures.events c.make_room.ensures.marks script st is keeps) put_so none)
 
@@ -135,20 +135,20 @@ returns-else-not-is_halted-clause-put g c =
     seen_as (part g.L.CheckpointLog g.L.EntryLog) (tells_of g.L.CheckpointLog g.L.EntryLog)
     (reads_at g.L.CheckpointLog g.L.EntryLog)
     script _ end.nodes.items mid.outbox end.outbox (set mid.halted c.args.place true) end.halted
-    mid.events.items end.events.items
+    mid.events.events.items end.events.events.items
     (mid.marks.items ++ marks.Halted c.args.line (c.args.place + 1) false ∷ []) end.marks.items
-    c.halt.ensures.outbox c.halt.ensures.halted (ap (λ v. v.items) c.halt.ensures.events)
+    c.halt.ensures.outbox c.halt.ensures.halted (ap (λ v. v.events.items) c.halt.ensures.events)
     c.halt.ensures.marks
     (halted_in (part g.L.CheckpointLog g.L.EntryLog) (tells_of g.L.CheckpointLog g.L.EntryLog)
     (reads_at g.L.CheckpointLog g.L.EntryLog)
-    c.args.place mid.nodes.items mid.outbox mid.halted mid.events.items mid.marks.items node new
+    c.args.place mid.nodes.items mid.outbox mid.halted mid.events.events.items mid.marks.items node new
     (subst (λ n. c.args.place < n) (ap (λ v. length v.items) (sym c.make_room.ensures.nodes)) c.requires.there) c.requires.place c.index_mut.ensures.value end.nodes.items (ap (λ v. v.items) c.halt.ensures.nodes) c.step.ensures.objects
     c.args.line c.args.input.now c.in_ok-make_room.ensures.all stops c.step.ensures.number
     (λ told. c.step.ensures.halt (sym c.step.ensures.tells ∙ told) stops) script st halts restarted is
     (room_made (part g.L.CheckpointLog g.L.EntryLog) (tells_of g.L.CheckpointLog g.L.EntryLog)
     (reads_at g.L.CheckpointLog g.L.EntryLog)
-    old.nodes.items mid.nodes.items old.outbox mid.outbox old.halted mid.halted old.events.items
-    mid.events.items old.marks.items mid.marks.items
+    old.nodes.items mid.nodes.items old.outbox mid.outbox old.halted mid.halted old.events.events.items
+    mid.events.events.items old.marks.items mid.marks.items
     (ap (λ v. v.items) c.make_room.ensures.nodes) c.make_room.ensures.some
     c.make_room.ensures.halted c.make_room.ensures.events c.make_room.ensures.marks script st is keeps) put_so lost)
 
