@@ -3,7 +3,7 @@ use Rattle.std.proofs.Common.{ℕ, ◌≤◌, sym, ap, ◌∙◌, subst, rules}
 use Rattle.std.specs.Prelude.{ltb}
 use Rattle.std.proofs.lemmas.List.Sorted.{IsPartitionPoint-from_clause}
 use Rattle.cam_cluster.specs.LetterCounts.{count_before}
-use Rattle.cam_cluster.proofs.LetterCounts.{before_number, none_found, one_found, parted}
+use Rattle.cam_cluster.proofs.CountedLetters.{before_number, none_found, one_found, parted}
 use Rattle.cam_cluster.proofs.works.numbered.NumberedEvents.numbered.Goals as goal
 
 pub returns-then-place-len : goal.returns-then-place-len

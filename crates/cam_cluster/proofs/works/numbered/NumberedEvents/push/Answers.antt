@@ -1,6 +1,6 @@
 -- One more event, and its count.
-use Rattle.std.proofs.Common.{sym, ap, ◌∙◌, subst, rules, arith, ◌≤◌, length, ◌++◌, ◌∷◌, []}
-use Rattle.std.specs.Prelude.{min, ◌+◌, reverse, vec_len}
+use Rattle.std.proofs.Common.{sym, ap, ◌∙◌, arith}
+use Rattle.std.specs.Prelude.{min, ◌+◌, reverse}
 use Rattle.std.proofs.lemmas.Grind.{common_steps}
 use Rattle.cam_cluster.specs.LetterCounts.{count_before, letter_counts, most_letters}
 use Rattle.cam_cluster.proofs.LetterCounts.{as_many, counts_with}
