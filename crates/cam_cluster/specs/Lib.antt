@@ -30,3 +30,4 @@ pub mod Drains
 pub mod Goes
 pub mod GoLines
 pub mod LetterCounts
+pub mod Stops

@@ -22,6 +22,7 @@ mod one_input;
 mod query;
 mod requests;
 mod start;
+mod stop;
 mod tell;
 
 use crate::room::{push_reserved, reserve_one};

@@ -16,6 +16,7 @@ mod drain;
 mod go;
 mod letters;
 mod numbered;
+mod stop;
 
 use crate::room::{push_reserved, reserve_one};
 use crate::servers::Servers;

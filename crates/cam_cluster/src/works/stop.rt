@@ -1,0 +1,20 @@
+//! A node's disk is stopped after some calls more, or does all calls again.
+ghost use Rattle.std.specs.Prelude.{◌<◌, length};
+ghost use Rattle.cam_cluster.specs.Puts.{KeepsAsBefore};
+
+use super::{AsWorks, Works};
+use cam_ckpt::CheckpointLog;
+use cam_log::StopLog;
+
+impl<L: CheckpointLog + StopLog> Works<L> {
+    /// The disk of the node at a place does this many calls more. What is kept stays.
+    #[tactic(none)]
+    pub(crate) fn stop_after(&mut self, place: usize, calls: u32)
+        requires { place < length self.old.nodes.items }
+        ensures { KeepsAsBefore
+            (⟦<Works<L> as AsWorks>⟧.fields self.old) (⟦<Works<L> as AsWorks>⟧.may_read self.old)
+            (⟦<Works<L> as AsWorks>⟧.fields self.new) (⟦<Works<L> as AsWorks>⟧.may_read self.new) }
+    {
+        self.nodes[place].stop_after(calls);
+    }
+}
