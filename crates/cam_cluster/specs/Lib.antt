@@ -31,3 +31,4 @@ pub mod Goes
 pub mod GoLines
 pub mod LetterCounts
 pub mod Stops
+pub mod Restarts

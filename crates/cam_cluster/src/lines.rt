@@ -21,6 +21,7 @@ mod lose;
 mod one_input;
 mod query;
 mod requests;
+mod restart;
 mod start;
 mod stop;
 mod tell;

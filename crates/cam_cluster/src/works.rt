@@ -16,6 +16,7 @@ mod drain;
 mod go;
 mod letters;
 mod numbered;
+mod restart;
 mod stop;
 
 use crate::room::{push_reserved, reserve_one};
@@ -29,6 +30,7 @@ use cam_node::{Input, Node, Stepped};
 use cam_type::DataType;
 pub(crate) use letters::Coming;
 pub(crate) use numbered::NumberedEvents;
+pub(crate) use restart::Restart;
 
 /// How an input ended that was put to a node.
 #[derive(Clone, Copy, Debug)]

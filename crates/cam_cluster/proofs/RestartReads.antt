@@ -1,0 +1,134 @@
+-- What a restart reads of a node's log, and what a node tells of it before its disk was cleared.
+use Rattle.std.proofs.Common.{◌≡◌, ◌⊎◌, inl, inr, ℕ, Bool, List, [], ◌∷◌, Option, None}
+use Rattle.std.proofs.Common.{Ok, Err, refl, sym, ap, ◌∙◌, subst}
+use Rattle.std.specs.Prelude.{IfOk, OnErr, Result}
+use Rattle.cam_type.specs.declared.ObjectDecl.{ObjectDecl}
+use Rattle.cam_event.specs.declared.Event.{Event}
+use Rattle.cam_event.specs.ByDeltas.{Received}
+use Rattle.cam_event.specs.Inputs.{Restarts}
+use Rattle.cam_event.specs.Loads.{no_load}
+use Rattle.cam_log.specs.Moments.{Opened}
+use Rattle.cam_node.specs.declared.found.Restarted.{Restarted}
+use Rattle.cam_node.specs.Found.{HasRestarted}
+use Rattle.cam_node.specs.Halting.{IsEnded, IsThrough}
+use Rattle.cam_node.specs.Keeping.{IsHalt, IsLogOf, IsLogOfEither, IsRestartHalt, IsRestartOf}
+use Rattle.cam_node.specs.Keeping.{KeepsHistory, KeepsNode}
+use Rattle.cam_node.specs.Halting.{taken_step}
+use Rattle.cam_node.specs.Log.{Logged}
+use Rattle.cam_node.specs.Opened.{MayRead, logged_of}
+use Rattle.cam_node.specs.Represents.{Node}
+use Rattle.cam_recman.specs.declared.RecFault.{RecFault}
+use Rattle.cam_recman.specs.declared.Recovered.{Recovered}
+use Rattle.cam_recman.specs.Recovery.{recover, recovered_of}
+
+pub ok_so : {T E : Type 0} (result : Result T E) (P Q : T → Type 0) → ((x : T) → P x → Q x)
+    → IfOk result P → IfOk result Q
+ok_so (Ok x) P Q so holds = so x holds
+ok_so (Err e) P Q so holds = tt
+
+pub err_so : {T E : Type 0} (result : Result T E) (P Q : Type 0) → (P → Q) → OnErr result P
+    → OnErr result Q
+err_so (Ok x) P Q so holds = tt
+err_so (Err e) P Q so holds = so holds
+
+-- what was told of the cleared node holds of the node before
+pub restarted_was : (objects over : List ObjectDecl) (s n : ℕ) (told tells : Bool)
+    (might was : Logged → Type 0) (node before : Node) (at halted_at : Option Event) (new : Node)
+    (now : List (List ℕ)) (r : Restarted)
+    → objects ≡ over → s ≡ n → told ≡ tells → node ≡ before → at ≡ halted_at
+    → ((logged : Logged) → might logged → was logged)
+    → HasRestarted objects s told might node at new now r
+    → HasRestarted over n tells was before halted_at new now r
+restarted_was objects over s n told tells might was node before at halted_at new now r is_o is_s is_t
+    is_n is_h back has =
+    subst (λ (xs : List ObjectDecl). HasRestarted xs n tells was before halted_at new now r) is_o
+    (subst (λ (m : ℕ). HasRestarted objects m tells was before halted_at new now r) is_s
+    (subst (λ (b : Bool). HasRestarted objects s b was before halted_at new now r) is_t
+    (subst (λ (x : Node). HasRestarted objects s told was x halted_at new now r) is_n
+    (subst (λ (o : Option Event). HasRestarted objects s told was node o new now r) is_h
+    (record {
+      read = has.read;
+      kept = has.kept;
+      left = has.left;
+      renewed = has.renewed;
+      event = has.event;
+      was = λ yes. back (logged_of has.left.recovered) (has.was yes);
+      restart = has.restart;
+      tells_which = has.tells_which;
+    })))))
+
+pub halt_was : (objects over : List ObjectDecl) (s n : ℕ) (might was may : Logged → Type 0)
+    → objects ≡ over → s ≡ n → ((logged : Logged) → might logged → was logged)
+    → IsRestartHalt objects s might may → IsRestartHalt over n was may
+halt_was objects over s n might was may is_o is_s back halt =
+    subst (λ (xs : List ObjectDecl). IsRestartHalt xs n was may) is_o
+    (subst (λ (m : ℕ). IsRestartHalt objects m was may) is_s
+    (record { either = λ logged read. moved logged (halt.either logged read) }))
+  where
+    moved : (logged : Logged) → might logged ⊎ IsRestartOf objects s might logged
+        → was logged ⊎ IsRestartOf objects s was logged
+    moved logged (inl read) = inl (back logged read)
+    moved logged (inr of) =
+        inr (record {
+          before = of.before;
+          might = back of.before of.might;
+          keeps = of.keeps;
+        })
+
+-- what is read of a log at rest: what its entries say
+pub record IsReadOf (entries : List (List ℕ)) (logged : Logged) : Type 0 where
+  pub recovered : Recovered
+  pub recovers : recover entries ≡ Ok recovered
+  pub is : logged ≡ logged_of recovered
+
+pub rest_reads : (since : ℕ → Opened → Type 0) (t : ℕ) (listed : List (List ℕ)) (logged : Logged)
+    → ((opened : Opened) → since t opened → opened ≡ Ok listed)
+    → MayRead since t logged → IsReadOf listed logged
+rest_reads since t listed logged rest read = record {
+  recovered = read.recovered;
+  recovers =
+      subst (λ (es : List (List ℕ)). recover es ≡ Ok read.recovered)
+      (same (Ok read.entries) read.entries listed refl (rest (Ok read.entries) read.opens))
+      read.recovers;
+  is = read.is;
+}
+  where
+    same : (x : Opened) (a b : List (List ℕ)) → x ≡ Ok a → x ≡ Ok b → a ≡ b
+    same x a b first other = cc
+
+pub read_is : (objects : List ObjectDecl) (s : ℕ) (history : List Received)
+    (entries : List (List ℕ)) (logged : Logged) → KeepsHistory objects s history entries
+    → IsReadOf entries logged → IsLogOf objects s history logged
+read_is objects s history entries logged keeps read =
+    subst (IsLogOf objects s history)
+    (ap logged_of (same (recover entries) keeps.recovered read.recovered
+    (ap recovered_of keeps.says) read.recovers) ∙ sym read.is) keeps.is_log
+  where
+    same : (x : Result Recovered RecFault) (a b : Recovered) → x ≡ Ok a → x ≡ Ok b → a ≡ b
+    same x a b first other = cc
+
+ended : (objects : List ObjectDecl) (s : ℕ) (history : List Received)
+    → IsThrough objects s history → IsEnded objects s history
+ended objects s [] through = tt
+ended objects s (k ∷ before) through = inl through
+
+-- A restart that failed at a node whose log was at rest is a halt as each other.
+pub halts_so : (objects : List ObjectDecl) (node : Node) (entries : List (List ℕ))
+    (might may : Logged → Type 0) → ((logged : Logged) → might logged → IsReadOf entries logged)
+    → IsRestartHalt objects node.number might may
+    → IsHalt objects node entries (Restarts node.number) None no_load may
+halts_so objects node entries might may rest halt = record {
+  either = λ history logged keeps may_then read.
+      by history logged keeps (halt.either logged read);
+}
+  where
+    by : (history : List Received) (logged : Logged) → KeepsNode objects history node entries
+        → might logged ⊎ IsRestartOf objects node.number might logged
+        → IsLogOfEither objects node.number history
+        (taken_step objects node.number history (Restarts node.number) None no_load) logged
+    by history logged keeps (inl was) =
+        inl (read_is objects node.number history entries logged keeps.keeps (rest logged was))
+    by history logged keeps (inr of) =
+        inr (of.keeps history (ended objects node.number history keeps.through)
+        (read_is objects node.number history entries of.before keeps.keeps
+        (rest of.before of.might)))

@@ -1,0 +1,249 @@
+-- What a restart makes of works, by what the node tells.
+use Rattle.std.proofs.Common.{◌≡◌, ℕ, zero, suc, ◌+◌, ◌-◌, ◌≤◌, ◌<◌, Bool, true, false, List, []}
+use Rattle.std.proofs.Common.{◌∷◌, ◌++◌, length, get_or, set, Option, Some, None, refl, sym, ap}
+use Rattle.std.proofs.Common.{◌∙◌, subst, arith, inl, inr}
+use Rattle.std.specs.Prelude.{IfSome, ◌&&◌, is_some, map, slice_get}
+use Rattle.std.proofs.lemmas.Bool.{true≢false}
+use Rattle.std.proofs.lemmas.List.{map-set}
+use Rattle.cam_type.specs.declared.ObjectDecl.{ObjectDecl}
+use Rattle.cam_event.specs.declared.Event.{Event}
+use Rattle.cam_event.specs.declared.Letter.{Letter}
+use Rattle.cam_event.specs.declared.Mark.{Mark}
+use Rattle.cam_event.specs.declared.Mark.TheVariants as marks
+use Rattle.cam_event.specs.declared.Sent.{Sent}
+use Rattle.cam_event.specs.ByDeltas.{Received}
+use Rattle.cam_event.specs.Inputs.{Restarts}
+use Rattle.cam_event.specs.Loads.{no_load}
+use Rattle.cam_net.specs.Outbox.{OutboxFields}
+use Rattle.cam_net.specs.Waiting.{is_halted}
+use Rattle.cam_node.specs.declared.found.Found.{Found}
+use Rattle.cam_node.specs.declared.found.Restarted.{Restarted}
+use Rattle.cam_node.specs.Calls.{letters_of}
+use Rattle.cam_node.specs.Found.{HasRestarted, IsFoundEvent, TellsWhich}
+use Rattle.cam_node.specs.Keeping.{IsHalt, IsLogOf, IsRestart, IsRestartHalt}
+use Rattle.cam_node.specs.Log.{Logged}
+use Rattle.cam_node.specs.Opened.{logged_of}
+use Rattle.cam_node.specs.Represents.{Node}
+use Rattle.cam_runs.specs.Halts.{Halting}
+use Rattle.cam_runs.specs.Running.{has_number}
+use Rattle.cam_runs.specs.Standing.{Standing}
+use Rattle.cam_script.specs.declared.Script.{Script}
+use Rattle.cam_script.specs.Law.{IsScript}
+use Rattle.cam_histories.specs.Laws.{history_of}
+use Rattle.cam_histories.specs.Whole.{IsSiteOf}
+use Rattle.cam_histories.proofs.Sites.{site_at}
+use Rattle.cam_cluster.specs.declared.works.restart.Restart.{Restart}
+use Rattle.cam_cluster.specs.declared.works.restart.Restart.TheVariants as ends
+use Rattle.cam_cluster.specs.Puts.{KeepsAsBefore}
+use Rattle.cam_cluster.specs.Restarts.{HasRestartedAs, IsHaltOf, IsKnownHalt}
+use Rattle.cam_cluster.specs.Works.{NodeFields, WorksFields, KeepsRun, MayReadAt, sites_of}
+use Rattle.cam_cluster.proofs.PlacedNodes.{reads_elsewhere, reads_there, seen_there, taken_there}
+use Rattle.cam_cluster.proofs.PutWorks.{seen}
+use Rattle.cam_cluster.proofs.RestartHalts.{restart_halts}
+use Rattle.cam_cluster.proofs.RestartReads.{IsReadOf, halts_so, read_is}
+use Rattle.cam_cluster.proofs.RestartStands.{restart_stands}
+use Rattle.cam_cluster.proofs.WorksNodes.{site_there}
+
+-- where a halted node found nothing taken, its log is that of its history
+found_none : (objects : List ObjectDecl) (s : ℕ) (history : List Received) (node : Node)
+    (halted_at : Option Event) (might : Logged → Type 0) (logged : Logged) (found : Found)
+    → IsHaltOf objects s history node halted_at might → might logged
+    → TellsWhich objects s node halted_at logged found → found.event ≡ None
+    → IsLogOf objects s history logged
+found_none objects s history node halted_at might logged found halt read tells none =
+    subst (IsFoundEvent objects s history halt.whole zero logged) none
+    (subst (λ (o : Option Event). TellsWhich objects s node o logged found) halt.kept tells history
+    halt.whole zero halt.halted (halt.either logged read)).event
+
+-- nothing was found taken: the node was not halted, or its log has nothing
+pub none_if : (w b : Bool) (o : Option Event) → b ≡ (w && is_some o) → b ≡ false → w ≡ true
+    → o ≡ None
+none_if w b None is off on = refl
+none_if true b (Some x) is off on = absurd (true≢false (sym is ∙ off))
+none_if false b (Some x) is off on = absurd (true≢false (sym on))
+
+pub both_if : (w b : Bool) (x : Bool) → b ≡ (w && x) → b ≡ true → w ≡ true
+both_if true b x is on = refl
+both_if false b x is on = absurd (true≢false (sym on ∙ is))
+
+pub some_there : {N : Type 0} (P : N → Type 0) (nodes : List N) (place : ℕ) (node : N)
+    → slice_get nodes place ≡ Some node → P node → IfSome (slice_get nodes place) P
+some_there P nodes place node at holds = subst (λ (o : Option _). IfSome o P) (sym at) holds
+
+-- before it letters were put
+pub after_room : (line place : ℕ) (node : Node) (halted_at : Option Event) (old mid new : WorksFields)
+    (might mays may : ℕ → Logged → Type 0) (done : Restart) → KeepsAsBefore old might mid mays
+    → ((logged : Logged) → mays (place + 1) logged → might (place + 1) logged)
+    → HasRestartedAs line place node halted_at mid mays done new may
+    → HasRestartedAs line place node halted_at old might done new may
+after_room line place node halted_at old mid new might mays may ends.Stood before less has =
+    λ script st halts restarted is keeps known stands.
+    has script st halts restarted is (before script st is keeps)
+    (λ said. let halt = known said in record {
+      whole = halt.whole;
+      event = halt.event;
+      kept = halt.kept;
+      halted = halt.halted;
+      either = λ logged read. halt.either logged (less logged read);
+    }) stands
+after_room line place node halted_at old mid new might mays may ends.Halted before less has =
+    λ script st halts restarted is keeps awake lost.
+    has script st halts restarted is (before script st is keeps) awake lost
+after_room line place node halted_at old mid new might mays may ends.Found before less has =
+    λ script st is keeps. has script st is (before script st is keeps)
+
+nothing_sent : (node : Node) (sent : List Sent) (letters : List Letter) → letters ≡ []
+    → sent ≡ [] → letters ≡ letters_of node sent
+nothing_sent node sent letters is none = is ∙ sym (ap (letters_of node) none)
+
+-- works whose parts are these
+pub same_works : {N : Type 0} (part : N → NodeFields) (tells : N → Bool)
+    (may : N → Logged → Type 0) (nodes : List N) (o later : OutboxFields) (h halted : List Bool)
+    (e events : List Event) (m marks : List Mark) → o ≡ later → h ≡ halted → e ≡ events → m ≡ marks
+    → seen part tells may nodes o h e m ≡ seen part tells may nodes later halted events marks
+same_works part tells may nodes o later h halted e events m marks is_o is_h is_e is_m =
+    ap (λ (x : OutboxFields). seen part tells may nodes x h e m) is_o
+    ∙ ap (λ (x : List Bool). seen part tells may nodes later x e m) is_h
+    ∙ ap (λ (x : List Event). seen part tells may nodes later halted x m) is_e
+    ∙ ap (λ (x : List Mark). seen part tells may nodes later halted events x) is_m
+
+-- the node at the place
+module _ (script : Script) (st : Standing) (place : ℕ) (works : WorksFields)
+    (might : ℕ → Logged → Type 0) (old : NodeFields) (keeps : KeepsRun script st works might)
+    (there : slice_get works.nodes place ≡ Some old) where
+  site_here : IsSiteOf script.objects st (place + 1) old.site
+  site_here =
+      subst (λ (s : ℕ). IsSiteOf script.objects st s old.site) (omega arith)
+      (site_at script.objects st 1 place (sites_of works.nodes) old.site keeps.whole.nodes
+      (site_there works.nodes place old there))
+
+  over : old.objects ≡ script.objects
+  over = (keeps.nodes place old there).over
+
+  -- while it is not halted what is read of its log is that of its history
+  read_awake : (logged : Logged) → has_number st.halted (place + 1) ≡ false
+      → IsReadOf old.site.entries logged
+      → IsLogOf script.objects (place + 1) (history_of script.objects st.running.trace (place + 1))
+      logged
+  read_awake logged awake read =
+      read_is script.objects (place + 1) (history_of script.objects st.running.trace (place + 1))
+      old.site.entries logged (site_here.stands awake).log.keeps read
+
+module _ {N : Type 0} (part : N → NodeFields) (tells : N → Bool) (may : N → Logged → Type 0)
+    (place line : ℕ) (nodes : List N) (o : OutboxFields) (h : List Bool) (e : List Event)
+    (m : List Mark) (old new : N) (there : place < length nodes) (within : place < 8)
+    (is_old : old ≡ get_or nodes place old) (now : List N) (set_is : now ≡ set nodes place new)
+    (objects : (part new).objects ≡ (part old).objects) (halted_at : Option Event)
+    (told : tells old ≡ true)
+    (rest : (part old).halted ≡ false → (logged : Logged) → may old logged
+    → IsReadOf (part old).site.entries logged) (none_left : o.unput ≡ []) where
+  at : slice_get (map part nodes) place ≡ Some (part old)
+  at = seen_there part nodes place old (taken_there nodes place old there is_old)
+
+  are : map part now ≡ set (map part nodes) place (part new)
+  are = ap (map part) set_is ∙ map-set part nodes place new
+
+  others : (s : ℕ) (logged : Logged) → 1 ≤ s → (s ≡ place + 1 → ⊥)
+      → MayReadAt tells may now s logged → MayReadAt tells may nodes s logged
+  others s logged low away read =
+      reads_elsewhere tells may nodes place new s logged low away
+      (subst (λ (ns : List N). MayReadAt tells may ns s logged) set_is read)
+
+  reads : (logged : Logged) → may old logged → MayReadAt tells may nodes (place + 1) logged
+  reads logged read = record {
+    node = old;
+    at =
+        subst (λ (p : ℕ). slice_get nodes p ≡ Some old) (let x : place ≡ place + 1 - 1 = omega arith
+        in x) (taken_there nodes place old there is_old);
+    told = told;
+    reads = read;
+  }
+
+  module _ (script : Script) (st : Standing)
+      (keeps : KeepsRun script st (seen part tells may nodes o h e m) (MayReadAt tells may nodes))
+    where
+      -- what is said over the node's objects and by its number is said over the script's
+      by_place : (P : List ObjectDecl → ℕ → Type 0) → P (part old).objects (part old).site.node.number
+          → P script.objects (place + 1)
+      by_place P is =
+          subst (λ (xs : List ObjectDecl). P xs (place + 1))
+          (over script st place (seen part tells may nodes o h e m) (MayReadAt tells may nodes)
+          (part old) keeps at)
+          (subst (λ (s : ℕ). P (part old).objects s)
+          (site_here script st place (seen part tells may nodes o h e m) (MayReadAt tells may nodes)
+          (part old) keeps at).number is)
+
+      told_halted : is_halted h (place + 1) ≡ has_number st.halted (place + 1)
+      told_halted =
+          keeps.whole.network.stands.nodes (place + 1) (omega arith) (omega (arith, within))
+
+      runs_awake : has_number st.halted (place + 1) ≡ false → (part old).halted ≡ false
+      runs_awake awake = (keeps.nodes place (part old) at).is_halted ∙ told_halted ∙ awake
+
+      log_read : (r : Restarted) (logged : Logged) → may old logged
+          → TellsWhich (part old).objects (part old).site.node.number (part old).site.node halted_at
+          logged r.found
+          → (is_halted h (place + 1) ≡ true → r.found.event ≡ None)
+          → IsKnownHalt script st (place + 1) (part old).site.node halted_at
+          (MayReadAt tells may nodes (place + 1))
+          → (b : Bool) → has_number st.halted (place + 1) ≡ b
+          → IsLogOf script.objects (place + 1)
+          (history_of script.objects st.running.trace (place + 1)) logged
+      log_read r logged read which none known true halted =
+          found_none script.objects (place + 1)
+          (history_of script.objects st.running.trace (place + 1)) (part old).site.node halted_at
+          (MayReadAt tells may nodes (place + 1)) logged r.found (known halted) (reads logged read)
+          (by_place (λ xs s. TellsWhich xs s (part old).site.node halted_at logged r.found) which)
+          (none (told_halted ∙ halted))
+      log_read r logged read which none known false awake =
+          read_awake script st place (seen part tells may nodes o h e m) (MayReadAt tells may nodes)
+          (part old) keeps at logged awake (rest (runs_awake awake) logged read)
+
+  pub restarted_in : (r : Restarted) → length e + 1 < 1000000000 → (part new).halted ≡ false
+      → HasRestarted (part old).objects (part old).site.node.number (tells old) (may old)
+      (part old).site.node halted_at (part new).site.node (part new).site.entries r
+      → r.stepped.letters ≡ [] → (is_halted h (place + 1) ≡ true → r.found.event ≡ None)
+      → HasRestartedAs line place (part old).site.node halted_at (seen part tells may nodes o h e m)
+      (MayReadAt tells may nodes) ends.Stood
+      (seen part tells may now (record { net = o.net; unput = r.stepped.letters })
+      (set h place false) (e ++ r.stepped.event ∷ []) m) (MayReadAt tells may now)
+  restarted_in r few runs has no_letters none script st halts restarted is keeps known stands =
+      restart_stands script st place (seen part tells may nodes o h e m)
+      (MayReadAt tells may nodes) (part old) keeps at within halts line restarted (part new)
+      (MayReadAt tells may now) (map part now) are objects others
+      (logged_of has.left.recovered) r.stepped.event r.stepped.letters none_left few runs stands
+      (log_read script st keeps r (logged_of has.left.recovered) (has.was told) has.tells_which none
+      known (has_number st.halted (place + 1)) refl)
+      (by_place script st keeps (λ xs s. IsRestart xs s (logged_of has.left.recovered)
+      (part new).site.node (part new).site.entries r.stepped.event) has.restart)
+      (nothing_sent (part new).site.node r.stepped.event.sent r.stepped.letters no_letters
+      (ap (λ (x : Event). x.sent) has.event))
+
+  pub failed_in : (part new).halted ≡ true
+      → (part new).site.node.number ≡ (part old).site.node.number
+      → IsRestartHalt (part old).objects (part old).site.node.number (may old) (may new)
+      → HasRestartedAs line place (part old).site.node halted_at (seen part tells may nodes o h e m)
+      (MayReadAt tells may nodes) ends.Halted
+      (seen part tells may now o (set h place true) e
+      (m ++ marks.Halted line (place + 1) false ∷ [])) (MayReadAt tells may now)
+  failed_in stops same_number halt script st halts restarted is keeps awake lost =
+      restart_halts script st place (seen part tells may nodes o h e m)
+      (MayReadAt tells may nodes) (part old) keeps at within awake halts line restarted (part new)
+      (MayReadAt tells may now) (map part now) are objects others none_left stops lost same_number
+      (record {
+        either = λ history logged node_keeps may_then read.
+            let own = reads_there tells may nodes place new logged there
+            (subst (λ (ns : List N). MayReadAt tells may ns (place + 1) logged) set_is read) in
+            (by_place script st keeps (λ xs s. IsHalt xs (part old).site.node
+            (part old).site.entries (Restarts s) None no_load (may new))
+            (halts_so (part old).objects (part old).site.node (part old).site.entries (may old)
+            (may new) (rest (runs_awake script st keeps awake)) halt)).either history logged
+            node_keeps may_then own.1;
+      })
+
+  pub found_in : is_halted h (place + 1) ≡ true → (new_works : WorksFields)
+      (new_may : ℕ → Logged → Type 0)
+      → HasRestartedAs line place (part old).site.node halted_at (seen part tells may nodes o h e m)
+      (MayReadAt tells may nodes) ends.Found new_works new_may
+  found_in stops new_works new_may script st is keeps =
+      sym (told_halted script st keeps) ∙ stops
