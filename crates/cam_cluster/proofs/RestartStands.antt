@@ -8,7 +8,6 @@ use Rattle.std.proofs.lemmas.Bool.Decides.{eqb_tells}
 use Rattle.std.proofs.lemmas.List.{length-set, reverse-append}
 use Rattle.cam_event.specs.declared.Event.{Event}
 use Rattle.cam_event.specs.declared.Letter.{Letter}
-use Rattle.cam_event.specs.declared.Mark.{Mark}
 use Rattle.cam_event.specs.Inputs.{Restarts}
 use Rattle.cam_event.specs.Runs.{IsNode}
 use Rattle.cam_net.specs.Waiting.{is_halted}

@@ -1,7 +1,7 @@
 -- What a restart makes of works, by what the node tells.
-use Rattle.std.proofs.Common.{◌≡◌, ℕ, zero, suc, ◌+◌, ◌-◌, ◌≤◌, ◌<◌, Bool, true, false, List, []}
+use Rattle.std.proofs.Common.{◌≡◌, ℕ, zero, ◌+◌, ◌-◌, ◌≤◌, ◌<◌, Bool, true, false, List, []}
 use Rattle.std.proofs.Common.{◌∷◌, ◌++◌, length, get_or, set, Option, Some, None, refl, sym, ap}
-use Rattle.std.proofs.Common.{◌∙◌, subst, arith, inl, inr}
+use Rattle.std.proofs.Common.{◌∙◌, subst, arith}
 use Rattle.std.specs.Prelude.{IfSome, ◌&&◌, is_some, map, slice_get}
 use Rattle.std.proofs.lemmas.Bool.{true≢false}
 use Rattle.std.proofs.lemmas.List.{map-set}
@@ -24,11 +24,9 @@ use Rattle.cam_node.specs.Keeping.{IsHalt, IsLogOf, IsRestart, IsRestartHalt}
 use Rattle.cam_node.specs.Log.{Logged}
 use Rattle.cam_node.specs.Opened.{logged_of}
 use Rattle.cam_node.specs.Represents.{Node}
-use Rattle.cam_runs.specs.Halts.{Halting}
 use Rattle.cam_runs.specs.Running.{has_number}
 use Rattle.cam_runs.specs.Standing.{Standing}
 use Rattle.cam_script.specs.declared.Script.{Script}
-use Rattle.cam_script.specs.Law.{IsScript}
 use Rattle.cam_histories.specs.Laws.{history_of}
 use Rattle.cam_histories.specs.Whole.{IsSiteOf}
 use Rattle.cam_histories.proofs.Sites.{site_at}

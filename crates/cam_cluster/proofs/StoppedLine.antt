@@ -1,6 +1,6 @@
 -- The line `stop`, at the node of a place: what the run says of it, and what it comes to.
 use Rattle.std.proofs.Common.{◌≡◌, ℕ, ◌+◌, ◌<◌, Bool, true, false, List, [], ◌∷◌, ◌++◌, length}
-use Rattle.std.proofs.Common.{Option, Some, None, Ok, Err, refl, sym, ap, ◌∙◌, subst}
+use Rattle.std.proofs.Common.{Option, None, Ok, Err, refl, sym, ap, ◌∙◌, subst}
 use Rattle.cam_names.specs.declared.name.Name.{Name}
 use Rattle.cam_event.specs.declared.LineRefusal.{LineRefusal}
 use Rattle.cam_event.specs.declared.LineRefusal.TheVariants as refusals

@@ -1,6 +1,6 @@
 -- The line `restart`.
-use Rattle.std.proofs.Common.{◌≡◌, ◌-◌, ◌++◌, ◌∷◌, [], None, Err, sym, ap, ◌∙◌, subst, arith, rules}
-use Rattle.std.specs.Prelude.{IfSome, slice_get}
+use Rattle.std.proofs.Common.{◌≡◌, ◌-◌, ◌++◌, ◌∷◌, [], None, Err, ap, ◌∙◌, arith, rules}
+use Rattle.std.specs.Prelude.{slice_get}
 use Rattle.cam_node.specs.Calls.{answers}
 use Rattle.cam_cluster.proofs.AsSeen.{lines_of, part, reads_of, works_of}
 use Rattle.cam_cluster.proofs.BeginEnds.{begin_within}

@@ -1,9 +1,8 @@
 -- A node is restarted.
-use Rattle.std.proofs.Common.{◌≡◌, ◌<◌, ◌+◌, ◌++◌, ◌∷◌, [], Some, false, true, length, set}
+use Rattle.std.proofs.Common.{◌≡◌, ◌<◌, ◌+◌, Some, length, set}
 use Rattle.std.proofs.Common.{refl, sym, ap, ◌∙◌, subst, arith, rules}
 use Rattle.std.specs.Prelude.{slice_get, vec_len}
 use Rattle.std.proofs.lemmas.Grind.{common_steps}
-use Rattle.cam_event.specs.declared.Mark.TheVariants as marks
 use Rattle.cam_net.specs.Waiting.{is_halted}
 use Rattle.cam_node.specs.Calls.{answers}
 use Rattle.cam_cluster.specs.declared.works.restart.Restart.TheVariants as ends
