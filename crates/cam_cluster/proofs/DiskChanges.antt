@@ -49,7 +49,8 @@ fields node entries objects halted = record {
   halted = halted;
 }
 
-pub same_fields : (node was : Node) (entries listed : List (List ℕ)) (objects over : List ObjectDecl)
+pub same_fields : (node was : Node) (entries listed : List (List ℕ))
+    (objects over : List ObjectDecl)
     (halted stopped : Bool) → node ≡ was → entries ≡ listed → objects ≡ over → halted ≡ stopped
     → fields node entries objects halted ≡ fields was listed over stopped
 same_fields node was entries listed objects over halted stopped is_n is_e is_o is_h =

@@ -39,7 +39,8 @@ pub restarted_was : (objects over : List ObjectDecl) (s n : ℕ) (told tells : B
     → ((logged : Logged) → might logged → was logged)
     → HasRestarted objects s told might node at new now r
     → HasRestarted over n tells was before halted_at new now r
-restarted_was objects over s n told tells might was node before at halted_at new now r is_o is_s is_t
+restarted_was objects over s n told tells might was node before at halted_at new now r is_o is_s
+    is_t
     is_n is_h back has =
     subst (λ (xs : List ObjectDecl). HasRestarted xs n tells was before halted_at new now r) is_o
     (subst (λ (m : ℕ). HasRestarted objects m tells was before halted_at new now r) is_s

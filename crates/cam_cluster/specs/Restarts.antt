@@ -82,11 +82,13 @@ abbrev pub IsRestartEnded : Script → Standing → Setting → ℕ → Node →
 IsRestartEnded script st c s node halted_at might_read new may_read (Ok ends.Stood) =
     IsKnownHalt script st s node halted_at (might_read s)
     → halt_of c (ended_halt st s) (Restarts s) ≡ None
-    → KeepsLines script (after_line st c.line (act c script.bodies st (acts.Restart s))) new may_read
+    → KeepsLines script (after_line st c.line (act c script.bodies st
+    (acts.Restart s))) new may_read
 IsRestartEnded script st c s node halted_at might_read new may_read (Ok ends.Halted) =
     has_number st.halted s ≡ false
     → halt_of c (ended_halt st s) (Restarts s) ≡ Some false
-    → KeepsLines script (after_line st c.line (act c script.bodies st (acts.Restart s))) new may_read
+    → KeepsLines script (after_line st c.line (act c script.bodies st
+    (acts.Restart s))) new may_read
 IsRestartEnded script st c s node halted_at might_read new may_read (Ok ends.Found) =
     has_number st.halted s ≡ true
 IsRestartEnded script st c s node halted_at might_read new may_read (Err wanting) =

@@ -29,7 +29,8 @@ returns-then-is_halted g c =
           (lines_of g.L.CheckpointLog g.L.EntryLog c.refused.new.self)
           (reads_of g.L.CheckpointLog g.L.EntryLog c.args.self.now.works)
           (reads_of g.L.CheckpointLog g.L.EntryLog c.refused.new.self.works)
-          (sees (part g.L.CheckpointLog g.L.EntryLog) c.args.self.now.works.nodes.items (c.args.node - 1)
+          (sees (part g.L.CheckpointLog g.L.EntryLog) c.args.self.now.works.nodes.items
+          (c.args.node - 1)
           (let low = c.requires.low in let node = c.requires.node in omega (arith, low, node)))
           c.refused.result
           (ap (is_halted c.args.self.now.works.halted) (after_is (c.args.node - 1)) ∙ sym
@@ -75,7 +76,8 @@ returns g c =
           })
           (reads_of g.L.CheckpointLog g.L.EntryLog c.args.self.now.works)
           (reads_of g.L.CheckpointLog g.L.EntryLog c.stop_after.new.self)
-          (sees (part g.L.CheckpointLog g.L.EntryLog) c.args.self.now.works.nodes.items (c.args.node - 1)
+          (sees (part g.L.CheckpointLog g.L.EntryLog) c.args.self.now.works.nodes.items
+          (c.args.node - 1)
           (let low = c.requires.low in let node = c.requires.node in omega (arith, low, node)))
           (ap (is_halted c.args.self.now.works.halted) (after_is (c.args.node - 1)) ∙ sym
           c.is_halted.ensures ∙ c.if-is_halted.false) c.stop_after.ensures

@@ -11,9 +11,9 @@ use Rattle.cam_cluster.specs.Works.{MayReadAt}
 use Rattle.cam_cluster.proofs.AsSeen.{part, reads_at, reads_of, tells_of, works_of}
 use Rattle.cam_cluster.proofs.PlacedNodes.{after_is, on_err, taken_there}
 use Rattle.cam_cluster.proofs.PutWorks.{room_made}
+use Rattle.cam_cluster.proofs.RestartEnds.{after_room, both_if, none_if, same_works, some_there}
 use Rattle.cam_cluster.proofs.RestartReads.{rest_reads}
-use Rattle.cam_cluster.proofs.RestartedWorks.{after_room, both_if, failed_in, found_in, none_if}
-use Rattle.cam_cluster.proofs.RestartedWorks.{restarted_in, same_works, some_there}
+use Rattle.cam_cluster.proofs.RestartedWorks.{failed_in, found_in, restarted_in}
 use Rattle.cam_cluster.proofs.works.Works.restart.Goals as goal
 
 pub make_room-requires : goal.make_room-requires
@@ -83,7 +83,8 @@ returns-then-has_taken-clause-restarted g c =
     (part g.L.CheckpointLog g.L.EntryLog)
     (tells_of g.L.CheckpointLog g.L.EntryLog) (reads_at g.L.CheckpointLog g.L.EntryLog)
     c.args.place c.args.line mid.nodes.items mid.outbox mid.halted mid.events.items
-    mid.marks.items old new there c.requires.place c.index_mut.ensures.value (set mid.nodes.items c.args.place new)
+    mid.marks.items old new there c.requires.place c.index_mut.ensures.value
+    (set mid.nodes.items c.args.place new)
     refl c.restart_cleared.ensures.objects
     old.halted_at told
     (λ awake logged read. rest_reads _ _ _ logged
