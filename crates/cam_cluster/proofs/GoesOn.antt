@@ -28,7 +28,7 @@ use Rattle.cam_cluster.specs.declared.works.Put.{Put}
 use Rattle.cam_cluster.specs.declared.works.Put.TheVariants as puts
 use Rattle.cam_cluster.specs.Between.{AreHaltsOfLine, EndsAreSaid, KeepsBetween, KeepsStep}
 use Rattle.cam_cluster.specs.Between.{LinesGoOn, after_step, halts_from}
-use Rattle.cam_cluster.specs.Between.{HasLedOn, IsStepOf, PutsOne}
+use Rattle.cam_cluster.specs.Between.{HasBeenRefused, HasLedOn, IsStepOf}
 use Rattle.cam_cluster.specs.FoundHalts.{AreNewestFirst}
 use Rattle.cam_cluster.specs.Seen.{Seen, later_steps, run_first, run_of_lines, setting_in}
 use Rattle.cam_cluster.specs.SoFar.{IsLed, IsLineOfInput, IsRefused, KeepsLines, LinesFields}
@@ -66,12 +66,11 @@ pub newest_behind : (n : ℕ) (more halts : List Halt) → AreNewestFirst more �
     → AllByRecursion (λ (h : Halt). n ≤ h.input) more
     → AllByRecursion (λ (h : Halt). h.input < n) halts → AreNewestFirst (more ++ halts)
 newest_behind n [] halts new old low high = old
-newest_behind n (h ∷ more) halts new old low high = (
-  all_behind (λ (g : Halt). g.input < h.input) more halts new.0
-      (all_so (λ (g : Halt). g.input < n) (λ (g : Halt). g.input < h.input) halts
-      (λ g less. let least = low.0 in omega (arith, less, least)) high),
-  newest_behind n more halts new.1 old low.1 high,
-)
+newest_behind n (h ∷ more) halts new old low high =
+    (all_behind (λ (g : Halt). g.input < h.input) more halts new.0
+    (all_so (λ (g : Halt). g.input < n) (λ (g : Halt). g.input < h.input) halts
+    (λ g less. let least = low.0 in omega (arith, less, least)) high),
+    newest_behind n more halts new.1 old low.1 high)
 
 module _ (seen : Seen) (step : Step) (more : List Halt) (old new : LinesFields)
     (might may : ℕ → Logged → Type 0) (keeps : KeepsBetween seen old might)
@@ -89,9 +88,9 @@ module _ (seen : Seen) (step : Step) (more : List Halt) (old new : LinesFields)
       halted_lines_agree seen.script st step (given all) (later_steps seen)
       (script_in_range seen.script keeps.is_script) keeps.keeps.runs.under next
 
-  counts : length (after_step seen step more).standing.running.bound
+  one_more_accepted : length (after_step seen step more).standing.running.bound
       ≡ length st.running.bound + 1
-  counts =
+  one_more_accepted =
       line_counts seen.script (given all) st step (later_steps seen)
       (script_in_range seen.script keeps.is_script) keeps.keeps.runs.under next
 
@@ -115,7 +114,7 @@ module _ (seen : Seen) (step : Step) (more : List Halt) (old new : LinesFields)
   stands =
       let same : suc (length st.running.bound) ≡ length st.running.bound + 1 = omega arith in
       sym
-      (ap (run_of_lines by_pasts seen.script all) (counts ∙ sym same)
+      (ap (run_of_lines by_pasts seen.script all) (one_more_accepted ∙ sym same)
       ∙ one_more (by_pasts seen.script.objects) (given all) seen.script.bodies
       (length st.running.bound) seen.script.steps start step next
       ∙ ap (λ (n : ℕ). after_line (run_of_lines by_pasts seen.script all
@@ -177,17 +176,6 @@ refusals_agree seen lines may step all keeps next =
     ∙ lines_are_tested (setting_in by_pasts seen all step) seen.script.bodies seen.standing
     step.act
 
--- the halts of a line of one input
-one_end : (seen new : Seen) (done : Put)
-    → accepted new.standing.turns ≡ accepted seen.standing.turns + 1
-    → AreHaltsOfLine seen new (halts_from (accepted seen.standing.turns) (done ∷ []))
-one_end seen new puts.Stood counts = record { newest = tt; low = tt; high = tt }
-one_end seen new puts.Halted counts = record {
-  newest = (tt, tt);
-  low = (omega arith, tt);
-  high = (omega (arith, counts), tt);
-}
-
 -- what a line comes to that is refused
 by_refusal : (p : Passed) (refusal : LineRefusal) → refused_by p ≡ Some refusal
     → p ≡ Refused refusal
@@ -206,57 +194,114 @@ refused_step seen step refusal test =
     seen.standing step.act
     ∙ test)
 
--- A line of one input goes on.
-pub one_input_goes : (seen : Seen) (step : Step) (input : Input) (old new : LinesFields)
-    (might may : ℕ → Logged → Type 0) (result : Result Put LineFault)
-    → KeepsBetween seen old might
-    → slice_get seen.script.steps (length seen.standing.running.bound) ≡ Some step
-    → IsLineOfInput step.line step.act input old might new may result
-    → PutsOne seen step → IsStepOf seen step new may result
-one_input_goes seen step input old new might may (Ok done) keeps next line one = record {
-  more = more;
-  of_line = of_line;
-  passed = passed;
-  stands = goes_on seen step more old new might may keeps next of_line made;
-} where
-  more : List Halt
-  more = halts_from (accepted seen.standing.turns) (done ∷ [])
+-- the halts of a line of one input
+one_end : (seen new : Seen) (done : Put)
+    → accepted new.standing.turns ≡ accepted seen.standing.turns + 1
+    → AreHaltsOfLine seen new (halts_from (accepted seen.standing.turns) (done ∷ []))
+one_end seen new puts.Stood one_more_accepted = record { newest = tt; low = tt; high = tt }
+one_end seen new puts.Halted one_more_accepted = record {
+  newest = (tt, tt);
+  low = (omega arith, tt);
+  high = (omega (arith, one_more_accepted), tt);
+}
 
-  led : IsLed seen.script seen.standing
+-- The line of a run that is kept, which is taken next.
+module _ (seen : Seen) (step : Step) (old new : LinesFields) (might may : ℕ → Logged → Type 0)
+    (keeps : KeepsBetween seen old might)
+    (next : slice_get seen.script.steps (length seen.standing.running.bound) ≡ Some step) where
+  -- what it comes to by what nodes hold, with these halts of it
+  abbrev held : List Halt → Passed
+  held more =
+      act (setting_in by_knowledge seen (more ++ seen.halts) step) seen.script.bodies seen.standing
+      step.act
+
+  held_is : (more : List Halt)
+      → after_line seen.standing step.line (held more) ≡ (after_step seen step more).standing
+  held_is more =
+      ap (after_line seen.standing step.line)
+      (halted_lines_agree seen.script seen.standing step (given (more ++ seen.halts))
+      (later_steps seen) (script_in_range seen.script keeps.is_script) keeps.keeps.runs.under next)
+
+  -- It led on, and put this input.
+  pub led_goes : (input : Input) (done : Put)
+      → let more = halts_from (accepted seen.standing.turns) (done ∷ []) in
+      IsLed seen.script seen.standing
       (setting_in by_knowledge seen (more ++ seen.halts) step) step.act input done new may
-  led =
+      → accepted (after_line seen.standing step.line (held more)).turns
+      ≡ accepted seen.standing.turns + 1
+      → HasLedOn seen step new may
+  led_goes input done led one_more_accepted =
+      let more = halts_from (accepted seen.standing.turns) (done ∷ []) in
+      let of_line =
+      one_end seen (after_step seen step more) done
+      (ap (λ (x : Standing). accepted x.turns) (sym (held_is more)) ∙ one_more_accepted) in
+      record {
+        more = more;
+        of_line = of_line;
+        passed = sym (refusals_agree seen old might step seen.halts keeps next) ∙ led.passed;
+        stands =
+            goes_on seen step more old new might may keeps next of_line
+            (led.stands (ends_are_said seen old might step input done keeps));
+      }
+
+  -- It led on, and put none.
+  pub done_goes : line_refusal (by_knowledge seen.script.objects) seen.standing step.act ≡ None
+      → KeepsStep seen step [] new may → HasLedOn seen step new may
+  done_goes passed stands =
+      let of_line : AreHaltsOfLine seen (after_step seen step []) [] =
+      record { newest = tt; low = tt; high = tt } in
+      record {
+        more = [];
+        of_line = of_line;
+        passed = sym (refusals_agree seen old might step seen.halts keeps next) ∙ passed;
+        stands = goes_on seen step [] old new might may keeps next of_line stands;
+      }
+
+  -- It was refused.
+  pub refused_goes : (refusal : LineRefusal)
+      → IsRefused seen.script seen.standing step.line step.act refusal new may
+      → HasBeenRefused seen step refusal new may
+  refused_goes refusal told = record {
+    test = sym (refusals_agree seen old might step seen.halts keeps next) ∙ told.test;
+    stands =
+        goes_on seen step [] old new might may keeps next
+        (record { newest = tt; low = tt; high = tt })
+        (subst (λ (p : Passed). KeepsLines seen.script (after_line seen.standing step.line p) new may)
+        (sym (refused_step seen step refusal told.test))
+        told.stands);
+  }
+
+  -- Memory ran out.
+  pub wanting_goes : KeepsLines seen.script seen.standing new may → KeepsBetween seen new may
+  wanting_goes same = record {
+    is_script = keeps.is_script;
+    keeps = same;
+    between = keeps.between;
+    newest = keeps.newest;
+    past = keeps.past;
+  }
+
+  -- A line of one input goes on.
+  pub one_input_goes : (input : Input) (result : Result Put LineFault)
+      → IsLineOfInput step.line step.act input old might new may result
+      → ((c : Setting) → c.reading ≡ by_knowledge seen.script.objects
+      → line_refusal (by_knowledge seen.script.objects) seen.standing step.act ≡ None
+      → accepted (after_line seen.standing step.line
+      (act c seen.script.bodies seen.standing step.act)).turns
+      ≡ accepted seen.standing.turns + 1)
+      → IsStepOf seen step new may result
+  one_input_goes input (Ok done) line one_more_accepted =
+      let more = halts_from (accepted seen.standing.turns) (done ∷ []) in
+      let led =
       line seen.script seen.standing (given (more ++ seen.halts)) (later_steps seen)
-      keeps.is_script keeps.keeps next
-
-  passed : line_refusal (by_pasts seen.script.objects) seen.standing step.act ≡ None
-  passed = sym (refusals_agree seen old might step seen.halts keeps next) ∙ led.passed
-
-  of_line : AreHaltsOfLine seen (after_step seen step more) more
-  of_line = one_end seen (after_step seen step more) done (one more passed)
-
-  made : KeepsStep seen step more new may
-  made = led.stands (ends_are_said seen old might step input done keeps)
-one_input_goes seen step input old new might may (Err (line_faults.Refused refusal)) keeps next line
-    one = record {
-      test = sym (refusals_agree seen old might step seen.halts keeps next) ∙ told.test;
-      stands =
-          goes_on seen step [] old new might may keeps next
-          (record { newest = tt; low = tt; high = tt })
-          (subst (λ (p : Passed). KeepsLines seen.script (after_line seen.standing step.line p) new may)
-          (sym (refused_step seen step refusal told.test))
-          told.stands);
-    } where
-      told : IsRefused seen.script seen.standing step.line step.act refusal new may
-      told =
-          line seen.script seen.standing (given seen.halts) (later_steps seen) keeps.is_script
-          keeps.keeps next
-one_input_goes seen step input old new might may (Err line_faults.NoMemory) keeps next line one =
-    record {
-      is_script = keeps.is_script;
-      keeps =
-          line seen.script seen.standing (given seen.halts) (later_steps seen) keeps.is_script
-          keeps.keeps next;
-      between = keeps.between;
-      newest = keeps.newest;
-      past = keeps.past;
-    }
+      keeps.is_script keeps.keeps next in
+      led_goes input done led
+      (one_more_accepted (setting_in by_knowledge seen (more ++ seen.halts) step) refl led.passed)
+  one_input_goes input (Err (line_faults.Refused refusal)) line one_more_accepted =
+      refused_goes refusal
+      (line seen.script seen.standing (given seen.halts) (later_steps seen) keeps.is_script
+      keeps.keeps next)
+  one_input_goes input (Err line_faults.NoMemory) line one_more_accepted =
+      wanting_goes
+      (line seen.script seen.standing (given seen.halts) (later_steps seen) keeps.is_script
+      keeps.keeps next)

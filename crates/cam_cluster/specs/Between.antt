@@ -110,10 +110,3 @@ IsStepOf seen step new may_read (Ok done) = HasLedOn seen step new may_read
 IsStepOf seen step new may_read (Err (line_faults.Refused refusal)) =
     HasBeenRefused seen step refusal new may_read
 IsStepOf seen step new may_read (Err line_faults.NoMemory) = KeepsBetween seen new may_read
-
--- such a line puts one input, where no test refuses it
-abbrev pub PutsOne : Seen → Step → Type 0
-PutsOne seen step =
-    (more : List Halt)
-    → line_refusal (by_pasts seen.script.objects) seen.standing step.act ≡ None
-    → accepted (after_step seen step more).standing.turns ≡ accepted seen.standing.turns + 1

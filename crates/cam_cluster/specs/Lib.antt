@@ -32,3 +32,4 @@ pub mod GoLines
 pub mod LetterCounts
 pub mod Stops
 pub mod Restarts
+pub mod Taking

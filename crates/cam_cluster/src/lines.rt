@@ -12,6 +12,12 @@ ghost use Rattle.cam_cluster.specs.Servers.{AreServers};
 ghost use Rattle.cam_cluster.specs.SoFar.{HasLed, HasRefused, IsBinding, KeepsLinesAsBefore, bound_by};
 
 mod begin;
+mod one_input;
+mod query;
+mod requests;
+mod start;
+mod take;
+mod tell;
 mod cut;
 mod deliver;
 mod drain;

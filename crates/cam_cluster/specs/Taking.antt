@@ -1,0 +1,61 @@
+-- The next line of a script, taken: how it ends, by the pasts of events, with the halts that are
+-- known then.
+use Rattle.std.specs.Prelude.{◌≡◌, ℕ, Option, Result, Ok, Err}
+use Rattle.cam_bytes.specs.declared.WireFault.{WireFault}
+use Rattle.cam_event.specs.Readings.{by_knowledge}
+use Rattle.cam_node.specs.Log.{Logged}
+use Rattle.cam_script.specs.declared.Act.{Act}
+use Rattle.cam_script.specs.declared.Act.TheVariants as acts
+use Rattle.cam_script.specs.declared.Step.{Step}
+use Rattle.cam_cluster.specs.declared.LineFault.{LineFault}
+use Rattle.cam_cluster.specs.declared.LineFault.TheVariants as line_faults
+use Rattle.cam_cluster.specs.declared.works.Put.{Put}
+use Rattle.cam_cluster.specs.Between.{HasBeenRefused, HasLedOn, IsStepOf, KeepsBetween}
+use Rattle.cam_cluster.specs.LineOwes.{cut_fault}
+use Rattle.cam_cluster.specs.Seen.{IsNextStep, Seen}
+use Rattle.cam_cluster.specs.SoFar.{LinesFields}
+
+-- a line that puts one input where no test refuses it
+abbrev pub PutsInput : Act → Type 0
+PutsInput (acts.Begin s) = Unit {0}
+PutsInput (acts.Start s body) = Unit {0}
+PutsInput (acts.Ask p m) = Unit {0}
+PutsInput (acts.Call v x op) = Unit {0}
+PutsInput (acts.Commit v value) = Unit {0}
+PutsInput (acts.Abort v) = Unit {0}
+PutsInput (acts.GiveUp v w) = Unit {0}
+PutsInput (acts.Deliver k) = Unit {0}
+PutsInput (acts.Tell s to) = Unit {0}
+PutsInput (acts.Query s v) = Unit {0}
+PutsInput _ = ⊥
+
+-- THE CLAUSE of such a line: of each run that is kept between lines and whose next step it is
+abbrev pub IsInputLine : Step → LinesFields → (ℕ → Logged → Type 0) → LinesFields
+    → (ℕ → Logged → Type 0) → Result Put LineFault → Type 0
+IsInputLine step old might_read new may_read result =
+    (seen : Seen) → KeepsBetween seen old might_read → IsNextStep seen step
+    → IsStepOf seen step new may_read result
+
+-- a line that is built: one that puts an input, loses a letter or cuts one
+abbrev pub IsBuilt : Act → Type 0
+IsBuilt (acts.Lose k) = Unit {0}
+IsBuilt (acts.Cut k bytes) = Unit {0}
+IsBuilt act = PutsInput act
+
+-- how a line ends: it leads on, and tells the fault of a letter that it cut short; or it is
+-- refused; or memory ran out
+abbrev pub IsTakenAs : Seen → Step → LinesFields → (ℕ → Logged → Type 0)
+    → Result (Option WireFault) LineFault → Type 0
+IsTakenAs seen step new may_read (Ok bad) =
+    HasLedOn seen step new may_read
+    × (bad ≡ cut_fault (by_knowledge seen.script.objects) seen.standing step.act)
+IsTakenAs seen step new may_read (Err (line_faults.Refused refusal)) =
+    HasBeenRefused seen step refusal new may_read
+IsTakenAs seen step new may_read (Err line_faults.NoMemory) = KeepsBetween seen new may_read
+
+-- THE CLAUSE of a line that is taken
+abbrev pub IsStepTaken : Step → LinesFields → (ℕ → Logged → Type 0) → LinesFields
+    → (ℕ → Logged → Type 0) → Result (Option WireFault) LineFault → Type 0
+IsStepTaken step old might_read new may_read result =
+    (seen : Seen) → KeepsBetween seen old might_read → IsNextStep seen step
+    → IsTakenAs seen step new may_read result
