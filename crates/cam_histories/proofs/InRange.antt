@@ -55,7 +55,7 @@ not_open g a h = by (created g.deeds a) (where_none (not (created g.deeds a)) re
 last_two : (x y z w : Option LineRefusal) → first_of_two x (first_of_two y (first_of_two z w)) ≡ None → (z ≡ None) × (w ≡ None)
 last_two x y z w h = first_none z w (first_none y (first_of_two z w) (first_none x (first_of_two y (first_of_two z w)) h).1).1
 
-asks_created : (g : Sight) (a : Name) (want : Want) → refusal g a want ≡ None → created g.deeds a ≡ true
+pub asks_created : (g : Sight) (a : Name) (want : Want) → refusal g a want ≡ None → created g.deeds a ≡ true
 asks_created g a (wants.Ask m) h = not_open g a (last_two (has_ended g a) (has_call g a) (is_not_open g a) (where_so (nat_le 8 (length a)) refusals.TooDeep) h).0
 asks_created g a (wants.Call x op) h = not_open g a (last_two (has_ended g a) (has_call g a) (has_child g a) (is_not_open g a) h).1
 asks_created g a (wants.Commit v) h = not_open g a (last_two (has_ended g a) (has_call g a) (has_child g a) (is_not_open g a) h).1

@@ -9,6 +9,10 @@ pub mod ScriptNodes
 pub mod Ranging
 pub mod Echoing
 pub mod InRange
+pub mod AmongNodes
+pub mod StandsAmong
+pub mod NextAmong
+pub mod LettersAmong
 pub mod Writing
 pub mod Networks
 pub mod Flying

@@ -2,6 +2,7 @@ pub mod Laws
 pub mod Sending
 pub mod Scripts
 pub mod Ranges
+pub mod Addressees
 pub mod Network
 pub mod Flight
 pub mod FlightLaws

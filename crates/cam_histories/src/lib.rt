@@ -8,6 +8,7 @@
 //! `cam_delta` and `cam_runs`, which say the same of runs by what nodes hold and by pasts.
 #![tactic(auto)]
 
+ghost use Rattle.cam_histories.specs.Addressees.{InputsStayAmong, LettersGoAmong};
 ghost use Rattle.cam_histories.specs.Laws.{HaltedInputsMayBePut, HaltedLettersMayBePut, HistoriesAreLawful, HistoriesGoThrough, HistoriesMayEnd, InputsMayBePut, LettersMayBePut, NodesMakeRuns, PutsMayCome, StepsAreNodes, WholeLettersMayBePut};
 ghost use Rattle.cam_histories.specs.Network.{NextWaits, HasRunLetters};
 ghost use Rattle.cam_histories.specs.Ranges.{LettersAreInRange, NumbersAreFew, PerformsAreFew};
@@ -79,4 +80,11 @@ pub fn ranges()
 pub fn network()
     ensures next { NextWaits }
     ensures letters { HasRunLetters }
+{}
+
+/// In a run whose inputs name none but so many nodes, over objects at these, each letter goes from one of them to one of them; and with one more
+/// such input, a halt too, it is such a run again.
+pub fn addressees()
+    ensures letters { LettersGoAmong }
+    ensures inputs { InputsStayAmong }
 {}
