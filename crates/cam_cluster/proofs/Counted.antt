@@ -135,7 +135,7 @@ module _ (c : Setting) (st : Standing) (line : ℕ) where
       whole_counts : (l : LetterId) (b : Bool)
           → ◌≡◌ {A = Option WireFault} (if b then Some (faults.Short bytes) else None) None
           → accepted (if b then record st {
-          running = with_mark (marks.Cut c.line k Short bytes) st.running;
+            running = with_mark (marks.Cut c.line k Short bytes) st.running;
           } else deliver c st k l).turns
           ≡ accepted st.turns + 1
       whole_counts l true none = cc

@@ -85,10 +85,11 @@ known_past : (k : ℕ) (end : Put) (old : List Halt)
 known_past k puts.Stood old past =
     all_so (λ (h : Halt). h.input < k) (λ (h : Halt). h.input < k + 1) old
     (λ h less. omega (arith, less)) past
-known_past k puts.Halted old past =
-    (omega arith,
-    all_so (λ (h : Halt). h.input < k) (λ (h : Halt). h.input < k + 1) old
-    (λ h less. omega (arith, less)) past)
+known_past k puts.Halted old past = (
+  omega arith,
+  all_so (λ (h : Halt). h.input < k) (λ (h : Halt). h.input < k + 1) old
+      (λ h less. omega (arith, less)) past,
+)
 
 -- a letter that is handed over is one input
 pub one_handed : (c : Setting) (st : Standing) (w : ℕ × LetterId)
@@ -104,10 +105,11 @@ one_handed c st w =
 -- where none waits nothing has to be said
 none_said : (c : Setting) (ends : List Put) (st : Standing) → waiting st ≡ None → AreSaid c ends st
 none_said c [] st none = tt
-none_said c (end ∷ ends) st none =
-    (subst (λ (o : Option (ℕ × LetterId)). IsSaid c st o end) (sym none) tt,
-    subst (λ (o : Option (ℕ × LetterId)). AreSaid c ends (deliver_waiting c st o)) (sym none)
-    (none_said c ends st none))
+none_said c (end ∷ ends) st none = (
+  subst (λ (o : Option (ℕ × LetterId)). IsSaid c st o end) (sym none) tt,
+  subst (λ (o : Option (ℕ × LetterId)). AreSaid c ends (deliver_waiting c st o)) (sym none)
+      (none_said c ends st none),
+)
 
 -- So the halts of the ends say how each of them ended.
 pub ends_said : (c : Setting) (all old : List Halt) (k : ℕ) (ends : List Put) (st : Standing)
@@ -132,14 +134,16 @@ ends_said c all old k (end ∷ ends) st halts is at past =
     said : (o : Option (ℕ × LetterId)) → waiting st ≡ o
         → ((w : ℕ × LetterId) → AreSaid c ends (deliver c st w.0 w.1))
         → IsSaid c st (waiting st) end × AreSaid c ends (deliver_waiting c st (waiting st))
-    said None none on =
-        (subst (λ (o : Option (ℕ × LetterId)). IsSaid c st o end) (sym none) tt,
-        subst (λ (o : Option (ℕ × LetterId)). AreSaid c ends (deliver_waiting c st o)) (sym none)
-        (none_said c ends st none))
-    said (Some w) waits on =
-        (subst (λ (o : Option (ℕ × LetterId)). IsSaid c st o end) (sym waits) (of_first w),
-        subst (λ (o : Option (ℕ × LetterId)). AreSaid c ends (deliver_waiting c st o)) (sym waits)
-        (on w))
+    said None none on = (
+      subst (λ (o : Option (ℕ × LetterId)). IsSaid c st o end) (sym none) tt,
+      subst (λ (o : Option (ℕ × LetterId)). AreSaid c ends (deliver_waiting c st o)) (sym none)
+          (none_said c ends st none),
+    )
+    said (Some w) waits on = (
+      subst (λ (o : Option (ℕ × LetterId)). IsSaid c st o end) (sym waits) (of_first w),
+      subst (λ (o : Option (ℕ × LetterId)). AreSaid c ends (deliver_waiting c st o)) (sym waits)
+          (on w),
+    )
 
 -- So many letters were handed over.
 pub handed_over : (c : Setting) (ends : List Put) (st : Standing) → AreDue c ends st

@@ -63,9 +63,10 @@ module _ (line : ℕ) (old new : LinesFields) (might may : ℕ → Logged → Ty
   cut_taken k bytes fault is seen keeps next =
       let so =
       is seen.script seen.standing (given seen.halts) (later_steps seen) keeps.is_script keeps.keeps
-      next in
-      (done_goes seen (at (acts.Cut k bytes)) old new might may keeps next so.1.passed so.1.stands,
-      sym so.0)
+      next in (
+        done_goes seen (at (acts.Cut k bytes)) old new might may keeps next so.1.passed so.1.stands,
+        sym so.0,
+      )
 
   -- or arrives whole.
   pub whole_taken : (k bytes : ℕ) (done : Put)
@@ -76,13 +77,14 @@ module _ (line : ℕ) (old new : LinesFields) (might may : ℕ → Logged → Ty
       let more = halts_from (accepted seen.standing.turns) (done ∷ []) in
       let so =
       is seen.script seen.standing (given (more ++ seen.halts)) (later_steps seen) keeps.is_script
-      keeps.keeps next in
-      (led_goes seen (at (acts.Cut k bytes)) old new might may keeps next (Receives so.1.letter) done
-      so.1.led
-      (cut_counts
-      (setting_in by_knowledge seen (more ++ seen.halts) (at (acts.Cut k bytes))) seen.standing line
-      seen.script.bodies k bytes so.1.led.passed so.0),
-      sym so.0)
+      keeps.keeps next in (
+        led_goes seen (at (acts.Cut k bytes)) old new might may keeps next (Receives so.1.letter) done
+            so.1.led
+            (cut_counts
+            (setting_in by_knowledge seen (more ++ seen.halts) (at (acts.Cut k bytes))) seen.standing line
+            seen.script.bodies k bytes so.1.led.passed so.0),
+        sym so.0,
+      )
 
 -- What is built and neither loses nor cuts a letter puts an input.
 pub other_input : (a : Act) → IsBuilt a → ((k bytes : ℕ) → a ≡ acts.Cut k bytes → ⊥)

@@ -12,12 +12,6 @@ ghost use Rattle.cam_cluster.specs.Servers.{AreServers};
 ghost use Rattle.cam_cluster.specs.SoFar.{HasLed, HasRefused, IsBinding, KeepsLinesAsBefore, bound_by};
 
 mod begin;
-mod one_input;
-mod query;
-mod requests;
-mod start;
-mod take;
-mod tell;
 mod cut;
 mod deliver;
 mod drain;
@@ -30,6 +24,7 @@ mod requests;
 mod restart;
 mod start;
 mod stop;
+mod take;
 mod tell;
 
 use crate::room::{push_reserved, reserve_one};

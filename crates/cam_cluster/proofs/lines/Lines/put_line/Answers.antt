@@ -345,4 +345,3 @@ returns-in-Deliver-clause-line g c =
 pub returns-in-Deliver-clause-servers : goal.returns-in-Deliver-clause-servers
 returns-in-Deliver-clause-servers g c =
     c.deliver.ensures.servers
-

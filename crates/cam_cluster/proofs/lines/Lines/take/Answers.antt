@@ -14,9 +14,11 @@ use Rattle.cam_cluster.proofs.lines.Lines.take.Goals as goal
 
 pub lose-requires : goal.lose-requires
 lose-requires g c =
-    record { stand = some_lines c.args.step.now.line c.args.step.now.act
-    (lines_of g.L.CheckpointLog g.L.EntryLog c.args.self.now)
-    (reads_of g.L.CheckpointLog g.L.EntryLog c.args.self.now.works) c.requires.next; }
+    record {
+      stand = some_lines c.args.step.now.line c.args.step.now.act
+          (lines_of g.L.CheckpointLog g.L.EntryLog c.args.self.now)
+          (reads_of g.L.CheckpointLog g.L.EntryLog c.args.self.now.works) c.requires.next;
+    }
 
 pub cut-requires-clause-stand : goal.cut-requires-clause-stand
 cut-requires-clause-stand g c =
@@ -141,9 +143,9 @@ returns-in-Ok-put_line g c =
     record {
       line =
           put_taken c.args.step.now (lines_of g.L.CheckpointLog g.L.EntryLog c.args.self.now)
-    (lines_of g.L.CheckpointLog g.L.EntryLog c.put_line.new.self)
-    (reads_of g.L.CheckpointLog g.L.EntryLog c.args.self.now.works)
-    (reads_of g.L.CheckpointLog g.L.EntryLog c.put_line.new.self.works)
+          (lines_of g.L.CheckpointLog g.L.EntryLog c.put_line.new.self)
+          (reads_of g.L.CheckpointLog g.L.EntryLog c.args.self.now.works)
+          (reads_of g.L.CheckpointLog g.L.EntryLog c.put_line.new.self.works)
           (other_input c.args.step.now.act c.requires.built c.in_default.not-Cut c.in_default.not-Lose) c.in-Ok-put_line.field-0 c.in-Ok-put_line.ensures.line;
       servers = c.in-Ok-put_line.ensures.servers;
     }
@@ -153,10 +155,9 @@ returns-in-Err-put_line g c =
     record {
       line =
           put_fault c.args.step.now (lines_of g.L.CheckpointLog g.L.EntryLog c.args.self.now)
-    (lines_of g.L.CheckpointLog g.L.EntryLog c.put_line.new.self)
-    (reads_of g.L.CheckpointLog g.L.EntryLog c.args.self.now.works)
-    (reads_of g.L.CheckpointLog g.L.EntryLog c.put_line.new.self.works)
+          (lines_of g.L.CheckpointLog g.L.EntryLog c.put_line.new.self)
+          (reads_of g.L.CheckpointLog g.L.EntryLog c.args.self.now.works)
+          (reads_of g.L.CheckpointLog g.L.EntryLog c.put_line.new.self.works)
           (other_input c.args.step.now.act c.requires.built c.in_default.not-Cut c.in_default.not-Lose) c.in-Err-put_line.fault c.in-Err-put_line.ensures.line;
       servers = c.in-Err-put_line.ensures.servers;
     }
-
