@@ -96,11 +96,13 @@ impl<L: CheckpointLog + StopLog> Works<L> {
     /// The restart of the node at a place stands, and the node is not halted.
     fn go_on(&mut self, place: usize, stepped: Stepped)
         requires place { place < 8 }
-        requires room { vec_len self.old.events < vec_capacity self.old.events }
+        requires room { (vec_len self.old.events.events < vec_capacity self.old.events.events)
+            × (vec_len self.old.events.counts < vec_capacity self.old.events.counts) }
         requires none { self.old.outbox.unput ≡ [] }
         ensures nodes { self.new.nodes ≡ self.old.nodes }
         ensures halted { self.new.halted ≡ set self.old.halted place false }
-        ensures events { self.new.events.items ≡ self.old.events.items ++ stepped.event ∷ [] }
+        ensures events { self.new.events.events.items
+            ≡ self.old.events.events.items ++ stepped.event ∷ [] }
         ensures marks { self.new.marks ≡ self.old.marks }
         ensures outbox { self.new.outbox ≡ record { net = self.old.outbox.net; unput = stepped.letters } }
     {

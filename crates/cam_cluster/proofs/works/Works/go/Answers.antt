@@ -16,7 +16,7 @@ pub catch_up-requires : goal.catch_up-requires
 catch_up-requires g c =
     let goes = c.requires.goes in
     let fits = goes.are_workers.within in
-    let many = as_many c.args.self.now.events.items goes.standing.running.trace goes.keeps.events in
+    let many = as_many c.args.self.now.events.events.items goes.standing.running.trace goes.keeps.events in
     subst (λ es. c.args.workers.now.events ≤ length es) (sym c.as_slice.ensures.value)
     (omega (arith, fits, many))
 
@@ -100,7 +100,7 @@ put-requires-clause-may g c =
     let reads = reads_of g.L.CheckpointLog g.L.EntryLog c.args.self.now in
     let goes = c.requires.goes in
     let home = sym (home_place c.home.result _ _ c.home.ensures goes.may.low) in
-    let caught : CatchesUp c.args.self.now.events.items c.args.workers.now c.reserve.new.self =
+    let caught : CatchesUp c.args.self.now.events.events.items c.args.workers.now c.reserve.new.self =
     λ st is are. (
       c.reserve.ensures.stay st
           (c.catch_up.ensures.stay st (c.as_slice.ensures.value ∙ is) are),
@@ -160,7 +160,7 @@ returns-in_ok-done-in-Request-clause-gone g c =
     let reads = reads_of g.L.CheckpointLog g.L.EntryLog c.args.self.now in
     let goes = c.requires.goes in
     let home = sym (home_place c.home.result _ _ c.home.ensures goes.may.low) in
-    let caught : CatchesUp c.args.self.now.events.items c.args.workers.now c.reserve.new.self =
+    let caught : CatchesUp c.args.self.now.events.events.items c.args.workers.now c.reserve.new.self =
     λ st is are. (
       c.reserve.ensures.stay st
           (c.catch_up.ensures.stay st (c.as_slice.ensures.value ∙ is) are),
@@ -184,7 +184,7 @@ pub returns-in-Wait : goal.returns-in-Wait
 returns-in-Wait g c =
     let works = works_of g.L.CheckpointLog g.L.EntryLog c.args.self.now in
     let reads = reads_of g.L.CheckpointLog g.L.EntryLog c.args.self.now in
-    let caught : CatchesUp c.args.self.now.events.items c.args.workers.now c.reserve.new.self =
+    let caught : CatchesUp c.args.self.now.events.events.items c.args.workers.now c.reserve.new.self =
     λ st is are. (
       c.reserve.ensures.stay st
           (c.catch_up.ensures.stay st (c.as_slice.ensures.value ∙ is) are),

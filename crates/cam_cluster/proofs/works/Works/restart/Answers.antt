@@ -30,8 +30,8 @@ returns-in_err-make_room-clause-as_before g c =
     let mid = c.make_room.new.self in
     on_err c.from_residual.result _ (room_made (part g.L.CheckpointLog g.L.EntryLog)
     (tells_of g.L.CheckpointLog g.L.EntryLog) (reads_at g.L.CheckpointLog g.L.EntryLog)
-    old.nodes.items mid.nodes.items old.outbox mid.outbox old.halted mid.halted old.events.items
-    mid.events.items old.marks.items mid.marks.items
+    old.nodes.items mid.nodes.items old.outbox mid.outbox old.halted mid.halted old.events.events.items
+    mid.events.events.items old.marks.items mid.marks.items
     (ap (λ v. v.items) c.make_room.ensures.nodes) c.make_room.ensures.some
     c.make_room.ensures.halted c.make_room.ensures.events c.make_room.ensures.marks)
 
@@ -74,15 +74,15 @@ returns-then-has_taken-clause-restarted g c =
     ends.Found
     (room_made (part g.L.CheckpointLog g.L.EntryLog)
     (tells_of g.L.CheckpointLog g.L.EntryLog) (reads_at g.L.CheckpointLog g.L.EntryLog)
-    was.nodes.items mid.nodes.items was.outbox mid.outbox was.halted mid.halted was.events.items
-    mid.events.items was.marks.items mid.marks.items same c.make_room.ensures.some
+    was.nodes.items mid.nodes.items was.outbox mid.outbox was.halted mid.halted was.events.events.items
+    mid.events.events.items was.marks.items mid.marks.items same c.make_room.ensures.some
     c.make_room.ensures.halted c.make_room.ensures.events c.make_room.ensures.marks)
     (λ logged read. subst (λ ns. MayReadAt (tells_of g.L.CheckpointLog g.L.EntryLog)
     (reads_at g.L.CheckpointLog g.L.EntryLog) ns (c.args.place + 1) logged) same read)
     (found_in
     (part g.L.CheckpointLog g.L.EntryLog)
     (tells_of g.L.CheckpointLog g.L.EntryLog) (reads_at g.L.CheckpointLog g.L.EntryLog)
-    c.args.place c.args.line mid.nodes.items mid.outbox mid.halted mid.events.items
+    c.args.place c.args.line mid.nodes.items mid.outbox mid.halted mid.events.events.items
     mid.marks.items old new there c.requires.place c.index_mut.ensures.value
     (set mid.nodes.items c.args.place new)
     refl c.restart_cleared.ensures.objects
@@ -113,8 +113,8 @@ returns-else-has_taken-clause-restarted g c =
     ends.Stood
     (room_made (part g.L.CheckpointLog g.L.EntryLog)
     (tells_of g.L.CheckpointLog g.L.EntryLog) (reads_at g.L.CheckpointLog g.L.EntryLog)
-    was.nodes.items mid.nodes.items was.outbox mid.outbox was.halted mid.halted was.events.items
-    mid.events.items was.marks.items mid.marks.items same c.make_room.ensures.some
+    was.nodes.items mid.nodes.items was.outbox mid.outbox was.halted mid.halted was.events.events.items
+    mid.events.events.items was.marks.items mid.marks.items same c.make_room.ensures.some
     c.make_room.ensures.halted c.make_room.ensures.events c.make_room.ensures.marks)
     (λ logged read. subst (λ ns. MayReadAt (tells_of g.L.CheckpointLog g.L.EntryLog)
     (reads_at g.L.CheckpointLog g.L.EntryLog) ns (c.args.place + 1) logged) same read)
@@ -123,13 +123,13 @@ returns-else-has_taken-clause-restarted g c =
     ends.Stood w (reads_of g.L.CheckpointLog g.L.EntryLog end))
     (sym (same_works (part g.L.CheckpointLog g.L.EntryLog)
     (tells_of g.L.CheckpointLog g.L.EntryLog) (reads_at g.L.CheckpointLog g.L.EntryLog)
-    end.nodes.items end.outbox _ end.halted _ end.events.items _ end.marks.items _
+    end.nodes.items end.outbox _ end.halted _ end.events.events.items _ end.marks.items _
     c.go_on.ensures.outbox c.go_on.ensures.halted c.go_on.ensures.events
     (ap (λ v. v.items) c.go_on.ensures.marks)))
     (restarted_in
     (part g.L.CheckpointLog g.L.EntryLog)
     (tells_of g.L.CheckpointLog g.L.EntryLog) (reads_at g.L.CheckpointLog g.L.EntryLog)
-    c.args.place c.args.line mid.nodes.items mid.outbox mid.halted mid.events.items
+    c.args.place c.args.line mid.nodes.items mid.outbox mid.halted mid.events.events.items
     mid.marks.items old new there c.requires.place c.index_mut.ensures.value end.nodes.items
     (ap (λ v. v.items) c.go_on.ensures.nodes) c.restart_cleared.ensures.objects
     old.halted_at told
@@ -161,8 +161,8 @@ returns-in-Err-clause-restarted g c =
     ends.Halted
     (room_made (part g.L.CheckpointLog g.L.EntryLog)
     (tells_of g.L.CheckpointLog g.L.EntryLog) (reads_at g.L.CheckpointLog g.L.EntryLog)
-    was.nodes.items mid.nodes.items was.outbox mid.outbox was.halted mid.halted was.events.items
-    mid.events.items was.marks.items mid.marks.items same c.make_room.ensures.some
+    was.nodes.items mid.nodes.items was.outbox mid.outbox was.halted mid.halted was.events.events.items
+    mid.events.events.items was.marks.items mid.marks.items same c.make_room.ensures.some
     c.make_room.ensures.halted c.make_room.ensures.events c.make_room.ensures.marks)
     (λ logged read. subst (λ ns. MayReadAt (tells_of g.L.CheckpointLog g.L.EntryLog)
     (reads_at g.L.CheckpointLog g.L.EntryLog) ns (c.args.place + 1) logged) same read)
@@ -171,13 +171,13 @@ returns-in-Err-clause-restarted g c =
     ends.Halted w (reads_of g.L.CheckpointLog g.L.EntryLog end))
     (sym (same_works (part g.L.CheckpointLog g.L.EntryLog)
     (tells_of g.L.CheckpointLog g.L.EntryLog) (reads_at g.L.CheckpointLog g.L.EntryLog)
-    end.nodes.items end.outbox _ end.halted _ end.events.items _ end.marks.items _
+    end.nodes.items end.outbox _ end.halted _ end.events.events.items _ end.marks.items _
     c.halt.ensures.outbox c.halt.ensures.halted (ap (λ v. v.items) c.halt.ensures.events)
     c.halt.ensures.marks))
     (failed_in
     (part g.L.CheckpointLog g.L.EntryLog)
     (tells_of g.L.CheckpointLog g.L.EntryLog) (reads_at g.L.CheckpointLog g.L.EntryLog)
-    c.args.place c.args.line mid.nodes.items mid.outbox mid.halted mid.events.items
+    c.args.place c.args.line mid.nodes.items mid.outbox mid.halted mid.events.events.items
     mid.marks.items old new there c.requires.place c.index_mut.ensures.value end.nodes.items
     (ap (λ v. v.items) c.halt.ensures.nodes) c.restart_cleared.ensures.objects
     old.halted_at told
