@@ -56,7 +56,7 @@ module _ (c : Setting) (end : Put) where
 module _ (c : Setting)
     (goes_on : (st : Standing) (w : ℕ × LetterId) → waiting st ≡ Some w
     → drain c st ≡ drain c (deliver c st w.0 w.1)) where
-  drain_is : (ends : List Put) (st : Standing) → AreDue c ends st
+  pub drain_is : (ends : List Put) (st : Standing) → AreDue c ends st
       → waiting (deliveries c (length ends) st) ≡ None
       → drain c st ≡ deliveries c (length ends) st
   drain_is [] st due none = drains_are_over c st none

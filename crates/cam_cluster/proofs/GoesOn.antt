@@ -89,9 +89,9 @@ module _ (seen : Seen) (step : Step) (more : List Halt) (old new : LinesFields)
       halted_lines_agree seen.script st step (given all) (later_steps seen)
       (script_in_range seen.script keeps.is_script) keeps.keeps.runs.under next
 
-  one_more_accepted : length (after_step seen step more).standing.running.bound
+  accepts_one : length (after_step seen step more).standing.running.bound
       ≡ length st.running.bound + 1
-  one_more_accepted =
+  accepts_one =
       line_counts seen.script (given all) st step (later_steps seen)
       (script_in_range seen.script keeps.is_script) keeps.keeps.runs.under next
 
@@ -115,7 +115,7 @@ module _ (seen : Seen) (step : Step) (more : List Halt) (old new : LinesFields)
   stands =
       let same : suc (length st.running.bound) ≡ length st.running.bound + 1 = omega arith in
       sym
-      (ap (run_of_lines by_pasts seen.script all) (one_more_accepted ∙ sym same)
+      (ap (run_of_lines by_pasts seen.script all) (accepts_one ∙ sym same)
       ∙ one_more (by_pasts seen.script.objects) (given all) seen.script.bodies
       (length st.running.bound) seen.script.steps start step next
       ∙ ap (λ (n : ℕ). after_line (run_of_lines by_pasts seen.script all
@@ -199,11 +199,11 @@ refused_step seen step refusal test =
 one_end : (seen new : Seen) (done : Put)
     → accepted new.standing.turns ≡ accepted seen.standing.turns + 1
     → AreHaltsOfLine seen new (halts_from (accepted seen.standing.turns) (done ∷ []))
-one_end seen new puts.Stood one_more_accepted = record { newest = tt; low = tt; high = tt }
-one_end seen new puts.Halted one_more_accepted = record {
+one_end seen new puts.Stood accepts_one = record { newest = tt; low = tt; high = tt }
+one_end seen new puts.Halted accepts_one = record {
   newest = (tt, tt);
   low = (omega arith, tt);
-  high = (omega (arith, one_more_accepted), tt);
+  high = (omega (arith, accepts_one), tt);
 }
 
 -- The line of a run that is kept, which is taken next.
@@ -216,7 +216,7 @@ module _ (seen : Seen) (step : Step) (old new : LinesFields) (might may : ℕ �
       act (setting_in by_knowledge seen (more ++ seen.halts) step) seen.script.bodies seen.standing
       step.act
 
-  held_is : (more : List Halt)
+  pub held_is : (more : List Halt)
       → after_line seen.standing step.line (held more) ≡ (after_step seen step more).standing
   held_is more =
       ap (after_line seen.standing step.line)
@@ -231,11 +231,11 @@ module _ (seen : Seen) (step : Step) (old new : LinesFields) (might may : ℕ �
       → accepted (after_line seen.standing step.line (held more)).turns
       ≡ accepted seen.standing.turns + 1
       → HasLedOn seen step new may
-  led_goes input done led one_more_accepted =
+  led_goes input done led accepts_one =
       let more = halts_from (accepted seen.standing.turns) (done ∷ []) in
       let of_line =
       one_end seen (after_step seen step more) done
-      (ap (λ (x : Standing). accepted x.turns) (sym (held_is more)) ∙ one_more_accepted) in
+      (ap (λ (x : Standing). accepted x.turns) (sym (held_is more)) ∙ accepts_one) in
       record {
         more = more;
         of_line = of_line;
@@ -291,18 +291,18 @@ module _ (seen : Seen) (step : Step) (old new : LinesFields) (might may : ℕ �
       (act c seen.script.bodies seen.standing step.act)).turns
       ≡ accepted seen.standing.turns + 1)
       → IsStepOf seen step new may result
-  one_input_goes input (Ok done) line one_more_accepted =
+  one_input_goes input (Ok done) line accepts_one =
       let more = halts_from (accepted seen.standing.turns) (done ∷ []) in
       let led =
       line seen.script seen.standing (given (more ++ seen.halts)) (later_steps seen)
       keeps.is_script keeps.keeps next in
       led_goes input done led
-      (one_more_accepted (setting_in by_knowledge seen (more ++ seen.halts) step) refl led.passed)
-  one_input_goes input (Err (line_faults.Refused refusal)) line one_more_accepted =
+      (accepts_one (setting_in by_knowledge seen (more ++ seen.halts) step) refl led.passed)
+  one_input_goes input (Err (line_faults.Refused refusal)) line accepts_one =
       refused_goes refusal
       (line seen.script seen.standing (given seen.halts) (later_steps seen) keeps.is_script
       keeps.keeps next)
-  one_input_goes input (Err line_faults.NoMemory) line one_more_accepted =
+  one_input_goes input (Err line_faults.NoMemory) line accepts_one =
       wanting_goes
       (line seen.script seen.standing (given seen.halts) (later_steps seen) keeps.is_script
       keeps.keeps next)

@@ -16,13 +16,13 @@ use Rattle.cam_cluster.specs.declared.LineFault.{LineFault}
 use Rattle.cam_cluster.specs.declared.LineFault.TheVariants as line_faults
 use Rattle.cam_cluster.specs.declared.lines.cut.CutLetter.TheVariants as cuts
 use Rattle.cam_cluster.specs.declared.works.Put.{Put}
-use Rattle.cam_cluster.specs.Between.{halts_from}
+use Rattle.cam_cluster.specs.Between.{KeepsBetween, halts_from}
 use Rattle.cam_cluster.specs.LetterLines.{IsCut, IsLoss}
 use Rattle.cam_cluster.specs.LetterLines as letters
 use Rattle.cam_cluster.specs.LineOwes.{cut_fault}
 use Rattle.cam_cluster.specs.Seen.{Seen, later_steps, setting_in}
 use Rattle.cam_cluster.specs.SoFar.{LinesFields}
-use Rattle.cam_cluster.specs.Taking.{IsBuilt, IsInputLine, IsStepTaken, PutsInput}
+use Rattle.cam_cluster.specs.Taking.{IsBuilt, IsInputLine, IsStepTaken, IsWanting, PutsInput}
 use Rattle.cam_cluster.proofs.Counted.{cut_counts}
 use Rattle.cam_cluster.proofs.GoesOn.{done_goes, led_goes, refused_goes, wanting_goes}
 
@@ -34,16 +34,18 @@ module _ (line : ℕ) (old new : LinesFields) (might may : ℕ → Logged → Ty
   pub fault_taken : {T : Type 0}
       (ends : Script → Standing → Setting → LinesFields → (ℕ → Logged → Type 0) → T → Type 0)
       (act_is : Act) (fault : LineFault)
+      → ((seen : Seen) → KeepsBetween seen new may → IsWanting act_is seen (at act_is) new may)
       → letters.IsLineBy line act_is ends old might new may (Err fault)
       → IsStepTaken (at act_is) old might new may (Err fault)
-  fault_taken ends act_is (line_faults.Refused refusal) is seen keeps next =
+  fault_taken ends act_is (line_faults.Refused refusal) wants is seen keeps next =
       refused_goes seen (at act_is) old new might may keeps next refusal
       (is seen.script seen.standing (given seen.halts) (later_steps seen) keeps.is_script keeps.keeps
       next)
-  fault_taken ends act_is line_faults.NoMemory is seen keeps next =
-      wanting_goes seen (at act_is) old new might may keeps next
+  fault_taken ends act_is line_faults.NoMemory wants is seen keeps next =
+      wants seen
+      (wanting_goes seen (at act_is) old new might may keeps next
       (is seen.script seen.standing (given seen.halts) (later_steps seen) keeps.is_script keeps.keeps
-      next)
+      next))
 
   -- A letter is lost.
   pub loss_taken : (k : ℕ) (done : Unit {0})
@@ -88,24 +90,24 @@ module _ (line : ℕ) (old new : LinesFields) (might may : ℕ → Logged → Ty
 
 -- What is built and neither loses nor cuts a letter puts an input.
 pub other_input : (a : Act) → IsBuilt a → ((k bytes : ℕ) → a ≡ acts.Cut k bytes → ⊥)
-    → ((k : ℕ) → a ≡ acts.Lose k → ⊥) → PutsInput a
-other_input (acts.Begin s) built no_cut no_lose = built
-other_input (acts.Start s body) built no_cut no_lose = built
-other_input (acts.Ask p m) built no_cut no_lose = built
-other_input (acts.Call v x op) built no_cut no_lose = built
-other_input (acts.Commit v value) built no_cut no_lose = built
-other_input (acts.Abort v) built no_cut no_lose = built
-other_input (acts.GiveUp v w) built no_cut no_lose = built
-other_input (acts.Deliver k) built no_cut no_lose = built
-other_input (acts.Tell s to) built no_cut no_lose = built
-other_input (acts.Query s v) built no_cut no_lose = built
-other_input (acts.Go v) built no_cut no_lose = built
-other_input (acts.Restart s) built no_cut no_lose = built
-other_input acts.Drain built no_cut no_lose = built
-other_input acts.Play built no_cut no_lose = built
-other_input (acts.Stop s calls) built no_cut no_lose = built
-other_input (acts.Cut k bytes) built no_cut no_lose = absurd (no_cut k bytes refl)
-other_input (acts.Lose k) built no_cut no_lose = absurd (no_lose k refl)
+    → (a ≡ acts.Drain → ⊥) → ((k : ℕ) → a ≡ acts.Lose k → ⊥) → PutsInput a
+other_input (acts.Begin s) built no_cut no_drain no_lose = built
+other_input (acts.Start s body) built no_cut no_drain no_lose = built
+other_input (acts.Ask p m) built no_cut no_drain no_lose = built
+other_input (acts.Call v x op) built no_cut no_drain no_lose = built
+other_input (acts.Commit v value) built no_cut no_drain no_lose = built
+other_input (acts.Abort v) built no_cut no_drain no_lose = built
+other_input (acts.GiveUp v w) built no_cut no_drain no_lose = built
+other_input (acts.Deliver k) built no_cut no_drain no_lose = built
+other_input (acts.Tell s to) built no_cut no_drain no_lose = built
+other_input (acts.Query s v) built no_cut no_drain no_lose = built
+other_input (acts.Go v) built no_cut no_drain no_lose = built
+other_input (acts.Restart s) built no_cut no_drain no_lose = built
+other_input acts.Drain built no_cut no_drain no_lose = absurd (no_drain refl)
+other_input acts.Play built no_cut no_drain no_lose = built
+other_input (acts.Stop s calls) built no_cut no_drain no_lose = built
+other_input (acts.Cut k bytes) built no_cut no_drain no_lose = absurd (no_cut k bytes refl)
+other_input (acts.Lose k) built no_cut no_drain no_lose = absurd (no_lose k refl)
 
 -- A line of one input tells of no letter.
 told_none : (objects : List ObjectDecl) (st : Standing) (a : Act) → PutsInput a
@@ -128,6 +130,27 @@ told_none objects st acts.Drain puts = elim puts [ ]
 told_none objects st acts.Play puts = elim puts [ ]
 told_none objects st (acts.Stop s calls) puts = elim puts [ ]
 
+-- Where memory runs out in one, what was kept is kept.
+wanting_so : (seen : Seen) (step : Step) (new : LinesFields) (may : ℕ → Logged → Type 0) (a : Act)
+    → PutsInput a → KeepsBetween seen new may → IsWanting a seen step new may
+wanting_so seen step new may (acts.Begin s) puts keeps = keeps
+wanting_so seen step new may (acts.Start s body) puts keeps = keeps
+wanting_so seen step new may (acts.Ask p m) puts keeps = keeps
+wanting_so seen step new may (acts.Call v x op) puts keeps = keeps
+wanting_so seen step new may (acts.Commit v value) puts keeps = keeps
+wanting_so seen step new may (acts.Abort v) puts keeps = keeps
+wanting_so seen step new may (acts.GiveUp v w) puts keeps = keeps
+wanting_so seen step new may (acts.Deliver k) puts keeps = keeps
+wanting_so seen step new may (acts.Tell s to) puts keeps = keeps
+wanting_so seen step new may (acts.Query s v) puts keeps = keeps
+wanting_so seen step new may (acts.Go v) puts keeps = elim puts [ ]
+wanting_so seen step new may (acts.Cut k bytes) puts keeps = elim puts [ ]
+wanting_so seen step new may (acts.Lose k) puts keeps = elim puts [ ]
+wanting_so seen step new may (acts.Restart s) puts keeps = elim puts [ ]
+wanting_so seen step new may acts.Drain puts keeps = elim puts [ ]
+wanting_so seen step new may acts.Play puts keeps = elim puts [ ]
+wanting_so seen step new may (acts.Stop s calls) puts keeps = elim puts [ ]
+
 module _ (step : Step) (old new : LinesFields) (might may : ℕ → Logged → Type 0)
     (puts : PutsInput step.act) where
   pub put_taken : (done : Put) → IsInputLine step old might new may (Ok done)
@@ -138,4 +161,5 @@ module _ (step : Step) (old new : LinesFields) (might may : ℕ → Logged → T
   pub put_fault : (fault : LineFault) → IsInputLine step old might new may (Err fault)
       → IsStepTaken step old might new may (Err fault)
   put_fault (line_faults.Refused refusal) is seen keeps next = is seen keeps next
-  put_fault line_faults.NoMemory is seen keeps next = is seen keeps next
+  put_fault line_faults.NoMemory is seen keeps next =
+      wanting_so seen step new may step.act puts (is seen keeps next)

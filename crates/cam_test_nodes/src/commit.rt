@@ -6,6 +6,8 @@ use cam_names::{Deps, Name};
 use cam_type::Held;
 use std::test::Fail;
 
+/// *A vote arrives*, each test: a vote is late before the family prepares and after its end; a no aborts it, at whatever count; the yes with
+/// which each pair of its dependencies has voted commits it; each other yes is noted.
 #[test]
 fn the_last_yes_commits_and_the_first_no_aborts(rt: HostRuntime) -> Result<(), Fail> {
     let family = Name::parse("1.2.1")?;
@@ -38,6 +40,8 @@ fn the_last_yes_commits_and_the_first_no_aborts(rt: HostRuntime) -> Result<(), F
     Ok(())
 }
 
+/// *A prepare arrives*, each test: a site that has secured the family votes yes again, after a restart too; one that has not votes no at
+/// another count than the present one, and else secures it; after the end a prepare is late.
 #[test]
 fn a_site_that_secured_votes_yes_at_an_old_count(rt: HostRuntime) -> Result<(), Fail> {
     let family = Name::parse("1.2.1")?;
@@ -63,6 +67,7 @@ fn a_site_that_secured_votes_yes_at_an_old_count(rt: HostRuntime) -> Result<(), 
     Ok(())
 }
 
+/// *A query arrives*, each test: what is known is told; an open family of an older count is aborted; one of the present count is open still.
 #[test]
 fn a_query_aborts_an_open_family_of_an_older_count(rt: HostRuntime) -> Result<(), Fail> {
     let family = Name::parse("1.2.1")?;

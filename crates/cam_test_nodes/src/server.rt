@@ -10,7 +10,7 @@ use cam_type::{Answer, Op};
 use site::{Step, addressed, called, first_other};
 use std::test::Fail;
 
-/// Two top actions and a register: the second finds it busy, and so does its repeat when the first has committed.
+/// *A call arrives*, tests *busy* and *again*. Two top actions and a register: the second finds it busy, and so does its repeat when the first has committed.
 #[test]
 fn a_repeat_stays_busy_after_the_holder_has_ended(rt: HostRuntime) -> Result<(), Fail> {
     let a = Name::parse("1.1.1")?;
@@ -29,7 +29,7 @@ fn a_repeat_stays_busy_after_the_holder_has_ended(rt: HostRuntime) -> Result<(),
     Ok(())
 }
 
-/// A child hands its lock to its parent by its commit, so that its sibling reads what it wrote.
+/// *A call arrives*, test *busy*, after an Inform. A child hands its lock to its parent by its commit, so that its sibling reads what it wrote.
 #[test]
 fn a_sibling_reads_once_the_site_has_heard(rt: HostRuntime) -> Result<(), Fail> {
     let a = Name::parse("1.1.1/1.1.1")?;
@@ -44,7 +44,7 @@ fn a_sibling_reads_once_the_site_has_heard(rt: HostRuntime) -> Result<(), Fail> 
     Ok(())
 }
 
-/// One call delivered three times is performed once.
+/// *A call arrives*, test *again*. One call delivered three times is performed once.
 #[test]
 fn a_call_is_performed_once(rt: HostRuntime) -> Result<(), Fail> {
     let a = Name::parse("1.1.1")?;
@@ -60,7 +60,7 @@ fn a_call_is_performed_once(rt: HostRuntime) -> Result<(), Fail> {
     Ok(())
 }
 
-/// A late call of an aborted child whose parent has committed has ended, and is no orphan.
+/// *A call arrives*, test *ended*, before *orphan*. A late call of an aborted child whose parent has committed has ended, and is no orphan.
 #[test]
 fn a_late_call_of_a_committed_family_has_ended(rt: HostRuntime) -> Result<(), Fail> {
     let p = Name::parse("1.1.1")?;
@@ -75,7 +75,7 @@ fn a_late_call_of_a_committed_family_has_ended(rt: HostRuntime) -> Result<(), Fa
     Ok(())
 }
 
-/// An abort drops what was written. A repeat comes before the orphan test, and this before the lock in the way: by the own abort, and by
+/// *A call arrives*, test *orphan*. An abort drops what was written. A repeat comes before the orphan test, and this before the lock in the way: by the own abort, and by
 /// what a sibling that committed had visited.
 #[test]
 fn an_orphan_is_refused(rt: HostRuntime) -> Result<(), Fail> {

@@ -64,7 +64,7 @@ fn called(homed: &mut Homed, action: &Name) -> Option<u32> {
     homed.call(action, 0, &Op::Read, 4, 7).ok()
 }
 
-/// Each refusal, for an action that calls, one with an open child, one that has ended, one of an older count, and one that was not created.
+/// The tests of a request in their order: each, for an action that calls, one with an open child, one that has ended, one of an older count, and one that was not created.
 #[test]
 fn the_first_test_that_holds_refuses(rt: HostRuntime) -> Result<(), Fail> {
     let mut homed = Homed::new(rt.alloc(), 3, 2);
@@ -125,7 +125,7 @@ fn the_first_test_that_holds_refuses(rt: HostRuntime) -> Result<(), Fail> {
     Ok(())
 }
 
-/// An action whose name has eight parts asks for no child, and may end.
+/// *Ask*: an action whose name has eight parts asks for no child, and may end.
 #[test]
 fn a_name_has_eight_parts_at_most(rt: HostRuntime) -> Result<(), Fail> {
     let deep = Name::parse("1.1.1/1.1.1/1.1.1/1.1.1/1.1.1/1.1.1/1.1.1/3.2.1")?;
@@ -143,7 +143,7 @@ fn a_name_has_eight_parts_at_most(rt: HostRuntime) -> Result<(), Fail> {
     Ok(())
 }
 
-/// A top action's first call, at site 4 and its count 7, is answered; the site's count is known as 7, or as 8 after a crash.
+/// *An answer arrives*, the tests after the orphan test. A top action's first call, at site 4 and its count 7, is answered; the site's count is known as 7, or as 8 after a crash.
 #[test]
 fn what_is_seen_of_an_answer(rt: HostRuntime) -> Result<(), Fail> {
     let top = Name::parse("1.2.1")?;
@@ -179,7 +179,7 @@ fn what_is_seen_of_an_answer(rt: HostRuntime) -> Result<(), Fail> {
     Ok(())
 }
 
-/// The answer to an earlier call, and to a call of an action that has ended, is late.
+/// *An answer arrives*, test *late*. The answer to an earlier call, and to a call of an action that has ended, is late.
 #[test]
 fn only_the_open_call_is_answered(rt: HostRuntime) -> Result<(), Fail> {
     let top = Name::parse("1.2.1")?;
@@ -199,7 +199,7 @@ fn only_the_open_call_is_answered(rt: HostRuntime) -> Result<(), Fail> {
     Ok(())
 }
 
-/// A top action asks for three children: one commits, one aborts, one is given up. Then nothing stands against its commit.
+/// *A child finishes*, *A child quits* and *Give up a child*. A top action asks for three children: one commits, one aborts, one is given up. Then nothing stands against its commit.
 #[test]
 fn children_are_decided_once(rt: HostRuntime) -> Result<(), Fail> {
     let top = Name::parse("1.2.1")?;
@@ -243,7 +243,7 @@ fn children_are_decided_once(rt: HostRuntime) -> Result<(), Fail> {
     Ok(())
 }
 
-/// Children are numbered in the order in which they were asked for, whatever their nodes. They are decided while their parent goes on: no child of
+/// *Ask*, and test *late* of *A child finishes*. Children are numbered in the order in which they were asked for, whatever their nodes. They are decided while their parent goes on: no child of
 /// an action that has ended is, nor one of an action of an older count, or of one that was not created.
 #[test]
 fn a_child_is_decided_while_its_parent_goes_on(rt: HostRuntime) -> Result<(), Fail> {
@@ -271,7 +271,7 @@ fn a_child_is_decided_while_its_parent_goes_on(rt: HostRuntime) -> Result<(), Fa
     Ok(())
 }
 
-/// A child starts once at its home, with what its parent depended on and the home. Room that is made is used by the next call.
+/// *A start arrives*. A child starts once at its home, with what its parent depended on and the home. Room that is made is used by the next call.
 #[test]
 fn a_child_starts_once(rt: HostRuntime) -> Result<(), Fail> {
     let child = Name::parse("1.2.1/3.5.1")?;

@@ -8,6 +8,7 @@ use super::{AsLines, Lines};
 use crate::LineFault;
 use crate::servers::Servers;
 use crate::works::Put;
+use cam_base::NoMemory;
 use cam_ckpt::CheckpointLog;
 use cam_script::{Act, Step};
 use cam_type::DataType;
@@ -85,6 +86,10 @@ impl<L: CheckpointLog> Lines<L> {
                 Ok(CutLetter::Bad(fault)) => Ok(Some(fault)),
                 Ok(CutLetter::Delivered(_)) => Ok(None),
                 Err(fault) => Err(fault),
+            },
+            Act::Drain => match self.drain(step.line, servers) {
+                Ok(()) => Ok(None),
+                Err(NoMemory) => Err(LineFault::NoMemory),
             },
             _ => match self.put_line(step, servers) {
                 Ok(_) => Ok(None),

@@ -172,7 +172,7 @@ returns-in-Err-clause-restarted g c =
     (sym (same_works (part g.L.CheckpointLog g.L.EntryLog)
     (tells_of g.L.CheckpointLog g.L.EntryLog) (reads_at g.L.CheckpointLog g.L.EntryLog)
     end.nodes.items end.outbox _ end.halted _ end.events.events.items _ end.marks.items _
-    c.halt.ensures.outbox c.halt.ensures.halted (ap (λ v. v.items) c.halt.ensures.events)
+    c.halt.ensures.outbox c.halt.ensures.halted (ap (λ v. v.events.items) c.halt.ensures.events)
     c.halt.ensures.marks))
     (failed_in
     (part g.L.CheckpointLog g.L.EntryLog)
