@@ -1,8 +1,9 @@
 #!/bin/sh
 # How long a letter takes to be sent, written, read and noted where 10, 100 and 1,000 outcomes are known and it brings ten more, and how
-# much of the first run's time that is. Its receiver has acknowledged all but these ten. What ten new outcomes take is the mean of
-# the letters that come until twice as much is known: in that time each table grows once, wherever it began. The script fails where a
-# letter does not carry or bring its ten outcomes.
+# much of the first run's time that is. Its receiver has acknowledged all but these ten. What ten new outcomes take is told twice: as the
+# mean of the letters that come until twice as much is known, in which time each table grows once, wherever it began; and as the least of
+# those that come until eight times as much is known, one for which no table has to grow. The script fails where a letter does not carry
+# or bring its ten outcomes.
 # A figure is such a ratio: the nanoseconds are those of one machine on one day. Each time is the least of several rounds.
 # bench/letters.sh           proves the crates and the program, and runs it
 # bench/letters.sh --quick   runs a build of the same sources that nothing has proved
@@ -106,18 +107,19 @@ fn noted_again(rt: &HostRuntime, know: &mut Know, letter: Know) -> Result<u128, 
     Ok(nanos)
 }
 
-/// The time in which letters come, each with ten new outcomes, until twice as much is known.
-fn doubled(rt: &HostRuntime, top: &Name, known: u32) -> Result<u128, Error> {
+/// The times of letters that come one after another, each with ten new outcomes, until so many
+/// times as much is known.
+fn arrivals(rt: &HostRuntime, top: &Name, known: u32, times: u32) -> Result<Vec<u128>, Error> {
     let mut know = family(rt, top, 1, known)?;
     let mut places = Places::new();
-    let mut nanos = 0u128;
-    for i in 0..known / BROUGHT {
+    let mut nanos = Vec::new(rt.alloc());
+    for i in 0..known.saturating_mul(times.saturating_sub(1)) / BROUGHT {
         let before = known.saturating_add(i.saturating_mul(BROUGHT));
         let brought = family(rt, top, before.saturating_add(1), before.saturating_add(BROUGHT))?;
         let letter = news(0, brought);
         let start = Instant::now(rt)?;
         let _ = arrive(&mut know, &mut places, &letter)?;
-        nanos = nanos.saturating_add(start.elapsed(rt)?.as_nanos());
+        nanos.push(start.elapsed(rt)?.as_nanos())?;
         for outcome in letter.know.outcomes() {
             ensure!(is_known(&know, outcome), "a letter did not bring an outcome");
         }
@@ -138,13 +140,25 @@ fn is_known(know: &Know, outcome: &Outcome) -> bool {
 fn noted(rt: &HostRuntime, top: &Name, known: u32) -> Result<u128, Error> {
     let mut nanos = 0u128;
     for _ in 0..LETTERS.saturating_mul(BROUGHT) / known.max(1) {
-        nanos = nanos.saturating_add(doubled(rt, top, known)?);
+        for time in &arrivals(rt, top, known, 2)? {
+            nanos = nanos.saturating_add(*time);
+        }
     }
     Ok(nanos / LETTERS as u128)
 }
 
-/// What was measured: to send, to write, to read, to note what is known, to note what is new.
-fn measure_once(rt: &HostRuntime, known: u32) -> Result<[u128; 5], Error> {
+/// The time of the arrival of such a letter for which no table has to grow.
+fn noted_in_room(rt: &HostRuntime, top: &Name, known: u32) -> Result<u128, Error> {
+    let mut least = u128::MAX;
+    for time in &arrivals(rt, top, known, 8)? {
+        least = least.min(*time);
+    }
+    Ok(least)
+}
+
+/// What was measured: to send, to write, to read, to note what is known, to note what is new, and
+/// that where there is room for it.
+fn measure_once(rt: &HostRuntime, known: u32) -> Result<[u128; 6], Error> {
     let top = Name::parse("1.1.1")?;
     let mut know = family(rt, &top, 1, known.saturating_add(BROUGHT))?;
     let mut places = Places::new();
@@ -154,15 +168,16 @@ fn measure_once(rt: &HostRuntime, known: u32) -> Result<[u128; 5], Error> {
     ensure!(letter.know.len() == BROUGHT as u64, "a letter does not carry ten outcomes");
     let [written, read] = as_bytes(rt, &letter)?;
     let again = noted_again(rt, &mut know, letter.know)?;
-    Ok([sent, written, read, again, noted(rt, &top, known)?])
+    let new = noted(rt, &top, known)?;
+    Ok([sent, written, read, again, new, noted_in_room(rt, &top, known)?])
 }
 
 /// The least times of some rounds.
-fn measure(rt: &HostRuntime, known: u32) -> Result<[u128; 5], Error> {
+fn measure(rt: &HostRuntime, known: u32) -> Result<[u128; 6], Error> {
     let mut least = measure_once(rt, known)?;
     for _ in 0..ROUNDS {
         let times = measure_once(rt, known)?;
-        for i in 0..5 {
+        for i in 0..6 {
             least[i] = least[i].min(times[i]);
         }
     }
@@ -170,18 +185,19 @@ fn measure(rt: &HostRuntime, known: u32) -> Result<[u128; 5], Error> {
 }
 
 fn main(rt: HostRuntime) -> Result<(), Error> {
-    const WHAT: [&str; 5] = [
+    const WHAT: [&str; 6] = [
         "send",
         "encode",
         "decode",
         "arrive, ten known outcomes",
         "arrive, ten new outcomes",
+        "arrive, ten new outcomes, no table grows",
     ];
     let first = measure(&rt, 10)?;
     for known in [10, 100, 1_000] {
         let times = if known == 10 { first } else { measure(&rt, known)? };
         println!(rt; "{known} outcomes known")?;
-        for i in 0..5 {
+        for i in 0..6 {
             let hundredths = times[i].saturating_mul(100) / first[i].max(1);
             println!(rt; "  {}: {} ns, {hundredths} hundredths of the first", WHAT[i], times[i])?;
         }
