@@ -21,6 +21,7 @@ pub mod SoFar
 pub mod InputLines
 pub mod VariableLines
 pub mod AtNodes
+pub mod BodiesAtNodes
 pub mod ActionViews
 pub mod Workers
 pub mod Between
