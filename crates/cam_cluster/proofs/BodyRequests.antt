@@ -42,7 +42,7 @@ use Rattle.cam_cluster.specs.Goes.{MayGo, next_of}
 use Rattle.cam_cluster.specs.Puts.{IsPutAt}
 
 -- a sight of which the node's own deeds alone count
-abbrev plain_sight : ℕ → List Entry → List Deed → Sight
+abbrev pub plain_sight : ℕ → List Entry → List Deed → Sight
 plain_sight s own first = record {
   node = s;
   deeds = after (own_deeds own) first;

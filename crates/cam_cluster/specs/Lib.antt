@@ -30,6 +30,7 @@ pub mod LetterLines
 pub mod Drains
 pub mod Goes
 pub mod GoLines
+pub mod Rounds
 pub mod LetterCounts
 pub mod Stops
 pub mod Restarts

@@ -17,6 +17,7 @@ mod go;
 mod letters;
 mod numbered;
 mod restart;
+mod round;
 mod stop;
 
 use crate::room::{push_reserved, reserve_one};
