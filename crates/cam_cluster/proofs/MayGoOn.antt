@@ -1,6 +1,6 @@
 -- Whether an action goes on in a round, by what its home says of a request to abort.
 use Rattle.std.proofs.Common.{◌≡◌, inl, inr, ℕ, ◌+◌, ◌≤◌, ◌<◌, Bool, true, false, not, ◌&&◌, List}
-use Rattle.std.proofs.Common.{length, Option, Some, None, refl, sym, ap, ◌∙◌, subst, arith}
+use Rattle.std.proofs.Common.{length, Option, Some, None, refl, sym, ap, ◌∙◌, arith}
 use Rattle.std.specs.Prelude.{is_none, is_some, nat_lt, slice_get}
 use Rattle.std.specs.List.{list_any}
 use Rattle.std.proofs.lemmas.Bool.{and_from, and_parts, cases_Bool, eq-eqb, ltb-false, or_parts}
@@ -10,10 +10,10 @@ use Rattle.cam_event.specs.declared.Deed.{Deed}
 use Rattle.cam_event.specs.declared.LineRefusal.{LineRefusal}
 use Rattle.cam_event.specs.declared.LineRefusal.TheVariants as refusals
 use Rattle.cam_event.specs.declared.Want.TheVariants as wants
-use Rattle.cam_event.specs.ByPast.{first_informs, sight}
+use Rattle.cam_event.specs.ByPast.{sight}
 use Rattle.cam_event.specs.History.{count, created, ended}
 use Rattle.cam_event.specs.Pasts.{every, plain_all}
-use Rattle.cam_event.specs.Readings.{by_knowledge, by_pasts}
+use Rattle.cam_event.specs.Readings.{by_knowledge}
 use Rattle.cam_event.specs.Refusals.{first_of_two, has_ended, is_not_open, refusal}
 use Rattle.cam_event.specs.Sights.{Sight, is_present, present}
 use Rattle.cam_event.proofs.OwnSteps.{entries_same}
@@ -29,7 +29,6 @@ use Rattle.cam_delta.proofs.SameSteps.{nodes_go_by_the_same}
 use Rattle.cam_net.specs.Waiting.{is_halted}
 use Rattle.cam_node.specs.declared.Input.TheVariants as inputs
 use Rattle.cam_node.specs.Log.{Logged}
-use Rattle.cam_runs.specs.HaltedPlaying.{may_go_on}
 use Rattle.cam_runs.specs.Playing.{is_stop_of, may_go}
 use Rattle.cam_runs.specs.Requests.{home_sight}
 use Rattle.cam_runs.specs.Running.{has_number}

@@ -1,16 +1,19 @@
 -- Rounds of a play: each action with a body makes its next request where it may go on.
-use Rattle.std.specs.Prelude.{◌≡◌, ℕ, Bool}
+use Rattle.std.specs.Prelude.{◌≡◌, ℕ, Bool, ◌&&◌, if◌then◌else◌, List, Option, is_some}
 use Rattle.cam_names.specs.declared.name.Name.{Name}
 use Rattle.cam_node.specs.Log.{Logged}
 use Rattle.cam_runs.specs.Halts.{Halting}
-use Rattle.cam_runs.specs.HaltedPlaying.{may_go_on}
-use Rattle.cam_runs.specs.Standing.{Standing}
+use Rattle.cam_runs.specs.HaltedPlaying.{go, may_go_on}
+use Rattle.cam_runs.specs.Standing.{Setting, Standing}
 use Rattle.cam_script.specs.declared.Script.{Script}
+use Rattle.cam_script.specs.declared.Statement.{Statement}
 use Rattle.cam_script.specs.Law.{IsScript}
 use Rattle.cam_histories.specs.InputLaws.{held_setting}
 use Rattle.cam_cluster.specs.declared.workers.Workers.{Workers}
+use Rattle.cam_cluster.specs.declared.works.Put.{Put}
+use Rattle.cam_cluster.specs.Goes.{IsSaidOf, is_request, next_of}
 use Rattle.cam_cluster.specs.VariableLines.{IsAtNode}
-use Rattle.cam_cluster.specs.Workers.{HaveCaughtUp}
+use Rattle.cam_cluster.specs.Workers.{AreWorkers, HaveCaughtUp}
 use Rattle.cam_cluster.specs.Works.{KeepsRun, WorksFields}
 
 -- Some run of a script is kept of which the action's home is a node.
@@ -29,3 +32,45 @@ IsMayGoOn a works may_read workers goes_on =
     (script : Script) (st : Standing) (halts : Halting) (line : ℕ) (restarted : ℕ → Bool)
     → IsScript script → KeepsRun script st works may_read → HaveCaughtUp st workers
     → goes_on ≡ may_go_on (held_setting script.objects halts line restarted) st a
+
+-- what stands behind an action of a round, and whether it makes a request
+abbrev pub after_name : Setting → List (List Statement) → Standing → Name → Standing
+after_name c bodies st a = if may_go_on c st a then go c bodies st a else st
+
+abbrev pub makes_one : Setting → List (List Statement) → Standing → Name → Bool
+makes_one c bodies st a = may_go_on c st a && is_request (next_of bodies st a)
+
+-- The action had its turn: its request was put, if it makes one, and the works and the workers are
+-- those behind it.
+pub record HadTurn (script : Script) (st : Standing) (c : Setting) (a : Name) (done : Option Put)
+    (new : WorksFields) (may_read : ℕ → Logged → Type 0) (behind : Workers) : Type 0 where
+  pub made : is_some done ≡ makes_one c script.bodies st a
+  pub runs :
+      IsSaidOf c st a (next_of script.bodies st a) done
+      → KeepsRun script (after_name c script.bodies st a) new may_read
+  pub workers :
+      IsSaidOf c st a (next_of script.bodies st a) done
+      → AreWorkers (after_name c script.bodies st a) behind
+
+-- THE CLAUSE of the turn of an action in a round, over what nodes hold.
+abbrev pub HasHadTurn :
+    ℕ → Name → List (List Statement) → WorksFields → (ℕ → Logged → Type 0) → Workers
+    → Option Put → WorksFields → (ℕ → Logged → Type 0) → Workers → Type 0
+HasHadTurn line a bodies old might_read old_workers done new may_read workers =
+    (script : Script) (st : Standing) (halts : Halting) (restarted : ℕ → Bool)
+    → IsScript script → bodies ≡ script.bodies → KeepsRun script st old might_read
+    → AreWorkers st old_workers
+    → HadTurn script st (held_setting script.objects halts line restarted) a done new may_read
+    workers
+
+-- Some run of a script with these bodies is kept of which these are the workers, and the action's
+-- home is a node of it.
+pub record IsTurnOfSome (a : Name) (bodies : List (List Statement)) (works : WorksFields)
+    (may_read : ℕ → Logged → Type 0) (workers : Workers) : Type 0 where
+  pub script : Script
+  pub standing : Standing
+  pub is_script : IsScript script
+  pub bodies_are : bodies ≡ script.bodies
+  pub keeps : KeepsRun script standing works may_read
+  pub are_workers : AreWorkers standing workers
+  pub placed : IsAtNode script.nodes a

@@ -1,12 +1,20 @@
 //! A round of a play: each action with a body makes its next request, if it may go on.
-ghost use Rattle.cam_cluster.specs.Rounds.{IsAtNodeOfSome, IsMayGoOn};
+ghost use Rattle.std.specs.Prelude.{IfOk, OnErr};
+ghost use Rattle.cam_cluster.specs.Goes.{KeepsWorkersAsBefore};
+ghost use Rattle.cam_cluster.specs.Puts.{KeepsAsBefore};
+ghost use Rattle.cam_cluster.specs.Rounds.{HasHadTurn, IsAtNodeOfSome, IsMayGoOn, IsTurnOfSome};
+ghost use Rattle.cam_cluster.specs.Servers.{AreServers};
 
-use super::{AsWorks, Works, is_halted};
+use super::{AsWorks, Put, Works, is_halted};
+use crate::servers::Servers;
 use crate::workers::Workers;
+use cam_base::NoMemory;
 use cam_ckpt::CheckpointLog;
 use cam_event::{Request, Want};
 use cam_names::Name;
 use cam_node::Input;
+use cam_script::Bodies;
+use cam_type::DataType;
 
 impl<L: CheckpointLog> Works<L> {
     /// Whether an action makes its next request in a round: it was created at its home and has not ended, its home has not crashed
@@ -31,5 +39,41 @@ impl<L: CheckpointLog> Works<L> {
             want: Want::Abort,
         });
         self.nodes[place].refusal(&aborts).is_none()
+    }
+
+    /// An action has its turn in a round: it makes the next request of its body, if it may go on and makes one now. Where memory runs
+    /// out, the works and the workers stand as before.
+    #[tactic(none)]
+    pub(crate) fn take_turn<R: DataType, Q: DataType, C: DataType>(
+        &mut self,
+        line: u32,
+        name: &Name,
+        bodies: &Bodies,
+        workers: &mut Workers,
+        servers: &mut Servers<R, Q, C>,
+    ) -> Result<Option<Put>, NoMemory>
+        requires turn { IsTurnOfSome name.now bodies.now (⟦<Works<L> as AsWorks>⟧.fields self.old)
+            (⟦<Works<L> as AsWorks>⟧.may_read self.old) workers.old }
+        requires servers { AreServers R.kind Q.kind C.kind
+            servers.old.register servers.old.queue servers.old.counter }
+        ensures turn { IfOk result (λ done. HasHadTurn line name.now bodies.now
+            (⟦<Works<L> as AsWorks>⟧.fields self.old) (⟦<Works<L> as AsWorks>⟧.may_read self.old)
+            workers.old done
+            (⟦<Works<L> as AsWorks>⟧.fields self.new) (⟦<Works<L> as AsWorks>⟧.may_read self.new)
+            workers.new) }
+        ensures as_before { OnErr result (KeepsAsBefore
+            (⟦<Works<L> as AsWorks>⟧.fields self.old) (⟦<Works<L> as AsWorks>⟧.may_read self.old)
+            (⟦<Works<L> as AsWorks>⟧.fields self.new) (⟦<Works<L> as AsWorks>⟧.may_read self.new)) }
+        ensures workers_as_before { OnErr result (KeepsWorkersAsBefore
+            (⟦<Works<L> as AsWorks>⟧.fields self.old) (⟦<Works<L> as AsWorks>⟧.may_read self.old)
+            workers.old workers.new) }
+        ensures servers { AreServers R.kind Q.kind C.kind
+            servers.new.register servers.new.queue servers.new.counter }
+    {
+        workers.catch_up(self.events.as_slice())?;
+        if self.may_go_on(name, workers) {
+            return self.go(line, name, bodies, workers, servers);
+        }
+        Ok(None)
     }
 }

@@ -1,5 +1,5 @@
 -- Whether an action goes on in a round.
-use Rattle.std.proofs.Common.{◌≡◌, ◌≤◌, ℕ, ◌+◌, ◌-◌, refl, sym, ap, ◌∙◌, subst, rules, arith}
+use Rattle.std.proofs.Common.{◌≤◌, ℕ, ◌-◌, sym, ap, ◌∙◌, subst, rules, arith}
 use Rattle.std.proofs.lemmas.Grind.{common_steps}
 use Rattle.cam_net.specs.Waiting.{is_halted}
 use Rattle.cam_cluster.specs.Rounds.{IsMayGoOn}

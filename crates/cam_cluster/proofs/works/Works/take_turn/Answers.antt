@@ -1,0 +1,134 @@
+-- An action has its turn in a round.
+use Rattle.std.proofs.Common.{◌≤◌, length, rules, sym, ◌∙◌, subst, arith}
+use Rattle.cam_cluster.specs.Goes.{HasGone, KeepsWorkersAsBefore}
+use Rattle.cam_cluster.specs.Rounds.{HasHadTurn, IsMayGoOn}
+use Rattle.cam_cluster.proofs.AsSeen.{reads_of, works_of}
+use Rattle.cam_cluster.proofs.GoneOn.{CatchesUp}
+use Rattle.cam_cluster.proofs.PlacedNodes.{on_err}
+use Rattle.cam_cluster.proofs.Turns.{at_node, if_ok_gives, on_err_gives, turn_goes, turn_gone}
+use Rattle.cam_cluster.proofs.Turns.{turn_stayed, workers_before}
+use Rattle.cam_cluster.proofs.WorkersStand.{as_many}
+use Rattle.cam_cluster.proofs.works.Works.take_turn.Goals as goal
+
+pub catch_up-requires : goal.catch_up-requires
+catch_up-requires g c =
+    let turn = c.requires.turn in
+    let fits = turn.are_workers.within in
+    let many = as_many c.args.self.now.events.events.items turn.standing.running.trace turn.keeps.events in
+    subst (λ es. c.args.workers.now.events ≤ length es) (sym c.as_slice.ensures.value)
+    (omega (arith, fits, many))
+
+pub returns-in_err-catch_up-clause-turn : goal.returns-in_err-catch_up-clause-turn
+returns-in_err-catch_up-clause-turn g c =
+    search rules
+
+pub returns-in_err-catch_up-clause-as_before : goal.returns-in_err-catch_up-clause-as_before
+returns-in_err-catch_up-clause-as_before g c =
+    on_err c.from_residual.result _ (λ script st is keeps. keeps)
+
+pub returns-in_err-catch_up-clause-workers_as_before :
+    goal.returns-in_err-catch_up-clause-workers_as_before
+returns-in_err-catch_up-clause-workers_as_before g c =
+    on_err c.from_residual.result _ (λ script st keeps are.
+    c.catch_up.ensures.stay st (c.as_slice.ensures.value ∙ keeps.events) are)
+
+pub returns-in_err-catch_up-clause-servers : goal.returns-in_err-catch_up-clause-servers
+returns-in_err-catch_up-clause-servers g c =
+    c.requires.servers
+
+pub may_go_on-requires : goal.may_go_on-requires
+may_go_on-requires g c =
+    let works = works_of g.L.CheckpointLog g.L.EntryLog c.args.self.now in
+    let reads = reads_of g.L.CheckpointLog g.L.EntryLog c.args.self.now in
+    let caught_up : CatchesUp c.args.self.now.events.events.items c.args.workers.now
+    c.catch_up.new.self = λ st is are. (
+      c.catch_up.ensures.stay st (c.as_slice.ensures.value ∙ is) are,
+      c.in_ok-catch_up.ensures.caught_up st (c.as_slice.ensures.value ∙ is) are,
+    ) in
+    record {
+      home = at_node c.args.line c.args.name.now c.args.bodies.now works reads c.args.workers.now
+          c.catch_up.new.self c.requires.turn caught_up;
+    }
+
+pub go-requires-clause-goes : goal.go-requires-clause-goes
+go-requires-clause-goes g c =
+    let works = works_of g.L.CheckpointLog g.L.EntryLog c.args.self.now in
+    let reads = reads_of g.L.CheckpointLog g.L.EntryLog c.args.self.now in
+    let caught_up : CatchesUp c.args.self.now.events.events.items c.args.workers.now
+    c.catch_up.new.self = λ st is are. (
+      c.catch_up.ensures.stay st (c.as_slice.ensures.value ∙ is) are,
+      c.in_ok-catch_up.ensures.caught_up st (c.as_slice.ensures.value ∙ is) are,
+    ) in
+    let told = subst (λ b. IsMayGoOn c.args.name.now works reads c.catch_up.new.self b)
+    c.if-may_go_on.true c.may_go_on.ensures in
+    turn_goes c.args.line c.args.name.now c.args.bodies.now works reads c.args.workers.now
+    c.catch_up.new.self c.requires.turn caught_up told
+
+pub go-requires-clause-servers : goal.go-requires-clause-servers
+go-requires-clause-servers g c =
+    c.requires.servers
+
+pub returns-then-may_go_on-clause-turn : goal.returns-then-may_go_on-clause-turn
+returns-then-may_go_on-clause-turn g c =
+    let works = works_of g.L.CheckpointLog g.L.EntryLog c.args.self.now in
+    let reads = reads_of g.L.CheckpointLog g.L.EntryLog c.args.self.now in
+    let caught_up : CatchesUp c.args.self.now.events.events.items c.args.workers.now
+    c.catch_up.new.self = λ st is are. (
+      c.catch_up.ensures.stay st (c.as_slice.ensures.value ∙ is) are,
+      c.in_ok-catch_up.ensures.caught_up st (c.as_slice.ensures.value ∙ is) are,
+    ) in
+    let told = subst (λ b. IsMayGoOn c.args.name.now works reads c.catch_up.new.self b)
+    c.if-may_go_on.true c.may_go_on.ensures in
+    let new = works_of g.L.CheckpointLog g.L.EntryLog c.go.new.self in
+    let may = reads_of g.L.CheckpointLog g.L.EntryLog c.go.new.self in
+    if_ok_gives c.go.result
+    (λ end. HasGone c.args.line c.args.name.now c.args.bodies.now works reads
+    c.catch_up.new.self end new may c.go.new.workers)
+    (λ end. HasHadTurn c.args.line c.args.name.now c.args.bodies.now works reads
+    c.args.workers.now end new may c.go.new.workers)
+    (λ end has. turn_gone c.args.line c.args.name.now c.args.bodies.now works reads c.args.workers.now
+    c.catch_up.new.self c.requires.turn caught_up end new may c.go.new.workers told has)
+    c.go.ensures.gone
+
+pub returns-then-may_go_on-clause-as_before : goal.returns-then-may_go_on-clause-as_before
+returns-then-may_go_on-clause-as_before g c =
+    c.go.ensures.as_before
+
+pub returns-then-may_go_on-clause-workers_as_before :
+    goal.returns-then-may_go_on-clause-workers_as_before
+returns-then-may_go_on-clause-workers_as_before g c =
+    let works = works_of g.L.CheckpointLog g.L.EntryLog c.args.self.now in
+    let reads = reads_of g.L.CheckpointLog g.L.EntryLog c.args.self.now in
+    let caught_up : CatchesUp c.args.self.now.events.events.items c.args.workers.now
+    c.catch_up.new.self = λ st is are. (
+      c.catch_up.ensures.stay st (c.as_slice.ensures.value ∙ is) are,
+      c.in_ok-catch_up.ensures.caught_up st (c.as_slice.ensures.value ∙ is) are,
+    ) in
+    on_err_gives c.go.result
+    (KeepsWorkersAsBefore works reads c.catch_up.new.self c.go.new.workers)
+    (KeepsWorkersAsBefore works reads c.args.workers.now c.go.new.workers)
+    (workers_before c.args.line c.args.name.now c.args.bodies.now works reads c.args.workers.now
+    c.catch_up.new.self c.requires.turn caught_up c.go.new.workers)
+    c.go.ensures.workers_as_before
+
+pub returns-then-may_go_on-clause-servers : goal.returns-then-may_go_on-clause-servers
+returns-then-may_go_on-clause-servers g c =
+    c.go.ensures.servers
+
+pub returns-clause-turn : goal.returns-clause-turn
+returns-clause-turn g c =
+    let works = works_of g.L.CheckpointLog g.L.EntryLog c.args.self.now in
+    let reads = reads_of g.L.CheckpointLog g.L.EntryLog c.args.self.now in
+    let caught_up : CatchesUp c.args.self.now.events.events.items c.args.workers.now
+    c.catch_up.new.self = λ st is are. (
+      c.catch_up.ensures.stay st (c.as_slice.ensures.value ∙ is) are,
+      c.in_ok-catch_up.ensures.caught_up st (c.as_slice.ensures.value ∙ is) are,
+    ) in
+    let told = subst (λ b. IsMayGoOn c.args.name.now works reads c.catch_up.new.self b)
+    c.if-may_go_on.false c.may_go_on.ensures in
+    turn_stayed c.args.line c.args.name.now c.args.bodies.now works reads c.args.workers.now
+    c.catch_up.new.self c.requires.turn caught_up told
+
+pub returns-clause-servers : goal.returns-clause-servers
+returns-clause-servers g c =
+    c.requires.servers
