@@ -35,3 +35,4 @@ pub mod LetterCounts
 pub mod Stops
 pub mod Restarts
 pub mod Taking
+pub mod Founding

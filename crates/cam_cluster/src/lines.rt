@@ -18,6 +18,7 @@ mod drain;
 mod go;
 mod letters;
 mod lose;
+mod new;
 mod one_input;
 mod query;
 mod requests;

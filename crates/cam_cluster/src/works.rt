@@ -15,6 +15,7 @@ ghost use Rattle.cam_cluster.specs.Servers.{AreServers};
 mod drain;
 mod go;
 mod letters;
+mod new;
 mod numbered;
 mod restart;
 mod round;

@@ -1,0 +1,243 @@
+-- A cluster before its first line: its nodes are new, and the disks are back where none is made.
+use Rattle.std.proofs.Common.{◌≡◌, ◌∙◌, ◌≤◌, ◌<◌, ◌+◌, ℕ, zero, suc, Bool, true, false, List, [], ◌∷◌, ◌++◌, length, map, Ok, Err, refl, sym, ap, subst, arith}
+use Rattle.std.proofs.Common.{true≢false, Option, Some, None, ◌-◌}
+use Rattle.std.proofs.lemmas.List.{length-map}
+use Rattle.std.proofs.lemmas.Option.{same_Some, slice_get_past}
+use Rattle.std.specs.Option.{unwrap_or}
+use Rattle.std.specs.Prelude.{Result, IfOk, IsFalse, slice_get}
+use Rattle.cam_base.specs.Causes.{Rose}
+use Rattle.cam_type.specs.declared.ObjectDecl.{ObjectDecl}
+use Rattle.cam_net.specs.Waiting.{is_halted}
+use Rattle.cam_names.specs.declared.name.Name.{Name}
+use Rattle.cam_node.specs.declared.fault.NodeFault.{NodeFault}
+use Rattle.cam_node.specs.declared.fault.NodeFault.TheVariants as node_faults
+use Rattle.cam_node.specs.Keeping.{KeepsNode}
+use Rattle.cam_node.specs.Log.{Logged}
+use Rattle.cam_runs.proofs.HaltedWhole.{start_is_under_halts}
+use Rattle.cam_runs.specs.Standing.{start}
+use Rattle.cam_script.specs.declared.Script.{Script}
+use Rattle.cam_script.specs.Law.{IsScript}
+use Rattle.cam_histories.proofs.Carried.{new_network_stands}
+use Rattle.cam_histories.specs.Whole.{AreSitesOf, IsWhole, Site, StandsAt}
+use Rattle.cam_cluster.specs.declared.founding.ClusterFault.{ClusterFault}
+use Rattle.cam_cluster.specs.declared.founding.ClusterFault.TheVariants as faults
+use Rattle.cam_cluster.specs.Between.{KeepsBetween}
+use Rattle.cam_cluster.specs.Founding.{AreHandedBack, AreNewNodes, IsFaultAmong, IsHandedBack, IsNewNode, before_first, fault_at, new_works}
+use Rattle.cam_cluster.specs.SoFar.{LinesFields}
+use Rattle.cam_cluster.specs.Works.{IsNodeOf, NodeFields, WorksFields, sites_of}
+
+stands_new : (own objects : List ObjectDecl) (s : ℕ) (site : Site) → own ≡ objects
+    → site.node.number ≡ s → KeepsNode own [] site.node site.entries → StandsAt objects s [] site
+stands_new own objects s site same number k =
+    subst (λ (z : List ObjectDecl × ℕ). StandsAt z.0 z.1 [] site) (λ i. (same i, number i))
+    (record { represents = k.represents; log = record { keeps = k.keeps; order = k.order } })
+
+-- what formatting gives is a new node
+pub new_node : {N E : Type 0} (part : N → NodeFields) (result : Result N E)
+    (own objects : List ObjectDecl) (s : ℕ) → own ≡ objects
+    → IfOk result (λ n. KeepsNode own [] (part n).site.node (part n).site.entries)
+    → IfOk result (λ n. (part n).site.node.number ≡ s)
+    → IfOk result (λ n. (part n).objects ≡ own)
+    → IfOk result (λ n. IsFalse (part n).halted)
+    → IfOk result (λ n. IsNewNode objects s (part n))
+new_node part (Ok n) own objects s same keeps number over running = record {
+  over = over ∙ same;
+  running = running;
+  number = number;
+  stands = stands_new own objects s (part n).site same number keeps;
+}
+new_node part (Err e) own objects s same keeps number over running = tt
+
+-- one node more, the last
+pub new_behind : {N : Type 0} (part : N → NodeFields) (objects : List ObjectDecl) (s at : ℕ)
+    (nodes : List N) (node : N) → at ≡ s + length nodes → AreNewNodes part objects s nodes
+    → IsNewNode objects at (part node) → AreNewNodes part objects s (nodes ++ node ∷ [])
+new_behind part objects s at [] node place new last =
+    (subst (λ k. IsNewNode objects k (part node)) (omega (arith, place)) last, tt)
+new_behind part objects s at (n ∷ nodes) node place new last =
+    (new.0, new_behind part objects (s + 1) at nodes node (omega (arith, place)) new.1 last)
+
+-- one disk more, the last
+pub back_behind : {D : Type 0} (tells : D → Bool) (faults_of : D → ℕ) (fault : ClusterFault)
+    (s at : ℕ) (olds news : List D) (old new : D) → at ≡ s + length olds
+    → AreHandedBack tells faults_of fault s olds news → IsHandedBack tells faults_of fault at old new
+    → AreHandedBack tells faults_of fault s (olds ++ old ∷ []) (news ++ new ∷ [])
+back_behind tells faults_of fault s at [] [] old new place back last =
+    (subst (λ k. IsHandedBack tells faults_of fault k old new) (omega (arith, place)) last, tt)
+back_behind tells faults_of fault s at [] (n ∷ news) old new place back last = elim back [ ]
+back_behind tells faults_of fault s at (o ∷ olds) [] old new place back last = elim back [ ]
+back_behind tells faults_of fault s at (o ∷ olds) (n ∷ news) old new place back last =
+    (back.0, back_behind tells faults_of fault (s + 1) at olds news old new (omega (arith, place)) back.1 last)
+
+-- the number of the node whose disk failed; none: 0
+abbrev of_fault : ClusterFault → ℕ
+of_fault (faults.DiskFault s) = s
+of_fault faults.NoMemory = 0
+
+-- disks of which none was touched
+pub untouched : {D : Type 0} (tells : D → Bool) (faults_of : D → ℕ) (fault : ClusterFault) (s : ℕ)
+    (disks : List D)
+    → ((m : ℕ) → s ≤ m → m < s + length disks → fault ≡ faults.DiskFault m → ⊥)
+    → AreHandedBack tells faults_of fault s disks disks
+untouched tells faults_of fault s [] other = tt
+untouched tells faults_of fault s (disk ∷ disks) other = (
+  record {
+    told = refl;
+    later = omega arith;
+    failed = λ is. absurd (other s (omega arith) (omega arith) is);
+  },
+  untouched tells faults_of fault (s + 1) disks
+      (λ m low high is. other m (omega (arith, low)) (omega (arith, high)) is),
+)
+
+-- the disk of one node failed, and no other
+at_only : (s m : ℕ) (fault : NodeFault) → fault_at s fault ≡ faults.DiskFault m → 1 ≤ m → m < s → ⊥
+at_only s m node_faults.DiskFault is low less =
+    let same : s ≡ m = ap of_fault is in omega (arith, same, less)
+at_only s m node_faults.NoMemory is low less =
+    let same : 0 ≡ m = ap of_fault is in omega (arith, same, low)
+
+-- a fault among lower nodes is not of this one
+pub not_here : (fault : ClusterFault) (many s : ℕ) → IsFaultAmong many fault → many < s
+    → fault ≡ faults.DiskFault s → ⊥
+not_here (faults.DiskFault k) many s among below is =
+    let same : k ≡ s = ap of_fault is in omega (arith, among.1, below, same)
+not_here faults.NoMemory many s among below is =
+    let same : 0 ≡ s = ap of_fault is in omega (arith, below, same)
+
+module _ {D : Type 0} (tells : D → Bool) (faults_of : D → ℕ) where
+  -- no memory for the list of nodes
+  pub none_made : (disks : List D) → AreHandedBack tells faults_of faults.NoMemory 1 disks disks
+  none_made disks =
+      untouched tells faults_of faults.NoMemory 1 disks
+      (λ m low high is. at_only (1 + length disks) m node_faults.NoMemory is low high)
+
+  -- The node of the last disk was refused: the others are untouched.
+  pub refused_back : (fault : ClusterFault) (given : NodeFault) (s : ℕ) (front all now : List D)
+      (old new : D) → fault ≡ fault_at s given → s ≡ length front + 1 → all ≡ front ++ old ∷ []
+      → now ≡ front ++ new ∷ [] → IsHandedBack tells faults_of (fault_at s given) s old new
+      → AreHandedBack tells faults_of fault 1 all now
+  refused_back fault given s front all now old new is place all_is now_is here =
+      subst (λ (z : List D × List D). AreHandedBack tells faults_of fault 1 z.0 z.1)
+      (sym (λ i. (all_is i, now_is i)))
+      (back_behind tells faults_of fault 1 s front front old new (omega (arith, place))
+      (untouched tells faults_of fault 1 front (λ m low high at. at_only s m given (sym is ∙ at) low
+      (omega (arith, high, place))))
+      (subst (λ f. IsHandedBack tells faults_of f s old new) (sym is) here))
+
+  -- A lower node was refused: the disk of this one is taken back.
+  pub taken_back : (fault : ClusterFault) (front lower all now : List D) (old new : D)
+      → all ≡ front ++ old ∷ [] → now ≡ lower ++ new ∷ []
+      → AreHandedBack tells faults_of fault 1 front lower → IsFaultAmong (length front) fault
+      → tells new ≡ tells old → faults_of old ≤ faults_of new
+      → AreHandedBack tells faults_of fault 1 all now
+  taken_back fault front lower all now old new all_is now_is back among told later =
+      subst (λ (z : List D × List D). AreHandedBack tells faults_of fault 1 z.0 z.1)
+      (sym (λ i. (all_is i, now_is i)))
+      (back_behind tells faults_of fault 1 (1 + length front) front lower old new refl back
+      (record {
+        told = told;
+        later = later;
+        failed = λ is. absurd (not_here fault (length front) (1 + length front) among (omega arith) is);
+      }))
+
+  -- as many are back
+  pub as_many : (fault : ClusterFault) (s : ℕ) (olds news : List D)
+      → AreHandedBack tells faults_of fault s olds news → length news ≡ length olds
+  as_many fault s [] [] back = refl
+  as_many fault s [] (new ∷ news) back = elim back [ ]
+  as_many fault s (old ∷ olds) [] back = elim back [ ]
+  as_many fault s (old ∷ olds) (new ∷ news) back = ap suc (as_many fault (s + 1) olds news back.1)
+
+-- the last node is added
+pub new_last : {N : Type 0} (part : N → NodeFields) (objects : List ObjectDecl) (s : ℕ)
+    (nodes all : List N) (node : N) → s ≡ length nodes + 1 → all ≡ nodes ++ node ∷ []
+    → AreNewNodes part objects 1 nodes → IsNewNode objects s (part node)
+    → AreNewNodes part objects 1 all
+new_last part objects s nodes all node place is new last =
+    subst (AreNewNodes part objects 1) (sym is)
+    (new_behind part objects 1 s nodes node (omega (arith, place)) new last)
+
+awake : (s : ℕ) → is_halted (false ∷ false ∷ false ∷ false ∷ false ∷ false ∷ false ∷ false ∷ []) s ≡ false
+awake s = by (s - 1)
+  where
+    by : (k : ℕ)
+        → unwrap_or (slice_get (false ∷ false ∷ false ∷ false ∷ false ∷ false ∷ false ∷ false ∷ []) k) false
+        ≡ false
+    by zero = refl
+    by (suc zero) = refl
+    by (suc (suc zero)) = refl
+    by (suc (suc (suc zero))) = refl
+    by (suc (suc (suc (suc zero)))) = refl
+    by (suc (suc (suc (suc (suc zero))))) = refl
+    by (suc (suc (suc (suc (suc (suc zero)))))) = refl
+    by (suc (suc (suc (suc (suc (suc (suc zero))))))) = refl
+    by (suc (suc (suc (suc (suc (suc (suc (suc k)))))))) = refl
+
+abbrev is_some : {A : Type 0} → Option A → Bool
+is_some None = false
+is_some (Some a) = true
+
+none_is_not : {A : Type 0} (a : A) → None ≡ Some a → ⊥
+none_is_not a is = true≢false (sym (ap is_some is))
+
+module _ {N : Type 0} (part : N → NodeFields) (objects : List ObjectDecl) where
+  sites_stand : (s : ℕ) (nodes : List N) → AreNewNodes part objects s nodes
+      → AreSitesOf objects start s (sites_of (map part nodes))
+  sites_stand s [] new = tt
+  sites_stand s (node ∷ nodes) new = (
+    record { number = new.0.number; stands = λ running. new.0.stands },
+    sites_stand (s + 1) nodes new.1,
+  )
+
+  node_over : (s : ℕ) (nodes : List N) (place : ℕ) (node : NodeFields)
+      → AreNewNodes part objects s nodes → slice_get (map part nodes) place ≡ Some node
+      → IsNodeOf objects (new_works []).halted (place + 1) node
+  node_over s [] place node new at = absurd (none_is_not node (sym (slice_get_past [] place (omega arith)) ∙ at))
+  node_over s (n ∷ nodes) zero node new at =
+      subst (IsNodeOf objects (new_works []).halted 1) (same_Some (part n) node at)
+      (record { over = new.0.over; is_halted = new.0.running ∙ sym (awake 1) })
+  node_over s (n ∷ nodes) (suc place) node new at =
+      let later : IsNodeOf objects (new_works []).halted (place + 1) node =
+      node_over (s + 1) nodes place node new.1 at in
+      record { over = later.over; is_halted = later.is_halted ∙ awake (place + 1) ∙ sym (awake (suc place + 1)) }
+
+-- They keep what a cluster keeps before its first line.
+pub new_keeps : {N : Type 0} (part : N → NodeFields) (script : Script) (nodes : List N)
+    (may_read : ℕ → Logged → Type 0) → IsScript script
+    → AreNewNodes part script.objects 1 nodes → length nodes ≡ script.nodes
+    → KeepsBetween (before_first script) (record { works = new_works (map part nodes); bound = [] })
+    may_read
+new_keeps part script nodes may_read is new many = record {
+  is_script = is;
+  keeps = record {
+    runs = record {
+      under = start_is_under_halts script;
+      one_each = length-map nodes part ∙ many;
+      eight = refl;
+      nodes = λ place node at. node_over part script.objects 1 nodes place node new at;
+      whole = record {
+        nodes = sites_stand part script.objects 1 nodes new;
+        network = new_network_stands script.objects (new_works []).halted (λ s low high. awake s);
+      };
+      halted_logs = λ s low high is_halted. absurd (true≢false (sym is_halted));
+      events = refl;
+      all_marks = refl;
+      few = omega arith;
+    };
+    variables = refl;
+  };
+  between = refl;
+  newest = tt;
+  past = tt;
+}
+
+pub new_lines_keep : {N : Type 0} {works : WorksFields} {bound : List (Option Name)}
+    {may_read : ℕ → Logged → Type 0} (part : N → NodeFields) (script : Script) (nodes : List N)
+    → IsScript script → AreNewNodes part script.objects 1 nodes → length nodes ≡ script.nodes
+    → works ≡ new_works (map part nodes) → bound ≡ []
+    → KeepsBetween (before_first script) (record { works = works; bound = bound }) may_read
+new_lines_keep {may_read = may_read} part script nodes is new many works_are bound_are =
+    subst (λ (z : WorksFields × List (Option Name)). KeepsBetween (before_first script)
+    (record { works = z.0; bound = z.1 }) may_read) (sym (λ i. (works_are i, bound_are i)))
+    (new_keeps part script nodes may_read is new many)

@@ -1,0 +1,46 @@
+-- The nodes over all disks.
+use Rattle.std.proofs.Common.{◌∙◌, ◌≡◌, ◌≤◌, ◌+◌, length, sym, subst, ap, arith}
+use Rattle.cam_node.specs.Calls.{answers}
+use Rattle.cam_cluster.proofs.BeforeFirst.{as_many, new_last, refused_back, taken_back}
+use Rattle.cam_cluster.proofs.founding.+found.Goals as goal
+
+pub returns-in-Err-clause-back : goal.returns-in-Err-clause-back
+returns-in-Err-clause-back g t c =
+    refused_back g.D.Disk.tells g.D.Disk.faults c.fault_at.result c.in-Err.refused.fault
+    (c.len.result + 1) c.pop.new.self.items c.args.disks.now.items c.push_owned.new.list.items
+    c.in-Some.disk c.in-Err.refused.disk c.fault_at.ensures (ap (λ n. n + 1) (c.len.ensures ∙ c.pop.new.self.ok.0))
+    c.in-Some.ensures.items c.push_owned.ensures.items c.in-Err.ensures.back
+
+pub push_owned-requires-in-Err-found : goal.push_owned-requires-in-Err-found
+push_owned-requires-in-Err-found g t c =
+    let many : length c.found.new.disks.items ≡ length c.pop.new.self.items =
+    as_many g.D.Disk.tells g.D.Disk.faults c.in-Err-found.fault 1 c.pop.new.self.items
+    c.found.new.disks.items c.in-Err-found.ensures.back in
+    let room = c.in-Err-found.ensures.capacity.0 in
+    let same = c.in-Some.ensures.capacity in
+    let fewer = c.in-Some.ensures.cases in
+    let found_len = c.found.new.disks.ok.0 in
+    let pop_len = c.pop.new.self.ok.0 in
+    let within = c.args.disks.now.ok.1 in
+    omega (arith, many, room, same, fewer, found_len, pop_len, within)
+
+pub returns-in-Ok-found-clause-new : goal.returns-in-Ok-found-clause-new
+returns-in-Ok-found-clause-new g t c =
+    new_last (λ node. record {
+      site = record { node = answers node.core; entries = node.log.log.state.entries };
+      objects = node.objects;
+      halted = node.log.halted;
+    }) c.args.objects.now (c.len.result + 1) c.found.new.nodes.items
+    c.push_owned-in-Ok-found.new.list.items c.in-Ok.node
+    (ap (λ n. n + 1) (c.len.ensures ∙ c.pop.new.self.ok.0 ∙ sym c.in-Ok-found.ensures.count))
+    c.push_owned-in-Ok-found.ensures.items c.in-Ok-found.ensures.new c.in-Ok.ensures.new
+
+pub returns-in-Err-found-clause-back : goal.returns-in-Err-found-clause-back
+returns-in-Err-found-clause-back g t c =
+    taken_back g.D.Disk.tells g.D.Disk.faults c.in-Err-found.fault c.pop.new.self.items
+    c.found.new.disks.items c.args.disks.now.items c.push_owned-in-Err-found.new.list.items
+    c.in-Some.disk c.into_disk.result c.in-Some.ensures.items
+    c.push_owned-in-Err-found.ensures.items c.in-Err-found.ensures.back
+    c.in-Err-found.ensures.of_one (c.into_disk.ensures.tells ∙ c.in-Ok.ensures.tells)
+    (subst (λ n. g.D.Disk.faults c.in-Some.disk ≤ n) (sym c.into_disk.ensures.faults)
+    c.in-Ok.ensures.later)

@@ -1,0 +1,19 @@
+-- Lines before the first.
+use Rattle.std.proofs.Common.{◌∙◌}
+use Rattle.cam_node.specs.Calls.{answers}
+use Rattle.cam_cluster.proofs.BeforeFirst.{new_lines_keep, none_made}
+use Rattle.cam_cluster.proofs.lines.new.Lines+Ckpt+D.new.Goals as goal
+
+pub returns-in-Err-clause-back : goal.returns-in-Err-clause-back
+returns-in-Err-clause-back g c =
+    none_made g.D.Disk.tells g.D.Disk.faults c.args.disks.items
+
+pub returns-in-Ok-found-clause-before_first : goal.returns-in-Ok-found-clause-before_first
+returns-in-Ok-found-clause-before_first g c =
+    new_lines_keep (λ node. record {
+      site = record { node = answers node.core; entries = node.log.log.state.entries };
+      objects = node.objects;
+      halted = node.log.halted;
+    }) c.args.script.now c.found.new.nodes.items c.requires.script c.in-Ok-found.ensures.new
+    (c.in-Ok-found.ensures.count ∙ c.requires.one_each) c.new.ensures
+    c.new-in-Ok-found.ensures.items

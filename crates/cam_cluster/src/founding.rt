@@ -1,0 +1,152 @@
+//! The nodes of a cluster before its first line, each formatted over the disk at its place.
+ghost use Rattle.std.specs.Prelude.{◌≡◌, ◌+◌, ◌≤◌, ◌<◌, ◌++◌, ◌∷◌, [], IfErr, IfOk, OnErr, OnOk, length, vec_capacity, vec_len};
+ghost use Rattle.cam_cluster.specs.Founding.{AreHandedBack, AreNewNodes, IsFaultAmong, IsHandedBack, IsNewNode, fault_at};
+
+use cam_base::NoMemory;
+use cam_ckpt::{CheckpointLog, Ckpt};
+use cam_disk::Disk;
+use cam_log::EntryLog;
+use cam_node::{FormatRefused, Node, NodeFault};
+use cam_type::Objects;
+use std::alloc::Global;
+use thiserror::Error;
+
+/// Why no cluster was made.
+#[derive(Clone, Copy, Debug, PartialEq, Eq, Error)]
+pub enum ClusterFault {
+    /// The disk of the node of this number failed while it was formatted.
+    #[error("the disk of a node failed")]
+    DiskFault(u8),
+    #[error("out of memory")]
+    NoMemory,
+}
+
+/// Disks over which no cluster was made, each at its place, and why.
+#[derive(Drop)]
+pub struct ClusterRefused<D> {
+    pub fault: ClusterFault,
+    pub disks: Vec<D>,
+}
+
+/// What contracts see of a node.
+pub(crate) trait AsPart {
+    ghost use Rattle.cam_cluster.specs.Works.{NodeFields};
+
+    ghost part: { Self → NodeFields };
+}
+
+impl<L: CheckpointLog> AsPart for Node<L> {
+    ghost use Rattle.cam_node.specs.Calls.{answers};
+
+    ghost part = { λ node. record {
+      site = record { node = answers node.core; entries = L.listed node.log.log };
+      objects = node.objects;
+      halted = node.log.halted;
+    } };
+}
+
+/// Adds a value for which there is room.
+fn push_owned<T: Drop>(list: &mut Vec<T>, value: T)
+    requires { vec_len list.old < vec_capacity list.old }
+    ensures items { list.new.items ≡ list.old.items ++ value ∷ [] }
+    ensures capacity { vec_capacity list.old ≤ vec_capacity list.new }
+{
+    match list.push(value) {
+        Ok(()) => {}
+        // there is room
+        Err(_) => unreachable!(),
+    }
+}
+
+/// Why no cluster was made, where the node of this number was refused.
+fn fault_at(number: u8, fault: NodeFault) -> ClusterFault
+    ensures { result ≡ fault_at number fault }
+{
+    match fault {
+        NodeFault::DiskFault => ClusterFault::DiskFault(number),
+        NodeFault::NoMemory => ClusterFault::NoMemory,
+    }
+}
+
+/// An equal list of declarations.
+fn copy_objects(alloc: Global, objects: &Objects) -> Result<Objects, NoMemory>
+    ensures { IfOk result (λ copy. copy ≡ objects.now) }
+{
+    let mut copy = Objects::new(alloc);
+    for declared in objects.as_slice() {
+        copy.push(declared.copy()?)?;
+    }
+    Ok(copy)
+}
+
+/// The node of this number, to which nothing has happened, over a disk. The disk is handed back
+/// where it failed, or memory ran out.
+fn found_one<D: Disk>(
+    alloc: Global,
+    number: u8,
+    objects: &Objects,
+    disk: D,
+) -> Result<Node<Ckpt<D>>, FormatRefused<D>>
+    requires { (1 ≤ number) × (number ≤ 8) }
+    ensures new { IfOk result (λ node. IsNewNode objects.now number
+        (⟦<Node<Ckpt<D>> as AsPart>⟧.part node)) }
+    ensures tells { IfOk result
+        (λ node. ⟦<Ckpt<D> as EntryLog>⟧.tells node.log.log ≡ D.tells disk) }
+    ensures later { IfOk result
+        (λ node. D.faults disk ≤ ⟦<Ckpt<D> as EntryLog>⟧.faults node.log.log) }
+    ensures back { IfErr result (λ refused. IsHandedBack D.tells D.faults
+        (fault_at number refused.fault) number disk refused.disk) }
+{
+    match copy_objects(alloc, objects) {
+        Ok(own) => Node::format(alloc, number, own, disk),
+        Err(NoMemory) => Err(FormatRefused {
+            fault: NodeFault::NoMemory,
+            disk,
+        }),
+    }
+}
+
+/// The nodes over all of these disks, in order, formatted from the last to the first. Where one is
+/// refused all disks are back at their places.
+pub(crate) fn found<D: Disk>(
+    alloc: Global,
+    objects: &Objects,
+    disks: &mut Vec<D>,
+    nodes: &mut Vec<Node<Ckpt<D>>>,
+) -> Result<(), ClusterFault>
+    requires eight { vec_len disks.old ≤ 8 }
+    requires none { nodes.old.items ≡ [] }
+    requires room { vec_len disks.old ≤ vec_capacity nodes.old }
+    ensures new { OnOk result (AreNewNodes (⟦<Node<Ckpt<D>> as AsPart>⟧.part) objects.now 1
+        nodes.new.items) }
+    ensures count { OnOk result (length nodes.new.items ≡ length disks.old.items) }
+    ensures empty { OnOk result (disks.new.items ≡ []) }
+    ensures back { IfErr result (λ fault. AreHandedBack D.tells D.faults fault 1 disks.old.items
+        disks.new.items) }
+    ensures none { OnErr result (nodes.new.items ≡ []) }
+    ensures of_one { IfErr result (λ fault. IsFaultAmong (length disks.old.items) fault) }
+    ensures capacity { (vec_capacity disks.old ≤ vec_capacity disks.new)
+        × (vec_capacity nodes.old ≤ vec_capacity nodes.new) }
+{
+    let Some(disk) = disks.pop() else {
+        return Ok(());
+    };
+    let number = disks.len() as u8 + 1;
+    let node = match found_one(alloc, number, objects, disk) {
+        Ok(node) => node,
+        Err(refused) => {
+            push_owned(disks, refused.disk);
+            return Err(fault_at(number, refused.fault));
+        }
+    };
+    match found(alloc, objects, disks, nodes) {
+        Ok(()) => {
+            push_owned(nodes, node);
+            Ok(())
+        }
+        Err(fault) => {
+            push_owned(disks, node.into_disk());
+            Err(fault)
+        }
+    }
+}
