@@ -1,9 +1,11 @@
 -- Rounds of a play: each action with a body makes its next request where it may go on.
-use Rattle.std.specs.Prelude.{◌≡◌, ℕ, Bool, ◌&&◌, if◌then◌else◌, List, Option, is_some}
+use Rattle.std.specs.Prelude.{◌≡◌, ℕ, Bool, ◌&&◌, if◌then◌else◌, List, [], ◌∷◌, Option}
+use Rattle.std.specs.Prelude.{is_some, map, take}
+use Rattle.std.specs.List.{AllByRecursion}
 use Rattle.cam_names.specs.declared.name.Name.{Name}
 use Rattle.cam_node.specs.Log.{Logged}
 use Rattle.cam_runs.specs.Halts.{Halting}
-use Rattle.cam_runs.specs.HaltedPlaying.{go, may_go_on}
+use Rattle.cam_runs.specs.HaltedPlaying.{go, go_in_round, may_go_on}
 use Rattle.cam_runs.specs.Standing.{Setting, Standing}
 use Rattle.cam_script.specs.declared.Script.{Script}
 use Rattle.cam_script.specs.declared.Statement.{Statement}
@@ -74,3 +76,67 @@ pub record IsTurnOfSome (a : Name) (bodies : List (List Statement)) (works : Wor
   pub keeps : KeepsRun script standing works may_read
   pub are_workers : AreWorkers standing workers
   pub placed : IsAtNode script.nodes a
+
+-- the turn of an action, and how its request ended, where it made one
+pub record Turn : Type 0 where
+  pub name : Name
+  pub end : Option Put
+
+abbrev pub names_of : List Turn → List Name
+names_of turns = map (λ (turn : Turn). turn.name) turns
+
+-- It is said of the requests of these turns, one after another, that they ended so.
+abbrev pub AreSaidOf : Setting → List (List Statement) → List Turn → Standing → Type 0
+AreSaidOf c bodies [] st = Unit {0}
+AreSaidOf c bodies (turn ∷ turns) st =
+    IsSaidOf c st turn.name (next_of bodies st turn.name) turn.end
+    × AreSaidOf c bodies turns (after_name c bodies st turn.name)
+
+-- Each made a request just where the action makes one.
+abbrev pub AreMade : Setting → List (List Statement) → List Turn → Standing → Type 0
+AreMade c bodies [] st = Unit {0}
+AreMade c bodies (turn ∷ turns) st =
+    (is_some turn.end ≡ makes_one c bodies st turn.name)
+    × AreMade c bodies turns (after_name c bodies st turn.name)
+
+-- These actions had their turns, and so these are the ends: of each run, with halts that say so, the
+-- works and the workers are those behind them.
+pub record HadTurns (script : Script) (st : Standing) (c : Setting) (turns : List Turn)
+    (new : WorksFields) (may_read : ℕ → Logged → Type 0) (behind : Workers) : Type 0 where
+  pub made : AreMade c script.bodies turns st
+  pub runs : KeepsRun script (go_in_round c script.bodies (names_of turns) st) new may_read
+  pub workers : AreWorkers (go_in_round c script.bodies (names_of turns) st) behind
+
+-- THE CLAUSE of the turns of actions, in order.
+pub record HaveHadTurns (line : ℕ) (names : List Name) (bodies : List (List Statement))
+    (old : WorksFields) (might_read : ℕ → Logged → Type 0) (old_workers : Workers)
+    (new : WorksFields) (may_read : ℕ → Logged → Type 0) (workers : Workers) : Type 0 where
+  pub turns : List Turn
+  pub are : names_of turns ≡ names
+  pub had :
+      (script : Script) (st : Standing) (halts : Halting) (restarted : ℕ → Bool)
+      → IsScript script → bodies ≡ script.bodies → KeepsRun script st old might_read
+      → AreWorkers st old_workers
+      → AreSaidOf (held_setting script.objects halts line restarted) script.bodies turns st
+      → HadTurns script st (held_setting script.objects halts line restarted) turns new may_read
+      workers
+
+-- Memory ran out behind the turns of the first of them.
+pub record HaveHadSomeTurns (line : ℕ) (names : List Name) (bodies : List (List Statement))
+    (old : WorksFields) (might_read : ℕ → Logged → Type 0) (old_workers : Workers)
+    (new : WorksFields) (may_read : ℕ → Logged → Type 0) (workers : Workers) : Type 0 where
+  pub many : ℕ
+  pub first :
+      HaveHadTurns line (take many names) bodies old might_read old_workers new may_read workers
+
+-- Some run of a script with these bodies is kept of which these are the workers, and the homes of
+-- these actions are nodes of it.
+pub record AreTurnsOfSome (names : List Name) (bodies : List (List Statement))
+    (works : WorksFields) (may_read : ℕ → Logged → Type 0) (workers : Workers) : Type 0 where
+  pub script : Script
+  pub standing : Standing
+  pub is_script : IsScript script
+  pub bodies_are : bodies ≡ script.bodies
+  pub keeps : KeepsRun script standing works may_read
+  pub are_workers : AreWorkers standing workers
+  pub placed : AllByRecursion (IsAtNode script.nodes) names

@@ -1,8 +1,8 @@
 //! A round of a play: each action with a body makes its next request, if it may go on.
-ghost use Rattle.std.specs.Prelude.{IfOk, OnErr};
+ghost use Rattle.std.specs.Prelude.{IfOk, OnErr, OnOk};
 ghost use Rattle.cam_cluster.specs.Goes.{KeepsWorkersAsBefore};
 ghost use Rattle.cam_cluster.specs.Puts.{KeepsAsBefore};
-ghost use Rattle.cam_cluster.specs.Rounds.{HasHadTurn, IsAtNodeOfSome, IsMayGoOn, IsTurnOfSome};
+ghost use Rattle.cam_cluster.specs.Rounds.{AreTurnsOfSome, HasHadTurn, HaveHadSomeTurns, HaveHadTurns, IsAtNodeOfSome, IsMayGoOn, IsTurnOfSome};
 ghost use Rattle.cam_cluster.specs.Servers.{AreServers};
 
 use super::{AsWorks, Put, Works, is_halted};
@@ -75,5 +75,39 @@ impl<L: CheckpointLog> Works<L> {
             return self.go(line, name, bodies, workers, servers);
         }
         Ok(None)
+    }
+
+    /// These actions have their turns, in order. Where memory runs out, the first of them had theirs.
+    #[tactic(none)]
+    pub(crate) fn take_turns<R: DataType, Q: DataType, C: DataType>(
+        &mut self,
+        line: u32,
+        names: &[Name],
+        bodies: &Bodies,
+        workers: &mut Workers,
+        servers: &mut Servers<R, Q, C>,
+    ) -> Result<(), NoMemory>
+        requires turns { AreTurnsOfSome names.now bodies.now
+            (⟦<Works<L> as AsWorks>⟧.fields self.old) (⟦<Works<L> as AsWorks>⟧.may_read self.old)
+            workers.old }
+        requires servers { AreServers R.kind Q.kind C.kind
+            servers.old.register servers.old.queue servers.old.counter }
+        ensures turns { OnOk result (HaveHadTurns line names.now bodies.now
+            (⟦<Works<L> as AsWorks>⟧.fields self.old) (⟦<Works<L> as AsWorks>⟧.may_read self.old)
+            workers.old
+            (⟦<Works<L> as AsWorks>⟧.fields self.new) (⟦<Works<L> as AsWorks>⟧.may_read self.new)
+            workers.new) }
+        ensures part { OnErr result (HaveHadSomeTurns line names.now bodies.now
+            (⟦<Works<L> as AsWorks>⟧.fields self.old) (⟦<Works<L> as AsWorks>⟧.may_read self.old)
+            workers.old
+            (⟦<Works<L> as AsWorks>⟧.fields self.new) (⟦<Works<L> as AsWorks>⟧.may_read self.new)
+            workers.new) }
+        ensures servers { AreServers R.kind Q.kind C.kind
+            servers.new.register servers.new.queue servers.new.counter }
+    {
+        for name in names {
+            self.take_turn(line, name, bodies, workers, servers)?;
+        }
+        Ok(())
     }
 }
