@@ -1,11 +1,11 @@
 -- A cluster before its first line: its nodes are new, and the disks are back where none is made.
-use Rattle.std.proofs.Common.{◌≡◌, ◌∙◌, ◌≤◌, ◌<◌, ◌+◌, ℕ, zero, suc, Bool, true, false, List, [], ◌∷◌, ◌++◌, length, map, Ok, Err, refl, sym, ap, subst, arith}
+use Rattle.std.proofs.Common.{◌≡◌, ◌∙◌, ◌≤◌, ◌<◌, ◌+◌, ℕ, zero, suc, Bool, true, false, List, [], ◌∷◌}
+use Rattle.std.proofs.Common.{◌++◌, length, map, Ok, Err, refl, sym, ap, subst, arith}
 use Rattle.std.proofs.Common.{true≢false, Option, Some, None, ◌-◌}
 use Rattle.std.proofs.lemmas.List.{length-map}
 use Rattle.std.proofs.lemmas.Option.{same_Some, slice_get_past}
 use Rattle.std.specs.Option.{unwrap_or}
 use Rattle.std.specs.Prelude.{Result, IfOk, IsFalse, slice_get}
-use Rattle.cam_base.specs.Causes.{Rose}
 use Rattle.cam_type.specs.declared.ObjectDecl.{ObjectDecl}
 use Rattle.cam_net.specs.Waiting.{is_halted}
 use Rattle.cam_names.specs.declared.name.Name.{Name}
@@ -18,12 +18,12 @@ use Rattle.cam_runs.specs.Standing.{start}
 use Rattle.cam_script.specs.declared.Script.{Script}
 use Rattle.cam_script.specs.Law.{IsScript}
 use Rattle.cam_histories.proofs.Carried.{new_network_stands}
-use Rattle.cam_histories.specs.Whole.{AreSitesOf, IsWhole, Site, StandsAt}
+use Rattle.cam_histories.specs.Whole.{AreSitesOf, Site, StandsAt}
 use Rattle.cam_cluster.specs.declared.founding.ClusterFault.{ClusterFault}
 use Rattle.cam_cluster.specs.declared.founding.ClusterFault.TheVariants as faults
 use Rattle.cam_cluster.specs.Between.{KeepsBetween}
-use Rattle.cam_cluster.specs.Founding.{AreHandedBack, AreNewNodes, IsFaultAmong, IsHandedBack, IsNewNode, before_first, fault_at, new_works}
-use Rattle.cam_cluster.specs.SoFar.{LinesFields}
+use Rattle.cam_cluster.specs.Founding.{AreHandedBack, AreNewNodes, IsFaultAmong, IsHandedBack}
+use Rattle.cam_cluster.specs.Founding.{IsNewNode, before_first, fault_at, new_works}
 use Rattle.cam_cluster.specs.Works.{IsNodeOf, NodeFields, WorksFields, sites_of}
 
 stands_new : (own objects : List ObjectDecl) (s : ℕ) (site : Site) → own ≡ objects
@@ -66,8 +66,11 @@ back_behind tells faults_of fault s at [] [] old new place back last =
     (subst (λ k. IsHandedBack tells faults_of fault k old new) (omega (arith, place)) last, tt)
 back_behind tells faults_of fault s at [] (n ∷ news) old new place back last = elim back [ ]
 back_behind tells faults_of fault s at (o ∷ olds) [] old new place back last = elim back [ ]
-back_behind tells faults_of fault s at (o ∷ olds) (n ∷ news) old new place back last =
-    (back.0, back_behind tells faults_of fault (s + 1) at olds news old new (omega (arith, place)) back.1 last)
+back_behind tells faults_of fault s at (o ∷ olds) (n ∷ news) old new place back last = (
+  back.0,
+  back_behind tells faults_of fault (s + 1) at olds news old new
+      (omega (arith, place)) back.1 last,
+)
 
 -- the number of the node whose disk failed; none: 0
 abbrev of_fault : ClusterFault → ℕ
@@ -138,7 +141,8 @@ module _ {D : Type 0} (tells : D → Bool) (faults_of : D → ℕ) where
       (record {
         told = told;
         later = later;
-        failed = λ is. absurd (not_here fault (length front) (1 + length front) among (omega arith) is);
+        failed =
+            λ is. absurd (not_here fault (length front) (1 + length front) among (omega arith) is);
       }))
 
   -- as many are back
@@ -200,7 +204,10 @@ module _ {N : Type 0} (part : N → NodeFields) (objects : List ObjectDecl) wher
   node_over s (n ∷ nodes) (suc place) node new at =
       let later : IsNodeOf objects (new_works []).halted (place + 1) node =
       node_over (s + 1) nodes place node new.1 at in
-      record { over = later.over; is_halted = later.is_halted ∙ awake (place + 1) ∙ sym (awake (suc place + 1)) }
+      record {
+        over = later.over;
+        is_halted = later.is_halted ∙ awake (place + 1) ∙ sym (awake (suc place + 1));
+      }
 
 -- They keep what a cluster keeps before its first line.
 pub new_keeps : {N : Type 0} (part : N → NodeFields) (script : Script) (nodes : List N)

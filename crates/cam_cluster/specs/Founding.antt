@@ -3,11 +3,12 @@
 use Rattle.std.specs.Prelude.{◌≡◌, ◌≤◌, ◌+◌, ℕ, Bool, false, List, [], ◌∷◌}
 use Rattle.cam_base.specs.Causes.{Rose}
 use Rattle.cam_type.specs.declared.ObjectDecl.{ObjectDecl}
+use Rattle.cam_node.specs.Log.{Logged}
 use Rattle.cam_node.specs.declared.fault.NodeFault.{NodeFault}
 use Rattle.cam_node.specs.declared.fault.NodeFault.TheVariants as node_faults
 use Rattle.cam_runs.specs.Standing.{start}
 use Rattle.cam_script.specs.declared.Script.{Script}
-use Rattle.cam_histories.specs.Whole.{Site, StandsAt}
+use Rattle.cam_histories.specs.Whole.{StandsAt}
 use Rattle.cam_cluster.specs.declared.founding.ClusterFault.{ClusterFault}
 use Rattle.cam_cluster.specs.declared.founding.ClusterFault.TheVariants as faults
 use Rattle.cam_cluster.specs.Seen.{Seen}
@@ -67,3 +68,20 @@ new_works nodes = record {
   events = [];
   marks = [];
 }
+
+-- A disk that was taken out of a node: it tells what it holds just where the node's log did, and
+-- whatever may be read from it might be read from the log.
+pub record IsTakenOut {N D : Type 0} (tells_node : N → Bool) (node_reads : N → Logged → Type 0)
+    (tells : D → Bool) (reads : D → Logged → Type 0) (node : N) (disk : D) : Type 0 where
+  pub told : tells disk ≡ tells_node node
+  pub less : (logged : Logged) → reads disk logged → node_reads node logged
+
+-- those of all nodes, each at its place
+abbrev pub AreTakenOut : {N D : Type 0} → (N → Bool) → (N → Logged → Type 0) → (D → Bool)
+    → (D → Logged → Type 0) → List N → List D → Type 0
+AreTakenOut tells_node node_reads tells reads [] [] = Unit {0}
+AreTakenOut tells_node node_reads tells reads [] (disk ∷ disks) = ⊥
+AreTakenOut tells_node node_reads tells reads (node ∷ nodes) [] = ⊥
+AreTakenOut tells_node node_reads tells reads (node ∷ nodes) (disk ∷ disks) =
+    IsTakenOut tells_node node_reads tells reads node disk
+    × AreTakenOut tells_node node_reads tells reads nodes disks

@@ -1,6 +1,9 @@
 //! The nodes of a cluster before its first line, each formatted over the disk at its place.
 ghost use Rattle.std.specs.Prelude.{◌≡◌, ◌+◌, ◌≤◌, ◌<◌, ◌++◌, ◌∷◌, [], IfErr, IfOk, OnErr, OnOk, length, vec_capacity, vec_len};
-ghost use Rattle.cam_cluster.specs.Founding.{AreHandedBack, AreNewNodes, IsFaultAmong, IsHandedBack, IsNewNode, fault_at};
+ghost use Rattle.cam_ckpt.specs.Reading.{read_ckpt};
+ghost use Rattle.cam_log.specs.Moments.{OpeningsBy};
+ghost use Rattle.cam_node.specs.Opened.{MayRead};
+ghost use Rattle.cam_cluster.specs.Founding.{AreHandedBack, AreNewNodes, AreTakenOut, IsFaultAmong, IsHandedBack, IsNewNode, fault_at};
 
 use cam_base::NoMemory;
 use cam_ckpt::{CheckpointLog, Ckpt};
@@ -148,5 +151,24 @@ pub(crate) fn found<D: Disk>(
             push_owned(disks, node.into_disk());
             Err(fault)
         }
+    }
+}
+
+/// Takes the disks out of all of these nodes, each at its place, into a list that has room for
+/// them. It takes no memory.
+pub(crate) fn take_out<D: Disk>(nodes: &mut Vec<Node<Ckpt<D>>>, disks: &mut Vec<D>)
+    requires none { disks.old.items ≡ [] }
+    requires room { vec_len nodes.old ≤ vec_capacity disks.old }
+    ensures out { AreTakenOut (λ node. ⟦<Ckpt<D> as EntryLog>⟧.tells node.log.log)
+        (λ node. MayRead (⟦<Ckpt<D> as EntryLog>⟧.opens_since node.log.log)
+        (⟦<Ckpt<D> as EntryLog>⟧.moment node.log.log))
+        D.tells (λ disk. MayRead (OpeningsBy read_ckpt (D.left_since disk)) (D.moment disk))
+        nodes.old.items disks.new.items }
+    ensures count { length disks.new.items ≡ length nodes.old.items }
+    ensures capacity { vec_capacity disks.old ≤ vec_capacity disks.new }
+{
+    if let Some(node) = nodes.pop() {
+        take_out(nodes, disks);
+        push_owned(disks, node.into_disk());
     }
 }
