@@ -11,6 +11,7 @@ mod driven;
 #[cfg(test)]
 mod families;
 #[cfg(test)]
+mod foreign;
 mod found;
 #[cfg(test)]
 mod inputs;
