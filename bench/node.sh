@@ -74,7 +74,7 @@ cat > src/alone.rt <<'PROGRAM'
 //! Node 1, alone: it gets its own letters back, and what node 2 would send is made here.
 use anyhow::{Error, bail};
 use cam_base::NoMemory;
-use cam_ckpt::{CheckpointLog, Ckpt};
+use cam_ckpt::Ckpt;
 use cam_disk::MemoryDisk;
 use cam_event::{Body, Deed, Letter, LetterId, Reply, Request, Want};
 use cam_know::{Know, Outcome};
@@ -223,43 +223,25 @@ impl Alone {
         self.put(&Input::Letter(LetterId { event: 0, place: 0 }, letter))
     }
 
-    /// Takes a step.
+    /// Takes a step, where the input may be put to the node now.
     fn put(&mut self, input: &Input) -> Result<Stepped, Error> {
-        let stepped = step(self.alloc, &mut self.node, input)?;
-        if let Some(place) = told_to_another(&stepped) {
-            self.told = place;
+        if self.node.is_halted() {
+            bail!("the node is halted");
+        }
+        if self.node.refusal(input).is_some() || !self.node.may_step(input) {
+            bail!("the input may not be put to the node");
+        }
+        let mut register = RegisterServer::new();
+        let mut queue = QueueServer::new(self.alloc);
+        let mut counter = CounterServer::new();
+        let stepped = self.node.step(input, &mut register, &mut queue, &mut counter)?;
+        for letter in stepped.letters.as_slice() {
+            if letter.to == 2 {
+                self.told = letter.place;
+            }
         }
         Ok(stepped)
     }
-}
-
-/// Takes a step of a node, where the input may be put to it now. It has no clause, so that nobody has those of the step before him.
-fn step<L: CheckpointLog>(
-    alloc: Global,
-    node: &mut Node<L>,
-    input: &Input,
-) -> Result<Stepped, Error> {
-    if node.is_halted() {
-        bail!("the node is halted");
-    }
-    if node.refusal(input).is_some() || !node.may_step(input) {
-        bail!("the input may not be put to the node");
-    }
-    let mut register = RegisterServer::new();
-    let mut queue = QueueServer::new(alloc);
-    let mut counter = CounterServer::new();
-    Ok(node.step(input, &mut register, &mut queue, &mut counter)?)
-}
-
-/// The place of the last letter of an event to node 2, where it sent one.
-fn told_to_another(stepped: &Stepped) -> Option<u64> {
-    let mut place = None;
-    for letter in stepped.letters.as_slice() {
-        if letter.to == 2 {
-            place = Some(letter.place);
-        }
-    }
-    place
 }
 PROGRAM
 if [ "${1-}" = --quick ]; then

@@ -11,7 +11,6 @@ mod driven;
 #[cfg(test)]
 mod families;
 #[cfg(test)]
-mod foreign;
 mod found;
 #[cfg(test)]
 mod inputs;
