@@ -22,7 +22,7 @@ use Rattle.cam_cluster.specs.LetterLines as letters
 use Rattle.cam_cluster.specs.LineOwes.{cut_fault}
 use Rattle.cam_cluster.specs.Seen.{Seen, later_steps, setting_in}
 use Rattle.cam_cluster.specs.SoFar.{LinesFields}
-use Rattle.cam_cluster.specs.Taking.{IsBuilt, IsInputLine, IsStepTaken, IsWanting, PutsInput}
+use Rattle.cam_cluster.specs.Taking.{IsTakenAlone, IsInputLine, IsStepTaken, IsWanting, PutsInput}
 use Rattle.cam_cluster.proofs.Counted.{cut_counts}
 use Rattle.cam_cluster.proofs.GoesOn.{done_goes, led_goes, refused_goes, wanting_goes}
 
@@ -89,7 +89,7 @@ module _ (line : ℕ) (old new : LinesFields) (might may : ℕ → Logged → Ty
       )
 
 -- What is built and neither loses nor cuts a letter puts an input.
-pub other_input : (a : Act) → IsBuilt a → ((k bytes : ℕ) → a ≡ acts.Cut k bytes → ⊥)
+pub other_input : (a : Act) → IsTakenAlone a → ((k bytes : ℕ) → a ≡ acts.Cut k bytes → ⊥)
     → (a ≡ acts.Drain → ⊥) → ((k : ℕ) → a ≡ acts.Lose k → ⊥) → PutsInput a
 other_input (acts.Begin s) built no_cut no_drain no_lose = built
 other_input (acts.Start s body) built no_cut no_drain no_lose = built

@@ -35,4 +35,5 @@ pub mod LetterCounts
 pub mod Stops
 pub mod Restarts
 pub mod Taking
+pub mod Courses
 pub mod Founding

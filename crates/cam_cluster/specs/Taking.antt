@@ -39,12 +39,13 @@ IsInputLine step old might_read new may_read result =
     (seen : Seen) → KeepsBetween seen old might_read → IsNextStep seen step
     → IsStepOf seen step new may_read result
 
--- a line that is built: one that puts an input, loses a letter or cuts one, or drains the network
-abbrev pub IsBuilt : Act → Type 0
-IsBuilt acts.Drain = Unit {0}
-IsBuilt (acts.Lose k) = Unit {0}
-IsBuilt (acts.Cut k bytes) = Unit {0}
-IsBuilt act = PutsInput act
+-- a line that the lines take by themselves: one that puts an input, loses a letter or cuts one, or
+-- drains the network
+abbrev pub IsTakenAlone : Act → Type 0
+IsTakenAlone acts.Drain = Unit {0}
+IsTakenAlone (acts.Lose k) = Unit {0}
+IsTakenAlone (acts.Cut k bytes) = Unit {0}
+IsTakenAlone act = PutsInput act
 
 -- Memory ran out in a drain: so many letters were handed over, and these are the ends. What stands
 -- then is no longer between lines.

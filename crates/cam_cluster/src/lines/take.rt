@@ -1,6 +1,6 @@
 //! The next line of a script is taken: each kind of line has a function of its own.
 ghost use Rattle.cam_cluster.specs.Servers.{AreServers};
-ghost use Rattle.cam_cluster.specs.Taking.{IsBuilt, IsInputLine, IsStepTaken, PutsInput};
+ghost use Rattle.cam_cluster.specs.Taking.{IsTakenAlone, IsInputLine, IsStepTaken, PutsInput};
 ghost use Rattle.cam_cluster.specs.VariableLines.{IsNextOfSome};
 
 use super::cut::CutLetter;
@@ -65,7 +65,7 @@ impl<L: CheckpointLog> Lines<L> {
         step: &Step,
         servers: &mut Servers<R, Q, C>,
     ) -> Result<Option<WireFault>, LineFault>
-        requires built { IsBuilt step.now.act }
+        requires built { IsTakenAlone step.now.act }
         requires next { IsNextOfSome step.now.line step.now.act
             (⟦<Lines<L> as AsLines>⟧.fields self.old) (⟦<Lines<L> as AsLines>⟧.may_read self.old) }
         requires servers { AreServers R.kind Q.kind C.kind
