@@ -9,7 +9,7 @@ use Rattle.cam_event.specs.declared.Event.{Event}
 use Rattle.cam_event.specs.declared.Mark.{Mark}
 use Rattle.cam_script.specs.declared.Script.{Script}
 use Rattle.cam_script.specs.Law.{IsScript}
-use Rattle.cam_script.specs.FirstPath.{IsFirstPath}
+use Rattle.cam_cluster.specs.FirstScripts.{IsFirstPath}
 use Rattle.cam_cluster.specs.declared.node.Action.{Action}
 use Rattle.cam_cluster.specs.Nodes.{NodeState, StandsFor, NodesStand, is_few, new_nodes, place_of, found}
 use Rattle.cam_cluster.specs.Contract.{IsNew}

@@ -15,7 +15,7 @@ use Rattle.cam_script.specs.declared.Script.{Script}
 use Rattle.cam_script.specs.Law.{IsScript, is_node, is_placed, may_use, op_holds, spent_in, sizes_of}
 use Rattle.cam_script.specs.declared.Use.TheVariants as uses
 use Rattle.cam_script.specs.SoFar.{Size, step_cost}
-use Rattle.cam_script.specs.FirstPath.{is_first_step, is_first_act, IsFirstPath}
+use Rattle.cam_cluster.specs.FirstScripts.{is_first_step, is_first_act, IsFirstPath}
 use Rattle.cam_cluster.proofs.Letters.{all_at}
 use Rattle.cam_cluster.proofs.BeginLine.{nat_le_is}
 use Rattle.cam_cluster.proofs.StepHolds.{step_holds}

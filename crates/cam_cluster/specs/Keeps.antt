@@ -7,7 +7,7 @@ use Rattle.cam_event.specs.declared.LetterId.{LetterId}
 use Rattle.cam_event.specs.declared.Mark.{Mark}
 use Rattle.cam_script.specs.declared.Script.{Script}
 use Rattle.cam_script.specs.Law.{IsScript}
-use Rattle.cam_script.specs.FirstPath.{IsFirstPath}
+use Rattle.cam_cluster.specs.FirstScripts.{IsFirstPath}
 use Rattle.cam_cluster.specs.declared.parts.Parts.{Parts}
 use Rattle.cam_cluster.specs.Contract.{ClusterState}
 use Rattle.cam_runs.specs.Running.{letters}

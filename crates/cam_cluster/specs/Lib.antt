@@ -1,5 +1,6 @@
 pub mod Contract
 pub mod Parts
+pub mod FirstScripts
 pub mod FirstPath
 pub mod Served
 pub mod Nodes

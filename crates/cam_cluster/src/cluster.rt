@@ -2,7 +2,7 @@ ghost use Rattle.std.specs.Prelude.{◌≡◌, IfOk, OnOk, reverse};
 ghost use Rattle.cam_event.specs.Readings.{by_pasts};
 ghost use Rattle.cam_event.specs.Runs.{IsRun};
 ghost use Rattle.cam_script.specs.Law.{IsScript};
-ghost use Rattle.cam_script.specs.FirstPath.{IsFirstPath};
+ghost use Rattle.cam_cluster.specs.FirstScripts.{IsFirstPath};
 ghost use Rattle.cam_cluster.specs.Contract.{IsLine, IsNew, IsNextStep, IsRunOf, IsRunRecord, IsTrace, after_step};
 
 use crate::engine::Engine;

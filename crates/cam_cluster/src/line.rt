@@ -1,7 +1,7 @@
 ghost use Rattle.std.specs.Prelude.{◌≡◌, IfOk, map};
 ghost use Rattle.cam_event.specs.Readings.{by_knowledge};
 ghost use Rattle.cam_script.specs.Law.{IsScript};
-ghost use Rattle.cam_script.specs.FirstPath.{IsFirstPath};
+ghost use Rattle.cam_cluster.specs.FirstScripts.{IsFirstPath};
 ghost use Rattle.cam_cluster.specs.Contract.{IsNew, IsNextStep, IsLine};
 ghost use Rattle.cam_cluster.specs.Nodes.{node_state, new_nodes};
 

@@ -1,7 +1,7 @@
 //! The report of a script.
 ghost use Rattle.std.specs.Prelude.{◌≡◌, IfOk, string_bytes};
 ghost use Rattle.cam_script.specs.Law.{IsScript};
-ghost use Rattle.cam_script.specs.FirstPath.{IsFirstPath};
+ghost use Rattle.cam_cluster.specs.FirstScripts.{IsFirstPath};
 ghost use Rattle.cam_run.specs.Answer.{script_report};
 
 use cam_base::NoMemory;

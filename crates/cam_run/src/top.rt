@@ -159,6 +159,7 @@ fn read_fault(alloc: Global) -> Result<Answer, NoMemory>
 }
 
 /// The answer to a script: the report of its run, or its first fault.
+#[tactic(auto, using(cam_cluster::proofs::FirstScripts::of_first_stage))]
 fn run_bytes(alloc: Global, bytes: &[u8]) -> Result<Answer, NoMemory>
     ensures answer { IfOk result
         (λ a. IsOfScript (script_of bytes.now) (number a.status) (string_bytes a.text)) }

@@ -1,12 +1,11 @@
 //! The parser: the script that bytes spell, or their first fault.
-ghost use Rattle.std.specs.Prelude.{◌≡◌, ◌≤◌, length, IfOk};
-ghost use Rattle.cam_script.specs.declared.stage.Stage.TheVariants.{FirstPath};
+ghost use Rattle.std.specs.Prelude.{◌≤◌, length, IfOk};
 ghost use Rattle.cam_script.specs.Built.{built_of};
 ghost use Rattle.cam_script.specs.SoFar.{nothing};
 ghost use Rattle.cam_words.specs.Lines.{lines_of};
 ghost use Rattle.cam_script.specs.Grammar.{read_lines, read_script};
 ghost use Rattle.cam_script.specs.Law.{IsScript};
-ghost use Rattle.cam_script.specs.FirstPath.{IsFirstPath};
+ghost use Rattle.cam_script.specs.OfStage.{IsOfStage};
 ghost use Rattle.cam_script.specs.Parse.{Gives};
 
 use crate::so_far::SoFar;
@@ -35,11 +34,11 @@ pub const MOST_BYTES: usize = 262_144;
 ///     body without its `end`;
 /// 11. a node, 1 to 8, that the script does not have;
 /// 12. object 65, body 33, statement 33, the step that passes 512, a body that nests to 9, at the first word.
-#[tactic(auto, using(crate::proofs::Gives::gives_script, crate::proofs::Gives::gives_first_path))]
+#[tactic(auto, using(crate::proofs::Gives::gives_script, crate::proofs::Gives::gives_of_stage))]
 pub fn parse(alloc: Global, stage: Stage, bytes: &[u8]) -> Result<Script, ScriptFault>
     ensures value { Gives result (read_script (built_of stage) bytes.now) }
     ensures script { IfOk result IsScript }
-    ensures first_path { stage ≡ FirstPath → IfOk result IsFirstPath }
+    ensures forms { IfOk result (IsOfStage stage) }
 {
     if bytes.len() > MOST_BYTES {
         return Err(ScriptFault::Bad {

@@ -3,7 +3,7 @@
 ghost use Rattle.std.specs.Prelude.{◌≡◌, OnOk};
 ghost use Rattle.cam_event.specs.Readings.{by_pasts};
 ghost use Rattle.cam_script.specs.Law.{IsScript};
-ghost use Rattle.cam_script.specs.FirstPath.{IsFirstPath};
+ghost use Rattle.cam_cluster.specs.FirstScripts.{IsFirstPath};
 ghost use Rattle.cam_cluster.specs.Contract.{IsNextStep, after_step};
 
 mod words;

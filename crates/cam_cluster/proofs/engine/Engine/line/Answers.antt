@@ -1,6 +1,6 @@
 use Rattle.std.proofs.Common.{◌∙◌, Some, length, ap, subst}
 use Rattle.cam_script.specs.Law.{IsScript}
-use Rattle.cam_script.specs.FirstPath.{IsFirstPath}
+use Rattle.cam_cluster.specs.FirstScripts.{IsFirstPath}
 use Rattle.cam_cluster.specs.Contract.{ClusterState}
 use Rattle.cam_cluster.proofs.NextStep.{few_taken, next_first, first_acts, begin_node, call_fits, call_site}
 use Rattle.cam_cluster.proofs.engine.Engine.line.Goals as goal
