@@ -14,7 +14,7 @@ use Rattle.cam_plain.specs.Legal.{Legal}
 use Rattle.cam_words.specs.declared.fault.ScriptFault.{ScriptFault}
 use Rattle.cam_script.specs.declared.Script.{Script}
 use Rattle.cam_script.specs.Built.{Built}
-use Rattle.cam_script.specs.Grammar.{read_script, as_unknown_line}
+use Rattle.cam_script.specs.Grammar.{read_script}
 use Rattle.cam_script.proofs.Accepts.{accepted_is_script}
 use Rattle.cam_cut.specs.Law.{IsWitness}
 use Rattle.cam_cut.specs.Witness.{witness}
@@ -75,11 +75,3 @@ headline_holds built bytes = by (read_script built bytes) refl
     by : (read : Result Script ScriptFault) → read_script built bytes ≡ read → IfOk read HasOneRun
     by (Ok script) is = one_run_holds script (script_in_range script (accepted_is_script built bytes script is))
     by (Err fault) is = tt
-
--- And so of what a stage shows of the bytes, where each fault is one of an unknown line.
-pub headline_as_shown : (built : Built) (bytes : List ℕ) → IfOk (as_unknown_line (read_script built bytes)) HasOneRun
-headline_as_shown built bytes = by (read_script built bytes) (headline_holds built bytes)
-  where
-    by : (read : Result Script ScriptFault) → IfOk read HasOneRun → IfOk (as_unknown_line read) HasOneRun
-    by (Ok script) holds = holds
-    by (Err fault) holds = tt

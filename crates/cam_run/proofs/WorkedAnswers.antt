@@ -11,7 +11,7 @@ use Rattle.cam_words.specs.declared.cause.Cause.TheVariants as causes
 use Rattle.cam_script.specs.declared.Step.{Step}
 use Rattle.cam_script.specs.declared.Act.TheVariants as acts
 use Rattle.cam_script.specs.Built.{Built, first_path}
-use Rattle.cam_script.specs.Grammar.{read_script, as_unknown_line}
+use Rattle.cam_script.specs.Grammar.{read_script}
 use Rattle.cam_script.proofs.Read.{read_by}
 use Rattle.cam_run.specs.Texts.{refused_text}
 use Rattle.cam_run.specs.Answer.{IsOfScript, script_of, script_report}
@@ -23,9 +23,9 @@ unfolding read_by
 opened built bytes = refl
 
 -- the answer to an input, by what is read of it
-answers : (input : List ℕ) (read : Result Script ScriptFault) (status : ℕ) (text : List ℕ) → read_by first_path input ≡ read → IsOfScript (as_unknown_line read) status text → IsOfScript (script_of input) status text
+answers : (input : List ℕ) (read : Result Script ScriptFault) (status : ℕ) (text : List ℕ) → read_by first_path input ≡ read → IsOfScript read status text → IsOfScript (script_of input) status text
 answers input read status text spelled answer =
-    subst (λ r. IsOfScript (as_unknown_line r) status text) (sym (opened first_path input ∙ spelled)) answer
+    subst (λ r. IsOfScript r status text) (sym (opened first_path input ∙ spelled)) answer
 
 -- one node and the register x, which holds this number
 abbrev script : ℕ → List Step → Script

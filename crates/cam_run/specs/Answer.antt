@@ -12,7 +12,7 @@ use Rattle.cam_words.specs.declared.fault.ScriptFault.{ScriptFault}
 use Rattle.cam_words.specs.declared.fault.ScriptFault.TheVariants.{Bad, NoMemory}
 use Rattle.cam_words.specs.Causes.{cause_number}
 use Rattle.cam_script.specs.Built.{first_path}
-use Rattle.cam_script.specs.Grammar.{read_script, as_unknown_line}
+use Rattle.cam_script.specs.Grammar.{read_script}
 use Rattle.cam_runs.specs.Running.{Running}
 use Rattle.cam_report.specs.Report.{report}
 use Rattle.cam_headline.specs.Headline.{one_run}
@@ -22,9 +22,9 @@ use Rattle.cam_run.specs.Texts.{usage_text, read_fault_text, refused_text}
 abbrev pub IsForm : List (List ℕ) → Type 0
 IsForm words = words ≡ codes "run" ∷ []
 
--- the script that the input spells, or its first fault as it is shown
+-- the script that the input spells, or its first fault
 abbrev pub script_of : List ℕ → Result Script ScriptFault
-script_of input = as_unknown_line (read_script first_path input)
+script_of input = read_script first_path input
 
 -- the report of a run of a script, and that of its one run
 abbrev pub report_of : Script → Running → List ℕ

@@ -2,7 +2,6 @@
 ghost use Rattle.std.specs.Prelude.{◌≡◌, ◌⊎◌, ◌↔◌, ℕ, List, [], IfOk, IsTrue, Err, map, string_bytes};
 ghost use Rattle.cam_base.specs.Causes.{Rose};
 ghost use Rattle.cam_base.specs.Told.{IfTold};
-ghost use Rattle.cam_script.specs.Grammar.{as_unknown_line};
 ghost use Rattle.cam_headline.specs.Headline.{HasOneRun};
 ghost use Rattle.cam_run.specs.declared.status.Status.TheVariants as statuses;
 ghost use Rattle.cam_run.specs.Status.{number};
@@ -20,7 +19,7 @@ use std::alloc::Global;
 /// The answer is the status of the program: 0 the report was written; 2 the words are no form; 3 the script was refused; 4 the source
 /// failed; 5 the sink failed, and a prefix of the text was written; 7 out of memory, and nothing was written. The text is made
 /// whole before the first write. What the run of each accepted script owes is told in `docs/HEADLINE.md`.
-#[tactic(auto, using(cam_headline::proofs::Whole::headline_as_shown))]
+#[tactic(auto, using(cam_headline::proofs::Whole::headline_holds))]
 pub fn camelot<S: Source, K: Sink>(
     alloc: Global,
     words: &[String],
@@ -178,10 +177,10 @@ fn run_bytes(alloc: Global, bytes: &[u8]) -> Result<Answer, NoMemory>
 /// The answer to a script with this first fault.
 fn refusal(alloc: Global, fault: ScriptFault) -> Result<Answer, NoMemory>
     ensures answer { IfOk result
-        (λ a. IsOfScript (as_unknown_line (Err fault)) (number a.status) (string_bytes a.text)) }
+        (λ a. IsOfScript (Err fault) (number a.status) (string_bytes a.text)) }
     ensures status { IfOk result (λ a. a.status ≡ statuses.Refused) }
 {
-    match fault.as_unknown_line() {
+    match fault {
         ScriptFault::Bad {
             line,
             column,

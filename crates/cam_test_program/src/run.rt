@@ -109,13 +109,13 @@ fn a_script_has_its_answer(rt: HostRuntime) -> Result<(), Fail> {
         (REFUSED_CALL, 0, REFUSED_REPORT),
         (REPEATED, 0, REPEATED_REPORT),
         ("nodes 1\n\nfoo\n", 3, "refused 3 1 S3\n"),
-        ("nodes 1\nbegin A 2\n", 3, "refused 2 1 S3\n"),
+        ("nodes 1\nbegin A 2\n", 3, "refused 2 9 S11\n"),
         (
             "nodes 1\nobject x 1 register 0\n# a comment\nbegin A 1\ncall A y read\nfoo\n",
             3,
-            "refused 5 1 S3\n",
+            "refused 5 8 S9\n",
         ),
-        ("", 3, "refused 1 1 S3\n"),
+        ("", 3, "refused 1 1 S10\n"),
     ] {
         let mut source = source(alloc, input, &[])?;
         let mut sink = MemorySink::new(alloc, Vec::new(alloc));
@@ -129,7 +129,7 @@ fn a_script_has_its_answer(rt: HostRuntime) -> Result<(), Fail> {
     let mut long = MemorySource::new(vec![in alloc; 10; 262_145]?, Vec::new(alloc));
     let mut sink = MemorySink::new(alloc, Vec::new(alloc));
     assert_eq!(rt; camelot(alloc, &run, &mut long, &mut sink), 3);
-    assert_eq!(rt; sink.text(), b"refused 1 1 S3\n".as_slice());
+    assert_eq!(rt; sink.text(), b"refused 1 1 S1\n".as_slice());
     Ok(())
 }
 
