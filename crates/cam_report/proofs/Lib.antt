@@ -3,3 +3,4 @@ pub mod Gathering
 pub mod Viewing
 pub mod States
 pub mod Settling
+pub mod Counting

@@ -7,14 +7,13 @@ use Rattle.std.specs.BTreeSet.{BTreeSet, contains}
 use Rattle.cam_names.specs.declared.name.Name.{Name}
 use Rattle.cam_names.specs.Names.{name_cmp, name_eq}
 use Rattle.cam_event.specs.declared.Deed.{Deed}
-use Rattle.cam_event.specs.declared.Deed.TheVariants.{Create, Commit, Abort}
+use Rattle.cam_event.specs.declared.Deed.TheVariants.{Commit, Abort}
 use Rattle.cam_event.specs.History.{is_commit, is_abort, committed, aborted}
 use Rattle.cam_event.specs.Rules.{sorted_names}
 use Rattle.cam_event.proofs.SortedNames.{sorted_any}
 use Rattle.cam_report.specs.declared.milestones.Milestone.{Milestone}
 use Rattle.cam_report.specs.declared.milestones.Milestone.TheVariants as milestones
 use Rattle.cam_report.specs.Gathered.{reached}
-use Rattle.cam_report.specs.Report.{create_in}
 use Rattle.cam_names.proofs.Names.{name_ties}
 
 -- a name among those that the deeds reach

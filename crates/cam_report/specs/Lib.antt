@@ -2,5 +2,6 @@ pub mod Words
 pub mod Report
 pub mod DeedWords
 pub mod Traces
+pub mod Numbered
 pub mod Records
 pub mod Gathered

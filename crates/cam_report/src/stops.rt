@@ -10,7 +10,12 @@ use std::fmt::Write;
 
 /// Appends the line of the event of this number, if it stopped an action.
 #[tactic(auto, using(crate::proofs::Spaced::words_reason))]
-fn write_stop(alloc: Global, number: usize, note: &Note, out: &mut String) -> Result<(), NoMemory>
+pub(crate) fn write_stop(
+    alloc: Global,
+    number: usize,
+    note: &Note,
+    out: &mut String,
+) -> Result<(), NoMemory>
     ensures { OnOk result (string_bytes out.new ≡ string_bytes out.old
         ++ stop_text number note.now) }
 {

@@ -1,4 +1,4 @@
-use Rattle.std.proofs.Common.{◌∷◌, [], ◌++◌, List, ℕ, codes, string_bytes, sym, ap, ◌∙◌}
+use Rattle.std.proofs.Common.{[], ◌++◌, List, ℕ, string_bytes, sym, ap, ◌∙◌}
 use Rattle.std.proofs.lemmas.List.{append_assoc}
 use Rattle.cam_report.specs.Report.{value_text}
 use Rattle.cam_event.specs.History.{after}
