@@ -4,5 +4,6 @@ pub mod DeedWords
 pub mod Traces
 pub mod Numbered
 pub mod Whys
+pub mod Summary
 pub mod Records
 pub mod Gathered

@@ -7,6 +7,7 @@ use Rattle.cam_cut.specs.Witness.{witness}
 use Rattle.cam_script.specs.declared.Script.{Script}
 use Rattle.cam_report.specs.Report.{report}
 use Rattle.cam_report.specs.Traces.{trace_text, witness_text}
+use Rattle.cam_report.specs.Summary.{summary}
 
 abbrev pub record_report : Script → RunRecord → List ℕ
 record_report script run = report script.objects script.labels (reverse run.trace) run.marks
@@ -16,3 +17,7 @@ record_trace script run = trace_text script.labels (reverse run.trace) run.marks
 
 abbrev pub record_witness : Script → RunRecord → Name → List ℕ
 record_witness script run a = witness_text script.labels (witness (reverse run.trace) a)
+
+-- of a script of so many steps, whose report has this digest
+abbrev pub record_summary : RunRecord → ℕ → List ℕ → List ℕ
+record_summary run steps digest = summary (reverse run.trace) steps digest
