@@ -105,11 +105,8 @@ fn write_event(
         event.node
     )?;
     write_deeds(alloc, labels, event.deeds.as_slice(), out)?;
-    write_sent(
-        numbering.sent_before(number) + 1,
-        event.sent.as_slice(),
-        out,
-    )?;
+    let first = numbering.sent_before(number) + 1;
+    write_sent(first, event.sent.as_slice(), out)?;
     Ok(())
 }
 

@@ -10,7 +10,7 @@ returns c = λ events numbered within.
     let t = reverse (take c.args.number events) in
     let count = front_length events c.args.number within in
     let letter = c.number-letter.ensures events numbered within in
-    let sent : c.sent_before.result ≡ sent_before t (length t) =
-    c.sent_before.ensures.value (reverse events) numbered (omega (arith, within, length-reverse events)) ∙ all_among events c.args.number within
+    let sent : c.sent_before-first.result ≡ sent_before t (length t) =
+    c.sent_before-first.ensures.value (reverse events) numbered (omega (arith, within, length-reverse events)) ∙ all_among events c.args.number within
     in
     grind (arith, common_steps, count, letter, sent)
