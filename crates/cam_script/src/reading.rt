@@ -131,8 +131,8 @@ impl SoFar {
         }
     }
 
-    /// Reads a line outside bodies.
-    fn read_outside(
+    /// Reads a line outside bodies, of this form, behind its first word. It answers the fault of the grammar, or `NoMemory`.
+    pub fn read_outside(
         &mut self,
         stage: Stage,
         form: Form,
@@ -208,8 +208,14 @@ impl SoFar {
         }
     }
 
-    /// The step of a line that binds no variable.
-    fn act_line(&self, stage: Stage, form: Form, line: &Line, at: usize) -> Result<Act, ScriptFault>
+    /// The step of a line that binds no variable, behind its first word. It answers the fault of the grammar.
+    pub fn act_line(
+        &self,
+        stage: Stage,
+        form: Form,
+        line: &Line,
+        at: usize,
+    ) -> Result<Act, ScriptFault>
         requires within { IsWithin self.now }
         requires place { at ≤ length line.now.bytes.now }
         ensures value { result
@@ -238,7 +244,7 @@ impl SoFar {
 }
 
 /// A line whose first word begins so is skipped.
-fn begins_with_hash(word: &[u8]) -> bool
+pub fn begins_with_hash(word: &[u8]) -> bool
     ensures { result ≡ begins_with_hash word.now }
 {
     match word.split_first() {

@@ -1,7 +1,7 @@
 //! What stands after some lines of a script.
 ghost use Rattle.std.specs.Prelude.{◌≡◌, ◌≤◌, ◌+◌, length, min, IsTrue, OnOk, Result};
 ghost use Rattle.cam_words.specs.Numbers.{is_name};
-ghost use Rattle.cam_script.specs.SoFar.{nothing, step_cost, with_nodes, with_object, with_variable, with_step, with_binding_step};
+ghost use Rattle.cam_script.specs.SoFar.{nothing, step_cost, with_nodes, with_object, with_variable_at, with_step, with_binding_step};
 ghost use Rattle.cam_script.specs.Grammar.{read_end};
 
 use crate::body_table::{BodyTable, Writing};
@@ -14,19 +14,20 @@ use cam_words::{Cause, Label, ScriptFault};
 use std::alloc::Global;
 use std::marker::Model;
 
-/// What is declared so far, the steps so far and what they cost, and the body that is being written.
+/// What is declared so far, the steps so far and what they cost, and the body that is being written: what a parser of this language, or of
+/// one that shares its lines, keeps.
 #[derive(Drop)]
-pub(crate) struct SoFar {
+pub struct SoFar {
     /// 0 until `nodes` was read.
-    pub nodes: u8,
-    pub objects: Objects,
-    pub labels: NameTable,
-    pub bodies: BodyTable,
-    pub steps: Steps,
-    pub variables: Variables,
+    pub(crate) nodes: u8,
+    pub(crate) objects: Objects,
+    pub(crate) labels: NameTable,
+    pub(crate) bodies: BodyTable,
+    pub(crate) steps: Steps,
+    pub(crate) variables: Variables,
     /// The steps spent, with the costs of bodies.
-    pub spent: u32,
-    pub writing: Option<Writing>,
+    pub(crate) spent: u32,
+    pub(crate) writing: Option<Writing>,
 }
 
 impl Model for SoFar {
@@ -85,14 +86,17 @@ impl SoFar {
         Ok(())
     }
 
-    /// A variable of this name for the next step.
-    fn push_variable(&mut self, name: &[u8], binding: Binding) -> Result<(), NoMemory>
-        requires name { IsTrue (is_name name.now) }
-        requires room { length self.old.script.steps ≤ 512 }
-        ensures { OnOk result (self.new ≡ with_variable self.old name.now binding) }
+    /// A variable of this name for the step at this place.
+    pub fn push_variable(
+        &mut self,
+        name: &[u8],
+        step: u32,
+        binding: Binding,
+    ) -> Result<(), NoMemory>
+        requires { IsTrue (is_name name.now) }
+        ensures { OnOk result (self.new ≡ with_variable_at self.old name.now step binding) }
     {
         let name = Label::of_word(self.labels.allocator(), name)?;
-        let step = self.steps.len() as u32;
         self.variables.push(name, Bound { step, binding })
     }
 
@@ -109,7 +113,8 @@ impl SoFar {
         requires room { self.old.spent + step_cost self.old.sizes act ≤ 512 }
         ensures { OnOk result (self.new ≡ with_binding_step self.old line name.now binding act) }
     {
-        self.push_variable(name, binding)?;
+        let step = self.steps.len() as u32;
+        self.push_variable(name, step, binding)?;
         self.push_step(line, act)
     }
 

@@ -5,7 +5,7 @@ ghost use Rattle.cam_words.specs.Words.{looked_up};
 ghost use Rattle.cam_script.specs.Table.{entries};
 
 /// What a table has for a word, by its first row with that word.
-pub(crate) fn find<T: Copy>(table: &[(&str, T)], word: &[u8]) -> Option<T>
+pub fn find<T: Copy>(table: &[(&str, T)], word: &[u8]) -> Option<T>
     ensures { result ≡ looked_up (entries table.now) word.now }
 {
     for row in table {

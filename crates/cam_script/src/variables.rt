@@ -109,5 +109,7 @@ fn against(used: Use, binding: Binding) -> Option<Cause>
         (Use::Go, Binding::Start) => None,
         (Use::Go, _) => Some(Cause::Misplaced),
         (Use::Query, _) => None,
+        (Use::Begun, Binding::Begin) => None,
+        (Use::Begun, _) => Some(Cause::Misplaced),
     }
 }
