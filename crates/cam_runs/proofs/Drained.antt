@@ -35,7 +35,7 @@ is_done r k = has_number r.delivered k || has_number r.lost k
 abbrev pub Falls : Reading → Type 0
 Falls reading = (t : List Event) (letter : LetterId) → is_some (letter_at t letter) ≡ true → sent_weight (reading.next t (Receives letter)).sent < weight_of t letter
 
-mail_falls : (objects : List ObjectDecl) (g : Sight) (o : Option Mail) → FewDeps g → is_some o ≡ true → sent_weight (arrives_mail objects g o).sent < option_map_or (λ mail. weight mail.body) o 0
+pub mail_falls : (objects : List ObjectDecl) (g : Sight) (o : Option Mail) → FewDeps g → is_some o ≡ true → sent_weight (arrives_mail objects g o).sent < option_map_or (λ mail. weight mail.body) o 0
 mail_falls objects g None few h = cc
 mail_falls objects g (Some mail) few h = arrives_lighter objects g mail.from mail.body few
 
@@ -125,16 +125,19 @@ delivered_weigh r new w j (l ∷ ls) h at = by (is_done r j) refl at (delivered_
         let less = old_weigh r new w.0 (j + 1) ls (rest_later r new w.0 l ls h) in
         rw gone (omega (arith, less, letter))
 
-lowers : (reading : Reading) → Falls reading → Lowers reading
-lowers reading falls r w at =
-    let new : Running = deliver reading r w.0 w.1 in
-    let e : Event = reading.next r.trace (Receives w.1) in
-    let there : In w.1 (letters r.trace) = waiting_numbered r 1 (letters r.trace) w at in
+-- The event that receives the letter that waits, and sends what weighs less, lowers the weight.
+pub one_lowers : (r : Running) (e : Event) (w : ℕ × LetterId) → waiting r ≡ Some w → sent_weight e.sent < weight_of r.trace w.1 → waiting_weight (record r { trace = e ∷ r.trace; delivered = w.0 ∷ r.delivered }) < waiting_weight r
+one_lowers r e w at sent =
+    let new : Running = record r { trace = e ∷ r.trace; delivered = w.0 ∷ r.delivered } in
     let later : IsLater r new w.0 (letters r.trace) = record { done = λ j. or_associates (eqb w.0 j) (has_number r.delivered j) (has_number r.lost j); same = λ l has. same_weight e r.trace l (letters_sent r.trace l has) } in
     let all = parts_weigh new 1 (sent_weight e.sent) (letters r.trace) (ids_from (length r.trace) 0 e.sent) (λ j. new_weigh new (length r.trace) 0 j e.sent (λ q. sent_weigh e r.trace q)) in
     let less = delivered_weigh r new w 1 (letters r.trace) later at in
-    let sent = falls r.trace w.1 (letters_sent r.trace w.1 there) in
     omega (arith, all, less, sent)
+
+lowers : (reading : Reading) → Falls reading → Lowers reading
+lowers reading falls r w at =
+    let there : In w.1 (letters r.trace) = waiting_numbered r 1 (letters r.trace) w at in
+    one_lowers r (reading.next r.trace (Receives w.1)) w at (falls r.trace w.1 (letters_sent r.trace w.1 there))
 
 -- where none waits, deliveries change nothing
 idle : (reading : Reading) (n : ℕ) (r : Running) → waiting r ≡ None → waiting (deliveries reading n r) ≡ None
