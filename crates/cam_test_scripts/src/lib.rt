@@ -12,3 +12,7 @@ mod generator;
 mod report;
 #[cfg(test)]
 mod script;
+#[cfg(test)]
+mod texts;
+#[cfg(test)]
+mod traces;
