@@ -2,6 +2,7 @@
 ghost use Rattle.std.specs.Prelude.{◌≡◌, ◌≤◌, length, IfOk};
 ghost use Rattle.cam_words.specs.Lines.{lines_of};
 ghost use Rattle.cam_script.specs.Parse.{Gives};
+ghost use Rattle.cam_timed.specs.Law.{ViewsAreSound};
 ghost use Rattle.cam_timed.specs.TimedGrammar.{timed_nothing, read_timed_lines, read_timed};
 ghost use Rattle.cam_timed.specs.TimedRange.{IsTimedScript};
 
@@ -15,11 +16,12 @@ use std::alloc::Global;
 ///
 /// `begin` and `ask` have a quiesce moment at their end; `tick NODE MOMENT` and `expire A`, A a variable of `begin`, are new; each moment is
 /// 1 to 1,000,000,000. Bodies, `start`, `go`, `play`, `restart`, `cut` and `stop` are unknown lines. It answers `NoMemory` where memory runs
-/// out.
-#[tactic(auto, using(crate::proofs::TimedAccepts::gives_script))]
+/// out. Each action of the run by time of an accepted script has its view in a legal history, in which it is no orphan (`views`).
+#[tactic(auto, using(crate::proofs::TimedAccepts::gives_script, crate::proofs::TimedViews::gives_views))]
 pub fn parse_timed(alloc: Global, bytes: &[u8]) -> Result<TimedScript, ScriptFault>
     ensures value { Gives result (read_timed bytes.now) }
     ensures script { IfOk result IsTimedScript }
+    ensures views { IfOk result ViewsAreSound }
 {
     if bytes.len() > MOST_BYTES {
         return Err(ScriptFault::Bad {
