@@ -17,7 +17,8 @@ use Rattle.cam_cluster.specs.Seen.{IsNextStep, Seen, later_steps, setting_in}
 use Rattle.cam_cluster.specs.SoFar.{LinesFields}
 use Rattle.cam_cluster.specs.Taking.{HasDrainedPart, IsStepTaken}
 use Rattle.cam_cluster.proofs.Drains.{drain_is}
-use Rattle.cam_cluster.proofs.EndsSaid.{ends_said, from_high, from_low, from_newest, handed_over}
+use Rattle.cam_cluster.proofs.EndsSaid.{deliveries_said, from_high, from_low, from_newest}
+use Rattle.cam_cluster.proofs.EndsSaid.{given_said, handed_over}
 use Rattle.cam_cluster.proofs.GoesOn.{goes_on, held_is}
 
 module _ (line : ℕ) (old new : LinesFields) (might may : ℕ → Logged → Type 0) where
@@ -34,8 +35,9 @@ module _ (line : ℕ) (old new : LinesFields) (might may : ℕ → Logged → Ty
 
     all_said : KeepsBetween seen old might → AreSaid c ends seen.standing
     all_said keeps =
-        ends_said c (more ++ seen.halts) seen.halts (accepted seen.standing.turns) ends
-        seen.standing refl refl refl keeps.past
+        deliveries_said c (accepted seen.standing.turns) ends seen.standing refl
+        (given_said (more ++ seen.halts) seen.halts (accepted seen.standing.turns) ends refl
+        keeps.past)
 
   pub drain_taken : IsLineOfDrain line old might new may
       → IsStepTaken step old might new may (Ok None)

@@ -15,6 +15,7 @@ use Rattle.cam_cluster.specs.declared.works.Put.TheVariants as puts
 use Rattle.cam_cluster.specs.Between.{halts_from}
 use Rattle.cam_cluster.specs.Drains.{AreDue, AreSaid, IsSaid}
 use Rattle.cam_cluster.specs.FoundHalts.{AreNewestFirst}
+use Rattle.cam_cluster.specs.Making.{AreSaidFrom}
 use Rattle.cam_cluster.specs.Puts.{as_halt}
 use Rattle.cam_cluster.proofs.GoesOn.{all_behind, all_so, newest_behind, unsaid}
 use Rattle.cam_cluster.proofs.LaterHalts.{later_says}
@@ -111,25 +112,32 @@ none_said c (end ∷ ends) st none = (
       (none_said c ends st none),
 )
 
--- So the halts of the ends say how each of them ended.
-pub ends_said : (c : Setting) (all old : List Halt) (k : ℕ) (ends : List Put) (st : Standing)
-    → c.halts ≡ given all → all ≡ halts_from k ends ++ old → accepted st.turns ≡ k
-    → AllByRecursion (λ (h : Halt). h.input < k) old → AreSaid c ends st
-ends_said c all old k [] st halts is at past = tt
-ends_said c all old k (end ∷ ends) st halts is at past =
+-- So the halts of the ends say of each input how it ended.
+pub given_said : (all old : List Halt) (k : ℕ) (ends : List Put) → all ≡ halts_from k ends ++ old
+    → AllByRecursion (λ (h : Halt). h.input < k) old → AreSaidFrom (given all) k ends
+given_said all old k [] is past = tt
+given_said all old k (end ∷ ends) is past = (
+  λ turns s appends restarted at.
+      ap (halt_at all) at ∙ ap (λ (hs : List Halt). halt_at hs k) is
+      ∙ first_said k end ends old past,
+  given_said all (known_then k end old) (k + 1) ends (is ∙ known_on k end ends old)
+      (known_past k end old past),
+)
+
+-- What is said of the inputs is said of the letters that wait.
+pub deliveries_said : (c : Setting) (k : ℕ) (ends : List Put) (st : Standing)
+    → accepted st.turns ≡ k → AreSaidFrom c.halts k ends → AreSaid c ends st
+deliveries_said c k [] st at given_so = tt
+deliveries_said c k (end ∷ ends) st at given_so =
     said (waiting st) refl
-    (λ w. ends_said c all (known_then k end old) (k + 1) ends (deliver c st w.0 w.1) halts
-    (is ∙ known_on k end ends old) (one_handed c st w ∙ ap (λ (n : ℕ). n + 1) at)
-    (known_past k end old past))
+    (λ w. deliveries_said c (k + 1) ends (deliver c st w.0 w.1)
+    (one_handed c st w ∙ ap (λ (n : ℕ). n + 1) at) given_so.1)
   where
     of_first : (w : ℕ × LetterId) → IsSaid c st (Some w) end
     of_first w =
         let t = st.running.trace in
-        let s : ℕ = node_of t (Receives w.1) in
-        (λ i. halts i st.turns s (appends c.reading t (Receives w.1)) (c.restarted s))
-        ∙ ap (halt_at all) at
-        ∙ ap (λ (hs : List Halt). halt_at hs k) is
-        ∙ first_said k end ends old past
+        given_so.0 st.turns (node_of t (Receives w.1)) (appends c.reading t (Receives w.1))
+        (c.restarted (node_of t (Receives w.1))) at
 
     said : (o : Option (ℕ × LetterId)) → waiting st ≡ o
         → ((w : ℕ × LetterId) → AreSaid c ends (deliver c st w.0 w.1))

@@ -1,76 +1,114 @@
 -- The turns of the actions of a round, one after another.
-use Rattle.std.proofs.Common.{◌≡◌, ℕ, zero, suc, false, List, [], ◌∷◌, ◌++◌, Option, Some, None}
-use Rattle.std.proofs.Common.{Bool, refl, sym, ap, ◌∙◌, subst, is_some}
+use Rattle.std.proofs.Common.{◌≡◌, ℕ, zero, suc, true, false, ◌&&◌, if◌then◌else◌, List, [], ◌∷◌}
+use Rattle.std.proofs.Common.{◌++◌, Option, Some, None, Bool, refl, sym, subst, is_some}
+use Rattle.std.proofs.Common.{true≢false}
 use Rattle.std.specs.Prelude.{slice_get}
 use Rattle.std.specs.List.{AllByRecursion}
 use Rattle.std.proofs.lemmas.Option.{same_Some}
 use Rattle.cam_names.specs.declared.name.Name.{Name}
+use Rattle.cam_names.specs.Names.{home_node}
 use Rattle.cam_body.specs.declared.Next.{Next}
 use Rattle.cam_body.specs.declared.Next.TheVariants as nexts
+use Rattle.cam_body.specs.Work.{child_body}
+use Rattle.cam_event.specs.Inputs.{Input, Requests}
+use Rattle.cam_event.specs.Pasts.{plain_all}
+use Rattle.cam_event.specs.Views.{view}
 use Rattle.cam_node.specs.Log.{Logged}
-use Rattle.cam_runs.specs.Halts.{Halting}
-use Rattle.cam_runs.specs.HaltedPlaying.{go_in_round}
-use Rattle.cam_runs.specs.Standing.{Setting, Standing}
+use Rattle.cam_runs.specs.Halts.{accepted, appends}
+use Rattle.cam_runs.specs.HaltedPlaying.{go, go_in_round, make_request, may_go_on}
+use Rattle.cam_runs.specs.Playing.{body_of}
+use Rattle.cam_runs.specs.Requests.{asked_in}
+use Rattle.cam_runs.specs.Standing.{Setting, Standing, made as made_by, put}
 use Rattle.cam_script.specs.declared.Statement.{Statement}
 use Rattle.cam_histories.specs.InputLaws.{held_setting}
 use Rattle.cam_cluster.specs.declared.works.Put.{Put}
 use Rattle.cam_cluster.specs.declared.workers.Workers.{Workers}
-use Rattle.cam_cluster.specs.Goes.{IsSaidOf, KeepsWorkersAsBefore, next_of}
-use Rattle.cam_cluster.specs.Puts.{KeepsAsBefore, as_halt}
-use Rattle.cam_cluster.specs.Rounds.{AreMade, AreSaidOf, AreTurnsOfSome, HadTurn, HasHadTurn}
-use Rattle.cam_cluster.specs.Rounds.{HaveHadTurns, IsTurnOfSome, Turn}
-use Rattle.cam_cluster.specs.Rounds.{after_name, makes_one, names_of}
+use Rattle.cam_cluster.specs.Goes.{IsSaidOf, KeepsWorkersAsBefore, is_request, next_of}
+use Rattle.cam_cluster.specs.Making.{AreCounted, AreSaidFrom}
+use Rattle.cam_cluster.specs.Puts.{KeepsAsBefore}
+use Rattle.cam_cluster.specs.Rounds.{AreTurnsOfSome, HasHadTurn, HaveHadTurns}
+use Rattle.cam_cluster.specs.Rounds.{IsTurnOfSome, after_name, makes_one, turns_of}
 use Rattle.cam_cluster.specs.VariableLines.{IsAtNode}
-use Rattle.cam_cluster.specs.Workers.{AreWorkers}
-use Rattle.cam_cluster.specs.Works.{KeepsRun, WorksFields}
+use Rattle.cam_cluster.specs.Works.{WorksFields}
+use Rattle.cam_cluster.proofs.Counts.{given_counted, none_counted, put_counted}
+use Rattle.cam_cluster.proofs.Made.{made_as, made_on, made_wanting, none_made}
+use Rattle.cam_cluster.proofs.Made.{stands_behind}
 
--- One turn more.
-names_more : (turns : List Turn) (turn : Turn)
-    → names_of (turns ++ turn ∷ []) ≡ names_of turns ++ turn.name ∷ []
-names_more [] turn = refl
-names_more (t ∷ turns) turn = ap (λ ns. t.name ∷ ns) (names_more turns turn)
+-- the ends of a turn: of its request, where it made one
+abbrev ends_of : Option Put → List Put
+ends_of None = []
+ends_of (Some done) = done ∷ []
 
-module _ (c : Setting) (bodies : List (List Statement)) (turn : Turn) where
-  abbrev behind : List Turn → Standing → Standing
-  behind turns st = go_in_round c bodies (names_of turns) st
+-- The turn of an action is counted.
+module _ (c : Setting) (bodies : List (List Statement)) (st : Standing) (a : Name) where
+  made_counted : (child : Option ℕ) (n : Next) (end : Option Put) → is_some end ≡ is_request n
+      → IsSaidOf c st a n end → AreCounted st (make_request c st a child n) (ends_of end)
+  made_counted child (nexts.Request want) (Some done) made said =
+      let request : Input = Requests (record { action = a; want = want }) in
+      given_counted st (put c st request) (done ∷ []) child (asked_in (made_by st (put c st request)))
+      (put_counted c st request done said)
+  made_counted child (nexts.Request want) None made said = absurd (true≢false (sym made))
+  made_counted child nexts.Wait None made said = none_counted st
+  made_counted child nexts.Wait (Some done) made said = absurd (true≢false made)
+  made_counted child nexts.Over None made said = none_counted st
+  made_counted child nexts.Over (Some done) made said = absurd (true≢false made)
 
-  one_more : (turns : List Turn) (st : Standing)
-      → behind (turns ++ turn ∷ []) st ≡ after_name c bodies (behind turns st) turn.name
-  one_more [] st = refl
-  one_more (t ∷ turns) st = one_more turns (after_name c bodies st t.name)
+  turn_counted : (end : Option Put) → is_some end ≡ makes_one c bodies st a
+      → IsSaidOf c st a (next_of bodies st a) end
+      → AreCounted st (after_name c bodies st a) (ends_of end)
+  turn_counted end made said = by (may_go_on c st a) end made said
+    where
+      by : (b : Bool) (o : Option Put) → is_some o ≡ (b && is_request (next_of bodies st a))
+          → IsSaidOf c st a (next_of bodies st a) o
+          → AreCounted st (if b then go c bodies st a else st) (ends_of o)
+      by true o made_so said_so =
+          made_counted
+          (child_body (body_of bodies st.running a) (view (plain_all st.running.trace) a))
+          (next_of bodies st a) o made_so said_so
+      by false None made_so said_so = none_counted st
+      by false (Some done) made_so said_so = absurd (true≢false made_so)
 
-  said_front : (turns : List Turn) (st : Standing) → AreSaidOf c bodies (turns ++ turn ∷ []) st
-      → AreSaidOf c bodies turns st
-  said_front [] st said = tt
-  said_front (t ∷ turns) st said =
-      (said.0, said_front turns (after_name c bodies st t.name) said.1)
+  -- What is said of the next input is said of its request.
+  said_of_turn : (n : Next) (end : Option Put)
+      → AreSaidFrom c.halts (accepted st.turns) (ends_of end) → IsSaidOf c st a n end
+  said_of_turn (nexts.Request want) (Some done) said =
+      said.0 st.turns (home_node a)
+      (appends c.reading st.running.trace (Requests (record { action = a; want = want })))
+      (c.restarted (home_node a)) refl
+  said_of_turn (nexts.Request want) None said = tt
+  said_of_turn nexts.Wait end said = tt
+  said_of_turn nexts.Over end said = tt
 
-  said_last : (turns : List Turn) (st : Standing) → AreSaidOf c bodies (turns ++ turn ∷ []) st
-      → IsSaidOf c (behind turns st) turn.name (next_of bodies (behind turns st) turn.name)
-      turn.end
-  said_last [] st said = said.0
-  said_last (t ∷ turns) st said = said_last turns (after_name c bodies st t.name) said.1
+-- One action had its turn;
+one_turn : (line : ℕ) (a : Name) (bodies : List (List Statement)) (old new : WorksFields)
+    (might may : ℕ → Logged → Type 0) (before after : Workers) (end : Option Put)
+    → HasHadTurn line a bodies old might before end new may after
+    → HaveHadTurns line (a ∷ []) bodies old might before new may after
+one_turn line a bodies old new might may before after end has = record {
+  ends = ends_of end;
+  made = λ script st halts restarted is bodies_are keeps said.
+      let c = held_setting script.objects halts line restarted in
+      let turn = has script st halts restarted is bodies_are keeps.runs keeps.workers in
+      let said_so = said_of_turn c script.bodies st a (next_of script.bodies st a) end said in
+      record {
+        counted = turn_counted c script.bodies st a end turn.made said_so;
+        keeps = record { runs = turn.runs said_so; workers = turn.workers said_so };
+      };
+}
 
-  made_more : (turns : List Turn) (st : Standing) → AreMade c bodies turns st
-      → is_some turn.end ≡ makes_one c bodies (behind turns st) turn.name
-      → AreMade c bodies (turns ++ turn ∷ []) st
-  made_more [] st made last = (last, tt)
-  made_more (t ∷ turns) st made last =
-      (made.0, made_more turns (after_name c bodies st t.name) made.1 last)
+-- behind others it is one turn more
+one_more : (c : Setting) (bodies : List (List Statement)) (a : Name) (names : List Name)
+    (st : Standing)
+    → go_in_round c bodies (a ∷ []) (go_in_round c bodies names st)
+    ≡ go_in_round c bodies (names ++ a ∷ []) st
+one_more c bodies a [] st = refl
+one_more c bodies a (b ∷ names) st = one_more c bodies a names (after_name c bodies st b)
 
--- No action had its turn so far;
+-- no action had its turn so far,
 pub no_turn : (line : ℕ) (bodies : List (List Statement)) (works : WorksFields)
     (may : ℕ → Logged → Type 0) (workers : Workers)
     → HaveHadTurns line [] bodies works may workers works may workers
-no_turn line bodies works may workers = record {
-  turns = [];
-  are = refl;
-  had = λ script st halts restarted is bodies_are keeps are said. record {
-    made = tt;
-    runs = keeps;
-    workers = are;
-  };
-}
+no_turn line bodies works may workers = none_made line bodies works may workers
 
 module _ (line : ℕ) (names : List Name) (bodies : List (List Statement))
     (old mid new : WorksFields) (might mays may : ℕ → Logged → Type 0)
@@ -80,49 +118,20 @@ module _ (line : ℕ) (names : List Name) (bodies : List (List Statement))
   pub next_turn : (a : Name) (end : Option Put)
       → HasHadTurn line a bodies mid mays during end new may after
       → HaveHadTurns line (names ++ a ∷ []) bodies old might before new may after
-  next_turn a end has = record {
-    turns = some.turns ++ turn ∷ [];
-    are = names_more some.turns turn ∙ ap (λ ns. ns ++ a ∷ []) some.are;
-    had = λ script st halts restarted is bodies_are keeps are said.
-        let c = held_setting script.objects halts line restarted in
-        let so = some.had script st halts restarted is bodies_are keeps are
-        (said_front c script.bodies turn some.turns st said) in
-        let at = go_in_round c script.bodies (names_of some.turns) st in
-        let next = has script at halts restarted is bodies_are so.runs so.workers in
-        let last = said_last c script.bodies turn some.turns st said in
-        record {
-          made = made_more c script.bodies turn some.turns st so.made next.made;
-          runs = subst (λ (z : Standing). KeepsRun script z new may)
-              (sym (one_more c script.bodies turn some.turns st)) (next.runs last);
-          workers = subst (λ (z : Standing). AreWorkers z after)
-              (sym (one_more c script.bodies turn some.turns st)) (next.workers last);
-        };
-  }
-    where
-      turn : Turn
-      turn = record { name = a; end = end }
+  next_turn a end has =
+      made_as
+      (λ c bs st. go_in_round c bs (a ∷ []) (go_in_round c bs names st))
+      (turns_of (names ++ a ∷ [])) line bodies old new might may before after
+      (λ script c st keeps. one_more c script.bodies a names st)
+      (made_on (turns_of names) (turns_of (a ∷ [])) line bodies old mid new might mays may before
+      during after some (one_turn line a bodies mid new mays may during after end has))
 
   -- Then memory ran out.
   pub turns_wanting : KeepsAsBefore mid mays new may → KeepsWorkersAsBefore mid mays during after
       → HaveHadTurns line names bodies old might before new may after
-  turns_wanting keep workers_keep = record {
-    turns = some.turns;
-    are = some.are;
-    had = λ script st halts restarted is bodies_are keeps are said.
-        let c = held_setting script.objects halts line restarted in
-        let so = some.had script st halts restarted is bodies_are keeps are said in
-        let at = go_in_round c script.bodies (names_of some.turns) st in
-        record {
-          made = so.made;
-          runs = keep script at is so.runs;
-          workers = workers_keep script at so.runs so.workers;
-        };
-  }
-
--- Some run is kept behind a turn.
-abbrev end_halt : Option Put → Option Bool
-end_halt None = None
-end_halt (Some done) = as_halt done
+  turns_wanting keep workers_keep =
+      made_wanting (turns_of names) line bodies old mid new might mays may before during after some
+      keep workers_keep
 
 -- what holds of all holds of each
 holds_at : (P : Name → Type 0) (xs : List Name) (k : ℕ) (a : Name) → AllByRecursion P xs
@@ -145,34 +154,24 @@ module _ (names : List Name) (line : ℕ) (a : Name) (bodies : List (List Statem
     placed = holds_at (IsAtNode some.script.nodes) names i a some.placed at;
   }
 
+  -- Some run is kept behind a turn.
   pub some_turn_behind : (end : Option Put)
       → HasHadTurn line a bodies old might before end new may after
       → AreTurnsOfSome names bodies new may after
-  some_turn_behind end has = record {
-    script = some.script;
-    standing = after_name c some.script.bodies some.standing a;
-    is_script = some.is_script;
-    bodies_are = some.bodies_are;
-    keeps = turn.runs (said (next_of some.script.bodies some.standing a) end refl);
-    are_workers = turn.workers (said (next_of some.script.bodies some.standing a) end refl);
-    placed = some.placed;
-  }
-    where
-      halts : Halting
-      halts = λ turns s appends restarted. end_halt end
-
-      c : Setting
-      c = held_setting some.script.objects halts line (λ s. false)
-
-      turn : HadTurn some.script some.standing c a end new may after
-      turn =
-          has some.script some.standing halts (λ s. false) some.is_script some.bodies_are some.keeps
-          some.are_workers
-
-      said : (n : Next) (o : Option Put) → o ≡ end → IsSaidOf c some.standing a n o
-      said (nexts.Request want) (Some done) is = ap end_halt (sym is)
-      said (nexts.Request want) None is = tt
-      said nexts.Wait (Some done) is = tt
-      said nexts.Wait None is = tt
-      said nexts.Over (Some done) is = tt
-      said nexts.Over None is = tt
+  some_turn_behind end has =
+      let one = one_turn line a bodies old new might may before after end has in
+      let behind =
+      stands_behind (turns_of (a ∷ [])) line bodies old new might may before after one some.script
+      some.standing some.is_script some.bodies_are
+      (record { runs = some.keeps; workers = some.are_workers }) in
+      record {
+        script = some.script;
+        standing =
+            after_name (held_setting some.script.objects behind.halts line (λ s. false))
+            some.script.bodies some.standing a;
+        is_script = some.is_script;
+        bodies_are = some.bodies_are;
+        keeps = behind.put.keeps.runs;
+        are_workers = behind.put.keeps.workers;
+        placed = some.placed;
+      }

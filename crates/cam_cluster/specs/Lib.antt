@@ -31,6 +31,7 @@ pub mod LetterLines
 pub mod Drains
 pub mod Goes
 pub mod GoLines
+pub mod Making
 pub mod Rounds
 pub mod LetterCounts
 pub mod Stops

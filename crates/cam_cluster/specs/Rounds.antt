@@ -1,6 +1,6 @@
 -- Rounds of a play: each action with a body makes its next request where it may go on.
-use Rattle.std.specs.Prelude.{◌≡◌, ℕ, Bool, ◌&&◌, if◌then◌else◌, List, [], ◌∷◌, Option}
-use Rattle.std.specs.Prelude.{is_some, map, take}
+use Rattle.std.specs.Prelude.{◌≡◌, ℕ, Bool, ◌&&◌, if◌then◌else◌, List, Option}
+use Rattle.std.specs.Prelude.{is_some, take}
 use Rattle.std.specs.List.{AllByRecursion}
 use Rattle.cam_names.specs.declared.name.Name.{Name}
 use Rattle.cam_node.specs.Log.{Logged}
@@ -14,6 +14,7 @@ use Rattle.cam_histories.specs.InputLaws.{held_setting}
 use Rattle.cam_cluster.specs.declared.workers.Workers.{Workers}
 use Rattle.cam_cluster.specs.declared.works.Put.{Put}
 use Rattle.cam_cluster.specs.Goes.{IsSaidOf, is_request, next_of}
+use Rattle.cam_cluster.specs.Making.{HaveMade, Making}
 use Rattle.cam_cluster.specs.VariableLines.{IsAtNode}
 use Rattle.cam_cluster.specs.Workers.{AreWorkers, HaveCaughtUp}
 use Rattle.cam_cluster.specs.Works.{KeepsRun, WorksFields}
@@ -77,49 +78,16 @@ pub record IsTurnOfSome (a : Name) (bodies : List (List Statement)) (works : Wor
   pub are_workers : AreWorkers standing workers
   pub placed : IsAtNode script.nodes a
 
--- the turn of an action, and how its request ended, where it made one
-pub record Turn : Type 0 where
-  pub name : Name
-  pub end : Option Put
-
-abbrev pub names_of : List Turn → List Name
-names_of turns = map (λ (turn : Turn). turn.name) turns
-
--- It is said of the requests of these turns, one after another, that they ended so.
-abbrev pub AreSaidOf : Setting → List (List Statement) → List Turn → Standing → Type 0
-AreSaidOf c bodies [] st = Unit {0}
-AreSaidOf c bodies (turn ∷ turns) st =
-    IsSaidOf c st turn.name (next_of bodies st turn.name) turn.end
-    × AreSaidOf c bodies turns (after_name c bodies st turn.name)
-
--- Each made a request just where the action makes one.
-abbrev pub AreMade : Setting → List (List Statement) → List Turn → Standing → Type 0
-AreMade c bodies [] st = Unit {0}
-AreMade c bodies (turn ∷ turns) st =
-    (is_some turn.end ≡ makes_one c bodies st turn.name)
-    × AreMade c bodies turns (after_name c bodies st turn.name)
-
--- These actions had their turns, and so these are the ends: of each run, with halts that say so, the
--- works and the workers are those behind them.
-pub record HadTurns (script : Script) (st : Standing) (c : Setting) (turns : List Turn)
-    (new : WorksFields) (may_read : ℕ → Logged → Type 0) (behind : Workers) : Type 0 where
-  pub made : AreMade c script.bodies turns st
-  pub runs : KeepsRun script (go_in_round c script.bodies (names_of turns) st) new may_read
-  pub workers : AreWorkers (go_in_round c script.bodies (names_of turns) st) behind
+-- the turns of these actions, one after another
+abbrev pub turns_of : List Name → Making
+turns_of names c bodies st = go_in_round c bodies names st
 
 -- THE CLAUSE of the turns of actions, in order.
-pub record HaveHadTurns (line : ℕ) (names : List Name) (bodies : List (List Statement))
-    (old : WorksFields) (might_read : ℕ → Logged → Type 0) (old_workers : Workers)
-    (new : WorksFields) (may_read : ℕ → Logged → Type 0) (workers : Workers) : Type 0 where
-  pub turns : List Turn
-  pub are : names_of turns ≡ names
-  pub had :
-      (script : Script) (st : Standing) (halts : Halting) (restarted : ℕ → Bool)
-      → IsScript script → bodies ≡ script.bodies → KeepsRun script st old might_read
-      → AreWorkers st old_workers
-      → AreSaidOf (held_setting script.objects halts line restarted) script.bodies turns st
-      → HadTurns script st (held_setting script.objects halts line restarted) turns new may_read
-      workers
+abbrev pub HaveHadTurns :
+    ℕ → List Name → List (List Statement) → WorksFields → (ℕ → Logged → Type 0) → Workers
+    → WorksFields → (ℕ → Logged → Type 0) → Workers → Type 0
+HaveHadTurns line names bodies old might_read old_workers new may_read workers =
+    HaveMade (turns_of names) line bodies old might_read old_workers new may_read workers
 
 -- Memory ran out behind the turns of the first of them.
 pub record HaveHadSomeTurns (line : ℕ) (names : List Name) (bodies : List (List Statement))

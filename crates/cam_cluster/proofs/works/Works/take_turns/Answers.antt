@@ -1,5 +1,5 @@
 -- The actions of a round have their turns.
-use Rattle.std.proofs.Common.{ℕ, ◌++◌, ◌∷◌, [], List, rules, sym, ap, ◌∙◌, subst, take, arith}
+use Rattle.std.proofs.Common.{◌++◌, ◌∷◌, [], List, rules, sym, ap, ◌∙◌, subst, take, arith}
 use Rattle.std.proofs.lemmas.Grind.{common_steps}
 use Rattle.std.proofs.lemmas.List.{take_all, take_more}
 use Rattle.cam_names.specs.declared.name.Name.{Name}
