@@ -1,7 +1,7 @@
 -- The home of the action to which a line binds its variable: the node that the line names.
 use Rattle.std.proofs.Common.{◌≡◌, ℕ, suc, Bool, true, false, if◌then◌else◌, List, [], ◌∷◌, ◌++◌}
 use Rattle.std.proofs.Common.{filter, length, Option, Some, None, refl, sym, ap, ◌∙◌, arith}
-use Rattle.std.specs.Prelude.{nat_lt}
+use Rattle.std.specs.Prelude.{map, nat_lt}
 use Rattle.std.proofs.lemmas.Bool.{lt-ltb, le-ltb}
 use Rattle.std.proofs.lemmas.Option.{same_Some}
 use Rattle.cam_names.specs.declared.name.Name.{Name}
@@ -13,18 +13,22 @@ use Rattle.cam_event.specs.declared.Deed.{Deed}
 use Rattle.cam_event.specs.declared.Deed.TheVariants.{Commit, Abort, Secure, Inform, Crash}
 use Rattle.cam_event.specs.declared.Event.{Event}
 use Rattle.cam_know.specs.declared.Reason.{Reason}
+use Rattle.cam_know.specs.Known.{nothing}
+use Rattle.cam_know.specs.Order.{told_in_order}
 use Rattle.cam_event.specs.declared.Want.{Want}
 use Rattle.cam_event.specs.declared.Want.TheVariants as wants
 use Rattle.cam_event.specs.Inputs.{Input, Begins, Requests, node_of}
 use Rattle.cam_event.specs.ByPast.{next, sight}
-use Rattle.cam_event.specs.Readings.{by_pasts}
+use Rattle.cam_event.specs.ByDeltas.{as_carried, next_by_deltas, of_node, received_of}
+use Rattle.cam_event.specs.ByKnowledge.{held_sight}
+use Rattle.cam_event.specs.Readings.{by_knowledge, by_pasts}
 use Rattle.cam_event.specs.Rules.{begins, request, stopped_by, top_name, wanted}
 use Rattle.cam_event.specs.Sights.{Sight}
 use Rattle.cam_event.specs.Taken.{is_entered}
 use Rattle.cam_runs.specs.Halts.{appends}
 use Rattle.cam_runs.specs.Requests.{asked_in, created_in, newest_deeds}
 use Rattle.cam_runs.specs.Standing.{Standing, Setting, after_input, made, put}
-use Rattle.cam_runs.proofs.HaltedPuts.{pasts}
+use Rattle.cam_runs.proofs.HaltedPuts.{helds, pasts}
 use Rattle.cam_runs.proofs.OneEvent.{first_none}
 use Rattle.cam_script.specs.declared.Script.{Script}
 
@@ -135,3 +139,25 @@ module _ (script : Script) (c : Setting) (st : Standing) where
 
       g : Sight
       g = sight script.objects t s None
+
+  -- So it is where the node goes by what it holds.
+  pub held_asked_at : (a : Name) (want : Want) (b : Name)
+      → asked_in (made st (put (helds script c) st (Requests (record { action = a; want = want }))))
+      ≡ Some b
+      → IsAskedAt want b
+  held_asked_at a want b h =
+      request_asks script.objects
+      (held_sight script.objects s (map as_carried (of_node (received_of script.objects t) s))
+      (told_in_order nothing)) a want b
+      (bound_whole asked_in refl (λ ds. (entered_only ds).0) c.line (c.restarted s) st s
+      (next_by_deltas script.objects t input) (appends (by_knowledge script.objects) t input)
+      (c.halts st.turns s (appends (by_knowledge script.objects) t input) (c.restarted s)) b h)
+    where
+      input : Input
+      input = Requests (record { action = a; want = want })
+
+      t : List Event
+      t = st.running.trace
+
+      s : ℕ
+      s = node_of t input

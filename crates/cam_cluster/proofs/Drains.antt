@@ -162,7 +162,7 @@ bound_next c st (Some w) =
     bound_put c.line (c.restarted (node_of st.running.trace (Receives w.1))) st c (Receives w.1)
     (halt_of c st (Receives w.1))
 
-bound_deliveries : (c : Setting) (n : ℕ) (st : Standing)
+pub bound_deliveries : (c : Setting) (n : ℕ) (st : Standing)
     → (deliveries c n st).running.bound ≡ st.running.bound
 bound_deliveries c zero st = refl
 bound_deliveries c (suc n) st =

@@ -18,7 +18,7 @@ use Rattle.cam_net.specs.Waiting.{is_halted}
 use Rattle.cam_node.specs.declared.Input.TheVariants as inputs
 use Rattle.cam_node.specs.Log.{Logged}
 use Rattle.cam_runs.specs.Halts.{appends}
-use Rattle.cam_runs.specs.HaltedLines.{Led, Passed, act, after_line, is_restart}
+use Rattle.cam_runs.specs.HaltedLines.{Led, Passed, after_line, is_restart}
 use Rattle.cam_runs.specs.HaltedLines.{setting}
 use Rattle.cam_runs.specs.HaltedPlaying.{given_body, go, make_request}
 use Rattle.cam_runs.specs.Playing.{go_refusal}
@@ -60,7 +60,7 @@ bound_given (Some n) (Some b) st = refl
 bound_given (Some n) None st = refl
 bound_given None b st = refl
 
-bound_made : (c : Setting) (st : Standing) (a : Name) (child : Option ℕ) (n : Next)
+pub bound_made : (c : Setting) (st : Standing) (a : Name) (child : Option ℕ) (n : Next)
     → (make_request c st a child n).running.bound ≡ st.running.bound
 bound_made c st a child (nexts.Request want) =
     bound_given child

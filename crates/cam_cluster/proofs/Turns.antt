@@ -1,7 +1,7 @@
 -- The turn of an action in a round: its request where it may go on, and else nothing.
 use Rattle.std.proofs.Common.{◌≡◌, ℕ, Bool, true, false, not, ◌&&◌, if◌then◌else◌, List, Option}
 use Rattle.std.proofs.Common.{None, Result, Ok, Err, refl, sym, ap, ◌∙◌, subst}
-use Rattle.std.specs.Prelude.{IfOk, OnErr}
+use Rattle.std.specs.Prelude.{IfOk, OnErr, OnOk}
 use Rattle.std.proofs.lemmas.Bool.{and_parts}
 use Rattle.cam_names.specs.declared.name.Name.{Name}
 use Rattle.cam_names.specs.Names.{home_node}
@@ -32,6 +32,11 @@ pub on_err_gives : {T E : Type 0} (result : Result T E) (P Q : Type 0) → (P �
     → OnErr result Q
 on_err_gives (Ok x) P Q gives said = tt
 on_err_gives (Err e) P Q gives said = gives said
+
+pub on_ok_gives : {T E : Type 0} (result : Result T E) (P Q : Type 0) → (P → Q) → OnOk result P
+    → OnOk result Q
+on_ok_gives (Ok x) P Q gives said = gives said
+on_ok_gives (Err e) P Q gives said = tt
 
 pub if_ok_gives : {T E : Type 0} (result : Result T E) (P Q : T → Type 0) → ((x : T) → P x → Q x)
     → IfOk result P → IfOk result Q

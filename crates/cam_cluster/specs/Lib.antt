@@ -33,6 +33,7 @@ pub mod Goes
 pub mod GoLines
 pub mod Making
 pub mod Rounds
+pub mod Plays
 pub mod LetterCounts
 pub mod Stops
 pub mod Restarts

@@ -20,6 +20,7 @@ mod letters;
 mod lose;
 mod new;
 mod one_input;
+mod play;
 mod query;
 mod requests;
 mod restart;

@@ -17,6 +17,7 @@ mod go;
 mod letters;
 mod new;
 mod numbered;
+mod play;
 mod restart;
 mod round;
 mod stop;

@@ -1,0 +1,88 @@
+-- The turns of all actions with a body, in order of their names.
+use Rattle.std.proofs.Common.{◌≡◌, ℕ, List, take, sym, ap, subst}
+use Rattle.std.specs.List.{AllByRecursion}
+use Rattle.cam_names.specs.declared.name.Name.{Name}
+use Rattle.cam_node.specs.Log.{Logged}
+use Rattle.cam_runs.specs.HaltedPlaying.{go_in_round}
+use Rattle.cam_runs.specs.Playing.{in_order}
+use Rattle.cam_runs.specs.Standing.{Standing}
+use Rattle.cam_script.specs.declared.Script.{Script}
+use Rattle.cam_script.specs.declared.Statement.{Statement}
+use Rattle.cam_cluster.specs.declared.workers.Workers.{Workers}
+use Rattle.cam_cluster.specs.Goes.{KeepsWorkersAsBefore}
+use Rattle.cam_cluster.specs.Making.{HaveMade, KeepsAtWork}
+use Rattle.cam_cluster.specs.Plays.{HasPlayedSome, IsPlayOfSome, all_turns, round_part}
+use Rattle.cam_cluster.specs.Rounds.{AreTurnsOfSome, HaveHadSomeTurns, HaveHadTurns, turns_of}
+use Rattle.cam_cluster.specs.VariableLines.{IsAtNode}
+use Rattle.cam_cluster.specs.Workers.{HaveCaughtUp}
+use Rattle.cam_cluster.specs.Works.{WorksFields}
+use Rattle.cam_cluster.proofs.GoneOn.{CatchesUp}
+use Rattle.cam_cluster.proofs.Made.{made_as, made_caught_up, none_made}
+use Rattle.cam_cluster.proofs.PlayPlaced.{in_order_placed}
+
+-- Memory ran out before the first turn.
+pub no_turns : (line : ℕ) (bodies : List (List Statement)) (works : WorksFields)
+    (may : ℕ → Logged → Type 0) (before after : Workers)
+    → KeepsWorkersAsBefore works may before after
+    → HasPlayedSome line bodies works may before works may after
+no_turns line bodies works may before after stay = record {
+  requests = 0;
+  number = 0;
+  made =
+      made_caught_up (round_part 0 0) line bodies works works may may before after after stay
+      (none_made line bodies works may after);
+}
+
+-- The turns of all actions, by their names as the workers that have caught up give them.
+module _ (line : ℕ) (bodies : List (List Statement)) (old : WorksFields)
+    (might : ℕ → Logged → Type 0) (before caught : Workers)
+    (caught_up : CatchesUp old.events before caught) where
+  stay : KeepsWorkersAsBefore old might before caught
+  stay script st keeps are = (caught_up st keeps.events are).0
+
+  module _ (names : List Name)
+      (are_names : (st : Standing) → HaveCaughtUp st caught → names ≡ in_order st.running.bodies)
+    where
+      pub turns_of_all : IsPlayOfSome bodies old might before
+          → AreTurnsOfSome names bodies old might caught
+      turns_of_all some =
+          let up = caught_up some.standing some.keeps.runs.events some.keeps.workers in
+          record {
+            script = some.script;
+            standing = some.standing;
+            is_script = some.is_script;
+            bodies_are = some.bodies_are;
+            keeps = some.keeps.runs;
+            are_workers = up.0;
+            placed =
+                subst (AllByRecursion (IsAtNode some.script.nodes)) (sym (are_names some.standing up.1))
+                (in_order_placed some.script.nodes some.standing.running.bodies some.placed);
+          }
+
+      names_in : (script : Script) (st : Standing) → KeepsAtWork script st old might before
+          → names ≡ in_order st.running.bodies
+      names_in script st keeps = are_names st (caught_up st keeps.runs.events keeps.workers).1
+
+      pub all_had : (new : WorksFields) (may : ℕ → Logged → Type 0) (after : Workers)
+          → HaveHadTurns line names bodies old might caught new may after
+          → HaveMade all_turns line bodies old might before new may after
+      all_had new may after had =
+          made_as (turns_of names) all_turns line bodies old new might may before after
+          (λ script c st keeps.
+          ap (λ ns. go_in_round c script.bodies ns st) (names_in script st keeps))
+          (made_caught_up (turns_of names) line bodies old new might may before caught after stay had)
+
+      pub some_had : (new : WorksFields) (may : ℕ → Logged → Type 0) (after : Workers)
+          → HaveHadSomeTurns line names bodies old might caught new may after
+          → HasPlayedSome line bodies old might before new may after
+      some_had new may after had = record {
+        requests = had.many;
+        number = 0;
+        made =
+            made_as (turns_of (take had.many names)) (round_part had.many 0) line bodies old new might
+            may before after
+            (λ script c st keeps.
+            ap (λ ns. go_in_round c script.bodies (take had.many ns) st) (names_in script st keeps))
+            (made_caught_up (turns_of (take had.many names)) line bodies old new might may before
+            caught after stay had.first);
+      }
