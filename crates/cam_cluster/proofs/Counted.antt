@@ -1,7 +1,8 @@
 -- Of a line that puts one input one more is accepted.
 use Rattle.std.proofs.Common.{◌≡◌, ℕ, ◌+◌, Bool, true, false, if◌then◌else◌, List, Option, Some, None}
-use Rattle.std.proofs.Common.{length, ap}
+use Rattle.std.proofs.Common.{length, sym, ap, subst}
 use Rattle.std.specs.Prelude.{nat_lt}
+use Rattle.std.proofs.lemmas.Option.{same_Some}
 use Rattle.cam_bytes.specs.declared.WireFault.{WireFault}
 use Rattle.cam_bytes.specs.declared.WireFault.TheVariants as faults
 use Rattle.cam_names.specs.declared.name.Name.{Name}
@@ -14,11 +15,14 @@ use Rattle.cam_event.specs.declared.Want.{Want}
 use Rattle.cam_event.specs.declared.Want.TheVariants as wants
 use Rattle.cam_event.specs.Inputs.{Input, Begins, Queries, Receives, Requests, Tells, node_of}
 use Rattle.cam_event.specs.Refusals.{query_refusal, refusal, tell_refusal}
+use Rattle.cam_body.specs.declared.Next.{Next}
+use Rattle.cam_body.specs.declared.Next.TheVariants as nexts
 use Rattle.cam_runs.specs.Halts.{accepted, appends}
 use Rattle.cam_runs.specs.HaltedLines.{Led, Passed, act, after_line, cut, halted_or, is_halted}
 use Rattle.cam_runs.specs.HaltedLines.{led_asking, led_creating, of_letter, of_variable}
 use Rattle.cam_runs.specs.HaltedLines.{take_request, unless}
-use Rattle.cam_runs.specs.HaltedPlaying.{requested}
+use Rattle.cam_runs.specs.HaltedPlaying.{go, make_request, requested}
+use Rattle.cam_runs.specs.Playing.{go_refusal}
 use Rattle.cam_runs.specs.Requests.{home_sight, variable}
 use Rattle.cam_runs.specs.Running.{letter_of}
 use Rattle.cam_runs.specs.Standing.{Standing, Setting, addressee, deliver, put, with_mark}
@@ -28,6 +32,7 @@ use Rattle.cam_script.specs.declared.Act.TheVariants as acts
 use Rattle.cam_script.specs.declared.Statement.{Statement}
 use Rattle.cam_histories.specs.Lines.{line_refusal, test_letter, test_request, test_variable}
 use Rattle.cam_wire.specs.OfTrace.{spelling_of}
+use Rattle.cam_cluster.specs.Goes.{is_request, next_of}
 use Rattle.cam_cluster.specs.LineOwes.{cut_fault, short_at}
 use Rattle.cam_cluster.specs.Taking.{PutsInput}
 
@@ -35,7 +40,7 @@ module _ (c : Setting) (st : Standing) (line : ℕ) where
   abbrev Counts : Passed → Type 0
   Counts passed = accepted (after_line st line passed).turns ≡ accepted st.turns + 1
 
-  one_put : (input : Input) → accepted (put c st input).turns ≡ accepted st.turns + 1
+  pub one_put : (input : Input) → accepted (put c st input).turns ≡ accepted st.turns + 1
   one_put input =
       let t = st.running.trace in
       let s : ℕ = node_of t input in
@@ -124,6 +129,31 @@ module _ (c : Setting) (st : Standing) (line : ℕ) where
   input_counts bodies acts.Drain puts none = elim puts [ ]
   input_counts bodies acts.Play puts none = elim puts [ ]
   input_counts bodies (acts.Stop s calls) puts none = elim puts [ ]
+
+  -- An action that makes a request by its body makes it.
+  made_counts : (a : Name) (child : Option ℕ) (n : Next) → is_request n ≡ true
+      → accepted (make_request c st a child n).turns ≡ accepted st.turns + 1
+  made_counts a child (nexts.Request want) makes =
+      one_put (Requests (record { action = a; want = want }))
+  made_counts a child nexts.Wait makes = cc
+  made_counts a child nexts.Over makes = cc
+
+  pub go_counts : (bodies : List (List Statement)) (v : ℕ) (a : Name)
+      → variable st.running v ≡ Some a → line_refusal c.reading st (acts.Go v) ≡ None
+      → is_request (next_of bodies st a) ≡ true → Counts (act c bodies st (acts.Go v))
+  go_counts bodies v a at none makes = by (variable st.running v) at none
+    where
+      tests : Name → Option LineRefusal
+      tests b = halted_or st (home_node b) (go_refusal (home_sight c.reading st.running b) b)
+
+      by : (o : Option Name) → o ≡ Some a → test_variable o tests ≡ None
+          → Counts (of_variable o (λ b. unless (tests b) (Led (go c bodies st b) None)))
+      by (Some b) at none =
+          unless_counts (tests b) (Led (go c bodies st b) None) none
+          (made_counts b _ (next_of bodies st b)
+          (subst (λ (x : Name). is_request (next_of bodies st x) ≡ true) (sym (same_Some b a at))
+          makes))
+      by None at none = cc
 
   -- a letter of which all bytes arrive
   pub cut_counts : (bodies : List (List Statement)) (k bytes : ℕ)

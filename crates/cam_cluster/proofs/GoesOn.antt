@@ -1,6 +1,6 @@
 -- The lines of a cluster go on.
 use Rattle.std.proofs.Common.{◌≡◌, ℕ, zero, suc, ◌+◌, ◌<◌, ◌≤◌, List, [], ◌∷◌, ◌++◌, length}
-use Rattle.std.proofs.Common.{Option, Some, None, refl, sym, ap, ◌∙◌, subst, arith}
+use Rattle.std.proofs.Common.{Some, None, refl, sym, ap, ◌∙◌, subst, arith}
 use Rattle.std.proofs.Common.{Result, Ok, Err}
 use Rattle.std.specs.Prelude.{drop, slice_get}
 use Rattle.std.specs.List.{AllByRecursion}
@@ -17,7 +17,6 @@ use Rattle.cam_runs.specs.UnderHalts.{act_by}
 use Rattle.cam_runs.proofs.HaltedWhole.{halted_lines_agree}
 use Rattle.cam_runs.proofs.LinesGrow.{act_runs}
 use Rattle.cam_runs.proofs.Range.{script_in_range}
-use Rattle.cam_script.specs.declared.Script.{Script}
 use Rattle.cam_script.specs.declared.Statement.{Statement}
 use Rattle.cam_script.specs.declared.Step.{Step}
 use Rattle.cam_histories.specs.Lines.{line_refusal, refused_by}
@@ -162,7 +161,7 @@ ends_are_said seen lines may step input puts.Halted keeps =
     rw (eq-eqb (accepted seen.standing.turns) (accepted seen.standing.turns) refl) refl
 
 -- both readings refuse the same
-refusals_agree : (seen : Seen) (lines : LinesFields) (may : ℕ → Logged → Type 0) (step : Step)
+pub refusals_agree : (seen : Seen) (lines : LinesFields) (may : ℕ → Logged → Type 0) (step : Step)
     (all : List Halt) → KeepsBetween seen lines may
     → slice_get seen.script.steps (length seen.standing.running.bound) ≡ Some step
     → line_refusal (by_knowledge seen.script.objects) seen.standing step.act
@@ -178,12 +177,12 @@ refusals_agree seen lines may step all keeps next =
     step.act
 
 -- what a line comes to that is refused
-by_refusal : (p : Passed) (refusal : LineRefusal) → refused_by p ≡ Some refusal
+pub by_refusal : (p : Passed) (refusal : LineRefusal) → refused_by p ≡ Some refusal
     → p ≡ Refused refusal
 by_refusal (Refused r) refusal is = ap Refused (same_Some r refusal is)
 by_refusal (Led new binds) refusal is = absurd (none-some refusal is)
 
-refused_step : (seen : Seen) (step : Step) (refusal : LineRefusal)
+pub refused_step : (seen : Seen) (step : Step) (refusal : LineRefusal)
     → line_refusal (by_knowledge seen.script.objects) seen.standing step.act ≡ Some refusal
     → act (setting_in by_knowledge seen seen.halts step) seen.script.bodies seen.standing step.act
     ≡ Refused refusal
@@ -223,7 +222,7 @@ module _ (seen : Seen) (step : Step) (old new : LinesFields) (might may : ℕ �
       (halted_lines_agree seen.script seen.standing step (given (more ++ seen.halts))
       (later_steps seen) (script_in_range seen.script keeps.is_script) keeps.keeps.runs.under next)
 
-  -- It led on, and put this input.
+  -- It led on, and put this input,
   pub led_goes : (input : Input) (done : Put)
       → let more = halts_from (accepted seen.standing.turns) (done ∷ []) in
       IsLed seen.script seen.standing
@@ -245,7 +244,18 @@ module _ (seen : Seen) (step : Step) (old new : LinesFields) (might may : ℕ �
             (led.stands (ends_are_said seen old might step input done keeps));
       }
 
-  -- It led on, and put none.
+  -- with the halt of it, if it is one.
+  pub led_halts : (input : Input) (done : Put)
+      → let more = halts_from (accepted seen.standing.turns) (done ∷ []) in
+      (led : IsLed seen.script seen.standing
+      (setting_in by_knowledge seen (more ++ seen.halts) step) step.act input done new may)
+      (counts : accepted (after_line seen.standing step.line (held more)).turns
+      ≡ accepted seen.standing.turns + 1)
+      → (led_goes input done led counts).more ≡ more
+  unfolding led_goes
+  led_halts input done led counts = refl
+
+  -- It led on, and put none,
   pub done_goes : line_refusal (by_knowledge seen.script.objects) seen.standing step.act ≡ None
       → KeepsStep seen step [] new may → HasLedOn seen step new may
   done_goes passed stands =
@@ -257,6 +267,12 @@ module _ (seen : Seen) (step : Step) (old new : LinesFields) (might may : ℕ �
         passed = sym (refusals_agree seen old might step seen.halts keeps next) ∙ passed;
         stands = goes_on seen step [] old new might may keeps next of_line stands;
       }
+
+  -- with no halt.
+  pub done_halts : (passed : line_refusal (by_knowledge seen.script.objects) seen.standing step.act
+      ≡ None) (kept : KeepsStep seen step [] new may) → (done_goes passed kept).more ≡ []
+  unfolding done_goes
+  done_halts passed kept = refl
 
   -- It was refused.
   pub refused_goes : (refusal : LineRefusal)

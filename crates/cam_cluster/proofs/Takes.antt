@@ -1,15 +1,11 @@
 -- The next line of a script, taken, over its own clause.
-use Rattle.std.proofs.Common.{◌≡◌, ℕ, ◌+◌, ◌≤◌, List, [], ◌∷◌, ◌++◌, Option, Some, None, refl, sym, ap, ◌∙◌}
+use Rattle.std.proofs.Common.{◌≡◌, ℕ, ◌≤◌, [], ◌∷◌, ◌++◌, Option, Some, None, refl, sym}
 use Rattle.std.proofs.Common.{Result, Ok, Err, length, subst, ◌⊎◌, inl, inr}
-use Rattle.std.specs.Prelude.{slice_get}
 use Rattle.std.proofs.lemmas.Bool.{and_parts}
-use Rattle.cam_names.specs.declared.name.Name.{Name}
 use Rattle.cam_event.specs.Inputs.{Input, Begins, Receives}
 use Rattle.cam_event.specs.Readings.{by_knowledge}
 use Rattle.cam_node.specs.Log.{Logged}
 use Rattle.cam_runs.specs.Halts.{accepted, given}
-use Rattle.cam_runs.specs.HaltedLines.{act, after_line}
-use Rattle.cam_runs.specs.Standing.{Setting}
 use Rattle.cam_script.specs.declared.Act.{Act}
 use Rattle.cam_script.specs.declared.Act.TheVariants as acts
 use Rattle.cam_script.specs.declared.Step.{Step}
@@ -18,13 +14,13 @@ use Rattle.cam_histories.specs.Lines.{line_refusal}
 use Rattle.cam_cluster.specs.declared.LineFault.{LineFault}
 use Rattle.cam_cluster.specs.declared.LineFault.TheVariants as line_faults
 use Rattle.cam_cluster.specs.declared.works.Put.{Put}
-use Rattle.cam_cluster.specs.Between.{IsStepOf, KeepsBetween, halts_from}
+use Rattle.cam_cluster.specs.Between.{IsStepOf, halts_from}
 use Rattle.cam_cluster.specs.LetterLines.{IsDelivery}
 use Rattle.cam_cluster.specs.LetterLines as letters
-use Rattle.cam_cluster.specs.Seen.{Seen, later_steps, setting_in}
+use Rattle.cam_cluster.specs.Seen.{later_steps, setting_in}
 use Rattle.cam_cluster.specs.SoFar.{AreLinesOfSome, IsLed, IsLineOfInput, LinesFields}
 use Rattle.cam_cluster.specs.Taking.{IsInputLine, PutsInput}
-use Rattle.cam_cluster.specs.VariableLines.{IsItsInput, IsLineBy, IsNextOfSome}
+use Rattle.cam_cluster.specs.VariableLines.{IsLineBy, IsNextOfSome}
 use Rattle.cam_cluster.proofs.Counted.{input_counts}
 use Rattle.cam_cluster.proofs.GoesOn.{led_goes, one_input_goes, refused_goes, wanting_goes}
 use Rattle.cam_cluster.proofs.StepHolds.{next_holds, node_within}

@@ -31,6 +31,7 @@ use cam_log::EntryLog;
 use cam_net::Outbox;
 use cam_node::{Input, Node, Stepped};
 use cam_type::DataType;
+pub(crate) use go::give_body;
 pub(crate) use letters::Coming;
 pub(crate) use numbered::NumberedEvents;
 pub(crate) use restart::Restart;

@@ -1,6 +1,6 @@
 //! A line that puts one input to a node, unless it is refused: the node is halted, or something
 //! stands against the input there. And what a variable stands for.
-ghost use Rattle.std.specs.Prelude.{◌≡◌, ◌+◌};
+ghost use Rattle.std.specs.Prelude.{◌≡◌, ◌+◌, ◌-◌, length};
 ghost use Rattle.cam_cluster.specs.InputLines.{IsLineToSome, IsRefusedAs, IsTriedLine};
 ghost use Rattle.cam_cluster.specs.Servers.{AreServers};
 ghost use Rattle.cam_cluster.specs.VariableLines.{action_of};
@@ -22,6 +22,16 @@ impl<L: CheckpointLog> Lines<L> {
         ensures { result ≡ action_of self.now.bound.items variable }
     {
         match self.bound.get(variable as usize) {
+            Some(bound) => *bound,
+            None => None,
+        }
+    }
+
+    /// The action that the newest variable stands for; none where its line was refused or halted.
+    pub(crate) fn newest(&self) -> Option<Name>
+        ensures { result ≡ action_of self.now.bound.items (length self.now.bound.items - 1) }
+    {
+        match self.bound.last() {
             Some(bound) => *bound,
             None => None,
         }

@@ -22,14 +22,14 @@ use cam_node::Input;
 use cam_script::Bodies;
 use cam_type::DataType;
 
-/// Gives the body to the child, where there are both. There has to be room.
-fn give_child(workers: &mut Workers, child: Option<Name>, body: Option<u8>)
+/// Gives the body to the action, where there are both. There has to be room.
+pub(crate) fn give_body(workers: &mut Workers, action: Option<Name>, body: Option<u8>)
     requires { vec_len workers.old.given < vec_capacity workers.old.given }
     ensures { (st : Standing)
-        → ((b : NameFields) → child ≡ Some b → body_number st.running.bodies b ≡ None)
-        → AreWorkers st workers.old → AreWorkers (given_body body child st) workers.new }
+        → ((a : NameFields) → action ≡ Some a → body_number st.running.bodies a ≡ None)
+        → AreWorkers st workers.old → AreWorkers (given_body body action st) workers.new }
 {
-    if let Some(name) = child {
+    if let Some(name) = action {
         if let Some(body) = body {
             workers.give(&name, body);
         }
@@ -78,7 +78,7 @@ impl<L: CheckpointLog> Works<L> {
                 let place = name.home().0 as usize - 1;
                 let done = self.put(line, place, &input, servers)?;
                 let asked = bound_after(done, &input, self.events.as_slice());
-                give_child(workers, asked, child);
+                give_body(workers, asked, child);
                 Ok(Some(done))
             }
             Next::Wait | Next::Over => Ok(None),

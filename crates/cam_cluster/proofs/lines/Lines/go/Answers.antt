@@ -1,5 +1,5 @@
 -- The line `go`.
-use Rattle.std.proofs.Common.{◌≡◌, ◌≤◌, pos, ℕ, ◌+◌, ◌-◌, ◌++◌, ◌∷◌, [], None, Err, refl, sym, ap}
+use Rattle.std.proofs.Common.{◌≡◌, ◌≤◌, pos, ℕ, ◌-◌, ◌++◌, ◌∷◌, [], None, Err, refl, sym, ap}
 use Rattle.std.proofs.Common.{◌∙◌, subst, rules, arith}
 use Rattle.std.proofs.lemmas.Grind.{common_steps}
 use Rattle.cam_net.specs.Waiting.{is_halted}

@@ -148,8 +148,8 @@ pub returns-in_err-done-in-Request-clause-servers :
 returns-in_err-done-in-Request-clause-servers g c =
     c.put.ensures.servers
 
-pub give_child-requires : goal.give_child-requires
-give_child-requires g c = c.in_ok-reserve.ensures.room
+pub give_body-requires : goal.give_body-requires
+give_body-requires g c = c.in_ok-reserve.ensures.room
 
 pub returns-in_ok-done-in-Request-clause-servers : goal.returns-in_ok-done-in-Request-clause-servers
 returns-in_ok-done-in-Request-clause-servers g c = c.put.ensures.servers
@@ -172,13 +172,13 @@ returns-in_ok-done-in-Request-clause-gone g c =
     (c.home.result.0 - 1) c.in_ok-done-in-Request.done
     (works_of g.L.CheckpointLog g.L.EntryLog c.put.new.self)
     (reads_of g.L.CheckpointLog g.L.EntryLog c.put.new.self) c.bound_after-asked.result
-    c.give_child.new.workers c.in-Request.is home c.in_ok-done-in-Request.ensures.put
+    c.give_body.new.workers c.in-Request.is home c.in_ok-done-in-Request.ensures.put
     (subst (λ es. IsBinding (inputs.Request (record {
       action = c.args.name.now;
       want = c.in-Request.want;
     })) es c.in_ok-done-in-Request.done c.bound_after-asked.result)
     c.as_slice-in-Request.ensures.value c.bound_after-asked.ensures)
-    c.give_child.ensures
+    c.give_body.ensures
 
 pub returns-in-Wait : goal.returns-in-Wait
 returns-in-Wait g c =

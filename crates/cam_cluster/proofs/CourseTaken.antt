@@ -1,0 +1,102 @@
+-- The next line of a course that the lines take by themselves, and that gives no action a body.
+use Rattle.std.proofs.Common.{◌≡◌, ◌⊎◌, inl, inr, ℕ, List, Option, Result, Ok, Err, sym, subst, refl}
+use Rattle.cam_bytes.specs.declared.WireFault.{WireFault}
+use Rattle.cam_node.specs.Log.{Logged}
+use Rattle.cam_runs.specs.Standing.{Standing}
+use Rattle.cam_script.specs.declared.Act.{Act}
+use Rattle.cam_script.specs.declared.Act.TheVariants as acts
+use Rattle.cam_script.specs.declared.Statement.{Statement}
+use Rattle.cam_script.specs.declared.Step.{Step}
+use Rattle.cam_cluster.specs.declared.LineFault.{LineFault}
+use Rattle.cam_cluster.specs.declared.LineFault.TheVariants as line_faults
+use Rattle.cam_cluster.specs.declared.workers.Workers.{Workers}
+use Rattle.cam_cluster.specs.Between.{KeepsBetween}
+use Rattle.cam_cluster.specs.Courses.{IsAtWorkLine, IsBuilt, IsCourseWanting, IsNextOfCourse}
+use Rattle.cam_cluster.specs.Seen.{Seen, lines_taken}
+use Rattle.cam_cluster.specs.SoFar.{LinesFields}
+use Rattle.cam_cluster.specs.Taking.{IsStepTaken, IsTakenAlone, IsWanting}
+use Rattle.cam_cluster.specs.VariableLines.{AreAtNodes, IsNextOfSome}
+use Rattle.cam_cluster.specs.Workers.{AreWorkers}
+use Rattle.cam_cluster.proofs.AtNodes.{runs_are_at_nodes}
+use Rattle.cam_cluster.proofs.BodiesStay.{GivesNone}
+use Rattle.cam_cluster.proofs.WorkersOn.{refused_on, workers_on}
+
+-- Lines that are not built.
+pub not_built : (a : Act) → IsBuilt a
+    → (a ≡ acts.Play) ⊎ ((s : ℕ) × (calls : ℕ) × (a ≡ acts.Stop s calls)) → ⊥
+not_built a built (inl play) = subst IsBuilt play built
+not_built a built (inr stop) = subst IsBuilt stop.2 built
+
+-- The other lines need the actions at bodies, or are a restart.
+pub taken_alone : (a : Act) → IsBuilt a → ((s body : ℕ) → a ≡ acts.Start s body → ⊥)
+    → ((v : ℕ) → a ≡ acts.Go v → ⊥) → ((s : ℕ) → a ≡ acts.Restart s → ⊥)
+    → IsTakenAlone a × GivesNone a
+taken_alone (acts.Start s body) built no_start no_go no_restart = absurd (no_start s body refl)
+taken_alone (acts.Go v) built no_start no_go no_restart = absurd (no_go v refl)
+taken_alone (acts.Restart s) built no_start no_go no_restart = absurd (no_restart s refl)
+taken_alone acts.Play built no_start no_go no_restart = elim built [ ]
+taken_alone (acts.Stop s calls) built no_start no_go no_restart = elim built [ ]
+taken_alone _ built no_start no_go no_restart = (tt, tt)
+
+-- The variables of a run that is kept stand for actions at nodes of the script.
+pub variables_placed : (seen : Seen) (lines : LinesFields) (may : ℕ → Logged → Type 0)
+    → KeepsBetween seen lines may → AreAtNodes seen.script.nodes seen.standing.running.bound
+variables_placed seen lines may keeps =
+    subst (λ (st : Standing). AreAtNodes seen.script.nodes st.running.bound) (sym keeps.between)
+    (runs_are_at_nodes seen.script seen.halts (lines_taken seen) keeps.is_script)
+
+pub next_of_course : (step : Step) (bodies : List (List Statement)) (lines : LinesFields)
+    (may : ℕ → Logged → Type 0) (at_work : Workers) → IsNextOfCourse step bodies lines may at_work
+    → IsNextOfSome step.line step.act lines may
+next_of_course step bodies lines may at_work some = record {
+  script = some.seen.script;
+  standing = some.seen.standing;
+  is_script = some.keeps.between.is_script;
+  keeps = some.keeps.between.keeps;
+  next = some.next;
+  placed = variables_placed some.seen lines may some.keeps.between;
+}
+
+-- Memory ran out, and the actions at bodies stay.
+wanting_at_work : (a : Act) (seen : Seen) (step : Step) (new : LinesFields)
+    (may : ℕ → Logged → Type 0) (at_work : Workers) → IsWanting a seen step new may
+    → AreWorkers seen.standing at_work → IsCourseWanting a seen step new may at_work
+wanting_at_work acts.Drain seen step new may at_work wants are = wants
+wanting_at_work _ seen step new may at_work wants are = record { between = wants; workers = are }
+
+-- A line that is refused, or finds no memory, by lines that are taken alone or of `start`.
+pub fault_at_work : (step : Step) (bodies : List (List Statement)) (old new : LinesFields)
+    (might may : ℕ → Logged → Type 0) (first before : Workers) (fault : LineFault)
+    → ((st : Standing) → AreWorkers st first → AreWorkers st before)
+    → IsStepTaken step old might new may (Err fault)
+    → IsAtWorkLine step bodies old might first new may before (Err fault)
+fault_at_work step bodies old new might may first before (line_faults.Refused refusal) stay taken
+    seen keeps next same awake =
+    let so = taken seen keeps.between next in record {
+      test = so.test;
+      stands = record {
+        between = so.stands;
+        workers =
+            refused_on seen step refusal so.test before (stay seen.standing keeps.workers);
+      };
+    }
+fault_at_work step bodies old new might may first before line_faults.NoMemory stay taken seen keeps
+    next same awake =
+    wanting_at_work step.act seen step new may before (taken seen keeps.between next)
+    (stay seen.standing keeps.workers)
+
+pub taken_at_work : (step : Step) (bodies : List (List Statement)) (old new : LinesFields)
+    (might may : ℕ → Logged → Type 0) (at_work : Workers)
+    (result : Result (Option WireFault) LineFault) → GivesNone step.act
+    → IsStepTaken step old might new may result
+    → IsAtWorkLine step bodies old might at_work new may at_work result
+taken_at_work step bodies old new might may at_work (Ok bad) none taken seen keeps next same awake =
+    let so = taken seen keeps.between next in record {
+      led = so.0;
+      workers = workers_on seen step so.0.more at_work none keeps.workers;
+      fault = so.1;
+    }
+taken_at_work step bodies old new might may at_work (Err fault) none taken seen keeps next same
+    awake =
+    fault_at_work step bodies old new might may at_work at_work fault (λ st are. are) taken seen
+    keeps next same awake

@@ -1,0 +1,83 @@
+-- `restart`, in a course.
+use Rattle.std.proofs.Common.{◌≡◌, ℕ, ◌<◌, ◌≤◌, ◌-◌, length, Ok, Err, sym, subst, arith, rules}
+use Rattle.std.proofs.lemmas.List.{length-map}
+use Rattle.cam_node.specs.Calls.{answers}
+use Rattle.cam_script.specs.declared.Act.TheVariants as acts
+use Rattle.cam_cluster.specs.declared.LineFault.TheVariants as line_faults
+use Rattle.cam_cluster.specs.Courses.{IsAtWorkLine}
+use Rattle.cam_cluster.proofs.AsSeen.{lines_of, part, reads_of}
+use Rattle.cam_cluster.proofs.RestartTaken.{at_place, restart_at_work, restart_told}
+use Rattle.cam_cluster.proofs.RestartTaken.{restarts_within}
+use Rattle.cam_cluster.proofs.Takes.{some_lines}
+use Rattle.cam_cluster.proofs.course.Course.restart.Goals as goal
+
+pub restart-requires-clause-low : goal.restart-requires-clause-low
+restart-requires-clause-low g c =
+    let old = lines_of g.L.CheckpointLog g.L.EntryLog c.args.self.now.lines in
+    let might = reads_of g.L.CheckpointLog g.L.EntryLog c.args.self.now.lines.works in
+    (restarts_within c.args.line c.args.node old might c.requires.next).0
+
+pub restart-requires-clause-node : goal.restart-requires-clause-node
+restart-requires-clause-node g c =
+    let old = lines_of g.L.CheckpointLog g.L.EntryLog c.args.self.now.lines in
+    let might = reads_of g.L.CheckpointLog g.L.EntryLog c.args.self.now.lines.works in
+    subst (λ (n : ℕ). c.args.node ≤ n)
+    (length-map c.args.self.now.lines.works.nodes.items (part g.L.CheckpointLog g.L.EntryLog))
+    (restarts_within c.args.line c.args.node old might c.requires.next).1
+
+pub restart-requires-clause-stand : goal.restart-requires-clause-stand
+restart-requires-clause-stand g c =
+    let old = lines_of g.L.CheckpointLog g.L.EntryLog c.args.self.now.lines in
+    let might = reads_of g.L.CheckpointLog g.L.EntryLog c.args.self.now.lines.works in
+    some_lines c.args.line (acts.Restart c.args.node) old might c.requires.next
+
+pub returns-in_err-restart : goal.returns-in_err-restart
+returns-in_err-restart g c =
+    let old = lines_of g.L.CheckpointLog g.L.EntryLog c.args.self.now.lines in
+    let might = reads_of g.L.CheckpointLog g.L.EntryLog c.args.self.now.lines.works in
+    let new = lines_of g.L.CheckpointLog g.L.EntryLog c.restart.new.self in
+    let may = reads_of g.L.CheckpointLog g.L.EntryLog c.restart.new.self.works in
+    let within = restarts_within c.args.line c.args.node old might c.requires.next in
+    let there : c.args.node - 1 < length c.args.self.now.lines.works.nodes.items =
+    let low = within.0 in
+    let high = within.1 in
+    let many =
+    length-map c.args.self.now.lines.works.nodes.items (part g.L.CheckpointLog g.L.EntryLog) in
+    omega (arith, low, high, many) in
+    let is : c.from_residual.result ≡ Err line_faults.NoMemory = search rules in
+    record {
+      line = λ bodies.
+          subst (λ r. IsAtWorkLine (record { line = c.args.line; act = acts.Restart c.args.node })
+          bodies old might c.args.self.now.workers new may c.args.self.now.workers r) (sym is)
+          (at_place c.args.self.now.lines.works.nodes.items (c.args.node - 1) _
+          (IsAtWorkLine (record { line = c.args.line; act = acts.Restart c.args.node }) bodies old
+          might c.args.self.now.workers new may c.args.self.now.workers (restart_told (Err c.in_err-restart.field-0.0))) there
+          c.in_err-restart.ensures.line
+          (λ node told. restart_at_work c.args.line c.args.node (answers node.core) node.halted_at
+          bodies old new might may c.args.self.now.workers (Err c.in_err-restart.field-0.0)
+          (told (g.met.L.TellingLog.always node.log.log))));
+    }
+
+pub returns : goal.returns
+returns g c =
+    let old = lines_of g.L.CheckpointLog g.L.EntryLog c.args.self.now.lines in
+    let might = reads_of g.L.CheckpointLog g.L.EntryLog c.args.self.now.lines.works in
+    let new = lines_of g.L.CheckpointLog g.L.EntryLog c.restart.new.self in
+    let may = reads_of g.L.CheckpointLog g.L.EntryLog c.restart.new.self.works in
+    let within = restarts_within c.args.line c.args.node old might c.requires.next in
+    let there : c.args.node - 1 < length c.args.self.now.lines.works.nodes.items =
+    let low = within.0 in
+    let high = within.1 in
+    let many =
+    length-map c.args.self.now.lines.works.nodes.items (part g.L.CheckpointLog g.L.EntryLog) in
+    omega (arith, low, high, many) in
+    record {
+      line = λ bodies.
+          at_place c.args.self.now.lines.works.nodes.items (c.args.node - 1) _
+          (IsAtWorkLine (record { line = c.args.line; act = acts.Restart c.args.node }) bodies old
+          might c.args.self.now.workers new may c.args.self.now.workers (restart_told (Ok c.in_ok-restart.field-0))) there
+          c.in_ok-restart.ensures.line
+          (λ node told. restart_at_work c.args.line c.args.node (answers node.core) node.halted_at
+          bodies old new might may c.args.self.now.workers (Ok c.in_ok-restart.field-0)
+          (told (g.met.L.TellingLog.always node.log.log)));
+    }

@@ -1,0 +1,76 @@
+-- `start`, in a course.
+use Rattle.std.proofs.Common.{◌≡◌, Some, Err, sym, subst, rules}
+use Rattle.cam_script.specs.declared.Act.{Act}
+use Rattle.cam_cluster.specs.declared.LineFault.TheVariants as line_faults
+use Rattle.cam_cluster.specs.Courses.{IsAtWorkLine}
+use Rattle.cam_cluster.specs.Taking.{IsTakenAlone}
+use Rattle.cam_cluster.proofs.AsSeen.{lines_of, reads_of}
+use Rattle.cam_cluster.proofs.CourseTaken.{fault_at_work}
+use Rattle.cam_cluster.proofs.StartTaken.{Gives, start_at_work, start_wanting}
+use Rattle.cam_cluster.proofs.course.Course.start.Goals as goal
+
+pub returns-in_err-reserve-clause-line : goal.returns-in_err-reserve-clause-line
+returns-in_err-reserve-clause-line g c =
+    let old = lines_of g.L.CheckpointLog g.L.EntryLog c.args.self.now.lines in
+    let might = reads_of g.L.CheckpointLog g.L.EntryLog c.args.self.now.lines.works in
+    let is : c.from_residual.result ≡ Err line_faults.NoMemory = search rules in
+    λ bodies.
+    subst (λ r. IsAtWorkLine c.args.step.now bodies old might c.args.self.now.workers old might
+    c.reserve.new.self r) (sym is)
+    (start_wanting c.args.step.now c.requires.start.0 c.args.body bodies old might
+    c.args.self.now.workers c.reserve.new.self c.requires.start.1 c.reserve.ensures.stay)
+
+pub returns-in_err-reserve-clause-servers : goal.returns-in_err-reserve-clause-servers
+returns-in_err-reserve-clause-servers g c =
+    c.requires.servers
+
+pub take-requires-clause-built : goal.take-requires-clause-built
+take-requires-clause-built g c =
+    subst (λ (a : Act). IsTakenAlone a) (sym c.requires.start.1) tt
+
+pub take-requires-clause-next : goal.take-requires-clause-next
+take-requires-clause-next g c =
+    c.requires.next
+
+pub take-requires-clause-servers : goal.take-requires-clause-servers
+take-requires-clause-servers g c =
+    c.requires.servers
+
+pub returns-in_err-bad-clause-line : goal.returns-in_err-bad-clause-line
+returns-in_err-bad-clause-line g c =
+    let old = lines_of g.L.CheckpointLog g.L.EntryLog c.args.self.now.lines in
+    let might = reads_of g.L.CheckpointLog g.L.EntryLog c.args.self.now.lines.works in
+    let new = lines_of g.L.CheckpointLog g.L.EntryLog c.take.new.self in
+    let may = reads_of g.L.CheckpointLog g.L.EntryLog c.take.new.self.works in
+    let is : c.from_residual-in_err-bad.result ≡ Err c.in_err-bad.field-0.0 = search rules in
+    λ bodies.
+    subst (λ r. IsAtWorkLine c.args.step.now bodies old might c.args.self.now.workers new may
+    c.reserve.new.self r) (sym is)
+    (fault_at_work c.args.step.now bodies old new might may c.args.self.now.workers
+    c.reserve.new.self c.in_err-bad.field-0.0 c.reserve.ensures.stay c.in_err-bad.ensures.line)
+
+pub returns-in_err-bad-clause-servers : goal.returns-in_err-bad-clause-servers
+returns-in_err-bad-clause-servers g c =
+    c.take.ensures.servers
+
+pub give_body-requires : goal.give_body-requires
+give_body-requires g c =
+    c.in_ok-reserve.ensures.room
+
+pub returns-clause-line : goal.returns-clause-line
+returns-clause-line g c =
+    let old = lines_of g.L.CheckpointLog g.L.EntryLog c.args.self.now.lines in
+    let might = reads_of g.L.CheckpointLog g.L.EntryLog c.args.self.now.lines.works in
+    let new = lines_of g.L.CheckpointLog g.L.EntryLog c.take.new.self in
+    let may = reads_of g.L.CheckpointLog g.L.EntryLog c.take.new.self.works in
+    λ bodies.
+    start_at_work c.args.step.now c.requires.start.0 c.args.body bodies old new might may
+    c.args.self.now.workers c.reserve.new.self c.give_body.new.workers c.in_ok-bad.bad
+    c.requires.start.1 c.reserve.ensures.stay
+    (subst (λ o. Gives (Some c.args.body) o c.reserve.new.self c.give_body.new.workers)
+    c.newest.ensures c.give_body.ensures)
+    c.in_ok-bad.ensures.line
+
+pub returns-clause-servers : goal.returns-clause-servers
+returns-clause-servers g c =
+    c.take.ensures.servers

@@ -1,0 +1,118 @@
+-- The next line of a course, by its kind.
+use Rattle.std.proofs.Common.{sym, subst}
+use Rattle.cam_script.specs.declared.Act.{Act}
+use Rattle.cam_cluster.specs.Courses.{IsAtWorkLine, IsNextOfCourse}
+use Rattle.cam_cluster.specs.VariableLines.{IsNextOfSome}
+use Rattle.cam_cluster.proofs.AsSeen.{lines_of, reads_of}
+use Rattle.cam_cluster.proofs.CourseTaken.{next_of_course, not_built, taken_alone, taken_at_work}
+use Rattle.cam_cluster.proofs.course.Course.take.Goals as goal
+
+pub start-requires-clause-start : goal.start-requires-clause-start
+start-requires-clause-start g c =
+    (c.in-Start.node, c.in-Start.is)
+
+pub start-requires-clause-next : goal.start-requires-clause-next
+start-requires-clause-next g c =
+    let old = lines_of g.L.CheckpointLog g.L.EntryLog c.args.self.now.lines in
+    let might = reads_of g.L.CheckpointLog g.L.EntryLog c.args.self.now.lines.works in
+    next_of_course c.args.step.now c.args.bodies.now old might c.args.self.now.workers
+    c.requires.next
+
+pub start-requires-clause-servers : goal.start-requires-clause-servers
+start-requires-clause-servers g c =
+    c.requires.servers
+
+pub go-requires-clause-next : goal.go-requires-clause-next
+go-requires-clause-next g c =
+    let old = lines_of g.L.CheckpointLog g.L.EntryLog c.args.self.now.lines in
+    let might = reads_of g.L.CheckpointLog g.L.EntryLog c.args.self.now.lines.works in
+    subst (λ (a : Act). IsNextOfCourse (record { line = c.args.step.now.line; act = a })
+    c.args.bodies.now old might c.args.self.now.workers) c.in-Go.is c.requires.next
+
+pub go-requires-clause-servers : goal.go-requires-clause-servers
+go-requires-clause-servers g c =
+    c.requires.servers
+
+pub restart-requires : goal.restart-requires
+restart-requires g c =
+    let old = lines_of g.L.CheckpointLog g.L.EntryLog c.args.self.now.lines in
+    let might = reads_of g.L.CheckpointLog g.L.EntryLog c.args.self.now.lines.works in
+    record {
+      next =
+          subst (λ (a : Act). IsNextOfSome c.args.step.now.line a old might) c.in-Restart.is
+          (next_of_course c.args.step.now c.args.bodies.now old might c.args.self.now.workers
+          c.requires.next);
+    }
+
+pub unreachable-requires : goal.unreachable-requires
+unreachable-requires g c =
+    not_built c.args.step.now.act c.requires.built c.in-Play.is
+
+pub unreachable-unreachable : goal.unreachable-unreachable
+unreachable-unreachable g c =
+    absurd (not_built c.args.step.now.act c.requires.built c.in-Play.is)
+
+pub take-requires : goal.take-requires
+take-requires g c =
+    let old = lines_of g.L.CheckpointLog g.L.EntryLog c.args.self.now.lines in
+    let might = reads_of g.L.CheckpointLog g.L.EntryLog c.args.self.now.lines.works in
+    record {
+      built =
+          (taken_alone c.args.step.now.act c.requires.built c.in_default.not-Start
+          c.in_default.not-Go c.in_default.not-Restart).0;
+      next =
+          next_of_course c.args.step.now c.args.bodies.now old might c.args.self.now.workers
+          c.requires.next;
+      servers = c.requires.servers;
+    }
+
+pub returns-in-Start-clause-line : goal.returns-in-Start-clause-line
+returns-in-Start-clause-line g c =
+    c.start.ensures.line c.args.bodies.now
+
+pub returns-in-Start-clause-servers : goal.returns-in-Start-clause-servers
+returns-in-Start-clause-servers g c =
+    c.start.ensures.servers
+
+pub returns-in-Go-clause-line : goal.returns-in-Go-clause-line
+returns-in-Go-clause-line g c =
+    let old = lines_of g.L.CheckpointLog g.L.EntryLog c.args.self.now.lines in
+    let might = reads_of g.L.CheckpointLog g.L.EntryLog c.args.self.now.lines.works in
+    let new = lines_of g.L.CheckpointLog g.L.EntryLog c.go.new.self.lines in
+    let may = reads_of g.L.CheckpointLog g.L.EntryLog c.go.new.self.lines.works in
+    subst (λ (a : Act). IsAtWorkLine (record { line = c.args.step.now.line; act = a })
+    c.args.bodies.now old might c.args.self.now.workers new may c.go.new.self.workers
+    c.go.result) (sym c.in-Go.is) c.go.ensures.line
+
+pub returns-in-Go-clause-servers : goal.returns-in-Go-clause-servers
+returns-in-Go-clause-servers g c =
+    c.go.ensures.servers
+
+pub returns-in-Restart-clause-line : goal.returns-in-Restart-clause-line
+returns-in-Restart-clause-line g c =
+    let old = lines_of g.L.CheckpointLog g.L.EntryLog c.args.self.now.lines in
+    let might = reads_of g.L.CheckpointLog g.L.EntryLog c.args.self.now.lines.works in
+    let new = lines_of g.L.CheckpointLog g.L.EntryLog c.restart.new.self.lines in
+    let may = reads_of g.L.CheckpointLog g.L.EntryLog c.restart.new.self.lines.works in
+    subst (λ (a : Act). IsAtWorkLine (record { line = c.args.step.now.line; act = a })
+    c.args.bodies.now old might c.args.self.now.workers new may c.restart.new.self.workers
+    c.restart.result) (sym c.in-Restart.is) (c.restart.ensures.line c.args.bodies.now)
+
+pub returns-in-Restart-clause-servers : goal.returns-in-Restart-clause-servers
+returns-in-Restart-clause-servers g c =
+    c.requires.servers
+
+pub returns-in_default : goal.returns-in_default
+returns-in_default g c =
+    let old = lines_of g.L.CheckpointLog g.L.EntryLog c.args.self.now.lines in
+    let might = reads_of g.L.CheckpointLog g.L.EntryLog c.args.self.now.lines.works in
+    let new = lines_of g.L.CheckpointLog g.L.EntryLog c.take.new.self in
+    let may = reads_of g.L.CheckpointLog g.L.EntryLog c.take.new.self.works in
+    record {
+      line =
+          taken_at_work c.args.step.now c.args.bodies.now old new might may
+          c.args.self.now.workers c.take.result
+          (taken_alone c.args.step.now.act c.requires.built c.in_default.not-Start
+          c.in_default.not-Go c.in_default.not-Restart).1 c.take.ensures.line;
+      servers = c.take.ensures.servers;
+    }
