@@ -1,13 +1,18 @@
 -- What nodes hold: a node that informs itself of what letters bring, and sends what it was informed
 -- of, goes by what the rules by time say.
-use Rattle.std.specs.Prelude.{◌≡◌, ℕ, eqb, true, false, ◌&&◌, if◌then◌else◌, List, [], ◌∷◌, length, Option, Some}
+use Rattle.std.specs.Prelude.{◌≡◌, ℕ, eqb, true, false, not, ◌&&◌, if◌then◌else◌, List, [], ◌∷◌, ◌++◌, length, filter, Option, Some}
+use Rattle.std.specs.List.{list_any}
 use Rattle.cam_names.specs.declared.name.Name.{Name}
+use Rattle.cam_names.specs.Names.{ancestors}
 use Rattle.cam_type.specs.declared.ObjectDecl.{ObjectDecl}
 use Rattle.cam_event.specs.declared.LetterId.{LetterId}
 use Rattle.cam_event.specs.declared.Event.{Event}
+use Rattle.cam_event.specs.declared.Operation.{Operation}
 use Rattle.cam_event.specs.declared.Deed.{Deed}
-use Rattle.cam_event.specs.History.{committed, aborted, informed}
-use Rattle.cam_event.specs.Pasts.{IsEarlier}
+use Rattle.cam_event.specs.declared.Deed.TheVariants.{Perform}
+use Rattle.cam_event.specs.History.{Addressed, call_of, committed, aborted, informed}
+use Rattle.cam_event.specs.Live.{of_call}
+use Rattle.cam_event.specs.Pasts.{IsEarlier, plain_all}
 use Rattle.cam_event.specs.Inputs.{Mail, letter_at}
 use Rattle.cam_event.specs.Sights.{entries, own_deeds}
 use Rattle.cam_event.specs.ByPast.{letter_past}
@@ -32,6 +37,28 @@ pub record KnowsWhatItHolds (objects : List ObjectDecl) (t : List Event) (s : �
   pub aborts :
       (timed_sight objects t s got).knows_abort a
       ≡ informed (timed_sight objects t s got).deeds s a false
+
+-- what a site performed, by its node's own deeds; what each call asks for is looked up so
+abbrev pub performed_by : (Name → ℕ → Option Addressed) → List Deed → List Operation
+performed_by calls [] = []
+performed_by calls (Perform a n answer ∷ before) =
+    performed_by calls before ++ of_call a n answer (calls a n)
+performed_by calls (_ ∷ before) = performed_by calls before
+
+-- and what of it the node was not informed to drop
+abbrev pub held_live : (Name → ℕ → Option Addressed) → List Deed → ℕ → List Operation
+held_live calls own s =
+    filter (λ o. not (list_any (λ u. informed own s u false) (ancestors o.action)))
+    (performed_by calls own)
+
+-- The live operations of a site are those that its node performed, as its own deeds say, and was
+-- not informed to drop. What a call asks for, its letter says.
+abbrev pub SitesHoldTheirLive : Type 0
+SitesHoldTheirLive =
+    (objects : List ObjectDecl) (t : List TimedEvent) (s : ℕ) (got : Option LetterId)
+    → IsTimedRun objects t → IsEarlier (length (events t)) got
+    → (timed_sight objects (events t) s got).live
+    ≡ held_live (call_of (plain_all (events t))) (timed_sight objects (events t) s got).deeds s
 
 -- A node knows just the outcomes of which it was informed.
 abbrev pub NodesKnowWhatTheyHold : Type 0
