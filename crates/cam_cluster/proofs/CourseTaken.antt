@@ -1,5 +1,5 @@
 -- The next line of a course that the lines take by themselves, and that gives no action a body.
-use Rattle.std.proofs.Common.{◌≡◌, ◌⊎◌, inl, inr, ℕ, List, Option, Result, Ok, Err, sym, subst, refl}
+use Rattle.std.proofs.Common.{◌≡◌, ℕ, List, Option, Result, Ok, Err, sym, subst, refl}
 use Rattle.cam_bytes.specs.declared.WireFault.{WireFault}
 use Rattle.cam_node.specs.Log.{Logged}
 use Rattle.cam_runs.specs.Standing.{Standing}
@@ -21,22 +21,17 @@ use Rattle.cam_cluster.proofs.AtNodes.{runs_are_at_nodes}
 use Rattle.cam_cluster.proofs.BodiesStay.{GivesNone}
 use Rattle.cam_cluster.proofs.WorkersOn.{refused_on, workers_on}
 
--- Lines that are not built.
-pub not_built : (a : Act) → IsBuilt a
-    → (a ≡ acts.Play) ⊎ ((s : ℕ) × (calls : ℕ) × (a ≡ acts.Stop s calls)) → ⊥
-not_built a built (inl play) = subst IsBuilt play built
-not_built a built (inr stop) = subst IsBuilt stop.2 built
-
 -- The other lines need the actions at bodies, or are a restart.
 pub taken_alone : (a : Act) → IsBuilt a → ((s body : ℕ) → a ≡ acts.Start s body → ⊥)
-    → ((v : ℕ) → a ≡ acts.Go v → ⊥) → ((s : ℕ) → a ≡ acts.Restart s → ⊥)
-    → IsTakenAlone a × GivesNone a
-taken_alone (acts.Start s body) built no_start no_go no_restart = absurd (no_start s body refl)
-taken_alone (acts.Go v) built no_start no_go no_restart = absurd (no_go v refl)
-taken_alone (acts.Restart s) built no_start no_go no_restart = absurd (no_restart s refl)
-taken_alone acts.Play built no_start no_go no_restart = elim built [ ]
-taken_alone (acts.Stop s calls) built no_start no_go no_restart = elim built [ ]
-taken_alone _ built no_start no_go no_restart = (tt, tt)
+    → ((v : ℕ) → a ≡ acts.Go v → ⊥) → (a ≡ acts.Play → ⊥)
+    → ((s : ℕ) → a ≡ acts.Restart s → ⊥) → IsTakenAlone a × GivesNone a
+taken_alone (acts.Start s body) built no_start no_go no_play no_restart =
+    absurd (no_start s body refl)
+taken_alone (acts.Go v) built no_start no_go no_play no_restart = absurd (no_go v refl)
+taken_alone acts.Play built no_start no_go no_play no_restart = absurd (no_play refl)
+taken_alone (acts.Restart s) built no_start no_go no_play no_restart = absurd (no_restart s refl)
+taken_alone (acts.Stop s calls) built no_start no_go no_play no_restart = elim built [ ]
+taken_alone _ built no_start no_go no_play no_restart = (tt, tt)
 
 -- The variables of a run that is kept stand for actions at nodes of the script.
 pub variables_placed : (seen : Seen) (lines : LinesFields) (may : ℕ → Logged → Type 0)
@@ -59,18 +54,21 @@ next_of_course step bodies lines may at_work some = record {
 
 -- Memory ran out, and the actions at bodies stay.
 wanting_at_work : (a : Act) (seen : Seen) (step : Step) (new : LinesFields)
-    (may : ℕ → Logged → Type 0) (at_work : Workers) → IsWanting a seen step new may
+    (may : ℕ → Logged → Type 0) (at_work : Workers) → IsTakenAlone a → IsWanting a seen step new may
     → AreWorkers seen.standing at_work → IsCourseWanting a seen step new may at_work
-wanting_at_work acts.Drain seen step new may at_work wants are = wants
-wanting_at_work _ seen step new may at_work wants are = record { between = wants; workers = are }
+wanting_at_work acts.Drain seen step new may at_work alone wants are = wants
+wanting_at_work acts.Play seen step new may at_work alone wants are = elim alone [ ]
+wanting_at_work _ seen step new may at_work alone wants are =
+    record { between = wants; workers = are }
 
 -- A line that is refused, or finds no memory, by lines that are taken alone or of `start`.
 pub fault_at_work : (step : Step) (bodies : List (List Statement)) (old new : LinesFields)
     (might may : ℕ → Logged → Type 0) (first before : Workers) (fault : LineFault)
-    → ((st : Standing) → AreWorkers st first → AreWorkers st before)
+    → IsTakenAlone step.act → ((st : Standing) → AreWorkers st first → AreWorkers st before)
     → IsStepTaken step old might new may (Err fault)
     → IsAtWorkLine step bodies old might first new may before (Err fault)
-fault_at_work step bodies old new might may first before (line_faults.Refused refusal) stay taken
+fault_at_work step bodies old new might may first before (line_faults.Refused refusal) alone stay
+    taken
     seen keeps next same awake =
     let so = taken seen keeps.between next in record {
       test = so.test;
@@ -80,23 +78,25 @@ fault_at_work step bodies old new might may first before (line_faults.Refused re
             refused_on seen step refusal so.test before (stay seen.standing keeps.workers);
       };
     }
-fault_at_work step bodies old new might may first before line_faults.NoMemory stay taken seen keeps
+fault_at_work step bodies old new might may first before line_faults.NoMemory alone stay taken seen
+    keeps
     next same awake =
-    wanting_at_work step.act seen step new may before (taken seen keeps.between next)
+    wanting_at_work step.act seen step new may before alone (taken seen keeps.between next)
     (stay seen.standing keeps.workers)
 
 pub taken_at_work : (step : Step) (bodies : List (List Statement)) (old new : LinesFields)
     (might may : ℕ → Logged → Type 0) (at_work : Workers)
-    (result : Result (Option WireFault) LineFault) → GivesNone step.act
+    (result : Result (Option WireFault) LineFault) → IsTakenAlone step.act → GivesNone step.act
     → IsStepTaken step old might new may result
     → IsAtWorkLine step bodies old might at_work new may at_work result
-taken_at_work step bodies old new might may at_work (Ok bad) none taken seen keeps next same awake =
+taken_at_work step bodies old new might may at_work (Ok bad) alone none taken seen keeps next same
+    awake =
     let so = taken seen keeps.between next in record {
       led = so.0;
       workers = workers_on seen step so.0.more at_work none keeps.workers;
       fault = so.1;
     }
-taken_at_work step bodies old new might may at_work (Err fault) none taken seen keeps next same
-    awake =
-    fault_at_work step bodies old new might may at_work at_work fault (λ st are. are) taken seen
+taken_at_work step bodies old new might may at_work (Err fault) alone none taken seen keeps next
+    same awake =
+    fault_at_work step bodies old new might may at_work at_work fault alone (λ st are. are) taken seen
     keeps next same awake

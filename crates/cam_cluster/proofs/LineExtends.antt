@@ -27,9 +27,9 @@ use Rattle.cam_script.specs.declared.Act.{Act}
 use Rattle.cam_script.specs.declared.Act.TheVariants as acts
 use Rattle.cam_script.specs.declared.Statement.{Statement}
 use Rattle.cam_wire.specs.OfTrace.{spelling_of}
-use Rattle.cam_cluster.proofs.Extends.{Extends, deliver_extends, drain_extends, extends_on, first_in}
-use Rattle.cam_cluster.proofs.Extends.{given_extends, go_extends, put_extends, rounds_extend}
-use Rattle.cam_cluster.proofs.Extends.{same_extends}
+use Rattle.cam_cluster.proofs.Extends.{Extends, extends_on, first_in, same_extends}
+use Rattle.cam_cluster.proofs.InputsExtend.{deliver_extends, drain_extends, given_extends}
+use Rattle.cam_cluster.proofs.InputsExtend.{go_extends, put_extends, rounds_extend}
 
 module _ (c : Setting) (bodies : List (List Statement)) (st : Standing) (line : ℕ) where
   abbrev Left : Passed → Type 0

@@ -1,5 +1,5 @@
 -- A play is taken: by the pasts of events, with the halts of its inputs.
-use Rattle.std.proofs.Common.{◌≡◌, ℕ, ◌+◌, ◌≤◌, List, ◌++◌, length, refl, sym, ap, ◌∙◌, subst}
+use Rattle.std.proofs.Common.{◌≡◌, ℕ, ◌+◌, ◌≤◌, List, ◌++◌, length, refl, sym, subst}
 use Rattle.std.proofs.Common.{None, arith}
 use Rattle.std.specs.List.{list_any}
 use Rattle.cam_event.specs.Readings.{by_knowledge}

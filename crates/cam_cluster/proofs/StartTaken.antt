@@ -37,7 +37,7 @@ use Rattle.cam_cluster.specs.Taking.{IsStepTaken}
 use Rattle.cam_cluster.specs.VariableLines.{action_of}
 use Rattle.cam_cluster.specs.Workers.{AreWorkers}
 use Rattle.cam_cluster.proofs.BodiesStay.{put_stays}
-use Rattle.cam_cluster.proofs.Extends.{put_extends}
+use Rattle.cam_cluster.proofs.InputsExtend.{put_extends}
 use Rattle.cam_cluster.proofs.StepHolds.{next_holds, node_within}
 use Rattle.cam_cluster.proofs.WorkersStand.{workers_stay}
 

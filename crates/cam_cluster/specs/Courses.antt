@@ -22,6 +22,7 @@ use Rattle.cam_cluster.specs.declared.LineFault.TheVariants as line_faults
 use Rattle.cam_cluster.specs.declared.workers.Workers.{Workers}
 use Rattle.cam_cluster.specs.Between.{AreHaltsOfLine, HasLedOn, KeepsBetween, after_step}
 use Rattle.cam_cluster.specs.LineOwes.{cut_fault, node_of_halt, oldest}
+use Rattle.cam_cluster.specs.Plays.{HasPlayedSoFar}
 use Rattle.cam_cluster.specs.Seen.{IsNextStep, Seen}
 use Rattle.cam_cluster.specs.SoFar.{LinesFields}
 use Rattle.cam_cluster.specs.Taking.{HasDrainedPart}
@@ -54,7 +55,6 @@ IsStartOf body act = (s : ℕ) × (act ≡ acts.Start s body)
 
 -- a line that is built
 abbrev pub IsBuilt : Act → Type 0
-IsBuilt acts.Play = ⊥
 IsBuilt (acts.Stop s calls) = ⊥
 IsBuilt _ = Unit {0}
 
@@ -91,10 +91,12 @@ pub record HasRefusedLine (seen : Seen) (step : Step) (new : LinesFields)
       line_refusal (by_pasts seen.script.objects) seen.standing step.act ≡ Some refusal
   pub stands : KeepsCourse (after_step seen step []) new may_read at_work
 
--- Memory ran out: what was kept is kept, but that a drain may have handed over some letters.
+-- Memory ran out: what was kept is kept, but that some inputs of a drain or a play may stand.
 abbrev pub IsCourseWanting : Act → Seen → Step → LinesFields → (ℕ → Logged → Type 0) → Workers
     → Type 0
 IsCourseWanting acts.Drain seen step new may_read at_work = HasDrainedPart seen step new may_read
+IsCourseWanting acts.Play seen step new may_read at_work =
+    HasPlayedSoFar seen step new may_read at_work
 IsCourseWanting _ seen step new may_read at_work = KeepsCourse seen new may_read at_work
 
 -- how the line ends

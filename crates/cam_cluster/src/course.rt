@@ -48,7 +48,7 @@ fn first_halted_behind(before: usize, marks: &[Mark]) -> Option<u8>
 
 impl<L: TellingLog> Course<L> {
     /// Takes the next line of the script: it leads on, and what it made is told; or it is refused, by the first test that fails; or
-    /// memory runs out, and what was kept is kept, but that a drain may have handed over some letters.
+    /// memory runs out, and what was kept is kept, but that some inputs of a drain or a play may stand.
     ///
     /// Of a restart of a halted node the clause says nothing.
     #[tactic(none)]
@@ -108,8 +108,9 @@ impl<L: TellingLog> Course<L> {
             Act::Start { body, .. } => self.start(step, body, servers),
             Act::Go { action } => self.go(step.line, action, bodies, servers),
             Act::Restart { node } => self.restart(step.line, node),
-            // these are not built
-            Act::Play | Act::Stop { .. } => unreachable!(),
+            Act::Play => self.play(step.line, bodies, servers),
+            // it is not built
+            Act::Stop { .. } => unreachable!(),
             _ => self.lines.take(step, servers),
         }
     }
@@ -166,6 +167,32 @@ impl<L: TellingLog> Course<L> {
     {
         self.lines
             .go(line, action, bodies, &mut self.workers, servers)?;
+        Ok(None)
+    }
+
+    /// `play`: rounds, in each of which the actions at bodies make their next requests and the letters that wait are handed over, until
+    /// the first without an input.
+    #[tactic(none)]
+    fn play<R: DataType, Q: DataType, C: DataType>(
+        &mut self,
+        line: u32,
+        bodies: &Bodies,
+        servers: &mut Servers<R, Q, C>,
+    ) -> Result<Option<WireFault>, LineFault>
+        requires next { IsNextOfCourse (record { line = line; act = acts.Play }) bodies.now
+            (⟦<Lines<L> as AsLines>⟧.fields self.old.lines)
+            (⟦<Lines<L> as AsLines>⟧.may_read self.old.lines) self.old.workers }
+        requires servers { AreServers R.kind Q.kind C.kind
+            servers.old.register servers.old.queue servers.old.counter }
+        ensures line { IsAtWorkLine (record { line = line; act = acts.Play }) bodies.now
+            (⟦<Lines<L> as AsLines>⟧.fields self.old.lines)
+            (⟦<Lines<L> as AsLines>⟧.may_read self.old.lines) self.old.workers
+            (⟦<Lines<L> as AsLines>⟧.fields self.new.lines)
+            (⟦<Lines<L> as AsLines>⟧.may_read self.new.lines) self.new.workers result }
+        ensures servers { AreServers R.kind Q.kind C.kind
+            servers.new.register servers.new.queue servers.new.counter }
+    {
+        self.lines.play(line, bodies, &mut self.workers, servers)?;
         Ok(None)
     }
 

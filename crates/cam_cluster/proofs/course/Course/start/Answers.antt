@@ -47,7 +47,9 @@ returns-in_err-bad-clause-line g c =
     subst (λ r. IsAtWorkLine c.args.step.now bodies old might c.args.self.now.workers new may
     c.reserve.new.self r) (sym is)
     (fault_at_work c.args.step.now bodies old new might may c.args.self.now.workers
-    c.reserve.new.self c.in_err-bad.field-0.0 c.reserve.ensures.stay c.in_err-bad.ensures.line)
+    c.reserve.new.self c.in_err-bad.field-0.0
+    (subst (λ (a : Act). IsTakenAlone a) (sym c.requires.start.1) tt) c.reserve.ensures.stay
+    c.in_err-bad.ensures.line)
 
 pub returns-in_err-bad-clause-servers : goal.returns-in_err-bad-clause-servers
 returns-in_err-bad-clause-servers g c =

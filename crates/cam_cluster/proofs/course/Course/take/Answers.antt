@@ -1,10 +1,10 @@
 -- The next line of a course, by its kind.
 use Rattle.std.proofs.Common.{sym, subst}
 use Rattle.cam_script.specs.declared.Act.{Act}
-use Rattle.cam_cluster.specs.Courses.{IsAtWorkLine, IsNextOfCourse}
+use Rattle.cam_cluster.specs.Courses.{IsAtWorkLine, IsBuilt, IsNextOfCourse}
 use Rattle.cam_cluster.specs.VariableLines.{IsNextOfSome}
 use Rattle.cam_cluster.proofs.AsSeen.{lines_of, reads_of}
-use Rattle.cam_cluster.proofs.CourseTaken.{next_of_course, not_built, taken_alone, taken_at_work}
+use Rattle.cam_cluster.proofs.CourseTaken.{next_of_course, taken_alone, taken_at_work}
 use Rattle.cam_cluster.proofs.course.Course.take.Goals as goal
 
 pub start-requires-clause-start : goal.start-requires-clause-start
@@ -33,6 +33,17 @@ pub go-requires-clause-servers : goal.go-requires-clause-servers
 go-requires-clause-servers g c =
     c.requires.servers
 
+pub play-requires-clause-next : goal.play-requires-clause-next
+play-requires-clause-next g c =
+    let old = lines_of g.L.CheckpointLog g.L.EntryLog c.args.self.now.lines in
+    let might = reads_of g.L.CheckpointLog g.L.EntryLog c.args.self.now.lines.works in
+    subst (λ (a : Act). IsNextOfCourse (record { line = c.args.step.now.line; act = a })
+    c.args.bodies.now old might c.args.self.now.workers) c.in-Play.is c.requires.next
+
+pub play-requires-clause-servers : goal.play-requires-clause-servers
+play-requires-clause-servers g c =
+    c.requires.servers
+
 pub restart-requires : goal.restart-requires
 restart-requires g c =
     let old = lines_of g.L.CheckpointLog g.L.EntryLog c.args.self.now.lines in
@@ -46,11 +57,11 @@ restart-requires g c =
 
 pub unreachable-requires : goal.unreachable-requires
 unreachable-requires g c =
-    not_built c.args.step.now.act c.requires.built c.in-Play.is
+    subst IsBuilt c.in-Stop.is c.requires.built
 
 pub unreachable-unreachable : goal.unreachable-unreachable
 unreachable-unreachable g c =
-    absurd (not_built c.args.step.now.act c.requires.built c.in-Play.is)
+    absurd (subst IsBuilt c.in-Stop.is c.requires.built)
 
 pub take-requires : goal.take-requires
 take-requires g c =
@@ -59,7 +70,7 @@ take-requires g c =
     record {
       built =
           (taken_alone c.args.step.now.act c.requires.built c.in_default.not-Start
-          c.in_default.not-Go c.in_default.not-Restart).0;
+          c.in_default.not-Go c.in_default.not-Play c.in_default.not-Restart).0;
       next =
           next_of_course c.args.step.now c.args.bodies.now old might c.args.self.now.workers
           c.requires.next;
@@ -88,6 +99,20 @@ pub returns-in-Go-clause-servers : goal.returns-in-Go-clause-servers
 returns-in-Go-clause-servers g c =
     c.go.ensures.servers
 
+pub returns-in-Play-clause-line : goal.returns-in-Play-clause-line
+returns-in-Play-clause-line g c =
+    let old = lines_of g.L.CheckpointLog g.L.EntryLog c.args.self.now.lines in
+    let might = reads_of g.L.CheckpointLog g.L.EntryLog c.args.self.now.lines.works in
+    let new = lines_of g.L.CheckpointLog g.L.EntryLog c.play.new.self.lines in
+    let may = reads_of g.L.CheckpointLog g.L.EntryLog c.play.new.self.lines.works in
+    subst (λ (a : Act). IsAtWorkLine (record { line = c.args.step.now.line; act = a })
+    c.args.bodies.now old might c.args.self.now.workers new may c.play.new.self.workers
+    c.play.result) (sym c.in-Play.is) c.play.ensures.line
+
+pub returns-in-Play-clause-servers : goal.returns-in-Play-clause-servers
+returns-in-Play-clause-servers g c =
+    c.play.ensures.servers
+
 pub returns-in-Restart-clause-line : goal.returns-in-Restart-clause-line
 returns-in-Restart-clause-line g c =
     let old = lines_of g.L.CheckpointLog g.L.EntryLog c.args.self.now.lines in
@@ -108,11 +133,12 @@ returns-in_default g c =
     let might = reads_of g.L.CheckpointLog g.L.EntryLog c.args.self.now.lines.works in
     let new = lines_of g.L.CheckpointLog g.L.EntryLog c.take.new.self in
     let may = reads_of g.L.CheckpointLog g.L.EntryLog c.take.new.self.works in
+    let alone =
+    taken_alone c.args.step.now.act c.requires.built c.in_default.not-Start c.in_default.not-Go
+    c.in_default.not-Play c.in_default.not-Restart in
     record {
       line =
           taken_at_work c.args.step.now c.args.bodies.now old new might may
-          c.args.self.now.workers c.take.result
-          (taken_alone c.args.step.now.act c.requires.built c.in_default.not-Start
-          c.in_default.not-Go c.in_default.not-Restart).1 c.take.ensures.line;
+          c.args.self.now.workers c.take.result alone.0 alone.1 c.take.ensures.line;
       servers = c.take.ensures.servers;
     }
