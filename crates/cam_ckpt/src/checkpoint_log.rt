@@ -46,6 +46,7 @@ pub trait CheckpointLog: EntryLog {
             → Untouched (Self.moment self.old) (Self.moment self.new)
             (Self.opens_since self.old) (Self.opens_since self.new)
             (Self.seen self.old) (Self.seen self.new) }
+        ensures unbounded { Self.passes self.old ≡ None → Self.passes self.new ≡ None }
         // A crash at any moment of the call leaves the old entries or the new ones.
         ensures any_moment { IsTrue (Self.tells self.old)
             → Grows (Self.moment self.old) (Self.moment self.new)
@@ -60,6 +61,7 @@ pub trait CheckpointLog: EntryLog {
             (Self.faults self.old) (Self.faults self.new)) }
         ensures tells { Self.tells self.new ≡ Self.tells self.old }
         ensures later { Self.faults self.old ≤ Self.faults self.new }
+        ensures faults_within { Self.faults_within self.old ≤ Self.faults_within self.new }
         ensures disk_fault { IsErrOf result DiskFault
             → Rose (Self.faults self.old) (Self.faults self.new) × IsTrue (Self.broken self.new) }
         ensures is_a_log { (at : ℕ) → IsErrOf result (NotALog at) → ⊥ };
@@ -72,6 +74,12 @@ pub trait CheckpointLog: EntryLog {
             (Self.opens_since self.old (Self.moment self.old) (Opens (Self.listed self.new))) }
         ensures refused { IsTrue (Self.tells self.old) → (at : ℕ) → IsErrOf result (NotALog at)
             → Self.opens_since self.old (Self.moment self.old) (NoLog (NotALog at)) }
+        // That is what the log reads, and it reads the same afterwards.
+        ensures read_now { IsTrue (Self.tells self.old)
+            → OnOk result (Self.reads self.old ≡ Opens (Self.listed self.new)) }
+        ensures refused_now { IsTrue (Self.tells self.old) → (at : ℕ)
+            → IsErrOf result (NotALog at) → Self.reads self.old ≡ NoLog (NotALog at) }
+        ensures reads { IsTrue (Self.tells self.old) → Self.reads self.new ≡ Self.reads self.old }
         ensures whole { OnOk result (IsFalse (Self.broken self.new)) }
         ensures not_read { OnErr result (IsTrue (Self.broken self.new)) }
         ensures any_moment { IsTrue (Self.tells self.old)
@@ -80,6 +88,7 @@ pub trait CheckpointLog: EntryLog {
         ensures unbounded { Self.passes self.old ≡ None → Self.passes self.new ≡ None }
         ensures tells { Self.tells self.new ≡ Self.tells self.old }
         ensures later { Self.faults self.old ≤ Self.faults self.new }
+        ensures faults_within { Self.faults_within self.old ≤ Self.faults_within self.new }
         ensures disk_fault { IsErrOf result DiskFault
             → Rose (Self.faults self.old) (Self.faults self.new) };
 
@@ -92,7 +101,9 @@ pub trait CheckpointLog: EntryLog {
         ensures any_moment { IsTrue (Self.tells self.old)
             → AddsNothing (Self.moment self.old) (Self.moment self.new)
             (Self.opens_since self.old) (Self.opens_since self.new) }
+        ensures reads { IsTrue (Self.tells self.old) → Self.reads self.new ≡ Self.reads self.old }
         ensures passes { Self.passes self.new ≡ Self.passes self.old }
         ensures tells { Self.tells self.new ≡ Self.tells self.old }
-        ensures later { Self.faults self.old ≤ Self.faults self.new };
+        ensures later { Self.faults self.old ≤ Self.faults self.new }
+        ensures faults_within { Self.faults_within self.old ≤ Self.faults_within self.new };
 }

@@ -130,6 +130,7 @@ impl<D: Disk> Ckpt<D> {
         ensures tells { D.tells result ≡ ⟦<Ckpt<D> as EntryLog>⟧.tells self }
         ensures moment { D.moment result ≡ ⟦<Ckpt<D> as EntryLog>⟧.moment self }
         ensures seen { D.seen result ≡ ⟦<Ckpt<D> as EntryLog>⟧.seen self }
+        ensures reads { read_ckpt (D.seen result) ≡ ⟦<Ckpt<D> as EntryLog>⟧.reads self }
         ensures passes { D.passes result ≡ ⟦<Ckpt<D> as EntryLog>⟧.passes self }
         ensures faults { D.faults result ≡ ⟦<Ckpt<D> as EntryLog>⟧.faults self }
     {
@@ -140,6 +141,7 @@ impl<D: Disk> Ckpt<D> {
 impl<D: Disk> EntryLog for Ckpt<D> {
     ghost use Rattle.cam_ckpt.specs.Again.{logs_are_read, opens_alone, rests_of};
     ghost use Rattle.cam_ckpt.specs.Opening.{standing_of};
+    ghost use Rattle.std.proofs.Common.{arith, refl};
 
     ghost tells = { λ log. D.tells log.disk };
 
@@ -151,13 +153,19 @@ impl<D: Disk> EntryLog for Ckpt<D> {
 
     ghost opens_since = { λ log. Openings (D.left_since log.disk) };
 
+    ghost reads = { λ log. read_ckpt (D.seen log.disk) };
+
     ghost faults = { λ log. D.faults log.disk };
+
+    ghost faults_within = { λ log. D.faults_within log.disk };
 
     ghost seen = { λ log. D.seen log.disk };
 
     ghost passes = { λ log. D.passes log.disk };
 
     ghost is_written = { λ old entry new. IsAppended old.state.gate (appended entry) (D.seen old.disk) (D.seen new.disk) };
+
+    ghost reads_now = { λ log h. (D.seen log.disk, D.counts_now log.disk (D.moment log.disk) (D.seen log.disk) h (Prim.omega arith) (D.kept log.disk h), refl) };
 
     ghost at_rest = { λ log opened h whole o. opens_alone (standing_of log.state) (D.seen log.disk) o.0 (D.may_leave log.disk) opened (rests_of (standing_of log.state) (D.seen log.disk) (log.opened h whole).rests) (log.durable h whole) (D.only_now log.disk o.0 h o.1) o.2 };
 

@@ -1,9 +1,12 @@
 // The device calls of a log with checkpoints.
-ghost use Rattle.std.specs.Prelude.{◌≡◌, ◌+◌, ◌≤◌, ◌<◌, ◌^◌, ℕ, List, length, IsTrue, OnOk, Some};
+ghost use Rattle.std.specs.Prelude.{◌≡◌, ◌⊎◌, ◌+◌, ◌≤◌, ◌<◌, ◌^◌, ℕ, List, length, IsTrue, OnOk, IsErrOf, Ok, Some, None};
+ghost use Rattle.cam_base.specs.Causes.{Rose};
+ghost use Rattle.cam_disk.specs.declared.error.DiskError.TheVariants.{Failed};
 ghost use Rattle.cam_disk.specs.Disk.{Only, Holds, FailsWithCause};
 ghost use Rattle.cam_log.specs.Image.{appended};
 ghost use Rattle.cam_disk.specs.Stop.{Untouched};
 ghost use Rattle.cam_log.specs.Spent.{Spent};
+ghost use Rattle.cam_log.specs.CutOff.{IsCutOff, entries_after};
 ghost use Rattle.cam_ckpt.specs.Written.{IsAppended, IsReplaced};
 ghost use Rattle.cam_log.specs.Moments.{Grows, Written, IsBeforeOrAfter};
 ghost use Rattle.cam_ckpt.specs.Image.{Standing, gate_of, other_slot, with_entry, with_entries};
@@ -39,14 +42,23 @@ pub fn write_entry<D: Disk>(disk: &mut D, gate: u64, behind: &[u8]) -> Result<()
         → IsAtRest s (D.seen disk.old) → Grows (D.moment disk.old) (D.moment disk.new)
         (D.left_since disk.old) (D.left_since disk.new)
         (λ image. IsBeforeOrAfter s.entries entry (read_ckpt image)) }
+    // It fails because a call that was done did, or because it was cut off.
+    ensures cut_off { IsErrOf result Failed
+        → Rose (D.faults_within disk.old) (D.faults_within disk.new)
+        ⊎ IsCutOff 4 (D.passes disk.old) (D.passes disk.new) (λ calls. IsTrue (D.tells disk.old)
+        → (s : Standing) (entry : List ℕ) → behind.now ≡ appended entry → gate ≡ gate_of s
+        → IsAtRest s (D.seen disk.old)
+        → read_ckpt (D.seen disk.new) ≡ Ok (entries_after calls s.entries entry)) }
+    ensures unbounded { D.passes disk.old ≡ None → D.passes disk.new ≡ None }
     ensures cause { FailsWithCause (D.faults disk.old) (D.faults disk.new) result }
+    ensures faults_within { D.faults_within disk.old ≤ D.faults_within disk.new }
 {
     force(disk, gate + 1, behind)?;
     force(disk, gate, &[OPEN])
 }
 
 /// Writes twice and syncs, which makes three device calls.
-#[tactic(auto, using(cam_log::specs::Spent::spent_one, cam_log::specs::Spent::spent_then))]
+#[tactic(auto, using(cam_log::specs::Spent::spent_one, cam_log::specs::Spent::spent_then, cam_log::specs::Spent::none_left))]
 fn force_two<D: Disk>(
     disk: &mut D,
     at: u64,
@@ -66,7 +78,9 @@ fn force_two<D: Disk>(
     ensures any_moment { IsTrue (D.tells disk.old) → Grows (D.moment disk.old) (D.moment disk.new)
         (D.left_since disk.old) (D.left_since disk.new)
         (WrittenTwice at (length bytes.now) second (length more.now) (D.may_leave disk.old)) }
+    ensures unbounded { D.passes disk.old ≡ None → D.passes disk.new ≡ None }
     ensures cause { FailsWithCause (D.faults disk.old) (D.faults disk.new) result }
+    ensures faults_within { D.faults_within disk.old ≤ D.faults_within disk.new }
 {
     disk.write_at(at, bytes)?;
     disk.write_at(second, more)?;
@@ -87,7 +101,9 @@ fn close_other<D: Disk>(disk: &mut D, other: u64, is_open: bool) -> Result<(), D
     ensures any_moment { IsTrue (D.tells disk.old) → Grows (D.moment disk.old) (D.moment disk.new)
         (D.left_since disk.old) (D.left_since disk.new)
         (Written other (length (closing_by is_open)) (D.may_leave disk.old)) }
+    ensures unbounded { D.passes disk.old ≡ None → D.passes disk.new ≡ None }
     ensures cause { FailsWithCause (D.faults disk.old) (D.faults disk.new) result }
+    ensures faults_within { D.faults_within disk.old ≤ D.faults_within disk.new }
 {
     if is_open {
         force(disk, other, &[CLOSED])
@@ -131,7 +147,9 @@ pub fn write_list<D: Disk>(
         → Grows (D.moment disk.old) (D.moment disk.new)
         (D.left_since disk.old) (D.left_since disk.new)
         (λ image. IsOldOrNew s.entries entries (read_ckpt image)) }
+    ensures unbounded { D.passes disk.old ≡ None → D.passes disk.new ≡ None }
     ensures cause { FailsWithCause (D.faults disk.old) (D.faults disk.new) result }
+    ensures faults_within { D.faults_within disk.old ≤ D.faults_within disk.new }
 {
     close_other(disk, other, is_open)?;
     force_two(disk, at, text, other + 1, numbers)?;

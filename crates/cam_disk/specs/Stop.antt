@@ -1,5 +1,6 @@
 -- A disk that may stop: how many calls it still does, and what a call does when none is left.
-use Rattle.std.specs.Prelude.{ℕ, zero, suc, ◌≡◌, ◌+◌, ◌-◌, ◌^◌, min, List, Option, Some, None, Result, Err}
+use Rattle.std.specs.Prelude.{ℕ, zero, suc, ◌≡◌, ◌+◌, ◌-◌, ◌^◌, ◌≤◌, min, List, Option, Some, None, Result, Err, IsErrOf}
+use Rattle.cam_base.specs.Causes.{Rose}
 use Rattle.cam_disk.specs.declared.error.DiskError.{DiskError}
 use Rattle.cam_disk.specs.declared.error.DiskError.TheVariants.{Failed}
 
@@ -23,6 +24,12 @@ Stops None left own_before own_now same result = (left ≡ None) × (own_now ≡
 Stops (Some zero) left own_before own_now same result =
     (left ≡ Some zero) × NotDone own_before own_now same result
 Stops (Some (suc n)) left own_before own_now same result = (left ≡ Some n) × (own_now ≡ own_before)
+
+-- Of the faults that are not the disk's own: their count never falls, and a call that is passed on gives `Failed` only where it rose.
+pub record FailsWithin {T : Type 0} (left : Option ℕ) (before now : ℕ)
+    (result : Result T DiskError) : Type 0 where
+  pub later : before ≤ now
+  pub failed : (left ≡ Some 0 → ⊥) → IsErrOf result Failed → Rose before now
 
 -- a call is counted where one is left: one less is left then
 abbrev pub IsPassed : Option ℕ → Option ℕ → Type 0

@@ -2,7 +2,7 @@
 ghost use Rattle.std.specs.Prelude.{◌≡◌, ◌≤◌, ◌+◌, ◌^◌, ◌<◌, Bool, List, ℕ, length, take, IsTrue, IsFalse, IfOk, OnOk, IsErrOf, Result, Err, Option, None};
 ghost use Rattle.cam_base.specs.Causes.{Rose};
 ghost use Rattle.cam_disk.specs.declared.error.DiskError.TheVariants.{Failed, NoMemory};
-ghost use Rattle.cam_disk.specs.Stop.{Untouched, Stops};
+ghost use Rattle.cam_disk.specs.Stop.{Untouched, Stops, FailsWithin};
 ghost use Rattle.cam_disk.specs.Disk.{Only, Follows, Torn, Cut, Same, Holds, Elapses, FailsWithCause, Reads};
 
 use crate::error::DiskError;
@@ -36,6 +36,9 @@ pub trait Disk: Drop {
     /// How many of its faults are its own, where it stands over another disk: those of calls not passed on.
     ghost own_faults: { Self → ℕ } = { λ _. 0 };
 
+    /// How often a call that it did has failed: of its faults those that are not its own.
+    ghost faults_within: { Self → ℕ };
+
     /// Whether the disk within is the same as before, where it stands over another disk.
     ghost same_within: { Self → Self → Type 0 } = { λ _ _. Unit {0} };
 
@@ -55,7 +58,9 @@ pub trait Disk: Drop {
             (own_faults self.old) (own_faults self.new)
             (same_within self.old self.new × Untouched (moment self.old) (moment self.new)
             (left_since self.old) (left_since self.new) (seen self.old) (seen self.new)) result }
-        ensures cause { FailsWithCause (faults self.old) (faults self.new) result };
+        ensures cause { FailsWithCause (faults self.old) (faults self.new) result }
+        ensures within { FailsWithin (passes self.old)
+            (faults_within self.old) (faults_within self.new) result };
 
     /// Writes over what is there, and past the end. A write that would reach past 2^62 bytes fails. Where
     /// memory runs out nothing changes.
@@ -76,7 +81,9 @@ pub trait Disk: Drop {
             (own_faults self.old) (own_faults self.new)
             (same_within self.old self.new × Untouched (moment self.old) (moment self.new)
             (left_since self.old) (left_since self.new) (seen self.old) (seen self.new)) result }
-        ensures cause { FailsWithCause (faults self.old) (faults self.new) result };
+        ensures cause { FailsWithCause (faults self.old) (faults self.new) result }
+        ensures within { FailsWithin (passes self.old)
+            (faults_within self.old) (faults_within self.new) result };
 
     /// Cuts the disk to a size, in bytes, that it has at least. Where memory runs out nothing changes.
     fn cut(&mut self, size: u64) -> Result<(), DiskError>
@@ -95,7 +102,9 @@ pub trait Disk: Drop {
             (own_faults self.old) (own_faults self.new)
             (same_within self.old self.new × Untouched (moment self.old) (moment self.new)
             (left_since self.old) (left_since self.new) (seen self.old) (seen self.new)) result }
-        ensures cause { FailsWithCause (faults self.old) (faults self.new) result };
+        ensures cause { FailsWithCause (faults self.old) (faults self.new) result }
+        ensures within { FailsWithin (passes self.old)
+            (faults_within self.old) (faults_within self.new) result };
 
     /// At `Ok` a crash leaves what a read gives.
     fn sync(&mut self) -> Result<(), DiskError>
@@ -111,7 +120,9 @@ pub trait Disk: Drop {
             (own_faults self.old) (own_faults self.new)
             (same_within self.old self.new × Untouched (moment self.old) (moment self.new)
             (left_since self.old) (left_since self.new) (seen self.old) (seen self.new)) result }
-        ensures cause { FailsWithCause (faults self.old) (faults self.new) result };
+        ensures cause { FailsWithCause (faults self.old) (faults self.new) result }
+        ensures within { FailsWithin (passes self.old)
+            (faults_within self.old) (faults_within self.new) result };
 
     /// Says that the disk gave bytes that it cannot have held, which counts as a fault. It is for disks
     /// that do not tell what they hold; a disk that does tell does nothing here.
@@ -120,6 +131,7 @@ pub trait Disk: Drop {
         ensures own_faults { own_faults self.new ≡ own_faults self.old }
         ensures rose { IsFalse (tells self.old) → Rose (faults self.old) (faults self.new) }
         ensures later { faults self.old ≤ faults self.new }
+        ensures within { faults_within self.old ≤ faults_within self.new }
         ensures tells { tells self.new ≡ tells self.old }
         ensures seen { IsTrue (tells self.old) → seen self.new ≡ seen self.old }
         ensures crash { IsTrue (tells self.old)

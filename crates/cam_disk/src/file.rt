@@ -82,6 +82,8 @@ impl Disk for FileDisk {
 
     ghost faults = { λ disk. disk.faults };
 
+    ghost faults_within = { λ disk. disk.faults };
+
     ghost kept = { λ _ _. tt };
 
     ghost counts_now = { λ _ _ _ _ _ _. tt };

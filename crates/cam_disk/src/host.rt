@@ -26,6 +26,8 @@ impl Disk for HostDisk {
 
     ghost faults = { host_faults };
 
+    ghost faults_within = { host_faults };
+
     ghost kept = { host_kept };
 
     ghost counts_now = { host_counts_now };

@@ -83,6 +83,8 @@ impl Disk for MemoryDisk {
 
     ghost faults = { λ d. d.faults };
 
+    ghost faults_within = { λ d. d.faults };
+
     ghost kept = { λ d h. subst (IsImage (reverse d.calls.items)) (sym d.held) (IsImage-held (reverse d.calls.items) d.placed) };
 
     ghost counts_now = { λ d t c h le now. LeftSince-now d.calls.items t c le now };

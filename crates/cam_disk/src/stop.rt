@@ -89,6 +89,8 @@ impl<D: Disk> Disk for StopDisk<D> {
 
     ghost faults = { λ s. s.own_faults + D.faults s.inner };
 
+    ghost faults_within = { λ s. D.faults s.inner };
+
     ghost passes = { λ s. s.passes };
 
     ghost own_faults = { λ s. s.own_faults };

@@ -3,3 +3,4 @@ pub mod Exactly
 pub mod Grown
 pub mod Stages
 pub mod Loop
+pub mod CutOff

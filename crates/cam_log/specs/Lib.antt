@@ -7,3 +7,4 @@ pub mod Moments
 pub mod Rest
 pub mod Steps
 pub mod Spent
+pub mod CutOff

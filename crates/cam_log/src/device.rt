@@ -1,12 +1,14 @@
 // The device calls of a log.
-ghost use Rattle.std.specs.Prelude.{◌≡◌, ◌+◌, ◌≤◌, ◌<◌, ◌^◌, ◌++◌, ◌∷◌, [], ℕ, List, length, IsTrue, OnOk, IfOk, IfErr, IsErrOf, Ok, Some, None};
+ghost use Rattle.std.specs.Prelude.{◌≡◌, ◌⊎◌, ◌+◌, ◌≤◌, ◌<◌, ◌^◌, ◌++◌, ◌∷◌, [], ℕ, List, length, IsTrue, OnOk, IfOk, IfErr, IsErrOf, Ok, Some, None};
 ghost use Rattle.cam_base.specs.Causes.{Rose};
+ghost use Rattle.cam_disk.specs.declared.error.DiskError.TheVariants.{Failed};
 ghost use Rattle.cam_log.specs.declared.fault.LogFault.TheVariants.{DiskFault};
 ghost use Rattle.cam_log.specs.Faults.{Refuses};
 ghost use Rattle.cam_disk.specs.Disk.{Only, Holds, Follows, Same, FailsWithCause};
 ghost use Rattle.cam_log.specs.Image.{appended, IsAppended};
 ghost use Rattle.cam_disk.specs.Stop.{Untouched};
 ghost use Rattle.cam_log.specs.Spent.{Spent};
+ghost use Rattle.cam_log.specs.CutOff.{IsCutOff, ForcedBy, entries_after};
 ghost use Rattle.cam_log.specs.Moments.{IsAtRest, Grows, AddsNothing, Written, IsBeforeOrAfter};
 ghost use Rattle.cam_log.specs.Reading.{read_log};
 
@@ -18,7 +20,7 @@ use cam_disk::{Disk, DiskError};
 use std::alloc::Global;
 
 /// Writes and syncs. At `Ok` a crash leaves the bytes as they are then.
-#[tactic(auto, using(crate::specs::Spent::spent_one, crate::specs::Spent::spent_then, crate::specs::Spent::stops_at_none))]
+#[tactic(auto, using(crate::specs::Spent::spent_one, crate::specs::Spent::spent_then, crate::specs::Spent::stops_at_none, crate::specs::Spent::none_left))]
 pub fn force<D: Disk>(disk: &mut D, at: u64, bytes: &[u8]) -> Result<(), DiskError>
     requires { IsTrue (D.tells disk.old) → at ≤ length (D.seen disk.old) }
     ensures written { IsTrue (D.tells disk.old)
@@ -33,7 +35,14 @@ pub fn force<D: Disk>(disk: &mut D, at: u64, bytes: &[u8]) -> Result<(), DiskErr
     ensures any_moment { IsTrue (D.tells disk.old) → Grows (D.moment disk.old) (D.moment disk.new)
         (D.left_since disk.old) (D.left_since disk.new)
         (Written at (length bytes.now) (D.may_leave disk.old)) }
+    // It fails because a call that was done did, or because it was cut off.
+    ensures cut_off { IsErrOf result Failed
+        → Rose (D.faults_within disk.old) (D.faults_within disk.new)
+        ⊎ IsCutOff 2 (D.passes disk.old) (D.passes disk.new) (λ calls. IsTrue (D.tells disk.old)
+        → ForcedBy calls at bytes.now (D.seen disk.old) (D.seen disk.new)) }
+    ensures unbounded { D.passes disk.old ≡ None → D.passes disk.new ≡ None }
     ensures cause { FailsWithCause (D.faults disk.old) (D.faults disk.new) result }
+    ensures faults_within { D.faults_within disk.old ≤ D.faults_within disk.new }
 {
     disk.write_at(at, bytes)?;
     disk.sync()
@@ -65,7 +74,15 @@ pub fn write_entry<D: Disk>(disk: &mut D, gate: u64, behind: &[u8]) -> Result<()
         → Grows (D.moment disk.old) (D.moment disk.new)
         (D.left_since disk.old) (D.left_since disk.new)
         (λ image. IsBeforeOrAfter entries entry (read_log image)) }
+    ensures cut_off { IsErrOf result Failed
+        → Rose (D.faults_within disk.old) (D.faults_within disk.new)
+        ⊎ IsCutOff 4 (D.passes disk.old) (D.passes disk.new) (λ calls. IsTrue (D.tells disk.old)
+        → (entries : List (List ℕ)) (entry : List ℕ) → behind.now ≡ appended entry
+        → IsAtRest entries gate (D.seen disk.old)
+        → read_log (D.seen disk.new) ≡ Ok (entries_after calls entries entry)) }
+    ensures unbounded { D.passes disk.old ≡ None → D.passes disk.new ≡ None }
     ensures cause { FailsWithCause (D.faults disk.old) (D.faults disk.new) result }
+    ensures faults_within { D.faults_within disk.old ≤ D.faults_within disk.new }
 {
     force(disk, gate + 1, behind)?;
     force(disk, gate, &[OPEN])
@@ -95,6 +112,7 @@ pub fn read_whole<D: Disk>(alloc: Global, disk: &mut D) -> Result<Vec<u8>, DiskE
         → AddsNothing (D.moment disk.old) (D.moment disk.new)
         (D.left_since disk.old) (D.left_since disk.new) }
     ensures cause { FailsWithCause (D.faults disk.old) (D.faults disk.new) result }
+    ensures faults_within { D.faults_within disk.old ≤ D.faults_within disk.new }
 {
     let mut bytes = Vec::new(alloc);
     let mut piece = [0u8; PIECE];
@@ -126,6 +144,7 @@ pub fn read_in<D: Disk>(alloc: Global, disk: &mut D) -> Result<Found, LogFault>
         → AddsNothing (D.moment disk.old) (D.moment disk.new)
         (D.left_since disk.old) (D.left_since disk.new) }
     ensures later { D.faults disk.old ≤ D.faults disk.new }
+    ensures faults_within { D.faults_within disk.old ≤ D.faults_within disk.new }
     ensures disk_fault { IsErrOf result DiskFault → Rose (D.faults disk.old) (D.faults disk.new) }
 {
     disk.sync()?;

@@ -1,7 +1,8 @@
 // What callers see of a log.
-ghost use Rattle.std.specs.Prelude.{◌≡◌, ◌≤◌, ◌+◌, ◌-◌, ◌++◌, ◌∷◌, [], Bool, List, ℕ, length, take, IsTrue, IsFalse, OnOk, OnErr, IfOk, IsErrOf, Ok, Option, Some, None};
+ghost use Rattle.std.specs.Prelude.{◌≡◌, ◌⊎◌, ◌≤◌, ◌+◌, ◌-◌, ◌++◌, ◌∷◌, [], Bool, List, ℕ, length, take, IsTrue, IsFalse, OnOk, OnErr, IfOk, IsErrOf, Ok, Option, Some, None};
 ghost use Rattle.cam_disk.specs.Stop.{Untouched};
 ghost use Rattle.cam_log.specs.Spent.{Spent};
+ghost use Rattle.cam_log.specs.CutOff.{IsCutOff, entries_after};
 ghost use Rattle.cam_base.specs.Causes.{Rose};
 ghost use Rattle.cam_log.specs.declared.fault.LogFault.TheVariants.{DiskFault, NotALog};
 ghost use Rattle.cam_log.specs.Moments.{Grows, Stays, Opened, IsBeforeOrAfter};
@@ -51,8 +52,14 @@ pub trait EntryLog: Drop {
     /// What opening the disk gives after a crash at some moment since that one: entries, or why it is no log.
     ghost opens_since: { Self → ℕ → Opened → Type 0 };
 
+    /// What opening its disk gives now: entries, or why it is no log.
+    ghost reads: { Self → Opened };
+
     /// How often its disk has failed.
     ghost faults: { Self → ℕ };
+
+    /// How often a call that its disk did has failed, as the disk counts it.
+    ghost faults_within: { Self → ℕ };
 
     /// What a read of its disk gives, where the disk tells it.
     ghost seen: { Self → List ℕ } = { λ _. [] };
@@ -76,6 +83,13 @@ pub trait EntryLog: Drop {
         ensures spent { OnOk result (Spent 4 (passes self.old) (passes self.new)) }
         ensures stopped { passes self.old ≡ Some 0 → Untouched (moment self.old) (moment self.new)
             (opens_since self.old) (opens_since self.new) (seen self.old) (seen self.new) }
+        ensures unbounded { passes self.old ≡ None → passes self.new ≡ None }
+        // A fault comes because a call that was done failed, or because the append was cut off: then
+        // the log reads with the new entry just where three of its calls were done.
+        ensures cut_off { IsErrOf result DiskFault
+            → Rose (faults_within self.old) (faults_within self.new)
+            ⊎ IsCutOff 4 (passes self.old) (passes self.new) (λ calls. IsTrue (tells self.old)
+            → reads self.new ≡ Ok (entries_after calls (listed self.old) entry.now)) }
         // A crash at any moment of the call leaves the entries before it, with the new one or without.
         ensures any_moment { IsTrue (tells self.old) → Grows (moment self.old) (moment self.new)
             (opens_since self.old) (opens_since self.new)
@@ -85,8 +99,11 @@ pub trait EntryLog: Drop {
             (IsFalse (broken self.new) → Stays (moment self.old) (moment self.new)
             (opens_since self.old) (opens_since self.new) (seen self.old) (seen self.new)
             (faults self.old) (faults self.new)) }
+        ensures not_called { OnErr result
+            (IsFalse (broken self.new) → passes self.new ≡ passes self.old) }
         ensures tells { tells self.new ≡ tells self.old }
         ensures later { faults self.old ≤ faults self.new }
+        ensures faults_within { faults_within self.old ≤ faults_within self.new }
         ensures disk_fault { IsErrOf result DiskFault → Rose (faults self.old) (faults self.new)
             × IsTrue (broken self.new) }
         ensures is_a_log { (at : ℕ) → IsErrOf result (NotALog at) → ⊥ };
@@ -98,6 +115,9 @@ pub trait EntryLog: Drop {
     /// Whether the log has to be opened again before the next append.
     fn is_broken(&self) -> bool
         ensures { result ≡ broken self.now };
+
+    /// What it reads now is among what a crash now may leave.
+    ghost reads_now: { (log : Self) → IsTrue (tells log) → opens_since log (moment log) (reads log) };
 
     /// A crash now leaves a log of its entries, where it is not broken.
     ghost at_rest: { (log : Self) (opened : Opened) → IsTrue (tells log) → IsFalse (broken log)

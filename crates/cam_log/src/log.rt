@@ -130,6 +130,7 @@ impl<D: Disk> Log<D> {
         ensures tells { D.tells result ≡ ⟦<Log<D> as EntryLog>⟧.tells self }
         ensures moment { D.moment result ≡ ⟦<Log<D> as EntryLog>⟧.moment self }
         ensures seen { D.seen result ≡ ⟦<Log<D> as EntryLog>⟧.seen self }
+        ensures reads { read_log (D.seen result) ≡ ⟦<Log<D> as EntryLog>⟧.reads self }
         ensures passes { D.passes result ≡ ⟦<Log<D> as EntryLog>⟧.passes self }
         ensures faults { D.faults result ≡ ⟦<Log<D> as EntryLog>⟧.faults self }
     {
@@ -139,7 +140,7 @@ impl<D: Disk> Log<D> {
 
 impl<D: Disk> EntryLog for Log<D> {
     ghost use Rattle.cam_log.specs.Rest.{opens, opens_alone};
-    ghost use Rattle.std.proofs.Common.{arith};
+    ghost use Rattle.std.proofs.Common.{arith, refl};
 
     ghost tells = { λ log. D.tells log.disk };
 
@@ -151,13 +152,19 @@ impl<D: Disk> EntryLog for Log<D> {
 
     ghost opens_since = { λ log. Openings (D.left_since log.disk) };
 
+    ghost reads = { λ log. read_log (D.seen log.disk) };
+
     ghost faults = { λ log. D.faults log.disk };
+
+    ghost faults_within = { λ log. D.faults_within log.disk };
 
     ghost seen = { λ log. D.seen log.disk };
 
     ghost passes = { λ log. D.passes log.disk };
 
     ghost is_written = { λ old _ new. IsAppended new.entries (D.seen old.disk) (D.seen new.disk) };
+
+    ghost reads_now = { λ log h. (D.seen log.disk, D.counts_now log.disk (D.moment log.disk) (D.seen log.disk) h (Prim.omega arith) (D.kept log.disk h), refl) };
 
     ghost at_rest = { λ log opened h whole o. opens_alone log.entries log.gate (D.seen log.disk) o.0 (D.may_leave log.disk) opened (Prim.omega (arith, log.within)) (log.at_rest h whole) (log.durable h whole) (D.only_now log.disk o.0 h o.1) o.2 };
 

@@ -12,6 +12,8 @@ pub trait StopLog: EntryLog {
     /// Lets the disk do this many calls more, and fail each later one without doing it.
     fn stop_after(&mut self, calls: u32)
         ensures passes { Self.passes self.new ≡ Some calls }
+        ensures reads { Self.reads self.new ≡ Self.reads self.old }
+        ensures faults_within { Self.faults_within self.new ≡ Self.faults_within self.old }
         ensures listed { Self.listed self.new ≡ Self.listed self.old }
         ensures broken { Self.broken self.new ≡ Self.broken self.old }
         ensures tells { Self.tells self.new ≡ Self.tells self.old }
@@ -23,6 +25,8 @@ pub trait StopLog: EntryLog {
     /// Lets the disk do all calls again.
     fn clear(&mut self)
         ensures passes { Self.passes self.new ≡ None }
+        ensures reads { Self.reads self.new ≡ Self.reads self.old }
+        ensures faults_within { Self.faults_within self.new ≡ Self.faults_within self.old }
         ensures listed { Self.listed self.new ≡ Self.listed self.old }
         ensures broken { Self.broken self.new ≡ Self.broken self.old }
         ensures tells { Self.tells self.new ≡ Self.tells self.old }

@@ -1,5 +1,5 @@
 -- What entries of version 2 say.
-use Rattle.std.proofs.Common.{◌≡◌, inl, inr, ℕ, eqb, eqb-true, Bool, true, false, List, [], ◌∷◌, ◌++◌, length, Result, Ok, Err, refl, sym, ap, ◌∙◌, subst, arith, append-nil}
+use Rattle.std.proofs.Common.{◌≡◌, ℕ, eqb-true, true, List, [], ◌∷◌, length, Result, Ok, Err, refl, sym, ap, ◌∙◌, subst, arith, append-nil}
 use Rattle.cam_bytes.specs.Reading.{◌>>=◌}
 use Rattle.cam_recman.specs.declared.Record.{Record}
 use Rattle.cam_recman.specs.declared.Record.TheVariants.{Count, Abort, Commit, Seen, Secure, Version}
@@ -9,10 +9,10 @@ use Rattle.cam_recman.specs.declared.RecFault.{RecFault}
 use Rattle.cam_recman.specs.Records.{entry_bytes}
 use Rattle.cam_recman.specs.Versions.{version_behind, AreOf}
 use Rattle.cam_recman.specs.Reading.{read_entry}
-use Rattle.cam_recman.specs.Recovery.{fresh, with_records, with_entry, at_first, said_by, recovered_of, recover}
-use Rattle.cam_recman.specs.Migrating.{with_version, outcome_of, migrated, IsMigrated}
+use Rattle.cam_recman.specs.Recovery.{with_records, with_entry, at_first, said_by, recovered_of}
+use Rattle.cam_recman.specs.Migrating.{with_version, outcome_of, migrated}
 use Rattle.cam_recman.specs.Snapshot.{snapshot}
-use Rattle.cam_recman.specs.Says.{Says, is_version2, are_version2, FirstSays, EntrySays, SnapshotSays, MigratedSays, Version2IsLeft, Version2IsRecovered, Version2Says, SaidIsRecovered}
+use Rattle.cam_recman.specs.Says.{is_version2, are_version2, FirstSays, EntrySays, SnapshotSays, MigratedSays, Version2IsLeft, Version2IsRecovered, Version2Says, SaidIsRecovered}
 use Rattle.cam_recman.proofs.Again.{entries_are_read}
 use Rattle.cam_recman.proofs.Folding.{said_by_records, one_more_entry_adds}
 use Rattle.cam_recman.proofs.KeptAll.{snapshot_is, snapshot_of}

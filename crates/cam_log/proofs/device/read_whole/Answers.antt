@@ -12,6 +12,7 @@ loop-bytes-preserved g c =
     record {
       tells = read.tells ∙ l.invariant.tells;
       faults = omega (arith, l.invariant.faults, read.cause.later);
+      within = omega (arith, l.invariant.within, read.within.later);
       front = λ h. front_more (g.D.Disk.seen c.args.disk.now) (g.D.Disk.seen l.disk) l.bytes.items (take c.in_ok-count.count c.read.new.into) c.add_piece.new.bytes.items c.len.result (length c.read.new.into) c.in_ok-count.count
           (l.invariant.seen h) place (l.invariant.front h) (c.in_ok-count.ensures.bytes (still h)) c.in_ok-add_piece.ensures;
       seen = λ h. read.seen (still h) ∙ l.invariant.seen h;

@@ -10,6 +10,7 @@ invariant-loop-bytes g l =
     record {
       tells : g.D.Disk.tells l.disk ≡ g.D.Disk.tells was;
       faults : g.D.Disk.faults was ≤ g.D.Disk.faults l.disk;
+      within : g.D.Disk.faults_within was ≤ g.D.Disk.faults_within l.disk;
       front : IsTrue (g.D.Disk.tells was) → l.bytes.items ≡ take (length l.bytes.items) (g.D.Disk.seen was);
       seen : IsTrue (g.D.Disk.tells was) → g.D.Disk.seen l.disk ≡ g.D.Disk.seen was;
       crash : IsTrue (g.D.Disk.tells was) → Follows Same (g.D.Disk.may_leave was) (g.D.Disk.may_leave l.disk);
