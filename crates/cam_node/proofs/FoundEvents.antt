@@ -23,7 +23,7 @@ use Rattle.cam_node.proofs.FoundLogs.{had_tells, holds_all, lost_has, tells_coun
 use Rattle.cam_node.proofs.HaltedKnows.{had_count, lost_count}
 
 -- a test is met or not
-by_test : {P : Type 0} (b : Bool) → (b ≡ true → P) → (b ≡ false → P) → P
+pub by_test : {P : Type 0} (b : Bool) → (b ≡ true → P) → (b ≡ false → P) → P
 by_test true met other = met refl
 by_test false met other = other refl
 
@@ -62,7 +62,7 @@ module _ (objects : List ObjectDecl) (history : List Received) (whole : Received
   abbrev holds : Bool
   holds = holds_all objects history whole node event low high halt r n less
 
-  abbrev test : Bool
+  abbrev pub test : Bool
   test = (outcomes && counts) && holds
 
   -- what is answered by a test

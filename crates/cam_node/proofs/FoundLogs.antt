@@ -107,7 +107,7 @@ module _ (objects : List ObjectDecl) (history : List Received) (whole : Received
 
   -- THE TEST IS MET, and the log keeps the history before the event: then it keeps that with the
   -- event too.
-  none_new : IsLogOf objects s lost_then (logged_of r) → holds_all ≡ true
+  pub none_new : IsLogOf objects s lost_then (logged_of r) → holds_all ≡ true
       → list_any is_any_secure deeds ≡ false
   none_new log holds =
       none_secured deeds (deeds_of (map as_carried history)) whole.mail

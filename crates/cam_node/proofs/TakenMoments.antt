@@ -1,6 +1,6 @@
 -- What a crash at any moment leaves, where a plan is carried out: the history before the event, or
 -- that with what was taken of the event.
-use Rattle.std.proofs.Common.{◌≡◌, ◌⊎◌, inl, inr, ℕ, Bool, true, false, List, ◌∷◌, Option, refl, subst, arith}
+use Rattle.std.proofs.Common.{◌≡◌, ◌⊎◌, inl, inr, ℕ, nat_lt, Bool, true, false, if◌then◌else◌, List, ◌∷◌, Option, Ok, refl, subst, arith}
 use Rattle.cam_type.specs.declared.ObjectDecl.{ObjectDecl}
 use Rattle.cam_know.specs.Knowledge.{Knowledge}
 use Rattle.cam_event.specs.declared.Event.{Event}
@@ -8,14 +8,16 @@ use Rattle.cam_event.specs.Inputs.{Input, Mail}
 use Rattle.cam_event.specs.Loads.{Load}
 use Rattle.cam_log.specs.Moments.{Opened, Grows}
 use Rattle.cam_ckpt.specs.Moments.{IsOldOrNew}
+use Rattle.cam_recman.specs.declared.Record.{Record}
 use Rattle.cam_recman.specs.declared.Recovered.{Recovered}
 use Rattle.cam_recman.specs.Ranges.{AreRecords}
 use Rattle.cam_recman.specs.Recovery.{with_records}
 use Rattle.cam_recman.specs.Says.{Says}
 use Rattle.cam_node.specs.declared.plan.Plan.{Plan}
-use Rattle.cam_node.specs.Appending.{OpensAsEither}
-use Rattle.cam_node.specs.Halting.{taken, IsStepThrough}
-use Rattle.cam_node.specs.Keeping.{IsLogOf}
+use Rattle.cam_node.specs.Appending.{listed_after, OpensAfter, OpensAs, OpensAsEither}
+use Rattle.cam_node.specs.Halting.{taken, taken_step, IsStepThrough}
+use Rattle.cam_event.specs.ByDeltas.{Received}
+use Rattle.cam_node.specs.Keeping.{IsLogOf, KeepsHistory, KeepsNode, MayBePutThen}
 use Rattle.cam_node.specs.Opened.{IsKnowledge, logged_of, with_entry_of}
 use Rattle.cam_node.specs.Planned.{MayBeTaken, planned_records}
 use Rattle.cam_node.specs.Plans.{Stands}
@@ -50,6 +52,42 @@ pub by_halt : {P : Type 0} (halted : Bool) → (halted ≡ true → P) → (halt
 by_halt true there runs = there refl
 by_halt false there runs = runs refl
 
+-- The entries with the event's entry keep the history with what was taken of the event.
+pub entry_keeps : (objects : List ObjectDecl) (input : Input) (mail : Option Mail) (load : Load)
+    (plan : Plan) (known : Knowledge) (old mid new : Node) (before : List (List ℕ))
+    → IsKnowledge new.know → AreRecords (planned_records mid.know.counts plan)
+    → ((r : Recovered) → Says before r
+    → Says (with_entry_of before (planned_records mid.know.counts plan))
+    (with_records r (planned_records mid.know.counts plan)))
+    → Stands plan.change plan.heard known mid new
+    → MayBeTaken objects input mail load plan known old mid
+    → (history : List Received) → KeepsNode objects history old before
+    → MayBePutThen objects old.number history input mail load
+    → KeepsHistory objects old.number
+    (taken_step objects old.number history input mail load ∷ history)
+    (with_entry_of before (planned_records mid.know.counts plan))
+entry_keeps objects input mail load plan known old mid new before knows are says stands may history
+    keeps put =
+    let rs : List Record = planned_records mid.know.counts plan in
+    let r : Recovered = keeps.keeps.recovered in
+    let longer : Recovered = with_records r rs in
+    let step : IsStepThrough objects old new input mail load plan.stepped.event =
+    may.planned.given.step new stands in
+    let has = logged objects old new input mail load plan.stepped.event rs history before keeps
+    may.node may.goes_on
+    (known_then objects old new input mail load plan.stepped.event knows step) are
+    (taken_entry objects input mail load plan known old mid may) step put in
+    record {
+      recovered = longer;
+      says = says r keeps.keeps.says;
+      is_log = subst (λ (e : Event). IsLogOf objects old.number (taken (record {
+        event = e;
+        mail = mail;
+        load = load;
+      }) ∷ history) (logged_of longer))
+          (step.next history keeps.through keeps.represents put) has.taken_so;
+    }
+
 pub taken_moments : (objects : List ObjectDecl) (input : Input) (mail : Option Mail) (load : Load)
     (plan : Plan) (known : Knowledge) (old mid new : Node) (before : List (List ℕ)) (b n : ℕ)
     (past since : ℕ → Opened → Type 0)
@@ -70,31 +108,46 @@ taken_moments objects input mail load plan known old mid new before b n past sin
     after : List (List ℕ)
     after = with_entry_of before (planned_records mid.know.counts plan)
 
-    step : IsStepThrough objects old new input mail load plan.stepped.event
-    step = may.planned.given.step new stands
-
     either : (o : Opened) → IsOldOrNew before after o
         → OpensAsEither objects old before input mail load o
     either o (inl was) history keeps put =
         inl (record { entries = before; opens = was; keeps = keeps.keeps })
     either o (inr is) history keeps put =
-        let r : Recovered = keeps.keeps.recovered in
-        let then : Recovered = with_records r (planned_records mid.know.counts plan) in
-        let has = logged objects old new input mail load plan.stepped.event
-        (planned_records mid.know.counts plan) history before keeps may.node may.goes_on
-        (known_then objects old new input mail load plan.stepped.event knows step) are
-        (taken_entry objects input mail load plan known old mid may) step put in
         inr (record {
           entries = after;
           opens = is;
-          keeps = record {
-            recovered = then;
-            says = says r keeps.keeps.says;
-            is_log = subst (λ (e : Event). IsLogOf objects old.number (taken (record {
-              event = e;
-              mail = mail;
-              load = load;
-            }) ∷ history) (logged_of then))
-                (step.next history keeps.through keeps.represents put) has.taken_so;
-          };
+          keeps = entry_keeps objects input mail load plan known old mid new before knows are says
+              stands may history keeps put;
         })
+
+-- What the log reads where the append was cut off after so many calls.
+pub opens_after : (objects : List ObjectDecl) (input : Input) (mail : Option Mail) (load : Load)
+    (plan : Plan) (known : Knowledge) (old mid new : Node) (before : List (List ℕ)) (calls : ℕ)
+    (reads : Opened)
+    → IsKnowledge new.know → AreRecords (planned_records mid.know.counts plan)
+    → ((r : Recovered) → Says before r
+    → Says (with_entry_of before (planned_records mid.know.counts plan))
+    (with_records r (planned_records mid.know.counts plan)))
+    → Stands plan.change plan.heard known mid new
+    → reads ≡ Ok (listed_after calls before (planned_records mid.know.counts plan))
+    → MayBeTaken objects input mail load plan known old mid
+    → OpensAfter calls objects old before input mail load reads
+opens_after objects input mail load plan known old mid new before calls reads knows are says stands
+    is may history keeps put =
+    by (nat_lt calls 3) is
+  where
+    after : List (List ℕ)
+    after = with_entry_of before (planned_records mid.know.counts plan)
+
+    by : (b : Bool) → reads ≡ Ok (if b then before else after)
+        → OpensAs objects old.number
+        (if b then history
+        else taken_step objects old.number history input mail load ∷ history) reads
+    by true was = record { entries = before; opens = was; keeps = keeps.keeps }
+    by false now =
+        record {
+          entries = after;
+          opens = now;
+          keeps = entry_keeps objects input mail load plan known old mid new before knows are says
+              stands may history keeps put;
+        }

@@ -1,6 +1,6 @@
 -- What a step's entry makes of the log: what the log lists then, how many calls of the disk that
 -- takes, and what a crash at any moment of the step leaves.
-use Rattle.std.specs.Prelude.{◌≡◌, ◌⊎◌, ℕ, List, [], ◌∷◌, Option, Ok}
+use Rattle.std.specs.Prelude.{◌≡◌, ◌⊎◌, ℕ, nat_lt, if◌then◌else◌, List, [], ◌∷◌, Option, Ok}
 use Rattle.cam_type.specs.declared.ObjectDecl.{ObjectDecl}
 use Rattle.cam_event.specs.declared.Event.{Event}
 use Rattle.cam_event.specs.Inputs.{Input, Mail}
@@ -19,6 +19,12 @@ use Rattle.cam_node.specs.Represents.{Node}
 abbrev pub SpentFor : List Record → Option ℕ → Option ℕ → Type 0
 SpentFor [] before left = left ≡ before
 SpentFor (one ∷ rest) before left = Spent 4 before left
+
+-- What a log lists that is opened after so many calls of the append of these records' entry: the
+-- third opens the gate of the entry.
+abbrev pub listed_after : ℕ → List (List ℕ) → List Record → List (List ℕ)
+listed_after calls before records =
+    if nat_lt calls 3 then before else with_entry_of before records
 
 -- The log lists the entry of the event behind what it listed, or the same where the event has no
 -- record; and the disk did the calls for that.
@@ -47,3 +53,15 @@ OpensAsEither objects old before input mail load opened =
     → OpensAs objects old.number history opened
     ⊎ OpensAs objects old.number
     (taken_step objects old.number history input mail load ∷ history) opened
+
+-- The same after so many calls of the event's append: from the third on it is that with the event.
+abbrev pub history_after : ℕ → List Received → Received → List Received
+history_after calls history halted = if nat_lt calls 3 then history else halted ∷ history
+
+abbrev pub OpensAfter : ℕ → List ObjectDecl → Node → List (List ℕ) → Input → Option Mail → Load
+    → Opened → Type 0
+OpensAfter calls objects old before input mail load opened =
+    (history : List Received) → KeepsNode objects history old before
+    → MayBePutThen objects old.number history input mail load
+    → OpensAs objects old.number
+    (history_after calls history (taken_step objects old.number history input mail load)) opened

@@ -5,12 +5,12 @@
 -- event until a restart comes to its end. So a restart tells by what the log holds which of the two
 -- it read: the log has the event where it tells all outcomes and counts that the node knows, and
 -- holds each family that the event secures.
-use Rattle.std.specs.Prelude.{◌≡◌, ◌⊎◌, ℕ, zero, suc, ◌-◌, eqb, nat_lt, Bool, true, false, ◌&&◌, if◌then◌else◌, List, ◌∷◌, map, length, Option, Some, None}
+use Rattle.std.specs.Prelude.{◌≡◌, ◌≢◌, ◌⊎◌, ◌≤◌, ℕ, zero, suc, ◌-◌, eqb, nat_lt, Bool, true, false, ◌&&◌, if◌then◌else◌, List, ◌∷◌, map, length, Option, Some, None}
 use Rattle.std.specs.List.{list_any, list_all}
 use Rattle.cam_names.specs.Names.{name_eq}
 use Rattle.cam_type.specs.declared.ObjectDecl.{ObjectDecl}
 use Rattle.cam_type.specs.declared.Held.{Held}
-use Rattle.cam_know.specs.Known.{counts_eq, counts_raised}
+use Rattle.cam_know.specs.Known.{counts_eq, counts_raised, known_count}
 use Rattle.cam_event.specs.declared.Deed.{Deed}
 use Rattle.cam_event.specs.declared.Deed.TheVariants.{Secure}
 use Rattle.cam_event.specs.declared.Event.{Event}
@@ -20,14 +20,17 @@ use Rattle.cam_event.specs.ByKnowledge.{deeds_of, node_step}
 use Rattle.cam_event.specs.Loads.{Load}
 use Rattle.cam_event.specs.ByDeltas.{Received, as_carried, known}
 use Rattle.cam_know.specs.Order.{told_in_order}
+use Rattle.cam_log.specs.Moments.{Opened}
 use Rattle.cam_recman.specs.declared.Recovered.{Recovered}
 use Rattle.cam_node.specs.declared.found.Found.{Found}
 use Rattle.cam_node.specs.declared.found.Restarted.{Restarted}
 use Rattle.cam_node.specs.declared.restart.Reread.{Reread}
+use Rattle.cam_node.specs.Appending.{OpensAs}
 use Rattle.cam_node.specs.Halting.{IsThrough, restarted, taken}
 use Rattle.cam_node.specs.Keeping.{IsLogOf, IsRestart, KeepsNode, MayBePutThen}
 use Rattle.cam_node.specs.Lawful.{IsStepOf}
 use Rattle.cam_node.specs.Log.{Logged}
+use Rattle.cam_node.specs.LogOrder.{is_any_secure}
 use Rattle.cam_node.specs.Opened.{IsKnowledge, IsRestarted, logged_of}
 use Rattle.cam_node.specs.Renewed.{IsRenewed, crash_of}
 use Rattle.cam_node.specs.Represents.{Node, Represents}
@@ -120,6 +123,30 @@ TellsWhich objects s node (Some event) logged found =
     → IsHaltedAt objects history whole node event
     → IsLogOfOneOf objects s history whole n logged
     → IsFound objects s history whole n logged found
+
+-- The event adds to what a log keeps: with it the node knows other outcomes or another count of
+-- some node, or it secures a family.
+pub data Adds (objects : List ObjectDecl) (history : List Received) (whole : Received) : Type 0 where
+  Decides :
+      (known objects (whole ∷ history)).outcomes ≢ (known objects history).outcomes
+      → Adds objects history whole
+  Counts :
+      (m : ℕ) → 1 ≤ m → m ≤ 8
+      → known_count (known objects (whole ∷ history)) m ≢ known_count (known objects history) m
+      → Adds objects history whole
+  Secures : list_any is_any_secure (taken whole).event.deeds ≡ true → Adds objects history whole
+
+-- BY WHAT THE LOG READS the event is found just where that has it: where it keeps the history with
+-- the taken event, restarts behind it or not. Where it keeps the history before, and the event adds
+-- to it, none is found.
+abbrev pub FindsBy : List ObjectDecl → ℕ → Node → Option Event → Opened → Found → Type 0
+FindsBy objects s node None reads found = found.event ≡ None
+FindsBy objects s node (Some event) reads found =
+    (history : List Received) (whole : Received) → IsHaltedAt objects history whole node event
+    → ((n : ℕ)
+    → OpensAs objects s (after_restarts objects s n (taken whole ∷ history)) reads
+    → found.event ≡ Some event)
+    × (OpensAs objects s history reads → Adds objects history whole → found.event ≡ None)
 
 -- A HALT keeps the event: after each history for which the node and its log stood, that of the
 -- rule.

@@ -1,12 +1,13 @@
 //! A plan is carried out: its entry is forced to the log, and its event stands. Where it does not
 //! come to that, what went ahead for it is taken back.
-ghost use Rattle.std.specs.Prelude.{◌≡◌, ◌≤◌, Some, IsTrue, IsFalse, OnOk, OnErr, IfOk, IsErrOf};
+ghost use Rattle.std.specs.Prelude.{◌≡◌, ◌⊎◌, ◌≤◌, Some, None, IsTrue, IsFalse, OnOk, OnErr, IfOk, IsErrOf};
 ghost use Rattle.cam_base.specs.Causes.{Rose};
 ghost use Rattle.cam_disk.specs.Stop.{Untouched};
+ghost use Rattle.cam_log.specs.CutOff.{IsCutOff};
 ghost use Rattle.cam_log.specs.Moments.{Grows, Stays};
 ghost use Rattle.cam_node.specs.declared.fault.NodeFault.TheVariants.{DiskFault};
 ghost use Rattle.cam_node.specs.Ahead.{CanForget};
-ghost use Rattle.cam_node.specs.Appending.{HasAppended, OpensAsEither};
+ghost use Rattle.cam_node.specs.Appending.{HasAppended, OpensAfter, OpensAsEither};
 ghost use Rattle.cam_node.specs.Calls.{answers, letters_of, AreSame};
 ghost use Rattle.cam_node.specs.Found.{HaltsAt};
 ghost use Rattle.cam_node.specs.Halting.{IsStepThrough};
@@ -68,6 +69,14 @@ impl<L: CheckpointLog> Node<L> {
             Grows (L.moment self.old.log.log) (L.moment self.new.log.log)
             (L.opens_since self.old.log.log) (L.opens_since self.new.log.log)
             (OpensAsEither self.old.objects before (L.listed self.old.log.log) input mail load)) }
+        ensures cut_off { IsErrOf result DiskFault
+            → Rose (L.faults_within self.old.log.log) (L.faults_within self.new.log.log)
+            ⊎ IsCutOff 4 (L.passes self.old.log.log) (L.passes self.new.log.log)
+            (λ calls. IsTrue (L.tells self.old.log.log) → ForEachInput self.old.objects plan
+            self.old.core.knowing.known (answers self.old.core) (λ input mail load before.
+            OpensAfter calls self.old.objects before (L.listed self.old.log.log) input mail load
+            (L.reads self.new.log.log))) }
+        ensures unbounded { L.passes self.old.log.log ≡ None → L.passes self.new.log.log ≡ None }
         ensures broken { IsTrue self.new.log.halted → IsTrue (L.broken self.new.log.log) }
         ensures stopped { L.passes self.old.log.log ≡ Some 0
             → Untouched (L.moment self.old.log.log) (L.moment self.new.log.log)
@@ -86,7 +95,10 @@ impl<L: CheckpointLog> Node<L> {
             (L.seen self.old.log.log) (L.seen self.new.log.log)
             (L.faults self.old.log.log) (L.faults self.new.log.log)) }
         ensures tells { L.tells self.new.log.log ≡ L.tells self.old.log.log }
+        ensures not_called { OnErr result (IsFalse self.new.log.halted
+            → L.passes self.new.log.log ≡ L.passes self.old.log.log) }
         ensures later { L.faults self.old.log.log ≤ L.faults self.new.log.log }
+        ensures faults_within { L.faults_within self.old.log.log ≤ L.faults_within self.new.log.log }
         ensures disk_fault { IsErrOf result DiskFault
             → Rose (L.faults self.old.log.log) (L.faults self.new.log.log)
             × IsTrue self.new.log.halted }

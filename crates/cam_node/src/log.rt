@@ -1,7 +1,8 @@
 // The log of one node: what it appends of an event.
-ghost use Rattle.std.specs.Prelude.{◌≡◌, ◌≤◌, ℕ, List, [], ◌∷◌, IsTrue, IsFalse, IsOk, OnOk, OnErr, IfOk, IfErr, IsErrOf, All, Ok as Opens, Some, None};
+ghost use Rattle.std.specs.Prelude.{◌≡◌, ◌⊎◌, ◌≤◌, ℕ, List, [], ◌∷◌, IsTrue, IsFalse, IsOk, OnOk, OnErr, IfOk, IfErr, IsErrOf, All, Ok as Opens, Some, None};
 ghost use Rattle.cam_base.specs.Causes.{Rose};
 ghost use Rattle.cam_disk.specs.Stop.{Untouched};
+ghost use Rattle.cam_log.specs.CutOff.{IsCutOff};
 ghost use Rattle.cam_log.specs.Spent.{Spent};
 ghost use Rattle.cam_log.specs.Moments.{Opened, Grows, Stays};
 ghost use Rattle.cam_ckpt.specs.Moments.{IsOldOrNew};
@@ -14,7 +15,7 @@ ghost use Rattle.cam_recman.specs.Versions.{AreOf};
 ghost use Rattle.cam_recman.specs.Writable.{IsWritable};
 ghost use Rattle.cam_recman.specs.Migrating.{version_entry};
 ghost use Rattle.cam_node.specs.declared.fault.NodeFault.TheVariants.{DiskFault};
-ghost use Rattle.cam_node.specs.Appending.{SpentFor};
+ghost use Rattle.cam_node.specs.Appending.{listed_after, SpentFor};
 ghost use Rattle.cam_node.specs.Opened.{is_readable, with_entry_of};
 
 use crate::fault::{FormatRefused, NodeFault};
@@ -104,6 +105,7 @@ impl<D: Disk> NodeLog<Ckpt<D>> {
         ensures tells { D.tells result ≡ ⟦<Ckpt<D> as EntryLog>⟧.tells self.log }
         ensures moment { D.moment result ≡ ⟦<Ckpt<D> as EntryLog>⟧.moment self.log }
         ensures seen { D.seen result ≡ ⟦<Ckpt<D> as EntryLog>⟧.seen self.log }
+        ensures reads { read_ckpt (D.seen result) ≡ ⟦<Ckpt<D> as EntryLog>⟧.reads self.log }
         ensures passes { D.passes result ≡ ⟦<Ckpt<D> as EntryLog>⟧.passes self.log }
         ensures faults { D.faults result ≡ ⟦<Ckpt<D> as EntryLog>⟧.faults self.log }
     {
@@ -158,6 +160,14 @@ impl<L: CheckpointLog> NodeLog<L> {
         ensures broken { IsTrue self.new.halted → IsTrue (L.broken self.new.log) }
         ensures spent { OnOk result
             (SpentFor records.now (L.passes self.old.log) (L.passes self.new.log)) }
+        ensures unbounded { L.passes self.old.log ≡ None → L.passes self.new.log ≡ None }
+        // A fault comes because a call that was done failed, or because the append was cut off: then the log reads with the entry just where
+        // three of its calls were done.
+        ensures cut_off { IsErrOf result DiskFault
+            → Rose (L.faults_within self.old.log) (L.faults_within self.new.log)
+            ⊎ IsCutOff 4 (L.passes self.old.log) (L.passes self.new.log)
+            (λ calls. IsTrue (L.tells self.old.log) → L.reads self.new.log
+            ≡ Opens (listed_after calls (L.listed self.old.log) records.now)) }
         // The records are in their ranges where the disk was called.
         ensures range { OnOk result (AreRecords records.now) }
         ensures halted_range { IsTrue self.new.halted → AreRecords records.now }
@@ -177,8 +187,11 @@ impl<L: CheckpointLog> NodeLog<L> {
             (L.opens_since self.old.log) (L.opens_since self.new.log)
             (L.seen self.old.log) (L.seen self.new.log)
             (L.faults self.old.log) (L.faults self.new.log)) }
+        ensures not_called { OnErr result
+            (IsFalse self.new.halted → L.passes self.new.log ≡ L.passes self.old.log) }
         ensures tells { L.tells self.new.log ≡ L.tells self.old.log }
         ensures later { L.faults self.old.log ≤ L.faults self.new.log }
+        ensures faults_within { L.faults_within self.old.log ≤ L.faults_within self.new.log }
         ensures disk_fault { IsErrOf result DiskFault
             → Rose (L.faults self.old.log) (L.faults self.new.log) × IsTrue self.new.halted }
     {
@@ -198,6 +211,8 @@ impl<L: CheckpointLog + StopLog> NodeLog<L> {
     /// what a crash may leave of it.
     pub fn stop_after(&mut self, calls: u32)
         ensures passes { L.passes self.new.log ≡ Some calls }
+        ensures reads { L.reads self.new.log ≡ L.reads self.old.log }
+        ensures faults_within { L.faults_within self.new.log ≡ L.faults_within self.old.log }
         ensures listed { L.listed self.new.log ≡ L.listed self.old.log }
         ensures halted { self.new.halted ≡ self.old.halted }
         ensures tells { L.tells self.new.log ≡ L.tells self.old.log }
@@ -212,6 +227,8 @@ impl<L: CheckpointLog + StopLog> NodeLog<L> {
     /// Lets the disk do all calls again. It changes neither what a read of the disk gives nor what a crash may leave of it.
     pub fn clear(&mut self)
         ensures passes { L.passes self.new.log ≡ None }
+        ensures reads { L.reads self.new.log ≡ L.reads self.old.log }
+        ensures faults_within { L.faults_within self.new.log ≡ L.faults_within self.old.log }
         ensures listed { L.listed self.new.log ≡ L.listed self.old.log }
         ensures halted { self.new.halted ≡ self.old.halted }
         ensures tells { L.tells self.new.log ≡ L.tells self.old.log }

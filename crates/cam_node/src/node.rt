@@ -1,5 +1,5 @@
 //! One node: its parts, and its log.
-ghost use Rattle.std.specs.Prelude.{◌≡◌, ◌≤◌, ℕ, List, [], IsTrue, IsFalse, IfOk, IfErr, Ok as Opens, Some, None};
+ghost use Rattle.std.specs.Prelude.{◌≡◌, ◌≤◌, ℕ, List, [], ◌∷◌, IsTrue, IsFalse, IfOk, IfErr, Ok as Opens, Some, None};
 ghost use Rattle.cam_base.specs.Causes.{Rose};
 ghost use Rattle.cam_ckpt.specs.Reading.{read_ckpt};
 ghost use Rattle.cam_event.specs.ByDeltas.{Received};
@@ -7,6 +7,7 @@ ghost use Rattle.cam_locks.specs.Moss.{settled};
 ghost use Rattle.cam_locks.specs.Site.{is_here};
 ghost use Rattle.cam_log.specs.Moments.{Stays};
 ghost use Rattle.cam_log.specs.Spent.{Spent};
+ghost use Rattle.cam_recman.specs.Migrating.{version_entry};
 ghost use Rattle.cam_node.specs.declared.fault.NodeFault.TheVariants.{DiskFault};
 ghost use Rattle.cam_node.specs.Calls.{answers};
 ghost use Rattle.cam_node.specs.Keeping.{KeepsNode};
@@ -35,6 +36,7 @@ pub struct Node<L: CheckpointLog> {
     /// What its log may have taken of the event at which it halted; none where it is not halted.
     pub(crate) halted_at: Option<Event>,
     ghost numbered: { (1 ≤ core.number) × (core.number ≤ 8) },
+    ghost runs_on: { IsFalse log.halted → halted_at ≡ None },
 }
 
 impl<D: Disk> Node<Ckpt<D>> {
@@ -50,6 +52,9 @@ impl<D: Disk> Node<Ckpt<D>> {
         requires { (1 ≤ number) × (number ≤ 8) }
         ensures keeps { IfOk result (λ node. KeepsNode objects [] (answers node.core)
             (⟦<Ckpt<D> as EntryLog>⟧.listed node.log.log)) }
+        // Its one entry is the Version record alone.
+        ensures entries { IfOk result
+            (λ node. ⟦<Ckpt<D> as EntryLog>⟧.listed node.log.log ≡ version_entry ∷ []) }
         ensures number { IfOk result (λ node. node.core.number ≡ number) }
         ensures objects { IfOk result (λ node. node.objects ≡ objects) }
         ensures running { IfOk result (λ node. IsFalse node.log.halted) }
@@ -59,6 +64,8 @@ impl<D: Disk> Node<Ckpt<D>> {
             (λ node. Spent 7 (D.passes disk) (⟦<Ckpt<D> as EntryLog>⟧.passes node.log.log)) }
         ensures tells { IfOk result
             (λ node. ⟦<Ckpt<D> as EntryLog>⟧.tells node.log.log ≡ D.tells disk) }
+        ensures time { IsTrue (D.tells disk) → IfOk result
+            (λ node. D.moment disk ≤ ⟦<Ckpt<D> as EntryLog>⟧.moment node.log.log) }
         ensures later { IfOk result
             (λ node. D.faults disk ≤ ⟦<Ckpt<D> as EntryLog>⟧.faults node.log.log) }
         ensures disk_fault { IfErr result (λ refused. refused.fault ≡ DiskFault
@@ -96,6 +103,7 @@ impl<D: Disk> Node<Ckpt<D>> {
         ensures tells { D.tells result ≡ ⟦<Ckpt<D> as EntryLog>⟧.tells self.log.log }
         ensures moment { D.moment result ≡ ⟦<Ckpt<D> as EntryLog>⟧.moment self.log.log }
         ensures seen { D.seen result ≡ ⟦<Ckpt<D> as EntryLog>⟧.seen self.log.log }
+        ensures reads { read_ckpt (D.seen result) ≡ ⟦<Ckpt<D> as EntryLog>⟧.reads self.log.log }
         ensures passes { D.passes result ≡ ⟦<Ckpt<D> as EntryLog>⟧.passes self.log.log }
         ensures faults { D.faults result ≡ ⟦<Ckpt<D> as EntryLog>⟧.faults self.log.log }
     {
@@ -140,6 +148,8 @@ impl<L: CheckpointLog + StopLog> Node<L> {
     /// else changes, on the disk or of the node.
     pub fn stop_after(&mut self, calls: u32)
         ensures passes { L.passes self.new.log.log ≡ Some calls }
+        ensures reads { L.reads self.new.log.log ≡ L.reads self.old.log.log }
+        ensures faults_within { L.faults_within self.new.log.log ≡ L.faults_within self.old.log.log }
         ensures core { self.new.core ≡ self.old.core }
         ensures objects { self.new.objects ≡ self.old.objects }
         ensures halted_at { self.new.halted_at ≡ self.old.halted_at }
@@ -157,6 +167,8 @@ impl<L: CheckpointLog + StopLog> Node<L> {
     /// Lets the disk do all calls again. Nothing else changes, on the disk or of the node.
     pub fn clear(&mut self)
         ensures passes { L.passes self.new.log.log ≡ None }
+        ensures reads { L.reads self.new.log.log ≡ L.reads self.old.log.log }
+        ensures faults_within { L.faults_within self.new.log.log ≡ L.faults_within self.old.log.log }
         ensures core { self.new.core ≡ self.old.core }
         ensures objects { self.new.objects ≡ self.old.objects }
         ensures halted_at { self.new.halted_at ≡ self.old.halted_at }

@@ -1,11 +1,12 @@
 //! A step of a node: it learns the letter and applies the rule, makes all growth, appends the
 //! event's entry and forces it; then the event
 //! stands, and its letters are handed out.
-ghost use Rattle.std.specs.Prelude.{◌≡◌, ◌≤◌, List, Some, None, IsTrue, IsFalse, OnOk, OnErr, IfOk, IsErrOf, All, ◌++◌};
+ghost use Rattle.std.specs.Prelude.{◌≡◌, ◌⊎◌, ◌≤◌, List, Some, None, IsTrue, IsFalse, OnOk, OnErr, IfOk, IsErrOf, All, ◌++◌, Ok as Opens};
 ghost use Rattle.cam_base.specs.Causes.{Rose};
 ghost use Rattle.cam_ckpt.specs.Moments.{IsOldOrNew};
 ghost use Rattle.cam_disk.specs.Stop.{Untouched};
 ghost use Rattle.cam_event.specs.Taken.{taken_of};
+ghost use Rattle.cam_log.specs.CutOff.{IsCutOff};
 ghost use Rattle.cam_log.specs.Moments.{Grows, Stays};
 ghost use Rattle.cam_recman.specs.declared.Recovered.{Recovered as Recovery};
 ghost use Rattle.cam_recman.specs.Ranges.{AreRecords};
@@ -15,7 +16,7 @@ ghost use Rattle.cam_recman.specs.Versions.{AreOf};
 ghost use Rattle.cam_recman.specs.Writable.{IsWritable};
 ghost use Rattle.cam_type.specs.declared.Kind.TheVariants as kinds;
 ghost use Rattle.cam_node.specs.declared.fault.NodeFault.TheVariants.{DiskFault};
-ghost use Rattle.cam_node.specs.Appending.{HasAppended, OpensAsEither, SpentFor};
+ghost use Rattle.cam_node.specs.Appending.{listed_after, HasAppended, OpensAfter, OpensAsEither, SpentFor};
 ghost use Rattle.cam_node.specs.Calls.{answers, input_of, letters_of, load_of, mail_of, AreSame};
 ghost use Rattle.cam_node.specs.Found.{HaltsAt};
 ghost use Rattle.cam_node.specs.Halting.{IsStepThrough};
@@ -158,6 +159,17 @@ impl<L: CheckpointLog> Node<L> {
             (L.opens_since self.old.log.log) (L.opens_since self.new.log.log)
             (OpensAsEither self.old.objects (answers self.old.core) (L.listed self.old.log.log)
             (input_of self.old.core.number input.now) (mail_of input.now) (load_of input.now)) }
+        // A fault comes because a call of the disk that was done failed, or because the append was
+        // cut off: then the log reads as that of the history before, and with what was taken of the
+        // event just where three of its calls were done.
+        ensures cut_off { IsErrOf result DiskFault
+            → Rose (L.faults_within self.old.log.log) (L.faults_within self.new.log.log)
+            ⊎ IsCutOff 4 (L.passes self.old.log.log) (L.passes self.new.log.log)
+            (λ calls. IsTrue (L.tells self.old.log.log) → OpensAfter calls self.old.objects
+            (answers self.old.core) (L.listed self.old.log.log)
+            (input_of self.old.core.number input.now) (mail_of input.now) (load_of input.now)
+            (L.reads self.new.log.log)) }
+        ensures unbounded { L.passes self.old.log.log ≡ None → L.passes self.new.log.log ≡ None }
         // It halts only where its log has to be opened again.
         ensures broken { IsTrue self.new.log.halted → IsTrue (L.broken self.new.log.log) }
         // With no call of the disk left nothing of it is touched.
@@ -170,7 +182,10 @@ impl<L: CheckpointLog> Node<L> {
             → Rose (L.faults self.old.log.log) (L.faults self.new.log.log)
             × IsTrue self.new.log.halted }
         ensures tells { L.tells self.new.log.log ≡ L.tells self.old.log.log }
+        ensures not_called { OnErr result (IsFalse self.new.log.halted
+            → L.passes self.new.log.log ≡ L.passes self.old.log.log) }
         ensures later { L.faults self.old.log.log ≤ L.faults self.new.log.log }
+        ensures faults_within { L.faults_within self.old.log.log ≤ L.faults_within self.new.log.log }
         ensures objects { self.new.objects ≡ self.old.objects }
         ensures register_stays { R.kind register.new ≡ R.kind register.old }
         ensures queue_stays { Q.kind queue.new ≡ Q.kind queue.old }
@@ -221,6 +236,13 @@ impl<L: CheckpointLog> Node<L> {
         ensures spent { OnOk result (SpentFor (planned_records (answers
             self.old.core).know.counts plan) (L.passes self.old.log.log)
             (L.passes self.new.log.log)) }
+        ensures cut_off { IsErrOf result DiskFault
+            → Rose (L.faults_within self.old.log.log) (L.faults_within self.new.log.log)
+            ⊎ IsCutOff 4 (L.passes self.old.log.log) (L.passes self.new.log.log)
+            (λ calls. IsTrue (L.tells self.old.log.log) → L.reads self.new.log.log
+            ≡ Opens (listed_after calls (L.listed self.old.log.log) (planned_records (answers
+            self.old.core).know.counts plan))) }
+        ensures unbounded { L.passes self.old.log.log ≡ None → L.passes self.new.log.log ≡ None }
         ensures broken { IsTrue self.new.log.halted → IsTrue (L.broken self.new.log.log) }
         ensures stopped { L.passes self.old.log.log ≡ Some 0
             → Untouched (L.moment self.old.log.log) (L.moment self.new.log.log)
@@ -243,7 +265,10 @@ impl<L: CheckpointLog> Node<L> {
             (L.seen self.old.log.log) (L.seen self.new.log.log)
             (L.faults self.old.log.log) (L.faults self.new.log.log)) }
         ensures tells { L.tells self.new.log.log ≡ L.tells self.old.log.log }
+        ensures not_called { OnErr result (IsFalse self.new.log.halted
+            → L.passes self.new.log.log ≡ L.passes self.old.log.log) }
         ensures later { L.faults self.old.log.log ≤ L.faults self.new.log.log }
+        ensures faults_within { L.faults_within self.old.log.log ≤ L.faults_within self.new.log.log }
         ensures disk_fault { IsErrOf result DiskFault
             → Rose (L.faults self.old.log.log) (L.faults self.new.log.log)
             × IsTrue self.new.log.halted }

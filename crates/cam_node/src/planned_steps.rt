@@ -1,17 +1,18 @@
 //! Steps whose events may have an entry: a letter comes, or an action gives up a child. The event is
 //! planned, and the plan carried out.
-ghost use Rattle.std.specs.Prelude.{◌≡◌, ◌≤◌, Some, None, IsTrue, IsFalse, OnOk, OnErr, IfOk, IsErrOf};
+ghost use Rattle.std.specs.Prelude.{◌≡◌, ◌⊎◌, ◌≤◌, Some, None, IsTrue, IsFalse, OnOk, OnErr, IfOk, IsErrOf};
 ghost use Rattle.cam_base.specs.Causes.{Rose};
 ghost use Rattle.cam_comman.specs.Letters.{load_on};
 ghost use Rattle.cam_event.specs.Inputs.{Receives};
 ghost use Rattle.cam_event.specs.Loads.{no_load};
 ghost use Rattle.cam_event.specs.declared.Want.TheVariants as wants;
 ghost use Rattle.cam_disk.specs.Stop.{Untouched};
+ghost use Rattle.cam_log.specs.CutOff.{IsCutOff};
 ghost use Rattle.cam_log.specs.Moments.{Grows, Stays};
 ghost use Rattle.cam_tranman.specs.Calls.{IsFree};
 ghost use Rattle.cam_type.specs.declared.Kind.TheVariants as kinds;
 ghost use Rattle.cam_node.specs.declared.fault.NodeFault.TheVariants.{DiskFault};
-ghost use Rattle.cam_node.specs.Appending.{HasAppended, OpensAsEither};
+ghost use Rattle.cam_node.specs.Appending.{HasAppended, OpensAfter, OpensAsEither};
 ghost use Rattle.cam_node.specs.Calls.{answers, letters_of, mail_on, AreSame};
 ghost use Rattle.cam_node.specs.Found.{HaltsAt};
 ghost use Rattle.cam_node.specs.GivingUp.{giving_up};
@@ -63,6 +64,14 @@ impl<L: CheckpointLog> Node<L> {
             (L.opens_since self.old.log.log) (L.opens_since self.new.log.log)
             (OpensAsEither self.old.objects (answers self.old.core) (L.listed self.old.log.log)
             (Receives id.now) (Some (mail_on letter.now)) (load_on letter.now)) }
+        ensures cut_off { IsErrOf result DiskFault
+            → Rose (L.faults_within self.old.log.log) (L.faults_within self.new.log.log)
+            ⊎ IsCutOff 4 (L.passes self.old.log.log) (L.passes self.new.log.log)
+            (λ calls. IsTrue (L.tells self.old.log.log) → OpensAfter calls self.old.objects
+            (answers self.old.core) (L.listed self.old.log.log)
+            (Receives id.now) (Some (mail_on letter.now)) (load_on letter.now)
+            (L.reads self.new.log.log)) }
+        ensures unbounded { L.passes self.old.log.log ≡ None → L.passes self.new.log.log ≡ None }
         ensures broken { IsTrue self.new.log.halted → IsTrue (L.broken self.new.log.log) }
         ensures stopped { L.passes self.old.log.log ≡ Some 0
             → Untouched (L.moment self.old.log.log) (L.moment self.new.log.log)
@@ -89,7 +98,10 @@ impl<L: CheckpointLog> Node<L> {
             (L.seen self.old.log.log) (L.seen self.new.log.log)
             (L.faults self.old.log.log) (L.faults self.new.log.log)) }
         ensures tells { L.tells self.new.log.log ≡ L.tells self.old.log.log }
+        ensures not_called { OnErr result (IsFalse self.new.log.halted
+            → L.passes self.new.log.log ≡ L.passes self.old.log.log) }
         ensures later { L.faults self.old.log.log ≤ L.faults self.new.log.log }
+        ensures faults_within { L.faults_within self.old.log.log ≤ L.faults_within self.new.log.log }
         ensures disk_fault { IsErrOf result DiskFault
             → Rose (L.faults self.old.log.log) (L.faults self.new.log.log)
             × IsTrue self.new.log.halted }
@@ -151,6 +163,13 @@ impl<L: CheckpointLog> Node<L> {
             (L.opens_since self.old.log.log) (L.opens_since self.new.log.log)
             (OpensAsEither self.old.objects (answers self.old.core) (L.listed self.old.log.log)
             (giving_up action.now child.now) None no_load) }
+        ensures cut_off { IsErrOf result DiskFault
+            → Rose (L.faults_within self.old.log.log) (L.faults_within self.new.log.log)
+            ⊎ IsCutOff 4 (L.passes self.old.log.log) (L.passes self.new.log.log)
+            (λ calls. IsTrue (L.tells self.old.log.log) → OpensAfter calls self.old.objects
+            (answers self.old.core) (L.listed self.old.log.log)
+            (giving_up action.now child.now) None no_load (L.reads self.new.log.log)) }
+        ensures unbounded { L.passes self.old.log.log ≡ None → L.passes self.new.log.log ≡ None }
         ensures broken { IsTrue self.new.log.halted → IsTrue (L.broken self.new.log.log) }
         ensures stopped { L.passes self.old.log.log ≡ Some 0
             → Untouched (L.moment self.old.log.log) (L.moment self.new.log.log)
@@ -177,7 +196,10 @@ impl<L: CheckpointLog> Node<L> {
             (L.seen self.old.log.log) (L.seen self.new.log.log)
             (L.faults self.old.log.log) (L.faults self.new.log.log)) }
         ensures tells { L.tells self.new.log.log ≡ L.tells self.old.log.log }
+        ensures not_called { OnErr result (IsFalse self.new.log.halted
+            → L.passes self.new.log.log ≡ L.passes self.old.log.log) }
         ensures later { L.faults self.old.log.log ≤ L.faults self.new.log.log }
+        ensures faults_within { L.faults_within self.old.log.log ≤ L.faults_within self.new.log.log }
         ensures disk_fault { IsErrOf result DiskFault
             → Rose (L.faults self.old.log.log) (L.faults self.new.log.log)
             × IsTrue self.new.log.halted }

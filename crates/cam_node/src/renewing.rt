@@ -5,7 +5,7 @@ ghost use Rattle.cam_locks.specs.Restored.{CanRestore};
 ghost use Rattle.cam_log.specs.Moments.{Grows};
 ghost use Rattle.cam_node.specs.declared.fault.NodeFault.TheVariants.{DiskFault};
 ghost use Rattle.cam_node.specs.Calls.{answers};
-ghost use Rattle.cam_node.specs.Found.{found_by, HasRestarted};
+ghost use Rattle.cam_node.specs.Found.{found_by, FindsBy, HasRestarted};
 ghost use Rattle.cam_node.specs.Keeping.{IsRestartHalt};
 ghost use Rattle.cam_node.specs.Log.{Logged};
 ghost use Rattle.cam_node.specs.Opened.{MayRead, OpensRestarted};
@@ -74,41 +74,40 @@ impl Core {
             letters: Letters::new(self.alloc),
         })
     }
+
+    /// Becomes the node that a restart makes of what its log keeps, and tells what the restart found.
+    /// It fails where memory runs out, and nothing has changed then.
+    fn renew(
+        &mut self,
+        objects: &Objects,
+        halted_at: &mut Option<Event>,
+        reread: Reread,
+    ) -> Result<Restarted, NoMemory>
+        requires number { (1 ≤ self.old.number) × (self.old.number ≤ 8) }
+        requires count { (1 ≤ reread.kept.count) × (reread.kept.count ≤ 1000000000) }
+        requires held { CanRestore objects.now self.old.number reread.kept.held }
+        ensures renewed { OnOk result (IsRenewed objects.now self.old.number reread.kept
+            (answers self.new)) }
+        ensures event { IfOk result (λ restarted.
+            restarted.stepped.event ≡ crash_of self.old.number) }
+        ensures letters { IfOk result (λ restarted. restarted.stepped.letters ≡ []) }
+        ensures found { IfOk result (λ restarted. restarted.found
+            ≡ found_by (answers self.old) halted_at.old reread) }
+        ensures goes_on { OnOk result (halted_at.new ≡ None) }
+        ensures still { OnErr result (halted_at.new ≡ halted_at.old) }
+        ensures core { OnErr result (self.new ≡ self.old) }
+        ensures number { self.new.number ≡ self.old.number }
+    {
+        let stepped = self.crashed()?;
+        let has_event = self.has_halted_at(halted_at, &reread);
+        let restarts = (reread.kept.count - 1).saturating_sub(self.count);
+        *self = Core::renewed(self.alloc, self.number, objects, reread.kept)?;
+        let found = Found::of(halted_at.take(), has_event, restarts);
+        Ok(Restarted { stepped, found })
+    }
 }
 
 impl<L: CheckpointLog> Node<L> {
-    /// The parts of the node become those that a restart makes of what its log keeps. It fails
-    /// where memory runs out, and is then as it was.
-    fn renew(&mut self, reread: Reread) -> Result<Restarted, NoMemory>
-        requires count { (1 ≤ reread.kept.count) × (reread.kept.count ≤ 1000000000) }
-        requires held { CanRestore self.old.objects self.old.core.number reread.kept.held }
-        ensures renewed { OnOk result (IsRenewed self.old.objects self.old.core.number reread.kept
-            (answers self.new.core)) }
-        ensures event { IfOk result (λ restarted.
-            restarted.stepped.event ≡ crash_of self.old.core.number) }
-        ensures letters { IfOk result (λ restarted. restarted.stepped.letters ≡ []) }
-        ensures found { IfOk result (λ restarted. restarted.found
-            ≡ found_by (answers self.old.core) self.old.halted_at reread) }
-        ensures goes_on { OnOk result (self.new.halted_at ≡ None) }
-        ensures still { OnErr result (self.new.halted_at ≡ self.old.halted_at) }
-        ensures core { OnErr result (self.new.core ≡ self.old.core) }
-        ensures log { self.new.log ≡ self.old.log }
-        ensures number { self.new.core.number ≡ self.old.core.number }
-        ensures objects { self.new.objects ≡ self.old.objects }
-    {
-        let stepped = self.core.crashed()?;
-        let has_event = self.core.has_halted_at(&self.halted_at, &reread);
-        let restarts = (reread.kept.count - 1).saturating_sub(self.core.count);
-        self.core = Core::renewed(
-            self.core.alloc,
-            self.core.number,
-            &self.objects,
-            reread.kept,
-        )?;
-        let found = Found::of(self.halted_at.take(), has_event, restarts);
-        Ok(Restarted { stepped, found })
-    }
-
     /// Restarts the node, halted or not: it reads its log again, puts all that is kept with the
     /// raised count in place of what it read, and
     /// goes on from that. The event is the restart; no letter is sent.
@@ -128,6 +127,10 @@ impl<L: CheckpointLog> Node<L> {
             (MayRead (L.opens_since self.old.log.log) (L.moment self.old.log.log))
             (answers self.old.core) self.old.halted_at
             (answers self.new.core) (L.listed self.new.log.log) restarted) }
+        // Of a disk that tells it read what the log read, and found the event just where that has it.
+        ensures found { IsTrue (L.tells self.old.log.log) → IfOk result (λ restarted.
+            FindsBy self.old.objects self.old.core.number (answers self.old.core)
+            self.old.halted_at (L.reads self.old.log.log) restarted.found) }
         ensures letters { IfOk result (λ restarted. restarted.stepped.letters ≡ []) }
         ensures runs { OnOk result (IsFalse self.new.log.halted) }
         ensures goes_on { OnOk result (self.new.halted_at ≡ None) }
@@ -147,7 +150,9 @@ impl<L: CheckpointLog> Node<L> {
             (OpensRestarted self.old.objects self.old.core.number
             (L.opens_since self.old.log.log (L.moment self.old.log.log))) }
         ensures tells { L.tells self.new.log.log ≡ L.tells self.old.log.log }
+        ensures unbounded { L.passes self.old.log.log ≡ None → L.passes self.new.log.log ≡ None }
         ensures later { L.faults self.old.log.log ≤ L.faults self.new.log.log }
+        ensures faults_within { L.faults_within self.old.log.log ≤ L.faults_within self.new.log.log }
         // Whatever may be read is the log of a history, in which numbers are left.
         ensures disk_fault { ((logged : Logged) → IsTrue (L.tells self.old.log.log)
             → MayRead (L.opens_since self.old.log.log) (L.moment self.old.log.log) logged
@@ -158,7 +163,7 @@ impl<L: CheckpointLog> Node<L> {
         ensures objects { self.new.objects ≡ self.old.objects }
     {
         let reread = self.log.restart(&self.objects, self.core.number)?;
-        match self.renew(reread) {
+        match self.core.renew(&self.objects, &mut self.halted_at, reread) {
             Ok(restarted) => Ok(restarted),
             Err(NoMemory) => {
                 self.log.halt();

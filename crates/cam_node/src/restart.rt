@@ -1,5 +1,5 @@
 // What a restart reads of a node's log, and what it puts in its place.
-ghost use Rattle.std.specs.Prelude.{◌≡◌, ◌≤◌, ◌<◌, true, [], ◌∷◌, IsTrue, IsFalse, OnOk, OnErr, IfOk, IsErrOf, Ok as Opens};
+ghost use Rattle.std.specs.Prelude.{◌≡◌, ◌≤◌, ◌<◌, true, [], ◌∷◌, IsTrue, IsFalse, OnOk, OnErr, IfOk, IsErrOf, Ok as Opens, None};
 ghost use Rattle.std.specs.List.{AllByRecursion};
 ghost use Rattle.cam_base.specs.Causes.{Rose};
 ghost use Rattle.cam_bytes.specs.Ranges.{IsFrom};
@@ -32,8 +32,10 @@ fn spoiled<L: CheckpointLog>(log: &mut L) -> NodeFault
     ensures any_moment { IsTrue (L.tells log.old)
         → AddsNothing (L.moment log.old) (L.moment log.new)
         (L.opens_since log.old) (L.opens_since log.new) }
+    ensures unbounded { L.passes log.old ≡ None → L.passes log.new ≡ None }
     ensures tells { L.tells log.new ≡ L.tells log.old }
     ensures later { L.faults log.old ≤ L.faults log.new }
+    ensures faults_within { L.faults_within log.old ≤ L.faults_within log.new }
 {
     log.spoil();
     NodeFault::DiskFault
@@ -48,12 +50,16 @@ fn read_again<L: CheckpointLog>(alloc: Global, log: &mut L) -> Result<Recovered,
     ensures range { IfOk result (λ r. IsFrom 1 1000000000 r.count × AllByRecursion IsHeld r.held) }
     ensures was { IsTrue (L.tells log.old) → OnOk result
         (L.opens_since log.old (L.moment log.old) (Opens (L.listed log.new))) }
+    ensures read_now { IsTrue (L.tells log.old)
+        → OnOk result (Opens (L.listed log.new) ≡ L.reads log.old) }
     ensures whole { OnOk result (IsFalse (L.broken log.new)) }
     ensures any_moment { IsTrue (L.tells log.old)
         → AddsNothing (L.moment log.old) (L.moment log.new)
         (L.opens_since log.old) (L.opens_since log.new) }
+    ensures unbounded { L.passes log.old ≡ None → L.passes log.new ≡ None }
     ensures tells { L.tells log.new ≡ L.tells log.old }
     ensures later { L.faults log.old ≤ L.faults log.new }
+    ensures faults_within { L.faults_within log.old ≤ L.faults_within log.new }
     ensures disk_fault { IsErrOf result DiskFault → Rose (L.faults log.old) (L.faults log.new) }
 {
     match log.reopen() {
@@ -114,8 +120,10 @@ fn keep<L: CheckpointLog>(alloc: Global, log: &mut L, kept: &Recovered) -> Resul
     ensures any_moment { (r : Recovery) → IsTrue (L.tells log.old) → Says (L.listed log.old) r
         → Grows (L.moment log.old) (L.moment log.new) (L.opens_since log.old) (L.opens_since log.new)
         (IsReadOrKept (can_follow (L.broken log.old) (L.generation log.old)) (L.listed log.old) r kept.now) }
+    ensures unbounded { L.passes log.old ≡ None → L.passes log.new ≡ None }
     ensures tells { L.tells log.new ≡ L.tells log.old }
     ensures later { L.faults log.old ≤ L.faults log.new }
+    ensures faults_within { L.faults_within log.old ≤ L.faults_within log.new }
     ensures disk_fault { IsErrOf result DiskFault → Rose (L.faults log.old) (L.faults log.new) }
 {
     if log.can_replace() {
@@ -163,14 +171,20 @@ impl<L: CheckpointLog> NodeLog<L> {
         ensures restarted { IfOk result (λ reread.
             Rereads objects.now node (L.tells self.old.log)
             (L.opens_since self.old.log (L.moment self.old.log)) (L.listed self.new.log) reread) }
+        // What it read is what the log reads when the call begins.
+        ensures read_now { IfOk result (λ reread.
+            Rereads objects.now node (L.tells self.old.log)
+            (λ opened. opened ≡ L.reads self.old.log) (L.listed self.new.log) reread) }
         ensures runs { OnOk result (IsFalse self.new.halted) }
         ensures halted { OnErr result (IsTrue self.new.halted) }
+        ensures unbounded { L.passes self.old.log ≡ None → L.passes self.new.log ≡ None }
         ensures any_moment { IsTrue (L.tells self.old.log)
             → Grows (L.moment self.old.log) (L.moment self.new.log)
             (L.opens_since self.old.log) (L.opens_since self.new.log)
             (OpensRestarted objects.now node (L.opens_since self.old.log (L.moment self.old.log))) }
         ensures tells { L.tells self.new.log ≡ L.tells self.old.log }
         ensures later { L.faults self.old.log ≤ L.faults self.new.log }
+        ensures faults_within { L.faults_within self.old.log ≤ L.faults_within self.new.log }
         ensures disk_fault { ((opened : Opened) → IsTrue (L.tells self.old.log)
             → L.opens_since self.old.log (L.moment self.old.log) opened
             → MayRestart objects.now node opened)

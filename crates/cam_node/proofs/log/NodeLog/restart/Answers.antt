@@ -83,3 +83,26 @@ returns-clause-restarted g c =
       };
       counts = c.known_counts-counts.ensures;
     }
+
+-- that is what the log reads
+pub returns-clause-read_now : goal.returns-clause-read_now
+returns-clause-read_now g c =
+    let mid = c.read_again.new.log in
+    record {
+      restarts = record {
+        read = g.L.EntryLog.listed mid;
+        was = c.in_ok-recovered.ensures.read_now;
+        restarted = record {
+          recovered = c.in_ok-recovered.recovered;
+          says = c.in_ok-recovered.ensures.says;
+          can = c.in_ok-can_restart.ensures.0 c.if-not-branch.false;
+          is = c.raise-kept.ensures;
+          replaced = can_follow (g.L.EntryLog.broken mid) (g.L.CheckpointLog.generation mid);
+          left = c.in_ok-keep.ensures.kept;
+          says_now =
+              c.in_ok-keep.ensures.says c.in_ok-recovered.recovered
+              c.in_ok-recovered.ensures.says;
+        };
+      };
+      counts = c.known_counts-counts.ensures;
+    }

@@ -1,6 +1,7 @@
 -- A plan is carried out.
-use Rattle.std.proofs.Common.{◌≡◌, ◌∙◌, IsTrue, ℕ, List, refl, sym, subst}
+use Rattle.std.proofs.Common.{rules, ◌≡◌, ◌∙◌, IsTrue, IsErrOf, ℕ, List, refl, sym, subst}
 use Rattle.cam_node.specs.declared.Stepped.{Stepped}
+use Rattle.cam_node.specs.declared.fault.NodeFault.TheVariants.{DiskFault}
 use Rattle.cam_node.specs.declared.state.Core.{Core}
 use Rattle.cam_recman.specs.Says.{Says}
 use Rattle.cam_recman.specs.Recovery.{with_records}
@@ -11,10 +12,11 @@ use Rattle.cam_node.specs.Halting.{IsStepThrough}
 use Rattle.cam_node.specs.Keeping.{KeepsOn}
 use Rattle.cam_node.specs.Planned.{planned_records}
 use Rattle.cam_node.proofs.CarriedOut.{taken_entry, taken_halts, taken_keeps}
+use Rattle.cam_node.proofs.CutOffs.{cut_as}
 use Rattle.cam_node.proofs.Entered.{entry_would_say}
 use Rattle.cam_node.proofs.KeptHalts.{keeps_halt}
 use Rattle.cam_node.proofs.Moments.{stays_grows}
-use Rattle.cam_node.proofs.TakenMoments.{by_halt, taken_moments}
+use Rattle.cam_node.proofs.TakenMoments.{by_halt, opens_after, taken_moments}
 use Rattle.cam_node.proofs.node.Node.carry_out.Goals as goal
 
 pub returns-in-Ok-clause-step : goal.returns-in-Ok-clause-step
@@ -128,3 +130,21 @@ returns-in-Err-clause-halted_at g c = λ halted input mail load before may.
     (g.L.EntryLog.listed c.args.self.now.log.log) c.args.ahead.now c.take.new.self.halted_at
     (c.take.ensures.halted_knows halted) (c.take.ensures.halted_stands halted)
     c.forget.ensures.forgotten (c.take.ensures.halted_at halted) may
+
+pub returns-in-Err-clause-cut_off : goal.returns-in-Err-clause-cut_off
+returns-in-Err-clause-cut_off g c = λ is.
+    let log = c.args.self.now.log.log in
+    let after = c.take.new.self.log.log in
+    let rs = planned_records c.args.self.now.core.knowing.stands.counts c.args.plan in
+    let failed : IsErrOf c.take.result DiskFault = search rules in
+    let halted : IsTrue c.take.new.self.log.halted = (c.take.ensures.disk_fault failed).1 in
+    cut_as
+    (λ calls did tells input mail load before may.
+    opens_after c.args.self.now.objects input mail load c.args.plan
+    c.args.self.now.core.knowing.known before (answers c.args.self.now.core)
+    (answers c.take.new.self.core) (g.L.EntryLog.listed log) calls (g.L.EntryLog.reads after)
+    (c.take.ensures.halted_knows halted) (c.take.ensures.halted_range halted)
+    (λ r says. entry_would_say (g.L.EntryLog.listed log) rs rs r refl
+    (c.take.ensures.halted_range halted) (c.take.ensures.halted_version halted) says)
+    (c.take.ensures.halted_stands halted) (did tells) may)
+    (c.take.ensures.cut_off failed)

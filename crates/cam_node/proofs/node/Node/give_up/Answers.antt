@@ -3,6 +3,7 @@ use Rattle.std.proofs.Common.{None, refl, sym, ◌∙◌, subst}
 use Rattle.cam_event.specs.Loads.{no_load}
 use Rattle.cam_node.specs.Calls.{answers, AreSame}
 use Rattle.cam_node.specs.GivingUp.{giving_up}
+use Rattle.cam_node.proofs.CutOffs.{cut_as}
 use Rattle.cam_node.proofs.node.Node.give_up.Goals as goal
 
 pub returns-clause-step : goal.returns-clause-step
@@ -77,3 +78,15 @@ pub returns-clause-same : goal.returns-clause-same
 returns-clause-same g c =
     c.carry_out.ensures.same (answers c.args.self.now.core)
     (λ new stays. subst (AreSame (answers c.args.self.now.core)) (sym stays) c.give_up.ensures.same)
+
+pub returns-clause-cut_off : goal.returns-clause-cut_off
+returns-clause-cut_off g c = λ failed.
+    cut_as
+    (λ calls did tells. did tells (giving_up c.args.action.now c.args.child.now) None no_load
+    (answers c.args.self.now.core) (record {
+      planned = c.in_ok-plan.ensures.plan c.args.self.now.objects;
+      node = c.args.self.now.numbered;
+      know = c.give_up.ensures.same.know;
+      goes_on = refl;
+    }))
+    (c.carry_out.ensures.cut_off failed)

@@ -6,6 +6,7 @@ use Rattle.cam_node.specs.Ahead.{CanForget}
 use Rattle.cam_node.specs.Calls.{answers, mail_on, AreSame}
 use Rattle.cam_node.specs.Planned.{MayBeTaken}
 use Rattle.cam_node.specs.Represents.{Node}
+use Rattle.cam_node.proofs.CutOffs.{cut_as}
 use Rattle.cam_node.proofs.node.Node.letter.Goals as goal
 
 -- A call that may have gone ahead.
@@ -81,6 +82,18 @@ returns-in_ok-plan-in-Call-clause-halted_at g c = λ halted.
       goes_on = refl;
     })
 
+pub returns-in_ok-plan-in-Call-clause-cut_off : goal.returns-in_ok-plan-in-Call-clause-cut_off
+returns-in_ok-plan-in-Call-clause-cut_off g c = λ failed.
+    cut_as
+    (λ calls did tells. did tells (Receives c.args.id.now) (Some (mail_on c.args.letter.now))
+    (load_on c.args.letter.now) (answers c.args.self.now.core) (record {
+      planned = c.in_ok-plan-in-Call.ensures.plan c.args.self.now.objects;
+      node = c.args.self.now.numbered;
+      know = c.call_of_kind.ensures.know;
+      goes_on = refl;
+    }))
+    (c.carry_out.ensures.cut_off failed)
+
 pub returns-in_ok-plan-in-Call-clause-same : goal.returns-in_ok-plan-in-Call-clause-same
 returns-in_ok-plan-in-Call-clause-same g c =
     c.carry_out.ensures.same (answers c.args.self.now.core)
@@ -106,6 +119,11 @@ returns-in_ok-plan-in_default g c =
       keeps = then.keeps _ _ _ old may;
       entry = then.entry _ _ _ old may;
       any_moment = λ tells. then.any_moment tells _ _ _ old may;
+      cut_off = λ failed. cut_as
+          (λ calls did tells. did tells (Receives c.args.id.now)
+          (Some (mail_on c.args.letter.now)) (load_on c.args.letter.now) old may)
+          (then.cut_off failed);
+      unbounded = then.unbounded;
       broken = then.broken;
       stopped = then.stopped;
       number = then.number ∙ c.comes.ensures.same.number;
@@ -118,7 +136,9 @@ returns-in_ok-plan-in_default g c =
       not_listed = then.not_listed;
       unchanged = then.unchanged;
       tells = then.tells;
+      not_called = then.not_called;
       later = then.later;
+      faults_within = then.faults_within;
       disk_fault = then.disk_fault;
       objects = then.objects;
       register_stays = refl;

@@ -1,9 +1,9 @@
 -- A node is restarted.
-use Rattle.std.proofs.Common.{◌∙◌, IsTrue, sym, ap, subst, rules}
+use Rattle.std.proofs.Common.{◌∙◌, IsTrue, sym, subst, rules}
 use Rattle.cam_node.specs.Calls.{answers}
-use Rattle.cam_node.specs.Found.{HasRestarted}
 use Rattle.cam_node.specs.Keeping.{IsRestartHalt}
 use Rattle.cam_node.specs.Opened.{MayRead}
+use Rattle.cam_node.proofs.FoundByReads.{finds_by}
 use Rattle.cam_node.proofs.RestartTaken.{may_restart}
 use Rattle.cam_node.proofs.RestartedNodes.{node_restarted, restart_halts, restart_range}
 use Rattle.cam_node.proofs.Steps.{failed}
@@ -38,17 +38,20 @@ returns-in_err-reread-clause-failed g c = λ tells.
 pub returns-in-Ok-clause-restarted : goal.returns-in-Ok-clause-restarted
 returns-in-Ok-clause-restarted g c =
     let log = c.args.self.now.log.log in
-    let past = g.L.EntryLog.opens_since log in
-    let old = answers c.args.self.now.core in
-    subst (λ node. HasRestarted c.args.self.now.objects old.number (g.L.EntryLog.tells log)
-    (MayRead past (g.L.EntryLog.moment log)) old c.args.self.now.halted_at
-    (answers c.renew.new.self.core) (g.L.EntryLog.listed node.log) c.in-Ok.restarted)
-    (sym c.renew.ensures.log)
-    (node_restarted c.args.self.now.objects old c.args.self.now.halted_at (g.L.EntryLog.tells log)
-    past (g.L.EntryLog.moment log) (g.L.EntryLog.listed c.restart.new.self.log)
-    c.in_ok-reread.reread (answers c.renew.new.self.core) c.in-Ok.restarted
+    node_restarted c.args.self.now.objects (answers c.args.self.now.core)
+    c.args.self.now.halted_at (g.L.EntryLog.tells log) (g.L.EntryLog.opens_since log)
+    (g.L.EntryLog.moment log) (g.L.EntryLog.listed c.restart.new.self.log)
+    c.in_ok-reread.reread (answers c.renew.new.self) c.in-Ok.restarted
     c.args.self.now.numbered c.in_ok-reread.ensures.restarted c.in-Ok.ensures.renewed
-    c.in-Ok.ensures.event c.in-Ok.ensures.found)
+    c.in-Ok.ensures.event c.in-Ok.ensures.found
+
+pub returns-in-Ok-clause-found : goal.returns-in-Ok-clause-found
+returns-in-Ok-clause-found g c = λ tells.
+    let log = c.args.self.now.log.log in
+    finds_by c.args.self.now.objects (answers c.args.self.now.core) c.args.self.now.halted_at
+    (g.L.EntryLog.reads log) (g.L.EntryLog.tells log)
+    (g.L.EntryLog.listed c.restart.new.self.log) c.in_ok-reread.reread c.in-Ok.restarted.found
+    c.args.self.now.numbered c.in_ok-reread.ensures.read_now tells c.in-Ok.ensures.found
 
 pub returns-in-Err-clause-failed : goal.returns-in-Err-clause-failed
 returns-in-Err-clause-failed g c = λ tells.
@@ -58,8 +61,7 @@ returns-in-Err-clause-failed g c = λ tells.
     let there : IsTrue (g.L.EntryLog.tells after) = c.restart.ensures.tells ∙ tells in
     subst (λ now. IsRestartHalt c.args.self.now.objects c.args.self.now.core.number (MayRead
     (g.L.EntryLog.opens_since log) (g.L.EntryLog.moment log))
-    (MayRead (g.L.EntryLog.opens_since now) (g.L.EntryLog.moment now))) (sym (c.halt.ensures.log ∙
-    ap (λ node. node.log) c.renew.ensures.log))
+    (MayRead (g.L.EntryLog.opens_since now) (g.L.EntryLog.moment now))) (sym c.halt.ensures.log)
     (restart_halts c.args.self.now.objects c.args.self.now.core.number (g.L.EntryLog.moment log)
     (g.L.EntryLog.moment after) (g.L.EntryLog.opens_since log)
     (g.L.EntryLog.opens_since after) c.args.self.now.numbered grows (λ o is.

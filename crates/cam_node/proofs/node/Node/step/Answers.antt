@@ -5,10 +5,11 @@ use Rattle.cam_event.specs.Inputs.{Requests}
 use Rattle.cam_event.specs.Loads.{no_load}
 use Rattle.cam_node.specs.declared.Input.{Input}
 use Rattle.cam_log.specs.Moments.{Grows}
-use Rattle.cam_node.specs.Appending.{HasAppended, OpensAsEither}
+use Rattle.cam_node.specs.Appending.{HasAppended, OpensAfter, OpensAsEither}
 use Rattle.cam_node.specs.Calls.{answers, input_of, load_of, mail_of}
 use Rattle.cam_node.specs.Found.{HaltsAt}
 use Rattle.cam_node.specs.Keeping.{KeepsOn}
+use Rattle.cam_node.proofs.CutOffs.{cut_as}
 use Rattle.cam_node.proofs.node.Node.step.Goals as goal
 
 pub returns-in-Letter-clause-keeps : goal.returns-in-Letter-clause-keeps
@@ -108,3 +109,29 @@ returns-in-GiveUp-clause-halted_at g c = λ halted.
     (Requests (record { action = c.in-Request.request.action; want = w })) None no_load
     (answers new.core) new.halted_at)
     (sym c.in-GiveUp.is) (c.give_up.ensures.halted_at halted))
+
+pub returns-in-Letter-clause-cut_off : goal.returns-in-Letter-clause-cut_off
+returns-in-Letter-clause-cut_off g c = λ failed.
+    let old = c.args.self.now in
+    let new = c.letter.new.self in
+    cut_as
+    (λ calls did tells.
+    subst (λ (i : Input). OpensAfter calls old.objects (answers old.core)
+    (g.L.EntryLog.listed old.log.log) (input_of old.core.number i) (mail_of i) (load_of i)
+    (g.L.EntryLog.reads new.log.log)) (sym c.in-Letter.is) (did tells))
+    (c.letter.ensures.cut_off failed)
+
+pub returns-in-GiveUp-clause-cut_off : goal.returns-in-GiveUp-clause-cut_off
+returns-in-GiveUp-clause-cut_off g c = λ failed.
+    let old = c.args.self.now in
+    let new = c.give_up.new.self in
+    cut_as
+    (λ calls did tells.
+    subst (λ (i : Input). OpensAfter calls old.objects (answers old.core)
+    (g.L.EntryLog.listed old.log.log) (input_of old.core.number i) (mail_of i) (load_of i)
+    (g.L.EntryLog.reads new.log.log)) (sym c.in-Request.is)
+    (subst (λ (w : Want). OpensAfter calls old.objects (answers old.core)
+    (g.L.EntryLog.listed old.log.log)
+    (Requests (record { action = c.in-Request.request.action; want = w })) None no_load
+    (g.L.EntryLog.reads new.log.log)) (sym c.in-GiveUp.is) (did tells)))
+    (c.give_up.ensures.cut_off failed)
