@@ -7,9 +7,11 @@ use Rattle.cam_timed.specs.TimedGrammar.{read_timed}
 abbrev pub quiet_lines : List ℕ
 quiet_lines =
     text
-    (codes "nodes 2" ∷ codes "object x 2 register 1" ∷ codes "begin P 1 100" ∷ codes "ask P C 2 50"
-    ∷ codes "drain" ∷ codes "call C x write 4" ∷ codes "drain" ∷ codes "giveup P C" ∷ codes "tick 1 50"
-    ∷ codes "giveup P C" ∷ codes "call C x read" ∷ codes "tell 1 2" ∷ codes "drain" ∷ codes "abort C" ∷ [])
+    (codes "nodes 2" ∷ codes "object x 2 register 1"
+    ∷ codes "begin P 1 100" ∷ codes "ask P C 2 50" ∷ codes "drain"
+    ∷ codes "call C x write 4" ∷ codes "drain" ∷ codes "giveup P C" ∷ codes "tick 1 50"
+    ∷ codes "giveup P C" ∷ codes "call C x read" ∷ codes "tell 1 2" ∷ codes "drain"
+    ∷ codes "abort C" ∷ [])
 
 -- an expiry
 abbrev pub expiry_lines : List ℕ
@@ -22,11 +24,12 @@ expiry_lines =
 abbrev pub grandchild_lines : List ℕ
 grandchild_lines =
     text
-    (codes "nodes 3" ∷ codes "object x 3 register 0" ∷ codes "object y 3 register 0" ∷ codes "begin P 1 100"
-    ∷ codes "ask P C 2 90" ∷ codes "drain" ∷ codes "ask C G 2 10" ∷ codes "drain" ∷ codes "call G x write 1"
-    ∷ codes "drain" ∷ codes "tick 2 10" ∷ codes "giveup C G" ∷ codes "call C y write 2" ∷ codes "drain"
-    ∷ codes "commit C 0" ∷ codes "drain" ∷ codes "commit P 0" ∷ codes "drain" ∷ codes "begin Q 1 200"
-    ∷ codes "call Q x write 5" ∷ codes "drain" ∷ [])
+    (codes "nodes 3" ∷ codes "object x 3 register 0" ∷ codes "object y 3 register 0"
+    ∷ codes "begin P 1 100" ∷ codes "ask P C 2 90" ∷ codes "drain"
+    ∷ codes "ask C G 2 10" ∷ codes "drain" ∷ codes "call G x write 1" ∷ codes "drain"
+    ∷ codes "tick 2 10" ∷ codes "giveup C G" ∷ codes "call C y write 2" ∷ codes "drain"
+    ∷ codes "commit C 0" ∷ codes "drain" ∷ codes "commit P 0" ∷ codes "drain"
+    ∷ codes "begin Q 1 200" ∷ codes "call Q x write 5" ∷ codes "drain" ∷ [])
 
 -- The worked runs are those of these scripts, as the grammar reads them.
 pub record RowsAreRead : Type 0 where

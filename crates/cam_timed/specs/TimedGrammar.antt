@@ -1,6 +1,7 @@
--- The grammar of scripts by time: the script that the bytes spell, or their first fault, in the order and with the causes of a script
--- without time. `nodes`, `object`, `call`, `commit`, `abort`, `giveup`, `deliver`, `lose`, `drain`, `tell` and `query` are read as there;
--- `begin` and `ask` have a quiesce moment at their end; `tick` and `expire` are new. Every other first word is unknown.
+-- The grammar of scripts by time: the script that the bytes spell, or their first fault, in the order
+-- and with the causes of a script without time. `nodes`, `object`, `call`, `commit`, `abort`,
+-- `giveup`, `deliver`, `lose`, `drain`, `tell` and `query` are read as there; `begin` and `ask` have
+-- a quiesce moment at their end; `tick` and `expire` are new. Every other first word is unknown.
 use Rattle.std.specs.Prelude.{ℕ, ◌+◌, Bool, true, false, not, nat_le, List, [], ◌∷◌, ◌++◌, codes, length, Result, Ok, Err, if◌then◌else◌}
 use Rattle.cam_words.specs.declared.fault.ScriptFault.{ScriptFault}
 use Rattle.cam_words.specs.declared.fault.ScriptFault.TheVariants.{Bad}
@@ -11,6 +12,7 @@ use Rattle.cam_words.specs.Words.{◌>>=◌, or_refuse, refuse_if, next_word, te
 use Rattle.cam_script.specs.declared.Script.{Script}
 use Rattle.cam_script.specs.declared.Binding.{Binding}
 use Rattle.cam_script.specs.declared.Binding.TheVariants as bindings
+use Rattle.cam_script.specs.declared.Form.{Form}
 use Rattle.cam_script.specs.declared.Form.TheVariants as lines
 use Rattle.cam_script.specs.declared.Section.{Section}
 use Rattle.cam_script.specs.declared.Section.TheVariants as sections
@@ -67,34 +69,49 @@ is_timed_full d forms.Nodes at line = false
 is_timed_full d forms.Object at line = is_too_many d.declared lines.Object at line
 is_timed_full d _ at line = nat_le 512 (length d.steps)
 
+-- with other declarations
+abbrev pub declaring : TimedSoFar → SoFar → TimedSoFar
+declaring d declared = record d { declared = declared }
+
 -- after a declaration
 abbrev pub declares : TimedSoFar → SoFar → Result TimedSoFar ScriptFault
-declares d declared = Ok (record d { declared = declared })
+declares d declared = Ok (declaring d declared)
 
 -- after a step that binds no variable, in the line of this number
 abbrev pub with_timed : TimedSoFar → ℕ → TimedAct → TimedSoFar
-with_timed d number act = record d { steps = d.steps ++ record { line = number; act = act } ∷ [] }
+with_timed d number act =
+    record d { steps = d.steps ++ record { line = number; act = act } ∷ [] }
 
 -- after a step that binds this variable
 abbrev pub with_bound : TimedSoFar → ℕ → List ℕ → Binding → TimedAct → TimedSoFar
 with_bound d number name binding act =
-    with_timed (record d { declared = with_variable_at d.declared name (length d.steps) binding }) number act
+    with_timed (declaring d (with_variable_at d.declared name (length d.steps) binding)) number act
 
 -- after a step, by what its line says
 abbrev pub timed_step : TimedSoFar → ℕ → TimedAct → Result TimedSoFar ScriptFault
 timed_step d number act = Ok (with_timed d number act)
 
 -- and after one that binds the variable of this word
-abbrev pub timed_bound : TimedSoFar → Binding → ℕ → List ℕ → Word × TimedAct → Result TimedSoFar ScriptFault
-timed_bound d binding number line said = Ok (with_bound d number (text_of said.0 line) binding said.1)
+abbrev pub timed_bound :
+    TimedSoFar → Binding → ℕ → List ℕ → Word × TimedAct → Result TimedSoFar ScriptFault
+timed_bound d binding number line said =
+    Ok (with_bound d number (text_of said.0 line) binding said.1)
+
+-- after a line that declares, which is read as without time
+abbrev pub declared_by : TimedSoFar → Form → ℕ → ℕ → List ℕ → Result TimedSoFar ScriptFault
+declared_by d form number at line =
+    outside everything d.declared form number at line >>= declares d
 
 -- what stands after a line of this form
 abbrev pub read_form : TimedSoFar → TimedForm → ℕ → ℕ → List ℕ → Result TimedSoFar ScriptFault
-read_form d forms.Nodes number at line = outside everything d.declared lines.Nodes number at line >>= declares d
-read_form d forms.Object number at line = outside everything d.declared lines.Object number at line >>= declares d
-read_form d forms.Begin number at line = begin_by_time d.declared number at line >>= timed_bound d bindings.Begin number line
-read_form d forms.Ask number at line = ask_by_time d.declared number at line >>= timed_bound d bindings.Ask number line
-read_form d form number at line = timed_act_line d.declared form number at line >>= timed_step d number
+read_form d forms.Nodes number at line = declared_by d lines.Nodes number at line
+read_form d forms.Object number at line = declared_by d lines.Object number at line
+read_form d forms.Begin number at line =
+    begin_by_time d.declared number at line >>= timed_bound d bindings.Begin number line
+read_form d forms.Ask number at line =
+    ask_by_time d.declared number at line >>= timed_bound d bindings.Ask number line
+read_form d form number at line =
+    timed_act_line d.declared form number at line >>= timed_step d number
 
 -- a line whose first word is this one
 unfoldable pub with_first_word : TimedSoFar → ℕ → Word → List ℕ → Result TimedSoFar ScriptFault
@@ -107,7 +124,9 @@ with_first_word d number first line = do
 -- A line without words, or whose first word begins with `#`, is skipped.
 abbrev pub by_first_word : TimedSoFar → ℕ → Word → List ℕ → Result TimedSoFar ScriptFault
 by_first_word d number first line =
-    if is_missing first then Ok d else if begins_with_hash (text_of first line) then Ok d else with_first_word d number first line
+    if is_missing first then Ok d
+    else if begins_with_hash (text_of first line) then Ok d
+    else with_first_word d number first line
 
 -- what stands after a line
 unfoldable pub read_timed_line : TimedSoFar → ℕ → List ℕ → Result TimedSoFar ScriptFault

@@ -1,5 +1,5 @@
--- The lines of a script by time that are not read as without time. Each is read behind its first word. A line that binds a variable gives
--- the word of its name too.
+-- The lines of a script by time that are not read as without time. Each is read behind its first word.
+-- A line that binds a variable gives the word of its name too.
 use Rattle.std.specs.Prelude.{ℕ, List, Option, Some, None, Result, Ok}
 use Rattle.cam_words.specs.declared.fault.ScriptFault.{ScriptFault}
 use Rattle.cam_words.specs.declared.cause.Cause.TheVariants as causes
