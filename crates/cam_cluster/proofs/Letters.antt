@@ -1,20 +1,25 @@
--- Letters of a trace: those that are numbered were sent, and on the first path each is a call or an answer to a node.
-use Rattle.std.proofs.Common.{◌≡◌, ◌∙◌, ◌⊎◌, inl, inr, ℕ, zero, suc, ◌+◌, ◌-◌, ◌≤◌, ◌<◌, ◌≢◌, eqb, Bool, true, false, ◌&&◌, if◌then◌else◌, List, [], ◌∷◌, ◌++◌, length, Option, Some, None, refl, sym, ap, subst, arith}
-use Rattle.std.specs.Prelude.{nat_le, slice_get, is_some, option_map, option_and_then, reverse}
-use Rattle.std.specs.List.{list_all}
-use Rattle.std.proofs.lemmas.Bool.{and_parts, eq-eqb}
-use Rattle.std.proofs.lemmas.Bool.Decides.{eqb_tells, leb_tells}
-use Rattle.std.proofs.lemmas.Option.{same_Some}
-use Rattle.std.proofs.lemmas.List.{reverse-append}
-use Rattle.cam_type.specs.declared.ObjectDecl.{ObjectDecl}
+-- The letters that the events of a run sent, read from the events in order.
+use Rattle.std.proofs.Common.{◌≡◌, ◌∙◌, ◌⊎◌, inl, inr, ℕ, zero, suc, ◌-◌, ◌≤◌, ◌<◌, ◌≢◌, eqb, Bool, true, false, if◌then◌else◌, List, [], ◌∷◌, ◌++◌, length, Option, Some, None, refl, sym, ap, arith}
+use Rattle.std.specs.Prelude.{reverse, slice_get, option_map, option_and_then}
+use Rattle.std.proofs.lemmas.Bool.Decides.{eqb_tells}
+use Rattle.std.proofs.lemmas.List.{length-reverse, reverse-reverse, reverse-append}
 use Rattle.cam_event.specs.declared.LetterId.{LetterId}
 use Rattle.cam_event.specs.declared.Event.{Event}
 use Rattle.cam_event.specs.declared.Sent.{Sent}
-use Rattle.cam_event.specs.Inputs.{Mail, event_at, mail_of, letter_at}
-use Rattle.cam_event.proofs.Members.{event_below}
-use Rattle.cam_cluster.specs.FirstPath.{is_first_deed, is_first_sent, is_first_event, are_first}
-use Rattle.cam_runs.specs.Running.{ids_from, letters}
-use Rattle.cam_cluster.proofs.Served.{if_so, if_not}
+use Rattle.cam_event.specs.Inputs.{Mail, mail_of, event_at, letter_at}
+
+-- a letter as it was sent
+abbrev pub sent_of : Mail → Sent
+sent_of mail = record { to = mail.to; body = mail.body }
+
+-- a choice that is known
+if_so : {X : Type 0} (b : Bool) (x y : X) → b ≡ true → (if b then x else y) ≡ x
+if_so true x y h = refl
+if_so false x y h = cc
+
+if_not : {X : Type 0} (b : Bool) (x y : X) → b ≡ false → (if b then x else y) ≡ y
+if_not true x y h = cc
+if_not false x y h = refl
 
 -- a place in two lists one behind the other
 pub in_front : {X : Type 0} (xs ys : List X) (k : ℕ) → k < length xs → slice_get (xs ++ ys) k ≡ slice_get xs k
@@ -27,77 +32,60 @@ behind_front [] ys k past = ap (slice_get ys) (omega arith)
 behind_front (x ∷ xs) ys zero past = absurd (omega (arith, past))
 behind_front (x ∷ xs) ys (suc k) past = behind_front xs ys k (omega (arith, past)) ∙ ap (slice_get ys) (omega arith)
 
--- the letters of one event
-ids_are : (event place : ℕ) (sent : List Sent) (j : ℕ) (id : LetterId) → slice_get (ids_from event place sent) j ≡ Some id → (id.event ≡ event) × (is_some (slice_get sent j) ≡ true) × (id.place ≡ place + j)
-ids_are event place [] j id at = let gone : ◌≡◌ {A = Option LetterId} None (Some id) = at in cc
-ids_are event place (m ∷ sent) zero id at =
-    let same = same_Some (record { event = event; place = place }) id at in
-    (sym (ap (λ (z : LetterId). z.event) same), refl, sym (ap (λ (z : LetterId). z.place) same) ∙ omega arith)
-ids_are event place (m ∷ sent) (suc j) id at = let rest = ids_are event (place + 1) sent j id at in (rest.0, rest.1, rest.2 ∙ omega arith)
+-- no value behind the end
+past : {X : Type 0} (xs : List X) (k : ℕ) → length xs ≤ k → slice_get xs k ≡ None
+past [] k less = refl
+past (x ∷ xs) zero less = absurd (omega (arith, less))
+past (x ∷ xs) (suc k) less = past xs k (omega (arith, less))
 
--- an older letter is found in the longer trace
-pub older_letter : (t : List Event) (e : Event) (id : LetterId) (mail : Mail) → letter_at t id ≡ Some mail → letter_at (e ∷ t) id ≡ Some mail
-older_letter t e id mail at = ap (option_and_then (λ x. option_map (mail_of x) (slice_get x.sent id.place))) (older (event_at t id.event) refl at) ∙ at
+one_last : {X : Type 0} (x : X) (k : ℕ) → k ≢ 0 → slice_get (x ∷ []) k ≡ None
+one_last x zero other = absurd (other refl)
+one_last x (suc k) other = refl
+
+-- The event of a number stands at that place of the trace in order.
+event_in_order : (t : List Event) (i : ℕ) → event_at t i ≡ slice_get (reverse t) i
+event_in_order [] i = refl
+event_in_order (e ∷ t) i =
+    elim (eqb_tells i (length t)) [
+      | inl y ↦
+          if_so (eqb i (length t)) (Some e) (event_at t i) y.0
+          ∙ sym (turned i ∙ behind_front (reverse t) (e ∷ []) i (omega (arith, y.1, length-reverse t)) ∙ ap (slice_get (e ∷ [])) (no_more y.1))
+      | inr n ↦ if_not (eqb i (length t)) (Some e) (event_at t i) n.0 ∙ event_in_order t i ∙ sym (turned i ∙ other i n.1)
+    ]
   where
-    older : (o : Option Event) → event_at t id.event ≡ o → option_and_then (λ x. option_map (mail_of x) (slice_get x.sent id.place)) o ≡ Some mail → event_at (e ∷ t) id.event ≡ event_at t id.event
-    older (Some x) is found = if_not (eqb id.event (length t)) (Some e) (event_at t id.event) (by (eqb_tells id.event (length t)))
+    turned : (k : ℕ) → slice_get (reverse (e ∷ t)) k ≡ slice_get (reverse t ++ e ∷ []) k
+    turned k = ap (λ (es : List Event). slice_get es k) (reverse-append (e ∷ []) t)
+
+    no_more : i ≡ length t → i - length (reverse t) ≡ 0
+    no_more is = omega (arith, is, length-reverse t)
+
+    other : (k : ℕ) → k ≢ length t → slice_get (reverse t ++ e ∷ []) k ≡ slice_get (reverse t) k
+    other k not_last = elim (cases_less k) [
+      | inl less ↦ in_front (reverse t) (e ∷ []) k (omega (arith, less, length-reverse t))
+      | inr more ↦
+          behind_front (reverse t) (e ∷ []) k (omega (arith, more, length-reverse t))
+          ∙ one_last e (k - length (reverse t)) (λ z. not_last (omega (arith, z, more, length-reverse t)))
+          ∙ sym (past (reverse t) k (omega (arith, more, length-reverse t)))
+    ]
       where
-        by : ((eqb id.event (length t) ≡ true) × (id.event ≡ length t)) ⊎ ((eqb id.event (length t) ≡ false) × (id.event ≢ length t)) → eqb id.event (length t) ≡ false
-        by (inl y) = absurd (omega (arith, y.1, event_below t id.event x is))
-        by (inr n) = n.0
-    older None is found = let gone : ◌≡◌ {A = Option Mail} None (Some mail) = found in cc
+        cases_less : (j : ℕ) → (j < length t) ⊎ (length t ≤ j)
+        cases_less j = less_or j (length t)
+          where
+            less_or : (a b : ℕ) → (a < b) ⊎ (b ≤ a)
+            less_or a zero = inr (omega arith)
+            less_or zero (suc b) = inl (omega arith)
+            less_or (suc a) (suc b) = elim (less_or a b) [ inl l ↦ inl (omega (arith, l)) | inr m ↦ inr (omega (arith, m)) ]
 
--- a numbered letter was sent
-pub numbered_is_sent : (t : List Event) (k : ℕ) (id : LetterId) → slice_get (letters t) k ≡ Some id → (mail : Mail) × (letter_at t id ≡ Some mail)
-numbered_is_sent [] k id at = let gone : ◌≡◌ {A = Option LetterId} None (Some id) = at in cc
-numbered_is_sent (e ∷ t) k id at = by (numbered_is_sent t k id) (leb_tells (length (letters t)) k)
+-- A letter that is read from the trace in order is the letter as it was sent.
+pub read_letter : (events : List Event) (id : LetterId) → option_map sent_of (letter_at (reverse events) id) ≡ option_and_then (λ (e : Event). slice_get e.sent id.place) (slice_get events id.event)
+read_letter events id =
+    ap (λ o. option_map sent_of (option_and_then (λ e. option_map (mail_of e) (slice_get e.sent id.place)) o)) (event_in_order (reverse events) id.event ∙ ap (λ (es : List Event). slice_get es id.event) (reverse-reverse events))
+    ∙ by (slice_get events id.event)
   where
-    newest : (o : Option Sent) → slice_get e.sent id.place ≡ o → is_some o ≡ true → (mail : Mail) × (option_map (mail_of e) o ≡ Some mail)
-    newest (Some m) is some = (mail_of e m, refl)
-    newest None is some = let gone : false ≡ true = some in cc
+    of_event : (e : Event) (s : Option Sent) → option_map sent_of (option_map (mail_of e) s) ≡ s
+    of_event e (Some s) = refl
+    of_event e None = refl
 
-    by : (slice_get (letters t) k ≡ Some id → (mail : Mail) × (letter_at t id ≡ Some mail)) → ((nat_le (length (letters t)) k ≡ true) × (length (letters t) ≤ k)) ⊎ ((nat_le (length (letters t)) k ≡ false) × (k < length (letters t)))
-        → (mail : Mail) × (letter_at (e ∷ t) id ≡ Some mail)
-    by rest (inr within) = let old = rest (sym (in_front (letters t) (ids_from (length t) 0 e.sent) k within.1) ∙ at) in (old.0, older_letter t e id old.0 old.1)
-    by rest (inl past) =
-        let new = ids_are (length t) 0 e.sent (k - length (letters t)) id (sym (behind_front (letters t) (ids_from (length t) 0 e.sent) k past.1) ∙ at) in
-        let place_is : id.place ≡ k - length (letters t) = new.2 ∙ omega arith in
-        let found = newest (slice_get e.sent id.place) refl (ap (λ j. is_some (slice_get e.sent j)) place_is ∙ new.1) in
-        let event_is : event_at (e ∷ t) id.event ≡ Some e = if_so (eqb id.event (length t)) (Some e) (event_at t id.event) (eq-eqb id.event (length t) new.0) in
-        (found.0, ap (option_and_then (λ x. option_map (mail_of x) (slice_get x.sent id.place))) event_is ∙ found.1)
-
--- what holds of each value holds of the one at a place
-pub all_at : {X : Type 0} (p : X → Bool) (xs : List X) (k : ℕ) (x : X) → list_all p xs ≡ true → slice_get xs k ≡ Some x → p x ≡ true
-all_at {X = X} p [] k x all at = let gone : ◌≡◌ {A = Option X} None (Some x) = at in cc
-all_at p (y ∷ xs) zero x all at = subst (λ z. p z ≡ true) (same_Some y x at) (and_parts (p y) (list_all p xs) all).0
-all_at p (y ∷ xs) (suc k) x all at = all_at p xs k x (and_parts (p y) (list_all p xs) all).1 at
-
-pub all_and_one : {X : Type 0} (p : X → Bool) (xs : List X) (x : X) → list_all p xs ≡ true → p x ≡ true → list_all p (xs ++ x ∷ []) ≡ true
-all_and_one p [] x all one = ap (λ b. b && true) one
-all_and_one p (y ∷ xs) x all one = let parts = and_parts (p y) (list_all p xs) all in (λ i. parts.0 i && all_and_one p xs x parts.1 one i)
-
-event_first : (objects : List ObjectDecl) (nodes : ℕ) (t : List Event) (i : ℕ) (e : Event) → are_first objects nodes t ≡ true → event_at t i ≡ Some e → is_first_event objects nodes e ≡ true
-event_first objects nodes [] i e first at = let gone : ◌≡◌ {A = Option Event} None (Some e) = at in cc
-event_first objects nodes (x ∷ t) i e first at = by (event_first objects nodes t i e) (eqb i (length t)) at
-  where
-    by : (are_first objects nodes t ≡ true → event_at t i ≡ Some e → is_first_event objects nodes e ≡ true) → (b : Bool) → (if b then Some x else event_at t i) ≡ Some e → is_first_event objects nodes e ≡ true
-    by rest true at' = subst (λ (z : Event). is_first_event objects nodes z ≡ true) (same_Some x e at') (and_parts (is_first_event objects nodes x) (are_first objects nodes t) first).0
-    by rest false at' = rest (and_parts (is_first_event objects nodes x) (are_first objects nodes t) first).1 at'
-
--- each letter is one of the first path
-pub letter_first : (objects : List ObjectDecl) (nodes : ℕ) (t : List Event) (id : LetterId) (mail : Mail) → are_first objects nodes t ≡ true → letter_at t id ≡ Some mail → is_first_sent objects nodes (record { to = mail.to; body = mail.body }) ≡ true
-letter_first objects nodes t id mail first at = by (event_at t id.event) refl at
-  where
-    of_sent : (e : Event) (o : Option Sent) → slice_get e.sent id.place ≡ o → is_first_event objects nodes e ≡ true → option_map (mail_of e) o ≡ Some mail → is_first_sent objects nodes (record { to = mail.to; body = mail.body }) ≡ true
-    of_sent e (Some m) is all found =
-        subst (λ (z : Mail). is_first_sent objects nodes (record { to = z.to; body = z.body }) ≡ true) (same_Some (mail_of e m) mail found)
-        (all_at (is_first_sent objects nodes) e.sent id.place m (and_parts (list_all is_first_deed e.deeds) (list_all (is_first_sent objects nodes) e.sent) all).1 is)
-    of_sent e None is all found = let gone : ◌≡◌ {A = Option Mail} None (Some mail) = found in cc
-
-    by : (o : Option Event) → event_at t id.event ≡ o → option_and_then (λ x. option_map (mail_of x) (slice_get x.sent id.place)) o ≡ Some mail → is_first_sent objects nodes (record { to = mail.to; body = mail.body }) ≡ true
-    by (Some e) is found = of_sent e (slice_get e.sent id.place) refl (event_first objects nodes t id.event e first is) found
-    by None is found = let gone : ◌≡◌ {A = Option Mail} None (Some mail) = found in cc
-
--- a trace in order, and with the newest event first
-pub reverse_more : {X : Type 0} (xs : List X) (x : X) → reverse (xs ++ x ∷ []) ≡ x ∷ reverse xs
-reverse_more xs x = reverse-append xs (x ∷ [])
+    by : (o : Option Event) → option_map sent_of (option_and_then (λ (e : Event). option_map (mail_of e) (slice_get e.sent id.place)) o) ≡ option_and_then (λ (e : Event). slice_get e.sent id.place) o
+    by (Some e) = of_event e (slice_get e.sent id.place)
+    by None = refl

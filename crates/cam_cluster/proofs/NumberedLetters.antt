@@ -9,9 +9,8 @@ use Rattle.cam_event.specs.declared.LetterId.{LetterId}
 use Rattle.cam_event.specs.declared.Sent.{Sent}
 use Rattle.cam_event.specs.Inputs.{Mail, letter_at}
 use Rattle.cam_runs.specs.Running.{ids_from}
-use Rattle.cam_cluster.specs.Deliveries.{sent_of}
+use Rattle.cam_cluster.proofs.Letters.{read_letter, sent_of}
 use Rattle.cam_cluster.proofs.PlacedNodes.{taken_there}
-use Rattle.cam_cluster.proofs.SentLetters.{read_letter}
 
 -- the letters of one event
 pub ids_many : (event place : ℕ) (sent : List Sent) → length (ids_from event place sent) ≡ length sent

@@ -1,14 +1,3 @@
-pub mod Contract
-pub mod Parts
-pub mod FirstScripts
-pub mod FirstPath
-pub mod Served
-pub mod Nodes
-pub mod Keeps
-pub mod Room
-pub mod Changes
-pub mod Lines
-pub mod Deliveries
 pub mod Seen
 pub mod LineOwes
 pub mod Disks
@@ -40,3 +29,4 @@ pub mod Restarts
 pub mod Taking
 pub mod Courses
 pub mod Founding
+pub mod WholeRuns

@@ -1,3 +1,4 @@
+//! Want of memory, as the fault of a line.
 ghost use Rattle.std.specs.Prelude.{◌≡◌};
 ghost use Rattle.cam_cluster.specs.declared.LineFault.TheVariants.{NoMemory as LineNoMemory};
 

@@ -1,7 +1,7 @@
-ghost use Rattle.std.specs.Prelude.{◌≡◌, ◌<◌, ◌++◌, ◌∷◌, [], IfOk, OnOk, vec_len, vec_capacity};
+//! Room that is made in a list before it is used.
+ghost use Rattle.std.specs.Prelude.{◌≡◌, ◌<◌, ◌++◌, ◌∷◌, [], OnOk, vec_len, vec_capacity};
 
-use cam_base::{NoMemory, Sequence};
-use std::alloc::Global;
+use cam_base::NoMemory;
 
 /// Makes room for one more value. The values stay.
 pub(crate) fn reserve_one<T>(list: &mut Vec<T>) -> Result<(), NoMemory>
@@ -22,13 +22,4 @@ pub(crate) fn push_reserved<T: Copy>(list: &mut Vec<T>, value: &T)
         // there is room
         Err(_) => unreachable!(),
     }
-}
-
-/// The list of this one value.
-pub(crate) fn one<T: Copy>(alloc: Global, value: &T) -> Result<Sequence<T>, NoMemory>
-    ensures { IfOk result (λ list. list ≡ value.now ∷ []) }
-{
-    let mut list = Sequence::new(alloc);
-    list.push_copy(value)?;
-    Ok(list)
 }

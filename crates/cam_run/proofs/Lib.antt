@@ -1,2 +1,3 @@
 pub mod OneWord
+pub mod Reported
 pub mod WorkedAnswers

@@ -2,9 +2,11 @@
 ghost use Rattle.std.specs.Prelude.{◌≡◌, ◌⊎◌, ◌↔◌, ℕ, List, [], IfOk, IsTrue, Err, map, string_bytes};
 ghost use Rattle.cam_base.specs.Causes.{Rose};
 ghost use Rattle.cam_base.specs.Told.{IfTold};
+ghost use Rattle.cam_words.specs.Causes.{cause_number};
 ghost use Rattle.cam_headline.specs.Headline.{HasOneRun};
 ghost use Rattle.cam_run.specs.declared.status.Status.TheVariants as statuses;
 ghost use Rattle.cam_run.specs.Status.{number};
+ghost use Rattle.cam_run.specs.Texts.{refused_text};
 ghost use Rattle.cam_run.specs.Answer.{IsAnswer, IsForm, IsOfFault, IsOfScript, IsOfWords, IsWritten, script_of, status_of};
 
 use crate::running::report;
@@ -158,14 +160,13 @@ fn read_fault(alloc: Global) -> Result<Answer, NoMemory>
 }
 
 /// The answer to a script: the report of its run, or its first fault.
-#[tactic(auto, using(cam_cluster::proofs::FirstScripts::of_first_stage))]
 fn run_bytes(alloc: Global, bytes: &[u8]) -> Result<Answer, NoMemory>
     ensures answer { IfOk result
         (λ a. IsOfScript (script_of bytes.now) (number a.status) (string_bytes a.text)) }
     ensures statuses { IfOk result
         (λ a. (a.status ≡ statuses.Done) ⊎ (a.status ≡ statuses.Refused)) }
 {
-    match parse(alloc, Stage::FirstPath, bytes) {
+    match parse(alloc, Stage::WithBodies, bytes) {
         Ok(script) => Ok(Answer {
             status: Status::Done,
             text: report(alloc, &script)?,
@@ -187,8 +188,16 @@ fn refusal(alloc: Global, fault: ScriptFault) -> Result<Answer, NoMemory>
             cause,
         } => Ok(Answer {
             status: Status::Refused,
-            text: format!(in alloc; "refused {line} {column} S{}\n", cause.number())?,
+            text: refused_line(alloc, line, column, cause)?,
         }),
         ScriptFault::NoMemory => Err(NoMemory),
     }
+}
+
+/// The line of a fault of a script: its place and its cause.
+fn refused_line(alloc: Global, line: u32, column: u32, cause: Cause) -> Result<String, NoMemory>
+    ensures { IfOk result
+        (λ text. string_bytes text ≡ refused_text line column (cause_number cause)) }
+{
+    Ok(format!(in alloc; "refused {line} {column} S{}\n", cause.number())?)
 }

@@ -4,7 +4,7 @@ ghost use Rattle.cam_cluster.specs.LetterCounts.{count_before, letter_counts, mo
 
 use crate::room::{push_reserved, reserve_one};
 use cam_base::NoMemory;
-use cam_event::{Event, LetterId};
+use cam_event::{Event, LetterId, Trace};
 use std::alloc::Global;
 
 /// The events so far, the oldest first, and of each how many letters were sent until it stood: as many as letters can
@@ -64,6 +64,13 @@ impl NumberedEvents {
         ensures value { result.now ≡ self.now.events.items }
     {
         self.events.as_slice()
+    }
+
+    /// Gives the events. It takes no memory.
+    pub(crate) fn into_trace(self) -> Trace
+        ensures { result ≡ self.events.items }
+    {
+        Trace::from_vec(self.events)
     }
 
     /// Makes room for one more event. The events stay.

@@ -1,0 +1,45 @@
+-- The lines are taken one after another.
+use Rattle.std.proofs.Common.{◌≡◌, ◌≤◌, ◌+◌, ◌∙◌, ℕ, Some, ap, arith, get_or, length, subst}
+use Rattle.std.specs.Prelude.{slice_get}
+use Rattle.cam_script.specs.declared.Act.TheVariants.{Begin}
+use Rattle.cam_cluster.specs.WholeRuns.{HasTaken}
+use Rattle.cam_cluster.proofs.AsSeen.{lines_of, reads_of}
+use Rattle.cam_cluster.proofs.WholeRuns.{built_at, step_at}
+use Rattle.cam_cluster.proofs.course.Course.take_all.Goals as goal
+
+pub loop-step-init : goal.loop-step-init
+loop-step-init g c =
+    record { taken = c.requires.none; servers = c.requires.servers; items = c.as_slice-step-items.ensures }
+
+pub take_next-requires : goal.take_next-requires
+take_next-requires g c =
+    let at =
+    step_at c.args.script.now c.as_slice-step-items.result.now c.loop-step.step-index
+    (record { line = 0; act = Begin 0 }) c.loop-step-test.true c.loop-step.invariant.items
+    in record {
+      built =
+          built_at c.args.script.now c.loop-step.step-index
+          (get_or c.as_slice-step-items.result.now c.loop-step.step-index
+          (record { line = 0; act = Begin 0 })) c.requires.forms at;
+      next = record { many = c.loop-step.step-index; taken = c.loop-step.invariant.taken; at = at };
+      servers = c.loop-step.invariant.servers;
+    }
+
+pub loop-step-preserved : goal.loop-step-preserved
+loop-step-preserved g c =
+    let at =
+    step_at c.args.script.now c.as_slice-step-items.result.now c.loop-step.step-index
+    (record { line = 0; act = Begin 0 }) c.loop-step-test.true c.loop-step.invariant.items
+    in record {
+      taken = c.in_ok-take_next.ensures.taken c.loop-step.step-index c.loop-step.invariant.taken at;
+      servers = c.in_ok-take_next.ensures.servers;
+      items = c.loop-step.invariant.items;
+    }
+
+pub returns-clause-all : goal.returns-clause-all
+returns-clause-all g c =
+    let end : length c.as_slice-step-items.result.now ≤ c.loop-step.step-index = omega arith in
+    subst (λ (n : ℕ). HasTaken c.args.script.now n
+    (lines_of g.L.CheckpointLog g.L.EntryLog c.loop-step.self.lines)
+    (reads_of g.L.CheckpointLog g.L.EntryLog c.loop-step.self.lines.works) c.loop-step.self.workers)
+    (omega (arith, end) ∙ ap length c.loop-step.invariant.items) c.loop-step.invariant.taken

@@ -1,0 +1,47 @@
+-- The run of a whole script, line by line.
+use Rattle.std.specs.Prelude.{◌≡◌, ℕ, ◌+◌, List, [], Some, slice_get}
+use Rattle.cam_event.specs.declared.Event.{Event}
+use Rattle.cam_event.specs.declared.Mark.{Mark}
+use Rattle.cam_event.specs.declared.RunRecord.{RunRecord}
+use Rattle.cam_event.specs.Readings.{by_pasts}
+use Rattle.cam_node.specs.Log.{Logged}
+use Rattle.cam_runs.specs.Halts.{Halt}
+use Rattle.cam_runs.specs.HaltedLines.{run_with}
+use Rattle.cam_script.specs.declared.Script.{Script}
+use Rattle.cam_script.specs.declared.Step.{Step}
+use Rattle.cam_cluster.specs.declared.workers.Workers.{Workers}
+use Rattle.cam_cluster.specs.Courses.{KeepsCourse}
+use Rattle.cam_cluster.specs.Seen.{IsRunRecord, Seen, lines_taken}
+use Rattle.cam_cluster.specs.SoFar.{LinesFields}
+
+-- the cluster that has run a whole script, in whose run these inputs are halts
+abbrev pub after_all : Script → List Halt → Seen
+after_all script halts =
+    record { script = script; standing = run_with by_pasts script halts; halts = halts }
+
+-- THE CLAUSE of a run: the record is that of the whole run, in which no node halts.
+abbrev pub IsRecordOf : Script → RunRecord → Type 0
+IsRecordOf script result = IsRunRecord (after_all script []) result
+
+-- So many lines of a script were taken, and no node halted in them.
+pub record HasTaken (script : Script) (many : ℕ) (lines : LinesFields)
+    (may_read : ℕ → Logged → Type 0) (at_work : Workers) : Type 0 where
+  pub seen : Seen
+  pub keeps : KeepsCourse seen lines may_read at_work
+  pub of_script : seen.script ≡ script
+  pub taken : lines_taken seen ≡ many
+  pub no_halt : seen.halts ≡ []
+
+-- the step that is taken next
+pub record IsNextOfRun (script : Script) (step : Step) (lines : LinesFields)
+    (may_read : ℕ → Logged → Type 0) (at_work : Workers) : Type 0 where
+  pub many : ℕ
+  pub taken : HasTaken script many lines may_read at_work
+  pub at : slice_get script.steps many ≡ Some step
+
+-- It was taken, or refused.
+abbrev pub HasTakenNext : Script → Step → LinesFields → (ℕ → Logged → Type 0) → Workers
+    → LinesFields → (ℕ → Logged → Type 0) → Workers → Type 0
+HasTakenNext script step old might_read old_workers new may_read at_work =
+    (many : ℕ) → HasTaken script many old might_read old_workers
+    → slice_get script.steps many ≡ Some step → HasTaken script (many + 1) new may_read at_work
