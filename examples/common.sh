@@ -8,19 +8,35 @@ is_proved() {
     "$camelot" --is-proved
 }
 
+# the examples, each as FOLDER/NAME
+examples() {
+    (cd "$here" && find . -name '*.cam' -o -name '*.make') | sed 's|^\./||; s|\.[a-z]*$||' | LC_ALL=C sort
+}
+
+# the name of an example in one folder with all others
+flat() {
+    echo "$1" | sed 's|/|--|g'
+}
+
+# the script of an example, which stands in a file or is written by a command
+script_of() {
+    if [ -f "$here/$1.cam" ]; then cat "$here/$1.cam"; else sh "$here/$1.make"; fi
+}
+
 # the words of an example, which are split at blanks
 words_of() {
     if [ -f "$here/$1.words" ]; then cat "$here/$1.words"; else echo run; fi
 }
 
-# run_examples ROOM   leaves NAME.text and NAME.status of each example in the folder ROOM
+# run_examples ROOM   leaves NAME.text and NAME.status of each example in the folder ROOM, with NAME as `flat` has it
 run_examples() {
     if is_proved; then
-        for script in "$here"/*.cam; do
-            name=$(basename "$script" .cam)
+        for example in $(examples); do
+            name=$(flat "$example")
+            script_of "$example" >"$1/$name"
             status=0
             # shellcheck disable=SC2046
-            "$camelot" $(words_of "$name") <"$script" >"$1/$name.text" 2>/dev/null || status=$?
+            "$camelot" $(words_of "$example") <"$1/$name" >"$1/$name.text" 2>/dev/null || status=$?
             echo $status >"$1/$name.status"
         done
         return
@@ -28,11 +44,11 @@ run_examples() {
     command -v rt >/dev/null 2>&1 || PATH=$PATH:/opt/rattle/bin
     echo "no proved program stands: all examples run on one quick build, in about a minute" >&2
     mkdir "$1/cases"
-    for script in "$here"/*.cam; do
-        name=$(basename "$script" .cam)
-        cp "$script" "$1/cases/$name"
+    for example in $(examples); do
+        name=$(flat "$example")
+        script_of "$example" >"$1/cases/$name"
         # shellcheck disable=SC2046
-        printf '%s\n' $(words_of "$name") >"$1/cases/$name.args"
+        printf '%s\n' $(words_of "$example") >"$1/cases/$name.args"
         # Where no text is expected yet, the kit prints the one that comes under `== NAME`.
         : >"$1/$name.text"
     done
