@@ -42,7 +42,7 @@ run_examples() {
         return
     fi
     command -v rt >/dev/null 2>&1 || PATH=$PATH:/opt/rattle/bin
-    echo "no proved program stands: all examples run on one quick build, in about a minute" >&2
+    echo "no proved program stands: all examples run on one quick build, in two or three minutes" >&2
     mkdir "$1/cases"
     for example in $(examples); do
         name=$(flat "$example")
