@@ -1,22 +1,24 @@
 //! `cam_cluster`: what each line of a script comes to.
 
-ghost use Rattle.std.specs.Prelude.{◌≡◌, OnOk};
-ghost use Rattle.cam_event.specs.Readings.{by_pasts};
+ghost use Rattle.std.specs.Prelude.{◌≡◌, IfOk, length};
+ghost use Rattle.cam_script.specs.declared.stage.Stage.TheVariants.{WithBodies};
 ghost use Rattle.cam_script.specs.Law.{IsScript};
-ghost use Rattle.cam_cluster.specs.FirstScripts.{IsFirstPath};
-ghost use Rattle.cam_cluster.specs.Contract.{IsNextStep, after_step};
+ghost use Rattle.cam_script.specs.OfStage.{IsOfStage};
 
 mod words;
 
 use cam_base::NoMemory;
-use cam_cluster::{Cluster, LineFault, run_script};
-use cam_script::{Labels, Script, Stage, Step, parse};
+use cam_cluster::{RunFault, Servers, run_script};
+use cam_disk::MemoryDisk;
+use cam_event::RunRecord;
+use cam_script::{Script, Stage, parse};
+use cam_type::{CounterServer, QueueServer, RegisterServer};
 use std::alloc::Global;
 use std::fmt::Write;
 use std::test::Fail;
-use words::last_event;
+use words::event_text;
 
-// A table has the lines of a script. Behind the bar of a line stands what it comes to: its event, or its refusal with the mark. An event
+// A table has the lines of a script. Behind the bar of a line stands what it comes to: its event, or the mark of its refusal. An event
 // is told by its node, the number of the letter that it got (0 for none), its note, its deeds, and the letters that it sent.
 
 /// A write, and a read of another action that bounces off it. The holder may read. A second call while one is open is refused.
@@ -31,8 +33,8 @@ call B x read | node 1 got 0 Plain, call 1.1.2 1 x Read at 1, sent 3 to 1 call 1
 deliver 3 | node 1 got 3 Plain, bounce 1.1.2 1 1.1.1, sent 4 to 1 answer 1.1.2 1 busy 1.1.1
 deliver 4 | node 1 got 4 Plain, got 1.1.2 1 busy 1.1.1
 call A x read | node 1 got 0 Plain, call 1.1.1 2 x Read at 1, sent 5 to 1 call 1.1.1 2 x Read at 1 deps 1:1
-call A x read | OpenCall, Refused { line: 12, refusal: OpenCall }
-deliver 6 | NoLetter, Refused { line: 13, refusal: NoLetter }
+call A x read | Refused { line: 12, refusal: OpenCall }
+deliver 6 | Refused { line: 13, refusal: NoLetter }
 deliver 5 | node 1 got 5 Plain, perform 1.1.1 2 Value(5), sent 6 to 1 answer 1.1.1 2 Value(5)
 deliver 6 | node 1 got 6 Plain, got 1.1.1 2 Value(5)";
 
@@ -64,7 +66,7 @@ deliver 11 | node 1 got 11 Plain, perform 2.1.2 3 Ok, sent 12 to 2 answer 2.1.2 
 /// an answer is late where it comes again, and where the action waits for another.
 const REPEATS: &str = "nodes 1
 object x 1 register 7
-deliver 1 | NoLetter, Refused { line: 3, refusal: NoLetter }
+deliver 1 | Refused { line: 3, refusal: NoLetter }
 begin A 1 | node 1 got 0 Plain, create 1.1.1
 call A x swap 5 | node 1 got 0 Plain, call 1.1.1 1 x Swap(5) at 1, sent 1 to 1 call 1.1.1 1 x Swap(5) at 1 deps 1:1
 deliver 1 | node 1 got 1 Plain, perform 1.1.1 1 Value(7), sent 2 to 1 answer 1.1.1 1 Value(7)
@@ -80,32 +82,9 @@ deliver 5 | node 1 got 5 Plain, got 1.1.2 1 busy 1.1.1
 call A x read | node 1 got 0 Plain, call 1.1.1 2 x Read at 1, sent 7 to 1 call 1.1.1 2 x Read at 1 deps 1:1
 deliver 2 | node 1 got 2 Late
 deliver 7 | node 1 got 7 Plain, perform 1.1.1 2 Value(5), sent 8 to 1 answer 1.1.1 2 Value(5)
-deliver 9 | NoLetter, Refused { line: 19, refusal: NoLetter }
-deliver 4294967295 | NoLetter, Refused { line: 20, refusal: NoLetter }
+deliver 9 | Refused { line: 19, refusal: NoLetter }
+deliver 4294967295 | Refused { line: 20, refusal: NoLetter }
 deliver 8 | node 1 got 8 Plain, got 1.1.1 2 Value(5)";
-
-/// Takes the next line of the script, and says what it came to.
-fn next_line(
-    alloc: Global,
-    labels: &Labels,
-    cluster: &mut Cluster,
-    step: &Step,
-) -> Result<String, NoMemory>
-    requires { IsNextStep cluster.old step.now }
-    ensures { OnOk result (cluster.new ≡ after_step by_pasts cluster.old step.now) }
-{
-    match cluster.line(step) {
-        Ok(done) if done.events == 1 && done.halted.is_none() && done.bad.is_none() => {
-            last_event(alloc, labels, cluster.trace())
-        }
-        Ok(done) => Ok(format!(in alloc; "{done:?}")?),
-        Err(LineFault::Refused(refusal)) => match cluster.run().marks.as_slice().last() {
-            Some(mark) => Ok(format!(in alloc; "{refusal:?}, {mark:?}")?),
-            None => Ok(format!(in alloc; "{refusal:?}")?),
-        },
-        Err(LineFault::NoMemory) => Err(NoMemory),
-    }
-}
 
 /// The script of a table: of each row what stands before the bar.
 fn script_of(alloc: Global, table: &str) -> Result<String, NoMemory> {
@@ -120,60 +99,77 @@ fn script_of(alloc: Global, table: &str) -> Result<String, NoMemory> {
     Ok(text)
 }
 
-/// What each line of a script comes to, in order: its event, or its refusal with the mark.
-fn lines_of(alloc: Global, script: &Script) -> Result<Vec<String>, Fail>
-    requires script { IsScript script.now }
-    requires forms { IsFirstPath script.now }
+/// So many empty disks in memory.
+fn empty_disks(alloc: Global, count: u8) -> Result<Vec<MemoryDisk>, NoMemory>
+    ensures { IfOk result (λ disks. length disks.items ≡ count) }
 {
-    let mut told = Vec::new(alloc);
-    let mut cluster = Cluster::new(alloc, script)?;
-    for step in script.steps.as_slice() {
-        told.push(next_line(alloc, &script.labels, &mut cluster, step)?)?;
+    let mut disks = Vec::with_capacity(alloc, count as usize)?;
+    for _ in 0..count {
+        disks.push(MemoryDisk::new(alloc))?;
     }
-    Ok(told)
+    Ok(disks)
 }
 
-/// No line of these scripts is refused as unbound: a call names a variable of a `begin` above it, and no `begin` is refused.
+/// The run of a script over disks in memory.
+fn run(alloc: Global, script: &Script) -> Result<RunRecord, RunFault>
+    requires script { IsScript script.now }
+    requires forms { IsOfStage WithBodies script.now }
+{
+    let mut servers = Servers {
+        register: RegisterServer::new(),
+        queue: QueueServer::new(alloc),
+        counter: CounterServer::new(),
+    };
+    run_script(
+        alloc,
+        script,
+        empty_disks(alloc, script.nodes)?,
+        &mut servers,
+    )
+}
+
 #[test]
-fn each_line_has_its_event_or_its_refusal(rt: HostRuntime) -> Result<(), Fail> {
+fn each_line_has_its_event_or_its_mark(rt: HostRuntime) -> Result<(), Fail> {
+    let alloc = rt.alloc();
     for table in [CONFLICT, TWO_NODES, REPEATS] {
-        let text = script_of(rt.alloc(), table)?;
-        let script = parse(rt.alloc(), Stage::FirstPath, text.as_bytes())?;
-        let lines = lines_of(rt.alloc(), &script)?;
-        let mut lines = lines.iter();
+        let text = script_of(alloc, table)?;
+        let script = parse(alloc, Stage::WithBodies, text.as_bytes())?;
+        let record = run(alloc, &script)?;
         let mut events = 0usize;
         let mut marks = 0usize;
         for row in table.lines() {
             let Some((line, want)) = row.split_once(" | ") else {
                 continue;
             };
-            let told = lines.next().ok_or("a line is missing")?;
-            assert_eq!(rt; told.as_str(), want, "at {line}");
             if want.starts_with("node") {
+                let told = event_text(alloc, &script.labels, &record.trace, events)?;
+                assert_eq!(rt; told.as_str(), want, "at {line}");
                 events = events.wrapping_add(1);
             } else {
+                let mark = record.marks.get(marks).ok_or("a mark is missing")?;
+                let told = format!(in alloc; "{mark:?}")?;
+                assert_eq!(rt; told.as_str(), want, "at {line}");
                 marks = marks.wrapping_add(1);
             }
         }
-        assert_eq!(rt; lines.next(), None);
-        let cluster = run_script(rt.alloc(), &script)?;
-        assert_eq!(rt; cluster.trace().len(), events);
-        assert_eq!(rt; cluster.run().marks.len(), marks);
+        assert_eq!(rt; record.trace.len(), events);
+        assert_eq!(rt; record.marks.len(), marks);
     }
     Ok(())
 }
 
 #[test]
 fn with_ample_memory_a_script_runs(rt: HostRuntime) -> Result<(), Fail> {
+    let alloc = rt.alloc();
     let script = parse(
-        rt.alloc(),
-        Stage::FirstPath,
-        b"nodes 8\nbegin A 8\ndeliver 1\n",
+        alloc,
+        Stage::WithBodies,
+        b"nodes 8\nbegin A 8\ndeliver 1\nrestart 3\n",
     )?;
-    let cluster = run_script(rt.alloc(), &script)?;
-    let told = last_event(rt.alloc(), &script.labels, cluster.trace())?;
+    let record = run(alloc, &script)?;
+    let told = event_text(alloc, &script.labels, &record.trace, 0)?;
     assert_eq!(rt; told.as_str(), "node 8 got 0 Plain, create 8.1.1");
-    assert_eq!(rt; cluster.run().trace.len(), 1);
-    assert_eq!(rt; cluster.run().marks.len(), 1);
+    assert_eq!(rt; record.trace.len(), 2);
+    assert_eq!(rt; record.marks.len(), 1);
     Ok(())
 }

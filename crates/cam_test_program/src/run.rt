@@ -2,8 +2,11 @@
 
 ghost use Rattle.std.specs.Prelude.{Some};
 
+mod rows;
+
 use cam_io::{Failed, MemorySink, MemorySource, Sink};
 use cam_run::{camelot, worked_answers};
+use rows::ROWS;
 use std::alloc::Global;
 use std::test::Fail;
 
@@ -130,6 +133,25 @@ fn a_script_has_its_answer(rt: HostRuntime) -> Result<(), Fail> {
     let mut sink = MemorySink::new(alloc, Vec::new(alloc));
     assert_eq!(rt; camelot(alloc, &run, &mut long, &mut sink), 3);
     assert_eq!(rt; sink.text(), b"refused 1 1 S1\n".as_slice());
+    Ok(())
+}
+
+/// Lines of every kind but `stop`, by the reports of their runs.
+#[test]
+fn worked_runs_have_their_reports(rt: HostRuntime) -> Result<(), Fail> {
+    let alloc = rt.alloc();
+    let run = words(alloc, "run")?;
+    for row in ROWS {
+        let mut source = source(alloc, row.script, &[])?;
+        let mut sink = MemorySink::new(alloc, Vec::new(alloc));
+        assert_eq!(rt;
+            camelot(alloc, &run, &mut source, &mut sink),
+            0,
+            "{}",
+            row.script
+        );
+        assert_eq!(rt; sink.text(), row.report.as_bytes(), "{}", row.script);
+    }
     Ok(())
 }
 

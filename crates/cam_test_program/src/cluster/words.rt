@@ -152,14 +152,14 @@ fn first_letter(trace: &Trace, event: usize) -> usize {
     number
 }
 
-/// The last event of a trace: its node, the letter that it got, its note, its deeds and its letters.
-pub(super) fn last_event(
+/// An event of a trace, by its place: its node, the letter that it got, its note, its deeds and its letters.
+pub(super) fn event_text(
     alloc: Global,
     labels: &Labels,
     trace: &Trace,
+    place: usize,
 ) -> Result<String, NoMemory> {
-    let last = trace.len().wrapping_sub(1);
-    let Some(event) = trace.get(last) else {
+    let Some(event) = trace.get(place) else {
         return Ok(String::from_str(alloc, "no event")?);
     };
     let got = match &event.got {
@@ -172,7 +172,7 @@ pub(super) fn last_event(
     for deed in event.deeds.as_slice() {
         write!(text, ", {}", deed_text(alloc, labels, deed)?)?;
     }
-    let mut number = first_letter(trace, last);
+    let mut number = first_letter(trace, place);
     for sent in event.sent.as_slice() {
         let body = body_text(alloc, labels, &sent.body)?;
         write!(text, ", sent {number} to {} {body}", sent.to)?;
