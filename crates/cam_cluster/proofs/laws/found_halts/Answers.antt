@@ -3,7 +3,7 @@ use Rattle.cam_cluster.proofs.FoundHalts.{found_lines_put_in}
 use Rattle.cam_cluster.proofs.HaltsDiffer.{found_halts_differ}
 use Rattle.cam_cluster.proofs.LaterHalts.{later_halts_stay}
 use Rattle.cam_cluster.proofs.LinesUnder.{lines_are_under_halts}
-use Rattle.cam_cluster.proofs.contract.found_halts.Goals as goal
+use Rattle.cam_cluster.proofs.laws.found_halts.Goals as goal
 
 pub returns-clause-differ : goal.returns-clause-differ
 returns-clause-differ c = found_halts_differ

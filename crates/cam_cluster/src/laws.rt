@@ -1,4 +1,4 @@
-// What the lines of a script come to, as laws.
+//! What the lines of a script come to, and what a halt that is found to be taken changes, as laws.
 ghost use Rattle.cam_cluster.specs.FoundHalts.{FoundHaltsDiffer, FoundLinesPutIn, LaterHaltsStay};
 ghost use Rattle.cam_cluster.specs.FoundHalts.{LinesAreUnderHalts};
 ghost use Rattle.cam_cluster.specs.Seen.{AllLinesAreTheRun, LinesMakeTheRun};
