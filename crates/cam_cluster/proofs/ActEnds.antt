@@ -21,7 +21,7 @@ use Rattle.cam_cluster.specs.declared.LineFault.{LineFault}
 use Rattle.cam_cluster.specs.declared.works.Put.{Put}
 use Rattle.cam_cluster.specs.InputLines.{IsLineToSome, IsRefusedAs, IsTriedLine}
 use Rattle.cam_cluster.specs.SoFar.{IsEnded, IsLineOfInput, KeepsLines, LinesFields}
-use Rattle.cam_cluster.specs.VariableLines.{IsItsInput, IsLineBy, IsNextOfSome, IsRequestBy}
+use Rattle.cam_cluster.specs.VariableLines.{IsItsInput, IsVariableLine, IsNextOfSome, IsRequestBy}
 use Rattle.cam_cluster.specs.VariableLines.{IsRequestBySome, IsRequestLine, action_of, give_up_of}
 use Rattle.cam_cluster.specs.VariableLines.{query_of, request_of}
 use Rattle.cam_cluster.proofs.NodeActs.{query_to, query_unbound, tell_to}
@@ -50,7 +50,7 @@ module _ (line v : ℕ) (want : Want) (act_is : Act) (old new : LinesFields)
 
   pub makes_line : (result : Result Put LineFault)
       → IsRequestLine line v want old might new may result
-      → IsLineBy line act_is (request_of (action_of old.bound v) want) old might new may result
+      → IsVariableLine line act_is (request_of (action_of old.bound v) want) old might new may result
   makes_line result has input its script st halts later is keeps next =
       has script st halts act_is later is keeps next (makes script st is keeps next) input its
 
@@ -64,17 +64,17 @@ module _ (line v w : ℕ) (old new : LinesFields) (might may : ℕ → Logged �
 
   pub give_up_line : (b : Name) → action_of old.bound w ≡ Some b → (result : Result Put LineFault)
       → IsRequestLine line v (wants.GiveUp b) old might new may result
-      → IsLineBy line (acts.GiveUp v w)
+      → IsVariableLine line (acts.GiveUp v w)
       (give_up_of (action_of old.bound v) (action_of old.bound w)) old might new may result
   give_up_line b child result has =
-      subst (λ (o : Option Name). IsLineBy line (acts.GiveUp v w)
+      subst (λ (o : Option Name). IsVariableLine line (acts.GiveUp v w)
       (give_up_of (action_of old.bound v) o) old might new may result) (sym child)
       (makes_line line v (wants.GiveUp b) (acts.GiveUp v w) old new might may
       (give_up_makes b child) result has)
 
   pub give_up_refused : action_of old.bound w ≡ None → (fault : LineFault)
       → IsRefusedAs line refusals.Unbound old might new may fault
-      → IsLineBy line (acts.GiveUp v w)
+      → IsVariableLine line (acts.GiveUp v w)
       (give_up_of (action_of old.bound v) (action_of old.bound w)) old might new may (Err fault)
   give_up_refused none fault has input its script st halts later is keeps next =
       unbound_line line (acts.GiveUp v w) old new might may script st halts later is keeps next
@@ -118,7 +118,7 @@ module _ (line s v : ℕ) (old new : LinesFields) (might may : ℕ → Logged �
 
   pub query_line : (a : Name) → action_of old.bound v ≡ Some a → (result : Result Put LineFault)
       → IsTriedLine line s (inputs.Query (family a)) old might new may result
-      → IsLineBy line (acts.Query s v) (query_of s (action_of old.bound v)) old might new may result
+      → IsVariableLine line (acts.Query s v) (query_of s (action_of old.bound v)) old might new may result
   query_line a at result has input its script st halts later is keeps next =
       subst (λ (i : Input). IsEnded script st
       (setting (by_knowledge script.objects) halts
@@ -129,7 +129,7 @@ module _ (line s v : ℕ) (old new : LinesFields) (might may : ℕ → Logged �
 
   pub query_refused : action_of old.bound v ≡ None → (fault : LineFault)
       → IsRefusedAs line refusals.Unbound old might new may fault
-      → IsLineBy line (acts.Query s v) (query_of s (action_of old.bound v)) old might new may
+      → IsVariableLine line (acts.Query s v) (query_of s (action_of old.bound v)) old might new may
       (Err fault)
   query_refused none fault has input its script st halts later is keeps next =
       unbound_line line (acts.Query s v) old new might may script st halts later is keeps next

@@ -20,7 +20,7 @@ use Rattle.cam_cluster.specs.LetterLines as letters
 use Rattle.cam_cluster.specs.Seen.{later_steps, setting_in}
 use Rattle.cam_cluster.specs.SoFar.{AreLinesOfSome, IsLed, IsLineOfInput, LinesFields}
 use Rattle.cam_cluster.specs.Taking.{IsInputLine, PutsInput}
-use Rattle.cam_cluster.specs.VariableLines.{IsLineBy, IsNextOfSome}
+use Rattle.cam_cluster.specs.VariableLines.{IsVariableLine, IsNextOfSome}
 use Rattle.cam_cluster.proofs.Counted.{input_counts}
 use Rattle.cam_cluster.proofs.GoesOn.{led_goes, one_input_goes, refused_goes, wanting_goes}
 use Rattle.cam_cluster.proofs.StepHolds.{next_holds, node_within}
@@ -83,7 +83,7 @@ module _ (step : Step) (old new : LinesFields) (might may : ℕ → Logged → T
 
   -- of the input that a variable gives,
   pub line_by : (its : Option Input)
-      → IsLineBy step.line step.act its old might new may result
+      → IsVariableLine step.line step.act its old might new may result
       → IsInputLine step old might new may result
   line_by (Some input) line = input_line input (line input refl)
   line_by None line = input_line (Begins 1) (line (Begins 1) tt)

@@ -62,9 +62,9 @@ IsItsInput (Some its) input = its ≡ input
 IsItsInput None input = Unit {0}
 
 -- THE CLAUSE of a line that puts this input, if it puts one
-abbrev pub IsLineBy : ℕ → Act → Option Input → LinesFields → (ℕ → Logged → Type 0) → LinesFields
-    → (ℕ → Logged → Type 0) → Result Put LineFault → Type 0
-IsLineBy line act_is its old might_read new may_read result =
+abbrev pub IsVariableLine : ℕ → Act → Option Input → LinesFields → (ℕ → Logged → Type 0)
+    → LinesFields → (ℕ → Logged → Type 0) → Result Put LineFault → Type 0
+IsVariableLine line act_is its old might_read new may_read result =
     (input : Input) → IsItsInput its input
     → IsLineOfInput line act_is input old might_read new may_read result
 

@@ -1,7 +1,7 @@
 //! `query NODE ACTION`: the node asks the home of the action's family how the family ended.
 ghost use Rattle.cam_script.specs.declared.Act.TheVariants as acts;
 ghost use Rattle.cam_cluster.specs.Servers.{AreServers};
-ghost use Rattle.cam_cluster.specs.VariableLines.{IsLineBy, IsNextOfSome, action_of, query_of};
+ghost use Rattle.cam_cluster.specs.VariableLines.{IsVariableLine, IsNextOfSome, action_of, query_of};
 
 use super::{AsLines, Lines};
 use crate::LineFault;
@@ -27,7 +27,7 @@ impl<L: CheckpointLog> Lines<L> {
             (⟦<Lines<L> as AsLines>⟧.may_read self.old) }
         requires servers { AreServers R.kind Q.kind C.kind
             servers.old.register servers.old.queue servers.old.counter }
-        ensures line { IsLineBy line (acts.Query node action)
+        ensures line { IsVariableLine line (acts.Query node action)
             (query_of node (action_of self.old.bound.items action))
             (⟦<Lines<L> as AsLines>⟧.fields self.old) (⟦<Lines<L> as AsLines>⟧.may_read self.old)
             (⟦<Lines<L> as AsLines>⟧.fields self.new) (⟦<Lines<L> as AsLines>⟧.may_read self.new)

@@ -2,7 +2,7 @@
 ghost use Rattle.cam_event.specs.declared.Want.TheVariants as wants;
 ghost use Rattle.cam_script.specs.declared.Act.TheVariants as acts;
 ghost use Rattle.cam_cluster.specs.Servers.{AreServers};
-ghost use Rattle.cam_cluster.specs.VariableLines.{IsLineBy, IsNextOfSome, IsRequestBySome};
+ghost use Rattle.cam_cluster.specs.VariableLines.{IsVariableLine, IsNextOfSome, IsRequestBySome};
 ghost use Rattle.cam_cluster.specs.VariableLines.{IsRequestLine, action_of, give_up_of, request_of};
 
 use super::{AsLines, Lines};
@@ -59,7 +59,7 @@ impl<L: CheckpointLog> Lines<L> {
             (⟦<Lines<L> as AsLines>⟧.may_read self.old) }
         requires servers { AreServers R.kind Q.kind C.kind
             servers.old.register servers.old.queue servers.old.counter }
-        ensures line { IsLineBy line (acts.Ask parent node)
+        ensures line { IsVariableLine line (acts.Ask parent node)
             (request_of (action_of self.old.bound.items parent) (wants.Ask node))
             (⟦<Lines<L> as AsLines>⟧.fields self.old) (⟦<Lines<L> as AsLines>⟧.may_read self.old)
             (⟦<Lines<L> as AsLines>⟧.fields self.new) (⟦<Lines<L> as AsLines>⟧.may_read self.new)
@@ -85,7 +85,7 @@ impl<L: CheckpointLog> Lines<L> {
             (⟦<Lines<L> as AsLines>⟧.may_read self.old) }
         requires servers { AreServers R.kind Q.kind C.kind
             servers.old.register servers.old.queue servers.old.counter }
-        ensures line { IsLineBy line (acts.Call action object op)
+        ensures line { IsVariableLine line (acts.Call action object op)
             (request_of (action_of self.old.bound.items action) (wants.Call object op))
             (⟦<Lines<L> as AsLines>⟧.fields self.old) (⟦<Lines<L> as AsLines>⟧.may_read self.old)
             (⟦<Lines<L> as AsLines>⟧.fields self.new) (⟦<Lines<L> as AsLines>⟧.may_read self.new)
@@ -110,7 +110,7 @@ impl<L: CheckpointLog> Lines<L> {
             (⟦<Lines<L> as AsLines>⟧.may_read self.old) }
         requires servers { AreServers R.kind Q.kind C.kind
             servers.old.register servers.old.queue servers.old.counter }
-        ensures line { IsLineBy line (acts.Commit action value)
+        ensures line { IsVariableLine line (acts.Commit action value)
             (request_of (action_of self.old.bound.items action) (wants.Commit value))
             (⟦<Lines<L> as AsLines>⟧.fields self.old) (⟦<Lines<L> as AsLines>⟧.may_read self.old)
             (⟦<Lines<L> as AsLines>⟧.fields self.new) (⟦<Lines<L> as AsLines>⟧.may_read self.new)
@@ -134,7 +134,7 @@ impl<L: CheckpointLog> Lines<L> {
             (⟦<Lines<L> as AsLines>⟧.may_read self.old) }
         requires servers { AreServers R.kind Q.kind C.kind
             servers.old.register servers.old.queue servers.old.counter }
-        ensures line { IsLineBy line (acts.Abort action)
+        ensures line { IsVariableLine line (acts.Abort action)
             (request_of (action_of self.old.bound.items action) wants.Abort)
             (⟦<Lines<L> as AsLines>⟧.fields self.old) (⟦<Lines<L> as AsLines>⟧.may_read self.old)
             (⟦<Lines<L> as AsLines>⟧.fields self.new) (⟦<Lines<L> as AsLines>⟧.may_read self.new)
@@ -159,7 +159,7 @@ impl<L: CheckpointLog> Lines<L> {
             (⟦<Lines<L> as AsLines>⟧.may_read self.old) }
         requires servers { AreServers R.kind Q.kind C.kind
             servers.old.register servers.old.queue servers.old.counter }
-        ensures line { IsLineBy line (acts.GiveUp action child)
+        ensures line { IsVariableLine line (acts.GiveUp action child)
             (give_up_of (action_of self.old.bound.items action)
             (action_of self.old.bound.items child))
             (⟦<Lines<L> as AsLines>⟧.fields self.old) (⟦<Lines<L> as AsLines>⟧.may_read self.old)

@@ -8,7 +8,7 @@ use Rattle.cam_script.specs.declared.Act.{Act}
 use Rattle.cam_script.specs.declared.Act.TheVariants as acts
 use Rattle.cam_cluster.specs.LetterLines.{IsDelivery}
 use Rattle.cam_cluster.specs.LetterLines as letters
-use Rattle.cam_cluster.specs.VariableLines.{IsLineBy, IsNextOfSome, action_of, give_up_of}
+use Rattle.cam_cluster.specs.VariableLines.{IsVariableLine, IsNextOfSome, action_of, give_up_of}
 use Rattle.cam_cluster.specs.VariableLines.{query_of, request_of}
 use Rattle.cam_cluster.specs.SoFar.{IsLineOfInput}
 use Rattle.cam_cluster.proofs.AsSeen.{lines_of, part, reads_of}
@@ -208,7 +208,7 @@ returns-in-Ask-clause-line g c =
     (reads_of g.L.CheckpointLog g.L.EntryLog c.args.self.now.works)
     (reads_of g.L.CheckpointLog g.L.EntryLog c.ask.new.self.works) c.ask.result
     c.requires.input (request_of (action_of c.args.self.now.bound.items c.in-Ask.parent) (wants.Ask c.in-Ask.node))
-    (subst (λ (a : Act). IsLineBy c.args.step.now.line a (request_of (action_of c.args.self.now.bound.items c.in-Ask.parent) (wants.Ask c.in-Ask.node))
+    (subst (λ (a : Act). IsVariableLine c.args.step.now.line a (request_of (action_of c.args.self.now.bound.items c.in-Ask.parent) (wants.Ask c.in-Ask.node))
     (lines_of g.L.CheckpointLog g.L.EntryLog c.args.self.now)
     (reads_of g.L.CheckpointLog g.L.EntryLog c.args.self.now.works)
     (lines_of g.L.CheckpointLog g.L.EntryLog c.ask.new.self)
@@ -225,7 +225,7 @@ returns-in-Call-clause-line g c =
     (reads_of g.L.CheckpointLog g.L.EntryLog c.args.self.now.works)
     (reads_of g.L.CheckpointLog g.L.EntryLog c.call.new.self.works) c.call.result
     c.requires.input (request_of (action_of c.args.self.now.bound.items c.in-Call.action) (wants.Call c.in-Call.object c.in-Call.op))
-    (subst (λ (a : Act). IsLineBy c.args.step.now.line a (request_of (action_of c.args.self.now.bound.items c.in-Call.action) (wants.Call c.in-Call.object c.in-Call.op))
+    (subst (λ (a : Act). IsVariableLine c.args.step.now.line a (request_of (action_of c.args.self.now.bound.items c.in-Call.action) (wants.Call c.in-Call.object c.in-Call.op))
     (lines_of g.L.CheckpointLog g.L.EntryLog c.args.self.now)
     (reads_of g.L.CheckpointLog g.L.EntryLog c.args.self.now.works)
     (lines_of g.L.CheckpointLog g.L.EntryLog c.call.new.self)
@@ -242,12 +242,12 @@ returns-in-Commit-clause-line g c =
     (reads_of g.L.CheckpointLog g.L.EntryLog c.args.self.now.works)
     (reads_of g.L.CheckpointLog g.L.EntryLog c.commit.new.self.works) c.commit.result
     c.requires.input (request_of (action_of c.args.self.now.bound.items c.in-Commit.action) (wants.Commit c.in-Commit.value))
-    (subst (λ (a : Act). IsLineBy c.args.step.now.line a (request_of (action_of c.args.self.now.bound.items c.in-Commit.action) (wants.Commit c.in-Commit.value))
+    (subst (λ (a : Act). IsVariableLine c.args.step.now.line a (request_of (action_of c.args.self.now.bound.items c.in-Commit.action) (wants.Commit c.in-Commit.value))
     (lines_of g.L.CheckpointLog g.L.EntryLog c.args.self.now)
     (reads_of g.L.CheckpointLog g.L.EntryLog c.args.self.now.works)
     (lines_of g.L.CheckpointLog g.L.EntryLog c.commit.new.self)
     (reads_of g.L.CheckpointLog g.L.EntryLog c.commit.new.self.works) c.commit.result) (sym c.in-Commit.is)
-    (subst (λ (v : ℤ). IsLineBy c.args.step.now.line (acts.Commit c.in-Commit.action v)
+    (subst (λ (v : ℤ). IsVariableLine c.args.step.now.line (acts.Commit c.in-Commit.action v)
     (request_of (action_of c.args.self.now.bound.items c.in-Commit.action) (wants.Commit v))
     (lines_of g.L.CheckpointLog g.L.EntryLog c.args.self.now)
     (reads_of g.L.CheckpointLog g.L.EntryLog c.args.self.now.works)
@@ -266,7 +266,7 @@ returns-in-Abort-clause-line g c =
     (reads_of g.L.CheckpointLog g.L.EntryLog c.args.self.now.works)
     (reads_of g.L.CheckpointLog g.L.EntryLog c.abort.new.self.works) c.abort.result
     c.requires.input (request_of (action_of c.args.self.now.bound.items c.in-Abort.action) wants.Abort)
-    (subst (λ (a : Act). IsLineBy c.args.step.now.line a (request_of (action_of c.args.self.now.bound.items c.in-Abort.action) wants.Abort)
+    (subst (λ (a : Act). IsVariableLine c.args.step.now.line a (request_of (action_of c.args.self.now.bound.items c.in-Abort.action) wants.Abort)
     (lines_of g.L.CheckpointLog g.L.EntryLog c.args.self.now)
     (reads_of g.L.CheckpointLog g.L.EntryLog c.args.self.now.works)
     (lines_of g.L.CheckpointLog g.L.EntryLog c.abort.new.self)
@@ -284,7 +284,7 @@ returns-in-GiveUp-clause-line g c =
     (reads_of g.L.CheckpointLog g.L.EntryLog c.give_up.new.self.works) c.give_up.result
     c.requires.input (give_up_of (action_of c.args.self.now.bound.items c.in-GiveUp.action)
     (action_of c.args.self.now.bound.items c.in-GiveUp.child))
-    (subst (λ (a : Act). IsLineBy c.args.step.now.line a (give_up_of (action_of c.args.self.now.bound.items c.in-GiveUp.action)
+    (subst (λ (a : Act). IsVariableLine c.args.step.now.line a (give_up_of (action_of c.args.self.now.bound.items c.in-GiveUp.action)
     (action_of c.args.self.now.bound.items c.in-GiveUp.child))
     (lines_of g.L.CheckpointLog g.L.EntryLog c.args.self.now)
     (reads_of g.L.CheckpointLog g.L.EntryLog c.args.self.now.works)
@@ -319,7 +319,7 @@ returns-in-Query-clause-line g c =
     (reads_of g.L.CheckpointLog g.L.EntryLog c.args.self.now.works)
     (reads_of g.L.CheckpointLog g.L.EntryLog c.query.new.self.works) c.query.result
     c.requires.input (query_of c.in-Query.node (action_of c.args.self.now.bound.items c.in-Query.action))
-    (subst (λ (a : Act). IsLineBy c.args.step.now.line a (query_of c.in-Query.node (action_of c.args.self.now.bound.items c.in-Query.action))
+    (subst (λ (a : Act). IsVariableLine c.args.step.now.line a (query_of c.in-Query.node (action_of c.args.self.now.bound.items c.in-Query.action))
     (lines_of g.L.CheckpointLog g.L.EntryLog c.args.self.now)
     (reads_of g.L.CheckpointLog g.L.EntryLog c.args.self.now.works)
     (lines_of g.L.CheckpointLog g.L.EntryLog c.query.new.self)
