@@ -14,7 +14,8 @@ use cam_ckpt::CheckpointLog;
 use cam_script::Bodies;
 use cam_type::DataType;
 
-/// How many rounds a play has at most: the bodies of a script make at most 512 requests, and a round without one comes first or last.
+/// How many rounds a play has at most: the bodies of a script make at most 512 requests, the first round may hand over letters alone,
+/// and each later one but the last has a request.
 const MOST_ROUNDS: usize = 514;
 
 impl<L: CheckpointLog> Works<L> {
