@@ -33,7 +33,7 @@ use Rattle.cam_script.specs.declared.Statement.{Statement}
 use Rattle.cam_histories.specs.Lines.{line_refusal, test_letter, test_request, test_variable}
 use Rattle.cam_wire.specs.OfTrace.{spelling_of}
 use Rattle.cam_cluster.specs.Goes.{is_request, next_of}
-use Rattle.cam_cluster.specs.LineOwes.{cut_fault, short_at}
+use Rattle.cam_cluster.specs.LetterLines.{cut_fault, short_at}
 use Rattle.cam_cluster.specs.Taking.{PutsInput}
 
 module _ (c : Setting) (st : Standing) (line : ℕ) where

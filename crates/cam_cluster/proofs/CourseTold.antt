@@ -15,10 +15,9 @@ use Rattle.cam_cluster.specs.declared.LineDone.{LineDone}
 use Rattle.cam_cluster.specs.declared.LineFault.{LineFault}
 use Rattle.cam_cluster.specs.declared.LineFault.TheVariants as line_faults
 use Rattle.cam_cluster.specs.declared.workers.Workers.{Workers}
-use Rattle.cam_cluster.specs.Between.{after_step}
+use Rattle.cam_cluster.specs.Between.{after_step, node_of_halt, oldest}
 use Rattle.cam_cluster.specs.Courses.{HasLedAtWork, HasTakenLine, IsAtWorkLine, IsCourseLine}
 use Rattle.cam_cluster.specs.Courses.{KeepsCourse, first_halted}
-use Rattle.cam_cluster.specs.LineOwes.{node_of_halt, oldest}
 use Rattle.cam_cluster.specs.Seen.{Seen}
 use Rattle.cam_cluster.specs.SoFar.{LinesFields}
 use Rattle.cam_cluster.proofs.Extends.{Extends}

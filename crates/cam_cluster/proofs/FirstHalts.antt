@@ -5,8 +5,8 @@ use Rattle.std.specs.List.{AllByRecursion}
 use Rattle.std.proofs.lemmas.Bool.{eq-eqb, ne_eqb}
 use Rattle.std.proofs.lemmas.Bool.Decides.{leb_tells}
 use Rattle.cam_runs.specs.Halts.{Halt, Input, Restart, Stop, Turn, accepted, given, halt_at}
-use Rattle.cam_cluster.specs.FoundHalts.{AreNewestFirst}
-use Rattle.cam_cluster.specs.LineOwes.{input_node, node_of_halt, oldest}
+use Rattle.cam_cluster.specs.Between.{node_of_halt, oldest}
+use Rattle.cam_cluster.specs.FoundHalts.{AreNewestFirst, input_node}
 use Rattle.cam_cluster.proofs.Extends.{first_in, first_node, halted_node}
 use Rattle.cam_cluster.proofs.GoesOn.{all_so}
 use Rattle.cam_cluster.proofs.LastInputs.{accepted_more}

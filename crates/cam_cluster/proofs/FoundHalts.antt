@@ -21,8 +21,7 @@ use Rattle.cam_histories.specs.Found.{last_input, DifferAt, IsBeyond, HasBeyond,
 use Rattle.cam_histories.specs.Found.{after_step}
 use Rattle.cam_histories.specs.Found.{IsLineOfBoth}
 use Rattle.cam_histories.proofs.FoundRuns.{lines_lead_to_the_halt, lines_keep_the_event}
-use Rattle.cam_cluster.specs.FoundHalts.{IsPutIn, FoundLinesPutIn}
-use Rattle.cam_cluster.specs.LineOwes.{input_node, with_taken}
+use Rattle.cam_cluster.specs.FoundHalts.{IsPutIn, FoundLinesPutIn, input_node, with_taken}
 use Rattle.cam_cluster.specs.Seen.{run_first, run_of_lines}
 use Rattle.cam_runs.proofs.LinesGrow.{act_runs}
 use Rattle.cam_cluster.proofs.LastInputs.{last_below, last_node}

@@ -15,7 +15,7 @@ use Rattle.cam_runs.specs.HaltedLines.{act, after_line, setting}
 use Rattle.cam_runs.specs.HaltedLines.{is_restart_act}
 use Rattle.cam_runs.proofs.HaltGrows.{Grows, after_turns}
 use Rattle.cam_histories.specs.Found.{last_input, HasBeyond, after_step}
-use Rattle.cam_cluster.specs.LineOwes.{input_node}
+use Rattle.cam_cluster.specs.FoundHalts.{input_node}
 use Rattle.cam_cluster.proofs.LastInputs.{last_node, node_stays, last_grows, accepted_more}
 
 -- The node of the input has had another since: its halt is over.

@@ -8,7 +8,7 @@ use Rattle.std.proofs.lemmas.Bool.Decides.{eqb_tells}
 use Rattle.cam_runs.specs.Halts.{Halt, halt_at, Turn, accepted}
 use Rattle.cam_histories.specs.Found.{last_input}
 use Rattle.cam_cluster.specs.FoundHalts.{AreNewestFirst, FoundHaltsDiffer}
-use Rattle.cam_cluster.specs.LineOwes.{input_node, is_at, with_taken}
+use Rattle.cam_cluster.specs.FoundHalts.{input_node, is_at, with_taken}
 use Rattle.cam_cluster.proofs.LastInputs.{last_node, last_latest}
 
 -- no halt behind the first is at its input

@@ -7,7 +7,7 @@ use Rattle.std.proofs.lemmas.Bool.Decides.{eqb_tells}
 use Rattle.std.proofs.lemmas.Option.{same_Some}
 use Rattle.cam_runs.specs.Halts.{Turn, Input, Stop, Restart, accepted}
 use Rattle.cam_histories.specs.Found.{last_input}
-use Rattle.cam_cluster.specs.LineOwes.{input_node}
+use Rattle.cam_cluster.specs.FoundHalts.{input_node}
 
 -- It was accepted,
 pub last_below : (turns : List Turn) (s k : ℕ) → last_input turns s ≡ Some k → k < accepted turns

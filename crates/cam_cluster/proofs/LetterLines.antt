@@ -32,7 +32,7 @@ use Rattle.cam_cluster.specs.declared.works.letters.Coming.{Coming}
 use Rattle.cam_cluster.specs.Coming.{HasArrived}
 use Rattle.cam_cluster.specs.LetterLines.{HasLedLetter, HasMarkedCut, HasTaken, IsCut, IsDelivery}
 use Rattle.cam_cluster.specs.LetterLines.{IsLineBy, IsLoss, IsTaken, letter_refusal, with_cut}
-use Rattle.cam_cluster.specs.LineOwes.{short_at}
+use Rattle.cam_cluster.specs.LetterLines.{short_at}
 use Rattle.cam_cluster.specs.SoFar.{HasRefused, KeepsLines, KeepsLinesAsBefore, LinesFields}
 use Rattle.cam_cluster.specs.Works.{WorksFields, KeepsRun, sites_of}
 use Rattle.cam_cluster.proofs.ComingLetters.{found_lost, has_it}

@@ -23,10 +23,9 @@ use Rattle.cam_histories.specs.InputLaws.{held_setting}
 use Rattle.cam_cluster.specs.declared.workers.Workers.{Workers}
 use Rattle.cam_cluster.specs.GoLines.{KeepsLinesAtWork}
 use Rattle.cam_cluster.specs.Goes.{next_of}
-use Rattle.cam_cluster.specs.LineOwes.{rounds_whole}
 use Rattle.cam_cluster.specs.Making.{HaveMade, KeepsAtWork}
 use Rattle.cam_cluster.specs.Plays.{HasPlayedPart, IsLineOfPlay, IsPartOfPlay, play_part}
-use Rattle.cam_cluster.specs.Plays.{play_step}
+use Rattle.cam_cluster.specs.Plays.{play_step, rounds_whole}
 use Rattle.cam_cluster.specs.Works.{WorksFields}
 use Rattle.cam_cluster.proofs.BegunLine.{next_leads}
 use Rattle.cam_cluster.proofs.Drains.{bound_deliveries}

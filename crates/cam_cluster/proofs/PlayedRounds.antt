@@ -11,10 +11,9 @@ use Rattle.cam_script.specs.declared.Statement.{Statement}
 use Rattle.cam_script.specs.Law.{IsScript}
 use Rattle.cam_histories.specs.InputLaws.{held_setting}
 use Rattle.cam_cluster.specs.declared.workers.Workers.{Workers}
-use Rattle.cam_cluster.specs.LineOwes.{rounds_whole}
 use Rattle.cam_cluster.specs.Making.{AreSaidFrom, HaveBeenPut, HaveMade, KeepsAtWork, Making}
 use Rattle.cam_cluster.specs.Plays.{HasPlayedPart, HasPlayedRound, HasPlayedSome, IsPlayOfSome}
-use Rattle.cam_cluster.specs.Plays.{round_part}
+use Rattle.cam_cluster.specs.Plays.{round_part, rounds_whole}
 use Rattle.cam_cluster.specs.Works.{WorksFields}
 use Rattle.cam_cluster.proofs.Made.{made_as, made_on, none_made, said_parts}
 use Rattle.cam_cluster.proofs.Made.{stands_behind}

@@ -7,7 +7,7 @@ use Rattle.cam_runs.specs.Halts.{accepted}
 use Rattle.cam_runs.specs.HaltedPlaying.{round, rounds}
 use Rattle.cam_runs.specs.Standing.{Setting, Standing}
 use Rattle.cam_script.specs.declared.Statement.{Statement}
-use Rattle.cam_cluster.specs.LineOwes.{rounds_whole}
+use Rattle.cam_cluster.specs.Plays.{rounds_whole}
 
 module _ (c : Setting) (bodies : List (List Statement)) where
   -- an input is put in a round

@@ -17,9 +17,8 @@ use Rattle.cam_cluster.specs.declared.LineFault.TheVariants as line_faults
 use Rattle.cam_cluster.specs.declared.lines.cut.CutLetter.TheVariants as cuts
 use Rattle.cam_cluster.specs.declared.works.Put.{Put}
 use Rattle.cam_cluster.specs.Between.{KeepsBetween, halts_from}
-use Rattle.cam_cluster.specs.LetterLines.{IsCut, IsLoss}
+use Rattle.cam_cluster.specs.LetterLines.{IsCut, IsLoss, cut_fault}
 use Rattle.cam_cluster.specs.LetterLines as letters
-use Rattle.cam_cluster.specs.LineOwes.{cut_fault}
 use Rattle.cam_cluster.specs.Seen.{Seen, later_steps, setting_in}
 use Rattle.cam_cluster.specs.SoFar.{LinesFields}
 use Rattle.cam_cluster.specs.Taking.{IsTakenAlone, IsInputLine, IsStepTaken, IsWanting, PutsInput}

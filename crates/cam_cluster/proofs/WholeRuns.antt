@@ -30,13 +30,13 @@ use Rattle.cam_cluster.specs.declared.LineDone.{LineDone}
 use Rattle.cam_cluster.specs.declared.LineFault.{LineFault}
 use Rattle.cam_cluster.specs.declared.LineFault.TheVariants as line_faults
 use Rattle.cam_cluster.specs.declared.workers.Workers.{Workers}
-use Rattle.cam_cluster.specs.Between.{KeepsBetween, after_step}
+use Rattle.cam_cluster.specs.Between.{KeepsBetween, after_step, node_of_halt, oldest}
 use Rattle.cam_cluster.specs.Courses.{HasTakenLine, IsAwakeFor, IsBuilt, IsCourseLine, IsNextOfCourse, KeepsCourse}
+use Rattle.cam_cluster.specs.FoundHalts.{input_node}
 use Rattle.cam_cluster.specs.Founding.{before_first}
-use Rattle.cam_cluster.specs.LineOwes.{input_node, node_of_halt, oldest}
 use Rattle.cam_cluster.specs.Seen.{IsNextStep, Seen, later_steps, lines_taken, run_first, run_of_lines}
 use Rattle.cam_cluster.specs.SoFar.{LinesFields}
-use Rattle.cam_cluster.specs.WholeRuns.{HasTaken, HasTakenNext, IsNextOfRun, IsRecordOf}
+use Rattle.cam_cluster.specs.WholeRuns.{HasTakenLines, HasTakenNext, IsNextOfRun, IsRecordOf}
 use Rattle.cam_cluster.specs.Workers.{AreWorkers}
 use Rattle.cam_cluster.proofs.AllLines.{all_lines_are_the_run}
 use Rattle.cam_cluster.proofs.LinesUnder.{line_counts}
@@ -83,7 +83,7 @@ awake_by (acts.Stop s calls) st none = tt
 
 module _ (script : Script) (many : ℕ) (step : Step) (lines : LinesFields)
     (may_read : ℕ → Logged → Type 0) (at_work : Workers)
-    (taken : HasTaken script many lines may_read at_work)
+    (taken : HasTakenLines script many lines may_read at_work)
     (at : slice_get script.steps many ≡ Some step) where
   next_step : IsNextStep taken.seen step
   next_step = (λ i. slice_get ((taken.of_script i).steps) (taken.taken i)) ∙ at
@@ -102,7 +102,7 @@ module _ (script : Script) (many : ℕ) (step : Step) (lines : LinesFields)
   -- what is known behind the line
   goes_on : (more : List Halt) (new : LinesFields) (may : ℕ → Logged → Type 0) (working : Workers)
       → KeepsCourse (after_step taken.seen step more) new may working → more ≡ []
-      → HasTaken script (many + 1) new may working
+      → HasTakenLines script (many + 1) new may working
   goes_on more new may working keeps none = record {
     seen = after_step taken.seen step more;
     keeps = keeps;
@@ -189,7 +189,7 @@ line_refused script step old new might may before working fault refusal is line 
 -- before the first line
 pub none_taken : (script : Script) (lines : LinesFields) (may_read : ℕ → Logged → Type 0)
     (at_work : Workers) → KeepsBetween (before_first script) lines may_read
-    → AreWorkers start at_work → HasTaken script 0 lines may_read at_work
+    → AreWorkers start at_work → HasTakenLines script 0 lines may_read at_work
 none_taken script lines may_read at_work keeps workers = record {
   seen = before_first script;
   keeps = record { between = keeps; workers = workers };
@@ -201,7 +201,7 @@ none_taken script lines may_read at_work keeps workers = record {
 -- behind the last
 pub all_taken : (script : Script) (lines : LinesFields) (may_read : ℕ → Logged → Type 0)
     (at_work : Workers) (trace : List Event) (marks : List Mark)
-    → HasTaken script (length script.steps) lines may_read at_work
+    → HasTakenLines script (length script.steps) lines may_read at_work
     → trace ≡ lines.works.events → marks ≡ lines.works.marks
     → IsRecordOf script (record { trace = trace; marks = marks })
 all_taken script lines may_read at_work trace marks taken events all_marks = record {

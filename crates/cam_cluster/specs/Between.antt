@@ -1,13 +1,13 @@
 -- What a cluster keeps between lines: the lines so far, as those of the run with the halts that are
 -- known; and what one line more makes of it.
 use Rattle.std.specs.Prelude.{◌≡◌, ◌≤◌, ◌<◌, ℕ, ◌+◌, false, List, [], ◌∷◌, ◌++◌, Some, None}
-use Rattle.std.specs.Prelude.{Result, Ok, Err}
+use Rattle.std.specs.Prelude.{Option, Result, Ok, Err}
 use Rattle.std.specs.List.{AllByRecursion}
 use Rattle.cam_event.specs.declared.LineRefusal.{LineRefusal}
 use Rattle.cam_event.specs.Inputs.{Input}
 use Rattle.cam_event.specs.Readings.{by_knowledge, by_pasts}
 use Rattle.cam_node.specs.Log.{Logged}
-use Rattle.cam_runs.specs.Halts.{Halt, accepted}
+use Rattle.cam_runs.specs.Halts.{Halt, Turn, accepted}
 use Rattle.cam_runs.specs.HaltedLines.{act, after_line}
 use Rattle.cam_script.specs.declared.Step.{Step}
 use Rattle.cam_script.specs.Law.{IsScript}
@@ -17,7 +17,7 @@ use Rattle.cam_cluster.specs.declared.LineFault.{LineFault}
 use Rattle.cam_cluster.specs.declared.LineFault.TheVariants as line_faults
 use Rattle.cam_cluster.specs.declared.works.Put.{Put}
 use Rattle.cam_cluster.specs.declared.works.Put.TheVariants as puts
-use Rattle.cam_cluster.specs.FoundHalts.{AreNewestFirst}
+use Rattle.cam_cluster.specs.FoundHalts.{AreNewestFirst, input_node}
 use Rattle.cam_cluster.specs.Puts.{as_halt}
 use Rattle.cam_cluster.specs.Seen.{IsBetweenLines, IsNextStep, Seen, setting_in}
 use Rattle.cam_cluster.specs.SoFar.{KeepsLines, LinesFields}
@@ -59,6 +59,16 @@ pub record AreHaltsOfLine (seen new : Seen) (more : List Halt) : Type 0 where
       AllByRecursion (λ (h : Halt). accepted seen.standing.turns ≤ h.input) more
   pub high :
       AllByRecursion (λ (h : Halt). h.input < accepted new.standing.turns) more
+
+-- the halt that came first of these, the newest first; and the node of it
+abbrev pub oldest : List Halt → Option Halt
+oldest [] = None
+oldest (h ∷ []) = Some h
+oldest (h ∷ g ∷ hs) = oldest (g ∷ hs)
+
+abbrev pub node_of_halt : List Turn → Option Halt → Option ℕ
+node_of_halt turns None = None
+node_of_halt turns (Some h) = input_node turns h.input
 
 -- So the lines go on: what is kept behind a line is what is kept between lines.
 abbrev pub LinesGoOn : Type 1

@@ -21,7 +21,8 @@ use Rattle.cam_cluster.specs.declared.LineFault.{LineFault}
 use Rattle.cam_cluster.specs.declared.LineFault.TheVariants as line_faults
 use Rattle.cam_cluster.specs.declared.workers.Workers.{Workers}
 use Rattle.cam_cluster.specs.Between.{AreHaltsOfLine, HasLedOn, KeepsBetween, after_step}
-use Rattle.cam_cluster.specs.LineOwes.{cut_fault, node_of_halt, oldest}
+use Rattle.cam_cluster.specs.Between.{node_of_halt, oldest}
+use Rattle.cam_cluster.specs.LetterLines.{cut_fault}
 use Rattle.cam_cluster.specs.Plays.{HasPlayedSoFar}
 use Rattle.cam_cluster.specs.Seen.{IsNextStep, Seen}
 use Rattle.cam_cluster.specs.SoFar.{LinesFields}

@@ -1,5 +1,5 @@
 -- What the disks of a cluster keep: that of each node that is not halted opens as a log from which
--- a restart recovers what the run keeps.
+-- a restart recovers what the run keeps. No call owes it yet, since none hands disks back.
 use Rattle.std.specs.Prelude.{◌≡◌, ◌≤◌, ℕ, ◌-◌, Bool, true, false, List, length, Some}
 use Rattle.std.specs.Prelude.{slice_get}
 use Rattle.cam_base.specs.Causes.{Rose}
@@ -22,7 +22,7 @@ KeepsLogs cluster may_read =
 
 -- what may be read from the disk at the place of a node, where it tells what it holds: after a
 -- crash now, too
-pub record MayReadAt {D : Type 0} (tells : D → Bool) (moment : D → ℕ)
+pub record MayReadDisk {D : Type 0} (tells : D → Bool) (moment : D → ℕ)
     (left_since : D → ℕ → List ℕ → Type 0) (disks : List D) (s : ℕ)
     (logged : Logged) : Type 0 where
   pub disk : D
@@ -30,13 +30,13 @@ pub record MayReadAt {D : Type 0} (tells : D → Bool) (moment : D → ℕ)
   pub told : tells disk ≡ true
   pub reads : MayRead (OpeningsBy read_ckpt (left_since disk)) (moment disk) logged
 
--- THE CLAUSE of `into_disks`: all disks at their places, and those of nodes that are not halted
+-- All disks at their places, and those of nodes that are not halted
 -- keep the run.
 pub record AreDisksOf {D : Type 0} (tells : D → Bool) (moment : D → ℕ)
     (left_since : D → ℕ → List ℕ → Type 0) (many : ℕ) (cluster : Seen)
     (disks : List D) : Type 0 where
   pub all : length disks ≡ many
-  pub logs : KeepsLogs cluster (MayReadAt tells moment left_since disks)
+  pub logs : KeepsLogs cluster (MayReadDisk tells moment left_since disks)
 
 -- A cluster was refused as the disk of this node failed while it was formatted.
 abbrev pub HasFailed : {D : Type 0} → (D → ℕ) → List D → List D → ℕ → Type 0

@@ -1,6 +1,7 @@
 -- The last halt of a node that is halted, found to be taken: what that makes of the run of the
 -- lines that were taken so far.
-use Rattle.std.specs.Prelude.{◌≡◌, ℕ, ◌<◌, ◌≤◌, true, false, List, [], ◌∷◌, ◌++◌, Some}
+use Rattle.std.specs.Prelude.{◌≡◌, ℕ, ◌<◌, ◌≤◌, eqb, Bool, true, false, if◌then◌else◌}
+use Rattle.std.specs.Prelude.{List, [], ◌∷◌, ◌++◌, Option, Some, None}
 use Rattle.std.specs.List.{AllByRecursion}
 use Rattle.cam_type.specs.declared.ObjectDecl.{ObjectDecl}
 use Rattle.cam_event.specs.declared.Event.{Event}
@@ -8,12 +9,30 @@ use Rattle.cam_event.specs.Readings.{Reading, by_pasts}
 use Rattle.cam_script.specs.declared.Script.{Script}
 use Rattle.cam_runs.specs.Running.{has_number}
 use Rattle.cam_runs.specs.InRange.{IsInRange}
-use Rattle.cam_runs.specs.Halts.{Halt, halt_at, Turn, accepted, given}
+use Rattle.cam_runs.specs.Halts.{Halt, halt_at, Turn, Input, Stop, Restart, accepted, given}
 use Rattle.cam_runs.specs.Standing.{Standing}
 use Rattle.cam_runs.specs.UnderHalts.{IsUnderHalts}
 use Rattle.cam_histories.specs.Found.{last_input, DifferAt, IsBeyond}
-use Rattle.cam_cluster.specs.LineOwes.{with_taken}
 use Rattle.cam_cluster.specs.Seen.{run_of_lines}
+
+-- where an input was put
+abbrev pub input_node : List Turn → ℕ → Option ℕ
+input_node [] k = None
+input_node (Input s line appends restarted ∷ before) k =
+    if eqb (accepted before) k then Some s else input_node before k
+input_node (Stop s calls ∷ before) k = input_node before k
+input_node (Restart s ∷ before) k = input_node before k
+
+-- the halts with the last one of a node found to be taken
+abbrev pub is_at : Option ℕ → ℕ → Bool
+is_at None s = false
+is_at (Some m) s = eqb m s
+
+abbrev pub with_taken : List Turn → ℕ → List Halt → List Halt
+with_taken turns s [] = []
+with_taken turns s (h ∷ hs) =
+    if is_at (input_node turns h.input) s then record h { took = true } ∷ hs
+    else h ∷ with_taken turns s hs
 
 -- Halts are listed with the newest first, each once.
 abbrev pub AreNewestFirst : List Halt → Type 0

@@ -1,11 +1,14 @@
 -- The lines that deliver, cut or lose a letter.
-use Rattle.std.specs.Prelude.{◌≡◌, ℕ, suc, Bool, false, List, [], Option, Some, None, Result, Ok, Err}
+use Rattle.std.specs.Prelude.{◌≡◌, ℕ, suc, nat_lt, Bool, false, if◌then◌else◌, List, [], length}
+use Rattle.std.specs.Prelude.{Option, Some, None, Result, Ok, Err}
+use Rattle.cam_bytes.specs.declared.WireFault.{WireFault}
+use Rattle.cam_bytes.specs.declared.WireFault.TheVariants as faults
 use Rattle.cam_event.specs.declared.LetterId.{LetterId}
 use Rattle.cam_event.specs.declared.LetterFault.TheVariants.{Short}
 use Rattle.cam_event.specs.declared.LineRefusal.{LineRefusal}
 use Rattle.cam_event.specs.declared.Mark.TheVariants as marks
 use Rattle.cam_event.specs.Inputs.{Receives}
-use Rattle.cam_event.specs.Readings.{by_knowledge}
+use Rattle.cam_event.specs.Readings.{Reading, by_knowledge}
 use Rattle.cam_net.specs.Waiting as net
 use Rattle.cam_node.specs.Log.{Logged}
 use Rattle.cam_runs.specs.Halts.{Halting}
@@ -18,6 +21,7 @@ use Rattle.cam_script.specs.declared.Act.TheVariants as acts
 use Rattle.cam_script.specs.declared.Script.{Script}
 use Rattle.cam_script.specs.declared.Step.{Step}
 use Rattle.cam_script.specs.Law.{IsScript}
+use Rattle.cam_wire.specs.OfTrace.{spelling_of}
 use Rattle.cam_histories.specs.InputLaws.{held_setting, halt_of}
 use Rattle.cam_histories.specs.Lines.{line_refusal, test_letter}
 use Rattle.cam_cluster.specs.declared.LineFault.{LineFault}
@@ -27,7 +31,6 @@ use Rattle.cam_cluster.specs.declared.lines.cut.CutLetter.TheVariants as cuts
 use Rattle.cam_cluster.specs.declared.works.Put.{Put}
 use Rattle.cam_cluster.specs.declared.works.letters.Coming.{Coming}
 use Rattle.cam_cluster.specs.Coming.{HasFound}
-use Rattle.cam_cluster.specs.LineOwes.{cut_fault}
 use Rattle.cam_cluster.specs.Puts.{as_halt}
 use Rattle.cam_cluster.specs.SoFar.{IsLed, IsRefused, KeepsLines, KeepsLinesAsBefore, LinesFields}
 
@@ -78,6 +81,17 @@ pub record IsDone (script : Script) (st : Standing) (c : Setting) (act_is : Act)
 abbrev pub IsLoss : ℕ → Script → Standing → Setting → LinesFields → (ℕ → Logged → Type 0)
     → Unit {0} → Type 0
 IsLoss number script st c new may_read done = IsDone script st c (acts.Lose number) new may_read
+
+-- The fault of a letter that a line cuts short: its bytes end too early, where the line ends them.
+abbrev pub short_at : Reading → Standing → ℕ → Option LetterId → Option WireFault
+short_at reading st bytes None = None
+short_at reading st bytes (Some letter) =
+    if nat_lt bytes (length (spelling_of reading st.running.trace letter))
+    then Some (faults.Short bytes) else None
+
+abbrev pub cut_fault : Reading → Standing → Act → Option WireFault
+cut_fault reading st (acts.Cut k bytes) = short_at reading st bytes (letter_of st.running k)
+cut_fault reading st _ = None
 
 -- Fewer bytes are left than the letter has, and this fault is told of them; or it was handed over.
 abbrev pub IsCut : ℕ → ℕ → Script → Standing → Setting → LinesFields → (ℕ → Logged → Type 0)

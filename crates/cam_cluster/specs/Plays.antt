@@ -1,13 +1,13 @@
 -- The line `play`: rounds, in each of which the actions with a body have their turns and the
 -- letters that wait are handed over, until the first without an input.
-use Rattle.std.specs.Prelude.{◌≡◌, ℕ, Bool, nat_lt, List, ◌++◌, length}
+use Rattle.std.specs.Prelude.{◌≡◌, ℕ, zero, suc, Bool, nat_lt, List, ◌++◌, length, take}
 use Rattle.cam_event.specs.Readings.{by_knowledge}
 use Rattle.cam_node.specs.Log.{Logged}
 use Rattle.cam_runs.specs.Halts.{Halting, accepted}
 use Rattle.cam_runs.specs.HaltedLines.{act, after_line, setting}
 use Rattle.cam_runs.specs.HaltedPlaying.{go_in_round, play, round}
 use Rattle.cam_runs.specs.Playing.{in_order}
-use Rattle.cam_runs.specs.Standing.{Setting, Standing}
+use Rattle.cam_runs.specs.Standing.{Setting, Standing, deliveries}
 use Rattle.cam_runs.specs.UnderHalts.{IsNextStep}
 use Rattle.cam_script.specs.declared.Act.TheVariants as acts
 use Rattle.cam_script.specs.declared.Script.{Script}
@@ -20,7 +20,6 @@ use Rattle.cam_cluster.specs.declared.works.Put.{Put}
 use Rattle.cam_cluster.specs.Between.{halts_from}
 use Rattle.cam_cluster.specs.BodiesAtNodes.{BodiesAreAtNodes}
 use Rattle.cam_cluster.specs.GoLines.{KeepsLinesAtWork}
-use Rattle.cam_cluster.specs.LineOwes.{part_of_round, rounds_whole}
 use Rattle.cam_cluster.specs.Making.{AreCounted, AreSaidFrom, HaveMade, KeepsAtWork, Making}
 use Rattle.cam_cluster.specs.Seen.{Seen, setting_in}
 use Rattle.cam_cluster.specs.SoFar.{LinesFields}
@@ -40,6 +39,15 @@ pub record IsPlayOfSome (bodies : List (List Statement)) (works : WorksFields)
 -- the turns of all actions with a body, in order of their names
 abbrev pub all_turns : Making
 all_turns c bodies st = go_in_round c bodies (in_order st.running.bodies) st
+
+-- Some rounds whole; and of a round the first turns and some deliveries.
+abbrev pub rounds_whole : Setting → List (List Statement) → ℕ → Standing → Standing
+rounds_whole c bodies zero st = st
+rounds_whole c bodies (suc n) st = rounds_whole c bodies n (round c bodies st)
+
+abbrev pub part_of_round : Setting → List (List Statement) → ℕ → ℕ → Standing → Standing
+part_of_round c bodies requests number st =
+    deliveries c number (go_in_round c bodies (take requests (in_order st.running.bodies)) st)
 
 -- so many turns of a round and then so many deliveries; and these behind so many whole rounds
 abbrev pub round_part : ℕ → ℕ → Making

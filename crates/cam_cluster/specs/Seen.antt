@@ -59,12 +59,6 @@ abbrev pub setting_in : (List ObjectDecl → Reading) → Seen → List Halt →
 setting_in reading cluster halts step =
     setting (reading cluster.script.objects) (given halts) step (later_steps cluster)
 
--- A new cluster has taken no line of its script.
-pub record IsNewCluster (given_script : Script) (new : Seen) : Type 0 where
-  pub script : new.script ≡ given_script
-  pub standing : new.standing ≡ start
-  pub halts : new.halts ≡ []
-
 -- A cluster that has taken all lines: the whole run, with its halts.
 pub record HasRun (given_script : Script) (cluster : Seen) : Type 0 where
   pub script : cluster.script ≡ given_script

@@ -14,7 +14,7 @@ use Rattle.cam_cluster.specs.declared.LineFault.TheVariants as line_faults
 use Rattle.cam_cluster.specs.declared.works.Put.{Put}
 use Rattle.cam_cluster.specs.Between.{HasBeenRefused, HasLedOn, IsStepOf, KeepsBetween}
 use Rattle.cam_cluster.specs.Between.{halts_from}
-use Rattle.cam_cluster.specs.LineOwes.{cut_fault}
+use Rattle.cam_cluster.specs.LetterLines.{cut_fault}
 use Rattle.cam_cluster.specs.Seen.{IsNextStep, Seen, setting_in}
 use Rattle.cam_cluster.specs.SoFar.{KeepsLines, LinesFields}
 

@@ -24,7 +24,7 @@ abbrev pub IsRecordOf : Script → RunRecord → Type 0
 IsRecordOf script result = IsRunRecord (after_all script []) result
 
 -- So many lines of a script were taken, and no node halted in them.
-pub record HasTaken (script : Script) (many : ℕ) (lines : LinesFields)
+pub record HasTakenLines (script : Script) (many : ℕ) (lines : LinesFields)
     (may_read : ℕ → Logged → Type 0) (at_work : Workers) : Type 0 where
   pub seen : Seen
   pub keeps : KeepsCourse seen lines may_read at_work
@@ -36,12 +36,12 @@ pub record HasTaken (script : Script) (many : ℕ) (lines : LinesFields)
 pub record IsNextOfRun (script : Script) (step : Step) (lines : LinesFields)
     (may_read : ℕ → Logged → Type 0) (at_work : Workers) : Type 0 where
   pub many : ℕ
-  pub taken : HasTaken script many lines may_read at_work
+  pub taken : HasTakenLines script many lines may_read at_work
   pub at : slice_get script.steps many ≡ Some step
 
 -- It was taken, or refused.
 abbrev pub HasTakenNext : Script → Step → LinesFields → (ℕ → Logged → Type 0) → Workers
     → LinesFields → (ℕ → Logged → Type 0) → Workers → Type 0
 HasTakenNext script step old might_read old_workers new may_read at_work =
-    (many : ℕ) → HasTaken script many old might_read old_workers
-    → slice_get script.steps many ≡ Some step → HasTaken script (many + 1) new may_read at_work
+    (many : ℕ) → HasTakenLines script many old might_read old_workers
+    → slice_get script.steps many ≡ Some step → HasTakenLines script (many + 1) new may_read at_work

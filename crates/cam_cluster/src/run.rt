@@ -6,7 +6,7 @@ ghost use Rattle.cam_script.specs.Law.{IsScript};
 ghost use Rattle.cam_script.specs.OfStage.{IsOfStage};
 ghost use Rattle.cam_cluster.specs.Courses.{IsBuilt};
 ghost use Rattle.cam_cluster.specs.Servers.{AreServers};
-ghost use Rattle.cam_cluster.specs.WholeRuns.{HasTaken, HasTakenNext, IsNextOfRun, IsRecordOf};
+ghost use Rattle.cam_cluster.specs.WholeRuns.{HasTakenLines, HasTakenNext, IsNextOfRun, IsRecordOf};
 
 use crate::LineFault;
 use crate::course::Course;
@@ -47,7 +47,7 @@ impl From<NoMemory> for RunFault {
     }
 }
 
-/// Why a script was not run, where no cluster was made.
+/// Why a script was not run, where no cluster was made. No clause says which fault this is.
 fn fault_of(fault: ClusterFault) -> RunFault {
     match fault {
         ClusterFault::DiskFault(node) => RunFault::DiskFault(node),
@@ -75,7 +75,7 @@ impl<D: TellingDisk> Course<Ckpt<StopDisk<D>>> {
     ) -> Result<Course<Ckpt<StopDisk<D>>>, RunFault>
         requires script { IsScript script.now }
         requires one_each { length disks.items ≡ script.now.nodes }
-        ensures { IfOk result (λ course. HasTaken script.now 0
+        ensures { IfOk result (λ course. HasTakenLines script.now 0
             (⟦<Lines<Ckpt<StopDisk<D>>> as AsLines>⟧.fields course.lines)
             (⟦<Lines<Ckpt<StopDisk<D>>> as AsLines>⟧.may_read course.lines) course.workers) }
     {
@@ -90,8 +90,8 @@ impl<D: TellingDisk> Course<Ckpt<StopDisk<D>>> {
 }
 
 impl<L: TellingLog> Course<L> {
-    /// Takes the next line of the script, which may be refused. A node may halt in it only where
-    /// its disk fails.
+    /// Takes the next line of the script, which may be refused. Where a node halted in it, it fails:
+    /// the disk of the node failed or found no memory, but no clause says what a halt came of.
     fn take_next<R: DataType, Q: DataType, C: DataType>(
         &mut self,
         script: &Script,
@@ -121,9 +121,7 @@ impl<L: TellingLog> Course<L> {
             Err(LineFault::NoMemory) => Err(RunFault::NoMemory),
         }
     }
-}
 
-impl<L: TellingLog> Course<L> {
     /// Takes all lines of the script, of which none is taken yet.
     fn take_all<R: DataType, Q: DataType, C: DataType>(
         &mut self,
@@ -131,11 +129,11 @@ impl<L: TellingLog> Course<L> {
         servers: &mut Servers<R, Q, C>,
     ) -> Result<(), RunFault>
         requires forms { IsOfStage WithBodies script.now }
-        requires none { HasTaken script.now 0 (⟦<Lines<L> as AsLines>⟧.fields self.old.lines)
+        requires none { HasTakenLines script.now 0 (⟦<Lines<L> as AsLines>⟧.fields self.old.lines)
             (⟦<Lines<L> as AsLines>⟧.may_read self.old.lines) self.old.workers }
         requires servers { AreServers R.kind Q.kind C.kind
             servers.old.register servers.old.queue servers.old.counter }
-        ensures all { OnOk result (HasTaken script.now (length script.now.steps)
+        ensures all { OnOk result (HasTakenLines script.now (length script.now.steps)
             (⟦<Lines<L> as AsLines>⟧.fields self.new.lines)
             (⟦<Lines<L> as AsLines>⟧.may_read self.new.lines) self.new.workers) }
         ensures servers { AreServers R.kind Q.kind C.kind
@@ -149,7 +147,7 @@ impl<L: TellingLog> Course<L> {
 
     /// The events and the marks of the lines so far. It takes no memory.
     fn into_record(self) -> RunRecord
-        ensures { (script : ScriptFields) → HasTaken script (length script.steps)
+        ensures { (script : ScriptFields) → HasTakenLines script (length script.steps)
             (⟦<Lines<L> as AsLines>⟧.fields self.lines)
             (⟦<Lines<L> as AsLines>⟧.may_read self.lines) self.workers
             → IsRecordOf script result }
@@ -165,8 +163,9 @@ impl<L: TellingLog> Course<L> {
 /// Runs a whole script, each node over the disk at its place, which is formatted, whatever it held.
 /// A line that is refused leaves its mark, and the run goes on.
 ///
-/// The servers do the operations of its objects. Where a disk fails the run ends: while it is
-/// formatted by `DiskFault`, and else by `Halted`.
+/// The servers do the operations of its objects. The run ends by `DiskFault` where a disk fails
+/// while it is formatted, and by `Halted` where a node halts later, since its disk failed or found
+/// no memory. No clause says that a fault has such a cause, nor of which node it is.
 pub fn run_script<D: TellingDisk, R: DataType, Q: DataType, C: DataType>(
     alloc: Global,
     script: &Script,

@@ -2,7 +2,7 @@
 use Rattle.std.proofs.Common.{◌≡◌, ◌≤◌, ◌+◌, ◌∙◌, ℕ, Some, ap, arith, get_or, length, subst}
 use Rattle.std.specs.Prelude.{slice_get}
 use Rattle.cam_script.specs.declared.Act.TheVariants.{Begin}
-use Rattle.cam_cluster.specs.WholeRuns.{HasTaken}
+use Rattle.cam_cluster.specs.WholeRuns.{HasTakenLines}
 use Rattle.cam_cluster.proofs.AsSeen.{lines_of, reads_of}
 use Rattle.cam_cluster.proofs.WholeRuns.{built_at, step_at}
 use Rattle.cam_cluster.proofs.course.Course.take_all.Goals as goal
@@ -39,7 +39,7 @@ loop-step-preserved g c =
 pub returns-clause-all : goal.returns-clause-all
 returns-clause-all g c =
     let end : length c.as_slice-step-items.result.now ≤ c.loop-step.step-index = omega arith in
-    subst (λ (n : ℕ). HasTaken c.args.script.now n
+    subst (λ (n : ℕ). HasTakenLines c.args.script.now n
     (lines_of g.L.CheckpointLog g.L.EntryLog c.loop-step.self.lines)
     (reads_of g.L.CheckpointLog g.L.EntryLog c.loop-step.self.lines.works) c.loop-step.self.workers)
     (omega (arith, end) ∙ ap length c.loop-step.invariant.items) c.loop-step.invariant.taken
