@@ -47,7 +47,7 @@ fn script(rt: &HostRuntime, lines: Lines, count: u32) -> Result<String, Error> {
 /// The time of one reading.
 fn parse_once(rt: &HostRuntime, text: &str) -> Result<u128, Error> {
     let start = Instant::now(rt)?;
-    parse(rt.alloc(), Stage::WithBodies, text.as_bytes())?;
+    parse(rt.alloc(), Stage::WithoutStops, text.as_bytes())?;
     Ok(start.elapsed(rt)?.as_nanos())
 }
 

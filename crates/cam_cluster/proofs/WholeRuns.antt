@@ -23,9 +23,8 @@ use Rattle.cam_script.specs.declared.Act.TheVariants as acts
 use Rattle.cam_script.specs.declared.Script.{Script}
 use Rattle.cam_script.specs.declared.Statement.{Statement}
 use Rattle.cam_script.specs.declared.Step.{Step}
-use Rattle.cam_script.specs.declared.stage.Stage.TheVariants.{WithBodies}
-use Rattle.cam_script.specs.Growth.{has_form}
-use Rattle.cam_script.specs.OfStage.{IsOfStage, form_of, is_of_stage}
+use Rattle.cam_script.specs.declared.stage.Stage.TheVariants.{WithoutStops}
+use Rattle.cam_script.specs.OfStage.{IsOfStage, form_of, has_form, is_of_stage}
 use Rattle.cam_cluster.specs.declared.LineDone.{LineDone}
 use Rattle.cam_cluster.specs.declared.LineFault.{LineFault}
 use Rattle.cam_cluster.specs.declared.LineFault.TheVariants as line_faults
@@ -216,7 +215,7 @@ all_taken script lines may_read at_work trace marks taken events all_marks = rec
         ∙ ap (run_with by_pasts script) taken.no_halt
 
 -- Each line of a script of the stage is built.
-is_built : (act_is : Act) → has_form WithBodies (form_of act_is) ≡ true → IsBuilt act_is
+is_built : (act_is : Act) → has_form WithoutStops (form_of act_is) ≡ true → IsBuilt act_is
 is_built (acts.Stop s calls) has = absurd (grind (arith, has))
 is_built (acts.Begin s) has = tt
 is_built (acts.Start s body) has = tt
@@ -235,10 +234,10 @@ is_built acts.Play has = tt
 is_built (acts.Tell s to) has = tt
 is_built (acts.Query s v) has = tt
 
-pub built_at : (script : Script) (many : ℕ) (step : Step) → IsOfStage WithBodies script
+pub built_at : (script : Script) (many : ℕ) (step : Step) → IsOfStage WithoutStops script
     → slice_get script.steps many ≡ Some step → IsBuilt step.act
 built_at script many step forms at =
-    is_built step.act (step_passes (is_of_stage WithBodies) script.steps many step forms at)
+    is_built step.act (step_passes (is_of_stage WithoutStops) script.steps many step forms at)
 
 -- the step at a place of a loop over them
 pub step_at : (script : Script) (steps : List Step) (at : ℕ) (other : Step)

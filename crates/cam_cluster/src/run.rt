@@ -1,6 +1,6 @@
 //! The run of a whole script: its lines one after another, over a disk for each of its nodes.
 ghost use Rattle.std.specs.Prelude.{◌≡◌, IfOk, OnOk, length};
-ghost use Rattle.cam_script.specs.declared.stage.Stage.TheVariants.{WithBodies};
+ghost use Rattle.cam_script.specs.declared.stage.Stage.TheVariants.{WithoutStops};
 ghost use Rattle.cam_script.specs.declared.Script.{Script as ScriptFields};
 ghost use Rattle.cam_script.specs.Law.{IsScript};
 ghost use Rattle.cam_script.specs.OfStage.{IsOfStage};
@@ -128,7 +128,7 @@ impl<L: TellingLog> Course<L> {
         script: &Script,
         servers: &mut Servers<R, Q, C>,
     ) -> Result<(), RunFault>
-        requires forms { IsOfStage WithBodies script.now }
+        requires forms { IsOfStage WithoutStops script.now }
         requires none { HasTakenLines script.now 0 (⟦<Lines<L> as AsLines>⟧.fields self.old.lines)
             (⟦<Lines<L> as AsLines>⟧.may_read self.old.lines) self.old.workers }
         requires servers { AreServers R.kind Q.kind C.kind
@@ -173,7 +173,7 @@ pub fn run_script<D: TellingDisk, R: DataType, Q: DataType, C: DataType>(
     servers: &mut Servers<R, Q, C>,
 ) -> Result<RunRecord, RunFault>
     requires script { IsScript script.now }
-    requires forms { IsOfStage WithBodies script.now }
+    requires forms { IsOfStage WithoutStops script.now }
     requires one_each { length disks.items ≡ script.now.nodes }
     requires servers { AreServers R.kind Q.kind C.kind
         servers.old.register servers.old.queue servers.old.counter }

@@ -11,7 +11,7 @@ use Rattle.cam_script.specs.declared.Script.{Script}
 use Rattle.cam_words.specs.declared.fault.ScriptFault.{ScriptFault}
 use Rattle.cam_words.specs.declared.fault.ScriptFault.TheVariants.{Bad, NoMemory}
 use Rattle.cam_words.specs.Causes.{cause_number}
-use Rattle.cam_script.specs.Built.{with_bodies}
+use Rattle.cam_script.specs.Built.{without_stops}
 use Rattle.cam_script.specs.Grammar.{read_script}
 use Rattle.cam_runs.specs.Running.{Running}
 use Rattle.cam_report.specs.Report.{report}
@@ -24,7 +24,7 @@ IsForm words = words ≡ codes "run" ∷ []
 
 -- the script that the input spells, or its first fault
 abbrev pub script_of : List ℕ → Result Script ScriptFault
-script_of input = read_script with_bodies input
+script_of input = read_script without_stops input
 
 -- the report of a run of a script, and that of its one run
 abbrev pub report_of : Script → Running → List ℕ

@@ -2,7 +2,7 @@
 ghost use Rattle.std.specs.Prelude.{◌≡◌, IfOk, length, string_bytes};
 ghost use Rattle.cam_script.specs.Law.{IsScript};
 ghost use Rattle.cam_script.specs.OfStage.{IsOfStage};
-ghost use Rattle.cam_script.specs.declared.stage.Stage.TheVariants.{WithBodies};
+ghost use Rattle.cam_script.specs.declared.stage.Stage.TheVariants.{WithoutStops};
 ghost use Rattle.cam_run.specs.Answer.{script_report};
 
 use cam_base::NoMemory;
@@ -17,7 +17,7 @@ use std::alloc::Global;
 #[tactic(auto, using(crate::proofs::Reported::is_reported))]
 pub fn report(alloc: Global, script: &Script) -> Result<String, NoMemory>
     requires script { IsScript script.now }
-    requires forms { IsOfStage WithBodies script.now }
+    requires forms { IsOfStage WithoutStops script.now }
     ensures { IfOk result (λ text. string_bytes text ≡ script_report script.now) }
 {
     let disks = empty_disks(alloc, script.nodes)?;

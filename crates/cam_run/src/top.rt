@@ -166,7 +166,7 @@ fn run_bytes(alloc: Global, bytes: &[u8]) -> Result<Answer, NoMemory>
     ensures statuses { IfOk result
         (λ a. (a.status ≡ statuses.Done) ⊎ (a.status ≡ statuses.Refused)) }
 {
-    match parse(alloc, Stage::WithBodies, bytes) {
+    match parse(alloc, Stage::WithoutStops, bytes) {
         Ok(script) => Ok(Answer {
             status: Status::Done,
             text: report(alloc, &script)?,

@@ -10,18 +10,18 @@ use Rattle.cam_script.specs.declared.Script.{Script}
 use Rattle.cam_script.specs.declared.Act.TheVariants as acts
 use Rattle.cam_script.specs.declared.Statement.TheVariants as statements
 use Rattle.cam_script.specs.declared.OpWith.TheVariants as body_ops
-use Rattle.cam_script.specs.Built.{with_stops}
+use Rattle.cam_script.specs.Built.{without_stops}
 use Rattle.cam_script.proofs.Read.{read, read_by, text}
 
 -- Two actions, one register.
-abbrev first_path_text : List ℕ
-first_path_text =
+abbrev two_actions_text : List ℕ
+two_actions_text =
     text (codes "nodes 1" ∷ codes "object x 1 register 0" ∷ codes "begin A 1" ∷ codes "begin B 1"
     ∷ codes "call A x write 5" ∷ codes "deliver 1" ∷ codes "deliver 2" ∷ codes "call B x read"
     ∷ codes "deliver 3" ∷ codes "deliver 4" ∷ codes "call A x read" ∷ [])
 
-abbrev pub first_path_script : Script
-first_path_script =
+abbrev pub two_actions_script : Script
+two_actions_script =
     record {
       nodes = 1;
       objects = record { node = 1; start = Register (pos 0) } ∷ [];
@@ -40,9 +40,9 @@ first_path_script =
           ∷ [];
     }
 
-pub first_path : read first_path_text ≡ Ok first_path_script
+pub two_actions : read two_actions_text ≡ Ok two_actions_script
 unfolding read
-first_path = refl
+two_actions = refl
 
 -- Bodies: a transfer between two accounts.
 abbrev transfer_text : List ℕ
@@ -185,10 +185,7 @@ pub a_step_too_many : read a_step_too_many_text ≡ Err (Bad 514 1 causes.TooMan
 unfolding read
 a_step_too_many = refl
 
--- A counter where it is not built is a wrong word of a kind.
-abbrev a_counter_text : List ℕ
-a_counter_text = text (codes "nodes 1" ∷ codes "object c 1 counter 10" ∷ [])
-
-pub a_counter_not_built : read_by with_stops a_counter_text ≡ Err (Bad 2 12 causes.UnknownWord)
+-- `stop` where it is not built is an unknown word.
+pub a_stop_not_built : read_by without_stops (text (codes "nodes 1" ∷ codes "stop 1 1" ∷ [])) ≡ Err (Bad 2 1 causes.UnknownWord)
 unfolding read_by
-a_counter_not_built = refl
+a_stop_not_built = refl

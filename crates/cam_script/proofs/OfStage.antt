@@ -18,16 +18,15 @@ use Rattle.cam_script.specs.Operations.{kind_at, op_at}
 use Rattle.cam_script.specs.Variables.{variable_at}
 use Rattle.cam_script.specs.declared.Use.TheVariants as uses
 use Rattle.cam_script.specs.Built.{built_of, everything}
-use Rattle.cam_script.specs.Growth.{has_form, kept}
 use Rattle.cam_script.specs.SoFar.{SoFar, Writing, variable_names, with_statement}
 use Rattle.cam_script.specs.Declarations.{nodes_line, object_line, body_line}
 use Rattle.cam_script.specs.Steps.{begin_line, start_line, ask_line, call_line, commit_line, abort_line, giveup_line, go_line, deliver_line, cut_line, lose_line, restart_line, drain_line, play_line, tell_line, query_line, stop_line}
 use Rattle.cam_script.specs.Order.{section_of, may_stand, is_too_many}
 use Rattle.cam_script.specs.Grammar.{statement_of, in_body, stepped, bound, outside, by_place, with_word, begins_with_hash, all_allowed, read_line, script_by, read_lines}
-use Rattle.cam_script.specs.OfStage.{form_of, is_of_stage, IsOfStage}
+use Rattle.cam_script.specs.OfStage.{has_form, form_of, is_of_stage, IsOfStage}
 use Rattle.cam_script.proofs.Holds.{Holds, IfThere, then_holds, then_any, if_there, read_there}
 use Rattle.cam_script.proofs.Appended.{all_more}
-use Rattle.cam_script.proofs.Growth.{forms_kept}
+use Rattle.cam_script.proofs.Growth.{kept, forms_kept}
 
 -- each step so far is of the stage
 abbrev pub AreOfStage : Stage → SoFar → Type 0
@@ -73,10 +72,10 @@ call_form d number at line =
     then_any _ (op_at value_at (kind_at d.script.objects object.0) number object.1 line) _ (λ op.
     then_any _ (end_at number op.1 line) _ (λ _. refl))))
 
-commit_form : (top : Bool) (d : SoFar) (number at : ℕ) (line : List ℕ) → Holds (λ act. form_of act ≡ forms.Commit) (commit_line top d number at line)
+commit_form : (d : SoFar) (number at : ℕ) (line : List ℕ) → Holds (λ act. form_of act ≡ forms.Commit) (commit_line d number at line)
 unfolding commit_line
-commit_form top d number at line =
-    then_any _ (variable_at (uses.Commit top) d.variables number at line) _ (λ action.
+commit_form d number at line =
+    then_any _ (variable_at uses.Request d.variables number at line) _ (λ action.
     then_any _ (value_at number action.1 line) _ (λ value.
     then_any _ (end_at number value.1 line) _ (λ _. refl)))
 
@@ -164,9 +163,9 @@ act_of stage form d number read f h said = then_holds (λ act. form_of act ≡ f
 bound_of : (stage : Stage) (form : Form) (binding : Binding) (d : SoFar) (number : ℕ) (line : List ℕ) (read : Result (Word × Act) ScriptFault) → has_form stage form ≡ true → AreOfStage stage d → Holds (λ said. form_of said.1 ≡ form) read → Holds (AreOfStage stage) (read >>= bound d binding number line)
 bound_of stage form binding d number line read f h said = then_holds (λ said. form_of said.1 ≡ form) (AreOfStage stage) read _ said (λ said e. stepped_of stage form d number said.1 f h e)
 
-outside_of : (stage : Stage) (d : SoFar) (form : Form) (number at : ℕ) (line : List ℕ) → has_form stage form ≡ true → AreOfStage stage d → Holds (AreOfStage stage) (outside (built_of stage) d form number at line)
+outside_of : (stage : Stage) (d : SoFar) (form : Form) (number at : ℕ) (line : List ℕ) → has_form stage form ≡ true → AreOfStage stage d → Holds (AreOfStage stage) (outside d form number at line)
 outside_of stage d forms.Nodes number at line f h = then_any _ (nodes_line number at line) _ (λ nodes. h)
-outside_of stage d forms.Object number at line f h = then_any _ (object_line (built_of stage).kinds d.script.labels d.script.nodes number at line) _ (λ said. h)
+outside_of stage d forms.Object number at line f h = then_any _ (object_line d.script.labels d.script.nodes number at line) _ (λ said. h)
 outside_of stage d forms.Body number at line f h = then_any _ (body_line d.body_names number at line) _ (λ name. h)
 outside_of stage d forms.Begin number at line f h = bound_of stage forms.Begin bindings.Begin d number line (begin_line d number at line) f h (begin_form d number at line)
 outside_of stage d forms.Start number at line f h = bound_of stage forms.Start bindings.Start d number line (start_line d number at line) f h (start_form d number at line)
@@ -174,7 +173,7 @@ outside_of stage d forms.Ask number at line f h = bound_of stage forms.Ask bindi
 outside_of stage d forms.Child number at line f h = tt
 outside_of stage d forms.End number at line f h = tt
 outside_of stage d forms.Call number at line f h = act_of stage forms.Call d number (call_line d number at line) f h (call_form d number at line)
-outside_of stage d forms.Commit number at line f h = act_of stage forms.Commit d number (commit_line (built_of stage).top_commit d number at line) f h (commit_form (built_of stage).top_commit d number at line)
+outside_of stage d forms.Commit number at line f h = act_of stage forms.Commit d number (commit_line d number at line) f h (commit_form d number at line)
 outside_of stage d forms.Abort number at line f h = act_of stage forms.Abort d number (abort_line d number at line) f h (abort_form d number at line)
 outside_of stage d forms.GiveUp number at line f h = act_of stage forms.GiveUp d number (giveup_line d number at line) f h (giveup_form d number at line)
 outside_of stage d forms.Go number at line f h = act_of stage forms.Go d number (go_line d number at line) f h (go_form d number at line)
@@ -193,7 +192,7 @@ body_of : (stage : Stage) (d : SoFar) (w : Writing) (form : Form) (number at : �
 body_of stage d w forms.End number at line h = then_any (AreOfStage stage) (end_at number at line) _ (λ end. h)
 body_of stage d w form number at line h = then_any (AreOfStage stage) (statement_of d w form number at line) (λ statement. Ok (with_statement d w statement)) (λ statement. h)
 
-place_of : (w : Option Writing) (stage : Stage) (d : SoFar) (form : Form) (number at : ℕ) (line : List ℕ) → has_form stage form ≡ true → AreOfStage stage d → Holds (AreOfStage stage) (by_place w (built_of stage) d form number at line)
+place_of : (w : Option Writing) (stage : Stage) (d : SoFar) (form : Form) (number at : ℕ) (line : List ℕ) → has_form stage form ≡ true → AreOfStage stage d → Holds (AreOfStage stage) (by_place w d form number at line)
 place_of (Some w) stage d form number at line f h = body_of stage d w form number at line h
 place_of None stage d form number at line f h = outside_of stage d form number at line f h
 

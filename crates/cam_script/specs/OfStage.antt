@@ -1,5 +1,5 @@
--- The scripts of a stage: which lines their steps are.
-use Rattle.std.specs.Prelude.{Bool, IsTrue}
+-- What a stage has: its lines, and the scripts whose steps they are. The tables of first words are in `Built`.
+use Rattle.std.specs.Prelude.{Bool, true, false, IsTrue}
 use Rattle.std.specs.List.{list_all}
 use Rattle.cam_script.specs.declared.Form.{Form}
 use Rattle.cam_script.specs.declared.Form.TheVariants as forms
@@ -8,7 +8,12 @@ use Rattle.cam_script.specs.declared.Act.TheVariants as acts
 use Rattle.cam_script.specs.declared.Step.{Step}
 use Rattle.cam_script.specs.declared.Script.{Script}
 use Rattle.cam_script.specs.declared.stage.Stage.{Stage}
-use Rattle.cam_script.specs.Growth.{has_form}
+use Rattle.cam_script.specs.declared.stage.Stage.TheVariants as stages
+
+-- the line is built
+abbrev pub has_form : Stage → Form → Bool
+has_form stages.WithoutStops forms.Stop = false
+has_form _ form = true
 
 -- the line that says this
 abbrev pub form_of : Act → Form

@@ -1,6 +1,5 @@
 -- What is accepted where less is built stays accepted where more is.
-use Rattle.std.specs.Prelude.{ℕ, ◌≡◌, true, List, Some, Ok}
-use Rattle.cam_type.specs.declared.Kind.{Kind}
+use Rattle.std.specs.Prelude.{ℕ, ◌≡◌, List, Some, Ok}
 use Rattle.cam_script.specs.declared.Script.{Script}
 use Rattle.cam_script.specs.declared.Form.{Form}
 use Rattle.cam_script.specs.declared.stage.Stage.{Stage}
@@ -9,10 +8,8 @@ use Rattle.cam_script.specs.Built.{Built, built_of, everything}
 use Rattle.cam_script.specs.Grammar.{read_script}
 
 -- the second has all that the first has built
-pub record Grows (small large : Built) : Type 0 where
-  pub forms : (word : List ℕ) (f : Form) → looked_up small.forms word ≡ Some f → looked_up large.forms word ≡ Some f
-  pub kinds : (word : List ℕ) (k : Kind) → looked_up small.kinds word ≡ Some k → looked_up large.kinds word ≡ Some k
-  pub commit : small.top_commit ≡ true → large.top_commit ≡ true
+abbrev pub Grows : Built → Built → Type 0
+Grows small large = (word : List ℕ) (f : Form) → looked_up small.forms word ≡ Some f → looked_up large.forms word ≡ Some f
 
 -- What the first accepts, the second accepts as the same script.
 abbrev pub AcceptedStays : Type 0

@@ -12,13 +12,12 @@ use cam_words::{Line, ScriptFault};
 impl SoFar {
     /// `commit A V`
     #[tactic(auto, unfolding(crate::specs::Steps::commit_line))]
-    pub fn commit_line(&self, line: &Line, at: usize, top_commit: bool) -> Result<Act, ScriptFault>
+    pub fn commit_line(&self, line: &Line, at: usize) -> Result<Act, ScriptFault>
         requires { at ≤ length line.now.bytes.now }
-        ensures value { result
-            ≡ commit_line top_commit self.now line.now.number at line.now.bytes.now }
+        ensures value { result ≡ commit_line self.now line.now.number at line.now.bytes.now }
         ensures cost { IfOk result (λ act. step_cost self.now.sizes act ≡ 1) }
     {
-        let (action, at) = variable_at(line, at, &self.variables, Use::Commit { top: top_commit })?;
+        let (action, at) = variable_at(line, at, &self.variables, Use::Request)?;
         let (value, at) = line.value_at(at)?;
         line.end_at(at)?;
         Ok(Act::Commit { action, value })

@@ -56,21 +56,15 @@ impl SoFar {
         if self.is_full(form, line, first.end) {
             return Err(line.fault(first.start, Cause::TooMany));
         }
-        self.read_form(stage, form, line, first.end)
+        self.read_form(form, line, first.end)
     }
 
     /// Reads a line of this form, behind its first word.
-    fn read_form(
-        &mut self,
-        stage: Stage,
-        form: Form,
-        line: &Line,
-        at: usize,
-    ) -> Result<(), ScriptFault>
+    fn read_form(&mut self, form: Form, line: &Line, at: usize) -> Result<(), ScriptFault>
         requires within { IsWithin self.old }
         requires room { IsFalse (is_too_many self.old form at line.now.bytes.now) }
         requires place { at ≤ length line.now.bytes.now }
-        ensures { Leads result self.new (by_place self.old.writing (built_of stage) self.old form
+        ensures { Leads result self.new (by_place self.old.writing self.old form
             line.now.number at line.now.bytes.now) }
     {
         match &self.writing {
@@ -78,7 +72,7 @@ impl SoFar {
                 let earlier = writing.statements.len() as u8;
                 self.read_in_body(form, line, at, earlier)
             }
-            None => self.read_outside(stage, form, line, at),
+            None => self.read_outside(form, line, at),
         }
     }
 
@@ -132,19 +126,13 @@ impl SoFar {
     }
 
     /// Reads a line outside bodies, of this form, behind its first word. It answers the fault of the grammar, or `NoMemory`.
-    pub fn read_outside(
-        &mut self,
-        stage: Stage,
-        form: Form,
-        line: &Line,
-        at: usize,
-    ) -> Result<(), ScriptFault>
+    pub fn read_outside(&mut self, form: Form, line: &Line, at: usize) -> Result<(), ScriptFault>
         requires within { IsWithin self.old }
         requires outside { self.old.writing ≡ None }
         requires room { IsFalse (is_too_many self.old form at line.now.bytes.now) }
         requires place { at ≤ length line.now.bytes.now }
         ensures { Leads result self.new
-            (outside (built_of stage) self.old form line.now.number at line.now.bytes.now) }
+            (outside self.old form line.now.number at line.now.bytes.now) }
     {
         match form {
             Form::Nodes => {
@@ -153,7 +141,7 @@ impl SoFar {
                 Ok(())
             }
             Form::Object => {
-                let (name, object) = self.object_line(stage, line, at)?;
+                let (name, object) = self.object_line(line, at)?;
                 self.push_object(line.text(name), object)?;
                 Ok(())
             }
@@ -163,26 +151,20 @@ impl SoFar {
                 Ok(())
             }
             Form::Child | Form::End => Err(line.fault(0, Cause::Misplaced)),
-            _ => self.read_step(stage, form, line, at),
+            _ => self.read_step(form, line, at),
         }
     }
 
     /// Reads a step.
     #[tactic(auto, using(crate::proofs::Costs::room_for))]
-    fn read_step(
-        &mut self,
-        stage: Stage,
-        form: Form,
-        line: &Line,
-        at: usize,
-    ) -> Result<(), ScriptFault>
+    fn read_step(&mut self, form: Form, line: &Line, at: usize) -> Result<(), ScriptFault>
         requires within { IsWithin self.old }
         requires outside { self.old.writing ≡ None }
         requires step { IsTrue (is_step form) }
         requires room { IsFalse (is_too_many self.old form at line.now.bytes.now) }
         requires place { at ≤ length line.now.bytes.now }
         ensures { Leads result self.new
-            (outside (built_of stage) self.old form line.now.number at line.now.bytes.now) }
+            (outside self.old form line.now.number at line.now.bytes.now) }
     {
         match form {
             Form::Begin => {
@@ -201,7 +183,7 @@ impl SoFar {
                 Ok(())
             }
             _ => {
-                let act = self.act_line(stage, form, line, at)?;
+                let act = self.act_line(form, line, at)?;
                 self.push_step(line.number, act)?;
                 Ok(())
             }
@@ -209,23 +191,17 @@ impl SoFar {
     }
 
     /// The step of a line that binds no variable, behind its first word. It answers the fault of the grammar.
-    pub fn act_line(
-        &self,
-        stage: Stage,
-        form: Form,
-        line: &Line,
-        at: usize,
-    ) -> Result<Act, ScriptFault>
+    pub fn act_line(&self, form: Form, line: &Line, at: usize) -> Result<Act, ScriptFault>
         requires within { IsWithin self.now }
         requires place { at ≤ length line.now.bytes.now }
         ensures value { result
-            ≡ act_line (built_of stage) self.now form line.now.number at line.now.bytes.now }
+            ≡ act_line self.now form line.now.number at line.now.bytes.now }
         ensures cost { IfOk result (λ act. step_cost self.now.sizes act ≡ 1) }
         ensures one { IfOk result (λ act. IsTrue (costs_one form)) }
     {
         match form {
             Form::Call => self.call_line(line, at),
-            Form::Commit => self.commit_line(line, at, stage.has_top_commit()),
+            Form::Commit => self.commit_line(line, at),
             Form::Abort => self.abort_line(line, at),
             Form::GiveUp => self.giveup_line(line, at),
             Form::Go => self.go_line(line, at),

@@ -103,9 +103,8 @@ fn against(used: Use, binding: Binding) -> Option<Cause>
     ensures { result ≡ against used binding }
 {
     match (used, binding) {
-        (Use::Commit { top: false }, Binding::Begin) => Some(Cause::UnknownWord),
-        (Use::Request | Use::Commit { .. }, Binding::Start) => Some(Cause::Misplaced),
-        (Use::Request | Use::Commit { .. }, _) => None,
+        (Use::Request, Binding::Start) => Some(Cause::Misplaced),
+        (Use::Request, _) => None,
         (Use::Go, Binding::Start) => None,
         (Use::Go, _) => Some(Cause::Misplaced),
         (Use::Query, _) => None,

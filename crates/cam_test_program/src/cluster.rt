@@ -1,7 +1,7 @@
 //! `cam_cluster`: what each line of a script comes to.
 
 ghost use Rattle.std.specs.Prelude.{◌≡◌, IfOk, length};
-ghost use Rattle.cam_script.specs.declared.stage.Stage.TheVariants.{WithBodies};
+ghost use Rattle.cam_script.specs.declared.stage.Stage.TheVariants.{WithoutStops};
 ghost use Rattle.cam_script.specs.Law.{IsScript};
 ghost use Rattle.cam_script.specs.OfStage.{IsOfStage};
 
@@ -113,7 +113,7 @@ fn empty_disks(alloc: Global, count: u8) -> Result<Vec<MemoryDisk>, NoMemory>
 /// The run of a script over disks in memory.
 fn run(alloc: Global, script: &Script) -> Result<RunRecord, RunFault>
     requires script { IsScript script.now }
-    requires forms { IsOfStage WithBodies script.now }
+    requires forms { IsOfStage WithoutStops script.now }
 {
     let mut servers = Servers {
         register: RegisterServer::new(),
@@ -133,7 +133,7 @@ fn each_line_has_its_event_or_its_mark(rt: HostRuntime) -> Result<(), Fail> {
     let alloc = rt.alloc();
     for table in [CONFLICT, TWO_NODES, REPEATS] {
         let text = script_of(alloc, table)?;
-        let script = parse(alloc, Stage::WithBodies, text.as_bytes())?;
+        let script = parse(alloc, Stage::WithoutStops, text.as_bytes())?;
         let record = run(alloc, &script)?;
         let mut events = 0usize;
         let mut marks = 0usize;
@@ -163,7 +163,7 @@ fn with_ample_memory_a_script_runs(rt: HostRuntime) -> Result<(), Fail> {
     let alloc = rt.alloc();
     let script = parse(
         alloc,
-        Stage::WithBodies,
+        Stage::WithoutStops,
         b"nodes 8\nbegin A 8\ndeliver 1\nrestart 3\n",
     )?;
     let record = run(alloc, &script)?;

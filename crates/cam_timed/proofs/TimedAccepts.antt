@@ -104,7 +104,7 @@ stands_so d form outside h = subst (λ (w : Option Writing). timed_may_stand (be
 -- Declarations.
 nodes_stand : (d : TimedSoFar) (number at : ℕ) (line : List ℕ) → TimedStands d → timed_may_stand (timed_section d) forms.Nodes ≡ true → Holds TimedStands (read_form d forms.Nodes number at line)
 nodes_stand d number at line s stand =
-    then_holds (λ declared. TimedStands (record d { declared = declared })) TimedStands (outside everything d.declared lines.Nodes number at line) (declares d)
+    then_holds (λ declared. TimedStands (record d { declared = declared })) TimedStands (outside d.declared lines.Nodes number at line) (declares d)
     (then_holds _ _ (nodes_line number at line) _ (nodes_hold number at line) (λ n h.
     record {
       declared =
@@ -122,8 +122,8 @@ object_stand : (d : TimedSoFar) (number at : ℕ) (line : List ℕ) → TimedSta
 object_stand d number at line s stand room =
     let before = no_step_before (d.declared.script.nodes == 0) d.declared.script.steps d.steps (stands_so d forms.Object s.outside stand) in
     let free : is_full_script d.declared lines.Object at line ≡ false = subst (λ (w : Option Writing). is_too_many_by w d.declared lines.Object at line ≡ false) s.outside room in
-    then_holds (λ declared. TimedStands (record d { declared = declared })) TimedStands (outside everything d.declared lines.Object number at line) (declares d)
-    (then_holds _ _ (object_line everything.kinds d.declared.script.labels d.declared.script.nodes number at line) _ (object_holds everything.kinds d.declared.script.labels d.declared.script.nodes number at line) (λ said h.
+    then_holds (λ declared. TimedStands (record d { declared = declared })) TimedStands (outside d.declared lines.Object number at line) (declares d)
+    (then_holds _ _ (object_line d.declared.script.labels d.declared.script.nodes number at line) _ (object_holds d.declared.script.labels d.declared.script.nodes number at line) (λ said h.
     record {
       declared =
           after_object (without_variables d.declared) (text_of said.0 line) said.1 s.declared s.outside s.no_untimed before.0 free h;

@@ -18,7 +18,6 @@ use Rattle.cam_script.specs.declared.Binding.TheVariants as bindings
 use Rattle.cam_script.specs.declared.Form.{Form}
 use Rattle.cam_script.specs.declared.Form.TheVariants as lines
 use Rattle.cam_script.specs.declared.Use.TheVariants as uses
-use Rattle.cam_script.specs.Built.{everything}
 use Rattle.cam_script.specs.SoFar.{SoFar, Variable, variable_names}
 use Rattle.cam_script.specs.Operations.{kind_at, op_at, as_op}
 use Rattle.cam_script.specs.Variables.{against, variable_of, usable, variable_at}
@@ -161,10 +160,10 @@ call_serves d steps is number at line =
     let fit = object_op d.script.objects object.0 (as_op op.0) (omega (arith, below, same)) f in
     (fit, site_in_range d.script.nodes d.script.objects object.0 (as_op op.0) is.eight is.placed fit)))))
 
-commit_serves : (d : SoFar) (steps : List TimedStep) (number at : ℕ) (line : List ℕ) → Holds (Serves d.script.objects steps) (commit_line true d number at line)
+commit_serves : (d : SoFar) (steps : List TimedStep) (number at : ℕ) (line : List ℕ) → Holds (Serves d.script.objects steps) (commit_line d number at line)
 unfolding commit_line
 commit_serves d steps number at line =
-    then_any _ (variable_at (uses.Commit true) d.variables number at line) _ (λ action.
+    then_any _ (variable_at uses.Request d.variables number at line) _ (λ action.
     then_any _ (value_at number action.1 line) _ (λ value.
     then_any _ (end_at number value.1 line) _ (λ _. tt)))
 
@@ -194,7 +193,7 @@ query_serves d steps is number at line =
     then_any _ (variable_at uses.Query d.variables number node.1 line) _ (λ action.
     then_any _ (end_at number action.1 line) _ (λ _. node_in_range d.script.nodes node.0 is.eight h.0)))
 
-act_serves : (d : SoFar) (steps : List TimedStep) → IsPlaced d → (form : Form) (number at : ℕ) (line : List ℕ) → Holds (Serves d.script.objects steps) (act_line everything d form number at line)
+act_serves : (d : SoFar) (steps : List TimedStep) → IsPlaced d → (form : Form) (number at : ℕ) (line : List ℕ) → Holds (Serves d.script.objects steps) (act_line d form number at line)
 act_serves d steps is lines.Call number at line = call_serves d steps is number at line
 act_serves d steps is lines.Commit number at line = commit_serves d steps number at line
 act_serves d steps is lines.Abort number at line = abort_serves d steps number at line
@@ -214,7 +213,7 @@ act_serves d steps is _ number at line = tt
 untimed_in_range : (d : SoFar) (steps : List TimedStep) → IsPlaced d → (form : Form) (number at : ℕ) (line : List ℕ) → Holds (ActInRange d.script.objects steps) (untimed_line d form number at line)
 unfolding untimed_line
 untimed_in_range d steps is form number at line =
-    then_holds (Serves d.script.objects steps) _ (act_line everything d form number at line) _ (act_serves d steps is form number at line) (λ act h.
+    then_holds (Serves d.script.objects steps) _ (act_line d form number at line) _ (act_serves d steps is form number at line) (λ act h.
     read_there (ActInRange d.script.objects steps) (with_time act) number 0 causes.Misplaced h)
 
 -- each step that binds no variable

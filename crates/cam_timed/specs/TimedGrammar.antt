@@ -16,7 +16,6 @@ use Rattle.cam_script.specs.declared.Form.{Form}
 use Rattle.cam_script.specs.declared.Form.TheVariants as lines
 use Rattle.cam_script.specs.declared.Section.{Section}
 use Rattle.cam_script.specs.declared.Section.TheVariants as sections
-use Rattle.cam_script.specs.Built.{everything}
 use Rattle.cam_script.specs.SoFar.{SoFar, nothing, with_variable_at}
 use Rattle.cam_script.specs.Order.{section_of, is_too_many}
 use Rattle.cam_script.specs.Grammar.{outside, begins_with_hash, all_allowed, read_end}
@@ -100,7 +99,7 @@ timed_bound d binding number line said =
 -- after a line that declares, which is read as without time
 abbrev pub declared_by : TimedSoFar → Form → ℕ → ℕ → List ℕ → Result TimedSoFar ScriptFault
 declared_by d form number at line =
-    outside everything d.declared form number at line >>= declares d
+    outside d.declared form number at line >>= declares d
 
 -- what stands after a line of this form
 abbrev pub read_form : TimedSoFar → TimedForm → ℕ → ℕ → List ℕ → Result TimedSoFar ScriptFault

@@ -10,7 +10,6 @@ use Rattle.cam_script.specs.declared.Act.{Act}
 use Rattle.cam_script.specs.declared.Act.TheVariants as untimed
 use Rattle.cam_script.specs.declared.Form.{Form}
 use Rattle.cam_script.specs.declared.Use.TheVariants as uses
-use Rattle.cam_script.specs.Built.{everything}
 use Rattle.cam_script.specs.SoFar.{SoFar, variable_names}
 use Rattle.cam_script.specs.Variables.{variable_at}
 use Rattle.cam_script.specs.Grammar.{act_line}
@@ -73,7 +72,7 @@ with_time _ = None
 -- the other steps, which are read as without time
 unfoldable pub untimed_line : SoFar → Form → ℕ → ℕ → List ℕ → Result TimedAct ScriptFault
 untimed_line d form number at line = do
-  act ← act_line everything d form number at line
+  act ← act_line d form number at line
   or_refuse (with_time act) number 0 causes.Misplaced
 
 -- the step of a line that binds no variable

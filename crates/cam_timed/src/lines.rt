@@ -7,7 +7,7 @@ ghost use Rattle.cam_timed.specs.TimedLines.{moment_word, begin_by_time, ask_by_
 
 use crate::TimedAct;
 use crate::forms::TimedForm;
-use cam_script::{Act, Form, SoFar, Stage, Use};
+use cam_script::{Act, Form, SoFar, Use};
 use cam_words::{Cause, Line, ScriptFault, Word};
 
 /// The last moment that a script names.
@@ -123,7 +123,7 @@ fn untimed_line(
     requires place { at ≤ length line.now.bytes.now }
     ensures { result ≡ untimed_line declared.now form line.now.number at line.now.bytes.now }
 {
-    let act = declared.act_line(Stage::Everything, form, line, at)?;
+    let act = declared.act_line(form, line, at)?;
     match with_time(act) {
         Some(act) => Ok(act),
         None => Err(line.fault(0, Cause::Misplaced)),

@@ -8,7 +8,7 @@ use crate::forms::{TimedForm, form_of, may_stand};
 use crate::lines::{act_line, ask_line, begin_line};
 use crate::{TimedAct, TimedScript, TimedStep, TimedSteps};
 use cam_base::NoMemory;
-use cam_script::{Binding, Form, Section, SoFar, Stage, begins_with_hash};
+use cam_script::{Binding, Form, Section, SoFar, begins_with_hash};
 use cam_words::{Cause, Line, ScriptFault, Word, bad_byte};
 use std::alloc::Global;
 
@@ -133,14 +133,8 @@ impl TimedSoFar {
             (read_form self.old form line.now.number at line.now.bytes.now) }
     {
         match form {
-            TimedForm::Nodes => {
-                self.declared
-                    .read_outside(Stage::Everything, Form::Nodes, line, at)
-            }
-            TimedForm::Object => {
-                self.declared
-                    .read_outside(Stage::Everything, Form::Object, line, at)
-            }
+            TimedForm::Nodes => { self.declared.read_outside(Form::Nodes, line, at) }
+            TimedForm::Object => { self.declared.read_outside(Form::Object, line, at) }
             TimedForm::Begin => {
                 let (name, act) = begin_line(&self.declared, line, at)?;
                 self.push_binding(line.number, line.text(name), Binding::Begin, act)?;

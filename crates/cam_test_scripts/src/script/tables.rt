@@ -20,9 +20,6 @@ ask A B 2
 start S 1 b
 ";
 
-/// A counter, in a stage that has none.
-pub const COUNTER: &str = "2 12 3|nodes 1/object c 1 counter 0/";
-
 /// Whole scripts behind their first fault: line, column and cause, 0 0 0 where there is none. `/` ends a line.
 ///
 /// A byte that is not allowed stands before the words of its line, and its column is its place. A CR is a byte of its word, unless it
