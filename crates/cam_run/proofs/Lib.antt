@@ -1,3 +1,4 @@
-pub mod OneWord
-pub mod Reported
+pub mod Recorded
+pub mod Commanded
+pub mod Written
 pub mod WorkedAnswers

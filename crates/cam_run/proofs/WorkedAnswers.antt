@@ -14,7 +14,9 @@ use Rattle.cam_script.specs.Built.{Built, without_stops}
 use Rattle.cam_script.specs.Grammar.{read_script}
 use Rattle.cam_script.proofs.Read.{read_by}
 use Rattle.cam_run.specs.Texts.{refused_text}
-use Rattle.cam_run.specs.Answer.{IsOfScript, script_of, script_report}
+use Rattle.cam_run.specs.declared.question.Question.TheVariants.{Report}
+use Rattle.cam_run.specs.Told.{script_report}
+use Rattle.cam_run.specs.Answer.{IsOfScript, script_of}
 use Rattle.cam_run.specs.Worked.{open_call, open_call_report, refused_call, refused_call_report, repeated_letter, repeated_letter_report, unknown_line, unknown_line_text, AreWorked}
 
 -- the grammar with its definitions opened
@@ -23,9 +25,9 @@ unfolding read_by
 opened built bytes = refl
 
 -- the answer to an input, by what is read of it
-answers : (input : List ℕ) (read : Result Script ScriptFault) (status : ℕ) (text : List ℕ) → read_by without_stops input ≡ read → IsOfScript read status text → IsOfScript (script_of input) status text
+answers : (input : List ℕ) (read : Result Script ScriptFault) (status : ℕ) (text : List ℕ) → read_by without_stops input ≡ read → IsOfScript Report read status text → IsOfScript Report (script_of input) status text
 answers input read status text spelled answer =
-    subst (λ r. IsOfScript r status text) (sym (opened without_stops input ∙ spelled)) answer
+    subst (λ r. IsOfScript Report r status text) (sym (opened without_stops input ∙ spelled)) answer
 
 -- one node and the register x, which holds this number
 abbrev script : ℕ → List Step → Script

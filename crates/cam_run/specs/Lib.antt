@@ -1,4 +1,6 @@
 pub mod Status
 pub mod Texts
+pub mod Told
+pub mod Commands
 pub mod Answer
 pub mod Worked

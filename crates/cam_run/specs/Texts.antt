@@ -1,12 +1,20 @@
--- The texts of the program beside the report.
+-- The texts of the program beside those of a run.
 use Rattle.std.specs.Prelude.{ℕ, List, [], ◌∷◌, ◌++◌, codes, decimal}
 use Rattle.cam_base.specs.Lines.{line}
+use Rattle.cam_args.specs.Forms.{usage}
 
 abbrev pub usage_text : List ℕ
-usage_text = codes "usage: camelot run | trace | witness NAME | gen SEED SIZE | storm SEED ACTIONS THREADS MODE | inspect" ++ 10 ∷ []
+usage_text = usage
 
 abbrev pub read_fault_text : List ℕ
 read_fault_text = codes "read fault" ++ 10 ∷ []
+
+-- the run has no such action, and no such stop
+abbrev pub no_action_text : List ℕ
+no_action_text = codes "no such action" ++ 10 ∷ []
+
+abbrev pub no_stop_text : List ℕ
+no_stop_text = codes "no such stop" ++ 10 ∷ []
 
 -- `refused LINE COLUMN Sn`, n the number of the cause; 83 is the letter S
 abbrev pub refused_text : ℕ → ℕ → ℕ → List ℕ

@@ -1,5 +1,6 @@
 -- Worked answers, from the bytes of a script to the bytes of its text.
 use Rattle.std.specs.Prelude.{ℕ, List, [], ◌∷◌, ◌++◌, codes, flat_map}
+use Rattle.cam_run.specs.declared.question.Question.TheVariants.{Report}
 use Rattle.cam_run.specs.Answer.{IsOfScript, script_of}
 
 -- lines, each with its LF
@@ -56,7 +57,7 @@ unknown_line_text = text (codes "refused 3 1 S3" ∷ [])
 
 -- The answers are these statuses and texts.
 pub record AreWorked : Type 0 where
-  pub open_call_is_shown : IsOfScript (script_of open_call) 0 open_call_report
-  pub refused_call_is_marked : IsOfScript (script_of refused_call) 0 refused_call_report
-  pub repeated_letter_is_performed_once : IsOfScript (script_of repeated_letter) 0 repeated_letter_report
-  pub unknown_line_is_refused : IsOfScript (script_of unknown_line) 3 unknown_line_text
+  pub open_call_is_shown : IsOfScript Report (script_of open_call) 0 open_call_report
+  pub refused_call_is_marked : IsOfScript Report (script_of refused_call) 0 refused_call_report
+  pub repeated_letter_is_performed_once : IsOfScript Report (script_of repeated_letter) 0 repeated_letter_report
+  pub unknown_line_is_refused : IsOfScript Report (script_of unknown_line) 3 unknown_line_text

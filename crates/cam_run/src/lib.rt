@@ -1,12 +1,16 @@
 //! The top call of the program: what it answers to words, a source and a sink.
 //!
-//! It stands on `cam_io` (the streams), `cam_script` (the parser), `cam_cluster` (the run), `cam_report` (the report) and `cam_headline`
-//! (what each run owes). Its main clauses are those of [`camelot`]: the status and the bytes that are written are the answer to the words
-//! and the input, and each other status has its cause (`written`, `complete`); and of the run of each accepted script the headline holds
-//! (`headline`): what every action saw, orphan or not, is a legal execution in which it is no orphan.
+//! It stands on `cam_args` (the words), `cam_io` (the streams), `cam_script` and `cam_gen` (the script that is read, and the one that is
+//! made), `cam_cluster` (the run), `cam_report` (the texts of a run) and `cam_headline` (what each run owes). Its main clauses are those of
+//! [`camelot`]: the status and the bytes that are written are the answer to the words and the input, and each other status has its cause
+//! (`written`, `complete`); and of the run of each accepted script the headline holds (`headline`): what every action saw, orphan or not,
+//! is a legal execution in which it is no orphan.
 #![tactic(auto)]
 
+mod answer;
+mod question;
 mod running;
+mod script;
 mod status;
 mod top;
 mod worked;

@@ -1,24 +1,23 @@
-//! The report of a script: of its run over nodes whose disks are in memory.
-ghost use Rattle.std.specs.Prelude.{◌≡◌, IfOk, length, string_bytes};
+//! The run of a script, over nodes whose disks are in memory.
+ghost use Rattle.std.specs.Prelude.{◌≡◌, IfOk, length};
 ghost use Rattle.cam_script.specs.Law.{IsScript};
 ghost use Rattle.cam_script.specs.OfStage.{IsOfStage};
 ghost use Rattle.cam_script.specs.declared.stage.Stage.TheVariants.{WithoutStops};
-ghost use Rattle.cam_run.specs.Answer.{script_report};
+ghost use Rattle.cam_run.specs.Told.{IsOneRun};
 
 use cam_base::NoMemory;
 use cam_cluster::{Servers, run_script};
 use cam_disk::MemoryDisk;
-use cam_report::report_text;
+use cam_event::RunRecord;
 use cam_script::Script;
 use cam_type::{CounterServer, QueueServer, RegisterServer};
 use std::alloc::Global;
 
-/// Runs the script, and writes the report of its run.
-#[tactic(auto, using(crate::proofs::Reported::is_reported))]
-pub fn report(alloc: Global, script: &Script) -> Result<String, NoMemory>
+/// Runs the script.
+pub fn run(alloc: Global, script: &Script) -> Result<RunRecord, NoMemory>
     requires script { IsScript script.now }
     requires forms { IsOfStage WithoutStops script.now }
-    ensures { IfOk result (λ text. string_bytes text ≡ script_report script.now) }
+    ensures { IfOk result (IsOneRun script.now) }
 {
     let disks = empty_disks(alloc, script.nodes)?;
     let mut servers = Servers {
@@ -27,7 +26,7 @@ pub fn report(alloc: Global, script: &Script) -> Result<String, NoMemory>
         counter: CounterServer::new(),
     };
     match run_script(alloc, script, disks, &mut servers) {
-        Ok(run) => report_text(alloc, script, &run),
+        Ok(run) => Ok(run),
         // a disk in memory fails only where memory runs out
         Err(_) => Err(NoMemory),
     }

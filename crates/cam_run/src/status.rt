@@ -5,7 +5,7 @@ ghost use Rattle.cam_run.specs.Status.{number};
 /// How the program ended.
 #[derive(Clone, Copy, Debug, PartialEq, Eq)]
 pub enum Status {
-    /// The report was written.
+    /// The text of the command was written.
     Done,
     /// The words are no form.
     Usage,
@@ -17,6 +17,8 @@ pub enum Status {
     WriteFault,
     /// Out of memory.
     NoMemory,
+    /// The run has no such action, or no such stop.
+    Missing,
 }
 
 impl Status {
@@ -31,6 +33,7 @@ impl Status {
             Status::ReadFault => 4,
             Status::WriteFault => 5,
             Status::NoMemory => 7,
+            Status::Missing => 8,
         }
     }
 }

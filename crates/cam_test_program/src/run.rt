@@ -86,7 +86,7 @@ value x 7
 ";
 
 const USAGE: &str =
-    "usage: camelot run | trace | witness NAME | gen SEED SIZE | storm SEED ACTIONS THREADS MODE | inspect\n";
+    "usage: camelot run | trace | witness NAME | gen SEED SIZE | storm SEED ACTIONS THREADS MODE | inspect | upgrade | why EVENT | timed\n";
 
 /// The words between the blanks of a text.
 fn words(alloc: Global, text: &str) -> Result<Vec<String>, Fail> {

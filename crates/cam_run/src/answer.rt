@@ -1,0 +1,55 @@
+//! Answers: a status and its text.
+ghost use Rattle.std.specs.Prelude.{◌≡◌, IfOk, string_bytes};
+ghost use Rattle.cam_words.specs.Causes.{cause_number};
+ghost use Rattle.cam_run.specs.Status.{number};
+ghost use Rattle.cam_run.specs.Texts.{refused_text};
+ghost use Rattle.cam_run.specs.Answer.{IsOfFault, IsOfWords};
+
+use crate::status::Status;
+use cam_base::NoMemory;
+use cam_script::Cause;
+use std::alloc::Global;
+
+/// A status and its text.
+#[derive(Drop)]
+pub(crate) struct Answer {
+    pub(crate) status: Status,
+    pub(crate) text: String,
+}
+
+/// The answer to words that are no form.
+pub(crate) fn usage(alloc: Global) -> Result<Answer, NoMemory>
+    ensures { IfOk result (λ a. IsOfWords (number a.status) (string_bytes a.text)) }
+{
+    let text = format!(in alloc;
+        "usage: camelot run | trace | witness NAME | gen SEED SIZE | storm SEED ACTIONS THREADS MODE | inspect | upgrade | why EVENT | timed\n"
+    )?;
+    Ok(Answer {
+        status: Status::Usage,
+        text,
+    })
+}
+
+/// The answer where the source failed.
+pub(crate) fn read_fault(alloc: Global) -> Result<Answer, NoMemory>
+    ensures { IfOk result (λ a. IsOfFault (number a.status) (string_bytes a.text)) }
+{
+    let text = format!(in alloc; "read fault\n")?;
+    Ok(Answer {
+        status: Status::ReadFault,
+        text,
+    })
+}
+
+/// The line of a fault of a script: its place and its cause.
+pub(crate) fn refused_line(
+    alloc: Global,
+    line: u32,
+    column: u32,
+    cause: Cause,
+) -> Result<String, NoMemory>
+    ensures { IfOk result
+        (λ text. string_bytes text ≡ refused_text line column (cause_number cause)) }
+{
+    Ok(format!(in alloc; "refused {line} {column} S{}\n", cause.number())?)
+}

@@ -1,0 +1,142 @@
+//! What a command asks of the run of a script, and the answer.
+ghost use Rattle.std.specs.Prelude.{◌≡◌, IfOk, string_bytes};
+ghost use Rattle.cam_script.specs.Law.{IsScript};
+ghost use Rattle.cam_script.specs.OfStage.{IsOfStage};
+ghost use Rattle.cam_script.specs.declared.stage.Stage.TheVariants.{WithoutStops};
+ghost use Rattle.cam_headline.specs.Headline.{HasOneRun};
+ghost use Rattle.cam_run.specs.declared.question.Question.TheVariants as questions;
+ghost use Rattle.cam_run.specs.Status.{number};
+ghost use Rattle.cam_run.specs.Told.{IsOneRun, IsTold, IsTelling};
+
+use crate::answer::Answer;
+use crate::running::run;
+use crate::status::Status;
+use cam_base::NoMemory;
+use cam_cut::CutFault;
+use cam_event::RunRecord;
+use cam_gen::digest_text;
+use cam_names::Name;
+use cam_report::{report_text, summary_text, trace_text, why_text, witness_text};
+use cam_script::Script;
+use cam_why::WhyFault;
+use std::alloc::Global;
+
+/// What is asked of the run of a script.
+#[derive(Clone, Copy, Debug)]
+pub(crate) enum Question {
+    /// What each action saw, and what the objects hold.
+    Report,
+    /// The events.
+    Trace,
+    /// What an action saw, as a serial execution.
+    Witness(Name),
+    /// Why the event of this number stopped an action.
+    Why(u32),
+    /// The numbers of the run of a script of so many steps.
+    Summary(u32),
+}
+
+impl Question {
+    /// The answer, by the run of the script.
+    pub(crate) fn answer(&self, alloc: Global, script: &Script) -> Result<Answer, NoMemory>
+        requires script { IsScript script.now }
+        requires forms { IsOfStage WithoutStops script.now }
+        requires run { HasOneRun script.now }
+        ensures told { IfOk result
+            (λ a. IsTold self.now script.now (number a.status) (string_bytes a.text)) }
+        ensures telling { IfOk result (λ a. IsTelling a.status) }
+    {
+        let run = run(alloc, script)?;
+        match self {
+            Question::Report => report(alloc, script, &run),
+            Question::Trace => trace(alloc, script, &run),
+            Question::Witness(name) => witness(alloc, script, &run, name),
+            Question::Why(event) => why(alloc, script, &run, *event),
+            Question::Summary(steps) => summary(alloc, script, &run, *steps),
+        }
+    }
+}
+
+/// The report of a run.
+fn report(alloc: Global, script: &Script, run: &RunRecord) -> Result<Answer, NoMemory>
+    requires { IsOneRun script.now run.now }
+    ensures told { IfOk result
+        (λ a. IsTold questions.Report script.now (number a.status) (string_bytes a.text)) }
+    ensures telling { IfOk result (λ a. IsTelling a.status) }
+{
+    Ok(Answer {
+        status: Status::Done,
+        text: report_text(alloc, script, run)?,
+    })
+}
+
+/// The events of a run.
+fn trace(alloc: Global, script: &Script, run: &RunRecord) -> Result<Answer, NoMemory>
+    requires { IsOneRun script.now run.now }
+    ensures told { IfOk result
+        (λ a. IsTold questions.Trace script.now (number a.status) (string_bytes a.text)) }
+    ensures telling { IfOk result (λ a. IsTelling a.status) }
+{
+    Ok(Answer {
+        status: Status::Done,
+        text: trace_text(alloc, script, run)?,
+    })
+}
+
+/// The witness of an action, if it was created in the run.
+fn witness(alloc: Global, script: &Script, run: &RunRecord, name: &Name) -> Result<Answer, NoMemory>
+    requires { IsOneRun script.now run.now }
+    ensures told { IfOk result
+        (λ a. IsTold (questions.Witness name.now) script.now
+        (number a.status) (string_bytes a.text)) }
+    ensures telling { IfOk result (λ a. IsTelling a.status) }
+{
+    match witness_text(alloc, script, run, name) {
+        Ok(text) => Ok(Answer {
+            status: Status::Done,
+            text,
+        }),
+        Err(CutFault::NoSuchAction) => Ok(Answer {
+            status: Status::Missing,
+            text: format!(in alloc; "no such action\n")?,
+        }),
+        Err(CutFault::NoMemory) => Err(NoMemory),
+    }
+}
+
+/// Why an event stopped an action, if it did.
+fn why(alloc: Global, script: &Script, run: &RunRecord, event: u32) -> Result<Answer, NoMemory>
+    requires one { IsOneRun script.now run.now }
+    requires run { HasOneRun script.now }
+    ensures told { IfOk result
+        (λ a. IsTold (questions.Why event) script.now (number a.status) (string_bytes a.text)) }
+    ensures telling { IfOk result (λ a. IsTelling a.status) }
+{
+    match why_text(alloc, run, event) {
+        Ok(text) => Ok(Answer {
+            status: Status::Done,
+            text,
+        }),
+        Err(WhyFault::NoSuchStop) => Ok(Answer {
+            status: Status::Missing,
+            text: format!(in alloc; "no such stop\n")?,
+        }),
+        Err(WhyFault::NoMemory) => Err(NoMemory),
+    }
+}
+
+/// The numbers of a run, with the digest of its report.
+fn summary(alloc: Global, script: &Script, run: &RunRecord, steps: u32) -> Result<Answer, NoMemory>
+    requires { IsOneRun script.now run.now }
+    ensures told { IfOk result
+        (λ a. IsTold (questions.Summary steps) script.now
+        (number a.status) (string_bytes a.text)) }
+    ensures telling { IfOk result (λ a. IsTelling a.status) }
+{
+    let report = report_text(alloc, script, run)?;
+    let digest = digest_text(alloc, report.as_bytes())?;
+    Ok(Answer {
+        status: Status::Done,
+        text: summary_text(alloc, run, steps, digest.as_str())?,
+    })
+}
