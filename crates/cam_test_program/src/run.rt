@@ -2,6 +2,7 @@
 
 ghost use Rattle.std.specs.Prelude.{Some};
 
+mod commands;
 mod rows;
 
 use cam_io::{Failed, MemorySink, MemorySource, Sink};
@@ -164,6 +165,10 @@ fn words_that_are_no_form(rt: HostRuntime) -> Result<(), Fail> {
         "run run",
         "--help",
         "gen 7 401",
+        "storm 7 1 1 calm",
+        "inspect",
+        "upgrade",
+        "timed",
         "Run",
         "run ",
     ] {

@@ -1,0 +1,151 @@
+//! The commands beside `run`: what each tells of a run, and where there is nothing to tell.
+
+use super::{FIRST_PATH, source, words};
+use cam_io::MemorySink;
+use cam_run::camelot;
+use std::alloc::Global;
+use std::test::Fail;
+
+/// A command, its input, and its answer.
+#[derive(Clone, Copy, Debug)]
+struct Row {
+    command: &'static str,
+    input: &'static str,
+    status: u8,
+    text: &'static str,
+}
+
+const TRACE: Row = Row {
+    command: "trace",
+    input: FIRST_PATH,
+    status: 0,
+    text: "event 0 node 1 letter 0 note plain
+  create 1.1.1
+event 1 node 1 letter 0 note plain
+  create 1.1.2
+event 2 node 1 letter 0 note plain
+  call 1.1.1 1 x write 5 1
+  sent 1 to 1 call
+event 3 node 1 letter 1 note plain
+  perform 1.1.1 1 ok
+  sent 2 to 1 answer
+event 4 node 1 letter 2 note plain
+  got 1.1.1 1 ok
+event 5 node 1 letter 0 note plain
+  call 1.1.2 1 x read 1
+  sent 3 to 1 call
+event 6 node 1 letter 3 note plain
+  bounce 1.1.2 1 1.1.1
+  sent 4 to 1 answer
+event 7 node 1 letter 4 note plain
+  got 1.1.2 1 busy 1.1.1
+event 8 node 1 letter 0 note plain
+  call 1.1.1 2 x read 1
+  sent 5 to 1 call
+",
+};
+
+const WITNESS: Row = Row {
+    command: "witness 1.1.2",
+    input: FIRST_PATH,
+    status: 0,
+    text: "create 1.1.1
+create 1.1.2
+call 1.1.1 1 x write 5 1
+perform 1.1.1 1 ok
+got 1.1.1 1 ok
+call 1.1.2 1 x read 1
+bounce 1.1.2 1 1.1.1
+got 1.1.2 1 busy 1.1.1
+legal
+",
+};
+
+const NO_ACTION: Row = Row {
+    command: "witness 1.1.3",
+    input: FIRST_PATH,
+    status: 8,
+    text: "no such action\n",
+};
+
+/// A call is stopped, since its action was given up.
+const GIVEN_UP: &str = "nodes 3
+object x 2 register 0
+begin P 1
+ask P C 3
+drain
+giveup P C
+tell 1 2
+drain
+call C x read
+drain
+";
+
+const ABORT: Row = Row {
+    command: "why 8",
+    input: GIVEN_UP,
+    status: 0,
+    text: "stop 8 1.1.1/3.1.1 abort 1.1.1/3.1.1
+cause 3
+letter 2 from 4 to 5
+letter 4 from 7 to 8
+",
+};
+
+const NO_STOP: Row = Row {
+    command: "why 6",
+    input: GIVEN_UP,
+    status: 8,
+    text: "no such stop\n",
+};
+
+const NO_EVENT: Row = Row {
+    command: "why 4294967295",
+    input: GIVEN_UP,
+    status: 8,
+    text: "no such stop\n",
+};
+
+/// The input is not read.
+const GENERATED: Row = Row {
+    command: "gen 7 9",
+    input: "foo\n",
+    status: 0,
+    text: "steps 9
+events 11
+letters 5
+actions 2
+committed 0
+stops 0
+report fbd1dba5a1c76dff62b9904d12168377531aa129842baa96a20afcf137d148fc
+",
+};
+
+const REFUSED: Row = Row {
+    command: "witness 1.1.1",
+    input: "nodes 1\n\nfoo\n",
+    status: 3,
+    text: "refused 3 1 S3\n",
+};
+
+const ROWS: [Row; 8] = [
+    TRACE, WITNESS, NO_ACTION, ABORT, NO_STOP, NO_EVENT, GENERATED, REFUSED,
+];
+
+/// Whether a command has its status and its text.
+fn is_answered(alloc: Global, row: &Row) -> Result<bool, Fail> {
+    let words = words(alloc, row.command)?;
+    let mut source = source(alloc, row.input, &[])?;
+    let mut sink = MemorySink::new(alloc, Vec::new(alloc));
+    let status = camelot(alloc, &words, &mut source, &mut sink);
+    Ok(status == row.status && sink.text() == row.text.as_bytes())
+}
+
+#[test]
+fn each_command_has_its_answer(rt: HostRuntime) -> Result<(), Fail> {
+    for row in ROWS {
+        let is_answered = is_answered(rt.alloc(), &row)?;
+        assert!(rt; is_answered, "{}", row.command);
+    }
+    Ok(())
+}
