@@ -1,4 +1,4 @@
-//! Tests of `cam_bytes`, `cam_disk`, `cam_log`, `cam_ckpt` and `cam_recman` through their public calls, a module for each.
+//! Tests of `cam_bytes`, `cam_disk`, `cam_log`, `cam_ckpt` and `cam_recman` through their public calls, a module or two for each.
 #![tactic(auto)]
 
 #[cfg(test)]
@@ -9,5 +9,7 @@ mod ckpt;
 mod disk;
 #[cfg(test)]
 mod log;
+#[cfg(test)]
+mod migration;
 #[cfg(test)]
 mod recman;
