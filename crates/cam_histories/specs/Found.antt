@@ -4,7 +4,8 @@
 -- Two runs of the same lines, whose halts differ at one input alone: the one loses the event at
 -- which its node halts there, the other has it taken. As long as the node is not restarted they go
 -- on alike. The trace of the other has the taken event besides, at its place; the events behind it
--- have numbers greater by one. The mark of the halt says that it was taken. Nothing else differs:
+-- have numbers greater by one. The mark of the halt says that it was taken, and it is no more
+-- undecided; other halts behind it that are have their places moved. Nothing else differs:
 -- variables, bodies, which letters were delivered and which were lost, which nodes are halted, what
 -- the disks went through, and what each line does and leaves.
 use Rattle.std.specs.Prelude.{◌≡◌, ◌⊎◌, ℕ, ◌+◌, ◌<◌, ◌≤◌, eqb, nat_lt, Bool, true, false, not, ◌&&◌}
@@ -23,10 +24,10 @@ use Rattle.cam_runs.specs.Running.{has_number}
 use Rattle.cam_runs.specs.InRange.{IsInRange}
 use Rattle.cam_runs.specs.Halts.{Turn, accepted, Halting, Stop, Restart}
 use Rattle.cam_runs.specs.Halts as disks
-use Rattle.cam_runs.specs.Standing.{Standing}
+use Rattle.cam_runs.specs.Standing.{Standing, Undecided, undecided_of}
 use Rattle.cam_runs.specs.HaltedLines.{after_line, is_restart_act}
 use Rattle.cam_runs.specs.UnderHalts.{IsUnderHalts, IsNextStep, act_by}
-use Rattle.cam_histories.specs.PutIn.{put_in, IsUnseen}
+use Rattle.cam_histories.specs.PutIn.{moved_event, put_in, IsUnseen}
 
 -- the numbers of the taken events, the newest first, with one more
 abbrev pub with_number : ℕ → List ℕ → List ℕ
@@ -49,6 +50,16 @@ with_mark_taken s (m ∷ ms) =
     if is_halt_of s m && not (list_any (is_halt_of s) ms) then as_taken m ∷ ms
     else m ∷ with_mark_taken s ms
 
+-- The undecided events without the newest of the node. Those that are newer stand behind the place,
+-- so they move; those that are older stay.
+abbrev pub moved_undecided : ℕ → Undecided → Undecided
+moved_undecided place u = record u { before = u.before + 1; event = moved_event place u.event }
+
+abbrev pub undecided_beside : ℕ → ℕ → List Undecided → List Undecided
+undecided_beside s place [] = []
+undecided_beside s place (u ∷ us) =
+    if eqb u.node s then us else moved_undecided place u ∷ undecided_beside s place us
+
 -- what stands with the event put in
 abbrev pub with_taken_in : ℕ → List Event → Event → List Event → Standing → Standing
 with_taken_in s behind e before st =
@@ -58,6 +69,7 @@ with_taken_in s behind e before st =
         marks = with_mark_taken s st.running.marks;
       };
       taken = with_number (length before) st.taken;
+      undecided = undecided_beside s (length before) st.undecided;
     }
 
 -- What stands in the run that lost the event, and what stands in the one that has it taken behind
@@ -91,7 +103,7 @@ last_input (Stop m calls ∷ before) s = last_input before s
 last_input (Restart m ∷ before) s = last_input before s
 
 -- The input was put: it was one of this node, its last one, and what was taken of its event is put
--- in.
+-- in. That is what is undecided of the node, at that place.
 pub record IsBeyond (objects : List ObjectDecl) (k s : ℕ) (before : List Event) (e : Event)
     (lost found : Standing) : Type 0 where
   pub passed : k < accepted lost.turns
@@ -99,6 +111,9 @@ pub record IsBeyond (objects : List ObjectDecl) (k s : ℕ) (before : List Event
   pub input : Input
   pub of_node : node_of before input ≡ s
   pub event : e ≡ taken_of ((by_knowledge objects).next before input)
+  pub undecided :
+      undecided_of s lost.undecided
+      ≡ Some (record { node = s; before = length before; event = e })
   pub stands : IsFound s before e lost found
 
 pub record HasBeyond (objects : List ObjectDecl) (k : ℕ) (lost found : Standing) : Type 0 where

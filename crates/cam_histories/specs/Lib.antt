@@ -17,3 +17,4 @@ pub mod PutIn
 pub mod Found
 pub mod FoundWhole
 pub mod Alike
+pub mod Undecided

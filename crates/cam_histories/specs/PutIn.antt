@@ -7,7 +7,7 @@
 -- This is what a restart makes of a halt: where the log has the entry of the event at which the
 -- node halted, the event was made at its place, though nobody learnt of it.
 use Rattle.std.specs.Prelude.{◌≡◌, ℕ, ◌+◌, nat_lt, if◌then◌else◌, List, [], ◌∷◌, ◌++◌, map, length}
-use Rattle.std.specs.Prelude.{None, option_map}
+use Rattle.std.specs.Prelude.{Option, Some, None, option_map}
 use Rattle.std.specs.List.{AllByRecursion}
 use Rattle.cam_type.specs.declared.ObjectDecl.{ObjectDecl}
 use Rattle.cam_event.specs.declared.Event.{Event}
@@ -50,8 +50,12 @@ pub record IsUnseen (s : ℕ) (behind : List Event) (e : Event) : Type 0 where
   pub others : AllByRecursion (λ (b : Event). b.node ≡ s → ⊥) behind
 
 -- a history but for the numbers of the letters that came
+abbrev pub unnumbered : Option LetterId → Option LetterId
+unnumbered None = None
+unnumbered (Some letter) = Some (record { event = 0; place = 0 })
+
 abbrev pub nameless : Received → Received
-nameless c = record c { event = record c.event { got = None } }
+nameless c = record c { event = record c.event { got = unnumbered c.event.got } }
 
 -- The letters of the trace are those that it had, under their new numbers,
 abbrev pub LettersAreMoved : Type 0
