@@ -72,6 +72,8 @@ counts_as_delivered script st works may number low high keeps = record {
     waits = keeps.under.waits;
     works = keeps.under.works;
     bound = keeps.under.bound;
+    placed = keeps.under.placed;
+    decided = keeps.under.decided;
   };
   one_each = keeps.one_each;
   eight = keeps.eight;

@@ -60,6 +60,9 @@ module _ (script : Script) (st : Standing) (place : ℕ) (works : WorksFields)
     waits = λ m holds. ap (λ (hs : List ℕ). has_number hs m) same ∙ keeps.under.waits m holds;
     works = keeps.under.works;
     bound = keeps.under.bound;
+    placed = placed_without (place + 1) (length st.running.trace) st.undecided keeps.under.placed;
+    decided =
+        decided_without (place + 1) st.halted st.undecided keeps.under.decided;
   }
 
   ended_keeps : KeepsRun script ended works might

@@ -103,6 +103,8 @@ module _ (script : Script) (st : Standing) (halts : Halting) (later : List Step)
     below = first.below;
     waits = first.waits;
     works = first.works;
+    placed = first.placed;
+    decided = first.decided;
     bound = λ v a free at.
         elim (slice_more after.running.bound (created_in (made st after)) (Some a) v at) [
           | inl before ↦ first.bound v a free before

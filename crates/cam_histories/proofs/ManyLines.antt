@@ -61,6 +61,8 @@ losses_stand script st number sites net halted has under whole = (
     waits = under.waits;
     works = under.works;
     bound = under.bound;
+    placed = under.placed;
+    decided = under.decided;
   },
   record {
     nodes = other_sites script.objects st (lose st number) 1 sites refl refl whole.nodes;
@@ -98,6 +100,8 @@ deliveries_stand script halts line restarted st number id sites net halted old n
         waits = next.waits;
         works = next.works;
         bound = next.bound;
+        placed = next.placed;
+        decided = next.decided;
       };
       trace = has.trace;
       stepped = has.stepped;

@@ -70,7 +70,7 @@ act_both script c st (acts.Cut k bytes) range under is =
     led_none script st (cut (pasts script c) st k bytes l) (cut (helds script c) st k bytes l) true (cut_both script c st k bytes l under (awake_by st (addressee st l) none) at)))
 act_both script c st (acts.Lose k) range under is =
     letter_both script st true (letter_of st.running k) (λ l. Led (record st { running = record st.running { lost = k ∷ st.running.lost } }) None) (λ l. Led (record st { running = record st.running { lost = k ∷ st.running.lost } }) None) (λ l at.
-    record { keeps = (record { run = under.run; below = under.below; waits = under.waits; works = under.works; bound = under.bound }, refl, λ f. binds_none st.running); same = refl })
+    record { keeps = (record { run = under.run; below = under.below; waits = under.waits; works = under.works; bound = under.bound; placed = under.placed; decided = under.decided }, refl, λ f. binds_none st.running); same = refl })
 act_both script c st (acts.Restart s) range under is =
     led_none script st (put (pasts script c) (ended_halt st s) (Restarts s)) (put (helds script c) (ended_halt st s) (Restarts s)) true (restart_both script c st s under (node_of_test s is))
 act_both script c st acts.Drain range under is = led_none script st (drain (pasts script c) st) (drain (helds script c) st) true (drain_both script c st under)
@@ -88,4 +88,4 @@ act_both script c st (acts.Query s v) range under is =
     led_none script st (put (pasts script c) st (Queries s (family a))) (put (helds script c) st (Queries s (family a))) true (input_both script c st (Queries s (family a)) under (awake_by st s tests.0) (node_of_test s is, tests.1) (λ b asks. asks))))
 act_both script c st (acts.Stop s calls) range under is =
     unless_both script st true (is_halted st s) (is_halted st s) (Led (record st { turns = Stop s calls ∷ st.turns }) None) (Led (record st { turns = Stop s calls ∷ st.turns }) None) refl (λ none.
-    record { keeps = (record { run = under.run; below = under.below; waits = under.waits; works = under.works; bound = under.bound }, refl, λ f. binds_none st.running); same = refl })
+    record { keeps = (record { run = under.run; below = under.below; waits = under.waits; works = under.works; bound = under.bound; placed = under.placed; decided = under.decided }, refl, λ f. binds_none st.running); same = refl })

@@ -55,6 +55,8 @@ body_given script old new b n before led same fresh nests = record {
     | inr is ↦ subst (λ (x : Name). WorksAt script.bodies (plain_all new.running.trace) x m) (name_eq_same b a is.0)
         (subst (λ (k : ℕ). WorksAt script.bodies (plain_all new.running.trace) b k) (same_Some n m (sym is.1)) (record { nests = nests; named = fresh.named; known = fresh.known; one = fresh.one }))
   ];
+  placed = led.placed;
+  decided = led.decided;
   bound = λ v a free at.
       let k = led.bound v a free at in
       let was = before.bound v a free (ap (λ bs. slice_get bs v) (sym same) ∙ at) in
@@ -77,8 +79,8 @@ given_both script old one other body binds before first gives = record {
   where
     by : (o : Option ℕ) (a : Option Name) → body ≡ o → binds one ≡ a → IsUnderHalts script (given_body o a one)
     by (Some n) (Some b) e f = gives b n e f
-    by (Some n) None e f = record { run = first.under.run; below = first.under.below; waits = first.under.waits; works = first.under.works; bound = first.under.bound }
-    by None a e f = record { run = first.under.run; below = first.under.below; waits = first.under.waits; works = first.under.works; bound = first.under.bound }
+    by (Some n) None e f = record { run = first.under.run; below = first.under.below; waits = first.under.waits; works = first.under.works; bound = first.under.bound; placed = first.under.placed; decided = first.under.decided }
+    by None a e f = record { run = first.under.run; below = first.under.below; waits = first.under.waits; works = first.under.works; bound = first.under.bound; placed = first.under.placed; decided = first.under.decided }
 
     bounds : (o : Option ℕ) (a : Option Name) → (given_body o a one).running.bound ≡ one.running.bound
     bounds (Some n) (Some b) = refl

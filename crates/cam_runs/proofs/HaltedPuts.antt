@@ -123,6 +123,8 @@ ready_by script st input under awake may idle = record {
   may = may;
   works = under.works;
   bound = under.bound;
+  placed = under.placed;
+  decided = under.decided;
   idle = idle;
 }
 
@@ -136,7 +138,7 @@ pub deliver_both : (script : Script) (c : Setting) (st : Standing) (k : ℕ) (le
 deliver_both script c st k letter under awake there =
     let one = input_both script c st (Receives letter) under awake (letters_sent st.running.trace letter there) (λ a asks. asks) in
     record {
-      under = record { run = one.under.run; below = one.under.below; waits = one.under.waits; works = one.under.works; bound = one.under.bound };
+      under = record { run = one.under.run; below = one.under.below; waits = one.under.waits; works = one.under.works; bound = one.under.bound; placed = one.under.placed; decided = one.under.decided };
       bound = one.bound;
       same = ap (λ (x : Standing). record x { running = record x.running { delivered = k ∷ x.running.delivered } }) one.same;
     }

@@ -30,6 +30,7 @@ use Rattle.cam_runs.specs.Standing.{Standing, Setting, put, made, deliver, addre
 use Rattle.cam_runs.specs.HaltedLines.{unless, is_halted, halted_or, led_creating, led_asking, take_request, cut}
 use Rattle.cam_runs.specs.HaltedPlaying.{requested}
 use Rattle.cam_runs.specs.UnderHalts.{IsUnderHalts}
+use Rattle.cam_runs.proofs.Undecided.{placed_without, decided_without}
 use Rattle.cam_runs.proofs.OneEvent.{first_none}
 use Rattle.cam_runs.proofs.MayAsk.{first_two}
 use Rattle.cam_runs.proofs.Delivering.{letters_sent, letter_numbered}
@@ -116,7 +117,7 @@ cut_both script c st k bytes letter under awake at = record {
     short = record st { running = record st.running { marks = st.running.marks ++ marks.Cut c.line k Short bytes ∷ [] } }
 
     by : (b : Bool) → Both script st (if b then short else deliver (pasts script c) st k letter) (if b then short else deliver (helds script c) st k letter)
-    by true = record { under = record { run = under.run; below = under.below; waits = under.waits; works = under.works; bound = under.bound }; bound = refl; same = refl }
+    by true = record { under = record { run = under.run; below = under.below; waits = under.waits; works = under.works; bound = under.bound; placed = under.placed; decided = under.decided }; bound = refl; same = refl }
     by false = deliver_both script c st k letter under awake there
 
     first : Both script st (if nat_lt bytes (length (spelling_of (by_pasts script.objects) st.running.trace letter)) then short else deliver (pasts script c) st k letter) (if nat_lt bytes (length (spelling_of (by_pasts script.objects) st.running.trace letter)) then short else deliver (helds script c) st k letter)
@@ -151,5 +152,7 @@ restart_both script c st s under node =
       may = node;
       works = under.works;
       bound = under.bound;
+      placed = placed_without s (length st.running.trace) st.undecided under.placed;
+      decided = decided_without s st.halted st.undecided under.decided;
       idle = λ a n at asks. absurd asks;
     }
