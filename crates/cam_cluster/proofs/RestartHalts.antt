@@ -15,6 +15,7 @@ use Rattle.cam_runs.specs.Halts.{Halting}
 use Rattle.cam_runs.specs.Running.{has_number}
 use Rattle.cam_runs.specs.Standing.{Standing, ended_halt}
 use Rattle.cam_runs.specs.UnderHalts.{IsUnderHalts}
+use Rattle.cam_runs.proofs.Undecided.{placed_without, decided_without}
 use Rattle.cam_script.specs.declared.Script.{Script}
 use Rattle.cam_histories.proofs.Stepping.{own_inputs_are_put}
 use Rattle.cam_cluster.specs.Puts.{IsPutAt}

@@ -12,12 +12,13 @@ use Rattle.cam_event.specs.Taken.{taken_of}
 use Rattle.cam_runs.specs.Running.{has_number}
 use Rattle.cam_runs.specs.Requests.{newest_deeds}
 use Rattle.cam_runs.specs.Halts.{accepted}
-use Rattle.cam_runs.specs.Standing.{Standing, after_input, made}
+use Rattle.cam_runs.specs.Standing.{Standing, Undecided, after_input, made}
 use Rattle.cam_histories.specs.PutIn.{moved_event, put_in, IsUnseen}
-use Rattle.cam_histories.specs.Found.{last_input}
+use Rattle.cam_histories.specs.Found.{last_input, undecided_beside}
 use Rattle.cam_histories.specs.Found.{with_number, with_mark_taken, with_taken_in, IsFound}
 use Rattle.cam_histories.proofs.Numbers.{lt_cases, put_in_length, behind_long}
 use Rattle.cam_histories.proofs.FoundMarks.{marks_more, number_more}
+use Rattle.cam_histories.proofs.UndecidedBeside.{beside_other}
 
 pub or_true : (b : Bool) → (b || true) ≡ true
 or_true true = refl
@@ -115,6 +116,18 @@ module _ (line : ℕ) (again : Bool) (s : ℕ) (behind before : List Event) (e :
             let same : length st.running.trace ≡ length (behind ++ before) = ap length was in
             omega (arith, long, same)
 
+    -- the halt that is lost
+    abbrev newest : Undecided
+    newest = record { node = n; before = length st.running.trace; event = taken_of ev }
+
+    halts : (after_input line again later n moves w (Some false)).undecided
+        ≡ undecided_beside s (length before) (newest ∷ st.undecided)
+    halts =
+        ap (λ m. record { node = n; before = m; event = taken_of moves }
+        ∷ undecided_beside s (length before) st.undecided)
+        (put_in_length before e behind ∙ ap (λ t. length t + 1) (sym was))
+        ∙ sym (beside_other s (length before) newest st.undecided (λ h. off (sym h)))
+
     pub after_found : (o : Option Bool)
         → IsFound s before e (after_input line again st n ev w o)
         (after_input line again later n moves w o)
@@ -143,6 +156,9 @@ module _ (line : ℕ) (again : Bool) (s : ℕ) (behind before : List Event) (e :
           behind = behind;
           unseen = unseen;
           was = was;
-          is = λ i. record end { running = record end.running { marks = another line false i } };
+          is = λ i. record end {
+            running = record end.running { marks = another line false i };
+            undecided = halts i;
+          };
           halted = ap (λ b. eqb n s || b) halted ∙ or_true (eqb n s);
         }

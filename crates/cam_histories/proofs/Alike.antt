@@ -9,11 +9,11 @@ use Rattle.cam_event.specs.Loads.{Load}
 use Rattle.cam_event.specs.Refusals.{refusal, query_refusal}
 use Rattle.cam_event.specs.Sights.{Sight}
 use Rattle.cam_event.specs.ByKnowledge.{held_sight}
-use Rattle.cam_event.specs.ByDeltas.{as_carried}
-use Rattle.cam_node.specs.Lawful.{MayBePut}
+use Rattle.cam_event.specs.ByDeltas.{Received, as_carried}
+use Rattle.cam_node.specs.Lawful.{MayBePut, IsStepOf}
 use Rattle.cam_runs.specs.Standing.{Standing}
 use Rattle.cam_histories.specs.Alike.{NodesStandAlike, LogsKeepAlike, TakenEventsAreAlike}
-use Rattle.cam_histories.specs.Alike.{OtherHistoriesStay}
+use Rattle.cam_histories.specs.Alike.{AreAlike, OtherHistoriesStay}
 use Rattle.cam_histories.specs.Laws.{history_of}
 use Rattle.cam_histories.specs.PutIn.{nameless}
 use Rattle.cam_histories.proofs.NamelessNodes.{represents_alike, is_log_alike}
@@ -46,21 +46,23 @@ module _ (objects : List ObjectDecl) (s : ℕ) (g h : Sight) (same : eventless g
       (may.0, ap (λ x. query_refusal x f) (sym same) ∙ may.1, may.2)
   may_alike (Restarts m) mail load may = may
 
+pub step_stays : (objects : List ObjectDecl) (s : ℕ) (one other : List Received) (c : Received)
+    → AreAlike one other → IsStepOf objects s one c → IsStepOf objects s other c
+step_stays objects s one other c same step = record {
+  input = step.input;
+  may =
+      may_alike objects s (held_sight objects s (map as_carried one) nothing)
+      (held_sight objects s (map as_carried other) nothing)
+      (sight_alike objects s one other same) step.input c.mail c.load step.may;
+  is_next =
+      step.is_next
+      ∙ step_alike objects s one other step.input c.mail (told_in_order c.load.know) same;
+}
+
 pub taken_events_are_alike : TakenEventsAreAlike
 taken_events_are_alike objects s one other c same taken = record {
   whole = taken.whole;
-  step = record {
-    input = taken.step.input;
-    may =
-        may_alike objects s (held_sight objects s (map as_carried one) nothing)
-        (held_sight objects s (map as_carried other) nothing)
-        (sight_alike objects s one other same) taken.step.input taken.whole.mail taken.whole.load
-        taken.step.may;
-    is_next =
-        taken.step.is_next
-        ∙ step_alike objects s one other taken.step.input taken.whole.mail
-        (told_in_order taken.whole.load.know) same;
-  };
+  step = step_stays objects s one other taken.whole same taken.step;
   is = taken.is;
 }
 

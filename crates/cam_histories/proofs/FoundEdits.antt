@@ -8,7 +8,7 @@ use Rattle.cam_type.specs.declared.ObjectDecl.{ObjectDecl}
 use Rattle.cam_event.specs.declared.Event.{Event}
 use Rattle.cam_runs.specs.Running.{has_number}
 use Rattle.cam_runs.specs.Halts.{accepted}
-use Rattle.cam_runs.specs.Standing.{Standing}
+use Rattle.cam_runs.specs.Standing.{Standing, undecided_of}
 use Rattle.cam_runs.specs.HaltedPlaying.{given_body}
 use Rattle.cam_histories.specs.Found.{last_input}
 use Rattle.cam_histories.specs.Found.{with_taken_in, IsFound}
@@ -44,6 +44,7 @@ pub record Edits (edit : Standing → Standing) : Type 0 where
   pub trace : (x : Standing) → (edit x).running.trace ≡ x.running.trace
   pub taken : (x : Standing) → (edit x).taken ≡ x.taken
   pub halted : (x : Standing) → (edit x).halted ≡ x.halted
+  pub undecided : (x : Standing) → (edit x).undecided ≡ x.undecided
   pub turns : (x : Standing) → accepted (edit x).turns ≡ accepted x.turns
   pub last : (x : Standing) (s : ℕ) → last_input (edit x).turns s ≡ last_input x.turns s
   pub later :
@@ -62,6 +63,7 @@ beyond_edit objects k s before e edit edits lost found b = record {
     input = b.is_beyond.input;
     of_node = b.is_beyond.of_node;
     event = b.is_beyond.event;
+    undecided = ap (undecided_of s) (edits.undecided lost) ∙ b.is_beyond.undecided;
     stands = record {
       behind = stands.behind;
       unseen = stands.unseen;
@@ -110,6 +112,7 @@ counted_edits k = record {
   trace = λ x. refl;
   taken = λ x. refl;
   halted = λ x. refl;
+  undecided = λ x. refl;
   turns = λ x. refl;
   last = λ x s. refl;
   later = λ s behind before e x. refl;
@@ -121,6 +124,7 @@ given_edits (Some body) (Some a) = record {
   trace = λ x. refl;
   taken = λ x. refl;
   halted = λ x. refl;
+  undecided = λ x. refl;
   turns = λ x. refl;
   last = λ x s. refl;
   later = λ s behind before e x. refl;
@@ -129,6 +133,7 @@ given_edits (Some body) None = record {
   trace = λ x. refl;
   taken = λ x. refl;
   halted = λ x. refl;
+  undecided = λ x. refl;
   turns = λ x. refl;
   last = λ x s. refl;
   later = λ s behind before e x. refl;
@@ -137,6 +142,7 @@ given_edits None a = record {
   trace = λ x. refl;
   taken = λ x. refl;
   halted = λ x. refl;
+  undecided = λ x. refl;
   turns = λ x. refl;
   last = λ x s. refl;
   later = λ s behind before e x. refl;

@@ -1,14 +1,13 @@
 -- The input at which two runs differ, and those before it.
 use Rattle.std.proofs.Common.{◌≡◌, inl, inr, ℕ, ◌+◌, ◌<◌, ◌≤◌, Bool, true, false, ◌||◌}
-use Rattle.std.proofs.Common.{List, [], ◌∷◌, ◌++◌, filter, length, Option, Some}
-use Rattle.std.proofs.Common.{refl, sym, ap, ◌∙◌, subst, arith, if◌then◌else◌}
+use Rattle.std.proofs.Common.{if◌then◌else◌, List, [], ◌∷◌, ◌++◌, filter, length, Option, Some}
+use Rattle.std.proofs.Common.{refl, sym, ap, ◌∙◌, subst, arith}
 use Rattle.std.proofs.lemmas.Bool.{eq-eqb}
 use Rattle.std.proofs.lemmas.Bool.Decides.{eqb_tells}
 use Rattle.cam_type.specs.declared.ObjectDecl.{ObjectDecl}
 use Rattle.cam_event.specs.declared.Deed.{Deed}
 use Rattle.cam_event.specs.declared.Event.{Event}
-use Rattle.cam_event.specs.Inputs.{Input}
-use Rattle.cam_event.specs.Inputs.{node_of}
+use Rattle.cam_event.specs.Inputs.{Input, node_of}
 use Rattle.cam_event.specs.Readings.{by_knowledge}
 use Rattle.cam_event.specs.Taken.{is_entered, taken_of}
 use Rattle.cam_cut.proofs.Places.{AllPlaced}
@@ -16,15 +15,15 @@ use Rattle.cam_runs.specs.Running.{has_number}
 use Rattle.cam_runs.specs.Requests.{created_in, asked_in}
 use Rattle.cam_runs.specs.Halts.{accepted, Halting, appends}
 use Rattle.cam_runs.specs.Standing.{Standing, Setting, after_input, put, made}
+use Rattle.cam_runs.specs.Standing.{Undecided, undecided_of}
 use Rattle.cam_histories.specs.InputLaws.{held_setting}
-use Rattle.cam_histories.specs.Found.{last_input}
-use Rattle.cam_histories.specs.Found.{with_taken_in, DifferAt}
+use Rattle.cam_histories.specs.Found.{last_input, with_taken_in, DifferAt}
 use Rattle.cam_histories.proofs.Numbers.{lt_cases}
 use Rattle.cam_histories.proofs.FoundMarks.{marks_new, number_new}
 use Rattle.cam_histories.proofs.Silent.{entered_silent, placed_behind, creates_none, asks_none}
 use Rattle.cam_histories.proofs.Beside.{Before, Goes, Leads}
-use Rattle.cam_histories.proofs.AfterInput.{made_is, after_accepted, below_after}
-use Rattle.cam_histories.proofs.AfterInput.{after_last}
+use Rattle.cam_histories.proofs.AfterInput.{made_is, after_accepted, after_last, below_after}
+use Rattle.cam_histories.proofs.UndecidedBeside.{beside_own, newest_own}
 
 module _ (objects : List ObjectDecl) (losing taking : Halting) (k : ℕ)
     (P : ℕ → List Event → Event → Type 0) (differ : DifferAt k losing taking) (line : ℕ)
@@ -67,6 +66,9 @@ module _ (objects : List ObjectDecl) (losing taking : Halting) (k : ℕ)
               input = input;
               of_node = refl;
               event = refl;
+              undecided =
+                  ap (λ (x : Standing). undecided_of n x.undecided) loses
+                  ∙ newest_own n newest st.undecided refl;
               stands = record {
                 behind = [];
                 unseen = record { at = refl; mute = refl; others = tt };
@@ -100,6 +102,9 @@ module _ (objects : List ObjectDecl) (losing taking : Halting) (k : ℕ)
           w : Bool
           w = appends (by_knowledge objects) t input
 
+          newest : Undecided
+          newest = record { node = n; before = length t; event = taken_of ev }
+
           lost_end : Standing
           lost_end = after_input line (restarted n) st n ev w (Some false)
 
@@ -120,6 +125,7 @@ module _ (objects : List ObjectDecl) (losing taking : Halting) (k : ℕ)
               marks = sym (marks_new n line st.running.marks) i;
             };
             taken = sym (number_new (length t) st.taken before.below) i;
+            undecided = sym (beside_own n (length t) newest st.undecided refl) i;
           }
 
           there : made st (put other st input) ≡ filter is_entered ev.deeds

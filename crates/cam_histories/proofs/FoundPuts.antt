@@ -22,6 +22,7 @@ use Rattle.cam_histories.proofs.PutIn.{node_moved, events_are_moved, loads_are_m
 use Rattle.cam_histories.proofs.Beside.{Beyond}
 use Rattle.cam_histories.proofs.AfterInput.{made_by, made_is, after_found, after_accepted}
 use Rattle.cam_histories.proofs.AfterInput.{after_last}
+use Rattle.cam_histories.proofs.UndecidedBeside.{after_undecided}
 
 module _ (objects : List ObjectDecl) (losing taking : Halting) (k : ℕ)
     (P : ℕ → List Event → Event → Type 0) (differ : DifferAt k losing taking) (line : ℕ)
@@ -135,6 +136,9 @@ module _ (objects : List ObjectDecl) (losing taking : Halting) (k : ℕ)
           input = both.is_beyond.input;
           of_node = both.is_beyond.of_node;
           event = both.is_beyond.event;
+          undecided =
+              after_undecided line (restarted n) st n ev w o s (λ h. off (sym h))
+              ∙ both.is_beyond.undecided;
           stands = record {
             behind = end.behind;
             unseen = end.unseen;

@@ -1,6 +1,6 @@
 -- The restart of another node in two runs whose halts differ at one input.
 use Rattle.std.proofs.Common.{◌≡◌, inl, inr, ℕ, Bool, false}
-use Rattle.std.proofs.Common.{if◌then◌else◌, List}
+use Rattle.std.proofs.Common.{if◌then◌else◌, length, List}
 use Rattle.std.proofs.Common.{sym, ap, ◌∙◌}
 use Rattle.std.proofs.lemmas.Bool.{ne_eqb}
 use Rattle.cam_type.specs.declared.ObjectDecl.{ObjectDecl}
@@ -13,8 +13,10 @@ use Rattle.cam_runs.specs.Halts.{Halting}
 use Rattle.cam_runs.specs.Standing.{Standing, put}
 use Rattle.cam_runs.specs.Standing.{ended_halt}
 use Rattle.cam_histories.specs.InputLaws.{held_setting}
-use Rattle.cam_histories.specs.Found.{IsFound, DifferAt}
+use Rattle.cam_histories.specs.Found.{with_taken_in, IsFound, DifferAt}
+use Rattle.cam_runs.proofs.Undecided.{others_without}
 use Rattle.cam_histories.proofs.HaltedLists.{without}
+use Rattle.cam_histories.proofs.UndecidedBeside.{beside_without}
 use Rattle.cam_histories.proofs.Beside.{SomeBeyond, Goes, Leads}
 use Rattle.cam_histories.proofs.FoundPuts.{found_put}
 use Rattle.cam_histories.proofs.FoundHalts.{before_put}
@@ -59,11 +61,20 @@ module _ (objects : List ObjectDecl) (losing taking : Halting) (k : ℕ)
               input = b.beyond.is_beyond.input;
               of_node = b.beyond.is_beyond.of_node;
               event = b.beyond.is_beyond.event;
+              undecided =
+                  others_without m b.node st.undecided (λ h. away b (sym h))
+                  ∙ b.beyond.is_beyond.undecided;
               stands = record {
                 behind = stands.behind;
                 unseen = stands.unseen;
                 was = stands.was;
-                is = ap (λ x. ended_halt x m) stands.is;
+                is =
+                    ap (λ x. ended_halt x m) stands.is
+                    ∙ λ i. record later {
+                      undecided =
+                          beside_without b.node m (length b.before) st.undecided
+                          (λ h. away b (sym h)) i;
+                    };
                 halted =
                     without st.halted m b.node
                     ∙ ap (λ c. if c then false else has_number st.halted b.node)
@@ -78,3 +89,6 @@ module _ (objects : List ObjectDecl) (losing taking : Halting) (k : ℕ)
       where
         stands : IsFound b.node b.before b.event st there
         stands = b.beyond.is_beyond.stands
+
+        later : Standing
+        later = with_taken_in b.node stands.behind b.event b.before (ended_halt st m)

@@ -44,6 +44,7 @@ pub mod Trails
 pub mod FoundMarks
 pub mod FoundSent
 pub mod Beside
+pub mod UndecidedBeside
 pub mod AfterInput
 pub mod FoundPuts
 pub mod FoundHalts
@@ -63,3 +64,7 @@ pub mod NamelessNodes
 pub mod Alike
 pub mod FoundWhole
 pub mod FoundRestart
+pub mod UndecidedPlaces
+pub mod UndecidedEvents
+pub mod StepsAlike
+pub mod HaltsAlike

@@ -24,14 +24,14 @@ use Rattle.cam_event.specs.ByKnowledge.{finish_counts, learned_by, held, site, s
 use Rattle.cam_event.specs.Loads.{with_load}
 use Rattle.cam_event.specs.ByDeltas.{Received, as_carried, known, crashed, came_from, have_of}
 use Rattle.cam_event.specs.ByDeltas.{acked_of, load_for}
-use Rattle.cam_histories.specs.PutIn.{nameless}
+use Rattle.cam_histories.specs.PutIn.{nameless, unnumbered}
 
 -- an event of a node and an entry without the number of its letter
 abbrev pub bare : Carried → Carried
-bare c = record c { event = record c.event { got = None } }
+bare c = record c { event = record c.event { got = unnumbered c.event.got } }
 
 abbrev pub bare_entry : Entry → Entry
-bare_entry e = record e { event = record e.event { got = None } }
+bare_entry e = record e { event = record e.event { got = unnumbered e.event.got } }
 
 -- the node's own deeds, and what it gains, learns and holds
 pub deeds_bare : (h : List Carried) → deeds_of (map bare h) ≡ deeds_of h

@@ -37,7 +37,7 @@ module _ (objects : List ObjectDecl) (h j : List Received) (same : map nameless 
     carried : map bare one ≡ map bare other
     carried = sym (carried_bare h) ∙ ap (map as_carried) same ∙ carried_bare j
 
-    deeds_alike : deeds_of one ≡ deeds_of other
+    pub deeds_alike : deeds_of one ≡ deeds_of other
     deeds_alike = sym (deeds_bare one) ∙ ap deeds_of carried ∙ deeds_bare other
 
     pairs_alike : (a : Name) → own_pairs objects one a ≡ own_pairs objects other a
@@ -45,7 +45,7 @@ module _ (objects : List ObjectDecl) (h j : List Received) (same : map nameless 
         sym (pairs_bare objects one a) ∙ ap (λ cs. own_pairs objects cs a) carried
         ∙ pairs_bare objects other a
 
-    held_alike : held objects one ≡ held objects other
+    pub held_alike : held objects one ≡ held objects other
     held_alike = sym (held_bare objects one) ∙ ap (held objects) carried ∙ held_bare objects other
 
     site_alike : site one ≡ site other

@@ -16,11 +16,16 @@ use Rattle.cam_event.specs.ByDeltas.{Received, received, received_of, of_node, u
 use Rattle.cam_event.specs.ByDeltas.{load_by, load_for}
 use Rattle.cam_delta.proofs.Growing.{received_length}
 use Rattle.cam_histories.specs.PutIn.{moved, moved_letter, moved_event, put_in}
-use Rattle.cam_histories.specs.PutIn.{nameless}
+use Rattle.cam_histories.specs.PutIn.{nameless, unnumbered}
 use Rattle.cam_histories.proofs.Nameless.{load_bare}
 use Rattle.cam_histories.proofs.Numbers.{lt_cases, moved_low, moved_high, moved_off, number_same}
 use Rattle.cam_histories.proofs.Numbers.{put_in_length, behind_long, letters_moved, mails_moved}
 use Rattle.cam_histories.proofs.Numbers.{sender_other}
+
+unnumbered_moved : (p : ℕ) (got : Option LetterId)
+    → unnumbered (option_map (moved_letter p) got) ≡ unnumbered got
+unnumbered_moved p None = refl
+unnumbered_moved p (Some letter) = refl
 
 none_up : (all : List Received) (i : ℕ) → length all ≤ i → up_to all i ≡ []
 none_up [] i high = refl
@@ -77,6 +82,18 @@ module _ (objects : List ObjectDecl) (s : ℕ) (before : List Event) (e : Event)
     got_moved b same others None = refl
     got_moved b same others (Some letter) = load_moved b same others letter
 
+    -- and an event that came is the same but for the number of its letter
+    pub received_moved : (b : List Event) → SameSo b
+        → AllByRecursion (λ (x : Event). x.node ≡ s → ⊥) b → (x : Event)
+        → nameless (received objects (new b) (moved_event (length before) x)
+        (mail_got (put_in b e before) (option_map (moved_letter (length before)) x.got)))
+        ≡ nameless (received objects (old b) x (mail_got (b ++ before) x.got))
+    received_moved b same others x = λ i. record {
+      event = record x { got = unnumbered_moved (length before) x.got i };
+      mail = mails_moved before e b x.got i;
+      load = got_moved b same others x.got i;
+    }
+
     first_same : SameSo []
     first_same = record {
       own = λ m off.
@@ -124,11 +141,7 @@ module _ (objects : List ObjectDecl) (s : ℕ) (before : List Event) (e : Event)
         was = received objects (old b) x (mail_got (b ++ before) x.got)
 
         newest : nameless now ≡ nameless was
-        newest = λ i. record {
-          event = record x { got = None };
-          mail = mails_moved before e b x.got i;
-          load = got_moved b same others x.got i;
-        }
+        newest = received_moved b same others x
 
         own : (m : ℕ) → (s ≡ m → ⊥)
             → map nameless (of_node (now ∷ new b) m) ≡ map nameless (of_node (was ∷ old b) m)

@@ -64,7 +64,7 @@ pub record IsUndecidedAlike (objects : List ObjectDecl) (m : ℕ) (u : Undecided
 
 abbrev pub OthersStayUndecided : Type 0
 OthersStayUndecided =
-    (objects : List ObjectDecl) (s m : ℕ) (before : List Event) (e : Event) (lost found : Standing)
-    (u : Undecided) → IsFound s before e lost found
+    (objects : List ObjectDecl) (k s m : ℕ) (before : List Event) (e : Event)
+    (lost found : Standing) (u : Undecided) → IsBeyond objects k s before e lost found
     → ArePlaced (length lost.running.trace) lost.undecided → (s ≡ m → ⊥)
     → undecided_of m lost.undecided ≡ Some u → IsUndecidedAlike objects m u lost found

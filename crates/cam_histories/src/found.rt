@@ -1,5 +1,6 @@
 // A halt that is found to be taken, as laws.
-ghost use Rattle.cam_histories.specs.Alike.{LogsKeepAlike, NodesStandAlike};
+ghost use Rattle.cam_histories.specs.Alike.{HaltedLogsKeepAlike, HaltsStandAlike};
+ghost use Rattle.cam_histories.specs.Alike.{HistoriesGoThroughAlike, LogsKeepAlike, NodesStandAlike};
 ghost use Rattle.cam_histories.specs.Alike.{OtherHistoriesStay, TakenEventsAreAlike};
 ghost use Rattle.cam_histories.specs.Found.{LinesKeepTheEvent, LinesLeadToTheHalt};
 ghost use Rattle.cam_histories.specs.FoundWhole.{HistoriesHaveTheEvent, LogsHaveTheEvent};
@@ -7,6 +8,9 @@ ghost use Rattle.cam_histories.specs.FoundWhole.{RestartsFindTheEvent, StopsStay
 ghost use Rattle.cam_histories.specs.FoundWhole.{WholesStand};
 ghost use Rattle.cam_histories.specs.PutIn.{EventsAreMoved, HistoriesAreMoved, LettersAreMoved};
 ghost use Rattle.cam_histories.specs.PutIn.{LoadsAreMoved, QueryRefusalsStay, RefusalsStay};
+ghost use Rattle.cam_histories.specs.Undecided.{FoundEventsAreUndecided, FoundEventsHaveTheirPlace};
+ghost use Rattle.cam_histories.specs.Undecided.{FoundHaltsAreDecided, OthersStayUndecided};
+ghost use Rattle.cam_histories.specs.Undecided.{UndecidedStay};
 
 /// An event is put into a trace, one that sent no letter and whose node did nothing behind it. The
 /// events behind it then have numbers greater by one, and so have their letters. Nothing else
@@ -44,11 +48,26 @@ pub fn wholes_found()
 {}
 
 /// Nothing of a node goes by the numbers of its letters: a node, its log and a taken event stand for
-/// a history as for one that differs in these alone. So they stand for the histories of the other
-/// nodes where a halt is found to be taken.
+/// a history as for one that differs in these alone, and so does a node that halted. So they stand
+/// for the histories of the other nodes where a halt is found to be taken.
 pub fn histories_alike()
     ensures nodes { NodesStandAlike }
     ensures logs { LogsKeepAlike }
     ensures taken { TakenEventsAreAlike }
+    ensures through { HistoriesGoThroughAlike }
+    ensures halts { HaltsStandAlike }
+    ensures halted_logs { HaltedLogsKeepAlike }
     ensures others { OtherHistoriesStay }
+{}
+
+/// A run keeps of each halt that is undecided which event it was and where it stood. What that adds
+/// to the history of its node stays the same, whatever comes after. Where the halt is found to be
+/// taken, just that stands in the history besides, at that place, and the halt is undecided no more;
+/// the others are what they were, but for the numbers of letters.
+pub fn undecided_halts()
+    ensures stay { UndecidedStay }
+    ensures place { FoundEventsHaveTheirPlace }
+    ensures history { FoundEventsAreUndecided }
+    ensures decided { FoundHaltsAreDecided }
+    ensures others { OthersStayUndecided }
 {}

@@ -20,7 +20,9 @@ mod found;
 mod steps;
 
 pub use crate::flight::{flights, spelled};
-pub use crate::found::{events_put_in, halts_found, histories_alike, wholes_found};
+pub use crate::found::{
+    events_put_in, halts_found, histories_alike, undecided_halts, wholes_found,
+};
 pub use crate::steps::{
     letters_read, line_tests, node_steps, numbers_left, run_halts, run_inputs, run_lines,
 };
