@@ -68,3 +68,4 @@ pub mod UndecidedPlaces
 pub mod UndecidedEvents
 pub mod StepsAlike
 pub mod HaltsAlike
+pub mod NewHalts

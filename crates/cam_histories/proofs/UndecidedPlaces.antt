@@ -51,6 +51,20 @@ placed_within n m (x ∷ us) u placed is =
         let within = placed.0 in
         omega (arith, low, within)
 
+pub undecided_node : (m : ℕ) (us : List Undecided) (u : Undecided)
+    → undecided_of m us ≡ Some u → u.node ≡ m
+undecided_node m [] u is = cc
+undecided_node m (x ∷ us) u is =
+    by (eqb_tells x.node m) (undecided_node m us u)
+  where
+    by : ((eqb x.node m ≡ true) × (x.node ≡ m)) ⊎ ((eqb x.node m ≡ false) × (x.node ≡ m → ⊥))
+        → (undecided_of m us ≡ Some u → u.node ≡ m) → u.node ≡ m
+    by (inl y) rest =
+        ap (λ (v : Undecided). v.node)
+        (sym (same_Some x u (sym (newest_own m x us y.1) ∙ is)))
+        ∙ y.1
+    by (inr k) rest = rest (sym (newest_other m x us k.1) ∙ is)
+
 -- Those of another node stood before it, and stay, or behind it, and move.
 abbrev pub StaysOrMoves : ℕ → ℕ → ℕ → List Undecided → Undecided → Type 0
 StaysOrMoves s m place us u =

@@ -1,15 +1,28 @@
 -- Halts of which a run does not yet tell whether they are taken: what each adds to the history of its
 -- node where a restart finds it, and what becomes of the others then.
-use Rattle.std.specs.Prelude.{◌≡◌, ◌≤◌, ℕ, nat_lt, if◌then◌else◌, List, [], ◌∷◌, ◌++◌, length, Some}
+use Rattle.std.specs.Prelude.{◌≡◌, ◌≤◌, ℕ, zero, nat_lt, Bool, true, if◌then◌else◌, List, [], ◌∷◌}
+use Rattle.std.specs.Prelude.{◌++◌, length, Option, Some}
 use Rattle.cam_type.specs.declared.ObjectDecl.{ObjectDecl}
 use Rattle.cam_event.specs.declared.Event.{Event}
 use Rattle.cam_event.specs.ByDeltas.{Received, received, received_of}
-use Rattle.cam_event.specs.Inputs.{mail_got}
+use Rattle.cam_event.specs.Inputs.{Input, Mail, mail_got, node_of, got_of}
+use Rattle.cam_event.specs.Loads.{Load}
+use Rattle.cam_event.specs.Readings.{by_knowledge}
+use Rattle.cam_event.specs.Runs.{MayCome}
+use Rattle.cam_event.specs.Taken.{IsRunTaking, taken_of}
+use Rattle.cam_node.specs.Found.{IsHaltedAt, IsLogOfOneOf, whole_step}
+use Rattle.cam_node.specs.Halting.{taken, taken_step}
+use Rattle.cam_node.specs.Keeping.{IsLogOfEither}
+use Rattle.cam_node.specs.Log.{Logged}
+use Rattle.cam_node.specs.Represents.{Node}
+use Rattle.cam_script.specs.declared.Script.{Script}
+use Rattle.cam_runs.specs.Running.{has_number}
 use Rattle.cam_runs.specs.Standing.{Standing, Undecided, undecided_of}
-use Rattle.cam_runs.specs.UnderHalts.{ArePlaced}
+use Rattle.cam_runs.specs.UnderHalts.{ArePlaced, IsUnderHalts}
 use Rattle.cam_histories.specs.Found.{undecided_beside, IsFound, IsBeyond}
-use Rattle.cam_histories.specs.Laws.{history_of}
+use Rattle.cam_histories.specs.Laws.{history_of, load_of_input}
 use Rattle.cam_histories.specs.PutIn.{nameless}
+use Rattle.cam_histories.specs.Stepping.{IsPut}
 
 -- so many of the events, the oldest
 abbrev pub events_before : ℕ → List Event → List Event
@@ -24,6 +37,62 @@ received_behind objects before e =
 -- what a restart that finds the event adds to the history of its node
 abbrev pub received_at : List ObjectDecl → List Event → Undecided → Received
 received_at objects trace u = received_behind objects (events_before u.before trace) u.event
+
+-- At first it is what was taken of the node's step. What was put to the node was as good as what
+-- the run has of it, so the node halted in just that step, and its log may have it.
+abbrev pub step_in : List ObjectDecl → List Event → Input → Received
+step_in objects t input =
+    whole_step objects (node_of t input) (history_of objects t (node_of t input)) input
+    (mail_got t (got_of input)) (load_of_input objects t input)
+
+abbrev pub undecided_in : List ObjectDecl → List Event → Input → Undecided
+undecided_in objects t input =
+    record {
+      node = node_of t input;
+      before = length t;
+      event = taken_of ((by_knowledge objects).next t input);
+    }
+
+pub record IsNewHalt (objects : List ObjectDecl) (t : List Event) (input : Input) (node : Node)
+    (event : Event) : Type 0 where
+  pub halted :
+      IsHaltedAt objects (history_of objects t (node_of t input)) (step_in objects t input) node
+      event
+  pub is_undecided : event ≡ (undecided_in objects t input).event
+  pub adds :
+      taken (step_in objects t input) ≡ received_at objects t (undecided_in objects t input)
+
+abbrev pub NewHaltsAreUndecided : Type 0
+NewHaltsAreUndecided =
+    (objects : List ObjectDecl) (taken : ℕ → Bool) (t : List Event) (input : Input)
+    (mail : Option Mail) (load : Load) (node : Node) (event : Event)
+    → IsRunTaking objects taken t → MayCome objects t input → IsPut objects t input mail load
+    → node.number ≡ node_of t input
+    → IsHaltedAt objects (history_of objects t (node_of t input))
+    (whole_step objects (node_of t input) (history_of objects t (node_of t input)) input mail load)
+    node event
+    → IsNewHalt objects t input node event
+
+abbrev pub NewHaltsKeepLogs : Type 0
+NewHaltsKeepLogs =
+    (objects : List ObjectDecl) (t : List Event) (input : Input) (mail : Option Mail) (load : Load)
+    (logged : Logged) → IsPut objects t input mail load
+    → IsLogOfEither objects (node_of t input) (history_of objects t (node_of t input))
+    (taken_step objects (node_of t input) (history_of objects t (node_of t input)) input mail load)
+    logged
+    → IsLogOfOneOf objects (node_of t input) (history_of objects t (node_of t input))
+    (step_in objects t input) zero logged
+
+-- The node is halted, and all events that stood before it stand now.
+pub record IsUndecidedOf (st : Standing) (s : ℕ) (u : Undecided) : Type 0 where
+  pub node : u.node ≡ s
+  pub halted : has_number st.halted s ≡ true
+  pub within : u.before ≤ length st.running.trace
+
+abbrev pub UndecidedAreHalts : Type 0
+UndecidedAreHalts =
+    (script : Script) (st : Standing) (s : ℕ) (u : Undecided) → IsUnderHalts script st
+    → undecided_of s st.undecided ≡ Some u → IsUndecidedOf st s u
 
 -- It stays the same, whatever comes after.
 abbrev pub UndecidedStay : Type 0

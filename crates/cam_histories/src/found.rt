@@ -9,8 +9,9 @@ ghost use Rattle.cam_histories.specs.FoundWhole.{WholesStand};
 ghost use Rattle.cam_histories.specs.PutIn.{EventsAreMoved, HistoriesAreMoved, LettersAreMoved};
 ghost use Rattle.cam_histories.specs.PutIn.{LoadsAreMoved, QueryRefusalsStay, RefusalsStay};
 ghost use Rattle.cam_histories.specs.Undecided.{FoundEventsAreUndecided, FoundEventsHaveTheirPlace};
-ghost use Rattle.cam_histories.specs.Undecided.{FoundHaltsAreDecided, OthersStayUndecided};
-ghost use Rattle.cam_histories.specs.Undecided.{UndecidedStay};
+ghost use Rattle.cam_histories.specs.Undecided.{FoundHaltsAreDecided, NewHaltsAreUndecided};
+ghost use Rattle.cam_histories.specs.Undecided.{NewHaltsKeepLogs, OthersStayUndecided};
+ghost use Rattle.cam_histories.specs.Undecided.{UndecidedAreHalts, UndecidedStay};
 
 /// An event is put into a trace, one that sent no letter and whose node did nothing behind it. The
 /// events behind it then have numbers greater by one, and so have their letters. Nothing else
@@ -60,11 +61,15 @@ pub fn histories_alike()
     ensures others { OtherHistoriesStay }
 {}
 
-/// A run keeps of each halt that is undecided which event it was and where it stood. What that adds
-/// to the history of its node stays the same, whatever comes after. Where the halt is found to be
-/// taken, just that stands in the history besides, at that place, and the halt is undecided no more;
-/// the others are what they were, but for the numbers of letters.
+/// A run keeps of each halt that is undecided which event it was and where it stood: at first what
+/// was taken of the step in which its node halted, which the log may have. What that adds to the
+/// history of the node stays the same, whatever comes after. Where the halt is found to be taken,
+/// just that stands in the history besides, at that place, and the halt is undecided no more; the
+/// others are what they were, but for the numbers of letters.
 pub fn undecided_halts()
+    ensures new { NewHaltsAreUndecided }
+    ensures logs { NewHaltsKeepLogs }
+    ensures halts { UndecidedAreHalts }
     ensures stay { UndecidedStay }
     ensures place { FoundEventsHaveTheirPlace }
     ensures history { FoundEventsAreUndecided }
