@@ -1,6 +1,6 @@
 pub mod Decided
 pub mod Agreed
-pub mod Whole
+pub mod PlainFor
 pub mod SceneRun
 pub mod CountersRun
 pub mod Stays
@@ -8,7 +8,8 @@ pub mod Secure
 pub mod Recovered
 pub mod HaltedRuns
 pub mod HaltedHeld
-pub mod HaltedWhole
+pub mod Whole
+pub mod KnownHalts
 pub mod HaltedRowsRun
 pub mod KeptWhole
 pub mod KeptKnowledge

@@ -14,10 +14,9 @@
 
 ghost use Rattle.cam_headline.specs.Counters.{CountersAreReported};
 ghost use Rattle.cam_headline.specs.Halted.{HaltedCommitNeeds, HaltedDecidedOnce, HaltedEventsAgree, HaltedReplay, HaltedStays, HaltedViews};
-ghost use Rattle.cam_headline.specs.HaltedHeadline.{HaltedHeadline, NoHaltIsTheOneRun};
 ghost use Rattle.cam_headline.specs.HaltedHeld.{HaltedCommittedIsCovered, HaltedCommittedIsSecured, HaltedCrashKeepsOthers, HaltedCrashKeepsSecured, HaltedHeldIsThePast, HaltedHeldWasDecided, HaltedNodesAgree, HaltedNoneIsAborted, HaltedSecuredStays};
 ghost use Rattle.cam_headline.specs.HaltedRows.{AreWorked};
-ghost use Rattle.cam_headline.specs.Headline.{Headline};
+ghost use Rattle.cam_headline.specs.Headline.{HaltedHeadline, Headline, NoStopIsTheRun};
 ghost use Rattle.cam_headline.specs.KeptLog.{LogsKeep, LogsKeepKnowledge, LogsKeepOrder, LogsKeepSecured};
 ghost use Rattle.cam_headline.specs.Outcomes.{CommitNeedsSecured, CommittedIsSecured, EachIsDecidedOnce, HeldWasDecided, NoTwoEventsDiffer, NoTwoNodesDiffer};
 ghost use Rattle.cam_headline.specs.Scene.{IsWorked};
@@ -28,9 +27,11 @@ ghost use Rattle.cam_headline.specs.Recovery.{CommittedIsCovered, CommittedStays
 /// run of the step rules; for each action, orphan or not, the events before its last event are a
 /// legal execution in which it is no orphan and has the same view; committed top actions replay
 /// serially in commit order; no two nodes hold different outcomes of an action; and the report is
-/// that of this run.
+/// that of this run. Its halts are those that the script's stop lines make; without such a line it
+/// is the run without halts.
 pub fn headline()
     ensures holds { Headline }
+    ensures none { NoStopIsTheRun }
 {}
 
 /// In a run each action is decided once at most, no two events and no two nodes differ on it, and
@@ -92,13 +93,10 @@ pub fn kept_logs()
     ensures kept { LogsKeep }
 {}
 
-/// For all bytes that spell a script, whichever inputs are halts, taken or lost: the run by what
-/// nodes hold is the run by pasts; for each action its view stands in a legal execution; committed
-/// top actions replay in commit order; and no two nodes differ. Without a halt it is the one run of
-/// the script.
+/// For all bytes that spell a script, whichever inputs are halts, taken or lost, as where a disk
+/// fails by itself: the same holds of the run in which they are.
 pub fn halted_headline()
-    ensures holds { HaltedHeadline }
-    ensures none { NoHaltIsTheOneRun }
+    ensures { HaltedHeadline }
 {}
 
 /// Where no disk that was handed in failed, the halts of a run are those of its stop lines, and no
