@@ -7,9 +7,12 @@ use Rattle.cam_event.specs.declared.Event.{Event}
 use Rattle.cam_event.specs.declared.RunRecord.{RunRecord}
 use Rattle.cam_event.specs.Readings.{by_pasts}
 use Rattle.cam_runs.specs.HaltedLines.{run_with}
-use Rattle.cam_runs.specs.Running.{Running}
+use Rattle.cam_runs.specs.Running.{has_number}
+use Rattle.cam_runs.specs.Halts.{by_stops}
+use Rattle.cam_runs.specs.Standing.{Standing}
+use Rattle.cam_runs.proofs.NoStops.{no_stops_no_halts}
 use Rattle.cam_script.specs.declared.Script.{Script}
-use Rattle.cam_script.specs.Built.{without_stops}
+use Rattle.cam_script.specs.OfStage.{IsOfStage}
 use Rattle.cam_words.specs.declared.fault.ScriptFault.{ScriptFault}
 use Rattle.cam_why.specs.Causes.{IsWhole, stop_at}
 use Rattle.cam_why.specs.Passes.{Refuses}
@@ -18,30 +21,36 @@ use Rattle.cam_why.specs.declared.fault.WhyFault.TheVariants.{NoSuchStop}
 use Rattle.cam_why.proofs.Stops.{runs_are_whole}
 use Rattle.cam_report.specs.Whys.{IsWhyText}
 use Rattle.cam_cluster.specs.WholeRuns.{IsRecordOf}
-use Rattle.cam_headline.specs.Headline.{HasOneRun, events}
+use Rattle.cam_headline.specs.Headline.{HasOneRun, events, halted_run}
 use Rattle.cam_headline.proofs.Whole.{headline_holds}
-use Rattle.cam_headline.proofs.HaltedWhole.{no_halt_is_the_one_run}
 use Rattle.cam_run.specs.Answer.{script_of}
+use Rattle.cam_run.specs.Taken.{taken_lines, taken_stage}
 use Rattle.cam_run.specs.Texts.{no_stop_text}
 use Rattle.cam_run.specs.Told.{IsOneRun, IsOfStop, stop_of}
 
-pub is_one_run : (script : Script) (run : RunRecord) → IsRecordOf script run → IsOneRun script run
-is_one_run script run is =
+-- The program takes no line that stops a disk, so the one run is the run without halts.
+pub is_one_run : (script : Script) (run : RunRecord) → IsOfStage taken_stage script
+    → IsRecordOf script run → IsOneRun script run
+is_one_run script run forms is =
     record {
       events =
-          ap (λ (t : List Event). reverse t) is.trace ∙ reverse-reverse halted.trace
-          ∙ ap (λ (r : Running). r.trace) (no_halt_is_the_one_run script);
-      marks = is.marks ∙ ap (λ (r : Running). r.marks) (no_halt_is_the_one_run script);
+          ap (λ (t : List Event). reverse t) is.trace ∙ reverse-reverse made.running.trace
+          ∙ ap (λ (st : Standing). st.running.trace) same;
+      marks = is.marks ∙ ap (λ (st : Standing). st.running.marks) same;
     }
   where
-    halted : Running
-    halted = (run_with by_pasts script []).running
+    made : Standing
+    made = run_with by_pasts script []
+
+    same : made ≡ halted_run script by_stops
+    same = sym (no_stops_no_halts by_pasts script forms)
 
 -- the events of the record are those of a run
 is_whole : (script : Script) (run : RunRecord) → IsOneRun script run → HasOneRun script → IsWhole (reverse run.trace)
 is_whole script run is one =
     subst (λ (t : List Event). IsWhole t) (sym is.events)
-    (runs_are_whole.plain_run script.objects (events script) one.is_run)
+    (runs_are_whole.halted script.objects (has_number (halted_run script by_stops).taken)
+    (events script) one.is_run)
 
 -- why an event stopped an action, by the record
 pub has_stop : (script : Script) (run : RunRecord) (event : ℕ) (text : List ℕ) → IsOneRun script run → HasOneRun script
@@ -65,4 +74,4 @@ has_no_stop script run event fault text is one stopless none told =
 -- of a script that was read the headline holds
 pub read_has_one_run : (bytes : List ℕ) (script : Script) → script_of bytes ≡ Ok script → HasOneRun script
 read_has_one_run bytes script is =
-    subst (λ (read : Result Script ScriptFault). IfOk read HasOneRun) is (headline_holds without_stops bytes)
+    subst (λ (read : Result Script ScriptFault). IfOk read HasOneRun) is (headline_holds taken_lines bytes)

@@ -10,11 +10,12 @@ use Rattle.cam_words.specs.declared.fault.ScriptFault.TheVariants.{Bad}
 use Rattle.cam_words.specs.declared.cause.Cause.TheVariants as causes
 use Rattle.cam_script.specs.declared.Step.{Step}
 use Rattle.cam_script.specs.declared.Act.TheVariants as acts
-use Rattle.cam_script.specs.Built.{Built, without_stops}
+use Rattle.cam_script.specs.Built.{Built}
 use Rattle.cam_script.specs.Grammar.{read_script}
 use Rattle.cam_script.proofs.Read.{read_by}
 use Rattle.cam_run.specs.Texts.{refused_text}
 use Rattle.cam_run.specs.declared.question.Question.TheVariants.{Report}
+use Rattle.cam_run.specs.Taken.{taken_lines}
 use Rattle.cam_run.specs.Told.{script_report}
 use Rattle.cam_run.specs.Answer.{IsOfScript, script_of}
 use Rattle.cam_run.specs.Worked.{open_call, open_call_report, refused_call, refused_call_report, repeated_letter, repeated_letter_report, unknown_line, unknown_line_text, AreWorked}
@@ -25,9 +26,9 @@ unfolding read_by
 opened built bytes = refl
 
 -- the answer to an input, by what is read of it
-answers : (input : List ℕ) (read : Result Script ScriptFault) (status : ℕ) (text : List ℕ) → read_by without_stops input ≡ read → IsOfScript Report read status text → IsOfScript Report (script_of input) status text
+answers : (input : List ℕ) (read : Result Script ScriptFault) (status : ℕ) (text : List ℕ) → read_by taken_lines input ≡ read → IsOfScript Report read status text → IsOfScript Report (script_of input) status text
 answers input read status text spelled answer =
-    subst (λ r. IsOfScript Report r status text) (sym (opened without_stops input ∙ spelled)) answer
+    subst (λ r. IsOfScript Report r status text) (sym (opened taken_lines input ∙ spelled)) answer
 
 -- one node and the register x, which holds this number
 abbrev script : ℕ → List Step → Script
@@ -65,7 +66,7 @@ repeated_steps =
     ∷ record { line = 11; act = acts.Deliver 5 }
     ∷ []
 
-open_spelled : read_by without_stops open_call ≡ Ok (script 0 open_steps)
+open_spelled : read_by taken_lines open_call ≡ Ok (script 0 open_steps)
 unfolding read_by
 open_spelled = refl
 
@@ -73,7 +74,7 @@ open_reported : script_report (script 0 open_steps) ≡ open_call_report
 unfolding digits
 open_reported = refl
 
-refused_spelled : read_by without_stops refused_call ≡ Ok (script 0 refused_steps)
+refused_spelled : read_by taken_lines refused_call ≡ Ok (script 0 refused_steps)
 unfolding read_by
 refused_spelled = refl
 
@@ -81,7 +82,7 @@ refused_reported : script_report (script 0 refused_steps) ≡ refused_call_repor
 unfolding digits
 refused_reported = refl
 
-repeated_spelled : read_by without_stops repeated_letter ≡ Ok (script 7 repeated_steps)
+repeated_spelled : read_by taken_lines repeated_letter ≡ Ok (script 7 repeated_steps)
 unfolding read_by
 repeated_spelled = refl
 
@@ -89,7 +90,7 @@ repeated_reported : script_report (script 7 repeated_steps) ≡ repeated_letter_
 unfolding digits
 repeated_reported = refl
 
-unknown_read : read_by without_stops unknown_line ≡ Err (Bad 3 1 causes.UnknownWord)
+unknown_read : read_by taken_lines unknown_line ≡ Err (Bad 3 1 causes.UnknownWord)
 unfolding read_by
 unknown_read = refl
 

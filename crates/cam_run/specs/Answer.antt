@@ -13,16 +13,16 @@ use Rattle.cam_script.specs.declared.Script.{Script}
 use Rattle.cam_words.specs.declared.fault.ScriptFault.{ScriptFault}
 use Rattle.cam_words.specs.declared.fault.ScriptFault.TheVariants.{Bad, NoMemory}
 use Rattle.cam_words.specs.Causes.{cause_number}
-use Rattle.cam_script.specs.Built.{without_stops}
 use Rattle.cam_script.specs.Grammar.{read_script}
 use Rattle.cam_run.specs.declared.question.Question.{Question}
 use Rattle.cam_run.specs.Texts.{usage_text, read_fault_text, refused_text}
+use Rattle.cam_run.specs.Taken.{taken_lines}
 use Rattle.cam_run.specs.Commands.{IsForm, IsFormFor, bytes_for, question_of, reads}
 use Rattle.cam_run.specs.Told.{IsTold, told_status}
 
 -- the script that bytes spell, or its first fault
 abbrev pub script_of : List ℕ → Result Script ScriptFault
-script_of bytes = read_script without_stops bytes
+script_of bytes = read_script taken_lines bytes
 
 -- the answer to a script that is refused
 abbrev pub IsRefused : ScriptFault → ℕ → List ℕ → Type 0

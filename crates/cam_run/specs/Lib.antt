@@ -1,5 +1,6 @@
 pub mod Status
 pub mod Texts
+pub mod Taken
 pub mod Told
 pub mod Commands
 pub mod Answer

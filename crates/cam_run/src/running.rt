@@ -2,7 +2,7 @@
 ghost use Rattle.std.specs.Prelude.{◌≡◌, IfOk, length};
 ghost use Rattle.cam_script.specs.Law.{IsScript};
 ghost use Rattle.cam_script.specs.OfStage.{IsOfStage};
-ghost use Rattle.cam_script.specs.declared.stage.Stage.TheVariants.{WithoutStops};
+ghost use Rattle.cam_run.specs.Taken.{taken_stage};
 ghost use Rattle.cam_run.specs.Told.{IsOneRun};
 
 use cam_base::NoMemory;
@@ -16,7 +16,7 @@ use std::alloc::Global;
 /// Runs the script.
 pub fn run(alloc: Global, script: &Script) -> Result<RunRecord, NoMemory>
     requires script { IsScript script.now }
-    requires forms { IsOfStage WithoutStops script.now }
+    requires forms { IsOfStage taken_stage script.now }
     ensures { IfOk result (IsOneRun script.now) }
 {
     let disks = empty_disks(alloc, script.nodes)?;
