@@ -22,10 +22,10 @@ use Rattle.cam_script.specs.declared.Script.{Script}
 use Rattle.cam_script.specs.declared.Step.{Step}
 use Rattle.cam_runs.specs.Running.{has_number}
 use Rattle.cam_runs.specs.InRange.{IsInRange}
-use Rattle.cam_runs.specs.Halts.{Turn, accepted, Halting, Stop, Restart}
-use Rattle.cam_runs.specs.Halts as disks
+use Rattle.cam_runs.specs.Halts.{Turn, accepted, Halting}
 use Rattle.cam_runs.specs.Standing.{Standing, Undecided, undecided_of}
 use Rattle.cam_runs.specs.HaltedLines.{after_line, is_restart_act}
+pub use Rattle.cam_runs.specs.Stops.{last_input}
 use Rattle.cam_runs.specs.UnderHalts.{IsUnderHalts, IsNextStep, act_by}
 use Rattle.cam_histories.specs.PutIn.{moved_event, put_in, IsUnseen}
 
@@ -93,14 +93,6 @@ pub record DifferAt (k : ℕ) (losing taking : Halting) : Type 0 where
   pub took :
       (turns : List Turn) (s : ℕ) (appends restarted : Bool) → accepted turns ≡ k
       → taking turns s appends restarted ≡ Some true
-
--- the number of the last input of a node
-abbrev pub last_input : List Turn → ℕ → Option ℕ
-last_input [] s = None
-last_input (disks.Input m line appends restarted ∷ before) s =
-    if eqb m s then Some (accepted before) else last_input before s
-last_input (Stop m calls ∷ before) s = last_input before s
-last_input (Restart m ∷ before) s = last_input before s
 
 -- The input was put: it was one of this node, its last one, and what was taken of its event is put
 -- in. That is what is undecided of the node, at that place.
