@@ -1,0 +1,4 @@
+pub mod Spaced
+pub mod Behind
+pub mod Upgraded
+pub mod Again
