@@ -5,18 +5,21 @@
 -- a stop is lost for good.
 use Rattle.std.specs.Prelude.{◌≡◌, ℕ, ◌≤◌, eqb, Bool, true, false, not, ◌&&◌, if◌then◌else◌}
 use Rattle.std.specs.Prelude.{List, [], ◌∷◌, ◌++◌, Option, Some, None}
-use Rattle.std.specs.List.{AllByRecursion}
+use Rattle.std.specs.List.{AllByRecursion, list_any}
 use Rattle.cam_type.specs.declared.ObjectDecl.{ObjectDecl}
 use Rattle.cam_event.specs.Inputs.{Input as NodeInput, node_of}
 use Rattle.cam_event.specs.Readings.{Reading}
 use Rattle.cam_script.specs.declared.Script.{Script}
+use Rattle.cam_script.specs.declared.Statement.{Statement}
+use Rattle.cam_script.specs.declared.Step.{Step}
 use Rattle.cam_script.specs.declared.stage.Stage.TheVariants.{WithoutStops}
 use Rattle.cam_script.specs.OfStage.{IsOfStage}
 use Rattle.cam_runs.specs.Running.{has_number}
 use Rattle.cam_runs.specs.Halts.{Halt, Turn, Input, Stop, Restart, accepted}
-use Rattle.cam_runs.specs.Halts.{Halting, appends, by_stops, given}
+use Rattle.cam_runs.specs.Halts.{Halting, appends, by_stops, calls_left, given}
 use Rattle.cam_runs.specs.Standing.{Standing, Setting, put, ended_halt}
-use Rattle.cam_runs.specs.HaltedLines.{run_halting, run_with}
+use Rattle.cam_runs.specs.HaltedLines.{act, after_line, is_restart, run_halting}
+use Rattle.cam_runs.specs.HaltedLines.{run_with, setting}
 
 -- the number of the last input of a node
 abbrev pub last_input : List Turn → ℕ → Option ℕ
@@ -33,6 +36,22 @@ last_stop (Input m line appends restarted ∷ before) s =
     if eqb m s then by_stops before m appends restarted else last_stop before s
 last_stop (Stop m calls ∷ before) s = last_stop before s
 last_stop (Restart m ∷ before) s = last_stop before s
+
+-- how many calls a stop had left before it
+abbrev pub last_left : List Turn → ℕ → Option ℕ
+last_left [] s = None
+last_left (Input m line appends restarted ∷ before) s =
+    if eqb m s then calls_left before m else last_left before s
+last_left (Stop m calls ∷ before) s = last_left before s
+last_left (Restart m ∷ before) s = last_left before s
+
+-- whether a later line restarts the node, as the turn of its last input has it
+abbrev pub told_last : List Turn → ℕ → Option Bool
+told_last [] s = None
+told_last (Input m line appends restarted ∷ before) s =
+    if eqb m s then Some restarted else told_last before s
+told_last (Stop m calls ∷ before) s = told_last before s
+told_last (Restart m ∷ before) s = told_last before s
 
 -- what is known of the halt of a stop: as long as its node is halted, that it is lost so far
 abbrev pub known_of : Bool → Option Bool → Option Bool
@@ -105,6 +124,27 @@ LaterHaltsAgree =
     (more halts : List Halt) (st : Standing)
     → AllByRecursion (λ (h : Halt). accepted st.turns ≤ h.input) more
     → Agrees (given halts) st → Agrees (given (more ++ halts)) st
+
+-- Behind each line the last inputs tell just which nodes the steps that are still to come restart.
+-- So of a node that is restarted its last input told it; and the halt of a stop there was taken just
+-- where three calls were left to it.
+abbrev pub AreTold : List Turn → List Step → Type 0
+AreTold turns steps =
+    (s : ℕ) (restarted : Bool) → told_last turns s ≡ Some restarted
+    → restarted ≡ list_any (is_restart s) steps
+
+abbrev pub LinesTell : Type 0
+LinesTell =
+    (reading : Reading) (halts : Halting) (bodies : List (List Statement)) (st : Standing) (step : Step)
+    (later : List Step) → AreTold st.turns (step ∷ later)
+    → AreTold
+    (after_line st step.line (act (setting reading halts step later) bodies st step.act)).turns later
+
+abbrev pub ToldHaltsAreTaken : Type 0
+ToldHaltsAreTaken =
+    (turns : List Turn) (s : ℕ) (took : Bool) → told_last turns s ≡ Some true
+    → last_stop turns s ≡ Some took
+    → (left : ℕ) × (last_left turns s ≡ Some left) × (took ≡ eqb left 3)
 
 -- Of a script without a line that stops a disk it is the run without halts.
 abbrev pub NoStopsNoHalts : Type 0
