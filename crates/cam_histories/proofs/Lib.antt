@@ -69,3 +69,7 @@ pub mod UndecidedEvents
 pub mod StepsAlike
 pub mod HaltsAlike
 pub mod NewHalts
+pub mod RecordedDeeds
+pub mod RunDecisions
+pub mod EntriesAdd
+pub mod LogEntries

@@ -18,3 +18,4 @@ pub mod Found
 pub mod FoundWhole
 pub mod Alike
 pub mod Undecided
+pub mod LogEntries

@@ -5,6 +5,7 @@ ghost use Rattle.cam_histories.specs.LineLaws.{DeliveriesStand, LossesStand, Los
 ghost use Rattle.cam_histories.specs.LineLaws.{NextsAreLetters, NoneIsNext, OthersStand};
 ghost use Rattle.cam_histories.specs.LineLaws.{RestartsStand};
 ghost use Rattle.cam_histories.specs.Lines.{LinesAreTested};
+ghost use Rattle.cam_histories.specs.LogEntries.{AddsAlike, EntriesAdd, EntriesAreAppended};
 ghost use Rattle.cam_histories.specs.ReadBack.{LettersAreReadBack, LogsKeepAsGood};
 ghost use Rattle.cam_histories.specs.ReadBack.{NodesStandAsGood};
 ghost use Rattle.cam_histories.specs.Stepping.{LettersArePut, OwnInputsArePut, RestartsLeadOn};
@@ -66,4 +67,13 @@ pub fn line_tests()
 pub fn numbers_left()
     ensures few { NodesCountFew }
     ensures runs { AskedMayRun }
+{}
+
+/// The event of an input has a log entry just where the run says that it appends one. Such an event
+/// of a node that is not restarted adds to what the log keeps: an outcome, a count or a secured
+/// family that it did not have. So the log tells whether the entry reached it.
+pub fn log_entries()
+    ensures appended { EntriesAreAppended }
+    ensures add { EntriesAdd }
+    ensures alike { AddsAlike }
 {}
