@@ -130,8 +130,8 @@ module _ (objects : List ObjectDecl) (t : List Event) (input : Input) (run : Ran
   stays goes_on m =
       false_from_ne_true (list_any (is_crash m) (ruled objects s history input mail load))
       (λ h. let was = rule_restarts objects
-          (held_sight objects s (map as_carried history) (told_in_order load.know)) mail input m h
-          in true≢false (sym (ap is_restarting was.1) ∙ goes_on))
+      (held_sight objects s (map as_carried history) (told_in_order load.know)) mail input m h
+      in true≢false (sym (ap is_restarting was.1) ∙ goes_on))
 
   pub is_entry : (holds : Holding)
       → is_empty (entry_records holds objects history (next_whole objects t input mail load))

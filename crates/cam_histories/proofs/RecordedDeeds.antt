@@ -176,8 +176,11 @@ new_named k (Committed a counts ∷ os) same =
     let rest = new_named k os (λ b cs i. same b cs (inr i)) in
     elim (cases_Bool (knows_commit k a)) [
       | inl known ↦ rw (same a counts (inl refl) known, known) rest
-      | inr new ↦ rw (unheard (knows k (Committed a counts)) new
-          (any_known (is_commit_of a) (Committed a counts) k.outcomes), new)
+      | inr new ↦ rw (
+        unheard (knows k (Committed a counts)) new
+            (any_known (is_commit_of a) (Committed a counts) k.outcomes),
+        new,
+      )
           (none (is_empty (filter (old_abort k) (flat_map aborted_name os))))
     ]
   where

@@ -114,7 +114,7 @@ module _ (objects : List ObjectDecl) (t : List Event) (run : Ran objects t) wher
       → In (Commit a) (next objects t input).deeds → knows_commit (knowledge_of s) a ≡ false
   commits_unknown input s a may i =
       let new = committed_first objects (next objects t input).deeds (plain_all t) a
-          (legal_next input may) i in
+      (legal_next input may) i in
       false_from_ne_true (knows_commit (knowledge_of s) a)
       (λ h. true≢false (sym (commit_known s a h)
       ∙ (or_parts (committed (plain_all t) a) (aborted (plain_all t) a) new).0))
@@ -123,7 +123,7 @@ module _ (objects : List ObjectDecl) (t : List Event) (run : Ran objects t) wher
       → In (Abort a) (next objects t input).deeds → knows_abort (knowledge_of s) a ≡ false
   aborts_unknown input s a may i =
       let new = aborted_first objects (next objects t input).deeds (plain_all t) a
-          (legal_next input may) i in
+      (legal_next input may) i in
       false_from_ne_true (knows_abort (knowledge_of s) a)
       (λ h. true≢false (sym (abort_known s a h)
       ∙ (or_parts (committed (plain_all t) a) (aborted (plain_all t) a) new).1))
@@ -166,7 +166,7 @@ module _ (objects : List ObjectDecl) (t : List Event) (run : Ran objects t) wher
       → TellsTheSame (knowledge_of s) (told_in_order (load_of_input objects t input).know).outcomes
   tells_the_same input s may a counts i h =
       let brought = told_input input a counts may
-          (ordered_in (Committed a counts) (load_of_input objects t input).know.outcomes i) in
+      (ordered_in (Committed a counts) (load_of_input objects t input).know.outcomes i) in
       let found = any_in (is_commit_of a) (knowledge_of s).outcomes h in
       by brought found.0 found.1 found.2
     where
@@ -196,7 +196,7 @@ module _ (objects : List ObjectDecl) (t : List Event) (run : Ran objects t) wher
   past_counts letter None = ((λ m. 1), refl)
   past_counts letter (Some mail) = (
     count (past_of t letter.event),
-    elim (cases_Bool (eqb mail.from mail.to)) [ | inl y ↦ rw y refl | inr n ↦ rw n refl ],
+    elim (cases_Bool (eqb mail.from mail.to)) [ inl y ↦ rw y refl | inr n ↦ rw n refl ],
   )
 
   pub brought_counts : (input : Input) → MayCome objects t input

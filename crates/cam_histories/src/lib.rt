@@ -24,7 +24,8 @@ pub use crate::found::{
     events_put_in, halts_found, histories_alike, undecided_halts, wholes_found,
 };
 pub use crate::steps::{
-    letters_read, line_tests, log_entries, node_steps, numbers_left, run_halts, run_inputs, run_lines,
+    letters_read, line_tests, log_entries, node_steps, numbers_left, run_halts, run_inputs,
+    run_lines,
 };
 
 /// In a run the history of each node is lawful. In a run in which nodes halt it goes through the halts, and where the node's last event was a

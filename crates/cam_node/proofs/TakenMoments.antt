@@ -1,10 +1,13 @@
 -- What a crash at any moment leaves, where a plan is carried out: the history before the event, or
 -- that with what was taken of the event.
-use Rattle.std.proofs.Common.{◌≡◌, ◌⊎◌, inl, inr, ℕ, nat_lt, Bool, true, false, if◌then◌else◌, List, ◌∷◌, Option, Ok, refl, subst, arith}
+use Rattle.std.proofs.Common.{◌≡◌, ◌⊎◌, inl, inr, ℕ, nat_lt, Bool, true, false, if◌then◌else◌, List, [], ◌∷◌, map, Option, Result, Ok, Err, IsOk, IsErrOf, refl, sym, ap, ◌∙◌, subst, arith, true≢false}
 use Rattle.cam_type.specs.declared.ObjectDecl.{ObjectDecl}
 use Rattle.cam_know.specs.Knowledge.{Knowledge}
+use Rattle.cam_know.specs.Order.{told_in_order}
 use Rattle.cam_event.specs.declared.Event.{Event}
+use Rattle.cam_event.specs.History.{is_empty}
 use Rattle.cam_event.specs.Inputs.{Input, Mail}
+use Rattle.cam_event.specs.ByKnowledge.{node_step}
 use Rattle.cam_event.specs.Loads.{Load}
 use Rattle.cam_log.specs.Moments.{Opened, Grows}
 use Rattle.cam_ckpt.specs.Moments.{IsOldOrNew}
@@ -13,13 +16,17 @@ use Rattle.cam_recman.specs.declared.Recovered.{Recovered}
 use Rattle.cam_recman.specs.Ranges.{AreRecords}
 use Rattle.cam_recman.specs.Recovery.{with_records}
 use Rattle.cam_recman.specs.Says.{Says}
+use Rattle.cam_node.specs.declared.fault.NodeFault.{NodeFault}
+use Rattle.cam_node.specs.declared.fault.NodeFault.TheVariants.{DiskFault}
 use Rattle.cam_node.specs.declared.plan.Plan.{Plan}
 use Rattle.cam_node.specs.Appending.{listed_after, OpensAfter, OpensAs, OpensAsEither}
+use Rattle.cam_node.specs.Entries.{entry_records}
 use Rattle.cam_node.specs.Halting.{taken, taken_step, IsStepThrough}
-use Rattle.cam_event.specs.ByDeltas.{Received}
+use Rattle.cam_node.specs.Learning.{stepped}
+use Rattle.cam_event.specs.ByDeltas.{Received, as_carried}
 use Rattle.cam_node.specs.Keeping.{IsLogOf, KeepsHistory, KeepsNode, MayBePutThen}
 use Rattle.cam_node.specs.Opened.{IsKnowledge, logged_of, with_entry_of}
-use Rattle.cam_node.specs.Planned.{MayBeTaken, planned_records}
+use Rattle.cam_node.specs.Planned.{HasEntry, MayBeTaken, planned_records}
 use Rattle.cam_node.specs.Plans.{Stands}
 use Rattle.cam_node.specs.Represents.{Node}
 use Rattle.cam_node.proofs.CarriedOut.{taken_entry}
@@ -125,6 +132,7 @@ pub opens_after : (objects : List ObjectDecl) (input : Input) (mail : Option Mai
     (plan : Plan) (known : Knowledge) (old mid new : Node) (before : List (List ℕ)) (calls : ℕ)
     (reads : Opened)
     → IsKnowledge new.know → AreRecords (planned_records mid.know.counts plan)
+    → is_empty (planned_records mid.know.counts plan) ≡ false
     → ((r : Recovered) → Says before r
     → Says (with_entry_of before (planned_records mid.know.counts plan))
     (with_records r (planned_records mid.know.counts plan)))
@@ -132,12 +140,30 @@ pub opens_after : (objects : List ObjectDecl) (input : Input) (mail : Option Mai
     → reads ≡ Ok (listed_after calls before (planned_records mid.know.counts plan))
     → MayBeTaken objects input mail load plan known old mid
     → OpensAfter calls objects old before input mail load reads
-opens_after objects input mail load plan known old mid new before calls reads knows are says stands
-    is may history keeps put =
-    by (nat_lt calls 3) is
+opens_after objects input mail load plan known old mid new before calls reads knows are some says
+    stands is may history keeps put =
+    record { holds = entry.holds; some = there; opens = by (nat_lt calls 3) is }
   where
+    rs : List Record
+    rs = planned_records mid.know.counts plan
+
     after : List (List ℕ)
-    after = with_entry_of before (planned_records mid.know.counts plan)
+    after = with_entry_of before rs
+
+    entry : HasEntry objects old input mail load plan.stepped.event rs
+    entry = taken_entry objects input mail load plan known old mid may
+
+    next : plan.stepped.event
+        ≡ node_step objects old.number (map as_carried history) input mail
+        (told_in_order load.know)
+    next = (may.planned.given.step new stands).next history keeps.through keeps.represents put
+
+    there : is_empty (entry_records entry.holds objects history
+        (stepped objects old.number history input mail load)) ≡ false
+    there =
+        subst (λ (e : Event). is_empty (entry_records entry.holds objects history
+        (record { event = e; mail = mail; load = load })) ≡ false) next
+        (ap (λ (ones : List Record). is_empty ones) (entry.are history before keeps put) ∙ some)
 
     by : (b : Bool) → reads ≡ Ok (if b then before else after)
         → OpensAs objects old.number
@@ -151,3 +177,10 @@ opens_after objects input mail load plan known old mid new before calls reads kn
           keeps = entry_keeps objects input mail load plan known old mid new before knows are says
               stands may history keeps put;
         }
+
+-- Where an append of records fails there are some.
+pub some_records : (rs : List Record) (r : Result (Unit {0}) NodeFault)
+    → (rs ≡ [] → IsOk r) → IsErrOf r DiskFault → is_empty rs ≡ false
+some_records [] (Ok done) always failed = cc
+some_records [] (Err fault) always failed = absurd (true≢false (sym (always refl)))
+some_records (one ∷ rest) r always failed = refl

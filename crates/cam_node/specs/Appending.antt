@@ -1,16 +1,19 @@
 -- What a step's entry makes of the log: what the log lists then, how many calls of the disk that
 -- takes, and what a crash at any moment of the step leaves.
-use Rattle.std.specs.Prelude.{◌≡◌, ◌⊎◌, ℕ, nat_lt, if◌then◌else◌, List, [], ◌∷◌, Option, Ok}
+use Rattle.std.specs.Prelude.{◌≡◌, ◌⊎◌, ℕ, nat_lt, false, if◌then◌else◌, List, [], ◌∷◌, Option, Ok}
 use Rattle.cam_type.specs.declared.ObjectDecl.{ObjectDecl}
 use Rattle.cam_event.specs.declared.Event.{Event}
+use Rattle.cam_event.specs.History.{is_empty}
 use Rattle.cam_event.specs.Inputs.{Input, Mail}
 use Rattle.cam_event.specs.Loads.{Load}
 use Rattle.cam_event.specs.ByDeltas.{Received}
 use Rattle.cam_log.specs.Moments.{Opened}
 use Rattle.cam_log.specs.Spent.{Spent}
 use Rattle.cam_recman.specs.declared.Record.{Record}
-use Rattle.cam_node.specs.Halting.{taken_step}
+use Rattle.cam_node.specs.Entries.{Holding, entry_records}
+use Rattle.cam_node.specs.Halting.{taken, taken_step}
 use Rattle.cam_node.specs.Keeping.{KeepsHistory, KeepsNode, MayBePutThen}
+use Rattle.cam_node.specs.Learning.{stepped}
 use Rattle.cam_node.specs.Opened.{with_entry_of}
 use Rattle.cam_node.specs.Planned.{HasEntry}
 use Rattle.cam_node.specs.Represents.{Node}
@@ -58,10 +61,17 @@ OpensAsEither objects old before input mail load opened =
 abbrev pub history_after : ℕ → List Received → Received → List Received
 history_after calls history halted = if nat_lt calls 3 then history else halted ∷ history
 
+-- The append of the event's entry, which has a record, was cut off after so many calls.
+pub record IsCutAfter (calls : ℕ) (objects : List ObjectDecl) (s : ℕ) (history : List Received)
+    (whole : Received) (opened : Opened) : Type 0 where
+  pub holds : Holding
+  pub some : is_empty (entry_records holds objects history whole) ≡ false
+  pub opens : OpensAs objects s (history_after calls history (taken whole)) opened
+
 abbrev pub OpensAfter : ℕ → List ObjectDecl → Node → List (List ℕ) → Input → Option Mail → Load
     → Opened → Type 0
 OpensAfter calls objects old before input mail load opened =
     (history : List Received) → KeepsNode objects history old before
     → MayBePutThen objects old.number history input mail load
-    → OpensAs objects old.number
-    (history_after calls history (taken_step objects old.number history input mail load)) opened
+    → IsCutAfter calls objects old.number history
+    (stepped objects old.number history input mail load) opened

@@ -1,10 +1,11 @@
 //! A step of a node: it learns the letter and applies the rule, makes all growth, appends the
 //! event's entry and forces it; then the event
 //! stands, and its letters are handed out.
-ghost use Rattle.std.specs.Prelude.{◌≡◌, ◌⊎◌, ◌≤◌, List, Some, None, IsTrue, IsFalse, OnOk, OnErr, IfOk, IsErrOf, All, ◌++◌, Ok as Opens};
+ghost use Rattle.std.specs.Prelude.{◌≡◌, ◌⊎◌, ◌≤◌, false, List, Some, None, IsTrue, IsFalse, OnOk, OnErr, IfOk, IsErrOf, All, ◌++◌, Ok as Opens};
 ghost use Rattle.cam_base.specs.Causes.{Rose};
 ghost use Rattle.cam_ckpt.specs.Moments.{IsOldOrNew};
 ghost use Rattle.cam_disk.specs.Stop.{Untouched};
+ghost use Rattle.cam_event.specs.History.{is_empty};
 ghost use Rattle.cam_event.specs.Taken.{taken_of};
 ghost use Rattle.cam_log.specs.CutOff.{IsCutOff};
 ghost use Rattle.cam_log.specs.Moments.{Grows, Stays};
@@ -160,8 +161,8 @@ impl<L: CheckpointLog> Node<L> {
             (OpensAsEither self.old.objects (answers self.old.core) (L.listed self.old.log.log)
             (input_of self.old.core.number input.now) (mail_of input.now) (load_of input.now)) }
         // A fault comes because a call of the disk that was done failed, or because the append was
-        // cut off: then the log reads as that of the history before, and with what was taken of the
-        // event just where three of its calls were done.
+        // cut off, of an event that has a record: then the log reads as that of the history before,
+        // and with what was taken of the event just where three of its calls were done.
         ensures cut_off { IsErrOf result DiskFault
             → Rose (L.faults_within self.old.log.log) (L.faults_within self.new.log.log)
             ⊎ IsCutOff 4 (L.passes self.old.log.log) (L.passes self.new.log.log)
@@ -205,6 +206,7 @@ impl<L: CheckpointLog> Node<L> {
     /// the node is halted its log may have the
     /// entry, and its parts stand with the event, which is not told. After an error without a halt
     /// nothing has happened.
+    #[tactic(auto, using(crate::proofs::TakenMoments::some_records))]
     pub(crate) fn take(&mut self, plan: Plan) -> Result<Stepped, NodeFault>
         requires running { IsFalse self.old.log.halted }
         requires may { MayStand plan self.old.core }
@@ -242,6 +244,8 @@ impl<L: CheckpointLog> Node<L> {
             (λ calls. IsTrue (L.tells self.old.log.log) → L.reads self.new.log.log
             ≡ Opens (listed_after calls (L.listed self.old.log.log) (planned_records (answers
             self.old.core).know.counts plan))) }
+        ensures some { IsErrOf result DiskFault → is_empty (planned_records (answers
+            self.old.core).know.counts plan) ≡ false }
         ensures unbounded { L.passes self.old.log.log ≡ None → L.passes self.new.log.log ≡ None }
         ensures broken { IsTrue self.new.log.halted → IsTrue (L.broken self.new.log.log) }
         ensures stopped { L.passes self.old.log.log ≡ Some 0

@@ -144,6 +144,7 @@ returns-in-Err-clause-cut_off g c = λ is.
     c.args.self.now.core.knowing.known before (answers c.args.self.now.core)
     (answers c.take.new.self.core) (g.L.EntryLog.listed log) calls (g.L.EntryLog.reads after)
     (c.take.ensures.halted_knows halted) (c.take.ensures.halted_range halted)
+    (c.take.ensures.some failed)
     (λ r says. entry_would_say (g.L.EntryLog.listed log) rs rs r refl
     (c.take.ensures.halted_range halted) (c.take.ensures.halted_version halted) says)
     (c.take.ensures.halted_stands halted) (did tells) may)
