@@ -1,21 +1,20 @@
 -- One event of a node: its entry is empty just where nothing is learnt, decided, secured or raised,
 -- and what it has adds to what the log keeps.
-use Rattle.std.proofs.Common.{◌≡◌, ◌⊎◌, inl, inr, ℕ, ◌+◌, ◌-◌, ◌≤◌, ◌<◌, max, eqb, nat_lt, Bool, true, false, not, ◌&&◌, ◌||◌, List, [], ◌∷◌, ◌++◌, map, length, get_or, Option, refl, sym, ap, ◌∙◌, subst, arith}
-use Rattle.std.specs.Prelude.{filter, flat_map, slice_index}
+use Rattle.std.proofs.Common.{◌≡◌, ◌⊎◌, inl, inr, ℕ, ◌-◌, ◌≤◌, max, eqb, nat_lt, Bool, true, false, not, ◌&&◌, ◌||◌, List, [], ◌∷◌, ◌++◌, map, length, Option, refl, sym, ap, ◌∙◌, arith}
+use Rattle.std.specs.Prelude.{slice_index}
 use Rattle.std.specs.List.{list_any}
 use Rattle.std.proofs.lemmas.Bool.{cases_Bool, eq-eqb, or_left, or_right, true≢false}
 use Rattle.std.proofs.lemmas.List.Folds.{list_any-append}
 use Rattle.std.proofs.Math.ListN.{length-append}
 use Rattle.cam_names.specs.declared.name.Name.{Name}
 use Rattle.cam_names.specs.Names.{name_eq}
-use Rattle.cam_names.specs.Dependencies.{greater_counts}
 use Rattle.cam_names.proofs.Names.{name_eq_refl}
 use Rattle.cam_names.proofs.Dependencies.{greater_counts_at}
 use Rattle.cam_type.specs.declared.ObjectDecl.{ObjectDecl}
 use Rattle.cam_know.specs.declared.Outcome.{Outcome}
 use Rattle.cam_know.specs.declared.Outcome.TheVariants.{Aborted, Committed}
 use Rattle.cam_know.specs.Knowledge.{Knowledge}
-use Rattle.cam_know.specs.Known.{knows_abort, knows_commit, known_count, is_abort_of, is_commit_of, unknown, both, news, aborted_name, committed_name, new_aborts, new_commits}
+use Rattle.cam_know.specs.Known.{knows_abort, knows_commit, known_count, is_abort_of, is_commit_of, unknown, both, new_aborts, new_commits}
 use Rattle.cam_know.specs.Order.{told_in_order}
 use Rattle.cam_know.proofs.News.{unknown_both}
 use Rattle.cam_know.proofs.Union.{any_both}
@@ -29,7 +28,6 @@ use Rattle.cam_event.specs.Loads.{Load, each_node}
 use Rattle.cam_event.specs.ByDeltas.{Received, as_carried, known}
 use Rattle.cam_event.proofs.Base.{eighth}
 use Rattle.cam_event.proofs.Members.{In, any_in}
-use Rattle.cam_recman.specs.declared.Record.{Record}
 use Rattle.cam_recman.specs.Snapshot.{outcome_record}
 use Rattle.cam_node.specs.Entries.{Holding, entry_records, learnt_records, deed_records, greater_records}
 use Rattle.cam_node.specs.Found.{Adds, Decides, Counts, Secures}
@@ -39,7 +37,7 @@ use Rattle.cam_node.specs.Shapes.{is_mute, IsShaped, Quiet, Single, Commits, Abo
 use Rattle.cam_node.proofs.Learnt.{knowledge_grows}
 use Rattle.cam_node.proofs.Shapes.{rules_are_shaped}
 use Rattle.cam_histories.proofs.Numbers.{lt_cases}
-use Rattle.cam_histories.proofs.RecordedDeeds.{empty_append, empty_map, is_recorded, records_empty, entered_recorded, secure_kept, informs_entered, informs_unrecorded, TellsTheSame, new_named, old_abort, old_commit, any_greater, greater_empty}
+use Rattle.cam_histories.proofs.RecordedDeeds.{empty_append, empty_map, is_recorded, records_empty, entered_recorded, secure_kept, informs_entered, informs_unrecorded, TellsTheSame, new_named, any_greater, greater_empty}
 
 -- a list with more behind it is another
 longer : {X : Type 0} (xs ys : List X) → is_empty ys ≡ false → xs ++ ys ≡ xs → ⊥

@@ -1,9 +1,8 @@
 -- In a run an event has a record just where it appends an entry, and what it has adds to what the
 -- log keeps.
-use Rattle.std.proofs.Common.{◌≡◌, inl, inr, ℕ, ◌≤◌, max, eqb, nat_lt, Bool, true, false, not, ◌||◌, List, [], ◌∷◌, ◌++◌, map, Option, refl, sym, ap, ◌∙◌, subst, arith}
+use Rattle.std.proofs.Common.{◌≡◌, ℕ, ◌≤◌, max, Bool, true, false, not, ◌||◌, List, [], ◌∷◌, ◌++◌, map, Option, refl, sym, ap, ◌∙◌, subst, arith}
 use Rattle.std.specs.List.{list_any}
 use Rattle.std.proofs.lemmas.Bool.{true≢false, false_from_ne_true}
-use Rattle.cam_names.specs.declared.name.Name.{Name}
 use Rattle.cam_names.specs.Dependencies.{greater_counts}
 use Rattle.cam_type.specs.declared.ObjectDecl.{ObjectDecl}
 use Rattle.cam_know.specs.Knowledge.{Knowledge}
@@ -36,7 +35,6 @@ use Rattle.cam_histories.specs.Alike.{AreAlike}
 use Rattle.cam_histories.specs.Laws.{history_of, load_of_input}
 use Rattle.cam_histories.specs.LogEntries.{next_whole, EntriesAreAppended, EntriesAdd, AddsAlike}
 use Rattle.cam_histories.specs.PutIn.{nameless}
-use Rattle.cam_histories.specs.Stepping.{IsPut}
 use Rattle.cam_histories.proofs.Nameless.{known_bare}
 use Rattle.cam_histories.proofs.EntriesAdd.{AreTold, entry_is, entry_adds}
 use Rattle.cam_histories.proofs.RecordedDeeds.{any_greater}

@@ -1,10 +1,9 @@
 -- In a run a node decides what it does not know to be decided; of a commit that it is told and
 -- knows it knows the same; and what it knows and is told of counts are eight numbers.
-use Rattle.std.proofs.Common.{◌≡◌, inl, inr, ℕ, ◌≤◌, Bool, true, false, ◌||◌, List, [], ◌∷◌, map, Option, Some, None, refl, sym, ap, ◌∙◌, subst, arith, eqb, if◌then◌else◌, is_some}
+use Rattle.std.proofs.Common.{◌≡◌, inl, inr, ℕ, ◌≤◌, Bool, true, false, List, [], ◌∷◌, map, Option, Some, None, refl, sym, ◌∙◌, subst, eqb, is_some}
 use Rattle.std.specs.List.{list_any}
 use Rattle.std.proofs.lemmas.Bool.{cases_Bool, or_left, or_parts, true≢false, false_from_ne_true}
 use Rattle.cam_names.specs.declared.name.Name.{Name}
-use Rattle.cam_names.specs.Names.{name_eq}
 use Rattle.cam_names.proofs.Names.{name_eq_same}
 use Rattle.cam_type.specs.declared.ObjectDecl.{ObjectDecl}
 use Rattle.cam_know.specs.declared.Outcome.{Outcome}
@@ -19,22 +18,22 @@ use Rattle.cam_event.specs.declared.Deed.TheVariants.{Commit, Abort}
 use Rattle.cam_event.specs.declared.Event.{Event}
 use Rattle.cam_event.specs.declared.LetterId.{LetterId}
 use Rattle.cam_event.specs.History.{after, count, committed, aborted, decided, is_commit, is_abort}
-use Rattle.cam_event.specs.Inputs.{Input, Begins, Requests, Receives, Tells, Queries, Restarts, Mail, letter_at, node_of, got_of}
+use Rattle.cam_event.specs.Inputs.{Input, Begins, Requests, Receives, Tells, Queries, Restarts, Mail, letter_at}
 use Rattle.cam_event.specs.Pasts.{plain, plain_all, every, in_base}
 use Rattle.cam_event.specs.ByPast.{next, own_past}
-use Rattle.cam_event.specs.ByKnowledge.{held, of_node, carried_by, carried_of}
+use Rattle.cam_event.specs.ByKnowledge.{carried_by, carried_of}
 use Rattle.cam_event.specs.ByDeltas.{known, received_of, load_by, load_at}
 use Rattle.cam_event.specs.DeltasByPast.{past_load_by, past_of}
 use Rattle.cam_event.specs.Loads.{each_node}
-use Rattle.cam_event.specs.Agreement.{IsSent, KnowsItsBase}
-use Rattle.cam_event.specs.Runs.{MayCome, IsNext}
+use Rattle.cam_event.specs.Agreement.{KnowsItsBase}
+use Rattle.cam_event.specs.Runs.{MayCome}
 use Rattle.cam_event.proofs.Members.{In, any_in, any_more, plain_more}
 use Rattle.cam_plain.specs.Legal.{Legal}
 use Rattle.cam_plain.proofs.Histories.{legal_before}
 use Rattle.cam_cut.proofs.BeginGood.{count_one}
-use Rattle.cam_cut.proofs.Holds.{RunHolds, every_closed}
+use Rattle.cam_cut.proofs.Holds.{every_closed}
 use Rattle.cam_cut.proofs.Step.{event_holds}
-use Rattle.cam_agree.proofs.DepsAgreed.{known_in, in_known}
+use Rattle.cam_agree.proofs.DepsAgreed.{in_known}
 use Rattle.cam_agree.proofs.DepsKnown.{IsTold, held_tell}
 use Rattle.cam_agree.proofs.OrphanOpen.{undecided_before}
 use Rattle.cam_agree.proofs.Ran.{Ran, ran_holds, ran_knows}
@@ -43,7 +42,7 @@ use Rattle.cam_delta.proofs.DeltaLists.{ordered_in}
 use Rattle.cam_delta.proofs.OwnPast.{ran_known}
 use Rattle.cam_delta.proofs.PastLoads.{ran_loads}
 use Rattle.cam_delta.proofs.SameHistories.{same_alike}
-use Rattle.cam_delta.proofs.SameKnown.{BringsSame, same_so_far, whole, whole_of}
+use Rattle.cam_delta.proofs.SameKnown.{same_so_far, whole}
 use Rattle.cam_histories.specs.Laws.{history_of, load_of_input}
 use Rattle.cam_histories.proofs.RecordedDeeds.{TellsTheSame}
 
