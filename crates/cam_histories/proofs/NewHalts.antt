@@ -10,7 +10,7 @@ use Rattle.cam_event.specs.declared.Event.{Event}
 use Rattle.cam_event.specs.ByDeltas.{Received, as_carried}
 use Rattle.cam_event.specs.ByKnowledge.{Carried, held, held_sight, node_step}
 use Rattle.cam_event.specs.History.{is_crash}
-use Rattle.cam_event.specs.Inputs.{Input, Mail, mail_got, node_of, got_of}
+use Rattle.cam_event.specs.Inputs.{Input, Mail, node_of}
 use Rattle.cam_event.specs.Loads.{Load}
 use Rattle.cam_event.specs.Runs.{MayCome}
 use Rattle.cam_event.specs.Taken.{IsRunTaking, taken_of}
@@ -21,7 +21,7 @@ use Rattle.cam_node.specs.Lawful.{MayBePut}
 use Rattle.cam_node.specs.Log.{Logged}
 use Rattle.cam_node.specs.Represents.{Node}
 use Rattle.cam_runs.specs.Running.{has_number}
-use Rattle.cam_histories.specs.Laws.{history_of, load_of_input}
+use Rattle.cam_histories.specs.Laws.{history_of}
 use Rattle.cam_histories.specs.ReadBack.{received_with}
 use Rattle.cam_histories.specs.Stepping.{IsPut}
 use Rattle.cam_histories.specs.Undecided.{received_behind, step_in, undecided_in}

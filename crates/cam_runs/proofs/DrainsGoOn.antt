@@ -1,11 +1,11 @@
 -- A drain is its next delivery and the drain of what stands then.
-use Rattle.std.proofs.Common.{◌≡◌, ℕ, zero, suc, ◌+◌, ◌-◌, ◌≤◌, ◌<◌, Bool, List, Option, Some, None, refl, sym, ap, ◌∙◌, subst, arith}
+use Rattle.std.proofs.Common.{◌≡◌, ℕ, zero, suc, ◌+◌, ◌-◌, ◌≤◌, ◌<◌, Bool, Option, Some, None, refl, sym, ap, ◌∙◌, arith}
 use Rattle.cam_event.specs.declared.LetterId.{LetterId}
 use Rattle.cam_event.specs.Readings.{Reading, by_pasts, by_knowledge}
 use Rattle.cam_runs.specs.Running.{waiting_weight}
 use Rattle.cam_runs.specs.Halts.{Halting}
 use Rattle.cam_runs.specs.Standing.{Standing, Setting, waiting, deliver, deliver_waiting, deliveries, drain}
-use Rattle.cam_runs.specs.HaltedDraining.{setting_of, HaltedLowers, DrainGoesOn, HaltedDrainsGoOn, DrainsAreOver}
+use Rattle.cam_runs.specs.HaltedDraining.{setting_of, HaltedLowers, HaltedDrainsGoOn, DrainsAreOver}
 use Rattle.cam_runs.proofs.Drained.{pasts_fall, held_fall}
 use Rattle.cam_runs.proofs.HaltedDrained.{halted_lowers}
 

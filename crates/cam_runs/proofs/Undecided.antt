@@ -1,8 +1,8 @@
 -- The undecided events keep their places while a trace grows, and a restart ends those of its node.
-use Rattle.std.proofs.Common.{◌≡◌, ◌⊎◌, inl, inr, ℕ, ◌≤◌, eqb, Bool, true, false, not, ◌||◌}
-use Rattle.std.proofs.Common.{if◌then◌else◌, List, [], ◌∷◌, filter, Option, Some, None}
+use Rattle.std.proofs.Common.{◌≡◌, inl, inr, ℕ, ◌≤◌, eqb, Bool, true, false, not, ◌||◌}
+use Rattle.std.proofs.Common.{if◌then◌else◌, List, [], ◌∷◌, filter, Some, None}
 use Rattle.std.proofs.Common.{refl, sym, ap, ◌∙◌, arith}
-use Rattle.std.proofs.lemmas.Bool.{true≢false, or_cases, eqb-true, ne_eqb}
+use Rattle.std.proofs.lemmas.Bool.{true≢false, ne_eqb}
 use Rattle.std.proofs.lemmas.Bool.Decides.{eqb_tells}
 use Rattle.cam_runs.specs.Running.{has_number}
 use Rattle.cam_runs.specs.Standing.{Undecided, undecided_of}
