@@ -17,6 +17,7 @@ part g h node = record {
   site = record { node = answers node.core; entries = h.listed node.log.log };
   objects = node.objects;
   halted = node.log.halted;
+  halted_at = node.halted_at;
 }
 
 abbrev pub tells_of : {X : Type 0} (g : CkptGhosts X) (h : LogGhosts X) → Node X g h → Bool
@@ -29,7 +30,7 @@ reads_at g h node = MayRead (h.opens_since node.log.log) (h.moment node.log.log)
 abbrev pub works_of : {X : Type 0} (g : CkptGhosts X) (h : LogGhosts X) → Works X g h → WorksFields
 works_of g h works =
     seen (part g h) (tells_of g h) (reads_at g h) works.nodes.items works.outbox works.halted
-    works.events.events.items works.marks.items
+    works.undecided.items works.events.events.items works.marks.items
 
 abbrev pub reads_of : {X : Type 0} (g : CkptGhosts X) (h : LogGhosts X) → Works X g h
     → ℕ → Logged → Type 0

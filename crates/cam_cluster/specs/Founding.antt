@@ -65,6 +65,7 @@ new_works nodes = record {
   nodes = nodes;
   outbox = record { net = []; unput = [] };
   halted = false ∷ false ∷ false ∷ false ∷ false ∷ false ∷ false ∷ false ∷ [];
+  undecided = [];
   events = [];
   marks = [];
 }

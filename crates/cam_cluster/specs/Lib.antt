@@ -7,6 +7,7 @@ pub mod FoundHalts
 pub mod Works
 pub mod Servers
 pub mod Puts
+pub mod OpenHalts
 pub mod SoFar
 pub mod InputLines
 pub mod VariableLines

@@ -1,8 +1,10 @@
 -- One input put to one node of a cluster: what it makes of the works.
 use Rattle.std.specs.Prelude.{◌≡◌, ℕ, ◌+◌, Bool, false, Option, Some, None}
+use Rattle.cam_event.specs.declared.LetterId.{LetterId}
 use Rattle.cam_event.specs.Inputs.{Input, Mail, node_of}
 use Rattle.cam_event.specs.Loads.{Load}
 use Rattle.cam_node.specs.declared.Input.{Input as NodeInput}
+use Rattle.cam_node.specs.declared.Input.TheVariants as inputs
 use Rattle.cam_node.specs.Calls.{input_of, mail_of, load_of}
 use Rattle.cam_node.specs.Log.{Logged}
 use Rattle.cam_runs.specs.Halts.{Halting}
@@ -21,6 +23,11 @@ pub record IsPutAt (script : Script) (st : Standing) (place : ℕ) (input : Inpu
   pub coming : IsComing script st input
   pub at : node_of st.running.trace input ≡ place + 1
   pub is_put : IsPut script.objects st.running.trace input mail load
+
+-- the letter that a node receives in an input
+abbrev pub letter_of : NodeInput → Option LetterId
+letter_of (inputs.Letter letter mail) = Some letter
+letter_of _ = None
 
 -- whether the input is a halt: its event stands, or its node halted and the event is lost so far
 abbrev pub as_halt : Put → Option Bool

@@ -1,27 +1,32 @@
 -- The nodes of a cluster, the letters between them and what they did, as they stand for a run.
-use Rattle.std.specs.Prelude.{◌≡◌, ◌≤◌, ◌<◌, ℕ, ◌+◌, ◌-◌, Bool, true, List, length, map, reverse}
-use Rattle.std.specs.Prelude.{Some, slice_get}
+use Rattle.std.specs.Prelude.{◌≡◌, ◌<◌, ℕ, zero, ◌+◌, ◌-◌, Bool, true, List, length, map, reverse}
+use Rattle.std.specs.Prelude.{Option, Some, slice_get}
 use Rattle.cam_type.specs.declared.ObjectDecl.{ObjectDecl}
 use Rattle.cam_event.specs.declared.Event.{Event}
 use Rattle.cam_event.specs.declared.Mark.{Mark}
 use Rattle.cam_event.specs.ByDeltas.{Received}
 use Rattle.cam_net.specs.Outbox.{OutboxFields}
 use Rattle.cam_net.specs.Waiting.{is_halted}
-use Rattle.cam_node.specs.Halting.{IsTakenOf}
-use Rattle.cam_node.specs.Keeping.{IsLogOfEither}
+use Rattle.cam_node.specs.Found.{IsHaltedAt, IsLogOfOneOf}
+use Rattle.cam_node.specs.Halting.{taken}
 use Rattle.cam_node.specs.Log.{Logged}
 use Rattle.cam_runs.specs.Running.{has_number}
-use Rattle.cam_runs.specs.Standing.{Standing}
+use Rattle.cam_runs.specs.Standing.{Standing, Undecided, undecided_of}
 use Rattle.cam_runs.specs.UnderHalts.{IsUnderHalts}
 use Rattle.cam_script.specs.declared.Script.{Script}
 use Rattle.cam_histories.specs.Laws.{history_of}
+use Rattle.cam_histories.specs.PutIn.{nameless}
+use Rattle.cam_histories.specs.Undecided.{received_at}
 use Rattle.cam_histories.specs.Whole.{Site, IsWhole}
+use Rattle.cam_cluster.specs.declared.works.undecided.OpenHalt.{OpenHalt}
 
--- a node with what its log lists, over these objects, halted or not
+-- a node with what its log lists, over these objects, halted or not; and what its log may have of
+-- the event at which it halted
 pub record NodeFields : Type 0 where
   pub site : Site
   pub objects : List ObjectDecl
   pub halted : Bool
+  pub halted_at : Option Event
 
 pub record WorksFields : Type 0 where
   pub nodes : List NodeFields
@@ -29,6 +34,8 @@ pub record WorksFields : Type 0 where
   pub outbox : OutboxFields
   -- of each of the eight nodes whether it is halted
   pub halted : List Bool
+  -- the halts of which no restart has told yet whether they are taken, the newest first
+  pub undecided : List OpenHalt
   -- the events, the oldest first, and the marks
   pub events : List Event
   pub marks : List Mark
@@ -43,13 +50,25 @@ pub record IsNodeOf (objects : List ObjectDecl) (halted : List Bool) (s : ℕ)
   pub over : node.objects ≡ objects
   pub is_halted : node.halted ≡ is_halted halted s
 
--- What may be read from the disk of a node that is halted keeps its history, or its history with
--- what was taken of the event at which it halted.
-pub record IsLogOfHalted (objects : List ObjectDecl) (s : ℕ) (history : List Received)
-    (may_read : Logged → Type 0) : Type 0 where
-  pub halted : Received
-  pub taken : IsTakenOf objects s history halted
-  pub either : (logged : Logged) → may_read logged → IsLogOfEither objects s history halted logged
+-- what the works keep of a halt that is undecided
+abbrev pub open_halt : Undecided → OpenHalt
+open_halt u = record { node = u.node; before = u.before; got = u.event.got }
+
+-- A node that is halted, of this number: it halted in a step after its history of the run, and
+-- keeps what its log may have of the event. What may be read has that or not. With it the history
+-- would be the one that the run has yet to decide on, but for the number of the letter.
+pub record IsHaltOf (objects : List ObjectDecl) (trace : List Event) (undecided : List Undecided)
+    (s : ℕ) (node : NodeFields) (may_read : Logged → Type 0) : Type 0 where
+  pub whole : Received
+  pub event : Event
+  pub kept : node.halted_at ≡ Some event
+  pub halted : IsHaltedAt objects (history_of objects trace s) whole node.site.node event
+  pub either :
+      (logged : Logged) → may_read logged
+      → IsLogOfOneOf objects s (history_of objects trace s) whole zero logged
+  pub halt : Undecided
+  pub newest : undecided_of s undecided ≡ Some halt
+  pub alike : nameless (taken whole) ≡ nameless (received_at objects trace halt)
 
 -- They stand for what is under way; `may_read` is what may be read from the disk of each node. The
 -- events are few enough that each number of a letter is in its range.
@@ -64,9 +83,12 @@ pub record KeepsRun (script : Script) (st : Standing) (works : WorksFields)
   pub whole :
       IsWhole script.objects st (sites_of works.nodes) works.outbox.net works.outbox.unput
       works.halted
-  pub halted_logs :
-      (s : ℕ) → 1 ≤ s → s ≤ script.nodes → has_number st.halted s ≡ true
-      → IsLogOfHalted script.objects s (history_of script.objects st.running.trace s) (may_read s)
+  pub halts :
+      (place : ℕ) (node : NodeFields) → slice_get works.nodes place ≡ Some node
+      → has_number st.halted (place + 1) ≡ true
+      → IsHaltOf script.objects st.running.trace st.undecided (place + 1) node
+      (may_read (place + 1))
+  pub undecided : works.undecided ≡ map open_halt st.undecided
   pub events : works.events ≡ reverse st.running.trace
   pub all_marks : works.marks ≡ st.running.marks
   pub few : length works.events < 1000000000

@@ -45,6 +45,7 @@ impl<L: CheckpointLog> AsPart for Node<L> {
       site = record { node = answers node.core; entries = L.listed node.log.log };
       objects = node.objects;
       halted = node.log.halted;
+      halted_at = node.halted_at;
     } };
 }
 

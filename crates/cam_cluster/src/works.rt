@@ -9,10 +9,11 @@ ghost use Rattle.cam_node.specs.Numbers.{MayStep};
 ghost use Rattle.cam_node.specs.Refused.{IsNotRefused};
 ghost use Rattle.cam_node.specs.Calls.{answers};
 ghost use Rattle.cam_wire.specs.Writable.{IsWritable};
-ghost use Rattle.cam_cluster.specs.Puts.{HasPut, KeepsAsBefore};
+ghost use Rattle.cam_cluster.specs.Puts.{HasPut, KeepsAsBefore, letter_of};
 ghost use Rattle.cam_cluster.specs.Servers.{AreServers};
 
 mod drain;
+mod found;
 mod go;
 mod letters;
 mod new;
@@ -21,20 +22,23 @@ mod play;
 mod restart;
 mod round;
 mod stop;
+mod undecided;
 
 use crate::room::{push_reserved, reserve_one};
 use crate::servers::Servers;
 use cam_base::NoMemory;
 use cam_ckpt::CheckpointLog;
-use cam_event::Mark;
+use cam_event::{LetterId, Mark};
 use cam_log::EntryLog;
 use cam_net::Outbox;
-use cam_node::{Input, Node, Stepped};
+use cam_node::{Input, Node, NodeFault, Stepped};
 use cam_type::DataType;
 pub(crate) use go::give_body;
 pub(crate) use letters::Coming;
 pub(crate) use numbered::NumberedEvents;
 pub(crate) use restart::Restart;
+pub(crate) use undecided::OpenHalt;
+use undecided::open;
 
 /// How an input ended that was put to a node.
 #[derive(Clone, Copy, Debug)]
@@ -51,6 +55,10 @@ pub(crate) struct Works<L: CheckpointLog> {
     pub(crate) nodes: Vec<Node<L>>,
     pub(crate) outbox: Outbox,
     pub(crate) halted: [bool; 8],
+    /// Whether a node halted as memory ran out in its step, and not by its disk.
+    pub(crate) starved: bool,
+    /// The halts of which no restart has told yet whether they are taken, the newest first.
+    pub(crate) undecided: Vec<OpenHalt>,
     pub(crate) events: NumberedEvents,
     pub(crate) marks: Vec<Mark>,
 }
@@ -77,9 +85,11 @@ impl<L: CheckpointLog> AsWorks for Works<L> {
         site = record { node = answers node.core; entries = L.listed node.log.log };
         objects = node.objects;
         halted = node.log.halted;
+        halted_at = node.halted_at;
       }) works.nodes.items;
       outbox = works.outbox;
       halted = works.halted;
+      undecided = works.undecided.items;
       events = works.events.events.items;
       marks = works.marks.items;
     } };
@@ -93,6 +103,16 @@ pub(crate) fn is_halted(halted: &[bool], place: usize) -> bool
     ensures { result ≡ is_halted halted.now (suc place) }
 {
     halted.get(place).copied().unwrap_or(false)
+}
+
+/// The letter that a node receives in an input.
+fn received_in(input: &Input) -> Option<LetterId>
+    ensures { result ≡ letter_of input.now }
+{
+    match input {
+        Input::Letter(letter, _) => Some(*letter),
+        Input::Begin | Input::Request(_) | Input::Tell(_) | Input::Query(_) => None,
+    }
 }
 
 impl<L: CheckpointLog> Works<L> {
@@ -136,36 +156,40 @@ impl<L: CheckpointLog> Works<L> {
                 self.stand(stepped);
                 Ok(Put::Stood)
             }
-            Err(_) => {
+            Err(fault) => {
                 if !self.nodes[place].is_halted() {
                     return Err(NoMemory);
                 }
-                self.halt(line, place);
+                self.halt(line, place, received_in(input), fault);
                 Ok(Put::Halted)
             }
         }
     }
 
-    /// Puts the letters that are put next, and makes room for one event and one mark.
+    /// Puts the letters that are put next, and makes room for two events, a halt and a mark.
     fn make_room(&mut self) -> Result<(), NoMemory>
         requires { AllByRecursion IsWritable self.old.outbox.unput }
         ensures nodes { self.new.nodes ≡ self.old.nodes }
         ensures halted { self.new.halted ≡ self.old.halted }
+        ensures undecided { self.new.undecided.items ≡ self.old.undecided.items }
         ensures events { self.new.events.events.items ≡ self.old.events.events.items }
         ensures marks { self.new.marks.items ≡ self.old.marks.items }
         ensures some { HasPutSome self.old.outbox self.new.outbox }
         ensures all { OnOk result (self.new.outbox.unput ≡ []) }
-        ensures few { OnOk result (length self.new.events.events.items + 1 < 1000000000) }
+        ensures few { OnOk result (length self.new.events.events.items + 2 < 1000000000) }
         ensures event_room { OnOk result (
-            (vec_len self.new.events.events < vec_capacity self.new.events.events)
-            × (vec_len self.new.events.counts < vec_capacity self.new.events.counts)) }
+            (vec_len self.new.events.events + 1 < vec_capacity self.new.events.events)
+            × (vec_len self.new.events.counts + 1 < vec_capacity self.new.events.counts)) }
+        ensures halt_room { OnOk result
+            (vec_len self.new.undecided < vec_capacity self.new.undecided) }
         ensures mark_room { OnOk result (vec_len self.new.marks < vec_capacity self.new.marks) }
     {
         self.outbox.put_all()?;
-        if self.events.len() >= 999_999_999 {
+        if self.events.len() >= 999_999_998 {
             return Err(NoMemory);
         }
-        self.events.reserve_one()?;
+        self.events.reserve_two()?;
+        reserve_one(&mut self.undecided)?;
         reserve_one(&mut self.marks)?;
         Ok(())
     }
@@ -177,6 +201,7 @@ impl<L: CheckpointLog> Works<L> {
         requires none { self.old.outbox.unput ≡ [] }
         ensures nodes { self.new.nodes ≡ self.old.nodes }
         ensures halted { self.new.halted ≡ self.old.halted }
+        ensures undecided { self.new.undecided ≡ self.old.undecided }
         ensures events { self.new.events.events.items ≡ self.old.events.events.items ++ stepped.event ∷ [] }
         ensures marks { self.new.marks ≡ self.old.marks }
         ensures outbox { self.new.outbox ≡ record { net = self.old.outbox.net; unput = stepped.letters } }
@@ -185,20 +210,36 @@ impl<L: CheckpointLog> Works<L> {
         self.outbox.send(stepped.letters);
     }
 
-    /// The node at a place is halted, and no event of it stands.
-    fn halt(&mut self, line: u32, place: usize)
+    /// The node at a place is halted in a step in which it received this letter, and no event of it stands: its log may have it.
+    fn halt(&mut self, line: u32, place: usize, got: Option<LetterId>, fault: NodeFault)
         requires place { place < 8 }
         requires room { vec_len self.old.marks < vec_capacity self.old.marks }
+        requires halt_room { vec_len self.old.undecided < vec_capacity self.old.undecided }
         ensures nodes { self.new.nodes ≡ self.old.nodes }
         ensures halted { self.new.halted ≡ set self.old.halted place true }
+        ensures undecided { self.new.undecided.items ≡ record {
+            node = place + 1;
+            before = length self.old.events.events.items;
+            got = got;
+          } ∷ self.old.undecided.items }
         ensures events { self.new.events ≡ self.old.events }
         ensures marks { self.new.marks.items ≡ self.old.marks.items ++ marks.Halted line (place + 1) false ∷ [] }
         ensures outbox { self.new.outbox ≡ self.old.outbox }
     {
+        let node = place as u8 + 1;
         self.halted[place] = true;
+        if matches!(fault, NodeFault::NoMemory) {
+            self.starved = true;
+        }
+        let halt = OpenHalt {
+            node,
+            before: self.events.len(),
+            got,
+        };
+        open(&mut self.undecided, halt);
         let mark = Mark::Halted {
             line,
-            node: place as u8 + 1,
+            node,
             taken: false,
         };
         push_reserved(&mut self.marks, &mark);

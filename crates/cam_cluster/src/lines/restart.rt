@@ -1,6 +1,5 @@
 //! `restart NODE`: the node's disk does all calls again, and the node goes on from what its log keeps. The line is never refused.
 ghost use Rattle.std.specs.Prelude.{◌≤◌, ◌-◌, IfSome, IsTrue, length, slice_get};
-ghost use Rattle.cam_node.specs.Calls.{answers};
 ghost use Rattle.cam_cluster.specs.Restarts.{IsRestartLine};
 ghost use Rattle.cam_cluster.specs.SoFar.{AreLinesOfSome};
 
@@ -14,22 +13,22 @@ use cam_log::{EntryLog, StopLog};
 impl<L: CheckpointLog + StopLog> Lines<L> {
     /// Restarts a node, halted or not. Where memory runs out before the node restarts the lines are those before.
     ///
-    /// Where the log has the event at which the node had halted, and where a restart fails at a node that was halted, no run is kept
-    /// from then on.
+    /// Where the log has the event at which the node had halted, what is kept from then on is the run in which that halt was taken.
+    /// Where the restart fails nothing is said of what is kept.
     #[tactic(none)]
-    pub(crate) fn restart(&mut self, line: u32, node: u8) -> Result<Restart, NoMemory>
+    pub(crate) fn restart(&mut self, node: u8) -> Result<Restart, NoMemory>
         requires low { 1 ≤ node }
         requires node { node ≤ length self.old.works.nodes.items }
         requires stand { AreLinesOfSome (⟦<Lines<L> as AsLines>⟧.fields self.old)
             (⟦<Lines<L> as AsLines>⟧.may_read self.old) }
         ensures line { IfSome (slice_get self.old.works.nodes.items (node - 1)) (λ at.
-            IsTrue (L.tells at.log.log) → IsRestartLine line node (answers at.core) at.halted_at
+            IsTrue (L.tells at.log.log) → IsRestartLine node
             (⟦<Lines<L> as AsLines>⟧.fields self.old) (⟦<Lines<L> as AsLines>⟧.may_read self.old)
             (⟦<Lines<L> as AsLines>⟧.fields self.new) (⟦<Lines<L> as AsLines>⟧.may_read self.new)
             result) }
     {
         reserve_one(&mut self.bound)?;
-        let done = self.works.restart(line, node as usize - 1)?;
+        let done = self.works.restart(node as usize - 1)?;
         push_reserved(&mut self.bound, &None);
         Ok(done)
     }

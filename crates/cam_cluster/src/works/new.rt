@@ -19,6 +19,8 @@ impl<L: CheckpointLog> Works<L> {
             nodes,
             outbox: Outbox::new(alloc),
             halted: [false; 8],
+            starved: false,
+            undecided: Vec::new(alloc),
             events: NumberedEvents::new(alloc),
             marks: Vec::new(alloc),
         }

@@ -1,36 +1,40 @@
 //! A node restarts: its disk does all calls again, and it goes on from what its log keeps.
-ghost use Rattle.std.specs.Prelude.{◌≡◌, ◌<◌, ◌&&◌, ◌++◌, ◌∷◌, [], IfOk, IfSome, IsFalse, IsTrue, OnErr, OnOk, is_some, length, set, slice_get, false, vec_capacity, vec_len};
+ghost use Rattle.std.specs.Prelude.{◌≡◌, ◌+◌, ◌<◌, ◌++◌, ◌∷◌, [], IfOk, IfSome, IsFalse, IsTrue, OnErr, OnOk, None, if◌then◌else◌, eqb, filter, length, not, set, slice_get, false, vec_capacity, vec_len};
 ghost use Rattle.std.specs.List.{AllByRecursion};
 ghost use Rattle.cam_node.specs.Calls.{answers};
 ghost use Rattle.cam_node.specs.Found.{HasRestarted};
-ghost use Rattle.cam_node.specs.Keeping.{IsRestartHalt};
 ghost use Rattle.cam_node.specs.Opened.{MayRead};
 ghost use Rattle.cam_wire.specs.Writable.{IsWritable};
+ghost use Rattle.cam_cluster.specs.OpenHalts.{events_found, halts_found, marks_found, open_halt_of};
 ghost use Rattle.cam_cluster.specs.Puts.{KeepsAsBefore};
 ghost use Rattle.cam_cluster.specs.Restarts.{HasRestartedAs};
 
+use super::found::mark_taken;
+use super::undecided::{close, newest_of, take_found};
 use super::{AsWorks, Works, is_halted};
 use cam_base::NoMemory;
 use cam_ckpt::CheckpointLog;
+use cam_event::{Event, SentList};
 use cam_log::{EntryLog, StopLog};
-use cam_node::{Found, Node, NodeFault, Restarted, Stepped};
+use cam_node::{Node, NodeFault, Restarted, Stepped};
 
 /// How a restart of a node ended.
 #[derive(Clone, Copy, Debug)]
 pub(crate) enum Restart {
     /// It stands, and what the node had halted at was not taken.
     Stood,
-    /// The log has the event at which the node had halted. What the run is then is not made yet.
+    /// It stands, and the log has the event at which the node had halted: the event stands at its place.
     Found,
-    /// The node halted.
-    Halted,
+    /// It failed by the node's disk, or memory ran out in it, and the node is halted. The run ends there: of what the works keep then
+    /// nothing is said.
+    Failed,
 }
 
-/// Whether a log has the event at which its node had halted.
-fn has_taken(was_halted: bool, found: &Found) -> bool
-    ensures { result ≡ (was_halted && is_some found.now.event) }
+/// The event that a restart found of the halt before it: none where the node was not halted.
+fn of_halted(was_halted: bool, found: Option<Event>) -> Option<Event>
+    ensures { result ≡ (if was_halted then found else None) }
 {
-    was_halted && found.event.is_some()
+    if was_halted { found } else { None }
 }
 
 /// Lets a node's disk do all calls again, and restarts the node.
@@ -43,12 +47,7 @@ fn restart_cleared<L: CheckpointLog + StopLog>(node: &mut Node<L>) -> Result<Res
         (answers node.new.core) (L.listed node.new.log.log) restarted) }
     ensures letters { IfOk result (λ restarted. restarted.stepped.letters ≡ []) }
     ensures runs { OnOk result (IsFalse node.new.log.halted) }
-    ensures halted { OnErr result (IsTrue node.new.log.halted) }
-    ensures core { OnErr result (node.new.core ≡ node.old.core) }
-    ensures failed { IsTrue (L.tells node.old.log.log) → OnErr result
-        (IsRestartHalt node.old.objects node.old.core.number
-        (MayRead (L.opens_since node.old.log.log) (L.moment node.old.log.log))
-        (MayRead (L.opens_since node.new.log.log) (L.moment node.new.log.log))) }
+    ensures goes_on { OnOk result (node.new.halted_at ≡ None) }
     ensures tells { L.tells node.new.log.log ≡ L.tells node.old.log.log }
     ensures objects { node.new.objects ≡ node.old.objects }
 {
@@ -59,17 +58,16 @@ fn restart_cleared<L: CheckpointLog + StopLog>(node: &mut Node<L>) -> Result<Res
 impl<L: CheckpointLog + StopLog> Works<L> {
     /// Restarts the node at a place, halted or not.
     ///
-    /// Where its disk tells what it holds: if the restart stands its event is added to the events, and the node is not halted; if it
-    /// fails the node is halted, which leaves a mark. Where memory runs out before the node restarts all is as it was, but that
-    /// letters of the event before may have been put.
+    /// Where its disk tells what it holds, and the restart stands: the node is not halted, and its event is added to the events. If the
+    /// log has the event at which the node had halted, that stands at its place before, and the mark of the halt says that it was
+    /// taken. Where memory runs out before the node restarts all is as it was, but that letters of the event before may have been put.
     #[tactic(none)]
-    pub(crate) fn restart(&mut self, line: u32, place: usize) -> Result<Restart, NoMemory>
+    pub(crate) fn restart(&mut self, place: usize) -> Result<Restart, NoMemory>
         requires place { place < 8 }
         requires there { place < length self.old.nodes.items }
         requires writable { AllByRecursion IsWritable self.old.outbox.unput }
         ensures restarted { IfOk result (λ done. IfSome (slice_get self.old.nodes.items place)
-            (λ node. IsTrue (L.tells node.log.log) → HasRestartedAs line place
-            (answers node.core) node.halted_at
+            (λ node. IsTrue (L.tells node.log.log) → HasRestartedAs place
             (⟦<Works<L> as AsWorks>⟧.fields self.old) (⟦<Works<L> as AsWorks>⟧.may_read self.old) done
             (⟦<Works<L> as AsWorks>⟧.fields self.new) (⟦<Works<L> as AsWorks>⟧.may_read self.new))) }
         ensures as_before { OnErr result (KeepsAsBefore
@@ -79,21 +77,57 @@ impl<L: CheckpointLog + StopLog> Works<L> {
         self.make_room()?;
         let was_halted = is_halted(&self.halted, place);
         match restart_cleared(&mut self.nodes[place]) {
-            Ok(restarted) => {
-                if has_taken(was_halted, &restarted.found) {
-                    return Ok(Restart::Found);
+            Ok(restarted) => match of_halted(was_halted, restarted.found.event) {
+                Some(event) => {
+                    self.put_in(place, event);
+                    self.go_on(place, restarted.stepped);
+                    Ok(Restart::Found)
                 }
-                self.go_on(place, restarted.stepped);
-                Ok(Restart::Stood)
-            }
+                None => {
+                    self.go_on(place, restarted.stepped);
+                    Ok(Restart::Stood)
+                }
+            },
             Err(_) => {
-                self.halt(line, place);
-                Ok(Restart::Halted)
+                self.halted[place] = true;
+                Ok(Restart::Failed)
             }
         }
     }
 
-    /// The restart of the node at a place stands, and the node is not halted.
+    /// The event at which the node at a place had halted stands at its place.
+    fn put_in(&mut self, place: usize, event: Event)
+        requires place { place < 8 }
+        requires room { (vec_len self.old.events.events + 1 < vec_capacity self.old.events.events)
+            × (vec_len self.old.events.counts + 1 < vec_capacity self.old.events.counts) }
+        ensures nodes { self.new.nodes ≡ self.old.nodes }
+        ensures halted { self.new.halted ≡ self.old.halted }
+        ensures undecided { self.new.undecided.items ≡ halts_found (place + 1)
+            (open_halt_of (place + 1) self.old.undecided.items) self.old.undecided.items }
+        ensures events { self.new.events.events.items ≡ events_found
+            (open_halt_of (place + 1) self.old.undecided.items) event self.old.events.events.items }
+        ensures marks { self.new.marks.items ≡ marks_found (place + 1)
+            (open_halt_of (place + 1) self.old.undecided.items) self.old.marks.items }
+        ensures outbox { self.new.outbox ≡ self.old.outbox }
+        ensures still_room { (vec_len self.new.events.events < vec_capacity self.new.events.events)
+            × (vec_len self.new.events.counts < vec_capacity self.new.events.counts) }
+    {
+        let node = place as u8 + 1;
+        if let Some(halt) = newest_of(&self.undecided, node) {
+            let taken = Event {
+                node: event.node,
+                got: halt.got,
+                deeds: event.deeds,
+                sent: SentList::new(self.events.allocator()),
+                note: event.note,
+            };
+            self.events.insert(halt.before, taken);
+            take_found(&mut self.undecided, node, halt.before);
+            mark_taken(&mut self.marks, node);
+        }
+    }
+
+    /// The restart of the node at a place stands: the node is not halted, and no halt of it is undecided.
     fn go_on(&mut self, place: usize, stepped: Stepped)
         requires place { place < 8 }
         requires room { (vec_len self.old.events.events < vec_capacity self.old.events.events)
@@ -101,6 +135,8 @@ impl<L: CheckpointLog + StopLog> Works<L> {
         requires none { self.old.outbox.unput ≡ [] }
         ensures nodes { self.new.nodes ≡ self.old.nodes }
         ensures halted { self.new.halted ≡ set self.old.halted place false }
+        ensures undecided { self.new.undecided.items
+            ≡ filter (λ halt. not (eqb halt.node (place + 1))) self.old.undecided.items }
         ensures events { self.new.events.events.items
             ≡ self.old.events.events.items ++ stepped.event ∷ [] }
         ensures marks { self.new.marks ≡ self.old.marks }
@@ -108,5 +144,6 @@ impl<L: CheckpointLog + StopLog> Works<L> {
     {
         self.stand(stepped);
         self.halted[place] = false;
+        close(&mut self.undecided, place as u8 + 1);
     }
 }
