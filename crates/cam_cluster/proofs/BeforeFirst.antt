@@ -227,7 +227,9 @@ new_keeps part script nodes may_read is new many = record {
         nodes = sites_stand part script.objects 1 nodes new;
         network = new_network_stands script.objects (new_works []).halted (λ s low high. awake s);
       };
-      halted_logs = λ s low high is_halted. absurd (true≢false (sym is_halted));
+      halts = λ place node at is_halted. absurd (true≢false (sym is_halted));
+      undecided = refl;
+      sent = tt;
       events = refl;
       all_marks = refl;
       few = omega arith;

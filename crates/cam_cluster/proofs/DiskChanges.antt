@@ -1,7 +1,7 @@
 -- Works of which a disk has changed, but nothing of what may be read of it: they keep what they
 -- kept.
 use Rattle.std.proofs.Common.{◌≡◌, ◌⊎◌, inl, inr, ℕ, ◌+◌, ◌≤◌, ◌<◌, Bool, true, false, List, length, eqb, ◌-◌}
-use Rattle.std.proofs.Common.{get_or, set, Ok, Some, refl, sym, ap, ◌∙◌, subst, arith}
+use Rattle.std.proofs.Common.{get_or, set, Ok, Option, Some, refl, sym, ap, ◌∙◌, subst, arith}
 use Rattle.std.specs.Prelude.{slice_get}
 use Rattle.std.proofs.lemmas.Bool.Decides.{eqb_tells}
 use Rattle.std.proofs.Math.Seq.{map-set_same}
@@ -15,11 +15,11 @@ use Rattle.cam_node.specs.Opened.{MayRead}
 use Rattle.cam_node.specs.Represents.{Node}
 use Rattle.cam_runs.specs.Standing.{Standing}
 use Rattle.cam_script.specs.declared.Script.{Script}
-use Rattle.cam_histories.specs.Laws.{history_of}
+use Rattle.cam_cluster.specs.declared.works.undecided.OpenHalt.{OpenHalt}
 use Rattle.cam_cluster.specs.Puts.{KeepsAsBefore}
 use Rattle.cam_cluster.specs.Works.{NodeFields, WorksFields, KeepsRun, MayReadAt}
 use Rattle.cam_cluster.proofs.PlacedNodes.{reads_elsewhere, reads_there, taken_there}
-use Rattle.cam_cluster.proofs.PutKeeps.{logs_moved}
+use Rattle.cam_cluster.proofs.HaltsKept.{halt_read}
 use Rattle.cam_cluster.proofs.PutWorks.{seen}
 
 -- less may be read
@@ -33,31 +33,31 @@ reads_less script st works might may less keeps = record {
   eight = keeps.eight;
   nodes = keeps.nodes;
   whole = keeps.whole;
-  halted_logs = λ s low high said.
-      logs_moved script.objects s (history_of script.objects st.running.trace s)
-      (history_of script.objects st.running.trace s) (might s) (may s) refl
-      (λ logged read. less s logged low read) (keeps.halted_logs s low high said);
+  halts = λ place node at said.
+      halt_read script.objects st.running.trace st.undecided (place + 1) node (might (place + 1))
+      (may (place + 1)) (λ logged read. less (place + 1) logged (omega arith) read)
+      (keeps.halts place node at said);
+  undecided = keeps.undecided;
+  sent = keeps.sent;
   events = keeps.events;
   all_marks = keeps.all_marks;
   few = keeps.few;
 }
 
-abbrev pub fields : Node → List (List ℕ) → List ObjectDecl → Bool → NodeFields
-fields node entries objects halted = record {
+abbrev pub fields : Node → List (List ℕ) → List ObjectDecl → Bool → Option Event → NodeFields
+fields node entries objects halted halted_at = record {
   site = record { node = node; entries = entries };
   objects = objects;
   halted = halted;
+  halted_at = halted_at;
 }
 
 pub same_fields : (node was : Node) (entries listed : List (List ℕ))
-    (objects over : List ObjectDecl)
-    (halted stopped : Bool) → node ≡ was → entries ≡ listed → objects ≡ over → halted ≡ stopped
-    → fields node entries objects halted ≡ fields was listed over stopped
-same_fields node was entries listed objects over halted stopped is_n is_e is_o is_h =
-    ap (λ (x : Node). fields x entries objects halted) is_n
-    ∙ ap (λ (x : List (List ℕ)). fields was x objects halted) is_e
-    ∙ ap (λ (x : List ObjectDecl). fields was listed x halted) is_o
-    ∙ ap (λ (x : Bool). fields was listed over x) is_h
+    (objects over : List ObjectDecl) (halted stopped : Bool) (halted_at at : Option Event)
+    → node ≡ was → entries ≡ listed → objects ≡ over → halted ≡ stopped → halted_at ≡ at
+    → fields node entries objects halted halted_at ≡ fields was listed over stopped at
+same_fields node was entries listed objects over halted stopped halted_at at is_n is_e is_o is_h is_a =
+    λ i. fields (is_n i) (is_e i) (is_o i) (is_h i) (is_a i)
 
 -- a disk that stays may be read as before
 pub stays_reads : (before now : ℕ) (past since : ℕ → Opened → Type 0) (was is : List ℕ)
@@ -75,19 +75,19 @@ stays_reads before now past since was is failed fails logged stays read = record
 
 module _ {N : Type 0} (part : N → NodeFields) (tells : N → Bool) (may : N → Logged → Type 0) where
   pub disk_in : (place : ℕ) (nodes now : List N) (o : OutboxFields) (h : List Bool)
-      (e : List Event) (m : List Mark) (old new : N) → place < length nodes
+      (u : List OpenHalt) (e : List Event) (m : List Mark) (old new : N) → place < length nodes
       → old ≡ get_or nodes place old → now ≡ set nodes place new → part new ≡ part old
       → tells new ≡ tells old → ((logged : Logged) → may new logged → may old logged)
-      → KeepsAsBefore (seen part tells may nodes o h e m) (MayReadAt tells may nodes)
-      (seen part tells may now o h e m) (MayReadAt tells may now)
-  disk_in place nodes now o h e m old new there is_old set_is same told less script st is keeps =
-      subst (λ (ns : List N). KeepsRun script st (seen part tells may ns o h e m)
+      → KeepsAsBefore (seen part tells may nodes o h u e m) (MayReadAt tells may nodes)
+      (seen part tells may now o h u e m) (MayReadAt tells may now)
+  disk_in place nodes now o h u e m old new there is_old set_is same told less script st is keeps =
+      subst (λ (ns : List N). KeepsRun script st (seen part tells may ns o h u e m)
       (MayReadAt tells may ns)) (sym set_is)
       (subst (λ (fs : List NodeFields). KeepsRun script st
-      (record { nodes = fs; outbox = o; halted = h; events = e; marks = m })
+      (record { nodes = fs; outbox = o; halted = h; undecided = u; events = e; marks = m })
       (MayReadAt tells may (set nodes place new)))
       (sym (map-set_same part nodes place new old (same ∙ ap part is_old)))
-      (reads_less script st (seen part tells may nodes o h e m) (MayReadAt tells may nodes)
+      (reads_less script st (seen part tells may nodes o h u e m) (MayReadAt tells may nodes)
       (MayReadAt tells may (set nodes place new))
       (λ s logged low read. back s logged low read (eqb_tells s (place + 1))) keeps))
     where

@@ -86,7 +86,9 @@ counts_as_delivered script st works may number low high keeps = record {
         delivered_stands script.objects st works.outbox.net works.outbox.unput works.halted number
         low high keeps.whole.network;
   };
-  halted_logs = keeps.halted_logs;
+  halts = keeps.halts;
+  undecided = keeps.undecided;
+  sent = keeps.sent;
   events = keeps.events;
   all_marks = keeps.all_marks;
   few = keeps.few;

@@ -1,7 +1,8 @@
 -- Lines that put an input, are refused, or find no memory.
 use Rattle.std.proofs.Common.{◌≡◌, ℕ, suc, ◌+◌, Bool, false, if◌then◌else◌, List, [], ◌∷◌}
 use Rattle.std.proofs.Common.{◌++◌, length, Option, Some, None, refl, sym, ap, ◌∙◌, subst, arith}
-use Rattle.std.specs.Prelude.{reverse, nat_lt}
+use Rattle.std.specs.Prelude.{map, reverse, nat_lt}
+use Rattle.std.specs.List.{AllByRecursion}
 use Rattle.std.proofs.lemmas.Bool.{lt-ltb, le-ltb}
 use Rattle.std.proofs.lemmas.List.{reverse-reverse}
 use Rattle.cam_names.specs.declared.name.Name.{Name}
@@ -19,11 +20,10 @@ use Rattle.cam_runs.specs.Halts.{appends}
 use Rattle.cam_runs.specs.HaltedLines.{Refused, after_line}
 use Rattle.cam_runs.specs.Requests.{newest_deeds}
 use Rattle.cam_runs.specs.Running.{has_number}
-use Rattle.cam_runs.specs.Standing.{Standing, Setting, after_input, made, put}
+use Rattle.cam_runs.specs.Standing.{Standing, Setting, Undecided, after_input, made, put}
 use Rattle.cam_runs.specs.UnderHalts.{IsUnderHalts}
 use Rattle.cam_script.specs.declared.Script.{Script}
 use Rattle.cam_histories.specs.FlightLaws.{IsSameFlight}
-use Rattle.cam_histories.specs.Laws.{history_of}
 use Rattle.cam_histories.specs.InputLaws.{held_setting, halt_of}
 use Rattle.cam_histories.proofs.ManyLines.{others_stand}
 use Rattle.cam_cluster.specs.declared.works.Put.{Put}
@@ -31,15 +31,16 @@ use Rattle.cam_cluster.specs.declared.works.Put.TheVariants as puts
 use Rattle.cam_cluster.specs.Puts.{HasPut, KeepsAsBefore, as_halt}
 use Rattle.cam_cluster.specs.SoFar.{HasLed, HasRefused, KeepsLinesAsBefore, after_put}
 use Rattle.cam_cluster.specs.SoFar.{IsBinding, bound_by}
-use Rattle.cam_cluster.specs.Works.{WorksFields, IsLogOfHalted, KeepsRun, sites_of}
+use Rattle.cam_cluster.specs.Works.{WorksFields, IsHaltOf, IsSentBefore, KeepsRun, open_halt}
+use Rattle.cam_cluster.specs.Works.{sites_of}
 
 -- Where neither events nor letters nor halted nodes change, works that have the marks keep the run.
 pub keeps_others : (script : Script) (old new : Standing) (works : WorksFields) (ms : List Mark)
     (may : ℕ → Logged → Type 0)
-    → IsSameFlight old new → new.halted ≡ old.halted → ms ≡ new.running.marks
-    → IsUnderHalts script new → KeepsRun script old works may
+    → IsSameFlight old new → new.halted ≡ old.halted → new.undecided ≡ old.undecided
+    → ms ≡ new.running.marks → IsUnderHalts script new → KeepsRun script old works may
     → KeepsRun script new (record works { marks = ms }) may
-keeps_others script old new works ms may same halted marked under keeps = record {
+keeps_others script old new works ms may same halted undecided marked under keeps = record {
   under = under;
   one_each = keeps.one_each;
   eight = keeps.eight;
@@ -47,9 +48,16 @@ keeps_others script old new works ms may same halted marked under keeps = record
   whole =
       others_stand script.objects old new (sites_of works.nodes) works.outbox.net
       works.outbox.unput works.halted same halted keeps.whole;
-  halted_logs = λ s low high said.
-      subst (λ (t : List Event). IsLogOfHalted script.objects s (history_of script.objects t s) (may s)) (sym same.trace)
-      (keeps.halted_logs s low high (ap (λ (hs : List ℕ). has_number hs s) (sym halted) ∙ said));
+  halts = λ place node at said.
+      subst (λ (z : List Event × List Undecided). IsHaltOf script.objects z.0 z.1 (place + 1) node
+      (may (place + 1))) (λ i. (sym same.trace i, sym undecided i))
+      (keeps.halts place node at
+      (ap (λ (hs : List ℕ). has_number hs (place + 1)) (sym halted) ∙ said));
+  undecided = keeps.undecided ∙ ap (λ (us : List Undecided). map open_halt us) (sym undecided);
+  sent =
+      subst (λ (z : List Event × List Undecided).
+      AllByRecursion (λ (u : Undecided). IsSentBefore (length z.0) u.event.got) z.1)
+      (λ i. (sym same.trace i, sym undecided i)) keeps.sent;
   events = keeps.events ∙ ap (λ (t : List Event). reverse t) (sym same.trace);
   all_marks = marked;
   few = keeps.few;
@@ -122,7 +130,8 @@ led_by line place input old new might may bound now binds done has binding is_no
     restarted is keeps put_so halts_so under = record {
       runs =
           keeps_others script after (after_put input st after) new new.marks may
-          (record { trace = refl; lost = refl; delivered = refl }) refl runs.all_marks under runs;
+          (record { trace = refl; lost = refl; delivered = refl }) refl refl runs.all_marks under
+          runs;
       variables =
           is_now
           ∙ ap (λ (bs : List (Option Name)). bs ++ binds ∷ [])
@@ -152,7 +161,7 @@ pub refused_by : (line : ℕ) (refusal : LineRefusal) (works : WorksFields) (ms 
 refused_by line refusal works ms may bound now is_marks is_now script st keeps under = record {
   runs =
       keeps_others script st (after_line st line (Refused refusal)) works ms may
-      (record { trace = refl; lost = refl; delivered = refl }) refl
+      (record { trace = refl; lost = refl; delivered = refl }) refl refl
       (is_marks ∙ ap (λ (x : List Mark). x ++ marks.Refused line refusal ∷ []) keeps.runs.all_marks)
       under keeps.runs;
   variables = is_now ∙ ap (λ (bs : List (Option Name)). bs ++ None ∷ []) keeps.variables;

@@ -170,7 +170,9 @@ lost_keeps script st works may number keeps none_left has = record {
   whole =
       subst (λ (u : List Letter). IsWhole script.objects (lose st number) (sites_of works.nodes)
       (changed as_lost works.outbox.net number) u works.halted) (sym none_left) lost.1;
-  halted_logs = keeps.halted_logs;
+  halts = keeps.halts;
+  undecided = keeps.undecided;
+  sent = keeps.sent;
   events = keeps.events;
   all_marks = keeps.all_marks;
   few = keeps.few;
@@ -230,7 +232,7 @@ module _ (line number : ℕ) (old : LinesFields) (might mays : ℕ → Logged �
                   keeps_others script (lose st number)
                   (after_line st line (Led (lose st number) None)) lost_now.works
                   lost_now.works.marks mays
-                  (record { trace = refl; lost = refl; delivered = refl }) refl
+                  (record { trace = refl; lost = refl; delivered = refl }) refl refl
                   kept.runs.all_marks
                   (comes_under_way script st halts later line number (acts.Lose number)
                   (record { works = works; bound = bound }) mays is kept next

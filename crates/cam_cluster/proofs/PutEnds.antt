@@ -1,13 +1,16 @@
 -- How an input ends that is put to a node, by what the node's step says.
 use Rattle.std.proofs.Common.{◌≡◌, ℕ, ◌+◌, ◌≤◌, ◌<◌, Bool, true, false, List, [], ◌∷◌, ◌++◌, length}
-use Rattle.std.proofs.Common.{set, Some, None, subst}
+use Rattle.std.proofs.Common.{set, Some, None, refl, subst}
 use Rattle.std.specs.Prelude.{slice_get}
 use Rattle.cam_type.specs.declared.ObjectDecl.{ObjectDecl}
 use Rattle.cam_event.specs.declared.Event.{Event}
 use Rattle.cam_event.specs.declared.Letter.{Letter}
 use Rattle.cam_event.specs.declared.Mark.TheVariants as marks
 use Rattle.cam_node.specs.declared.Input.{Input as NodeInput}
+use Rattle.cam_event.specs.Inputs.{got_of}
+use Rattle.cam_node.specs.declared.Input.TheVariants as inputs
 use Rattle.cam_node.specs.Calls.{input_of, mail_of, load_of, letters_of}
+use Rattle.cam_node.specs.Found.{HaltsAt}
 use Rattle.cam_node.specs.Halting.{IsStepThrough}
 use Rattle.cam_node.specs.Keeping.{IsHalt, KeepsOn}
 use Rattle.cam_node.specs.Log.{Logged}
@@ -15,11 +18,19 @@ use Rattle.cam_runs.specs.Halts.{Halting}
 use Rattle.cam_runs.specs.Standing.{Standing, put}
 use Rattle.cam_script.specs.declared.Script.{Script}
 use Rattle.cam_histories.specs.InputLaws.{held_setting, halt_of}
-use Rattle.cam_cluster.specs.Puts.{IsPutAt}
+use Rattle.cam_cluster.specs.Puts.{IsPutAt, letter_of}
 use Rattle.cam_cluster.specs.Works.{NodeFields, WorksFields, KeepsRun}
 use Rattle.cam_cluster.proofs.PutNode.{over, number}
 use Rattle.cam_cluster.proofs.PutStands.{stood}
 use Rattle.cam_cluster.proofs.PutHalts.{halted}
+
+-- the letter of an input
+pub got_is : (s : ℕ) (input : NodeInput) → got_of (input_of s input) ≡ letter_of input
+got_is s inputs.Begin = refl
+got_is s (inputs.Request request) = refl
+got_is s (inputs.Letter id letter) = refl
+got_is s (inputs.Tell to) = refl
+got_is s (inputs.Query family) = refl
 
 module _ (script : Script) (st : Standing) (place : ℕ) (input : NodeInput) (works : WorksFields)
     (might : ℕ → Logged → Type 0) (old : NodeFields) (keeps : KeepsRun script st works might)
@@ -56,6 +67,7 @@ module _ (script : Script) (st : Standing) (place : ℕ) (input : NodeInput) (wo
         nodes = nodes;
         outbox = record { net = works.outbox.net; unput = letters };
         halted = works.halted;
+        undecided = works.undecided;
         events = works.events ++ event ∷ [];
         marks = works.marks;
       }) may
@@ -75,18 +87,28 @@ module _ (script : Script) (st : Standing) (place : ℕ) (input : NodeInput) (wo
       → new.site.node.number ≡ old.site.node.number
       → IsHalt old.objects old.site.node old.site.entries (input_of old.site.node.number input)
       (mail_of input) (load_of input) (may (place + 1))
+      → HaltsAt old.objects old.site.node old.site.entries (input_of old.site.node.number input)
+      (mail_of input) (load_of input) new.site.node new.halted_at
       → KeepsRun script
       (put (held_setting script.objects halts line restarted) st (input_of (place + 1) input))
       (record {
         nodes = nodes;
         outbox = works.outbox;
         halted = set works.halted place true;
+        undecided = record {
+          node = place + 1;
+          before = length works.events;
+          got = letter_of input;
+        } ∷ works.undecided;
         events = works.events;
         marks = works.marks ++ marks.Halted line (place + 1) false ∷ [];
       }) may
-  put_halted none_left stops lost same halt =
+  put_halted none_left stops lost same halt at_event =
       halted script st place (input_of (place + 1) input) (mail_of input) (load_of input) works might
       old keeps put_so there within halts line restarted new may nodes are objects others none_left
       stops lost same
       (by_place (λ xs s. IsHalt xs old.site.node old.site.entries (input_of s input)
       (mail_of input) (load_of input) (may (place + 1))) halt)
+      (by_place (λ xs s. HaltsAt xs old.site.node old.site.entries (input_of s input)
+      (mail_of input) (load_of input) new.site.node new.halted_at) at_event)
+      (letter_of input) (got_is (place + 1) input)

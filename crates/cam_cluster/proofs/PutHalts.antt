@@ -1,40 +1,45 @@
 -- A node halts in its step, and the works keep the run with the halt.
 use Rattle.std.proofs.Common.{◌≡◌, ◌⊎◌, inl, inr, ℕ, ◌+◌, ◌-◌, ◌≤◌, ◌<◌, eqb, Bool, true, false}
-use Rattle.std.proofs.Common.{◌||◌, if◌then◌else◌, List, [], ◌∷◌, ◌++◌, set, Some, Option}
+use Rattle.std.proofs.Common.{◌||◌, if◌then◌else◌, List, [], ◌∷◌, ◌++◌, length, set, Some, Option}
 use Rattle.std.proofs.Common.{refl, sym, ap, ◌∙◌, subst, arith}
 use Rattle.std.specs.Prelude.{map, slice_get}
 use Rattle.std.proofs.lemmas.Bool.{true≢false, ne_eqb, eq-eqb}
-use Rattle.std.proofs.lemmas.Bool.Decides.{eqb_tells}
-use Rattle.std.proofs.lemmas.List.{length-set}
-use Rattle.cam_know.specs.Order.{told_in_order}
+use Rattle.std.proofs.lemmas.List.{length-set, length-reverse}
+use Rattle.std.proofs.lemmas.Option.{slice_get_within}
+use Rattle.cam_event.specs.declared.Event.{Event}
 use Rattle.cam_event.specs.declared.Letter.{Letter}
+use Rattle.cam_event.specs.declared.LetterId.{LetterId}
 use Rattle.cam_event.specs.declared.Mark.{Mark}
 use Rattle.cam_event.specs.declared.Mark.TheVariants as marks
-use Rattle.cam_event.specs.Inputs.{Input, Mail, node_of}
+use Rattle.cam_event.specs.Inputs.{Input, Mail, node_of, got_of}
 use Rattle.cam_event.specs.Loads.{Load}
-use Rattle.cam_event.specs.ByDeltas.{Received, as_carried}
-use Rattle.cam_event.specs.ByKnowledge.{node_step}
 use Rattle.cam_event.specs.Runs.{IsNode}
 use Rattle.cam_net.specs.Waiting.{is_halted}
-use Rattle.cam_node.specs.Halting.{taken_step}
-use Rattle.cam_node.specs.Keeping.{IsHalt, IsLogOfEither, KeepsNode}
+use Rattle.cam_node.specs.Found.{HaltsAt}
+use Rattle.cam_node.specs.Keeping.{IsHalt, KeepsNode}
 use Rattle.cam_node.specs.Log.{Logged}
 use Rattle.cam_runs.specs.Halts.{Halting, appends}
 use Rattle.cam_runs.specs.Running.{has_number}
-use Rattle.cam_runs.specs.Standing.{Standing, Setting, after_input, put}
+use Rattle.cam_runs.specs.Standing.{Standing, Setting, Undecided, after_input, put}
 use Rattle.cam_runs.specs.UnderHalts.{IsUnderHalts}
 use Rattle.cam_script.specs.declared.Script.{Script}
 use Rattle.cam_histories.specs.InputLaws.{held_setting, halt_of, with_site}
 use Rattle.cam_histories.specs.Laws.{history_of}
+use Rattle.cam_histories.specs.Undecided.{undecided_in}
 use Rattle.cam_histories.specs.Whole.{Site, IsWhole}
 use Rattle.cam_histories.proofs.HaltedLists.{halted_now}
 use Rattle.cam_histories.proofs.Halting.{lost_halts_stand}
 use Rattle.cam_histories.proofs.OneInput.{inputs_lead_on}
+use Rattle.cam_histories.proofs.UndecidedBeside.{newest_other}
 use Rattle.cam_cluster.specs.Puts.{IsPutAt}
-use Rattle.cam_cluster.specs.Works.{NodeFields, WorksFields, IsLogOfHalted, KeepsRun}
-use Rattle.cam_cluster.specs.Works.{sites_of}
-use Rattle.cam_cluster.proofs.PutKeeps.{as_many, sites_are, nodes_are, logs_moved}
+use Rattle.cam_cluster.specs.declared.works.undecided.OpenHalt.{OpenHalt}
+use Rattle.cam_cluster.specs.Works.{NodeFields, WorksFields, IsHaltOf, KeepsRun}
+use Rattle.cam_cluster.specs.Works.{open_halt, sites_of}
+use Rattle.cam_cluster.proofs.HaltsKept.{halt_stays, undecided_on}
+use Rattle.cam_cluster.proofs.PutKeeps.{as_many, sites_are, nodes_are}
 use Rattle.cam_cluster.proofs.PutNode.{site_is, node_keeps, may_then}
+use Rattle.cam_cluster.proofs.RunHalts.{halt_of_run, sent_in}
+use Rattle.cam_cluster.proofs.WorksNodes.{set_tells}
 
 -- the same with the node behind the step
 module _ (script : Script) (st : Standing) (place : ℕ) (input : Input) (mail : Option Mail)
@@ -74,6 +79,8 @@ module _ (script : Script) (st : Standing) (place : ℕ) (input : Input) (mail :
       (lost : halt_of c st input ≡ Some false)
       (same_number : new.site.node.number ≡ old.site.node.number)
       (halt : IsHalt script.objects old.site.node old.site.entries input mail load (may (place + 1)))
+      (halts_at : HaltsAt script.objects old.site.node old.site.entries input mail load
+      new.site.node new.halted_at)
     where
       abbrev behind : Standing
       behind = after_input line (restarted r) st r (c.reading.next st.running.trace input)
@@ -107,51 +114,78 @@ module _ (script : Script) (st : Standing) (place : ℕ) (input : Input) (mail :
           (subst (λ (u : List Letter). IsWhole script.objects st (sites_of works.nodes)
           works.outbox.net u works.halted) none_left keeps.whole)))))
 
-      -- what its disk has of the event
-      own_log : IsLogOfHalted script.objects r (history_of script.objects st.running.trace r) (may r)
-      own_log = record {
-        halted = taken_step script.objects r h input mail load;
-        taken = record {
-          whole = record {
-            event = node_step script.objects r (map as_carried h) input mail (told_in_order load.know);
-            mail = mail;
-            load = load;
-          };
-          step = record { input = input; may = put_so.is_put.may; is_next = refl };
-          is = refl;
-        };
-        either = λ logged read.
-            subst (λ (s : ℕ). IsLogOfEither script.objects s h (taken_step script.objects s h input mail load) logged)
-            (site_is script st place input mail load works might old keeps put_so there).number
-            (halt.either h logged mine
-            (may_then script st place input mail load works might old keeps put_so there)
-            (subst (λ (s : ℕ). may s logged) put_so.at read));
-      }
+      -- what its disk has of the event, and what the node keeps of it
+      abbrev undecided : Undecided
+      undecided = undecided_in script.objects st.running.trace input
+
+      own_halt : IsHaltOf script.objects st.running.trace (undecided ∷ st.undecided) r new (may r)
+      own_halt =
+          halt_of_run script.objects (has_number st.taken) st.running.trace input mail load
+          st.undecided old.site.node new (may r) keeps.under.run put_so.coming.may put_so.is_put
+          own_number (same_number ∙ own_number) old.site.entries mine
+          (may_then script st place input mail load works might old keeps put_so there)
+          (record {
+            either = λ h logged kept may_be read.
+                halt.either h logged kept may_be (subst (λ (s : ℕ). may s logged) put_so.at read);
+          })
+          halts_at
         where
-          h : List Received
-          h = history_of script.objects st.running.trace r
+          own_number : old.site.node.number ≡ r
+          own_number = (site_is script st place input mail load works might old keeps put_so there).number
 
-      logs_at : (m : ℕ) → 1 ≤ m → m ≤ script.nodes
-          → ((eqb r m ≡ true) × (r ≡ m)) ⊎ ((eqb r m ≡ false) × (r ≡ m → ⊥))
-          → has_number behind.halted m ≡ true
-          → IsLogOfHalted script.objects m (history_of script.objects st.running.trace m) (may m)
-      logs_at m low high (inl y) said =
-          subst (λ (s : ℕ). IsLogOfHalted script.objects s (history_of script.objects st.running.trace s) (may s)) y.1 own_log
-      logs_at m low high (inr n) said =
-          logs_moved script.objects m (history_of script.objects st.running.trace m)
-          (history_of script.objects st.running.trace m) (might m) (may m) refl
-          (λ logged read. others m logged low (λ e. n.1 (put_so.at ∙ sym e)) read)
-          (keeps.halted_logs m low high (ap (λ (b : Bool). b || has_number st.halted m) (sym n.0) ∙ said))
+      halts_now : (q : ℕ) (n : NodeFields) → slice_get nodes q ≡ Some n
+          → has_number behind.halted (q + 1) ≡ true
+          → IsHaltOf script.objects behind.running.trace behind.undecided (q + 1) n (may (q + 1))
+      halts_now q n at said =
+          elim (set_tells works.nodes place q new n (slice_get_within works.nodes place old there)
+          (ap (λ (ns : List NodeFields). slice_get ns q) (sym are) ∙ at)) [
+            | inl y ↦
+                subst (λ (z : ℕ × NodeFields). IsHaltOf script.objects st.running.trace
+                (undecided ∷ st.undecided) z.0 z.1 (may z.0))
+                (λ i. ((put_so.at ∙ ap (λ (p : ℕ). p + 1) (sym y.0)) i, y.1 i)) own_halt
+            | inr other ↦
+                let away : q + 1 ≡ place + 1 → ⊥ =
+                λ e. other.0 (let is : q ≡ place = omega (arith, e) in is) in
+                let off : r ≡ q + 1 → ⊥ = λ e. away (sym e ∙ put_so.at) in
+                halt_stays script.objects st behind (q + 1) n (might (q + 1)) (may (q + 1)) refl
+                (undecided_on script.objects st behind (q + 1) [] refl
+                (newest_other (q + 1) undecided st.undecided off) keeps.under.placed)
+                (λ logged read. others (q + 1) logged (omega arith) away read)
+                (keeps.halts q n other.1
+                (ap (λ (b : Bool). b || has_number st.halted (q + 1)) (sym (ne_eqb r (q + 1) off))
+                ∙ said))
+          ]
 
-      halted_at : KeepsRun script behind
+      opened : (got : Option LetterId) → got_of input ≡ got
+          → record { node = place + 1; before = length works.events; got = got } ∷ works.undecided
+          ≡ map open_halt behind.undecided
+      opened got is_got =
+          ap (λ (hs : List OpenHalt). record {
+            node = place + 1;
+            before = length works.events;
+            got = got;
+          } ∷ hs) keeps.undecided
+          ∙ (λ i. record {
+            node = sym put_so.at i;
+            before = (ap (λ (es : List Event). length es) keeps.events
+            ∙ length-reverse st.running.trace) i;
+            got = sym is_got i;
+          } ∷ map open_halt st.undecided)
+
+      halted_at : (got : Option LetterId) → got_of input ≡ got → KeepsRun script behind
           (record {
             nodes = nodes;
             outbox = works.outbox;
             halted = now_halted;
+            undecided = record {
+              node = place + 1;
+              before = length works.events;
+              got = got;
+            } ∷ works.undecided;
             events = works.events;
             marks = works.marks ++ marks.Halted line (place + 1) false ∷ [];
           }) may
-      halted_at = record {
+      halted_at got is_got = record {
         under =
             subst (IsUnderHalts script) is
             (inputs_lead_on script halts line restarted st input keeps.under put_so.coming);
@@ -162,7 +196,9 @@ module _ (script : Script) (st : Standing) (place : ℕ) (input : Input) (mail :
             (stops ∙ sym (halted_is (place + 1) (omega arith) ∙ ap (λ (b : Bool). if b then true else is_halted works.halted (place + 1)) (eq-eqb r (place + 1) put_so.at)))
             (λ m low away. sym (halted_is m low ∙ ap (λ (b : Bool). if b then true else is_halted works.halted m) (ne_eqb r m (λ e. away (sym e ∙ put_so.at)))));
         whole = whole;
-        halted_logs = λ m low high said. logs_at m low high (eqb_tells r m) said;
+        halts = halts_now;
+        undecided = opened got is_got;
+        sent = (sent_in script.objects st.running.trace input put_so.coming.may, keeps.sent);
         events = keeps.events;
         all_marks =
             ap (λ (ms : List Mark). ms ++ marks.Halted line (place + 1) false ∷ []) keeps.all_marks
@@ -170,20 +206,31 @@ module _ (script : Script) (st : Standing) (place : ℕ) (input : Input) (mail :
         few = keeps.few;
       }
 
-      pub halted : KeepsRun script (put c st input)
+      pub halted : (got : Option LetterId) → got_of input ≡ got
+          → KeepsRun script (put c st input)
           (record {
             nodes = nodes;
             outbox = works.outbox;
             halted = set works.halted place true;
+            undecided = record {
+              node = place + 1;
+              before = length works.events;
+              got = got;
+            } ∷ works.undecided;
             events = works.events;
             marks = works.marks ++ marks.Halted line (place + 1) false ∷ [];
           }) may
-      halted =
+      halted got is_got =
           subst (λ (z : Standing). KeepsRun script z
           (record {
             nodes = nodes;
             outbox = works.outbox;
             halted = set works.halted place true;
+            undecided = record {
+              node = place + 1;
+              before = length works.events;
+              got = got;
+            } ∷ works.undecided;
             events = works.events;
             marks = works.marks ++ marks.Halted line (place + 1) false ∷ [];
-          }) may) (sym is) halted_at
+          }) may) (sym is) (halted_at got is_got)

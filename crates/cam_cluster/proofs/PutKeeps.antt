@@ -1,6 +1,6 @@
 -- What the works keep of a run, where letters are put or a node finds no memory.
 use Rattle.std.proofs.Common.{◌≡◌, inl, inr, ℕ, ◌+◌, ◌≤◌, ◌<◌, Bool, true, false}
-use Rattle.std.proofs.Common.{List, length, set, Some}
+use Rattle.std.proofs.Common.{List, [], length, set, Some}
 use Rattle.std.proofs.Common.{refl, sym, ap, ◌∙◌, subst, arith}
 use Rattle.std.specs.Prelude.{slice_get}
 use Rattle.std.proofs.lemmas.Bool.{true≢false}
@@ -17,15 +17,18 @@ use Rattle.cam_node.specs.Log.{Logged}
 use Rattle.cam_node.specs.LogOrder.{IsInOrder}
 use Rattle.cam_recman.specs.Says.{Says}
 use Rattle.cam_runs.specs.Running.{has_number}
-use Rattle.cam_runs.specs.Standing.{Standing}
+use Rattle.cam_runs.specs.Standing.{Standing, Undecided, undecided_of}
 use Rattle.cam_script.specs.declared.Script.{Script}
 use Rattle.cam_script.specs.Law.{IsScript}
+use Rattle.cam_histories.specs.Alike.{AreAlike}
 use Rattle.cam_histories.specs.Laws.{history_of}
+use Rattle.cam_histories.specs.Undecided.{IsUndecidedAlike}
 use Rattle.cam_histories.specs.Whole.{KeepsInOrder, StandsAt, IsSiteOf, AreSitesOf}
 use Rattle.cam_histories.proofs.ManyPut.{all_may_be_written, some_put_stand}
 use Rattle.cam_histories.proofs.Sites.{site_at, sites_with}
-use Rattle.cam_cluster.specs.Works.{NodeFields, WorksFields, IsLogOfHalted, IsNodeOf, KeepsRun}
+use Rattle.cam_cluster.specs.Works.{NodeFields, WorksFields, IsHaltOf, IsNodeOf, KeepsRun}
 use Rattle.cam_cluster.specs.Works.{sites_of}
+use Rattle.cam_cluster.proofs.HaltsKept.{halt_stays, undecided_on}
 use Rattle.cam_cluster.proofs.SameNode.{same_represents}
 use Rattle.cam_cluster.proofs.WorksNodes.{set_tells, site_there, sites_set}
 
@@ -51,23 +54,13 @@ keeps_as_put script st works now may is some keeps = record {
         omega (arith, few, long)) keeps.whole.network).1
         some keeps.whole.network;
   };
-  halted_logs = keeps.halted_logs;
+  halts = keeps.halts;
+  undecided = keeps.undecided;
+  sent = keeps.sent;
   events = keeps.events;
   all_marks = keeps.all_marks;
   few = keeps.few;
 }
-
--- what is kept of a halted node goes by its history and by what may be read of its disk
-pub logs_moved : (objects : List ObjectDecl) (s : ℕ) (h now : List Received)
-    (might may : Logged → Type 0) → h ≡ now → ((logged : Logged) → may logged → might logged)
-    → IsLogOfHalted objects s h might → IsLogOfHalted objects s now may
-logs_moved objects s h now might may same back log =
-    subst (λ (x : List Received). IsLogOfHalted objects s x may) same
-    (record {
-      halted = log.halted;
-      taken = log.taken;
-      either = λ logged read. log.either logged (back logged read);
-    })
 
 -- One node of works has changed, with its disk alone.
 module _ (script : Script) (st : Standing) (place : ℕ) (works : WorksFields)
@@ -101,6 +94,30 @@ module _ (script : Script) (st : Standing) (place : ℕ) (works : WorksFields)
               (keeps.nodes q n off.1).is_halted
               ∙ elsewhere (q + 1) (omega arith) (λ e. off.0 (omega (arith, e)));
         }
+      ]
+
+  -- the halted nodes, where the changed one is not among them
+  pub halts_are : (now : Standing)
+      → ((m : ℕ) → has_number now.halted m ≡ true
+      → (m ≡ place + 1 → ⊥) × (has_number st.halted m ≡ true))
+      → ((m : ℕ) → 1 ≤ m → (m ≡ place + 1 → ⊥)
+      → AreAlike (history_of script.objects st.running.trace m)
+      (history_of script.objects now.running.trace m))
+      → ((m : ℕ) → (m ≡ place + 1 → ⊥) → (u : Undecided) → undecided_of m st.undecided ≡ Some u
+      → IsUndecidedAlike script.objects m u st now)
+      → (q : ℕ) (n : NodeFields) → slice_get nodes q ≡ Some n
+      → has_number now.halted (q + 1) ≡ true
+      → IsHaltOf script.objects now.running.trace now.undecided (q + 1) n (may (q + 1))
+  halts_are now away same still q n at said =
+      let off = away (q + 1) said in
+      elim (set_tells works.nodes place q new n (slice_get_within works.nodes place old there)
+      (ap (λ (ns : List NodeFields). slice_get ns q) (sym are) ∙ at)) [
+        | inl y ↦ absurd (off.0 (ap (λ (p : ℕ). p + 1) y.0))
+        | inr other ↦
+            halt_stays script.objects st now (q + 1) n (might (q + 1)) (may (q + 1))
+            (same (q + 1) (omega arith) off.0) (still (q + 1) off.0)
+            (λ logged read. others (q + 1) logged (omega arith) off.0 read)
+            (keeps.halts q n other.1 off.1)
       ]
 
   -- It answers as before, and its log lists what it listed.
@@ -164,11 +181,12 @@ module _ (script : Script) (st : Standing) (place : ℕ) (works : WorksFields)
             place (sites_of works.nodes) (omega arith) keeps.whole.nodes);
         network = keeps.whole.network;
       };
-      halted_logs = λ m low high said.
-          logs_moved script.objects m (history_of script.objects st.running.trace m)
-          (history_of script.objects st.running.trace m) (might m) (may m) refl
-          (λ logged read. others m logged low (off m said) read)
-          (keeps.halted_logs m low high said);
+      halts = λ q n at said.
+          halts_are st (λ m is. (off m is, is)) (λ m low away. refl)
+          (λ m away. undecided_on script.objects st st m [] refl refl keeps.under.placed) q n at
+          said;
+      undecided = keeps.undecided;
+      sent = keeps.sent;
       events = keeps.events;
       all_marks = keeps.all_marks;
       few = keeps.few;

@@ -2,7 +2,7 @@
 use Rattle.std.proofs.Common.{◌≡◌, ℕ, ◌+◌, ◌-◌, ◌≤◌, ◌<◌, Bool, true}
 use Rattle.std.proofs.Common.{List, [], ◌∷◌, ◌++◌, length, set, Some, None, Option}
 use Rattle.std.proofs.Common.{refl, sym, ap, ◌∙◌, subst, arith, length-append}
-use Rattle.std.specs.Prelude.{reverse, slice_get}
+use Rattle.std.specs.Prelude.{map, reverse, slice_get}
 use Rattle.std.proofs.lemmas.Bool.{true≢false}
 use Rattle.std.proofs.lemmas.List.{reverse-append}
 use Rattle.cam_event.specs.declared.Event.{Event}
@@ -21,6 +21,7 @@ use Rattle.cam_script.specs.declared.Script.{Script}
 use Rattle.cam_histories.specs.InputLaws as laws
 use Rattle.cam_histories.specs.InputLaws.{held_setting, halt_of, with_site, KeepsEvent}
 use Rattle.cam_histories.specs.Laws.{history_of}
+use Rattle.cam_histories.specs.PutIn.{nameless}
 use Rattle.cam_histories.specs.Whole.{Site, KeepsInOrder, IsWhole}
 use Rattle.cam_histories.proofs.OneInput.{inputs_lead_on, inputs_stand, plain_put, put_plain}
 use Rattle.cam_histories.proofs.OneInput.{other_history}
@@ -28,7 +29,8 @@ use Rattle.cam_cluster.specs.Puts.{IsPutAt}
 use Rattle.cam_cluster.specs.Works.{NodeFields, WorksFields, KeepsRun}
 use Rattle.cam_cluster.specs.Works.{sites_of}
 use Rattle.cam_cluster.proofs.WorksNodes.{site_there}
-use Rattle.cam_cluster.proofs.PutKeeps.{as_many, sites_are, nodes_are, logs_moved}
+use Rattle.cam_cluster.proofs.PutKeeps.{as_many, halts_are, nodes_are, sites_are}
+use Rattle.cam_cluster.proofs.HaltsKept.{all_sent_still, undecided_on}
 use Rattle.cam_cluster.proofs.PutNode.{site_is, node_keeps, may_then}
 
 one_longer : (t : List Event) (e : Event) → reverse t ++ e ∷ [] ≡ reverse (e ∷ t)
@@ -110,6 +112,7 @@ module _ (script : Script) (st : Standing) (place : ℕ) (input : Input) (mail :
           nodes = nodes;
           outbox = record { net = works.outbox.net; unput = letters };
           halted = works.halted;
+          undecided = works.undecided;
           events = works.events ++ event ∷ [];
           marks = works.marks;
         }) may
@@ -126,13 +129,17 @@ module _ (script : Script) (st : Standing) (place : ℕ) (input : Input) (mail :
           subst (λ (z : Standing). IsWhole script.objects z (sites_of nodes) works.outbox.net letters works.halted) is
           (subst (λ (u : List Letter). IsWhole script.objects (put c st input) (sites_of nodes) works.outbox.net u works.halted) (sym sent)
           (subst (λ (sites : List Site). IsWhole script.objects (put c st input) sites works.outbox.net (letters_of new.site.node event.sent) works.halted) sites_now has.whole));
-      halted_logs = λ m low high said.
-          logs_moved script.objects m (history_of script.objects st.running.trace m)
-          (history_of script.objects behind.running.trace m) (might m) (may m)
-          (other_history script c st input new.site event has.stepped.held has.stepped m
-          (λ e. off m said (sym e ∙ put_so.at)))
-          (λ logged read. others m logged low (off m said) read)
-          (keeps.halted_logs m low high said);
+      halts = λ q n at said.
+          halts_are script st place works might old keeps there new may nodes are objects others
+          behind (λ m is. (off m is, is))
+          (λ m low away. ap (λ h. map nameless h) (other_history script c st input new.site event
+          has.stepped.held has.stepped m (λ e. away (sym e ∙ put_so.at))))
+          (λ m away. undecided_on script.objects st behind m
+          (c.reading.next st.running.trace input ∷ []) refl refl keeps.under.placed) q n at said;
+      undecided = keeps.undecided;
+      sent =
+          all_sent_still (length st.running.trace) (length behind.running.trace) (omega arith)
+          st.undecided keeps.sent;
       events =
           ap (λ (es : List Event). es ++ event ∷ []) keeps.events
           ∙ one_longer st.running.trace event
@@ -146,6 +153,7 @@ module _ (script : Script) (st : Standing) (place : ℕ) (input : Input) (mail :
           nodes = nodes;
           outbox = record { net = works.outbox.net; unput = letters };
           halted = works.halted;
+          undecided = works.undecided;
           events = works.events ++ event ∷ [];
           marks = works.marks;
         }) may
@@ -155,6 +163,7 @@ module _ (script : Script) (st : Standing) (place : ℕ) (input : Input) (mail :
           nodes = nodes;
           outbox = record { net = works.outbox.net; unput = letters };
           halted = works.halted;
+          undecided = works.undecided;
           events = works.events ++ event ∷ [];
           marks = works.marks;
         }) may) (sym is) stood_at

@@ -12,13 +12,15 @@ use Rattle.cam_net.specs.Letters.{InFlightFields, put_as}
 use Rattle.cam_net.specs.Outbox.{OutboxFields, HasPutSome}
 use Rattle.cam_node.specs.declared.Input.{Input as NodeInput}
 use Rattle.cam_node.specs.Calls.{input_of, mail_of, load_of, letters_of, AreSame}
+use Rattle.cam_node.specs.Found.{HaltsAt}
 use Rattle.cam_node.specs.Halting.{IsStepThrough}
 use Rattle.cam_node.specs.Keeping.{IsHalt, KeepsOn}
 use Rattle.cam_node.specs.Log.{Logged}
 use Rattle.cam_runs.specs.Standing.{Standing}
 use Rattle.cam_script.specs.declared.Script.{Script}
 use Rattle.cam_cluster.specs.declared.works.Put.TheVariants as puts
-use Rattle.cam_cluster.specs.Puts.{HasPut, KeepsAsBefore}
+use Rattle.cam_cluster.specs.declared.works.undecided.OpenHalt.{OpenHalt}
+use Rattle.cam_cluster.specs.Puts.{HasPut, KeepsAsBefore, letter_of}
 use Rattle.cam_cluster.specs.Works.{NodeFields, WorksFields, KeepsRun, MayReadAt}
 use Rattle.cam_cluster.proofs.PlacedNodes.{taken_there, seen_there, reads_elsewhere, reads_there}
 use Rattle.cam_cluster.proofs.PutKeeps.{keeps_as_put, keeps_as_before}
@@ -32,51 +34,47 @@ net_grows o later some =
     omega (arith, are)
 
 module _ {N : Type 0} (part : N → NodeFields) (tells : N → Bool) (may : N → Logged → Type 0) where
-  abbrev pub seen : List N → OutboxFields → List Bool → List Event → List Mark → WorksFields
-  seen nodes outbox halted events marks = record {
+  abbrev pub seen : List N → OutboxFields → List Bool → List OpenHalt → List Event → List Mark
+      → WorksFields
+  seen nodes outbox halted undecided events marks = record {
     nodes = map part nodes;
     outbox = outbox;
     halted = halted;
+    undecided = undecided;
     events = events;
     marks = marks;
   }
 
   -- room was made: letters were put
   pub room_made : (nodes now : List N) (o later : OutboxFields) (h halted : List Bool)
-      (e events : List Event) (m marks : List Mark)
-      → now ≡ nodes → HasPutSome o later → halted ≡ h → events ≡ e → marks ≡ m
-      → KeepsAsBefore (seen nodes o h e m) (MayReadAt tells may nodes)
-      (seen now later halted events marks) (MayReadAt tells may now)
-  room_made nodes now o later h halted e events m marks same some is_h is_e is_m script st is keeps =
-      subst (λ (ns : List N). KeepsRun script st (seen ns later halted events marks)
-      (MayReadAt tells may ns)) (sym same)
-      (subst (λ (x : List Bool). KeepsRun script st (seen nodes later x events marks)
-      (MayReadAt tells may nodes)) (sym is_h)
-      (subst (λ (x : List Event). KeepsRun script st (seen nodes later h x marks)
-      (MayReadAt tells may nodes)) (sym is_e)
-      (subst (λ (x : List Mark). KeepsRun script st (seen nodes later h e x)
-      (MayReadAt tells may nodes)) (sym is_m)
-      (keeps_as_put script st (seen nodes o h e m) later (MayReadAt tells may nodes) is some
-      keeps))))
+      (u undecided : List OpenHalt) (e events : List Event) (m marks : List Mark)
+      → now ≡ nodes → HasPutSome o later → halted ≡ h → undecided ≡ u → events ≡ e → marks ≡ m
+      → KeepsAsBefore (seen nodes o h u e m) (MayReadAt tells may nodes)
+      (seen now later halted undecided events marks) (MayReadAt tells may now)
+  room_made nodes now o later h halted u undecided e events m marks same some is_h is_u is_e is_m
+      script st is keeps =
+      subst (λ (z : List N × List Bool × List OpenHalt × List Event × List Mark).
+      KeepsRun script st (seen z.0 later z.1 z.2 z.3 z.4) (MayReadAt tells may z.0))
+      (λ i. (sym same i, sym is_h i, sym is_u i, sym is_e i, sym is_m i))
+      (keeps_as_put script st (seen nodes o h u e m) later (MayReadAt tells may nodes) is some
+      keeps)
 
   pub seen_as : (script : Script) (st : Standing) (nodes : List N) (o later : OutboxFields)
-      (h halted : List Bool) (e events : List Event) (m marks : List Mark)
-      → later ≡ o → halted ≡ h → events ≡ e → marks ≡ m
-      → KeepsRun script st (seen nodes o h e m) (MayReadAt tells may nodes)
-      → KeepsRun script st (seen nodes later halted events marks) (MayReadAt tells may nodes)
-  seen_as script st nodes o later h halted e events m marks is_o is_h is_e is_m keeps =
-      subst (λ (x : OutboxFields). KeepsRun script st (seen nodes x halted events marks)
-      (MayReadAt tells may nodes)) (sym is_o)
-      (subst (λ (x : List Bool). KeepsRun script st (seen nodes o x events marks)
-      (MayReadAt tells may nodes)) (sym is_h)
-      (subst (λ (x : List Event). KeepsRun script st (seen nodes o h x marks)
-      (MayReadAt tells may nodes)) (sym is_e)
-      (subst (λ (x : List Mark). KeepsRun script st (seen nodes o h e x)
-      (MayReadAt tells may nodes)) (sym is_m) keeps)))
+      (h halted : List Bool) (u undecided : List OpenHalt) (e events : List Event)
+      (m marks : List Mark)
+      → later ≡ o → halted ≡ h → undecided ≡ u → events ≡ e → marks ≡ m
+      → KeepsRun script st (seen nodes o h u e m) (MayReadAt tells may nodes)
+      → KeepsRun script st (seen nodes later halted undecided events marks)
+      (MayReadAt tells may nodes)
+  seen_as script st nodes o later h halted u undecided e events m marks is_o is_h is_u is_e is_m
+      keeps =
+      subst (λ (z : OutboxFields × List Bool × List OpenHalt × List Event × List Mark).
+      KeepsRun script st (seen nodes z.0 z.1 z.2 z.3 z.4) (MayReadAt tells may nodes))
+      (λ i. (sym is_o i, sym is_h i, sym is_u i, sym is_e i, sym is_m i)) keeps
 
   -- One of the nodes was asked for a step.
-  module _ (place : ℕ) (nodes : List N) (o : OutboxFields) (h : List Bool) (e : List Event)
-      (m : List Mark) (old new : N) (there : place < length nodes) (within : place < 8)
+  module _ (place : ℕ) (nodes : List N) (o : OutboxFields) (h : List Bool) (u : List OpenHalt)
+      (e : List Event) (m : List Mark) (old new : N) (there : place < length nodes) (within : place < 8)
       (is_old : old ≡ get_or nodes place old) (now : List N) (set_is : now ≡ set nodes place new)
       (objects : (part new).objects ≡ (part old).objects) where
     at : slice_get (map part nodes) place ≡ Some (part old)
@@ -94,10 +92,10 @@ module _ {N : Type 0} (part : N → NodeFields) (tells : N → Bool) (may : N �
     pub as_before_in : (part old).halted ≡ false → (part new).halted ≡ false
         → AreSame (part old).site.node (part new).site.node
         → (part new).site.entries ≡ (part old).site.entries
-        → KeepsAsBefore (seen nodes o h e m) (MayReadAt tells may nodes) (seen now o h e m)
+        → KeepsAsBefore (seen nodes o h u e m) (MayReadAt tells may nodes) (seen now o h u e m)
         (MayReadAt tells may now)
     as_before_in ran runs same entries script st is keeps =
-        keeps_as_before script st place (seen nodes o h e m) (MayReadAt tells may nodes) (part old)
+        keeps_as_before script st place (seen nodes o h u e m) (MayReadAt tells may nodes) (part old)
         keeps at (part new) (MayReadAt tells may now) (map part now) are objects others within ran
         runs same entries
 
@@ -109,12 +107,12 @@ module _ {N : Type 0} (part : N → NodeFields) (tells : N → Bool) (may : N �
         (part new).site.node (part new).site.entries (input_of (part old).site.node.number input)
         (mail_of input) (load_of input) event
         → letters ≡ letters_of (part new).site.node event.sent
-        → HasPut line place input (seen nodes o h e m) (MayReadAt tells may nodes) puts.Stood
-        (seen now (record { net = o.net; unput = letters }) h (e ++ event ∷ []) m)
+        → HasPut line place input (seen nodes o h u e m) (MayReadAt tells may nodes) puts.Stood
+        (seen now (record { net = o.net; unput = letters }) h u (e ++ event ∷ []) m)
         (MayReadAt tells may now)
     stood_in line input event letters none_left few runs step on sent script st halts restarted is
         keeps put_so none =
-        put_stood script st place input (seen nodes o h e m) (MayReadAt tells may nodes) (part old)
+        put_stood script st place input (seen nodes o h u e m) (MayReadAt tells may nodes) (part old)
         keeps put_so at within halts line restarted (part new) (MayReadAt tells may now)
         (map part now) are objects others event letters none_left few runs none step on sent
 
@@ -123,11 +121,19 @@ module _ {N : Type 0} (part : N → NodeFields) (tells : N → Bool) (may : N �
         → (tells new ≡ true → IsHalt (part old).objects (part old).site.node
         (part old).site.entries (input_of (part old).site.node.number input) (mail_of input)
         (load_of input) (may new))
-        → HasPut line place input (seen nodes o h e m) (MayReadAt tells may nodes) puts.Halted
-        (seen now o (set h place true) e (m ++ marks.Halted line (place + 1) false ∷ []))
+        → HaltsAt (part old).objects (part old).site.node (part old).site.entries
+        (input_of (part old).site.node.number input) (mail_of input) (load_of input)
+        (part new).site.node (part new).halted_at
+        → HasPut line place input (seen nodes o h u e m) (MayReadAt tells may nodes) puts.Halted
+        (seen now o (set h place true) (record {
+          node = place + 1;
+          before = length e;
+          got = letter_of input;
+        } ∷ u) e (m ++ marks.Halted line (place + 1) false ∷ []))
         (MayReadAt tells may now)
-    halted_in line input none_left stops same halt script st halts restarted is keeps put_so lost =
-        put_halted script st place input (seen nodes o h e m) (MayReadAt tells may nodes) (part old)
+    halted_in line input none_left stops same halt at_event script st halts restarted is keeps put_so
+        lost =
+        put_halted script st place input (seen nodes o h u e m) (MayReadAt tells may nodes) (part old)
         keeps put_so at within halts line restarted (part new) (MayReadAt tells may now)
         (map part now) are objects others none_left stops lost same
         (record {
@@ -136,3 +142,4 @@ module _ {N : Type 0} (part : N → NodeFields) (tells : N → Bool) (may : N �
               (subst (λ (ns : List N). MayReadAt tells may ns (place + 1) logged) set_is read) in
               (halt own.0).either history logged node_keeps may_then own.1;
         })
+        at_event

@@ -55,7 +55,7 @@ module _ (script : Script) (st : Standing) (halts : Halting) (later : List Step)
         (record {
           runs =
               keeps_others script st (after_line st line leads) new.works new.works.marks may
-              (record { trace = refl; lost = refl; delivered = refl }) refl kept.all_marks
+              (record { trace = refl; lost = refl; delivered = refl }) refl refl kept.all_marks
               (subst (λ (p : Passed). IsUnderHalts script (after_line st line p)) passes
               (next_leads script st
               (record { line = line; act = acts.Stop (place + 1) calls }) halts later is

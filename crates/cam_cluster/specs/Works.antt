@@ -1,8 +1,10 @@
 -- The nodes of a cluster, the letters between them and what they did, as they stand for a run.
 use Rattle.std.specs.Prelude.{◌≡◌, ◌<◌, ℕ, zero, ◌+◌, ◌-◌, Bool, true, List, length, map, reverse}
-use Rattle.std.specs.Prelude.{Option, Some, slice_get}
+use Rattle.std.specs.Prelude.{Option, Some, None, slice_get}
+use Rattle.std.specs.List.{AllByRecursion}
 use Rattle.cam_type.specs.declared.ObjectDecl.{ObjectDecl}
 use Rattle.cam_event.specs.declared.Event.{Event}
+use Rattle.cam_event.specs.declared.LetterId.{LetterId}
 use Rattle.cam_event.specs.declared.Mark.{Mark}
 use Rattle.cam_event.specs.ByDeltas.{Received}
 use Rattle.cam_net.specs.Outbox.{OutboxFields}
@@ -54,6 +56,11 @@ pub record IsNodeOf (objects : List ObjectDecl) (halted : List Bool) (s : ℕ)
 abbrev pub open_halt : Undecided → OpenHalt
 open_halt u = record { node = u.node; before = u.before; got = u.event.got }
 
+-- the letter was sent by one of so many events
+abbrev pub IsSentBefore : ℕ → Option LetterId → Type 0
+IsSentBefore n None = Unit {0}
+IsSentBefore n (Some letter) = letter.event < n
+
 -- A node that is halted, of this number: it halted in a step after its history of the run, and
 -- keeps what its log may have of the event. What may be read has that or not. With it the history
 -- would be the one that the run has yet to decide on, but for the number of the letter.
@@ -89,6 +96,9 @@ pub record KeepsRun (script : Script) (st : Standing) (works : WorksFields)
       → IsHaltOf script.objects st.running.trace st.undecided (place + 1) node
       (may_read (place + 1))
   pub undecided : works.undecided ≡ map open_halt st.undecided
+  pub sent :
+      AllByRecursion (λ (u : Undecided). IsSentBefore (length st.running.trace) u.event.got)
+      st.undecided
   pub events : works.events ≡ reverse st.running.trace
   pub all_marks : works.marks ≡ st.running.marks
   pub few : length works.events < 1000000000

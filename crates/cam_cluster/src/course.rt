@@ -209,7 +209,7 @@ impl<L: TellingLog> Course<L> {
             (⟦<Lines<L> as AsLines>⟧.fields self.new.lines)
             (⟦<Lines<L> as AsLines>⟧.may_read self.new.lines) self.new.workers result }
     {
-        self.lines.restart(line, node)?;
+        self.lines.restart(node)?;
         Ok(None)
     }
 }

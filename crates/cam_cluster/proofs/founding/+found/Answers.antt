@@ -30,6 +30,7 @@ returns-in-Ok-found-clause-new g t c =
       site = record { node = answers node.core; entries = node.log.log.state.entries };
       objects = node.objects;
       halted = node.log.halted;
+      halted_at = node.halted_at;
     }) c.args.objects.now (c.len.result + 1) c.found.new.nodes.items
     c.push_owned-in-Ok-found.new.list.items c.in-Ok.node
     (ap (λ n. n + 1) (c.len.ensures ∙ c.pop.new.self.ok.0 ∙ sym c.in-Ok-found.ensures.count))

@@ -9,5 +9,6 @@ returns-in-Ok-clause-new g c =
       site = record { node = answers node.core; entries = node.log.log.state.entries };
       objects = node.objects;
       halted = node.log.halted;
+      halted_at = node.halted_at;
     }) c.format.result c.in-Ok.own c.args.objects.now c.args.number c.in-Ok.ensures
     c.format.ensures.keeps c.format.ensures.number c.format.ensures.objects c.format.ensures.running

@@ -4,6 +4,7 @@ use Rattle.std.specs.Prelude.{length, vec_len, ◌<◌, ◌≤◌}
 use Rattle.std.proofs.lemmas.Grind.{common_steps}
 use Rattle.cam_event.specs.declared.Mark.TheVariants as marks
 use Rattle.cam_net.specs.Outbox.{OutboxFields}
+use Rattle.cam_cluster.specs.Puts.{letter_of}
 use Rattle.cam_cluster.proofs.AsSeen.{part, reads_at, tells_of}
 use Rattle.cam_cluster.proofs.PlacedNodes.{asked_there, put_there, on_err}
 use Rattle.cam_cluster.proofs.PutWorks.{net_grows, room_made, seen_as, as_before_in, stood_in, halted_in}
@@ -23,10 +24,12 @@ returns-in_err-make_room-clause-as_before g c =
     let mid = c.make_room.new.self in
     on_err c.from_residual.result _ (room_made (part g.L.CheckpointLog g.L.EntryLog) (tells_of g.L.CheckpointLog g.L.EntryLog)
     (reads_at g.L.CheckpointLog g.L.EntryLog)
-    old.nodes.items mid.nodes.items old.outbox mid.outbox old.halted mid.halted old.events.events.items
-    mid.events.events.items old.marks.items mid.marks.items
+    old.nodes.items mid.nodes.items old.outbox mid.outbox old.halted mid.halted
+    old.undecided.items mid.undecided.items old.events.events.items mid.events.events.items
+    old.marks.items mid.marks.items
     (ap (λ v. v.items) c.make_room.ensures.nodes) c.make_room.ensures.some
-    c.make_room.ensures.halted c.make_room.ensures.events c.make_room.ensures.marks)
+    c.make_room.ensures.halted c.make_room.ensures.undecided c.make_room.ensures.events
+    c.make_room.ensures.marks)
 
 pub index_mut-requires : goal.index_mut-requires
 index_mut-requires g c =
@@ -52,7 +55,10 @@ step-requires-clause-may g c =
 
 pub stand-requires-clause-room : goal.stand-requires-clause-room
 stand-requires-clause-room g c =
-    c.in_ok-make_room.ensures.event_room
+    let room = c.in_ok-make_room.ensures.event_room in
+    let events = room.0 in
+    let counts = room.1 in
+    (omega (arith, events), omega (arith, counts))
 
 pub stand-requires-clause-none : goal.stand-requires-clause-none
 stand-requires-clause-none g c =
@@ -75,14 +81,17 @@ returns-then-not-is_halted-clause-as_before g c =
     λ script st is keeps.
     as_before_in (part g.L.CheckpointLog g.L.EntryLog) (tells_of g.L.CheckpointLog g.L.EntryLog)
     (reads_at g.L.CheckpointLog g.L.EntryLog)
-    c.args.place mid.nodes.items mid.outbox mid.halted mid.events.events.items mid.marks.items node new
+    c.args.place mid.nodes.items mid.outbox mid.halted mid.undecided.items mid.events.events.items mid.marks.items
+    node new
     (subst (λ n. c.args.place < n) (ap (λ v. length v.items) (sym c.make_room.ensures.nodes)) c.requires.there) c.requires.place c.index_mut.ensures.value _ refl c.step.ensures.objects ran runs (c.in-Err.ensures.same runs) c.in-Err.ensures.not_listed
     script st is (room_made (part g.L.CheckpointLog g.L.EntryLog) (tells_of g.L.CheckpointLog g.L.EntryLog)
     (reads_at g.L.CheckpointLog g.L.EntryLog)
-    old.nodes.items mid.nodes.items old.outbox mid.outbox old.halted mid.halted old.events.events.items
-    mid.events.events.items old.marks.items mid.marks.items
+    old.nodes.items mid.nodes.items old.outbox mid.outbox old.halted mid.halted
+    old.undecided.items mid.undecided.items old.events.events.items mid.events.events.items
+    old.marks.items mid.marks.items
     (ap (λ v. v.items) c.make_room.ensures.nodes) c.make_room.ensures.some
-    c.make_room.ensures.halted c.make_room.ensures.events c.make_room.ensures.marks script st is keeps)
+    c.make_room.ensures.halted c.make_room.ensures.undecided c.make_room.ensures.events
+    c.make_room.ensures.marks script st is keeps)
 
 pub halt-requires-clause-place : goal.halt-requires-clause-place
 halt-requires-clause-place g c =
@@ -91,6 +100,10 @@ halt-requires-clause-place g c =
 pub halt-requires-clause-room : goal.halt-requires-clause-room
 halt-requires-clause-room g c =
     c.in_ok-make_room.ensures.mark_room
+
+pub halt-requires-clause-halt_room : goal.halt-requires-clause-halt_room
+halt-requires-clause-halt_room g c =
+    c.in_ok-make_room.ensures.halt_room
 
 pub returns-in-Ok-clause-put : goal.returns-in-Ok-clause-put
 returns-in-Ok-clause-put g c =
@@ -106,22 +119,26 @@ returns-in-Ok-clause-put g c =
     seen_as (part g.L.CheckpointLog g.L.EntryLog) (tells_of g.L.CheckpointLog g.L.EntryLog)
     (reads_at g.L.CheckpointLog g.L.EntryLog)
     script _ end.nodes.items (record { net = mid.outbox.net; unput = c.in-Ok.stepped.letters }) end.outbox
-    mid.halted end.halted (mid.events.events.items ++ c.in-Ok.stepped.event ∷ []) end.events.events.items
+    mid.halted end.halted mid.undecided.items end.undecided.items (mid.events.events.items ++ c.in-Ok.stepped.event ∷ []) end.events.events.items
     mid.marks.items end.marks.items c.stand.ensures.outbox c.stand.ensures.halted
-    c.stand.ensures.events (ap (λ v. v.items) c.stand.ensures.marks)
+    (ap (λ v. v.items) c.stand.ensures.undecided) c.stand.ensures.events (ap (λ v. v.items) c.stand.ensures.marks)
     (stood_in (part g.L.CheckpointLog g.L.EntryLog) (tells_of g.L.CheckpointLog g.L.EntryLog)
     (reads_at g.L.CheckpointLog g.L.EntryLog)
-    c.args.place mid.nodes.items mid.outbox mid.halted mid.events.events.items mid.marks.items node new
+    c.args.place mid.nodes.items mid.outbox mid.halted mid.undecided.items mid.events.events.items mid.marks.items
+    node new
     (subst (λ n. c.args.place < n) (ap (λ v. length v.items) (sym c.make_room.ensures.nodes)) c.requires.there) c.requires.place c.index_mut.ensures.value end.nodes.items (ap (λ v. v.items) c.stand.ensures.nodes) c.step.ensures.objects
     c.args.line c.args.input.now c.in-Ok.stepped.event c.in-Ok.stepped.letters
-    c.in_ok-make_room.ensures.all c.in_ok-make_room.ensures.few (c.in-Ok.ensures.runs ∙ sym ran)
+    c.in_ok-make_room.ensures.all
+    (let few = c.in_ok-make_room.ensures.few in omega (arith, few)) (c.in-Ok.ensures.runs ∙ sym ran)
     c.in-Ok.ensures.step c.in-Ok.ensures.keeps c.in-Ok.ensures.letters script st halts restarted is
     (room_made (part g.L.CheckpointLog g.L.EntryLog) (tells_of g.L.CheckpointLog g.L.EntryLog)
     (reads_at g.L.CheckpointLog g.L.EntryLog)
-    old.nodes.items mid.nodes.items old.outbox mid.outbox old.halted mid.halted old.events.events.items
-    mid.events.events.items old.marks.items mid.marks.items
+    old.nodes.items mid.nodes.items old.outbox mid.outbox old.halted mid.halted
+    old.undecided.items mid.undecided.items old.events.events.items mid.events.events.items
+    old.marks.items mid.marks.items
     (ap (λ v. v.items) c.make_room.ensures.nodes) c.make_room.ensures.some
-    c.make_room.ensures.halted c.make_room.ensures.events c.make_room.ensures.marks script st is keeps) put_so none)
+    c.make_room.ensures.halted c.make_room.ensures.undecided c.make_room.ensures.events
+    c.make_room.ensures.marks script st is keeps) put_so none)
 
 pub returns-else-not-is_halted-clause-put : goal.returns-else-not-is_halted-clause-put
 returns-else-not-is_halted-clause-put g c =
@@ -135,22 +152,36 @@ returns-else-not-is_halted-clause-put g c =
     seen_as (part g.L.CheckpointLog g.L.EntryLog) (tells_of g.L.CheckpointLog g.L.EntryLog)
     (reads_at g.L.CheckpointLog g.L.EntryLog)
     script _ end.nodes.items mid.outbox end.outbox (set mid.halted c.args.place true) end.halted
+    (record {
+      node = c.args.place + 1;
+      before = length mid.events.events.items;
+      got = letter_of c.args.input.now;
+    } ∷ mid.undecided.items) end.undecided.items
     mid.events.events.items end.events.events.items
     (mid.marks.items ++ marks.Halted c.args.line (c.args.place + 1) false ∷ []) end.marks.items
-    c.halt.ensures.outbox c.halt.ensures.halted (ap (λ v. v.events.items) c.halt.ensures.events)
+    c.halt.ensures.outbox c.halt.ensures.halted (c.halt.ensures.undecided
+    ∙ ap (λ g. record {
+      node = c.args.place + 1;
+      before = length mid.events.events.items;
+      got = g;
+    } ∷ mid.undecided.items) c.received_in.ensures) (ap (λ v. v.events.items) c.halt.ensures.events)
     c.halt.ensures.marks
     (halted_in (part g.L.CheckpointLog g.L.EntryLog) (tells_of g.L.CheckpointLog g.L.EntryLog)
     (reads_at g.L.CheckpointLog g.L.EntryLog)
-    c.args.place mid.nodes.items mid.outbox mid.halted mid.events.events.items mid.marks.items node new
+    c.args.place mid.nodes.items mid.outbox mid.halted mid.undecided.items mid.events.events.items mid.marks.items
+    node new
     (subst (λ n. c.args.place < n) (ap (λ v. length v.items) (sym c.make_room.ensures.nodes)) c.requires.there) c.requires.place c.index_mut.ensures.value end.nodes.items (ap (λ v. v.items) c.halt.ensures.nodes) c.step.ensures.objects
     c.args.line c.args.input.now c.in_ok-make_room.ensures.all stops c.step.ensures.number
-    (λ told. c.step.ensures.halt (sym c.step.ensures.tells ∙ told) stops) script st halts restarted is
+    (λ told. c.step.ensures.halt (sym c.step.ensures.tells ∙ told) stops)
+    (c.step.ensures.halted_at stops) script st halts restarted is
     (room_made (part g.L.CheckpointLog g.L.EntryLog) (tells_of g.L.CheckpointLog g.L.EntryLog)
     (reads_at g.L.CheckpointLog g.L.EntryLog)
-    old.nodes.items mid.nodes.items old.outbox mid.outbox old.halted mid.halted old.events.events.items
-    mid.events.events.items old.marks.items mid.marks.items
+    old.nodes.items mid.nodes.items old.outbox mid.outbox old.halted mid.halted
+    old.undecided.items mid.undecided.items old.events.events.items mid.events.events.items
+    old.marks.items mid.marks.items
     (ap (λ v. v.items) c.make_room.ensures.nodes) c.make_room.ensures.some
-    c.make_room.ensures.halted c.make_room.ensures.events c.make_room.ensures.marks script st is keeps) put_so lost)
+    c.make_room.ensures.halted c.make_room.ensures.undecided c.make_room.ensures.events
+    c.make_room.ensures.marks script st is keeps) put_so lost)
 
 -- the servers stay of their kinds
 pub step-requires-clause-register : goal.step-requires-clause-register

@@ -17,9 +17,10 @@ returns g c =
     let new = c.stop_after.new.self in
     disk_in (part g.L.CheckpointLog g.L.EntryLog) (tells_of g.L.CheckpointLog g.L.EntryLog)
     (reads_at g.L.CheckpointLog g.L.EntryLog) c.args.place works.nodes.items _ works.outbox
-    works.halted works.events.events.items works.marks.items old new c.requires c.index_mut.ensures.value
+    works.halted works.undecided.items works.events.events.items works.marks.items old new c.requires c.index_mut.ensures.value
     refl
-    (same_fields _ _ _ _ _ _ _ _ (ap answers c.stop_after.ensures.core)
-    c.stop_after.ensures.listed c.stop_after.ensures.objects c.stop_after.ensures.halted)
+    (same_fields _ _ _ _ _ _ _ _ _ _ (ap answers c.stop_after.ensures.core)
+    c.stop_after.ensures.listed c.stop_after.ensures.objects c.stop_after.ensures.halted
+    c.stop_after.ensures.halted_at)
     c.stop_after.ensures.tells
     (λ logged read. stays_reads _ _ _ _ _ _ _ _ logged c.stop_after.ensures.stays read)

@@ -14,6 +14,7 @@ returns-in-Ok-found-clause-before_first g c =
       site = record { node = answers node.core; entries = node.log.log.state.entries };
       objects = node.objects;
       halted = node.log.halted;
+      halted_at = node.halted_at;
     }) c.args.script.now c.found.new.nodes.items c.requires.script c.in-Ok-found.ensures.new
     (c.in-Ok-found.ensures.count ∙ c.requires.one_each) c.new.ensures
     c.new-in-Ok-found.ensures.items
