@@ -105,10 +105,10 @@ module _ (f : Event → Event) (same : (x : Event) → (f x).sent ≡ x.sent) (e
       seam (x ∷ xs) ys zero is = absurd (omega (arith, is))
       seam (x ∷ xs) ys (suc k) is = ap (λ us. x ∷ us) (seam xs ys k (omega (arith, is)))
 
-newest : (e : Event) (es : List Event) → reverse (e ∷ es) ≡ reverse es ++ e ∷ []
+pub newest : (e : Event) (es : List Event) → reverse (e ∷ es) ≡ reverse es ++ e ∷ []
 newest e es = reverse-append (e ∷ []) es
 
-reversed_map : (f : Event → Event) (es : List Event) → reverse (map f es) ≡ map f (reverse es)
+pub reversed_map : (f : Event → Event) (es : List Event) → reverse (map f es) ≡ map f (reverse es)
 reversed_map f [] = refl
 reversed_map f (e ∷ es) =
     newest (f e) (map f es)

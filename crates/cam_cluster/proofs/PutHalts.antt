@@ -36,7 +36,8 @@ use Rattle.cam_cluster.specs.declared.works.undecided.OpenHalt.{OpenHalt}
 use Rattle.cam_cluster.specs.Works.{NodeFields, WorksFields, IsHaltOf, KeepsRun}
 use Rattle.cam_cluster.specs.Works.{open_halt, sites_of}
 use Rattle.cam_cluster.proofs.HaltsKept.{halt_stays, undecided_on}
-use Rattle.cam_cluster.proofs.PutKeeps.{as_many, sites_are, nodes_are}
+use Rattle.cam_cluster.proofs.NodeChanged.{KeepsNodes, kept_nodes, as_many, nodes_are}
+use Rattle.cam_cluster.proofs.NodeChanged.{sites_are}
 use Rattle.cam_cluster.proofs.PutNode.{site_is, node_keeps, may_then}
 use Rattle.cam_cluster.proofs.RunHalts.{halt_of_run, sent_in}
 use Rattle.cam_cluster.proofs.WorksNodes.{set_tells}
@@ -57,13 +58,16 @@ module _ (script : Script) (st : Standing) (place : ℕ) (input : Input) (mail :
   abbrev r : ℕ
   r = node_of st.running.trace input
 
+  abbrev kept : KeepsNodes script st place works might
+  kept = kept_nodes script st place works might keeps
+
   place_is : r - 1 ≡ place
   place_is = let at = put_so.at in omega (arith, at)
 
   sites_now : with_site st.running.trace input (sites_of works.nodes) new.site ≡ sites_of nodes
   sites_now =
       ap (λ (i : ℕ). set (sites_of works.nodes) i new.site) place_is
-      ∙ sites_are script st place works might old keeps there new may nodes are objects others
+      ∙ sites_are script st place works might old kept there new may nodes are objects others
 
   -- a halted node is another one
   off : (m : ℕ) → has_number st.halted m ≡ true → (m ≡ place + 1 → ⊥)
@@ -189,10 +193,10 @@ module _ (script : Script) (st : Standing) (place : ℕ) (input : Input) (mail :
         under =
             subst (IsUnderHalts script) is
             (inputs_lead_on script halts line restarted st input keeps.under put_so.coming);
-        one_each = as_many script st place works might old keeps there new may nodes are objects others;
+        one_each = as_many script st place works might old kept there new may nodes are objects others;
         eight = length-set works.halted place true ∙ keeps.eight;
         nodes =
-            nodes_are script st place works might old keeps there new may nodes are objects others now_halted
+            nodes_are script st place works might old kept there new may nodes are objects others now_halted
             (stops ∙ sym (halted_is (place + 1) (omega arith) ∙ ap (λ (b : Bool). if b then true else is_halted works.halted (place + 1)) (eq-eqb r (place + 1) put_so.at)))
             (λ m low away. sym (halted_is m low ∙ ap (λ (b : Bool). if b then true else is_halted works.halted m) (ne_eqb r m (λ e. away (sym e ∙ put_so.at)))));
         whole = whole;

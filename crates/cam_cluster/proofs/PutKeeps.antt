@@ -28,7 +28,9 @@ use Rattle.cam_histories.proofs.ManyPut.{all_may_be_written, some_put_stand}
 use Rattle.cam_histories.proofs.Sites.{site_at, sites_with}
 use Rattle.cam_cluster.specs.Works.{NodeFields, WorksFields, IsHaltOf, IsNodeOf, KeepsRun}
 use Rattle.cam_cluster.specs.Works.{sites_of}
-use Rattle.cam_cluster.proofs.HaltsKept.{halt_stays, undecided_on}
+use Rattle.cam_cluster.proofs.HaltsKept.{undecided_on}
+use Rattle.cam_cluster.proofs.NodeChanged.{KeepsNodes, kept_nodes, as_many, halts_are, nodes_are}
+use Rattle.cam_cluster.proofs.NodeChanged.{sites_are}
 use Rattle.cam_cluster.proofs.SameNode.{same_represents}
 use Rattle.cam_cluster.proofs.WorksNodes.{set_tells, site_there, sites_set}
 
@@ -70,55 +72,8 @@ module _ (script : Script) (st : Standing) (place : ℕ) (works : WorksFields)
     (objects : new.objects ≡ old.objects)
     (others : (s : ℕ) (logged : Logged) → 1 ≤ s → (s ≡ place + 1 → ⊥) → may s logged
     → might s logged) where
-  pub as_many : length nodes ≡ script.nodes
-  as_many = ap (λ (ns : List NodeFields). length ns) are ∙ length-set works.nodes place new
-      ∙ keeps.one_each
-
-  pub sites_are : set (sites_of works.nodes) place new.site ≡ sites_of nodes
-  sites_are = sym (sites_set works.nodes place new) ∙ ap sites_of (sym are)
-
-  pub nodes_are : (halted : List Bool) → new.halted ≡ is_halted halted (place + 1)
-      → ((m : ℕ) → 1 ≤ m → (m ≡ place + 1 → ⊥) → is_halted works.halted m ≡ is_halted halted m)
-      → (q : ℕ) (n : NodeFields) → slice_get nodes q ≡ Some n
-      → IsNodeOf script.objects halted (q + 1) n
-  nodes_are halted here elsewhere q n at =
-      elim (set_tells works.nodes place q new n (slice_get_within works.nodes place old there)
-      (ap (λ (ns : List NodeFields). slice_get ns q) (sym are) ∙ at)) [
-        | inl y ↦ subst (IsNodeOf script.objects halted (q + 1)) y.1 (record {
-          over = objects ∙ (keeps.nodes place old there).over;
-          is_halted = here ∙ ap (λ (p : ℕ). is_halted halted (p + 1)) (sym y.0);
-        })
-        | inr off ↦ record {
-          over = (keeps.nodes q n off.1).over;
-          is_halted =
-              (keeps.nodes q n off.1).is_halted
-              ∙ elsewhere (q + 1) (omega arith) (λ e. off.0 (omega (arith, e)));
-        }
-      ]
-
-  -- the halted nodes, where the changed one is not among them
-  pub halts_are : (now : Standing)
-      → ((m : ℕ) → has_number now.halted m ≡ true
-      → (m ≡ place + 1 → ⊥) × (has_number st.halted m ≡ true))
-      → ((m : ℕ) → 1 ≤ m → (m ≡ place + 1 → ⊥)
-      → AreAlike (history_of script.objects st.running.trace m)
-      (history_of script.objects now.running.trace m))
-      → ((m : ℕ) → (m ≡ place + 1 → ⊥) → (u : Undecided) → undecided_of m st.undecided ≡ Some u
-      → IsUndecidedAlike script.objects m u st now)
-      → (q : ℕ) (n : NodeFields) → slice_get nodes q ≡ Some n
-      → has_number now.halted (q + 1) ≡ true
-      → IsHaltOf script.objects now.running.trace now.undecided (q + 1) n (may (q + 1))
-  halts_are now away same still q n at said =
-      let off = away (q + 1) said in
-      elim (set_tells works.nodes place q new n (slice_get_within works.nodes place old there)
-      (ap (λ (ns : List NodeFields). slice_get ns q) (sym are) ∙ at)) [
-        | inl y ↦ absurd (off.0 (ap (λ (p : ℕ). p + 1) y.0))
-        | inr other ↦
-            halt_stays script.objects st now (q + 1) n (might (q + 1)) (may (q + 1))
-            (same (q + 1) (omega arith) off.0) (still (q + 1) off.0)
-            (λ logged read. others (q + 1) logged (omega arith) off.0 read)
-            (keeps.halts q n other.1 off.1)
-      ]
+  abbrev kept : KeepsNodes script st place works might
+  kept = kept_nodes script st place works might keeps
 
   -- It answers as before, and its log lists what it listed.
   module _ (within : place < 8) (ran : old.halted ≡ false) (runs : new.halted ≡ false)
@@ -169,20 +124,24 @@ module _ (script : Script) (st : Standing) (place : ℕ) (works : WorksFields)
     pub keeps_as_before : KeepsRun script st (record works { nodes = nodes }) may
     keeps_as_before = record {
       under = keeps.under;
-      one_each = as_many;
+      one_each =
+          as_many script st place works might old kept there new may nodes are objects others;
       eight = keeps.eight;
       nodes =
-          nodes_are works.halted
+          nodes_are script st place works might old kept there new may nodes are objects others
+          works.halted
           (runs ∙ sym ran ∙ (keeps.nodes place old there).is_halted) (λ m low away. refl);
       whole = record {
         nodes =
-            subst (AreSitesOf script.objects st 1) sites_are
+            subst (AreSitesOf script.objects st 1)
+            (sites_are script st place works might old kept there new may nodes are objects others)
             (sites_with script.objects st st (place + 1) new.site site_is (λ m n away is. is) 1
             place (sites_of works.nodes) (omega arith) keeps.whole.nodes);
         network = keeps.whole.network;
       };
       halts = λ q n at said.
-          halts_are st (λ m is. (off m is, is)) (λ m low away. refl)
+          halts_are script st place works might old kept there new may nodes are objects others st
+          (λ m is. (off m is, is)) (λ m low away. refl)
           (λ m away. undecided_on script.objects st st m [] refl refl keeps.under.placed) q n at
           said;
       undecided = keeps.undecided;

@@ -29,7 +29,8 @@ use Rattle.cam_cluster.specs.Puts.{IsPutAt}
 use Rattle.cam_cluster.specs.Works.{NodeFields, WorksFields, KeepsRun}
 use Rattle.cam_cluster.specs.Works.{sites_of}
 use Rattle.cam_cluster.proofs.WorksNodes.{site_there}
-use Rattle.cam_cluster.proofs.PutKeeps.{as_many, halts_are, nodes_are, sites_are}
+use Rattle.cam_cluster.proofs.NodeChanged.{KeepsNodes, kept_nodes, as_many, halts_are, nodes_are}
+use Rattle.cam_cluster.proofs.NodeChanged.{sites_are}
 use Rattle.cam_cluster.proofs.HaltsKept.{all_sent_still, undecided_on}
 use Rattle.cam_cluster.proofs.PutNode.{site_is, node_keeps, may_then}
 
@@ -52,13 +53,16 @@ module _ (script : Script) (st : Standing) (place : ℕ) (input : Input) (mail :
   abbrev r : ℕ
   r = node_of st.running.trace input
 
+  abbrev kept : KeepsNodes script st place works might
+  kept = kept_nodes script st place works might keeps
+
   place_is : r - 1 ≡ place
   place_is = let at = put_so.at in omega (arith, at)
 
   sites_now : with_site st.running.trace input (sites_of works.nodes) new.site ≡ sites_of nodes
   sites_now =
       ap (λ (i : ℕ). set (sites_of works.nodes) i new.site) place_is
-      ∙ sites_are script st place works might old keeps there new may nodes are objects others
+      ∙ sites_are script st place works might old kept there new may nodes are objects others
 
   -- a halted node is another one
   off : (m : ℕ) → has_number st.halted m ≡ true → (m ≡ place + 1 → ⊥)
@@ -120,17 +124,17 @@ module _ (script : Script) (st : Standing) (place : ℕ) (input : Input) (mail :
       under =
           subst (IsUnderHalts script) is
           (inputs_lead_on script halts line restarted st input keeps.under put_so.coming);
-      one_each = as_many script st place works might old keeps there new may nodes are objects others;
+      one_each = as_many script st place works might old kept there new may nodes are objects others;
       eight = keeps.eight;
       nodes =
-          nodes_are script st place works might old keeps there new may nodes are objects others works.halted (runs ∙ (keeps.nodes place old there).is_halted)
+          nodes_are script st place works might old kept there new may nodes are objects others works.halted (runs ∙ (keeps.nodes place old there).is_halted)
           (λ m low off. refl);
       whole =
           subst (λ (z : Standing). IsWhole script.objects z (sites_of nodes) works.outbox.net letters works.halted) is
           (subst (λ (u : List Letter). IsWhole script.objects (put c st input) (sites_of nodes) works.outbox.net u works.halted) (sym sent)
           (subst (λ (sites : List Site). IsWhole script.objects (put c st input) sites works.outbox.net (letters_of new.site.node event.sent) works.halted) sites_now has.whole));
       halts = λ q n at said.
-          halts_are script st place works might old keeps there new may nodes are objects others
+          halts_are script st place works might old kept there new may nodes are objects others
           behind (λ m is. (off m is, is))
           (λ m low away. ap (λ h. map nameless h) (other_history script c st input new.site event
           has.stepped.held has.stepped m (λ e. away (sym e ∙ put_so.at))))

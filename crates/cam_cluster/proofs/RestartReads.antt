@@ -58,24 +58,6 @@ restarted_was objects over s n told tells might was node before at halted_at new
       tells_which = has.tells_which;
     })))))
 
-pub halt_was : (objects over : List ObjectDecl) (s n : ℕ) (might was may : Logged → Type 0)
-    → objects ≡ over → s ≡ n → ((logged : Logged) → might logged → was logged)
-    → IsRestartHalt objects s might may → IsRestartHalt over n was may
-halt_was objects over s n might was may is_o is_s back halt =
-    subst (λ (xs : List ObjectDecl). IsRestartHalt xs n was may) is_o
-    (subst (λ (m : ℕ). IsRestartHalt objects m was may) is_s
-    (record { either = λ logged read. moved logged (halt.either logged read) }))
-  where
-    moved : (logged : Logged) → might logged ⊎ IsRestartOf objects s might logged
-        → was logged ⊎ IsRestartOf objects s was logged
-    moved logged (inl read) = inl (back logged read)
-    moved logged (inr of) =
-        inr (record {
-          before = of.before;
-          might = back of.before of.might;
-          keeps = of.keeps;
-        })
-
 -- what is read of a log at rest: what its entries say
 pub record IsReadOf (entries : List (List ℕ)) (logged : Logged) : Type 0 where
   pub recovered : Recovered
@@ -107,29 +89,3 @@ read_is objects s history entries logged keeps read =
   where
     same : (x : Result Recovered RecFault) (a b : Recovered) → x ≡ Ok a → x ≡ Ok b → a ≡ b
     same x a b first other = cc
-
-ended : (objects : List ObjectDecl) (s : ℕ) (history : List Received)
-    → IsThrough objects s history → IsEnded objects s history
-ended objects s [] through = tt
-ended objects s (k ∷ before) through = inl through
-
--- A restart that failed at a node whose log was at rest is a halt as each other.
-pub halts_so : (objects : List ObjectDecl) (node : Node) (entries : List (List ℕ))
-    (might may : Logged → Type 0) → ((logged : Logged) → might logged → IsReadOf entries logged)
-    → IsRestartHalt objects node.number might may
-    → IsHalt objects node entries (Restarts node.number) None no_load may
-halts_so objects node entries might may rest halt = record {
-  either = λ history logged keeps may_then read.
-      by history logged keeps (halt.either logged read);
-}
-  where
-    by : (history : List Received) (logged : Logged) → KeepsNode objects history node entries
-        → might logged ⊎ IsRestartOf objects node.number might logged
-        → IsLogOfEither objects node.number history
-        (taken_step objects node.number history (Restarts node.number) None no_load) logged
-    by history logged keeps (inl was) =
-        inl (read_is objects node.number history entries logged keeps.keeps (rest logged was))
-    by history logged keeps (inr of) =
-        inr (of.keeps history (ended objects node.number history keeps.through)
-        (read_is objects node.number history entries of.before keeps.keeps
-        (rest of.before of.might)))

@@ -2,7 +2,8 @@
 use Rattle.std.proofs.Common.{◌≡◌, ◌⊎◌, inl, inr, ℕ, ◌+◌, ◌-◌, ◌≤◌, ◌<◌, eqb, Bool, true, false}
 use Rattle.std.proofs.Common.{if◌then◌else◌, List, [], ◌∷◌, ◌++◌, length, length-append, set, Some}
 use Rattle.std.proofs.Common.{None, refl, sym, ap, ◌∙◌, subst, arith}
-use Rattle.std.specs.Prelude.{reverse, slice_get}
+use Rattle.std.specs.Prelude.{map, reverse, slice_get}
+use Rattle.std.specs.List.{AllByRecursion}
 use Rattle.std.proofs.lemmas.Bool.{true≢false, ne_eqb, eq-eqb}
 use Rattle.std.proofs.lemmas.Bool.Decides.{eqb_tells}
 use Rattle.std.proofs.lemmas.List.{length-set, reverse-append}
@@ -16,24 +17,69 @@ use Rattle.cam_node.specs.Keeping.{IsLogOf, IsRestart}
 use Rattle.cam_node.specs.Log.{Logged}
 use Rattle.cam_runs.specs.Halts.{Halting}
 use Rattle.cam_runs.specs.Running.{has_number}
-use Rattle.cam_runs.specs.Standing.{Standing, Setting, ended_halt, put}
+use Rattle.cam_runs.specs.Standing.{Standing, Setting, Undecided, ended_halt, put, undecided_of}
+use Rattle.cam_runs.specs.UnderHalts.{IsUnderHalts}
+use Rattle.cam_runs.proofs.Undecided.{others_without, without_node}
 use Rattle.cam_script.specs.declared.Script.{Script}
 use Rattle.cam_histories.specs.InputLaws.{held_setting, halt_of}
 use Rattle.cam_histories.specs.Laws.{history_of}
 use Rattle.cam_histories.specs.LineLaws.{HasRestarted}
+use Rattle.cam_histories.specs.PutIn.{nameless}
 use Rattle.cam_histories.specs.Whole.{Site, IsWhole}
 use Rattle.cam_histories.proofs.HaltedLists.{halted_now, without}
 use Rattle.cam_histories.proofs.OneInput.{plain_put, put_plain}
 use Rattle.cam_histories.proofs.RestartedRun.{restarts_stand}
 use Rattle.cam_cluster.specs.Restarts.{with_restart}
-use Rattle.cam_cluster.specs.Works.{NodeFields, WorksFields, KeepsRun, sites_of}
-use Rattle.cam_cluster.proofs.PutKeeps.{as_many, sites_are, nodes_are, logs_moved}
+use Rattle.cam_cluster.specs.Works.{NodeFields, WorksFields, IsSentBefore, KeepsRun, open_halt}
+use Rattle.cam_cluster.specs.Works.{sites_of}
+use Rattle.cam_cluster.proofs.HaltsKept.{all_sent_still, open_without, others_all, others_open}
+use Rattle.cam_cluster.proofs.HaltsKept.{undecided_on}
+use Rattle.cam_cluster.proofs.NodeChanged.{KeepsNodes, kept_nodes, as_many, halts_are, nodes_are}
+use Rattle.cam_cluster.proofs.NodeChanged.{sites_are}
 
 one_longer : (t : List Event) (e : Event) → reverse t ++ e ∷ [] ≡ reverse (e ∷ t)
 one_longer t e = sym (reverse-append (e ∷ []) t)
 
+-- What is kept of a run, but for the node at a place: it restarts.
+pub record KeepsBut (script : Script) (st : Standing) (place : ℕ) (works : WorksFields)
+    (might : ℕ → Logged → Type 0) : Type 0 where
+  pub under : IsUnderHalts script st
+  pub kept : KeepsNodes script st place works might
+  pub eight : length works.halted ≡ 8
+  pub whole :
+      IsWhole script.objects st (sites_of works.nodes) works.outbox.net works.outbox.unput
+      works.halted
+  pub undecided :
+      open_without (place + 1) works.undecided
+      ≡ map open_halt (without_node (place + 1) st.undecided)
+  pub sent :
+      AllByRecursion (λ (u : Undecided). IsSentBefore (length st.running.trace) u.event.got)
+      (without_node (place + 1) st.undecided)
+  pub events : works.events ≡ reverse st.running.trace
+  pub all_marks : works.marks ≡ st.running.marks
+  pub few : length works.events + 1 < 1000000000
+
+-- the run in which the halt is lost, or there was none
+pub keeps_but : (script : Script) (st : Standing) (place : ℕ) (works : WorksFields)
+    (might : ℕ → Logged → Type 0) → length works.events + 1 < 1000000000
+    → KeepsRun script st works might → KeepsBut script st place works might
+keeps_but script st place works might few keeps = record {
+  under = keeps.under;
+  kept = kept_nodes script st place works might keeps;
+  eight = keeps.eight;
+  whole = keeps.whole;
+  undecided =
+      ap (open_without (place + 1)) keeps.undecided ∙ sym (others_open (place + 1) st.undecided);
+  sent =
+      others_all (λ (u : Undecided). IsSentBefore (length st.running.trace) u.event.got) (place + 1)
+      st.undecided keeps.sent;
+  events = keeps.events;
+  all_marks = keeps.all_marks;
+  few = few;
+}
+
 module _ (script : Script) (st : Standing) (place : ℕ) (works : WorksFields)
-    (might : ℕ → Logged → Type 0) (old : NodeFields) (keeps : KeepsRun script st works might)
+    (might : ℕ → Logged → Type 0) (old : NodeFields) (keeps : KeepsBut script st place works might)
     (there : slice_get works.nodes place ≡ Some old) (within : place < 8) (halts : Halting)
     (line : ℕ) (restarted : ℕ → Bool) (new : NodeFields) (may : ℕ → Logged → Type 0)
     (nodes : List NodeFields) (are : nodes ≡ set works.nodes place new)
@@ -41,7 +87,7 @@ module _ (script : Script) (st : Standing) (place : ℕ) (works : WorksFields)
     (others : (s : ℕ) (logged : Logged) → 1 ≤ s → (s ≡ place + 1 → ⊥) → may s logged
     → might s logged)
     (read : Logged) (event : Event) (letters : List Letter) (none_left : works.outbox.unput ≡ [])
-    (few : length works.events + 1 < 1000000000) (runs : new.halted ≡ false)
+    (runs : new.halted ≡ false)
     (none : halt_of (held_setting script.objects halts line restarted) (ended_halt st (place + 1))
     (Restarts (place + 1)) ≡ None)
     (is_log : IsLogOf script.objects (place + 1)
@@ -99,20 +145,27 @@ module _ (script : Script) (st : Standing) (place : ℕ) (works : WorksFields)
       by (inr n) e =
           (n.1, sym (ap (λ (b : Bool). if b then false else has_number st.halted m) n.0) ∙ e)
 
+  undecided_is : after.undecided ≡ without_node (place + 1) st.undecided
+  undecided_is = ap (λ (z : Standing). z.undecided) is
+
+  long : length after.running.trace ≡ length st.running.trace + 1
+  long = ap (λ (t : List Event). length t) has.trace ∙ omega arith
+
   pub restart_stands : KeepsRun script (with_restart script halts line restarted st (place + 1))
       (record {
         nodes = nodes;
         outbox = record { net = works.outbox.net; unput = letters };
         halted = set works.halted place false;
+        undecided = open_without (place + 1) works.undecided;
         events = works.events ++ event ∷ [];
         marks = works.marks;
       }) may
   restart_stands = record {
     under = has.under;
-    one_each = as_many script st place works might old keeps there new may nodes are objects others;
+    one_each = as_many script st place works might old keeps.kept there new may nodes are objects others;
     eight = length-set works.halted place false ∙ keeps.eight;
     nodes =
-        nodes_are script st place works might old keeps there new may nodes are objects others
+        nodes_are script st place works might old keeps.kept there new may nodes are objects others
         now_halted
         (runs ∙ sym (halted_is (place + 1) (omega arith)
         ∙ ap (λ (b : Bool). if b then false else is_halted works.halted (place + 1))
@@ -125,22 +178,33 @@ module _ (script : Script) (st : Standing) (place : ℕ) (works : WorksFields)
         u now_halted) (sym sent)
         (subst (λ (sites : List Site). IsWhole script.objects after sites works.outbox.net
         (letters_of new.site.node event.sent) now_halted)
-        (sites_are script st place works might old keeps there new may nodes are objects others)
+        (sites_are script st place works might old keeps.kept there new may nodes are objects others)
         (subst (λ (i : ℕ). IsWhole script.objects after (set (sites_of works.nodes) i new.site)
         works.outbox.net (letters_of new.site.node event.sent) (set works.halted i false)) back
         has.whole));
-    halted_logs = λ m low high said.
-        let away = still m said in
-        logs_moved script.objects m (history_of script.objects st.running.trace m)
-        (history_of script.objects after.running.trace m) (might m) (may m)
+    halts = λ q n at said.
+        halts_are script st place works might old keeps.kept there new may nodes are objects others
+        after (λ m is_still. let away = still m is_still in ((λ e. away.0 (sym e)), away.1))
+        (λ m low away. ap (λ h. map nameless h)
         (sym (ap (λ (t : List Event). history_of script.objects t m) has.trace
-        ∙ has.stepped.others m (λ e. away.0 (sym has.stepped.node ∙ e))))
-        (λ logged was. others m logged low (λ e. away.0 (sym e)) was)
-        (keeps.halted_logs m low high away.1);
+        ∙ has.stepped.others m (λ e. away (sym e ∙ has.stepped.node)))))
+        (λ m away. undecided_on script.objects st after m (event ∷ []) has.trace
+        (ap (undecided_of m) undecided_is
+        ∙ others_without (place + 1) m st.undecided (λ e. away (sym e))) keeps.under.placed)
+        q n at said;
+    undecided = keeps.undecided ∙ ap (λ (us : List Undecided). map open_halt us) (sym undecided_is);
+    sent =
+        subst (λ (z : ℕ × List Undecided).
+        AllByRecursion (λ (u : Undecided). IsSentBefore z.0 u.event.got) z.1)
+        (λ i. (sym long i, sym undecided_is i))
+        (all_sent_still (length st.running.trace) (length st.running.trace + 1) (omega arith)
+        (without_node (place + 1) st.undecided) keeps.sent);
     events =
         ap (λ (es : List Event). es ++ event ∷ []) keeps.events
         ∙ one_longer st.running.trace event
         ∙ ap (λ (t : List Event). reverse t) (sym has.trace);
     all_marks = keeps.all_marks ∙ ap (λ (z : Standing). z.running.marks) (sym is);
-    few = let more = length-append works.events (event ∷ []) in omega (arith, few, more);
+    few =
+        let few = keeps.few in
+        let more = length-append works.events (event ∷ []) in omega (arith, few, more);
   }

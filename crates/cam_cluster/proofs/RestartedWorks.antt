@@ -7,14 +7,12 @@ use Rattle.std.proofs.lemmas.List.{map-set}
 use Rattle.cam_type.specs.declared.ObjectDecl.{ObjectDecl}
 use Rattle.cam_event.specs.declared.Event.{Event}
 use Rattle.cam_event.specs.declared.Mark.{Mark}
-use Rattle.cam_event.specs.declared.Mark.TheVariants as marks
-use Rattle.cam_event.specs.Inputs.{Restarts}
-use Rattle.cam_event.specs.Loads.{no_load}
 use Rattle.cam_net.specs.Outbox.{OutboxFields}
 use Rattle.cam_net.specs.Waiting.{is_halted}
 use Rattle.cam_node.specs.declared.found.Restarted.{Restarted}
 use Rattle.cam_node.specs.Found.{HasRestarted, TellsWhich}
-use Rattle.cam_node.specs.Keeping.{IsHalt, IsLogOf, IsRestart, IsRestartHalt}
+use Rattle.cam_node.specs.Calls.{letters_of}
+use Rattle.cam_node.specs.Keeping.{IsLogOf, IsRestart}
 use Rattle.cam_node.specs.Log.{Logged}
 use Rattle.cam_node.specs.Opened.{logged_of}
 use Rattle.cam_runs.specs.Running.{has_number}
@@ -24,14 +22,17 @@ use Rattle.cam_histories.specs.Laws.{history_of}
 use Rattle.cam_histories.specs.Whole.{IsSiteOf}
 use Rattle.cam_histories.proofs.Sites.{site_at}
 use Rattle.cam_cluster.specs.declared.works.restart.Restart.TheVariants as ends
-use Rattle.cam_cluster.specs.Restarts.{HasRestartedAs, IsKnownHalt}
+use Rattle.cam_cluster.specs.declared.works.undecided.OpenHalt.{OpenHalt}
+use Rattle.cam_cluster.specs.OpenHalts.{events_found, halts_found, marks_found, open_halt_of}
+use Rattle.cam_cluster.specs.Restarts.{HasRestartedAs}
 use Rattle.cam_cluster.specs.Works.{NodeFields, WorksFields, KeepsRun, MayReadAt, sites_of}
-use Rattle.cam_cluster.proofs.PlacedNodes.{reads_elsewhere, reads_there, seen_there, taken_there}
+use Rattle.cam_cluster.proofs.PlacedNodes.{reads_elsewhere, seen_there, taken_there}
 use Rattle.cam_cluster.proofs.PutWorks.{seen}
 use Rattle.cam_cluster.proofs.RestartEnds.{found_none, nothing_sent}
-use Rattle.cam_cluster.proofs.RestartHalts.{restart_halts}
-use Rattle.cam_cluster.proofs.RestartReads.{IsReadOf, halts_so, read_is}
-use Rattle.cam_cluster.proofs.RestartStands.{restart_stands}
+use Rattle.cam_cluster.proofs.HaltFound.{found_kept, log_is}
+use Rattle.cam_cluster.proofs.HaltsKept.{open_without}
+use Rattle.cam_cluster.proofs.RestartReads.{IsReadOf, read_is}
+use Rattle.cam_cluster.proofs.RestartStands.{keeps_but, restart_stands}
 use Rattle.cam_cluster.proofs.WorksNodes.{site_there}
 
 -- the node at the place
@@ -57,13 +58,19 @@ module _ (script : Script) (st : Standing) (place : ℕ) (works : WorksFields)
       old.site.entries logged (site_here.stands awake).log.keeps read
 
 module _ {N : Type 0} (part : N → NodeFields) (tells : N → Bool) (may : N → Logged → Type 0)
-    (place line : ℕ) (nodes : List N) (o : OutboxFields) (h : List Bool) (e : List Event)
-    (m : List Mark) (old new : N) (there : place < length nodes) (within : place < 8)
-    (is_old : old ≡ get_or nodes place old) (now : List N) (set_is : now ≡ set nodes place new)
-    (objects : (part new).objects ≡ (part old).objects) (halted_at : Option Event)
+    (place : ℕ) (nodes : List N) (o : OutboxFields) (h : List Bool) (u : List OpenHalt)
+    (e : List Event) (m : List Mark) (old new : N) (there : place < length nodes)
+    (within : place < 8) (is_old : old ≡ get_or nodes place old) (now : List N)
+    (set_is : now ≡ set nodes place new) (objects : (part new).objects ≡ (part old).objects)
     (told : tells old ≡ true)
     (rest : (part old).halted ≡ false → (logged : Logged) → may old logged
     → IsReadOf (part old).site.entries logged) (none_left : o.unput ≡ []) where
+  abbrev works : WorksFields
+  works = seen part tells may nodes o h u e m
+
+  abbrev might : ℕ → Logged → Type 0
+  might = MayReadAt tells may nodes
+
   at : slice_get (map part nodes) place ≡ Some (part old)
   at = seen_there part nodes place old (taken_there nodes place old there is_old)
 
@@ -86,92 +93,99 @@ module _ {N : Type 0} (part : N → NodeFields) (tells : N → Bool) (may : N �
     reads = read;
   }
 
-  module _ (script : Script) (st : Standing)
-      (keeps : KeepsRun script st (seen part tells may nodes o h e m) (MayReadAt tells may nodes))
-    where
-      -- what is said over the node's objects and by its number is said over the script's
-      by_place : (P : List ObjectDecl → ℕ → Type 0) → P (part old).objects
-          (part old).site.node.number
-          → P script.objects (place + 1)
-      by_place P is =
-          subst (λ (xs : List ObjectDecl). P xs (place + 1))
-          (over script st place (seen part tells may nodes o h e m) (MayReadAt tells may nodes)
-          (part old) keeps at)
-          (subst (λ (s : ℕ). P (part old).objects s)
-          (site_here script st place (seen part tells may nodes o h e m) (MayReadAt tells may nodes)
-          (part old) keeps at).number is)
+  module _ (script : Script) (st : Standing) (keeps : KeepsRun script st works might) where
+    -- what is said over the node's objects and by its number is said over the script's
+    by_place : (P : List ObjectDecl → ℕ → Type 0) → P (part old).objects
+        (part old).site.node.number
+        → P script.objects (place + 1)
+    by_place P is =
+        subst (λ (xs : List ObjectDecl). P xs (place + 1))
+        (over script st place works might (part old) keeps at)
+        (subst (λ (s : ℕ). P (part old).objects s)
+        (site_here script st place works might (part old) keeps at).number is)
 
-      told_halted : is_halted h (place + 1) ≡ has_number st.halted (place + 1)
-      told_halted =
-          keeps.whole.network.stands.nodes (place + 1) (omega arith) (omega (arith, within))
+    told_halted : is_halted h (place + 1) ≡ has_number st.halted (place + 1)
+    told_halted =
+        keeps.whole.network.stands.nodes (place + 1) (omega arith) (omega (arith, within))
 
-      runs_awake : has_number st.halted (place + 1) ≡ false → (part old).halted ≡ false
-      runs_awake awake = (keeps.nodes place (part old) at).is_halted ∙ told_halted ∙ awake
+    runs_awake : has_number st.halted (place + 1) ≡ false → (part old).halted ≡ false
+    runs_awake awake = (keeps.nodes place (part old) at).is_halted ∙ told_halted ∙ awake
 
-      log_read : (r : Restarted) (logged : Logged) → may old logged
-          → TellsWhich (part old).objects (part old).site.node.number (part old).site.node halted_at
-          logged r.found
-          → (is_halted h (place + 1) ≡ true → r.found.event ≡ None)
-          → IsKnownHalt script st (place + 1) (part old).site.node halted_at
-          (MayReadAt tells may nodes (place + 1))
-          → (b : Bool) → has_number st.halted (place + 1) ≡ b
-          → IsLogOf script.objects (place + 1)
-          (history_of script.objects st.running.trace (place + 1)) logged
-      log_read r logged read which none known true halted =
-          found_none script.objects (place + 1)
-          (history_of script.objects st.running.trace (place + 1)) (part old).site.node halted_at
-          (MayReadAt tells may nodes (place + 1)) logged r.found (known halted) (reads logged read)
-          (by_place (λ xs s. TellsWhich xs s (part old).site.node halted_at logged r.found) which)
-          (none (told_halted ∙ halted))
-      log_read r logged read which none known false awake =
-          read_awake script st place (seen part tells may nodes o h e m) (MayReadAt tells may nodes)
-          (part old) keeps at logged awake (rest (runs_awake awake) logged read)
+    log_read : (r : Restarted) (logged : Logged) → may old logged
+        → TellsWhich (part old).objects (part old).site.node.number (part old).site.node
+        (part old).halted_at logged r.found
+        → (is_halted h (place + 1) ≡ true → r.found.event ≡ None)
+        → (b : Bool) → has_number st.halted (place + 1) ≡ b
+        → IsLogOf script.objects (place + 1)
+        (history_of script.objects st.running.trace (place + 1)) logged
+    log_read r logged read which none true halted =
+        found_none script.objects st.running.trace st.undecided (place + 1) (part old)
+        (might (place + 1)) logged r.found (keeps.halts place (part old) at halted)
+        (reads logged read)
+        (by_place (λ xs s. TellsWhich xs s (part old).site.node (part old).halted_at logged
+        r.found) which)
+        (none (told_halted ∙ halted))
+    log_read r logged read which none false awake =
+        read_awake script st place works might (part old) keeps at logged awake
+        (rest (runs_awake awake) logged read)
 
-  pub restarted_in : (r : Restarted) → length e + 1 < 1000000000 → (part new).halted ≡ false
-      → HasRestarted (part old).objects (part old).site.node.number (tells old) (may old)
-      (part old).site.node halted_at (part new).site.node (part new).site.entries r
-      → r.stepped.letters ≡ [] → (is_halted h (place + 1) ≡ true → r.found.event ≡ None)
-      → HasRestartedAs line place (part old).site.node halted_at (seen part tells may nodes o h e m)
-      (MayReadAt tells may nodes) ends.Stood
-      (seen part tells may now (record { net = o.net; unput = r.stepped.letters })
-      (set h place false) (e ++ r.stepped.event ∷ []) m) (MayReadAt tells may now)
-  restarted_in r few runs has no_letters none script st halts restarted is keeps known stands =
-      restart_stands script st place (seen part tells may nodes o h e m)
-      (MayReadAt tells may nodes) (part old) keeps at within halts line restarted (part new)
-      (MayReadAt tells may now) (map part now) are objects others
-      (logged_of has.left.recovered) r.stepped.event r.stepped.letters none_left few runs stands
-      (log_read script st keeps r (logged_of has.left.recovered) (has.was told) has.tells_which none
-      known (has_number st.halted (place + 1)) refl)
-      (by_place script st keeps (λ xs s. IsRestart xs s (logged_of has.left.recovered)
-      (part new).site.node (part new).site.entries r.stepped.event) has.restart)
-      (nothing_sent (part new).site.node r.stepped.event.sent r.stepped.letters no_letters
-      (ap (λ (x : Event). x.sent) has.event))
+  module _ (r : Restarted) (runs : (part new).halted ≡ false)
+      (has : HasRestarted (part old).objects (part old).site.node.number (tells old) (may old)
+      (part old).site.node (part old).halted_at (part new).site.node (part new).site.entries r)
+      (no_letters : r.stepped.letters ≡ []) where
+    abbrev logged : Logged
+    logged = logged_of has.left.recovered
 
-  pub failed_in : (part new).halted ≡ true
-      → (part new).site.node.number ≡ (part old).site.node.number
-      → IsRestartHalt (part old).objects (part old).site.node.number (may old) (may new)
-      → HasRestartedAs line place (part old).site.node halted_at (seen part tells may nodes o h e m)
-      (MayReadAt tells may nodes) ends.Halted
-      (seen part tells may now o (set h place true) e
-      (m ++ marks.Halted line (place + 1) false ∷ [])) (MayReadAt tells may now)
-  failed_in stops same_number halt script st halts restarted is keeps awake lost =
-      restart_halts script st place (seen part tells may nodes o h e m)
-      (MayReadAt tells may nodes) (part old) keeps at within awake halts line restarted (part new)
-      (MayReadAt tells may now) (map part now) are objects others none_left stops lost same_number
-      (record {
-        either = λ history logged node_keeps may_then read.
-            let own = reads_there tells may nodes place new logged there
-            (subst (λ (ns : List N). MayReadAt tells may ns (place + 1) logged) set_is read) in
-            (by_place script st keeps (λ xs s. IsHalt xs (part old).site.node
-            (part old).site.entries (Restarts s) None no_load (may new))
-            (halts_so (part old).objects (part old).site.node (part old).site.entries (may old)
-            (may new) (rest (runs_awake script st keeps awake)) halt)).either history logged
-            node_keeps may_then own.1;
-      })
+    sent : r.stepped.letters ≡ letters_of (part new).site.node r.stepped.event.sent
+    sent =
+        nothing_sent (part new).site.node r.stepped.event.sent r.stepped.letters no_letters
+        (ap (λ (x : Event). x.sent) has.event)
 
-  pub found_in : is_halted h (place + 1) ≡ true → (new_works : WorksFields)
-      (new_may : ℕ → Logged → Type 0)
-      → HasRestartedAs line place (part old).site.node halted_at (seen part tells may nodes o h e m)
-      (MayReadAt tells may nodes) ends.Found new_works new_may
-  found_in stops new_works new_may script st is keeps =
-      sym (told_halted script st keeps) ∙ stops
+    pub restarted_in : length e + 1 < 1000000000
+        → (is_halted h (place + 1) ≡ true → r.found.event ≡ None)
+        → HasRestartedAs place works might ends.Stood
+        (seen part tells may now (record { net = o.net; unput = r.stepped.letters })
+        (set h place false) (open_without (place + 1) u) (e ++ r.stepped.event ∷ []) m)
+        (MayReadAt tells may now)
+    restarted_in few none script st halts line restarted is keeps stands =
+        restart_stands script st place works might (part old)
+        (keeps_but script st place works might few keeps) at within halts line restarted (part new)
+        (MayReadAt tells may now) (map part now) are objects others logged r.stepped.event
+        r.stepped.letters none_left runs stands
+        (log_read script st keeps r logged (has.was told) has.tells_which none
+        (has_number st.halted (place + 1)) refl)
+        (by_place script st keeps (λ xs s. IsRestart xs s logged (part new).site.node
+        (part new).site.entries r.stepped.event) has.restart)
+        sent
+
+    pub found_in : (event : Event) → length e + 2 < 1000000000 → is_halted h (place + 1) ≡ true
+        → r.found.event ≡ Some event
+        → HasRestartedAs place works might ends.Found
+        (seen part tells may now (record { net = o.net; unput = r.stepped.letters })
+        (set h place false)
+        (open_without (place + 1) (halts_found (place + 1) (open_halt_of (place + 1) u) u))
+        (events_found (open_halt_of (place + 1) u) event e ++ r.stepped.event ∷ [])
+        (marks_found (place + 1) (open_halt_of (place + 1) u) m))
+        (MayReadAt tells may now)
+    found_in event few stops says = record {
+      halted = λ script st is keeps. sym (told_halted script st keeps) ∙ stops;
+      stands = λ script st found k before taken halts line restarted is keeps under beyond stands.
+          let which = by_place script st keeps (λ xs s. TellsWhich xs s (part old).site.node
+          (part old).halted_at logged r.found) has.tells_which in
+          let read = reads logged (has.was told) in
+          restart_stands script found place
+          (record works {
+            undecided = halts_found (place + 1) (open_halt_of (place + 1) u) u;
+            events = events_found (open_halt_of (place + 1) u) event e;
+            marks = marks_found (place + 1) (open_halt_of (place + 1) u) m;
+          }) might (part old)
+          (found_kept script st found place k before taken works might keeps under beyond
+          (part old) at logged r.found event read says which few) at within halts line restarted
+          (part new) (MayReadAt tells may now) (map part now) are objects others logged
+          r.stepped.event r.stepped.letters none_left runs stands
+          (log_is script st found place k before taken works might keeps under beyond (part old) at
+          logged r.found event read says which)
+          (by_place script st keeps (λ xs s. IsRestart xs s logged (part new).site.node
+          (part new).site.entries r.stepped.event) has.restart)
+          sent;
+    }

@@ -1,7 +1,6 @@
 -- The line `restart`.
 use Rattle.std.proofs.Common.{◌≡◌, ◌-◌, ◌++◌, ◌∷◌, [], None, Err, ap, ◌∙◌, arith, rules}
 use Rattle.std.specs.Prelude.{slice_get}
-use Rattle.cam_node.specs.Calls.{answers}
 use Rattle.cam_cluster.proofs.AsSeen.{lines_of, part, reads_of, works_of}
 use Rattle.cam_cluster.proofs.BeginEnds.{begin_within}
 use Rattle.cam_cluster.proofs.BegunLine.{unput_may_be_written}
@@ -45,7 +44,7 @@ returns-in_err-reserve_one g c =
     record {
       line =
           each_there _ c.args.self.now.works.nodes.items (c.args.node - 1) (λ node at told.
-          restart_wanting c.args.line c.args.node (answers node.core) node.halted_at
+          restart_wanting c.args.node
           (record { works = works; bound = c.args.self.now.bound.items })
           (record { works = works; bound = c.reserve_one.new.list.items }) reads reads
           c.from_residual.result c.in_err-reserve_one.field-0.0 wants
@@ -63,7 +62,7 @@ returns-in_err-done g c =
     record {
       line =
           each_there _ c.args.self.now.works.nodes.items (c.args.node - 1) (λ node at told.
-          restart_wanting c.args.line c.args.node (answers node.core) node.halted_at
+          restart_wanting c.args.node
           (record { works = works; bound = c.args.self.now.bound.items })
           (record { works = now; bound = c.reserve_one.new.list.items }) reads reads_now
           c.from_residual-in_err-done.result c.in_err-done.field-0.0 wants
@@ -81,8 +80,8 @@ returns g c =
     record {
       line =
           some_so (slice_get c.args.self.now.works.nodes.items (c.args.node - 1)) _ _
-          (λ node has told. restart_ended c.args.line (c.args.node - 1) c.args.node
-          (let low = c.requires.low in omega (arith, low)) (answers node.core) node.halted_at
+          (λ node has told. restart_ended (c.args.node - 1) c.args.node
+          (let low = c.requires.low in omega (arith, low))
           (record { works = works; bound = c.args.self.now.bound.items })
           (record { works = now; bound = c.push_reserved.new.list.items }) reads reads_now
           (c.push_reserved.ensures ∙ ap (λ bs. bs ++ None ∷ []) c.reserve_one.ensures.same)

@@ -2,7 +2,7 @@
 use Rattle.std.proofs.Common.{ap, ◌∙◌}
 use Rattle.cam_node.specs.Calls.{answers}
 use Rattle.cam_cluster.proofs.DiskChanges.{stays_reads}
-use Rattle.cam_cluster.proofs.RestartReads.{err_so, halt_was, ok_so, restarted_was}
+use Rattle.cam_cluster.proofs.RestartReads.{ok_so, restarted_was}
 use Rattle.cam_cluster.proofs.works.restart.restart_cleared.Goals as goal
 
 pub returns-clause-restarted : goal.returns-clause-restarted
@@ -20,20 +20,8 @@ returns-clause-letters g c = c.restart.ensures.letters
 pub returns-clause-runs : goal.returns-clause-runs
 returns-clause-runs g c = c.restart.ensures.runs
 
-pub returns-clause-halted : goal.returns-clause-halted
-returns-clause-halted g c = c.restart.ensures.halted
-
-pub returns-clause-core : goal.returns-clause-core
-returns-clause-core g c =
-    err_so c.restart.result _ _ (λ same. same ∙ c.clear.ensures.core) c.restart.ensures.core
-
-pub returns-clause-failed : goal.returns-clause-failed
-returns-clause-failed g c = λ told.
-    let is = c.clear.ensures in
-    err_so c.restart.result _ _
-    (λ halt. halt_was _ _ _ _ _ _ _ is.objects (ap (λ core. core.number) is.core)
-    (λ logged read. stays_reads _ _ _ _ _ _ _ _ logged is.stays read) halt)
-    (c.restart.ensures.failed (is.tells ∙ told))
+pub returns-clause-goes_on : goal.returns-clause-goes_on
+returns-clause-goes_on g c = c.restart.ensures.goes_on
 
 pub returns-clause-tells : goal.returns-clause-tells
 returns-clause-tells g c = c.restart.ensures.tells ∙ c.clear.ensures.tells
