@@ -1,0 +1,7 @@
+mod Putting
+mod Topping
+mod Replying
+mod Voting
+mod Gaining
+mod Asking
+mod Searching

@@ -1,0 +1,9 @@
+pub mod Actions
+pub mod Tops
+pub mod Children
+pub mod Replies
+pub mod Votes
+pub mod Depending
+pub mod Told
+pub mod Own
+pub mod Whole

@@ -1,0 +1,12 @@
+-- What is kept of the deeds of all nodes.
+use Rattle.std.specs.Prelude.{List}
+use Rattle.cam_type.specs.declared.ObjectDecl.{ObjectDecl}
+use Rattle.cam_event.specs.declared.Deed.{Deed}
+use Rattle.cam_live.specs.Ledger.{Keeps}
+use Rattle.cam_own.specs.declared.whole.Whole.{Whole}
+use Rattle.cam_own.specs.Depending.{KeepsDeps}
+
+-- The tables have what these deeds say.
+pub record KeepsWhole (objects : List ObjectDecl) (L : List Deed) (whole : Whole) : Type 0 where
+  pub ledger : Keeps objects L whole.ledger
+  pub depending : KeepsDeps objects L whole.depending

@@ -1,0 +1,166 @@
+//! What is kept of the deeds of all nodes together: calls, live operations, and what actions depend on.
+ghost use Rattle.std.specs.Prelude.{◌≡◌, ◌∷◌, [], ℕ, List, filter, find, eqb, ◌&&◌, IfOk, OnOk};
+ghost use Rattle.std.specs.List.{list_any};
+ghost use Rattle.cam_names.specs.Names as names;
+ghost use Rattle.cam_names.specs.Names.{name_eq};
+ghost use Rattle.cam_type.specs.Moss.{conflicts};
+ghost use Rattle.cam_type.specs.Objects.{site_of};
+ghost use Rattle.cam_type.specs.Table.{answer_of};
+ghost use Rattle.cam_type.specs.declared.ObjectDecl.{ObjectDecl};
+ghost use Rattle.cam_event.specs.declared.Deed.{Deed as DeedValue};
+ghost use Rattle.cam_event.specs.Gained.{deps};
+ghost use Rattle.cam_event.specs.Live.{live_at, lift, start_of, replay};
+ghost use Rattle.cam_event.specs.Sights.{Entry};
+ghost use Rattle.cam_own.specs.Depending.{nodes_of};
+ghost use Rattle.cam_own.specs.Own.{KeepsOwn};
+ghost use Rattle.cam_own.specs.Whole.{KeepsWhole};
+
+use crate::depending::{Depending, nodes_in, note_gain};
+use crate::own::Own;
+use cam_base::NoMemory;
+use cam_event::{Deed, Operation};
+use cam_live::{Ledger, Operations, value_after};
+use cam_names::{Deps, Name};
+use cam_type::{Answer, Objects, Op, apply, compatible, mode_of, site_of};
+use std::alloc::Global;
+
+/// What is kept of the deeds of all nodes.
+#[derive(Drop)]
+pub struct Whole {
+    ledger: Ledger,
+    depending: Depending,
+}
+
+impl Whole {
+    /// Nothing has happened.
+    pub fn new(alloc: Global) -> Whole
+        ensures { (objects : List ObjectDecl) → KeepsWhole objects [] result }
+    {
+        Whole {
+            ledger: Ledger::new(alloc),
+            depending: Depending::new(alloc),
+        }
+    }
+
+    /// Takes one more deed over.
+    pub fn note(&mut self, objects: &Objects, deed: &Deed) -> Result<(), NoMemory>
+        ensures { OnOk result ((L : List DeedValue) → KeepsWhole objects.now L self.old
+            → KeepsWhole objects.now (deed.now ∷ L) self.new) }
+    {
+        note_gain(&mut self.depending, objects, &self.ledger, deed)?;
+        self.ledger.note(objects, deed)
+    }
+
+    /// The nodes on which an action depends, each at count 1.
+    pub fn nodes(&self, action: &Name) -> Deps
+        ensures { (objects : List ObjectDecl) (L : List DeedValue) → KeepsWhole objects L self.now
+            → result ≡ nodes_of (deps objects L action.now) }
+    {
+        // A name has a part.
+        prove!(action.depth() > 0);
+        nodes_in(&self.depending, action)
+    }
+
+    /// The live operations of a site.
+    pub fn live_at(
+        &self,
+        alloc: Global,
+        objects: &Objects,
+        site: u8,
+    ) -> Result<Operations, NoMemory>
+        ensures { IfOk result (λ live. (L : List DeedValue) → KeepsWhole objects.now L self.now
+            → live ≡ live_at objects.now L site) }
+    {
+        let live = self.ledger.live(alloc, objects)?;
+        at_site(alloc, objects, &live, site)
+    }
+}
+
+/// Those of the operations that are at a site.
+fn at_site(
+    alloc: Global,
+    objects: &Objects,
+    operations: &Operations,
+    site: u8,
+) -> Result<Operations, NoMemory>
+    ensures { IfOk result (λ here. here
+        ≡ filter (λ o. eqb (site_of objects.now o.object) site) operations.now) }
+{
+    let mut here = Operations::new(alloc);
+    for operation in operations.as_slice() {
+        if site_of(objects, operation.object) == site {
+            here.push_copy(operation)?;
+        }
+    }
+    Ok(here)
+}
+
+/// Whether an operation with this lift conflicts with an op of an action.
+fn conflicts(action: &Name, op: &Op, lift: &Option<Name>, done: &Op) -> bool
+    ensures { result ≡ conflicts action.now op.now lift.now done.now }
+{
+    match lift {
+        None => false,
+        Some(lift) => !lift.is_ancestor(action) && !compatible(mode_of(done), mode_of(op)),
+    }
+}
+
+/// Whether an operation is on the object and conflicts with an op of an action, by its lift at a node.
+fn is_conflict(own: &Own, action: &Name, object: u8, op: &Op, operation: &Operation) -> bool
+    ensures { (objects : List ObjectDecl) (s : ℕ) (L : List DeedValue) (E : List Entry)
+        → KeepsOwn objects s L E own.now
+        → result ≡ (eqb operation.now.object object
+        && conflicts action.now op.now (lift L s operation.now.action) operation.now.op) }
+{
+    operation.object == object
+        && conflicts(action, op, &own.lift(&operation.action), &operation.op)
+}
+
+/// The first of the operations on the object that conflicts with an op of an action, by their lifts at a
+/// node.
+pub fn conflict(
+    own: &Own,
+    operations: &Operations,
+    action: &Name,
+    object: u8,
+    op: &Op,
+) -> Option<Operation>
+    ensures { (objects : List ObjectDecl) (s : ℕ) (L : List DeedValue) (E : List Entry)
+        → KeepsOwn objects s L E own.now
+        → result ≡ find (λ o. conflicts action.now op.now (lift L s o.action) o.op)
+        (filter (λ o. eqb o.object object) operations.now) }
+{
+    for operation in operations.as_slice() {
+        if is_conflict(own, action, object, op, operation) {
+            return Some(*operation);
+        }
+    }
+    None
+}
+
+/// What an op answers at the value of an object that these operations leave.
+pub fn answer(
+    objects: &Objects,
+    operations: &Operations,
+    object: u8,
+    op: &Op,
+) -> Result<Answer, NoMemory>
+    ensures { IfOk result (λ answer. answer ≡ answer_of
+        (replay (start_of objects.now object) (filter (λ o. eqb o.object object) operations.now))
+        op.now) }
+{
+    let mut state = value_after(objects, object as usize, operations)?;
+    apply(&mut state, op)
+}
+
+/// Whether one of the operations is of the family.
+pub fn has_family(operations: &Operations, family: &Name) -> bool
+    ensures { result ≡ list_any (λ o. name_eq family.now (names.family o.action)) operations.now }
+{
+    for operation in operations.as_slice() {
+        if *family == operation.action.family() {
+            return true;
+        }
+    }
+    false
+}
