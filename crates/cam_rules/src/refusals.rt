@@ -1,11 +1,12 @@
 //! What stands against a request, a query or an expiry, if anything does.
-ghost use Rattle.std.specs.Prelude.{◌≡◌, nat_le, length};
+ghost use Rattle.std.specs.Prelude.{◌≡◌, nat_le, length, IfOk};
 ghost use Rattle.cam_event.specs.declared.LineRefusal.TheVariants as refusal_names;
 ghost use Rattle.cam_event.specs.Refusals as refusals;
 ghost use Rattle.cam_event.specs.Sights.{knows_outcome};
 
 use crate::families::knows_outcome;
 use crate::sighted::Sighted;
+use cam_base::NoMemory;
 use cam_event::{LineRefusal, Want};
 use cam_names::Name;
 
@@ -93,14 +94,18 @@ pub fn refusal<S: Sighted>(here: &S, action: &Name, want: &Want) -> Option<LineR
 
 /// What stands against a query of a node after a family: the node knows how it ended, or has neither
 /// secured it nor a live operation of it.
-pub fn query_refusal<S: Sighted>(here: &S, family: &Name) -> Option<LineRefusal>
+pub fn query_refusal<S: Sighted>(
+    here: &S,
+    family: &Name,
+) -> Result<Option<LineRefusal>, NoMemory>
     requires { S.stands here.now }
-    ensures { result ≡ refusals.query_refusal (S.sight here.now) family.now }
+    ensures { IfOk result (λ refusal.
+        refusal ≡ refusals.query_refusal (S.sight here.now) family.now) }
 {
-    if knows_outcome(here, family) || !(here.is_secured(family) || here.has_live_of(family)) {
-        Some(LineRefusal::NothingToDo)
+    if knows_outcome(here, family) || !(here.is_secured(family) || here.has_live_of(family)?) {
+        Ok(Some(LineRefusal::NothingToDo))
     } else {
-        None
+        Ok(None)
     }
 }
 
