@@ -53,8 +53,16 @@ impl<D: Disk> Ckpt<D> {
         ensures time { IsTrue (D.tells disk)
             → IfOk result (λ log. D.moment disk ≤ ⟦<Ckpt<D> as EntryLog>⟧.moment log) }
         ensures later { IfOk result (λ log. D.faults disk ≤ ⟦<Ckpt<D> as EntryLog>⟧.faults log) }
+        ensures faults_within { IfOk result
+            (λ log. D.faults_within disk ≤ ⟦<Ckpt<D> as EntryLog>⟧.faults_within log) }
         ensures disk_fault { IfErr result (λ refused. refused.fault ≡ DiskFault
             → Rose (D.faults disk) (D.faults refused.disk)) }
+        // A disk that does all calls fails by a call that it did.
+        ensures failed_within { D.passes disk ≡ None → IfErr result (λ refused.
+            refused.fault ≡ DiskFault
+            → Rose (D.faults_within disk) (D.faults_within refused.disk)) }
+        ensures within_later { IfErr result
+            (λ refused. D.faults_within disk ≤ D.faults_within refused.disk) }
         ensures is_a_log { IfErr result (λ refused. (at : ℕ) → refused.fault ≡ NotALog at → ⊥) }
         ensures refused_later { IfErr result (λ refused. D.faults disk ≤ D.faults refused.disk) }
         ensures refused_tells { IfErr result (λ refused. D.tells refused.disk ≡ D.tells disk) }
@@ -133,6 +141,8 @@ impl<D: Disk> Ckpt<D> {
         ensures reads { read_ckpt (D.seen result) ≡ ⟦<Ckpt<D> as EntryLog>⟧.reads self }
         ensures passes { D.passes result ≡ ⟦<Ckpt<D> as EntryLog>⟧.passes self }
         ensures faults { D.faults result ≡ ⟦<Ckpt<D> as EntryLog>⟧.faults self }
+        ensures faults_within { D.faults_within result
+            ≡ ⟦<Ckpt<D> as EntryLog>⟧.faults_within self }
     {
         self.disk
     }

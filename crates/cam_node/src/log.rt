@@ -50,6 +50,9 @@ fn append_version<L: EntryLog>(alloc: Global, log: &mut L) -> Result<(), NodeFau
     ensures tells { L.tells log.new ≡ L.tells log.old }
     ensures later { L.faults log.old ≤ L.faults log.new }
     ensures disk_fault { IsErrOf result DiskFault → Rose (L.faults log.old) (L.faults log.new) }
+    ensures within_later { L.faults_within log.old ≤ L.faults_within log.new }
+    ensures failed_within { L.passes log.old ≡ None → IsErrOf result DiskFault
+        → Rose (L.faults_within log.old) (L.faults_within log.new) }
 {
     let mut records = Records::new(alloc);
     records.push(Record::Version)?;
@@ -73,8 +76,16 @@ impl<D: Disk> NodeLog<Ckpt<D>> {
             (λ node. D.moment disk ≤ ⟦<Ckpt<D> as EntryLog>⟧.moment node.log) }
         ensures later { IfOk result
             (λ node. D.faults disk ≤ ⟦<Ckpt<D> as EntryLog>⟧.faults node.log) }
+        ensures faults_within { IfOk result
+            (λ node. D.faults_within disk ≤ ⟦<Ckpt<D> as EntryLog>⟧.faults_within node.log) }
         ensures disk_fault { IfErr result (λ refused. refused.fault ≡ DiskFault
             → Rose (D.faults disk) (D.faults refused.disk)) }
+        // A disk that does all calls fails by a call that it did.
+        ensures failed_within { D.passes disk ≡ None → IfErr result (λ refused.
+            refused.fault ≡ DiskFault
+            → Rose (D.faults_within disk) (D.faults_within refused.disk)) }
+        ensures within_later { IfErr result
+            (λ refused. D.faults_within disk ≤ D.faults_within refused.disk) }
         ensures refused_later { IfErr result (λ refused. D.faults disk ≤ D.faults refused.disk) }
         ensures refused_tells { IfErr result (λ refused. D.tells refused.disk ≡ D.tells disk) }
     {
@@ -108,6 +119,8 @@ impl<D: Disk> NodeLog<Ckpt<D>> {
         ensures reads { read_ckpt (D.seen result) ≡ ⟦<Ckpt<D> as EntryLog>⟧.reads self.log }
         ensures passes { D.passes result ≡ ⟦<Ckpt<D> as EntryLog>⟧.passes self.log }
         ensures faults { D.faults result ≡ ⟦<Ckpt<D> as EntryLog>⟧.faults self.log }
+        ensures faults_within { D.faults_within result
+            ≡ ⟦<Ckpt<D> as EntryLog>⟧.faults_within self.log }
     {
         self.log.into_disk()
     }

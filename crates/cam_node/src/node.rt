@@ -68,8 +68,17 @@ impl<D: Disk> Node<Ckpt<D>> {
             (λ node. D.moment disk ≤ ⟦<Ckpt<D> as EntryLog>⟧.moment node.log.log) }
         ensures later { IfOk result
             (λ node. D.faults disk ≤ ⟦<Ckpt<D> as EntryLog>⟧.faults node.log.log) }
+        ensures faults_within { IfOk result
+            (λ node. D.faults_within disk
+            ≤ ⟦<Ckpt<D> as EntryLog>⟧.faults_within node.log.log) }
         ensures disk_fault { IfErr result (λ refused. refused.fault ≡ DiskFault
             → Rose (D.faults disk) (D.faults refused.disk)) }
+        // A disk that does all calls fails by a call that it did.
+        ensures failed_within { D.passes disk ≡ None → IfErr result (λ refused.
+            refused.fault ≡ DiskFault
+            → Rose (D.faults_within disk) (D.faults_within refused.disk)) }
+        ensures within_later { IfErr result
+            (λ refused. D.faults_within disk ≤ D.faults_within refused.disk) }
         ensures refused_later { IfErr result (λ refused. D.faults disk ≤ D.faults refused.disk) }
         ensures refused_tells { IfErr result (λ refused. D.tells refused.disk ≡ D.tells disk) }
     {
@@ -106,6 +115,8 @@ impl<D: Disk> Node<Ckpt<D>> {
         ensures reads { read_ckpt (D.seen result) ≡ ⟦<Ckpt<D> as EntryLog>⟧.reads self.log.log }
         ensures passes { D.passes result ≡ ⟦<Ckpt<D> as EntryLog>⟧.passes self.log.log }
         ensures faults { D.faults result ≡ ⟦<Ckpt<D> as EntryLog>⟧.faults self.log.log }
+        ensures faults_within { D.faults_within result
+            ≡ ⟦<Ckpt<D> as EntryLog>⟧.faults_within self.log.log }
     {
         self.log.into_disk()
     }
