@@ -172,7 +172,7 @@ module _ (script : Script) (st : Standing) (place : ℕ) (input : Input) (mail :
           ∙ (λ i. record {
             node = sym put_so.at i;
             before = (ap (λ (es : List Event). length es) keeps.events
-            ∙ length-reverse st.running.trace) i;
+                ∙ length-reverse st.running.trace) i;
             got = sym is_got i;
           } ∷ map open_halt st.undecided)
 

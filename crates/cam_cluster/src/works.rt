@@ -218,10 +218,10 @@ impl<L: CheckpointLog> Works<L> {
         ensures nodes { self.new.nodes ≡ self.old.nodes }
         ensures halted { self.new.halted ≡ set self.old.halted place true }
         ensures undecided { self.new.undecided.items ≡ record {
-            node = place + 1;
-            before = length self.old.events.events.items;
-            got = got;
-          } ∷ self.old.undecided.items }
+          node = place + 1;
+          before = length self.old.events.events.items;
+          got = got;
+        } ∷ self.old.undecided.items }
         ensures events { self.new.events ≡ self.old.events }
         ensures marks { self.new.marks.items ≡ self.old.marks.items ++ marks.Halted line (place + 1) false ∷ [] }
         ensures outbox { self.new.outbox ≡ self.old.outbox }

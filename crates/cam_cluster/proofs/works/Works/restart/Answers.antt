@@ -1,6 +1,6 @@
 -- A node is restarted.
 use Rattle.std.proofs.Common.{◌≡◌, ◌<◌, ◌+◌, ◌++◌, ◌∷◌, [], false, Some, None, length, set}
-use Rattle.std.proofs.Common.{refl, sym, ap, ◌∙◌, subst, arith, rules}
+use Rattle.std.proofs.Common.{sym, ap, ◌∙◌, subst, arith, rules}
 use Rattle.std.specs.Prelude.{slice_get, vec_len}
 use Rattle.std.proofs.lemmas.Grind.{common_steps}
 use Rattle.cam_net.specs.Waiting.{is_halted}
