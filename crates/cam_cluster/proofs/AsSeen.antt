@@ -18,6 +18,10 @@ part g h node = record {
   objects = node.objects;
   halted = node.log.halted;
   halted_at = node.halted_at;
+  passes = h.passes node.log.log;
+  reads = h.reads node.log.log;
+  tells = h.tells node.log.log;
+  failures = h.faults_within node.log.log;
 }
 
 abbrev pub tells_of : {X : Type 0} (g : CkptGhosts X) (h : LogGhosts X) → Node X g h → Bool
@@ -30,7 +34,7 @@ reads_at g h node = MayRead (h.opens_since node.log.log) (h.moment node.log.log)
 abbrev pub works_of : {X : Type 0} (g : CkptGhosts X) (h : LogGhosts X) → Works X g h → WorksFields
 works_of g h works =
     seen (part g h) (tells_of g h) (reads_at g h) works.nodes.items works.outbox works.halted
-    works.undecided.items works.events.events.items works.marks.items
+    works.starved works.undecided.items works.events.events.items works.marks.items
 
 abbrev pub reads_of : {X : Type 0} (g : CkptGhosts X) (h : LogGhosts X) → Works X g h
     → ℕ → Logged → Type 0

@@ -5,6 +5,8 @@ use Rattle.std.proofs.Common.{true≢false, Option, Some, None, ◌-◌}
 use Rattle.std.proofs.lemmas.List.{length-map}
 use Rattle.std.proofs.lemmas.Option.{same_Some, slice_get_past}
 use Rattle.std.specs.Option.{unwrap_or}
+use Rattle.std.specs.List.{AllByRecursion}
+use Rattle.cam_log.specs.Spent.{Spent}
 use Rattle.std.specs.Prelude.{Result, IfOk, IsFalse, slice_get}
 use Rattle.cam_type.specs.declared.ObjectDecl.{ObjectDecl}
 use Rattle.cam_net.specs.Waiting.{is_halted}
@@ -38,15 +40,16 @@ pub new_node : {N E : Type 0} (part : N → NodeFields) (result : Result N E)
     → IfOk result (λ n. KeepsNode own [] (part n).site.node (part n).site.entries)
     → IfOk result (λ n. (part n).site.node.number ≡ s)
     → IfOk result (λ n. (part n).objects ≡ own)
-    → IfOk result (λ n. IsFalse (part n).halted)
+    → IfOk result (λ n. IsFalse (part n).halted) → IfOk result (λ n. (part n).passes ≡ None)
     → IfOk result (λ n. IsNewNode objects s (part n))
-new_node part (Ok n) own objects s same keeps number over running = record {
+new_node part (Ok n) own objects s same keeps number over running passes = record {
   over = over ∙ same;
   running = running;
   number = number;
   stands = stands_new own objects s (part n).site same number keeps;
+  passes = passes;
 }
-new_node part (Err e) own objects s same keeps number over running = tt
+new_node part (Err e) own objects s same keeps number over running passes = tt
 
 -- one node more, the last
 pub new_behind : {N : Type 0} (part : N → NodeFields) (objects : List ObjectDecl) (s at : ℕ)
@@ -56,6 +59,23 @@ new_behind part objects s at [] node place new last =
     (subst (λ k. IsNewNode objects k (part node)) (omega (arith, place)) last, tt)
 new_behind part objects s at (n ∷ nodes) node place new last =
     (new.0, new_behind part objects (s + 1) at nodes node (omega (arith, place)) new.1 last)
+
+-- a disk that is not stopped is not stopped after some calls
+pub none_spent : {N E : Type 0} (passes : N → Option ℕ) (result : Result N E) (calls : ℕ)
+    (before : Option ℕ) → before ≡ None → IfOk result (λ n. Spent calls before (passes n))
+    → IfOk result (λ n. passes n ≡ None)
+none_spent passes (Ok n) calls before none spent =
+    subst (λ (o : Option ℕ). Spent calls o (passes n)) none spent
+none_spent passes (Err e) calls before none spent = tt
+
+-- of disks the last, and those before it
+pub fresh_parts : {D : Type 0} (P : D → Type 0) (disks all : List D) (disk : D)
+    → all ≡ disks ++ disk ∷ [] → AllByRecursion P all → P disk × AllByRecursion P disks
+fresh_parts {D = D} P disks all disk is each = by disks (subst (AllByRecursion P) is each)
+  where
+    by : (xs : List D) → AllByRecursion P (xs ++ disk ∷ []) → P disk × AllByRecursion P xs
+    by [] last = (last.0, tt)
+    by (x ∷ xs) more = let rest = by xs more.1 in (rest.0, (more.0, rest.1))
 
 -- one disk more, the last
 pub back_behind : {D : Type 0} (tells : D → Bool) (faults_of : D → ℕ) (fault : ClusterFault)
@@ -209,6 +229,16 @@ module _ {N : Type 0} (part : N → NodeFields) (objects : List ObjectDecl) wher
         is_halted = later.is_halted ∙ awake (place + 1) ∙ sym (awake (suc place + 1));
       }
 
+passes_none : {N : Type 0} (part : N → NodeFields) (objects : List ObjectDecl) (s : ℕ)
+    (nodes : List N) (place : ℕ) (node : NodeFields) → AreNewNodes part objects s nodes
+    → slice_get (map part nodes) place ≡ Some node → node.passes ≡ None
+passes_none part objects s [] place node new at =
+    absurd (none_is_not node (sym (slice_get_past [] place (omega arith)) ∙ at))
+passes_none part objects s (n ∷ nodes) zero node new at =
+    subst (λ (x : NodeFields). x.passes ≡ None) (same_Some (part n) node at) new.0.passes
+passes_none part objects s (n ∷ nodes) (suc place) node new at =
+    passes_none part objects (s + 1) nodes place node new.1 at
+
 -- They keep what a cluster keeps before its first line.
 pub new_keeps : {N : Type 0} (part : N → NodeFields) (script : Script) (nodes : List N)
     (may_read : ℕ → Logged → Type 0) → IsScript script
@@ -233,6 +263,13 @@ new_keeps part script nodes may_read is new many = record {
       events = refl;
       all_marks = refl;
       few = omega arith;
+      stops = λ all. record {
+        said = λ s away. refl;
+        each = λ place node at away. record {
+          awake = λ runs. passes_none part script.objects 1 nodes place node new at;
+          by_stop = λ is_halted. absurd (true≢false (sym is_halted));
+        };
+      };
     };
     variables = refl;
   };

@@ -186,7 +186,7 @@ module _ (line : ℕ) (old new : WorksFields) (might may : ℕ → Logged → Ty
           stands = record {
             runs =
                 keeps_others script (drain c st) (after_line st line (Led (drain c st) None)) new
-                new.marks may (record { trace = refl; lost = refl; delivered = refl }) refl refl
+                new.marks may (record { trace = refl; lost = refl; delivered = refl }) refl refl refl
                 so.stands.all_marks
                 (next_leads script st (record { line = line; act = acts.Drain }) halts later is
                 keeps.runs.under next) so.stands;

@@ -145,7 +145,7 @@ module _ (line v : ℕ) (bodies : List (List Statement)) (old new : LinesFields)
                 runs =
                     keeps_others script now (after_line st line (Led now None)) new.works
                     new.works.marks may
-                    (record { trace = refl; lost = refl; delivered = refl }) refl refl
+                    (record { trace = refl; lost = refl; delivered = refl }) refl refl refl
                     (gone.runs ends).all_marks
                     (subst (λ (p : Passed). IsUnderHalts script (after_line st line p)) passes
                     (next_leads script st (record { line = line; act = acts.Go v }) halts later

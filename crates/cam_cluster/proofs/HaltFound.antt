@@ -33,6 +33,10 @@ use Rattle.cam_cluster.specs.declared.works.undecided.OpenHalt.{OpenHalt}
 use Rattle.cam_cluster.specs.OpenHalts.{events_found, halts_found, marks_found, open_beside}
 use Rattle.cam_cluster.specs.OpenHalts.{open_halt_of, put_in_at, taken_with}
 use Rattle.cam_cluster.specs.Works.{IsHaltOf, IsSentBefore, KeepsRun, NodeFields, WorksFields, open_halt}
+use Rattle.std.proofs.lemmas.Bool.{eq-eqb, true≢false}
+use Rattle.cam_runs.specs.Halts.{Turn, calls_left}
+use Rattle.cam_cluster.specs.Stopping.{IsAsStopped, stopped_at}
+use Rattle.cam_cluster.proofs.StoppedWorks.{stopped_alike}
 use Rattle.cam_cluster.proofs.HaltsKept.{halt_stays, open_without, others_all, others_open}
 use Rattle.cam_cluster.proofs.PutInWorks.{beside_open, beside_sent, newest_open, put_in_reversed}
 use Rattle.cam_cluster.proofs.PutInWorks.{run_sent, sent_front}
@@ -72,6 +76,9 @@ module _ (script : Script) (st found : Standing) (place : ℕ) (k : ℕ) (before
 
   halted_are : found.halted ≡ st.halted
   halted_are = ap (λ (z : Standing). z.halted) beyond.stands.is
+
+  turns_are : found.turns ≡ st.turns
+  turns_are = ap (λ (z : Standing). z.turns) beyond.stands.is
 
   undecided_are : found.undecided ≡ undecided_beside s p st.undecided
   undecided_are = ap (λ (z : Standing). z.undecided) beyond.stands.is
@@ -199,4 +206,21 @@ module _ (script : Script) (st found : Standing) (place : ℕ) (k : ℕ) (before
             let old = ap (λ (es : List Event). length es) keeps.events
             ∙ length-reverse st.running.trace in
             omega (arith, room, many, more, old);
+        stops = λ all.
+            let was = keeps.stops all in record {
+              said = λ m away.
+                  subst (λ (z : List ℕ × List Turn). IsAsStopped (has_number z.0 m) z.1 m)
+                  (λ i. (sym halted_are i, sym turns_are i)) (was.said m refl);
+              each = λ q n at away.
+                  let off : s ≡ q + 1 → ⊥ =
+                  λ is. true≢false (sym (eq-eqb s (q + 1) is) ∙ away) in
+                  stopped_alike script.objects st.running.trace found.running.trace st.halted
+                  found.halted st.turns found.turns (q + 1) n
+                  (other_histories_stay script.objects s (q + 1) before e st found beyond.stands
+                  off)
+                  (ap (λ (hs : List ℕ). has_number hs (q + 1)) halted_are)
+                  (ap (λ (ts : List Turn). calls_left ts (q + 1)) turns_are)
+                  (ap (λ (ts : List Turn). stopped_at ts (q + 1)) turns_are)
+                  (was.each q n at refl);
+            };
       }

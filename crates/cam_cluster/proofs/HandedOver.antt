@@ -92,6 +92,7 @@ counts_as_delivered script st works may number low high keeps = record {
   events = keeps.events;
   all_marks = keeps.all_marks;
   few = keeps.few;
+  stops = keeps.stops;
 }
 
 -- A letter is handed over.

@@ -16,7 +16,7 @@ use Rattle.cam_node.specs.Log.{Logged}
 use Rattle.cam_node.specs.declared.Input.{Input as NodeInput}
 use Rattle.cam_node.specs.declared.Input.TheVariants as inputs
 use Rattle.cam_node.specs.Calls.{input_of}
-use Rattle.cam_runs.specs.Halts.{appends}
+use Rattle.cam_runs.specs.Halts.{Turn, appends}
 use Rattle.cam_runs.specs.HaltedLines.{Refused, after_line}
 use Rattle.cam_runs.specs.Requests.{newest_deeds}
 use Rattle.cam_runs.specs.Running.{has_number}
@@ -32,15 +32,15 @@ use Rattle.cam_cluster.specs.Puts.{HasPut, KeepsAsBefore, as_halt}
 use Rattle.cam_cluster.specs.SoFar.{HasLed, HasRefused, KeepsLinesAsBefore, after_put}
 use Rattle.cam_cluster.specs.SoFar.{IsBinding, bound_by}
 use Rattle.cam_cluster.specs.Works.{WorksFields, IsHaltOf, IsSentBefore, KeepsRun, open_halt}
-use Rattle.cam_cluster.specs.Works.{sites_of}
+use Rattle.cam_cluster.specs.Works.{AreStopped, sites_of}
 
 -- Where neither events nor letters nor halted nodes change, works that have the marks keep the run.
 pub keeps_others : (script : Script) (old new : Standing) (works : WorksFields) (ms : List Mark)
     (may : ℕ → Logged → Type 0)
     → IsSameFlight old new → new.halted ≡ old.halted → new.undecided ≡ old.undecided
-    → ms ≡ new.running.marks → IsUnderHalts script new → KeepsRun script old works may
+    → new.turns ≡ old.turns → ms ≡ new.running.marks → IsUnderHalts script new → KeepsRun script old works may
     → KeepsRun script new (record works { marks = ms }) may
-keeps_others script old new works ms may same halted undecided marked under keeps = record {
+keeps_others script old new works ms may same halted undecided turns marked under keeps = record {
   under = under;
   one_each = keeps.one_each;
   eight = keeps.eight;
@@ -61,6 +61,9 @@ keeps_others script old new works ms may same halted undecided marked under keep
   events = keeps.events ∙ ap (λ (t : List Event). reverse t) (sym same.trace);
   all_marks = marked;
   few = keeps.few;
+  stops = λ all.
+      subst (λ (z : List Event × List ℕ × List Turn). AreStopped script.objects z.0 z.1 z.2
+      works.nodes) (λ i. (sym same.trace i, sym halted i, sym turns i)) (keeps.stops all);
 }
 
 -- what an input made, by whether it is a halt
@@ -130,7 +133,7 @@ led_by line place input old new might may bound now binds done has binding is_no
     restarted is keeps put_so halts_so under = record {
       runs =
           keeps_others script after (after_put input st after) new new.marks may
-          (record { trace = refl; lost = refl; delivered = refl }) refl refl runs.all_marks under
+          (record { trace = refl; lost = refl; delivered = refl }) refl refl refl runs.all_marks under
           runs;
       variables =
           is_now
@@ -161,7 +164,7 @@ pub refused_by : (line : ℕ) (refusal : LineRefusal) (works : WorksFields) (ms 
 refused_by line refusal works ms may bound now is_marks is_now script st keeps under = record {
   runs =
       keeps_others script st (after_line st line (Refused refusal)) works ms may
-      (record { trace = refl; lost = refl; delivered = refl }) refl refl
+      (record { trace = refl; lost = refl; delivered = refl }) refl refl refl
       (is_marks ∙ ap (λ (x : List Mark). x ++ marks.Refused line refusal ∷ []) keeps.runs.all_marks)
       under keeps.runs;
   variables = is_now ∙ ap (λ (bs : List (Option Name)). bs ++ None ∷ []) keeps.variables;

@@ -98,7 +98,7 @@ led_letter line number old new might may bound now done has is_now script st hal
     keeps numbered halt under = record {
       runs =
           keeps_others script after (after_line st line (Led after None)) new new.marks may
-          (record { trace = refl; lost = refl; delivered = refl }) refl refl runs.all_marks under runs;
+          (record { trace = refl; lost = refl; delivered = refl }) refl refl refl runs.all_marks under runs;
       variables =
           is_now
           ∙ ap (λ (bs : List (Option Name)). bs ++ None ∷ [])
@@ -123,7 +123,7 @@ pub marked_cut : (line number bytes : ℕ) (works : WorksFields) (ms : List Mark
 marked_cut line number bytes works ms may bound now is_marks is_now script st keeps under = record {
   runs =
       keeps_others script st (after_line st line (Led (with_cut line number bytes st) None)) works ms
-      may (record { trace = refl; lost = refl; delivered = refl }) refl refl
+      may (record { trace = refl; lost = refl; delivered = refl }) refl refl refl
       (is_marks
       ∙ ap (λ (x : List Mark). x ++ marks.Cut line number Short bytes ∷ []) keeps.runs.all_marks)
       under keeps.runs;

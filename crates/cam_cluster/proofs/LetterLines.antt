@@ -176,6 +176,7 @@ lost_keeps script st works may number keeps none_left has = record {
   events = keeps.events;
   all_marks = keeps.all_marks;
   few = keeps.few;
+  stops = keeps.stops;
 }
   where
     lost : IsUnderHalts script (lose st number) × IsWhole script.objects (lose st number)
@@ -232,7 +233,7 @@ module _ (line number : ℕ) (old : LinesFields) (might mays : ℕ → Logged �
                   keeps_others script (lose st number)
                   (after_line st line (Led (lose st number) None)) lost_now.works
                   lost_now.works.marks mays
-                  (record { trace = refl; lost = refl; delivered = refl }) refl refl
+                  (record { trace = refl; lost = refl; delivered = refl }) refl refl refl
                   kept.runs.all_marks
                   (comes_under_way script st halts later line number (acts.Lose number)
                   (record { works = works; bound = bound }) mays is kept next

@@ -94,7 +94,7 @@ led_at_work script st now line works may workers bound under keeps is_bound = re
   lines = record {
     runs =
         keeps_others script now (after_line st line (Led now None)) works works.marks may
-        (record { trace = refl; lost = refl; delivered = refl }) refl refl keeps.runs.all_marks under
+        (record { trace = refl; lost = refl; delivered = refl }) refl refl refl keeps.runs.all_marks under
         keeps.runs;
     variables = is_bound;
   };

@@ -1,6 +1,12 @@
 -- How an input ends that is put to a node, by what the node's step says.
-use Rattle.std.proofs.Common.{◌≡◌, ℕ, ◌+◌, ◌≤◌, ◌<◌, Bool, true, false, List, [], ◌∷◌, ◌++◌, length}
-use Rattle.std.proofs.Common.{set, Some, None, refl, subst}
+use Rattle.std.proofs.Common.{◌≡◌, ◌⊎◌, ℕ, ◌+◌, ◌≤◌, ◌<◌, Bool, true, false, List, [], ◌∷◌, ◌++◌, length}
+use Rattle.std.proofs.Common.{set, Some, None, refl, ap, ◌∙◌, subst}
+use Rattle.std.proofs.lemmas.Option.{slice_get_within}
+use Rattle.cam_base.specs.Causes.{Rose}
+use Rattle.cam_commit.specs.Steps.{is_restarting}
+use Rattle.cam_event.specs.Inputs.{node_of}
+use Rattle.cam_log.specs.CutOff.{IsCutOff}
+use Rattle.cam_node.specs.Appending.{HasAppended, OpensAfter}
 use Rattle.std.specs.Prelude.{slice_get}
 use Rattle.cam_type.specs.declared.ObjectDecl.{ObjectDecl}
 use Rattle.cam_event.specs.declared.Event.{Event}
@@ -19,10 +25,21 @@ use Rattle.cam_runs.specs.Standing.{Standing, put}
 use Rattle.cam_script.specs.declared.Script.{Script}
 use Rattle.cam_histories.specs.InputLaws.{held_setting, halt_of}
 use Rattle.cam_cluster.specs.Puts.{IsPutAt, letter_of}
-use Rattle.cam_cluster.specs.Works.{NodeFields, WorksFields, KeepsRun}
+use Rattle.cam_cluster.specs.Works.{NodeFields, WorksFields, KeepsRun, IsUnfailingNode}
 use Rattle.cam_cluster.proofs.PutNode.{over, number}
 use Rattle.cam_cluster.proofs.PutStands.{stood}
 use Rattle.cam_cluster.proofs.PutHalts.{halted}
+use Rattle.cam_cluster.proofs.StoppedPuts.{halted_stops, stood_stops}
+use Rattle.cam_cluster.proofs.StoppedWorks.{unfailing_there}
+use Rattle.cam_cluster.proofs.WorksNodes.{at_set}
+
+-- no input that is put is a restart
+pub goes_on : (s : ℕ) (input : NodeInput) → is_restarting (input_of s input) ≡ false
+goes_on s inputs.Begin = refl
+goes_on s (inputs.Request request) = refl
+goes_on s (inputs.Letter id letter) = refl
+goes_on s (inputs.Tell to) = refl
+goes_on s (inputs.Query family) = refl
 
 -- the letter of an input
 pub got_is : (s : ℕ) (input : NodeInput) → got_of (input_of s input) ≡ letter_of input
@@ -61,17 +78,21 @@ module _ (script : Script) (st : Standing) (place : ℕ) (input : NodeInput) (wo
       → KeepsOn old.objects old.site.node old.site.entries new.site.node new.site.entries
       (input_of old.site.node.number input) (mail_of input) (load_of input) event
       → letters ≡ letters_of new.site.node event.sent
+      → (IsUnfailingNode new → IsUnfailingNode old)
+      → HasAppended old.objects old.site.node (input_of old.site.node.number input) (mail_of input)
+      (load_of input) event old.site.entries new.site.entries old.passes new.passes
       → KeepsRun script
       (put (held_setting script.objects halts line restarted) st (input_of (place + 1) input))
       (record {
         nodes = nodes;
         outbox = record { net = works.outbox.net; unput = letters };
         halted = works.halted;
+        starved = works.starved;
         undecided = works.undecided;
         events = works.events ++ event ∷ [];
         marks = works.marks;
       }) may
-  put_stood event letters none_left few runs none step on sent =
+  put_stood event letters none_left few runs none step on sent less appended =
       stood script st place (input_of (place + 1) input) (mail_of input) (load_of input) works might
       old keeps put_so there within halts line restarted new may nodes are objects others event
       letters none_left few runs none
@@ -80,6 +101,13 @@ module _ (script : Script) (st : Standing) (place : ℕ) (input : NodeInput) (wo
       (by_place (λ xs s. KeepsOn xs old.site.node old.site.entries new.site.node new.site.entries
       (input_of s input) (mail_of input) (load_of input) event) on)
       sent
+      (stood_stops script st place (input_of (place + 1) input) (mail_of input) (load_of input)
+      works might old keeps put_so there new nodes are line
+      (restarted (node_of st.running.trace (input_of (place + 1) input))) less event
+      (by_place (λ xs s. IsStepThrough xs old.site.node new.site.node (input_of s input)
+      (mail_of input) (load_of input) event) step)
+      (by_place (λ xs s. HasAppended xs old.site.node (input_of s input) (mail_of input)
+      (load_of input) event old.site.entries new.site.entries old.passes new.passes) appended))
 
   pub put_halted : works.outbox.unput ≡ [] → new.halted ≡ true
       → halt_of (held_setting script.objects halts line restarted) st (input_of (place + 1) input)
@@ -89,12 +117,19 @@ module _ (script : Script) (st : Standing) (place : ℕ) (input : NodeInput) (wo
       (mail_of input) (load_of input) (may (place + 1))
       → HaltsAt old.objects old.site.node old.site.entries (input_of old.site.node.number input)
       (mail_of input) (load_of input) new.site.node new.halted_at
+      → (starved : Bool) → (starved ≡ false → works.starved ≡ false)
+      → (IsUnfailingNode new → IsUnfailingNode old)
+      → (starved ≡ false → new.tells ≡ true → Rose old.failures new.failures
+      ⊎ IsCutOff 4 old.passes new.passes (λ calls. OpensAfter calls old.objects old.site.node
+      old.site.entries (input_of old.site.node.number input) (mail_of input) (load_of input)
+      new.reads))
       → KeepsRun script
       (put (held_setting script.objects halts line restarted) st (input_of (place + 1) input))
       (record {
         nodes = nodes;
         outbox = works.outbox;
         halted = set works.halted place true;
+        starved = starved;
         undecided = record {
           node = place + 1;
           before = length works.events;
@@ -103,7 +138,7 @@ module _ (script : Script) (st : Standing) (place : ℕ) (input : NodeInput) (wo
         events = works.events;
         marks = works.marks ++ marks.Halted line (place + 1) false ∷ [];
       }) may
-  put_halted none_left stops lost same halt at_event =
+  put_halted none_left stops lost same halt at_event starved fed less cause =
       halted script st place (input_of (place + 1) input) (mail_of input) (load_of input) works might
       old keeps put_so there within halts line restarted new may nodes are objects others none_left
       stops lost same
@@ -111,4 +146,17 @@ module _ (script : Script) (st : Standing) (place : ℕ) (input : NodeInput) (wo
       (mail_of input) (load_of input) (may (place + 1))) halt)
       (by_place (λ xs s. HaltsAt xs old.site.node old.site.entries (input_of s input)
       (mail_of input) (load_of input) new.site.node new.halted_at) at_event)
+      starved
+      (halted_stops script st place (input_of (place + 1) input) (mail_of input) (load_of input)
+      works might old keeps put_so there new nodes are line
+      (restarted (node_of st.running.trace (input_of (place + 1) input))) less starved fed
+      (goes_on (place + 1) input)
+      (by_place (λ xs s. HaltsAt xs old.site.node old.site.entries (input_of s input)
+      (mail_of input) (load_of input) new.site.node new.halted_at) at_event)
+      (by_place (λ xs s. starved ≡ false → new.tells ≡ true → Rose old.failures new.failures
+      ⊎ IsCutOff 4 old.passes new.passes (λ calls. OpensAfter calls xs old.site.node
+      old.site.entries (input_of s input) (mail_of input) (load_of input) new.reads)) cause)
+      (λ all. unfailing_there starved nodes place new
+      (ap (λ (ns : List NodeFields). slice_get ns place) are
+      ∙ at_set works.nodes place new (slice_get_within works.nodes place old there)) all))
       (letter_of input) (got_is (place + 1) input)

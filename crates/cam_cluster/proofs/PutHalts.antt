@@ -19,6 +19,7 @@ use Rattle.cam_node.specs.Found.{HaltsAt}
 use Rattle.cam_node.specs.Keeping.{IsHalt, KeepsNode}
 use Rattle.cam_node.specs.Log.{Logged}
 use Rattle.cam_runs.specs.Halts.{Halting, appends}
+use Rattle.cam_runs.specs.Halts.{Input as InputTurn}
 use Rattle.cam_runs.specs.Running.{has_number}
 use Rattle.cam_runs.specs.Standing.{Standing, Setting, Undecided, after_input, put}
 use Rattle.cam_runs.specs.UnderHalts.{IsUnderHalts}
@@ -34,6 +35,7 @@ use Rattle.cam_histories.proofs.UndecidedBeside.{newest_other}
 use Rattle.cam_cluster.specs.Puts.{IsPutAt}
 use Rattle.cam_cluster.specs.declared.works.undecided.OpenHalt.{OpenHalt}
 use Rattle.cam_cluster.specs.Works.{NodeFields, WorksFields, IsHaltOf, KeepsRun}
+use Rattle.cam_cluster.specs.Works.{AreStopped, IsUnfailing}
 use Rattle.cam_cluster.specs.Works.{open_halt, sites_of}
 use Rattle.cam_cluster.proofs.HaltsKept.{halt_stays, undecided_on}
 use Rattle.cam_cluster.proofs.NodeChanged.{KeepsNodes, kept_nodes, as_many, nodes_are}
@@ -85,6 +87,10 @@ module _ (script : Script) (st : Standing) (place : ℕ) (input : Input) (mail :
       (halt : IsHalt script.objects old.site.node old.site.entries input mail load (may (place + 1)))
       (halts_at : HaltsAt script.objects old.site.node old.site.entries input mail load
       new.site.node new.halted_at)
+      (starved : Bool)
+      (stops_so : IsUnfailing starved nodes
+      → AreStopped script.objects st.running.trace (r ∷ st.halted)
+      (InputTurn r line (appends c.reading st.running.trace input) (restarted r) ∷ st.turns) nodes)
     where
       abbrev behind : Standing
       behind = after_input line (restarted r) st r (c.reading.next st.running.trace input)
@@ -181,6 +187,7 @@ module _ (script : Script) (st : Standing) (place : ℕ) (input : Input) (mail :
             nodes = nodes;
             outbox = works.outbox;
             halted = now_halted;
+            starved = starved;
             undecided = record {
               node = place + 1;
               before = length works.events;
@@ -208,6 +215,7 @@ module _ (script : Script) (st : Standing) (place : ℕ) (input : Input) (mail :
             ap (λ (ms : List Mark). ms ++ marks.Halted line (place + 1) false ∷ []) keeps.all_marks
             ∙ ap (λ (s : ℕ). st.running.marks ++ marks.Halted line s false ∷ []) (sym put_so.at);
         few = keeps.few;
+        stops = stops_so;
       }
 
       pub halted : (got : Option LetterId) → got_of input ≡ got
@@ -216,6 +224,7 @@ module _ (script : Script) (st : Standing) (place : ℕ) (input : Input) (mail :
             nodes = nodes;
             outbox = works.outbox;
             halted = set works.halted place true;
+            starved = starved;
             undecided = record {
               node = place + 1;
               before = length works.events;
@@ -230,6 +239,7 @@ module _ (script : Script) (st : Standing) (place : ℕ) (input : Input) (mail :
             nodes = nodes;
             outbox = works.outbox;
             halted = set works.halted place true;
+            starved = starved;
             undecided = record {
               node = place + 1;
               before = length works.events;

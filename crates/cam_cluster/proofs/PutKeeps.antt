@@ -27,11 +27,12 @@ use Rattle.cam_histories.specs.Whole.{KeepsInOrder, StandsAt, IsSiteOf, AreSites
 use Rattle.cam_histories.proofs.ManyPut.{all_may_be_written, some_put_stand}
 use Rattle.cam_histories.proofs.Sites.{site_at, sites_with}
 use Rattle.cam_cluster.specs.Works.{NodeFields, WorksFields, IsHaltOf, IsNodeOf, KeepsRun}
-use Rattle.cam_cluster.specs.Works.{sites_of}
+use Rattle.cam_cluster.specs.Works.{IsUnfailingNode, no_node, sites_of}
 use Rattle.cam_cluster.proofs.HaltsKept.{undecided_on}
 use Rattle.cam_cluster.proofs.NodeChanged.{KeepsNodes, kept_nodes, as_many, halts_are, nodes_are}
 use Rattle.cam_cluster.proofs.NodeChanged.{sites_are}
 use Rattle.cam_cluster.proofs.SameNode.{same_represents}
+use Rattle.cam_cluster.proofs.StoppedWorks.{nodes_stopped, unfailing_before}
 use Rattle.cam_cluster.proofs.WorksNodes.{set_tells, site_there, sites_set}
 
 -- Letters that were to be put next are put.
@@ -62,6 +63,7 @@ keeps_as_put script st works now may is some keeps = record {
   events = keeps.events;
   all_marks = keeps.all_marks;
   few = keeps.few;
+  stops = keeps.stops;
 }
 
 -- One node of works has changed, with its disk alone.
@@ -78,7 +80,8 @@ module _ (script : Script) (st : Standing) (place : ℕ) (works : WorksFields)
   -- It answers as before, and its log lists what it listed.
   module _ (within : place < 8) (ran : old.halted ≡ false) (runs : new.halted ≡ false)
       (same : AreSame old.site.node new.site.node)
-      (entries : new.site.entries ≡ old.site.entries) where
+      (entries : new.site.entries ≡ old.site.entries) (passes : new.passes ≡ old.passes)
+      (less : IsUnfailingNode new → IsUnfailingNode old) where
     awake : has_number st.halted (place + 1) ≡ false
     awake =
         sym (keeps.whole.network.stands.nodes (place + 1) (omega arith) (omega (arith, within)))
@@ -149,4 +152,16 @@ module _ (script : Script) (st : Standing) (place : ℕ) (works : WorksFields)
       events = keeps.events;
       all_marks = keeps.all_marks;
       few = keeps.few;
+      stops = λ all.
+          let before = keeps.stops
+          (unfailing_before works.starved works.nodes nodes place old new there are less all) in
+          nodes_stopped script.objects st.running.trace st.running.trace st.halted st.halted
+          st.turns st.turns place works.nodes nodes old new there are (λ m away. refl)
+          (λ m away. refl) (λ m away. refl) (λ m away. refl) no_node (λ m away. refl)
+          (λ s. before.said s refl)
+          (record {
+            awake = λ still. passes ∙ (before.each place old there refl).awake still;
+            by_stop = λ said. absurd (true≢false (sym said ∙ awake));
+          })
+          before;
     }

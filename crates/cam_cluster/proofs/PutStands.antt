@@ -13,7 +13,9 @@ use Rattle.cam_node.specs.Calls.{letters_of}
 use Rattle.cam_node.specs.Halting.{IsStepThrough}
 use Rattle.cam_node.specs.Keeping.{KeepsNode, KeepsOn}
 use Rattle.cam_node.specs.Log.{Logged}
-use Rattle.cam_runs.specs.Halts.{Halting}
+use Rattle.cam_event.specs.Readings.{by_knowledge}
+use Rattle.cam_runs.specs.Halts.{Halting, appends}
+use Rattle.cam_runs.specs.Halts.{Input as InputTurn}
 use Rattle.cam_runs.specs.Running.{has_number}
 use Rattle.cam_runs.specs.Standing.{Standing, Setting, put}
 use Rattle.cam_runs.specs.UnderHalts.{IsUnderHalts}
@@ -26,7 +28,7 @@ use Rattle.cam_histories.specs.Whole.{Site, KeepsInOrder, IsWhole}
 use Rattle.cam_histories.proofs.OneInput.{inputs_lead_on, inputs_stand, plain_put, put_plain}
 use Rattle.cam_histories.proofs.OneInput.{other_history}
 use Rattle.cam_cluster.specs.Puts.{IsPutAt}
-use Rattle.cam_cluster.specs.Works.{NodeFields, WorksFields, KeepsRun}
+use Rattle.cam_cluster.specs.Works.{NodeFields, WorksFields, KeepsRun, AreStopped, IsUnfailing}
 use Rattle.cam_cluster.specs.Works.{sites_of}
 use Rattle.cam_cluster.proofs.WorksNodes.{site_there}
 use Rattle.cam_cluster.proofs.NodeChanged.{KeepsNodes, kept_nodes, as_many, halts_are, nodes_are}
@@ -80,7 +82,12 @@ module _ (script : Script) (st : Standing) (place : ℕ) (input : Input) (mail :
       (step : IsStepThrough script.objects old.site.node new.site.node input mail load event)
       (on : KeepsOn script.objects old.site.node old.site.entries new.site.node new.site.entries
       input mail load event)
-      (sent : letters ≡ letters_of new.site.node event.sent) where
+      (sent : letters ≡ letters_of new.site.node event.sent)
+      (stops_so : IsUnfailing works.starved nodes
+      → AreStopped script.objects
+      ((by_knowledge script.objects).next st.running.trace input ∷ st.running.trace) st.halted
+      (InputTurn r line (appends (by_knowledge script.objects) st.running.trace input) (restarted r)
+      ∷ st.turns) nodes) where
     abbrev behind : Standing
     behind = plain_put script c st input
 
@@ -116,6 +123,7 @@ module _ (script : Script) (st : Standing) (place : ℕ) (input : Input) (mail :
           nodes = nodes;
           outbox = record { net = works.outbox.net; unput = letters };
           halted = works.halted;
+          starved = works.starved;
           undecided = works.undecided;
           events = works.events ++ event ∷ [];
           marks = works.marks;
@@ -150,6 +158,7 @@ module _ (script : Script) (st : Standing) (place : ℕ) (input : Input) (mail :
           ∙ ap (λ (e : Event). reverse (e ∷ st.running.trace)) has.stepped.held;
       all_marks = keeps.all_marks;
       few = let more = length-append works.events (event ∷ []) in omega (arith, few, more);
+      stops = stops_so;
     }
 
     pub stood : KeepsRun script (put c st input)
@@ -157,6 +166,7 @@ module _ (script : Script) (st : Standing) (place : ℕ) (input : Input) (mail :
           nodes = nodes;
           outbox = record { net = works.outbox.net; unput = letters };
           halted = works.halted;
+          starved = works.starved;
           undecided = works.undecided;
           events = works.events ++ event ∷ [];
           marks = works.marks;
@@ -167,6 +177,7 @@ module _ (script : Script) (st : Standing) (place : ℕ) (input : Input) (mail :
           nodes = nodes;
           outbox = record { net = works.outbox.net; unput = letters };
           halted = works.halted;
+          starved = works.starved;
           undecided = works.undecided;
           events = works.events ++ event ∷ [];
           marks = works.marks;

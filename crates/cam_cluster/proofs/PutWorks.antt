@@ -1,9 +1,11 @@
 -- What an input makes of works, by what each call of theirs leaves of their parts.
-use Rattle.std.proofs.Common.{◌≡◌, ℕ, ◌+◌, ◌≤◌, ◌<◌, Bool, true, false, List, [], ◌∷◌, ◌++◌}
+use Rattle.std.proofs.Common.{◌≡◌, ◌⊎◌, ℕ, ◌+◌, ◌≤◌, ◌<◌, Bool, true, false, List, [], ◌∷◌, ◌++◌}
 use Rattle.std.proofs.Common.{length, length-append, get_or, set, take, Some, sym, ap, ◌∙◌, subst}
 use Rattle.std.proofs.Common.{arith}
 use Rattle.std.specs.Prelude.{map, slice_get}
 use Rattle.std.proofs.lemmas.List.{map-set}
+use Rattle.cam_base.specs.Causes.{Rose}
+use Rattle.cam_log.specs.CutOff.{IsCutOff}
 use Rattle.cam_event.specs.declared.Event.{Event}
 use Rattle.cam_event.specs.declared.Letter.{Letter}
 use Rattle.cam_event.specs.declared.Mark.{Mark}
@@ -12,6 +14,7 @@ use Rattle.cam_net.specs.Letters.{InFlightFields, put_as}
 use Rattle.cam_net.specs.Outbox.{OutboxFields, HasPutSome}
 use Rattle.cam_node.specs.declared.Input.{Input as NodeInput}
 use Rattle.cam_node.specs.Calls.{input_of, mail_of, load_of, letters_of, AreSame}
+use Rattle.cam_node.specs.Appending.{HasAppended, OpensAfter}
 use Rattle.cam_node.specs.Found.{HaltsAt}
 use Rattle.cam_node.specs.Halting.{IsStepThrough}
 use Rattle.cam_node.specs.Keeping.{IsHalt, KeepsOn}
@@ -22,6 +25,7 @@ use Rattle.cam_cluster.specs.declared.works.Put.TheVariants as puts
 use Rattle.cam_cluster.specs.declared.works.undecided.OpenHalt.{OpenHalt}
 use Rattle.cam_cluster.specs.Puts.{HasPut, KeepsAsBefore, letter_of}
 use Rattle.cam_cluster.specs.Works.{NodeFields, WorksFields, KeepsRun, MayReadAt}
+use Rattle.cam_cluster.specs.Works.{IsUnfailingNode}
 use Rattle.cam_cluster.proofs.PlacedNodes.{taken_there, seen_there, reads_elsewhere, reads_there}
 use Rattle.cam_cluster.proofs.PutKeeps.{keeps_as_put, keeps_as_before}
 use Rattle.cam_cluster.proofs.PutEnds.{put_stood, put_halted}
@@ -34,12 +38,13 @@ net_grows o later some =
     omega (arith, are)
 
 module _ {N : Type 0} (part : N → NodeFields) (tells : N → Bool) (may : N → Logged → Type 0) where
-  abbrev pub seen : List N → OutboxFields → List Bool → List OpenHalt → List Event → List Mark
-      → WorksFields
-  seen nodes outbox halted undecided events marks = record {
+  abbrev pub seen : List N → OutboxFields → List Bool → Bool → List OpenHalt → List Event
+      → List Mark → WorksFields
+  seen nodes outbox halted starved undecided events marks = record {
     nodes = map part nodes;
     outbox = outbox;
     halted = halted;
+    starved = starved;
     undecided = undecided;
     events = events;
     marks = marks;
@@ -47,33 +52,34 @@ module _ {N : Type 0} (part : N → NodeFields) (tells : N → Bool) (may : N �
 
   -- room was made: letters were put
   pub room_made : (nodes now : List N) (o later : OutboxFields) (h halted : List Bool)
-      (u undecided : List OpenHalt) (e events : List Event) (m marks : List Mark)
-      → now ≡ nodes → HasPutSome o later → halted ≡ h → undecided ≡ u → events ≡ e → marks ≡ m
-      → KeepsAsBefore (seen nodes o h u e m) (MayReadAt tells may nodes)
-      (seen now later halted undecided events marks) (MayReadAt tells may now)
-  room_made nodes now o later h halted u undecided e events m marks same some is_h is_u is_e is_m
-      script st is keeps =
-      subst (λ (z : List N × List Bool × List OpenHalt × List Event × List Mark).
-      KeepsRun script st (seen z.0 later z.1 z.2 z.3 z.4) (MayReadAt tells may z.0))
-      (λ i. (sym same i, sym is_h i, sym is_u i, sym is_e i, sym is_m i))
-      (keeps_as_put script st (seen nodes o h u e m) later (MayReadAt tells may nodes) is some
+      (v starved : Bool) (u undecided : List OpenHalt) (e events : List Event) (m marks : List Mark)
+      → now ≡ nodes → HasPutSome o later → halted ≡ h → starved ≡ v → undecided ≡ u → events ≡ e
+      → marks ≡ m
+      → KeepsAsBefore (seen nodes o h v u e m) (MayReadAt tells may nodes)
+      (seen now later halted starved undecided events marks) (MayReadAt tells may now)
+  room_made nodes now o later h halted v starved u undecided e events m marks same some is_h is_v
+      is_u is_e is_m script st is keeps =
+      subst (λ (z : List N × List Bool × Bool × List OpenHalt × List Event × List Mark).
+      KeepsRun script st (seen z.0 later z.1 z.2 z.3 z.4 z.5) (MayReadAt tells may z.0))
+      (λ i. (sym same i, sym is_h i, sym is_v i, sym is_u i, sym is_e i, sym is_m i))
+      (keeps_as_put script st (seen nodes o h v u e m) later (MayReadAt tells may nodes) is some
       keeps)
 
   pub seen_as : (script : Script) (st : Standing) (nodes : List N) (o later : OutboxFields)
-      (h halted : List Bool) (u undecided : List OpenHalt) (e events : List Event)
-      (m marks : List Mark)
-      → later ≡ o → halted ≡ h → undecided ≡ u → events ≡ e → marks ≡ m
-      → KeepsRun script st (seen nodes o h u e m) (MayReadAt tells may nodes)
-      → KeepsRun script st (seen nodes later halted undecided events marks)
+      (h halted : List Bool) (v starved : Bool) (u undecided : List OpenHalt)
+      (e events : List Event) (m marks : List Mark)
+      → later ≡ o → halted ≡ h → starved ≡ v → undecided ≡ u → events ≡ e → marks ≡ m
+      → KeepsRun script st (seen nodes o h v u e m) (MayReadAt tells may nodes)
+      → KeepsRun script st (seen nodes later halted starved undecided events marks)
       (MayReadAt tells may nodes)
-  seen_as script st nodes o later h halted u undecided e events m marks is_o is_h is_u is_e is_m
-      keeps =
-      subst (λ (z : OutboxFields × List Bool × List OpenHalt × List Event × List Mark).
-      KeepsRun script st (seen nodes z.0 z.1 z.2 z.3 z.4) (MayReadAt tells may nodes))
-      (λ i. (sym is_o i, sym is_h i, sym is_u i, sym is_e i, sym is_m i)) keeps
+  seen_as script st nodes o later h halted v starved u undecided e events m marks is_o is_h is_v
+      is_u is_e is_m keeps =
+      subst (λ (z : OutboxFields × List Bool × Bool × List OpenHalt × List Event × List Mark).
+      KeepsRun script st (seen nodes z.0 z.1 z.2 z.3 z.4 z.5) (MayReadAt tells may nodes))
+      (λ i. (sym is_o i, sym is_h i, sym is_v i, sym is_u i, sym is_e i, sym is_m i)) keeps
 
   -- One of the nodes was asked for a step.
-  module _ (place : ℕ) (nodes : List N) (o : OutboxFields) (h : List Bool) (u : List OpenHalt)
+  module _ (place : ℕ) (nodes : List N) (o : OutboxFields) (h : List Bool) (v : Bool) (u : List OpenHalt)
       (e : List Event) (m : List Mark) (old new : N) (there : place < length nodes) (within : place < 8)
       (is_old : old ≡ get_or nodes place old) (now : List N) (set_is : now ≡ set nodes place new)
       (objects : (part new).objects ≡ (part old).objects) where
@@ -92,12 +98,14 @@ module _ {N : Type 0} (part : N → NodeFields) (tells : N → Bool) (may : N �
     pub as_before_in : (part old).halted ≡ false → (part new).halted ≡ false
         → AreSame (part old).site.node (part new).site.node
         → (part new).site.entries ≡ (part old).site.entries
-        → KeepsAsBefore (seen nodes o h u e m) (MayReadAt tells may nodes) (seen now o h u e m)
+        → (part new).passes ≡ (part old).passes
+        → (IsUnfailingNode (part new) → IsUnfailingNode (part old))
+        → KeepsAsBefore (seen nodes o h v u e m) (MayReadAt tells may nodes) (seen now o h v u e m)
         (MayReadAt tells may now)
-    as_before_in ran runs same entries script st is keeps =
-        keeps_as_before script st place (seen nodes o h u e m) (MayReadAt tells may nodes) (part old)
+    as_before_in ran runs same entries passes less script st is keeps =
+        keeps_as_before script st place (seen nodes o h v u e m) (MayReadAt tells may nodes) (part old)
         keeps at (part new) (MayReadAt tells may now) (map part now) are objects others within ran
-        runs same entries
+        runs same entries passes less
 
     pub stood_in : (line : ℕ) (input : NodeInput) (event : Event) (letters : List Letter)
         → o.unput ≡ [] → length e + 1 < 1000000000 → (part new).halted ≡ (part old).halted
@@ -107,14 +115,19 @@ module _ {N : Type 0} (part : N → NodeFields) (tells : N → Bool) (may : N �
         (part new).site.node (part new).site.entries (input_of (part old).site.node.number input)
         (mail_of input) (load_of input) event
         → letters ≡ letters_of (part new).site.node event.sent
-        → HasPut line place input (seen nodes o h u e m) (MayReadAt tells may nodes) puts.Stood
-        (seen now (record { net = o.net; unput = letters }) h u (e ++ event ∷ []) m)
+        → (IsUnfailingNode (part new) → IsUnfailingNode (part old))
+        → HasAppended (part old).objects (part old).site.node
+        (input_of (part old).site.node.number input) (mail_of input) (load_of input) event
+        (part old).site.entries (part new).site.entries (part old).passes (part new).passes
+        → HasPut line place input (seen nodes o h v u e m) (MayReadAt tells may nodes) puts.Stood
+        (seen now (record { net = o.net; unput = letters }) h v u (e ++ event ∷ []) m)
         (MayReadAt tells may now)
-    stood_in line input event letters none_left few runs step on sent script st halts restarted is
-        keeps put_so none =
-        put_stood script st place input (seen nodes o h u e m) (MayReadAt tells may nodes) (part old)
+    stood_in line input event letters none_left few runs step on sent less appended script st halts
+        restarted is keeps put_so none =
+        put_stood script st place input (seen nodes o h v u e m) (MayReadAt tells may nodes) (part old)
         keeps put_so at within halts line restarted (part new) (MayReadAt tells may now)
         (map part now) are objects others event letters none_left few runs none step on sent
+        less appended
 
     pub halted_in : (line : ℕ) (input : NodeInput) → o.unput ≡ [] → (part new).halted ≡ true
         → (part new).site.node.number ≡ (part old).site.node.number
@@ -124,16 +137,23 @@ module _ {N : Type 0} (part : N → NodeFields) (tells : N → Bool) (may : N �
         → HaltsAt (part old).objects (part old).site.node (part old).site.entries
         (input_of (part old).site.node.number input) (mail_of input) (load_of input)
         (part new).site.node (part new).halted_at
-        → HasPut line place input (seen nodes o h u e m) (MayReadAt tells may nodes) puts.Halted
-        (seen now o (set h place true) (record {
+        → (w : Bool) → (w ≡ false → v ≡ false)
+        → (IsUnfailingNode (part new) → IsUnfailingNode (part old))
+        → (w ≡ false → (part new).tells ≡ true → Rose (part old).failures (part new).failures
+        ⊎ IsCutOff 4 (part old).passes (part new).passes (λ calls. OpensAfter calls
+        (part old).objects (part old).site.node (part old).site.entries
+        (input_of (part old).site.node.number input) (mail_of input) (load_of input)
+        (part new).reads))
+        → HasPut line place input (seen nodes o h v u e m) (MayReadAt tells may nodes) puts.Halted
+        (seen now o (set h place true) w (record {
           node = place + 1;
           before = length e;
           got = letter_of input;
         } ∷ u) e (m ++ marks.Halted line (place + 1) false ∷ []))
         (MayReadAt tells may now)
-    halted_in line input none_left stops same halt at_event script st halts restarted is keeps put_so
-        lost =
-        put_halted script st place input (seen nodes o h u e m) (MayReadAt tells may nodes) (part old)
+    halted_in line input none_left stops same halt at_event w fed less cause script st halts restarted
+        is keeps put_so lost =
+        put_halted script st place input (seen nodes o h v u e m) (MayReadAt tells may nodes) (part old)
         keeps put_so at within halts line restarted (part new) (MayReadAt tells may now)
         (map part now) are objects others none_left stops lost same
         (record {
@@ -142,4 +162,4 @@ module _ {N : Type 0} (part : N → NodeFields) (tells : N → Bool) (may : N �
               (subst (λ (ns : List N). MayReadAt tells may ns (place + 1) logged) set_is read) in
               (halt own.0).either history logged node_keeps may_then own.1;
         })
-        at_event
+        at_event w fed less cause

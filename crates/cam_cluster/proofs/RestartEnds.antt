@@ -77,10 +77,10 @@ nothing_sent node sent letters is none = is ∙ sym (ap (letters_of node) none)
 -- works whose parts are these
 pub same_works : {N : Type 0} (part : N → NodeFields) (tells : N → Bool)
     (may : N → Logged → Type 0) (nodes : List N) (o later : OutboxFields) (h halted : List Bool)
-    (u undecided : List OpenHalt) (e events : List Event) (m marks : List Mark)
-    → o ≡ later → h ≡ halted → u ≡ undecided → e ≡ events → m ≡ marks
-    → seen part tells may nodes o h u e m
-    ≡ seen part tells may nodes later halted undecided events marks
-same_works part tells may nodes o later h halted u undecided e events m marks is_o is_h is_u is_e
-    is_m =
-    λ i. seen part tells may nodes (is_o i) (is_h i) (is_u i) (is_e i) (is_m i)
+    (v starved : Bool) (u undecided : List OpenHalt) (e events : List Event) (m marks : List Mark)
+    → o ≡ later → h ≡ halted → v ≡ starved → u ≡ undecided → e ≡ events → m ≡ marks
+    → seen part tells may nodes o h v u e m
+    ≡ seen part tells may nodes later halted starved undecided events marks
+same_works part tells may nodes o later h halted v starved u undecided e events m marks is_o is_h
+    is_v is_u is_e is_m =
+    λ i. seen part tells may nodes (is_o i) (is_h i) (is_v i) (is_u i) (is_e i) (is_m i)

@@ -9,7 +9,7 @@ use Rattle.cam_event.specs.Inputs.{Restarts}
 use Rattle.cam_event.specs.Loads.{no_load}
 use Rattle.cam_log.specs.Moments.{Opened}
 use Rattle.cam_node.specs.declared.found.Restarted.{Restarted}
-use Rattle.cam_node.specs.Found.{HasRestarted}
+use Rattle.cam_node.specs.Found.{FindsBy, HasRestarted}
 use Rattle.cam_node.specs.Halting.{IsEnded, IsThrough}
 use Rattle.cam_node.specs.Keeping.{IsHalt, IsLogOf, IsLogOfEither, IsRestartHalt, IsRestartOf}
 use Rattle.cam_node.specs.Keeping.{KeepsHistory, KeepsNode}
@@ -89,3 +89,15 @@ read_is objects s history entries logged keeps read =
   where
     same : (x : Result Recovered RecFault) (a b : Recovered) → x ≡ Ok a → x ≡ Ok b → a ≡ b
     same x a b first other = cc
+
+-- what it finds, by what stood before its disk was cleared
+pub found_was : {E : Type 0} (result : Result Restarted E) (objects over : List ObjectDecl)
+    (s number : ℕ) (node was : Node) (at kept : Option Event) (reads read : Opened)
+    → objects ≡ over → s ≡ number → node ≡ was → at ≡ kept → reads ≡ read
+    → IfOk result (λ r. FindsBy objects s node at reads r.found)
+    → IfOk result (λ r. FindsBy over number was kept read r.found)
+found_was (Ok r) objects over s number node was at kept reads read is_o is_s is_n is_a is_r finds =
+    subst (λ (z : List ObjectDecl × ℕ × Node × Option Event × Opened).
+    FindsBy z.0 z.1 z.2 z.3 z.4 r.found) (λ i. (is_o i, is_s i, is_n i, is_a i, is_r i)) finds
+found_was (Err e) objects over s number node was at kept reads read is_o is_s is_n is_a is_r finds =
+    tt

@@ -53,7 +53,7 @@ module _ (script : Script) (st : Standing) (halts : Halting) (later : List Step)
   led done so runs = record {
     runs =
         keeps_others script after (after_line st line (Led after None)) new.works new.works.marks
-        may (record { trace = refl; lost = refl; delivered = refl }) refl refl runs.all_marks
+        may (record { trace = refl; lost = refl; delivered = refl }) refl refl refl runs.all_marks
         (next_leads script st (record { line = line; act = acts.Restart s }) halts later is
         under next) runs;
     variables =

@@ -25,6 +25,7 @@ use Rattle.cam_cluster.specs.declared.works.restart.Restart.TheVariants as ends
 use Rattle.cam_cluster.specs.declared.works.undecided.OpenHalt.{OpenHalt}
 use Rattle.cam_cluster.specs.OpenHalts.{events_found, halts_found, marks_found, open_halt_of}
 use Rattle.cam_cluster.specs.Restarts.{HasRestartedAs}
+use Rattle.cam_cluster.specs.Works.{IsUnfailingNode}
 use Rattle.cam_cluster.specs.Works.{NodeFields, WorksFields, KeepsRun, MayReadAt, sites_of}
 use Rattle.cam_cluster.proofs.PlacedNodes.{reads_elsewhere, seen_there, taken_there}
 use Rattle.cam_cluster.proofs.PutWorks.{seen}
@@ -58,7 +59,7 @@ module _ (script : Script) (st : Standing) (place : ℕ) (works : WorksFields)
       old.site.entries logged (site_here.stands awake).log.keeps read
 
 module _ {N : Type 0} (part : N → NodeFields) (tells : N → Bool) (may : N → Logged → Type 0)
-    (place : ℕ) (nodes : List N) (o : OutboxFields) (h : List Bool) (u : List OpenHalt)
+    (place : ℕ) (nodes : List N) (o : OutboxFields) (h : List Bool) (v : Bool) (u : List OpenHalt)
     (e : List Event) (m : List Mark) (old new : N) (there : place < length nodes)
     (within : place < 8) (is_old : old ≡ get_or nodes place old) (now : List N)
     (set_is : now ≡ set nodes place new) (objects : (part new).objects ≡ (part old).objects)
@@ -66,7 +67,7 @@ module _ {N : Type 0} (part : N → NodeFields) (tells : N → Bool) (may : N �
     (rest : (part old).halted ≡ false → (logged : Logged) → may old logged
     → IsReadOf (part old).site.entries logged) (none_left : o.unput ≡ []) where
   abbrev works : WorksFields
-  works = seen part tells may nodes o h u e m
+  works = seen part tells may nodes o h v u e m
 
   abbrev might : ℕ → Logged → Type 0
   might = MayReadAt tells may nodes
@@ -132,7 +133,8 @@ module _ {N : Type 0} (part : N → NodeFields) (tells : N → Bool) (may : N �
   module _ (r : Restarted) (runs : (part new).halted ≡ false)
       (has : HasRestarted (part old).objects (part old).site.node.number (tells old) (may old)
       (part old).site.node (part old).halted_at (part new).site.node (part new).site.entries r)
-      (no_letters : r.stepped.letters ≡ []) where
+      (no_letters : r.stepped.letters ≡ []) (passes : (part new).passes ≡ None)
+      (less : IsUnfailingNode (part new) → IsUnfailingNode (part old)) where
     abbrev logged : Logged
     logged = logged_of has.left.recovered
 
@@ -145,7 +147,7 @@ module _ {N : Type 0} (part : N → NodeFields) (tells : N → Bool) (may : N �
         → (is_halted h (place + 1) ≡ true → r.found.event ≡ None)
         → HasRestartedAs place works might ends.Stood
         (seen part tells may now (record { net = o.net; unput = r.stepped.letters })
-        (set h place false) (open_without (place + 1) u) (e ++ r.stepped.event ∷ []) m)
+        (set h place false) v (open_without (place + 1) u) (e ++ r.stepped.event ∷ []) m)
         (MayReadAt tells may now)
     restarted_in few none script st halts line restarted is keeps stands =
         restart_stands script st place works might (part old)
@@ -156,13 +158,13 @@ module _ {N : Type 0} (part : N → NodeFields) (tells : N → Bool) (may : N �
         (has_number st.halted (place + 1)) refl)
         (by_place script st keeps (λ xs s. IsRestart xs s logged (part new).site.node
         (part new).site.entries r.stepped.event) has.restart)
-        sent
+        sent passes less
 
     pub found_in : (event : Event) → length e + 2 < 1000000000 → is_halted h (place + 1) ≡ true
         → r.found.event ≡ Some event
         → HasRestartedAs place works might ends.Found
         (seen part tells may now (record { net = o.net; unput = r.stepped.letters })
-        (set h place false)
+        (set h place false) v
         (open_without (place + 1) (halts_found (place + 1) (open_halt_of (place + 1) u) u))
         (events_found (open_halt_of (place + 1) u) event e ++ r.stepped.event ∷ [])
         (marks_found (place + 1) (open_halt_of (place + 1) u) m))
@@ -187,5 +189,5 @@ module _ {N : Type 0} (part : N → NodeFields) (tells : N → Bool) (may : N �
           logged r.found event read says which)
           (by_place script st keeps (λ xs s. IsRestart xs s logged (part new).site.node
           (part new).site.entries r.stepped.event) has.restart)
-          sent;
+          sent passes less;
     }

@@ -10,10 +10,9 @@ use Rattle.cam_log.specs.Spent.{Spent}
 use Rattle.cam_recman.specs.declared.Record.{Record}
 use Rattle.cam_runs.specs.Running.{has_number}
 use Rattle.cam_runs.specs.Halts.{Turn, Input, Stop, Restart, calls_left, after_append, by_stops, stopped_append}
-use Rattle.cam_runs.specs.Standing.{Standing}
 use Rattle.cam_node.specs.Appending.{SpentFor}
 use Rattle.cam_histories.proofs.Numbers.{lt_cases}
-use Rattle.cam_cluster.specs.Stopping.{too_few, ends_by, runs_on, stopped_at, IsAsStopped, AreAsStopped}
+use Rattle.cam_cluster.specs.Stopping.{too_few, ends_by, runs_on, stopped_at, IsAsStopped}
 
 -- an input of one node says nothing of another
 module _ (turns : List Turn) (s line : ℕ) (w again : Bool) where

@@ -21,7 +21,7 @@ use Rattle.cam_cluster.specs.declared.LineFault.{LineFault}
 use Rattle.cam_cluster.specs.declared.LineFault.TheVariants as line_faults
 use Rattle.cam_cluster.specs.InputLines.{IsRefusedAs}
 use Rattle.cam_cluster.specs.LetterLines.{IsDone, IsEndedBy, IsLineBy}
-use Rattle.cam_cluster.specs.Puts.{KeepsAsBefore}
+use Rattle.cam_cluster.specs.Puts.{HasStopped}
 use Rattle.cam_cluster.specs.SoFar.{IsRefused, KeepsLines, LinesFields}
 use Rattle.cam_cluster.specs.Stops.{IsStop}
 use Rattle.cam_cluster.specs.Works.{KeepsRun}
@@ -46,7 +46,7 @@ module _ (script : Script) (st : Standing) (halts : Halting) (later : List Step)
   halted_is b said = sym (told_halted script st old.works might is keeps.runs place there) ∙ said
 
   pub stopped : is_halted old.works.halted (place + 1) ≡ false
-      → KeepsAsBefore old.works might new.works may → new.bound ≡ old.bound ++ None ∷ []
+      → HasStopped place calls old.works might new.works may → new.bound ≡ old.bound ++ None ∷ []
       → IsDone script st c (acts.Stop (place + 1) calls) new may
   stopped runs before bound = record {
     passed = ap (λ (b : Bool). where_so b refusals.Halted) awake;
@@ -54,8 +54,9 @@ module _ (script : Script) (st : Standing) (halts : Halting) (later : List Step)
         subst (λ (p : Passed). KeepsLines script (after_line st line p) new may) (sym passes)
         (record {
           runs =
-              keeps_others script st (after_line st line leads) new.works new.works.marks may
-              (record { trace = refl; lost = refl; delivered = refl }) refl refl kept.all_marks
+              keeps_others script behind (after_line st line leads) new.works new.works.marks may
+              (record { trace = refl; lost = refl; delivered = refl }) refl refl refl
+              kept.all_marks
               (subst (λ (p : Passed). IsUnderHalts script (after_line st line p)) passes
               (next_leads script st
               (record { line = line; act = acts.Stop (place + 1) calls }) halts later is
@@ -71,7 +72,10 @@ module _ (script : Script) (st : Standing) (halts : Halting) (later : List Step)
       passes : act c script.bodies st (acts.Stop (place + 1) calls) ≡ leads
       passes = ap (λ (b : Bool). unless (where_so b refusals.Halted) leads) awake
 
-      kept : KeepsRun script st new.works may
+      behind : Standing
+      behind = record st { turns = Stop (place + 1) calls ∷ st.turns }
+
+      kept : KeepsRun script behind new.works may
       kept = before script st is keeps.runs
 
   pub stop_refused : (fault : LineFault) → is_halted old.works.halted (place + 1) ≡ true
@@ -90,7 +94,7 @@ module _ (script : Script) (st : Standing) (halts : Halting) (later : List Step)
 module _ (line place node calls : ℕ) (back : place + 1 ≡ node) (old new : LinesFields)
     (might may : ℕ → Logged → Type 0) (there : place < length old.works.nodes) where
   pub stop_done : is_halted old.works.halted (place + 1) ≡ false
-      → KeepsAsBefore old.works might new.works may → new.bound ≡ old.bound ++ None ∷ []
+      → HasStopped place calls old.works might new.works may → new.bound ≡ old.bound ++ None ∷ []
       → IsLineBy line (acts.Stop node calls) (IsStop node calls) old might new may (Ok tt)
   stop_done runs before bound =
       subst (λ (n : ℕ). IsLineBy line (acts.Stop n calls) (IsStop n calls) old might new may

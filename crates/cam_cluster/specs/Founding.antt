@@ -1,6 +1,6 @@
 -- A cluster before its first line: its nodes, each formatted over the disk at its place, and the
 -- disks that are handed back where none is made.
-use Rattle.std.specs.Prelude.{◌≡◌, ◌≤◌, ◌+◌, ℕ, Bool, false, List, [], ◌∷◌}
+use Rattle.std.specs.Prelude.{◌≡◌, ◌≤◌, ◌+◌, ℕ, Bool, false, List, [], ◌∷◌, None}
 use Rattle.cam_base.specs.Causes.{Rose}
 use Rattle.cam_type.specs.declared.ObjectDecl.{ObjectDecl}
 use Rattle.cam_node.specs.Log.{Logged}
@@ -24,6 +24,8 @@ pub record IsNewNode (objects : List ObjectDecl) (s : ℕ) (node : NodeFields) :
   pub running : node.halted ≡ false
   pub number : node.site.node.number ≡ s
   pub stands : StandsAt objects s [] node.site
+  -- its disk is not stopped
+  pub passes : node.passes ≡ None
 
 -- the nodes in order, where the first has this number
 abbrev pub AreNewNodes : {N : Type 0} → (N → NodeFields) → List ObjectDecl → ℕ → List N → Type 0
@@ -65,6 +67,7 @@ new_works nodes = record {
   nodes = nodes;
   outbox = record { net = []; unput = [] };
   halted = false ∷ false ∷ false ∷ false ∷ false ∷ false ∷ false ∷ false ∷ [];
+  starved = false;
   undecided = [];
   events = [];
   marks = [];

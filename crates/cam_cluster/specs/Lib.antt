@@ -31,3 +31,5 @@ pub mod Taking
 pub mod Courses
 pub mod Founding
 pub mod WholeRuns
+pub mod Stopping
+pub mod Stopped

@@ -1,5 +1,5 @@
 -- One input put to one node of a cluster: what it makes of the works.
-use Rattle.std.specs.Prelude.{◌≡◌, ℕ, ◌+◌, Bool, false, Option, Some, None}
+use Rattle.std.specs.Prelude.{◌≡◌, ℕ, ◌+◌, ◌∷◌, Bool, false, Option, Some, None}
 use Rattle.cam_event.specs.declared.LetterId.{LetterId}
 use Rattle.cam_event.specs.Inputs.{Input, Mail, node_of}
 use Rattle.cam_event.specs.Loads.{Load}
@@ -7,7 +7,7 @@ use Rattle.cam_node.specs.declared.Input.{Input as NodeInput}
 use Rattle.cam_node.specs.declared.Input.TheVariants as inputs
 use Rattle.cam_node.specs.Calls.{input_of, mail_of, load_of}
 use Rattle.cam_node.specs.Log.{Logged}
-use Rattle.cam_runs.specs.Halts.{Halting}
+use Rattle.cam_runs.specs.Halts.{Halting, Stop}
 use Rattle.cam_runs.specs.Standing.{Standing, put}
 use Rattle.cam_script.specs.declared.Script.{Script}
 use Rattle.cam_script.specs.Law.{IsScript}
@@ -46,6 +46,13 @@ HasPut line place input old might_read done new may_read =
     → KeepsRun script
     (put (held_setting script.objects halts line restarted) st (input_of (place + 1) input)) new
     may_read
+
+-- A node's disk does so many calls more: they keep each run that they kept, with that behind.
+abbrev pub HasStopped : ℕ → ℕ → WorksFields → (ℕ → Logged → Type 0) → WorksFields
+    → (ℕ → Logged → Type 0) → Type 0
+HasStopped place calls old might_read new may_read =
+    (script : Script) (st : Standing) → IsScript script → KeepsRun script st old might_read
+    → KeepsRun script (record st { turns = Stop (place + 1) calls ∷ st.turns }) new may_read
 
 -- They keep each run that they kept before.
 abbrev pub KeepsAsBefore : WorksFields → (ℕ → Logged → Type 0) → WorksFields

@@ -12,7 +12,6 @@ use Rattle.cam_node.specs.Halting.{taken}
 use Rattle.cam_node.specs.Represents.{Node}
 use Rattle.cam_runs.specs.Running.{has_number}
 use Rattle.cam_runs.specs.Halts.{Turn, calls_left}
-use Rattle.cam_runs.specs.Standing.{Standing}
 use Rattle.cam_histories.specs.Laws.{history_of}
 use Rattle.cam_cluster.specs.Stopping.{stopped_at}
 
@@ -31,10 +30,10 @@ pub record IsHaltByStop (objects : List ObjectDecl) (history : List Received) (t
   pub opens : OpensAs objects s (history_after calls history (taken whole)) reads
 
 -- `passes` is how many calls its disk does more, and `reads` what its log opens as now.
-pub record IsStoppedAs (objects : List ObjectDecl) (st : Standing) (s : ℕ) (node : Node)
-    (halted_at : Option Event) (passes : Option ℕ) (reads : Opened) : Type 0 where
-  pub awake : has_number st.halted s ≡ false → passes ≡ calls_left st.turns s
-  pub halted :
-      has_number st.halted s ≡ true
-      → IsHaltByStop objects (history_of objects st.running.trace s) st.turns s node halted_at
-      reads
+pub record IsStoppedAs (objects : List ObjectDecl) (trace : List Event) (halted : List ℕ)
+    (turns : List Turn) (s : ℕ) (node : Node) (halted_at : Option Event) (passes : Option ℕ)
+    (reads : Opened) : Type 0 where
+  pub awake : has_number halted s ≡ false → passes ≡ calls_left turns s
+  pub by_stop :
+      has_number halted s ≡ true
+      → IsHaltByStop objects (history_of objects trace s) turns s node halted_at reads

@@ -4,7 +4,6 @@ use Rattle.std.specs.Prelude.{◌≡◌, ℕ, eqb, nat_lt, Bool, true, false, no
 use Rattle.std.specs.Prelude.{if◌then◌else◌, List, [], ◌∷◌, Option, Some, None, is_some}
 use Rattle.cam_runs.specs.Running.{has_number}
 use Rattle.cam_runs.specs.Halts.{Turn, Input, Stop, Restart, calls_left}
-use Rattle.cam_runs.specs.Standing.{Standing}
 
 -- An append makes four calls. Where fewer are left a stop ends at it, and lets these pass.
 abbrev pub too_few : Option ℕ → Option ℕ
@@ -47,5 +46,5 @@ abbrev pub IsAsStopped : Bool → List Turn → ℕ → Type 0
 IsAsStopped false turns s = runs_on turns s ≡ true
 IsAsStopped true turns s = is_some (stopped_at turns s) ≡ true
 
-abbrev pub AreAsStopped : Standing → Type 0
-AreAsStopped st = (s : ℕ) → IsAsStopped (has_number st.halted s) st.turns s
+abbrev pub AreAsStopped : List ℕ → List Turn → Type 0
+AreAsStopped halted turns = (s : ℕ) → IsAsStopped (has_number halted s) turns s

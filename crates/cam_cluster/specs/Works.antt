@@ -1,5 +1,5 @@
 -- The nodes of a cluster, the letters between them and what they did, as they stand for a run.
-use Rattle.std.specs.Prelude.{◌≡◌, ◌<◌, ℕ, zero, ◌+◌, ◌-◌, Bool, true, List, length, map, reverse}
+use Rattle.std.specs.Prelude.{◌≡◌, ◌<◌, ℕ, zero, ◌+◌, ◌-◌, Bool, true, false, List, length, map, reverse}
 use Rattle.std.specs.Prelude.{Option, Some, None, slice_get}
 use Rattle.std.specs.List.{AllByRecursion}
 use Rattle.cam_type.specs.declared.ObjectDecl.{ObjectDecl}
@@ -7,12 +7,14 @@ use Rattle.cam_event.specs.declared.Event.{Event}
 use Rattle.cam_event.specs.declared.LetterId.{LetterId}
 use Rattle.cam_event.specs.declared.Mark.{Mark}
 use Rattle.cam_event.specs.ByDeltas.{Received}
+use Rattle.cam_log.specs.Moments.{Opened}
 use Rattle.cam_net.specs.Outbox.{OutboxFields}
 use Rattle.cam_net.specs.Waiting.{is_halted}
 use Rattle.cam_node.specs.Found.{IsHaltedAt, IsLogOfOneOf}
 use Rattle.cam_node.specs.Halting.{taken}
 use Rattle.cam_node.specs.Log.{Logged}
 use Rattle.cam_runs.specs.Running.{has_number}
+use Rattle.cam_runs.specs.Halts.{Turn}
 use Rattle.cam_runs.specs.Standing.{Standing, Undecided, undecided_of}
 use Rattle.cam_runs.specs.UnderHalts.{IsUnderHalts}
 use Rattle.cam_script.specs.declared.Script.{Script}
@@ -20,6 +22,8 @@ use Rattle.cam_histories.specs.Laws.{history_of}
 use Rattle.cam_histories.specs.PutIn.{nameless}
 use Rattle.cam_histories.specs.Undecided.{received_at}
 use Rattle.cam_histories.specs.Whole.{Site, IsWhole}
+use Rattle.cam_cluster.specs.Stopped.{IsStoppedAs}
+use Rattle.cam_cluster.specs.Stopping.{IsAsStopped}
 use Rattle.cam_cluster.specs.declared.works.undecided.OpenHalt.{OpenHalt}
 
 -- a node with what its log lists, over these objects, halted or not; and what its log may have of
@@ -29,6 +33,12 @@ pub record NodeFields : Type 0 where
   pub objects : List ObjectDecl
   pub halted : Bool
   pub halted_at : Option Event
+  -- how many calls its disk does more, where it is stopped, and what its log opens as now
+  pub passes : Option ℕ
+  pub reads : Opened
+  -- whether the disk tells what it holds, and how many calls of it that were done have failed
+  pub tells : Bool
+  pub failures : ℕ
 
 pub record WorksFields : Type 0 where
   pub nodes : List NodeFields
@@ -36,6 +46,8 @@ pub record WorksFields : Type 0 where
   pub outbox : OutboxFields
   -- of each of the eight nodes whether it is halted
   pub halted : List Bool
+  -- whether a node halted since memory ran out
+  pub starved : Bool
   -- the halts of which no restart has told yet whether they are taken, the newest first
   pub undecided : List OpenHalt
   -- the events, the oldest first, and the marks
@@ -77,6 +89,33 @@ pub record IsHaltOf (objects : List ObjectDecl) (trace : List Event) (undecided 
   pub newest : undecided_of s undecided ≡ Some halt
   pub alike : nameless (taken whole) ≡ nameless (received_at objects trace halt)
 
+-- Nothing has failed by itself: the disks tell what they hold, no call of them that was done has
+-- failed, and memory did not run out in one.
+abbrev pub IsUnfailingNode : NodeFields → Type 0
+IsUnfailingNode node = (node.tells ≡ true) × (node.failures ≡ 0)
+
+abbrev pub IsUnfailing : Bool → List NodeFields → Type 0
+IsUnfailing starved nodes =
+    (starved ≡ false) × AllByRecursion IsUnfailingNode nodes
+
+-- Each node, but for some, is by the lines that stop its disk.
+pub record AreStoppedBut (but : ℕ → Bool) (objects : List ObjectDecl) (trace : List Event)
+    (halted : List ℕ) (turns : List Turn) (nodes : List NodeFields) : Type 0 where
+  pub said : (s : ℕ) → but s ≡ false → IsAsStopped (has_number halted s) turns s
+  pub each :
+      (place : ℕ) (node : NodeFields) → slice_get nodes place ≡ Some node
+      → but (place + 1) ≡ false
+      → IsStoppedAs objects trace halted turns (place + 1) node.site.node node.halted_at
+      node.passes node.reads
+
+abbrev pub no_node : ℕ → Bool
+no_node s = false
+
+abbrev pub AreStopped :
+    List ObjectDecl → List Event → List ℕ → List Turn → List NodeFields → Type 0
+AreStopped objects trace halted turns nodes =
+    AreStoppedBut no_node objects trace halted turns nodes
+
 -- They stand for what is under way; `may_read` is what may be read from the disk of each node. The
 -- events are few enough that each number of a letter is in its range.
 pub record KeepsRun (script : Script) (st : Standing) (works : WorksFields)
@@ -102,6 +141,9 @@ pub record KeepsRun (script : Script) (st : Standing) (works : WorksFields)
   pub events : works.events ≡ reverse st.running.trace
   pub all_marks : works.marks ≡ st.running.marks
   pub few : length works.events < 1000000000
+  pub stops :
+      IsUnfailing works.starved works.nodes
+      → AreStopped script.objects st.running.trace st.halted st.turns works.nodes
 
 -- what may be read from the disk of a node of a list, where its disk tells what it holds
 pub record MayReadAt {N : Type 0} (tells : N → Bool) (may_read : N → Logged → Type 0)

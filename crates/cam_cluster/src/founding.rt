@@ -3,6 +3,7 @@ ghost use Rattle.std.specs.Prelude.{◌≡◌, ◌+◌, ◌≤◌, ◌<◌, ◌+
 ghost use Rattle.cam_ckpt.specs.Reading.{read_ckpt};
 ghost use Rattle.cam_log.specs.Moments.{OpeningsBy};
 ghost use Rattle.cam_node.specs.Opened.{MayRead};
+ghost use Rattle.std.specs.List.{AllByRecursion};
 ghost use Rattle.cam_cluster.specs.Founding.{AreHandedBack, AreNewNodes, AreTakenOut, IsFaultAmong, IsHandedBack, IsNewNode, fault_at};
 
 use cam_base::NoMemory;
@@ -46,6 +47,10 @@ impl<L: CheckpointLog> AsPart for Node<L> {
       objects = node.objects;
       halted = node.log.halted;
       halted_at = node.halted_at;
+      passes = L.passes node.log.log;
+      reads = L.reads node.log.log;
+      tells = L.tells node.log.log;
+      failures = L.faults_within node.log.log;
     } };
 }
 
@@ -91,7 +96,8 @@ fn found_one<D: Disk>(
     objects: &Objects,
     disk: D,
 ) -> Result<Node<Ckpt<D>>, FormatRefused<D>>
-    requires { (1 ≤ number) × (number ≤ 8) }
+    requires number { (1 ≤ number) × (number ≤ 8) }
+    requires fresh { D.passes disk ≡ None }
     ensures new { IfOk result (λ node. IsNewNode objects.now number
         (⟦<Node<Ckpt<D>> as AsPart>⟧.part node)) }
     ensures tells { IfOk result
@@ -110,7 +116,7 @@ fn found_one<D: Disk>(
     }
 }
 
-/// The nodes over all of these disks, in order, formatted from the last to the first. Where one is
+/// The nodes over all of these disks, none of which is stopped, in order, formatted from the last to the first. Where one is
 /// refused all disks are back at their places.
 pub(crate) fn found<D: Disk>(
     alloc: Global,
@@ -120,6 +126,7 @@ pub(crate) fn found<D: Disk>(
 ) -> Result<(), ClusterFault>
     requires eight { vec_len disks.old ≤ 8 }
     requires none { nodes.old.items ≡ [] }
+    requires fresh { AllByRecursion (λ disk. D.passes disk ≡ None) disks.old.items }
     requires room { vec_len disks.old ≤ vec_capacity nodes.old }
     ensures new { OnOk result (AreNewNodes (⟦<Node<Ckpt<D>> as AsPart>⟧.part) objects.now 1
         nodes.new.items) }

@@ -1,5 +1,6 @@
 //! The run of a whole script: its lines one after another, over a disk for each of its nodes.
-ghost use Rattle.std.specs.Prelude.{◌≡◌, IfOk, OnOk, length};
+ghost use Rattle.std.specs.Prelude.{◌≡◌, IfOk, None, OnOk, length};
+ghost use Rattle.std.specs.List.{AllByRecursion};
 ghost use Rattle.cam_script.specs.declared.stage.Stage.TheVariants.{WithoutStops};
 ghost use Rattle.cam_script.specs.declared.Script.{Script as ScriptFields};
 ghost use Rattle.cam_script.specs.Law.{IsScript};
@@ -57,7 +58,9 @@ fn fault_of(fault: ClusterFault) -> RunFault {
 
 /// Disks that can be stopped, each over the one at its place.
 fn stoppable<D: Disk>(alloc: Global, disks: Vec<D>) -> Result<Vec<StopDisk<D>>, NoMemory>
-    ensures { IfOk result (λ over. length over.items ≡ length disks.items) }
+    ensures one_each { IfOk result (λ over. length over.items ≡ length disks.items) }
+    ensures fresh { IfOk result (λ over.
+        AllByRecursion (λ disk. ⟦<StopDisk<D> as Disk>⟧.passes disk ≡ None) over.items) }
 {
     let mut over = Vec::with_capacity(alloc, disks.len())?;
     for disk in disks {

@@ -5,6 +5,7 @@ ghost use Rattle.cam_event.specs.declared.Mark.TheVariants as marks;
 ghost use Rattle.std.specs.List.{AllByRecursion};
 ghost use Rattle.cam_net.specs.Outbox.{HasPutSome};
 ghost use Rattle.cam_net.specs.Waiting.{is_halted};
+ghost use Rattle.cam_node.specs.declared.fault.NodeFault.TheVariants.{DiskFault};
 ghost use Rattle.cam_node.specs.Numbers.{MayStep};
 ghost use Rattle.cam_node.specs.Refused.{IsNotRefused};
 ghost use Rattle.cam_node.specs.Calls.{answers};
@@ -86,9 +87,14 @@ impl<L: CheckpointLog> AsWorks for Works<L> {
         objects = node.objects;
         halted = node.log.halted;
         halted_at = node.halted_at;
+        passes = L.passes node.log.log;
+        reads = L.reads node.log.log;
+        tells = L.tells node.log.log;
+        failures = L.faults_within node.log.log;
       }) works.nodes.items;
       outbox = works.outbox;
       halted = works.halted;
+      starved = works.starved;
       undecided = works.undecided.items;
       events = works.events.events.items;
       marks = works.marks.items;
@@ -171,6 +177,7 @@ impl<L: CheckpointLog> Works<L> {
         requires { AllByRecursion IsWritable self.old.outbox.unput }
         ensures nodes { self.new.nodes ≡ self.old.nodes }
         ensures halted { self.new.halted ≡ self.old.halted }
+        ensures starved { self.new.starved ≡ self.old.starved }
         ensures undecided { self.new.undecided.items ≡ self.old.undecided.items }
         ensures events { self.new.events.events.items ≡ self.old.events.events.items }
         ensures marks { self.new.marks.items ≡ self.old.marks.items }
@@ -201,6 +208,7 @@ impl<L: CheckpointLog> Works<L> {
         requires none { self.old.outbox.unput ≡ [] }
         ensures nodes { self.new.nodes ≡ self.old.nodes }
         ensures halted { self.new.halted ≡ self.old.halted }
+        ensures starved { self.new.starved ≡ self.old.starved }
         ensures undecided { self.new.undecided ≡ self.old.undecided }
         ensures events { self.new.events.events.items ≡ self.old.events.events.items ++ stepped.event ∷ [] }
         ensures marks { self.new.marks ≡ self.old.marks }
@@ -217,6 +225,8 @@ impl<L: CheckpointLog> Works<L> {
         requires halt_room { vec_len self.old.undecided < vec_capacity self.old.undecided }
         ensures nodes { self.new.nodes ≡ self.old.nodes }
         ensures halted { self.new.halted ≡ set self.old.halted place true }
+        ensures starved { IsFalse self.new.starved
+            → IsFalse self.old.starved × (fault ≡ DiskFault) }
         ensures undecided { self.new.undecided.items ≡ record {
           node = place + 1;
           before = length self.old.events.events.items;

@@ -1,5 +1,6 @@
 //! The lines of a script before its first.
-ghost use Rattle.std.specs.Prelude.{◌≡◌, ◌≤◌, [], IfErr, IfOk, length, vec_capacity};
+ghost use Rattle.std.specs.Prelude.{◌≡◌, ◌≤◌, [], IfErr, IfOk, None, length, vec_capacity};
+ghost use Rattle.std.specs.List.{AllByRecursion};
 ghost use Rattle.cam_script.specs.Law.{IsScript};
 ghost use Rattle.cam_cluster.specs.Between.{KeepsBetween};
 ghost use Rattle.cam_cluster.specs.Founding.{AreHandedBack, IsFaultAmong, before_first};
@@ -23,6 +24,7 @@ impl<D: Disk> Lines<Ckpt<D>> {
     ) -> Result<Lines<Ckpt<D>>, ClusterRefused<D>>
         requires script { IsScript script.now }
         requires one_each { length disks.items ≡ script.now.nodes }
+        requires fresh { AllByRecursion (λ disk. D.passes disk ≡ None) disks.items }
         ensures before_first { IfOk result (λ lines. KeepsBetween (before_first script.now)
             (⟦<Lines<Ckpt<D>> as AsLines>⟧.fields lines)
             (⟦<Lines<Ckpt<D>> as AsLines>⟧.may_read lines)) }

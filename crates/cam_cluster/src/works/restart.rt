@@ -1,8 +1,8 @@
 //! A node restarts: its disk does all calls again, and it goes on from what its log keeps.
-ghost use Rattle.std.specs.Prelude.{◌≡◌, ◌+◌, ◌<◌, ◌++◌, ◌∷◌, [], IfOk, IfSome, IsFalse, IsTrue, OnErr, OnOk, None, if◌then◌else◌, eqb, filter, length, not, set, slice_get, false, vec_capacity, vec_len};
+ghost use Rattle.std.specs.Prelude.{◌≡◌, ◌+◌, ◌≤◌, ◌<◌, ◌++◌, ◌∷◌, [], IfOk, IfSome, IsFalse, IsTrue, OnErr, OnOk, None, if◌then◌else◌, eqb, filter, length, not, set, slice_get, false, vec_capacity, vec_len};
 ghost use Rattle.std.specs.List.{AllByRecursion};
 ghost use Rattle.cam_node.specs.Calls.{answers};
-ghost use Rattle.cam_node.specs.Found.{HasRestarted};
+ghost use Rattle.cam_node.specs.Found.{FindsBy, HasRestarted};
 ghost use Rattle.cam_node.specs.Opened.{MayRead};
 ghost use Rattle.cam_wire.specs.Writable.{IsWritable};
 ghost use Rattle.cam_cluster.specs.OpenHalts.{events_found, halts_found, marks_found, open_halt_of};
@@ -48,6 +48,11 @@ fn restart_cleared<L: CheckpointLog + StopLog>(node: &mut Node<L>) -> Result<Res
     ensures letters { IfOk result (λ restarted. restarted.stepped.letters ≡ []) }
     ensures runs { OnOk result (IsFalse node.new.log.halted) }
     ensures goes_on { OnOk result (node.new.halted_at ≡ None) }
+    ensures found { IsTrue (L.tells node.old.log.log) → IfOk result (λ restarted.
+        FindsBy node.old.objects node.old.core.number (answers node.old.core) node.old.halted_at
+        (L.reads node.old.log.log) restarted.found) }
+    ensures passes { L.passes node.new.log.log ≡ None }
+    ensures faults_within { L.faults_within node.old.log.log ≤ L.faults_within node.new.log.log }
     ensures tells { L.tells node.new.log.log ≡ L.tells node.old.log.log }
     ensures objects { node.new.objects ≡ node.old.objects }
 {
@@ -102,6 +107,7 @@ impl<L: CheckpointLog + StopLog> Works<L> {
             × (vec_len self.old.events.counts + 1 < vec_capacity self.old.events.counts) }
         ensures nodes { self.new.nodes ≡ self.old.nodes }
         ensures halted { self.new.halted ≡ self.old.halted }
+        ensures starved { self.new.starved ≡ self.old.starved }
         ensures undecided { self.new.undecided.items ≡ halts_found (place + 1)
             (open_halt_of (place + 1) self.old.undecided.items) self.old.undecided.items }
         ensures events { self.new.events.events.items ≡ events_found
@@ -135,6 +141,7 @@ impl<L: CheckpointLog + StopLog> Works<L> {
         requires none { self.old.outbox.unput ≡ [] }
         ensures nodes { self.new.nodes ≡ self.old.nodes }
         ensures halted { self.new.halted ≡ set self.old.halted place false }
+        ensures starved { self.new.starved ≡ self.old.starved }
         ensures undecided { self.new.undecided.items
             ≡ filter (λ halt. not (eqb halt.node (place + 1))) self.old.undecided.items }
         ensures events { self.new.events.events.items

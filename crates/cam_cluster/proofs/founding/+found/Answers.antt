@@ -1,5 +1,6 @@
 -- The nodes over all disks.
 use Rattle.std.proofs.Common.{◌∙◌, ◌≡◌, ◌≤◌, ◌+◌, length, sym, subst, ap, arith}
+use Rattle.cam_ckpt.specs.Reading.{read_ckpt}
 use Rattle.cam_node.specs.Calls.{answers}
 use Rattle.cam_cluster.proofs.BeforeFirst.{as_many, new_last, refused_back, taken_back}
 use Rattle.cam_cluster.proofs.founding.+found.Goals as goal
@@ -31,6 +32,10 @@ returns-in-Ok-found-clause-new g t c =
       objects = node.objects;
       halted = node.log.halted;
       halted_at = node.halted_at;
+      passes = g.D.Disk.passes node.log.log.disk;
+      reads = read_ckpt (g.D.Disk.seen node.log.log.disk);
+      tells = g.D.Disk.tells node.log.log.disk;
+      failures = g.D.Disk.faults_within node.log.log.disk;
     }) c.args.objects.now (c.len.result + 1) c.found.new.nodes.items
     c.push_owned-in-Ok-found.new.list.items c.in-Ok.node
     (ap (λ n. n + 1) (c.len.ensures ∙ c.pop.new.self.ok.0 ∙ sym c.in-Ok-found.ensures.count))

@@ -83,7 +83,8 @@ returns-in_err-refuse g c =
           (subst (λ o. KeepsLinesAsBefore (record {
             works =
                 seen (part g.L.CheckpointLog g.L.EntryLog) (tells_of g.L.CheckpointLog g.L.EntryLog) (reads_at g.L.CheckpointLog g.L.EntryLog)
-                c.put_letters.new.self.nodes.items o c.put_letters.new.self.halted c.put_letters.new.self.undecided.items
+                c.put_letters.new.self.nodes.items o c.put_letters.new.self.halted
+                c.put_letters.new.self.starved c.put_letters.new.self.undecided.items
                 c.put_letters.new.self.events.events.items c.put_letters.new.self.marks.items;
             bound = c.reserve_one.new.list.items;
           }) (reads_of g.L.CheckpointLog g.L.EntryLog c.put_letters.new.self) (lines_of g.L.CheckpointLog g.L.EntryLog c.refuse.new.self) (reads_of g.L.CheckpointLog g.L.EntryLog c.refuse.new.self.works))
@@ -103,7 +104,8 @@ returns-then-not-lose g c = record {
       (subst (λ o. HasRefused c.args.line refusals.NoLetter (record {
         works =
             seen (part g.L.CheckpointLog g.L.EntryLog) (tells_of g.L.CheckpointLog g.L.EntryLog) (reads_at g.L.CheckpointLog g.L.EntryLog)
-            c.put_letters.new.self.nodes.items o c.put_letters.new.self.halted c.put_letters.new.self.undecided.items
+            c.put_letters.new.self.nodes.items o c.put_letters.new.self.halted
+            c.put_letters.new.self.starved c.put_letters.new.self.undecided.items
             c.put_letters.new.self.events.events.items c.put_letters.new.self.marks.items;
         bound = c.reserve_one.new.list.items;
       }) (reads_of g.L.CheckpointLog g.L.EntryLog c.put_letters.new.self) (lines_of g.L.CheckpointLog g.L.EntryLog c.refuse.new.self) (reads_of g.L.CheckpointLog g.L.EntryLog c.refuse.new.self.works))
@@ -121,7 +123,8 @@ returns g c = record {
       (reads_of g.L.CheckpointLog g.L.EntryLog c.args.self.now.works) (record {
         works =
             seen (part g.L.CheckpointLog g.L.EntryLog) (tells_of g.L.CheckpointLog g.L.EntryLog) (reads_at g.L.CheckpointLog g.L.EntryLog)
-            c.put_letters.new.self.nodes.items o c.put_letters.new.self.halted c.put_letters.new.self.undecided.items
+            c.put_letters.new.self.nodes.items o c.put_letters.new.self.halted
+            c.put_letters.new.self.starved c.put_letters.new.self.undecided.items
             c.put_letters.new.self.events.events.items c.put_letters.new.self.marks.items;
         bound = c.push_reserved.new.list.items;
       }) (reads_of g.L.CheckpointLog g.L.EntryLog c.put_letters.new.self) (Ok tt)) (sym c.lose.ensures.lost)

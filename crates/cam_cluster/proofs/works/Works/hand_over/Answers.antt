@@ -85,7 +85,7 @@ returns-clause-delivered g c =
     c.in_ok-done.done
     (seen (part g.L.CheckpointLog g.L.EntryLog) (tells_of g.L.CheckpointLog g.L.EntryLog)
     (reads_at g.L.CheckpointLog g.L.EntryLog) mid.nodes.items o mid.halted
-    mid.undecided.items mid.events.events.items mid.marks.items)
+    mid.starved mid.undecided.items mid.events.events.items mid.marks.items)
     (reads_of g.L.CheckpointLog g.L.EntryLog mid)) (sym c.delivered.ensures)
     (handed c.args.line c.args.number c.args.coming.now c.args.letter
     (works_of g.L.CheckpointLog g.L.EntryLog old) (reads_of g.L.CheckpointLog g.L.EntryLog old)

@@ -7,6 +7,8 @@ use Rattle.cam_net.specs.Outbox.{OutboxFields}
 use Rattle.cam_cluster.specs.Puts.{letter_of}
 use Rattle.cam_cluster.proofs.AsSeen.{part, reads_at, tells_of}
 use Rattle.cam_cluster.proofs.PlacedNodes.{asked_there, put_there, on_err}
+use Rattle.cam_node.specs.declared.fault.NodeFault.TheVariants.{DiskFault}
+use Rattle.cam_cluster.proofs.StoppedWorks.{fault_is, told_cut, unfailing_less}
 use Rattle.cam_cluster.proofs.PutWorks.{net_grows, room_made, seen_as, as_before_in, stood_in, halted_in}
 use Rattle.cam_cluster.proofs.works.Works.put.Goals as goal
 
@@ -24,11 +26,11 @@ returns-in_err-make_room-clause-as_before g c =
     let mid = c.make_room.new.self in
     on_err c.from_residual.result _ (room_made (part g.L.CheckpointLog g.L.EntryLog) (tells_of g.L.CheckpointLog g.L.EntryLog)
     (reads_at g.L.CheckpointLog g.L.EntryLog)
-    old.nodes.items mid.nodes.items old.outbox mid.outbox old.halted mid.halted
+    old.nodes.items mid.nodes.items old.outbox mid.outbox old.halted mid.halted old.starved mid.starved
     old.undecided.items mid.undecided.items old.events.events.items mid.events.events.items
     old.marks.items mid.marks.items
     (ap (λ v. v.items) c.make_room.ensures.nodes) c.make_room.ensures.some
-    c.make_room.ensures.halted c.make_room.ensures.undecided c.make_room.ensures.events
+    c.make_room.ensures.halted c.make_room.ensures.starved c.make_room.ensures.undecided c.make_room.ensures.events
     c.make_room.ensures.marks)
 
 pub index_mut-requires : goal.index_mut-requires
@@ -81,16 +83,17 @@ returns-then-not-is_halted-clause-as_before g c =
     λ script st is keeps.
     as_before_in (part g.L.CheckpointLog g.L.EntryLog) (tells_of g.L.CheckpointLog g.L.EntryLog)
     (reads_at g.L.CheckpointLog g.L.EntryLog)
-    c.args.place mid.nodes.items mid.outbox mid.halted mid.undecided.items mid.events.events.items mid.marks.items
+    c.args.place mid.nodes.items mid.outbox mid.halted mid.starved mid.undecided.items mid.events.events.items mid.marks.items
     node new
     (subst (λ n. c.args.place < n) (ap (λ v. length v.items) (sym c.make_room.ensures.nodes)) c.requires.there) c.requires.place c.index_mut.ensures.value _ refl c.step.ensures.objects ran runs (c.in-Err.ensures.same runs) c.in-Err.ensures.not_listed
+    (c.in-Err.ensures.not_called runs) (unfailing_less (part g.L.CheckpointLog g.L.EntryLog node) (part g.L.CheckpointLog g.L.EntryLog new) c.step.ensures.tells c.step.ensures.faults_within)
     script st is (room_made (part g.L.CheckpointLog g.L.EntryLog) (tells_of g.L.CheckpointLog g.L.EntryLog)
     (reads_at g.L.CheckpointLog g.L.EntryLog)
-    old.nodes.items mid.nodes.items old.outbox mid.outbox old.halted mid.halted
+    old.nodes.items mid.nodes.items old.outbox mid.outbox old.halted mid.halted old.starved mid.starved
     old.undecided.items mid.undecided.items old.events.events.items mid.events.events.items
     old.marks.items mid.marks.items
     (ap (λ v. v.items) c.make_room.ensures.nodes) c.make_room.ensures.some
-    c.make_room.ensures.halted c.make_room.ensures.undecided c.make_room.ensures.events
+    c.make_room.ensures.halted c.make_room.ensures.starved c.make_room.ensures.undecided c.make_room.ensures.events
     c.make_room.ensures.marks script st is keeps)
 
 pub halt-requires-clause-place : goal.halt-requires-clause-place
@@ -119,25 +122,26 @@ returns-in-Ok-clause-put g c =
     seen_as (part g.L.CheckpointLog g.L.EntryLog) (tells_of g.L.CheckpointLog g.L.EntryLog)
     (reads_at g.L.CheckpointLog g.L.EntryLog)
     script _ end.nodes.items (record { net = mid.outbox.net; unput = c.in-Ok.stepped.letters }) end.outbox
-    mid.halted end.halted mid.undecided.items end.undecided.items (mid.events.events.items ++ c.in-Ok.stepped.event ∷ []) end.events.events.items
-    mid.marks.items end.marks.items c.stand.ensures.outbox c.stand.ensures.halted
+    mid.halted end.halted mid.starved end.starved mid.undecided.items end.undecided.items (mid.events.events.items ++ c.in-Ok.stepped.event ∷ []) end.events.events.items
+    mid.marks.items end.marks.items c.stand.ensures.outbox c.stand.ensures.halted c.stand.ensures.starved
     (ap (λ v. v.items) c.stand.ensures.undecided) c.stand.ensures.events (ap (λ v. v.items) c.stand.ensures.marks)
     (stood_in (part g.L.CheckpointLog g.L.EntryLog) (tells_of g.L.CheckpointLog g.L.EntryLog)
     (reads_at g.L.CheckpointLog g.L.EntryLog)
-    c.args.place mid.nodes.items mid.outbox mid.halted mid.undecided.items mid.events.events.items mid.marks.items
+    c.args.place mid.nodes.items mid.outbox mid.halted mid.starved mid.undecided.items mid.events.events.items mid.marks.items
     node new
     (subst (λ n. c.args.place < n) (ap (λ v. length v.items) (sym c.make_room.ensures.nodes)) c.requires.there) c.requires.place c.index_mut.ensures.value end.nodes.items (ap (λ v. v.items) c.stand.ensures.nodes) c.step.ensures.objects
     c.args.line c.args.input.now c.in-Ok.stepped.event c.in-Ok.stepped.letters
     c.in_ok-make_room.ensures.all
     (let few = c.in_ok-make_room.ensures.few in omega (arith, few)) (c.in-Ok.ensures.runs ∙ sym ran)
-    c.in-Ok.ensures.step c.in-Ok.ensures.keeps c.in-Ok.ensures.letters script st halts restarted is
+    c.in-Ok.ensures.step c.in-Ok.ensures.keeps c.in-Ok.ensures.letters
+    (unfailing_less (part g.L.CheckpointLog g.L.EntryLog node) (part g.L.CheckpointLog g.L.EntryLog new) c.step.ensures.tells c.step.ensures.faults_within) c.in-Ok.ensures.entry script st halts restarted is
     (room_made (part g.L.CheckpointLog g.L.EntryLog) (tells_of g.L.CheckpointLog g.L.EntryLog)
     (reads_at g.L.CheckpointLog g.L.EntryLog)
-    old.nodes.items mid.nodes.items old.outbox mid.outbox old.halted mid.halted
+    old.nodes.items mid.nodes.items old.outbox mid.outbox old.halted mid.halted old.starved mid.starved
     old.undecided.items mid.undecided.items old.events.events.items mid.events.events.items
     old.marks.items mid.marks.items
     (ap (λ v. v.items) c.make_room.ensures.nodes) c.make_room.ensures.some
-    c.make_room.ensures.halted c.make_room.ensures.undecided c.make_room.ensures.events
+    c.make_room.ensures.halted c.make_room.ensures.starved c.make_room.ensures.undecided c.make_room.ensures.events
     c.make_room.ensures.marks script st is keeps) put_so none)
 
 pub returns-else-not-is_halted-clause-put : goal.returns-else-not-is_halted-clause-put
@@ -152,6 +156,7 @@ returns-else-not-is_halted-clause-put g c =
     seen_as (part g.L.CheckpointLog g.L.EntryLog) (tells_of g.L.CheckpointLog g.L.EntryLog)
     (reads_at g.L.CheckpointLog g.L.EntryLog)
     script _ end.nodes.items mid.outbox end.outbox (set mid.halted c.args.place true) end.halted
+    end.starved end.starved
     (record {
       node = c.args.place + 1;
       before = length mid.events.events.items;
@@ -159,7 +164,7 @@ returns-else-not-is_halted-clause-put g c =
     } ∷ mid.undecided.items) end.undecided.items
     mid.events.events.items end.events.events.items
     (mid.marks.items ++ marks.Halted c.args.line (c.args.place + 1) false ∷ []) end.marks.items
-    c.halt.ensures.outbox c.halt.ensures.halted (c.halt.ensures.undecided
+    c.halt.ensures.outbox c.halt.ensures.halted refl (c.halt.ensures.undecided
     ∙ ap (λ g. record {
       node = c.args.place + 1;
       before = length mid.events.events.items;
@@ -168,19 +173,25 @@ returns-else-not-is_halted-clause-put g c =
     c.halt.ensures.marks
     (halted_in (part g.L.CheckpointLog g.L.EntryLog) (tells_of g.L.CheckpointLog g.L.EntryLog)
     (reads_at g.L.CheckpointLog g.L.EntryLog)
-    c.args.place mid.nodes.items mid.outbox mid.halted mid.undecided.items mid.events.events.items mid.marks.items
+    c.args.place mid.nodes.items mid.outbox mid.halted mid.starved mid.undecided.items mid.events.events.items mid.marks.items
     node new
     (subst (λ n. c.args.place < n) (ap (λ v. length v.items) (sym c.make_room.ensures.nodes)) c.requires.there) c.requires.place c.index_mut.ensures.value end.nodes.items (ap (λ v. v.items) c.halt.ensures.nodes) c.step.ensures.objects
     c.args.line c.args.input.now c.in_ok-make_room.ensures.all stops c.step.ensures.number
     (λ told. c.step.ensures.halt (sym c.step.ensures.tells ∙ told) stops)
-    (c.step.ensures.halted_at stops) script st halts restarted is
+    (c.step.ensures.halted_at stops) end.starved
+    (λ fed. (c.halt.ensures.starved fed).0)
+    (unfailing_less (part g.L.CheckpointLog g.L.EntryLog node) (part g.L.CheckpointLog g.L.EntryLog new) c.step.ensures.tells c.step.ensures.faults_within)
+    (λ fed told. told_cut _ _ _ _ (sym c.step.ensures.tells ∙ told)
+    (c.step.ensures.cut_off
+    (fault_is c.step.result c.in-Err.fault DiskFault c.in-Err.is (c.halt.ensures.starved fed).1)))
+    script st halts restarted is
     (room_made (part g.L.CheckpointLog g.L.EntryLog) (tells_of g.L.CheckpointLog g.L.EntryLog)
     (reads_at g.L.CheckpointLog g.L.EntryLog)
-    old.nodes.items mid.nodes.items old.outbox mid.outbox old.halted mid.halted
+    old.nodes.items mid.nodes.items old.outbox mid.outbox old.halted mid.halted old.starved mid.starved
     old.undecided.items mid.undecided.items old.events.events.items mid.events.events.items
     old.marks.items mid.marks.items
     (ap (λ v. v.items) c.make_room.ensures.nodes) c.make_room.ensures.some
-    c.make_room.ensures.halted c.make_room.ensures.undecided c.make_room.ensures.events
+    c.make_room.ensures.halted c.make_room.ensures.starved c.make_room.ensures.undecided c.make_room.ensures.events
     c.make_room.ensures.marks script st is keeps) put_so lost)
 
 -- the servers stay of their kinds

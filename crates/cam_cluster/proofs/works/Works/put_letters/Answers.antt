@@ -13,9 +13,9 @@ returns-clause-as_before g c =
     let old = c.args.self.now in
     room_made (part g.L.CheckpointLog g.L.EntryLog) (tells_of g.L.CheckpointLog g.L.EntryLog)
     (reads_at g.L.CheckpointLog g.L.EntryLog) old.nodes.items old.nodes.items old.outbox
-    c.put_all.new.self old.halted old.halted old.undecided.items old.undecided.items
+    c.put_all.new.self old.halted old.halted old.starved old.starved old.undecided.items old.undecided.items
     old.events.events.items old.events.events.items old.marks.items old.marks.items refl
-    c.put_all.ensures.some refl refl refl refl
+    c.put_all.ensures.some refl refl refl refl refl
 
 pub returns-clause-all : goal.returns-clause-all
 returns-clause-all g c =

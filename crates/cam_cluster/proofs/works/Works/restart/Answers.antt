@@ -13,6 +13,7 @@ use Rattle.cam_cluster.proofs.HaltsKept.{open_without}
 use Rattle.cam_cluster.proofs.RestartEnds.{after_room, none_if, same_works, some_if, some_there}
 use Rattle.cam_cluster.proofs.RestartReads.{rest_reads}
 use Rattle.cam_cluster.proofs.RestartedWorks.{found_in, restarted_in}
+use Rattle.cam_cluster.proofs.StoppedWorks.{unfailing_less}
 use Rattle.cam_cluster.proofs.works.Works.restart.Goals as goal
 
 pub make_room-requires : goal.make_room-requires
@@ -29,11 +30,11 @@ returns-in_err-make_room-clause-as_before g c =
     let mid = c.make_room.new.self in
     on_err c.from_residual.result _ (room_made (part g.L.CheckpointLog g.L.EntryLog)
     (tells_of g.L.CheckpointLog g.L.EntryLog) (reads_at g.L.CheckpointLog g.L.EntryLog)
-    old.nodes.items mid.nodes.items old.outbox mid.outbox old.halted mid.halted
+    old.nodes.items mid.nodes.items old.outbox mid.outbox old.halted mid.halted old.starved mid.starved
     old.undecided.items mid.undecided.items old.events.events.items mid.events.events.items
     old.marks.items mid.marks.items
     (ap (λ v. v.items) c.make_room.ensures.nodes) c.make_room.ensures.some
-    c.make_room.ensures.halted c.make_room.ensures.undecided c.make_room.ensures.events
+    c.make_room.ensures.halted c.make_room.ensures.starved c.make_room.ensures.undecided c.make_room.ensures.events
     c.make_room.ensures.marks)
 
 pub index_mut-requires : goal.index_mut-requires
@@ -93,33 +94,35 @@ returns-in-Some-clause-restarted g c =
     ends.Found
     (room_made (part g.L.CheckpointLog g.L.EntryLog)
     (tells_of g.L.CheckpointLog g.L.EntryLog) (reads_at g.L.CheckpointLog g.L.EntryLog)
-    was.nodes.items mid.nodes.items was.outbox mid.outbox was.halted mid.halted
+    was.nodes.items mid.nodes.items was.outbox mid.outbox was.halted mid.halted was.starved mid.starved
     was.undecided.items mid.undecided.items was.events.events.items mid.events.events.items
     was.marks.items mid.marks.items same c.make_room.ensures.some
-    c.make_room.ensures.halted c.make_room.ensures.undecided c.make_room.ensures.events
+    c.make_room.ensures.halted c.make_room.ensures.starved c.make_room.ensures.undecided c.make_room.ensures.events
     c.make_room.ensures.marks)
     (subst (λ w. HasRestartedAs c.args.place
     (works_of g.L.CheckpointLog g.L.EntryLog mid) (reads_of g.L.CheckpointLog g.L.EntryLog mid)
     ends.Found w (reads_of g.L.CheckpointLog g.L.EntryLog end))
     (sym (same_works (part g.L.CheckpointLog g.L.EntryLog)
     (tells_of g.L.CheckpointLog g.L.EntryLog) (reads_at g.L.CheckpointLog g.L.EntryLog)
-    end.nodes.items end.outbox _ end.halted _ end.undecided.items _ end.events.events.items _
+    end.nodes.items end.outbox _ end.halted _ end.starved mid.starved end.undecided.items _ end.events.events.items _
     end.marks.items _ (c.go_on.ensures.outbox
     ∙ ap (λ o. record { net = o.net; unput = c.in-Ok.restarted.stepped.letters }) c.put_in.ensures.outbox) (c.go_on.ensures.halted
     ∙ ap (λ hs. set hs c.args.place false) c.put_in.ensures.halted)
+    (c.go_on.ensures.starved ∙ c.put_in.ensures.starved)
     (c.go_on.ensures.undecided ∙ ap (open_without (c.args.place + 1)) c.put_in.ensures.undecided) (c.go_on.ensures.events
     ∙ ap (λ es. es ++ c.in-Ok.restarted.stepped.event ∷ []) c.put_in.ensures.events)
     (ap (λ v. v.items) c.go_on.ensures.marks ∙ c.put_in.ensures.marks)))
     (found_in
     (part g.L.CheckpointLog g.L.EntryLog)
     (tells_of g.L.CheckpointLog g.L.EntryLog) (reads_at g.L.CheckpointLog g.L.EntryLog)
-    c.args.place mid.nodes.items mid.outbox mid.halted mid.undecided.items mid.events.events.items
+    c.args.place mid.nodes.items mid.outbox mid.halted mid.starved mid.undecided.items mid.events.events.items
     mid.marks.items old new there c.requires.place c.index_mut.ensures.value end.nodes.items
     (ap (λ v. v.items) c.go_on.ensures.nodes ∙ ap (λ v. v.items) c.put_in.ensures.nodes) c.restart_cleared.ensures.objects told
     (λ awake logged read. rest_reads _ _ _ logged
     (λ o is. g.met.L.EntryLog.at_rest old.log.log o told (old.log.whole awake) is) read)
     c.in_ok-make_room.ensures.all c.in-Ok.restarted c.in-Ok.ensures.runs c.in-Ok.ensures.restarted
-    c.in-Ok.ensures.letters
+    c.in-Ok.ensures.letters c.restart_cleared.ensures.passes
+    (unfailing_less (part g.L.CheckpointLog g.L.EntryLog old) (part g.L.CheckpointLog g.L.EntryLog new) c.restart_cleared.ensures.tells c.restart_cleared.ensures.faults_within)
     c.in-Some.event c.in_ok-make_room.ensures.few
     (ap (is_halted mid.halted) (after_is c.args.place) ∙ sym c.is_halted-was_halted.ensures
     ∙ (some_if _ _ c.in-Some.event (sym got ∙ c.of_halted.ensures)).0)
@@ -145,30 +148,32 @@ returns-in-None-clause-restarted g c =
     ends.Stood
     (room_made (part g.L.CheckpointLog g.L.EntryLog)
     (tells_of g.L.CheckpointLog g.L.EntryLog) (reads_at g.L.CheckpointLog g.L.EntryLog)
-    was.nodes.items mid.nodes.items was.outbox mid.outbox was.halted mid.halted
+    was.nodes.items mid.nodes.items was.outbox mid.outbox was.halted mid.halted was.starved mid.starved
     was.undecided.items mid.undecided.items was.events.events.items mid.events.events.items
     was.marks.items mid.marks.items same c.make_room.ensures.some
-    c.make_room.ensures.halted c.make_room.ensures.undecided c.make_room.ensures.events
+    c.make_room.ensures.halted c.make_room.ensures.starved c.make_room.ensures.undecided c.make_room.ensures.events
     c.make_room.ensures.marks)
     (subst (λ w. HasRestartedAs c.args.place
     (works_of g.L.CheckpointLog g.L.EntryLog mid) (reads_of g.L.CheckpointLog g.L.EntryLog mid)
     ends.Stood w (reads_of g.L.CheckpointLog g.L.EntryLog end))
     (sym (same_works (part g.L.CheckpointLog g.L.EntryLog)
     (tells_of g.L.CheckpointLog g.L.EntryLog) (reads_at g.L.CheckpointLog g.L.EntryLog)
-    end.nodes.items end.outbox _ end.halted _ end.undecided.items _ end.events.events.items _
+    end.nodes.items end.outbox _ end.halted _ end.starved mid.starved end.undecided.items _ end.events.events.items _
     end.marks.items _ c.go_on-in-None.ensures.outbox c.go_on-in-None.ensures.halted
+    c.go_on-in-None.ensures.starved
     c.go_on-in-None.ensures.undecided c.go_on-in-None.ensures.events
     (ap (λ v. v.items) c.go_on-in-None.ensures.marks)))
     (restarted_in
     (part g.L.CheckpointLog g.L.EntryLog)
     (tells_of g.L.CheckpointLog g.L.EntryLog) (reads_at g.L.CheckpointLog g.L.EntryLog)
-    c.args.place mid.nodes.items mid.outbox mid.halted mid.undecided.items mid.events.events.items
+    c.args.place mid.nodes.items mid.outbox mid.halted mid.starved mid.undecided.items mid.events.events.items
     mid.marks.items old new there c.requires.place c.index_mut.ensures.value end.nodes.items
     (ap (λ v. v.items) c.go_on-in-None.ensures.nodes) c.restart_cleared.ensures.objects told
     (λ awake logged read. rest_reads _ _ _ logged
     (λ o is. g.met.L.EntryLog.at_rest old.log.log o told (old.log.whole awake) is) read)
     c.in_ok-make_room.ensures.all c.in-Ok.restarted c.in-Ok.ensures.runs c.in-Ok.ensures.restarted
-    c.in-Ok.ensures.letters
+    c.in-Ok.ensures.letters c.restart_cleared.ensures.passes
+    (unfailing_less (part g.L.CheckpointLog g.L.EntryLog old) (part g.L.CheckpointLog g.L.EntryLog new) c.restart_cleared.ensures.tells c.restart_cleared.ensures.faults_within)
     (let few = c.in_ok-make_room.ensures.few in omega (arith, few))
     (λ stops. none_if _ _ (sym got ∙ c.of_halted.ensures)
     (c.is_halted-was_halted.ensures ∙ sym (ap (is_halted mid.halted) (after_is c.args.place))

@@ -3,7 +3,7 @@ use Rattle.std.proofs.Common.{refl, ap, arith, rules}
 use Rattle.std.proofs.lemmas.Grind.{common_steps}
 use Rattle.cam_node.specs.Calls.{answers}
 use Rattle.cam_cluster.proofs.AsSeen.{part, reads_at, tells_of}
-use Rattle.cam_cluster.proofs.DiskChanges.{disk_in, same_fields, stays_reads}
+use Rattle.cam_cluster.proofs.DiskChanges.{stays_reads, stopped_in}
 use Rattle.cam_cluster.proofs.works.Works.stop_after.Goals as goal
 
 pub index_mut-requires : goal.index_mut-requires
@@ -15,12 +15,22 @@ returns g c =
     let works = c.args.self.now in
     let old = c.index_mut.result.now in
     let new = c.stop_after.new.self in
-    disk_in (part g.L.CheckpointLog g.L.EntryLog) (tells_of g.L.CheckpointLog g.L.EntryLog)
-    (reads_at g.L.CheckpointLog g.L.EntryLog) c.args.place works.nodes.items _ works.outbox
-    works.halted works.undecided.items works.events.events.items works.marks.items old new c.requires c.index_mut.ensures.value
+    stopped_in (part g.L.CheckpointLog g.L.EntryLog) (tells_of g.L.CheckpointLog g.L.EntryLog)
+    (reads_at g.L.CheckpointLog g.L.EntryLog) c.args.place c.args.calls works.nodes.items _ works.outbox
+    works.halted works.starved works.undecided.items works.events.events.items works.marks.items old new c.requires c.index_mut.ensures.value
     refl
-    (same_fields _ _ _ _ _ _ _ _ _ _ (ap answers c.stop_after.ensures.core)
-    c.stop_after.ensures.listed c.stop_after.ensures.objects c.stop_after.ensures.halted
-    c.stop_after.ensures.halted_at)
+    (λ i. record {
+      site = record {
+        node = answers (c.stop_after.ensures.core i);
+        entries = c.stop_after.ensures.listed i;
+      };
+      objects = c.stop_after.ensures.objects i;
+      halted = c.stop_after.ensures.halted i;
+      halted_at = c.stop_after.ensures.halted_at i;
+      passes = c.stop_after.ensures.passes i;
+      reads = c.stop_after.ensures.reads i;
+      tells = c.stop_after.ensures.tells i;
+      failures = c.stop_after.ensures.faults_within i;
+    })
     c.stop_after.ensures.tells
     (λ logged read. stays_reads _ _ _ _ _ _ _ _ logged c.stop_after.ensures.stays read)

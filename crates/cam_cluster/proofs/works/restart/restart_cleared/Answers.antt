@@ -1,8 +1,8 @@
 -- A node is restarted.
-use Rattle.std.proofs.Common.{ap, ◌∙◌}
+use Rattle.std.proofs.Common.{ap, ◌∙◌, ◌≤◌, subst}
 use Rattle.cam_node.specs.Calls.{answers}
 use Rattle.cam_cluster.proofs.DiskChanges.{stays_reads}
-use Rattle.cam_cluster.proofs.RestartReads.{ok_so, restarted_was}
+use Rattle.cam_cluster.proofs.RestartReads.{found_was, ok_so, restarted_was}
 use Rattle.cam_cluster.proofs.works.restart.restart_cleared.Goals as goal
 
 pub returns-clause-restarted : goal.returns-clause-restarted
@@ -22,6 +22,20 @@ returns-clause-runs g c = c.restart.ensures.runs
 
 pub returns-clause-goes_on : goal.returns-clause-goes_on
 returns-clause-goes_on g c = c.restart.ensures.goes_on
+
+pub returns-clause-found : goal.returns-clause-found
+returns-clause-found g c = λ told.
+    let is = c.clear.ensures in
+    found_was c.restart.result _ _ _ _ _ _ _ _ _ _ is.objects (ap (λ core. core.number) is.core)
+    (ap answers is.core) is.halted_at is.reads (c.restart.ensures.found (is.tells ∙ told))
+
+pub returns-clause-passes : goal.returns-clause-passes
+returns-clause-passes g c = c.restart.ensures.unbounded c.clear.ensures.passes
+
+pub returns-clause-faults_within : goal.returns-clause-faults_within
+returns-clause-faults_within g c =
+    subst (λ n. n ≤ g.L.EntryLog.faults_within c.restart.new.self.log.log)
+    c.clear.ensures.faults_within c.restart.ensures.faults_within
 
 pub returns-clause-tells : goal.returns-clause-tells
 returns-clause-tells g c = c.restart.ensures.tells ∙ c.clear.ensures.tells

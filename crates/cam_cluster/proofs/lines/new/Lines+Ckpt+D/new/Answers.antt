@@ -1,5 +1,6 @@
 -- Lines before the first.
 use Rattle.std.proofs.Common.{◌∙◌}
+use Rattle.cam_ckpt.specs.Reading.{read_ckpt}
 use Rattle.cam_node.specs.Calls.{answers}
 use Rattle.cam_cluster.proofs.BeforeFirst.{new_lines_keep, none_made}
 use Rattle.cam_cluster.proofs.lines.new.Lines+Ckpt+D.new.Goals as goal
@@ -15,6 +16,10 @@ returns-in-Ok-found-clause-before_first g c =
       objects = node.objects;
       halted = node.log.halted;
       halted_at = node.halted_at;
+      passes = g.D.Disk.passes node.log.log.disk;
+      reads = read_ckpt (g.D.Disk.seen node.log.log.disk);
+      tells = g.D.Disk.tells node.log.log.disk;
+      failures = g.D.Disk.faults_within node.log.log.disk;
     }) c.args.script.now c.found.new.nodes.items c.requires.script c.in-Ok-found.ensures.new
     (c.in-Ok-found.ensures.count ∙ c.requires.one_each) c.new.ensures
     c.new-in-Ok-found.ensures.items

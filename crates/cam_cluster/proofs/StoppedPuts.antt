@@ -1,0 +1,171 @@
+-- An input put to a node of works, by the lines that stop its disk.
+use Rattle.std.proofs.Common.{◌≡◌, ◌⊎◌, inl, inr, ℕ, ◌+◌, ◌<◌, ◌≤◌, eqb, Bool, true, false, ◌||◌}
+use Rattle.std.proofs.Common.{List, ◌∷◌, map, set, Option, Some, None}
+use Rattle.std.proofs.Common.{refl, sym, ap, ◌∙◌, subst, arith}
+use Rattle.std.specs.Prelude.{slice_get}
+use Rattle.std.proofs.lemmas.Bool.{eq-eqb, ne_eqb, or_left, true≢false}
+use Rattle.cam_base.specs.Causes.{Rose}
+use Rattle.cam_event.specs.declared.Event.{Event}
+use Rattle.cam_event.specs.Inputs.{Input as NodeInput, Mail, node_of}
+use Rattle.cam_event.specs.Loads.{Load}
+use Rattle.cam_event.specs.Readings.{by_knowledge}
+use Rattle.cam_commit.specs.Steps.{is_restarting}
+use Rattle.cam_delta.proofs.Growing.{history_there}
+use Rattle.cam_log.specs.CutOff.{IsCutOff}
+use Rattle.cam_node.specs.Appending.{HasAppended, OpensAfter}
+use Rattle.cam_node.specs.Found.{HaltsAt}
+use Rattle.cam_node.specs.Halting.{IsStepThrough}
+use Rattle.cam_node.specs.Log.{Logged}
+use Rattle.cam_runs.specs.Running.{has_number}
+use Rattle.cam_runs.specs.Halts.{Turn, Input, appends, calls_left}
+use Rattle.cam_runs.specs.Standing.{Standing}
+use Rattle.cam_script.specs.declared.Script.{Script}
+use Rattle.cam_histories.specs.Laws.{history_of}
+use Rattle.cam_histories.specs.PutIn.{nameless}
+use Rattle.cam_cluster.specs.Puts.{IsPutAt}
+use Rattle.cam_cluster.specs.Stopped.{IsHaltByStop, IsStoppedAs}
+use Rattle.cam_cluster.specs.Stopping.{IsAsStopped, ends_by, runs_on}
+use Rattle.cam_cluster.specs.Works.{NodeFields, WorksFields, KeepsRun, AreStopped, IsUnfailing}
+use Rattle.cam_cluster.specs.Works.{IsUnfailingNode, no_node}
+use Rattle.cam_cluster.proofs.PutNode.{site_is, node_keeps, may_then}
+use Rattle.cam_cluster.proofs.StopTurns.{halted_as, other_calls, other_stopped, stood_as}
+use Rattle.cam_cluster.proofs.StoppedSteps.{ends_there, halted_by_stop, stood_as_stopped}
+use Rattle.cam_cluster.proofs.StoppedWorks.{nodes_stopped, unfailing_before}
+
+none_rose : (before now : ℕ) → Rose before now → now ≡ 0 → ⊥
+none_rose before now rose none = omega (arith, rose, none)
+
+module _ (script : Script) (st : Standing) (place : ℕ) (input : NodeInput) (mail : Option Mail)
+    (load : Load) (works : WorksFields) (might : ℕ → Logged → Type 0) (old : NodeFields)
+    (keeps : KeepsRun script st works might) (put_so : IsPutAt script st place input mail load)
+    (there : slice_get works.nodes place ≡ Some old) (new : NodeFields) (nodes : List NodeFields)
+    (are : nodes ≡ set works.nodes place new) (line : ℕ) (again : Bool)
+    (less : IsUnfailingNode new → IsUnfailingNode old) where
+  abbrev t : List Event
+  t = st.running.trace
+
+  abbrev r : ℕ
+  r = node_of t input
+
+  abbrev w : Bool
+  w = appends (by_knowledge script.objects) t input
+
+  abbrev next : Event
+  next = (by_knowledge script.objects).next t input
+
+  abbrev pub turns_now : List Turn
+  turns_now = Input r line w again ∷ st.turns
+
+  was : (starved : Bool) → (starved ≡ false → works.starved ≡ false) → IsUnfailing starved nodes
+      → AreStopped script.objects t st.halted st.turns works.nodes
+  was starved fed all =
+      let before = unfailing_before starved works.nodes nodes place old new there are less all in
+      keeps.stops (fed before.0, before.1)
+
+  passes_is : AreStopped script.objects t st.halted st.turns works.nodes
+      → old.passes ≡ calls_left st.turns r
+  passes_is all =
+      (all.each place old there refl).awake
+      (ap (has_number st.halted) (sym put_so.at) ∙ put_so.coming.awake)
+      ∙ ap (calls_left st.turns) (sym put_so.at)
+
+  own_number : old.site.node.number ≡ r
+  own_number = (site_is script st place input mail load works might old keeps put_so there).number
+
+  away_from : (m : ℕ) → (m ≡ place + 1 → ⊥) → r ≡ m → ⊥
+  away_from m away e = away (sym e ∙ put_so.at)
+
+  -- its event stands
+  pub stood_stops : (event : Event)
+      → IsStepThrough script.objects old.site.node new.site.node input mail load event
+      → HasAppended script.objects old.site.node input mail load event old.site.entries
+      new.site.entries old.passes new.passes
+      → IsUnfailing works.starved nodes
+      → AreStopped script.objects (next ∷ t) st.halted turns_now nodes
+  stood_stops event step appended all =
+      let before = was works.starved (λ is. is) all in
+      let done = stood_as_stopped script.objects (has_number st.taken) t input mail load
+      old.site.node old.site.entries keeps.under.run put_so.coming.may put_so.is_put own_number
+      (node_keeps script st place input mail load works might old keeps put_so there)
+      (may_then script st place input mail load works might old keeps put_so there)
+      new.site.node event new.site.entries st.turns line again old.passes new.passes step
+      appended (passes_is before) in
+      nodes_stopped script.objects t (next ∷ t) st.halted st.halted st.turns turns_now place
+      works.nodes nodes old new there are
+      (λ m away. ap (λ h. map nameless h)
+      (sym (history_there script.objects next t m (ne_eqb r m (away_from m away)))))
+      (λ m away. refl)
+      (λ m away. other_calls st.turns r line w again m (away_from m away))
+      (λ m away. other_stopped st.turns r line w again m (away_from m away))
+      no_node (λ m away. refl)
+      (stood_as st.turns r line w again (has_number st.halted) put_so.coming.awake
+      (λ m. before.said m refl) done.0)
+      (record {
+        awake = λ runs. done.1 ∙ ap (calls_left turns_now) put_so.at;
+        by_stop = λ said.
+            absurd (true≢false (sym said ∙ ap (has_number st.halted) (sym put_so.at)
+            ∙ put_so.coming.awake));
+      })
+      before
+
+  -- it halted, and its append was cut off by a stop
+  pub halted_stops : (starved : Bool) → (starved ≡ false → works.starved ≡ false)
+      → is_restarting input ≡ false
+      → HaltsAt script.objects old.site.node old.site.entries input mail load new.site.node
+      new.halted_at
+      → (starved ≡ false → new.tells ≡ true → Rose old.failures new.failures
+      ⊎ IsCutOff 4 old.passes new.passes (λ calls. OpensAfter calls script.objects old.site.node
+      old.site.entries input mail load new.reads))
+      → (IsUnfailing starved nodes → IsUnfailingNode new)
+      → IsUnfailing starved nodes
+      → AreStopped script.objects t (r ∷ st.halted) turns_now nodes
+  halted_stops starved fed goes_on halts cause here all =
+      let node = here all in
+      by (was starved fed all) (cause all.0 node.0) node.1
+    where
+      by : AreStopped script.objects t st.halted st.turns works.nodes
+          → Rose old.failures new.failures
+          ⊎ IsCutOff 4 old.passes new.passes (λ calls. OpensAfter calls script.objects
+          old.site.node old.site.entries input mail load new.reads)
+          → new.failures ≡ 0
+          → AreStopped script.objects t (r ∷ st.halted) turns_now nodes
+      by before (inl rose) none = absurd (none_rose old.failures new.failures rose none)
+      by before (inr cut) none =
+          nodes_stopped script.objects t t st.halted (r ∷ st.halted) st.turns turns_now place
+          works.nodes nodes old new there are (λ m away. refl)
+          (λ m away. ap (λ (b : Bool). b || has_number st.halted m)
+          (ne_eqb r m (away_from m away)))
+          (λ m away. other_calls st.turns r line w again m (away_from m away))
+          (λ m away. other_stopped st.turns r line w again m (away_from m away))
+          no_node (λ m away. refl)
+          (halted_as st.turns r line w again st.halted cut.calls put_so.coming.awake
+          (λ m. before.said m refl) ends)
+          (record {
+            awake = λ runs.
+                absurd (true≢false (sym (or_left (eqb r (place + 1))
+                (has_number st.halted (place + 1)) (eq-eqb r (place + 1) put_so.at)) ∙ runs));
+            by_stop = λ said.
+                subst (λ (n : ℕ). IsHaltByStop script.objects (history_of script.objects t n)
+                turns_now n new.site.node new.halted_at new.reads) put_so.at halt;
+          })
+          before
+        where
+          ends : ends_by st.turns r w ≡ Some cut.calls
+          ends =
+              ends_there script.objects (has_number st.taken) t input mail load old.site.node
+              old.site.entries keeps.under.run put_so.coming.may put_so.is_put own_number
+              (node_keeps script st place input mail load works might old keeps put_so there)
+              (may_then script st place input mail load works might old keeps put_so there)
+              cut.calls new.reads st.turns old.passes cut.did (passes_is before) cut.had cut.fewer
+
+          halt : IsHaltByStop script.objects (history_of script.objects t r) turns_now r
+              new.site.node new.halted_at new.reads
+          halt =
+              halted_by_stop script.objects (has_number st.taken) t input mail load old.site.node
+              old.site.entries keeps.under.run put_so.coming.may put_so.is_put own_number
+              (node_keeps script st place input mail load works might old keeps put_so there)
+              (may_then script st place input mail load works might old keeps put_so there)
+              cut.calls new.reads st.turns old.passes line again new.site.node new.halted_at
+              goes_on cut.did halts (passes_is before) cut.had cut.fewer
+              (subst (λ (b : Bool). IsAsStopped b st.turns r) put_so.coming.awake
+              (before.said r refl))

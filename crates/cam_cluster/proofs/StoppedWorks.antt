@@ -1,0 +1,122 @@
+-- The nodes of works by the lines that stop their disks, where one of them steps or restarts.
+use Rattle.std.proofs.Common.{◌≡◌, inl, inr, ℕ, zero, suc, ◌+◌, ◌<◌, ◌≤◌, eqb, Bool, true, false, ◌||◌}
+use Rattle.std.proofs.Common.{◌⊎◌, List, [], ◌∷◌, map, set, Option, Some, None, Result, Err}
+use Rattle.std.proofs.Common.{refl, sym, ap, ◌∙◌, subst, arith}
+use Rattle.std.specs.Prelude.{slice_get}
+use Rattle.std.specs.List.{AllByRecursion}
+use Rattle.std.proofs.lemmas.Bool.{ne_eqb, eq-eqb, true≢false, or_left}
+use Rattle.std.proofs.lemmas.Option.{none-some, slice_get_within, same_Some}
+use Rattle.cam_type.specs.declared.ObjectDecl.{ObjectDecl}
+use Rattle.cam_event.specs.declared.Event.{Event}
+use Rattle.cam_log.specs.CutOff.{IsCutOff}
+use Rattle.cam_runs.specs.Running.{has_number}
+use Rattle.cam_runs.specs.Halts.{Turn, Input, Stop, Restart, calls_left}
+use Rattle.cam_histories.specs.Alike.{AreAlike}
+use Rattle.cam_histories.specs.Laws.{history_of}
+use Rattle.cam_cluster.specs.Stopped.{IsHaltByStop, IsStoppedAs}
+use Rattle.cam_cluster.specs.Stopping.{ends_by, stopped_at, IsAsStopped}
+use Rattle.cam_cluster.specs.Works.{NodeFields, AreStopped, AreStoppedBut, IsUnfailing, IsUnfailingNode}
+use Rattle.cam_cluster.proofs.StopTurns.{ended_as, halted_as, other_calls, other_stopped, stood_as}
+use Rattle.cam_cluster.proofs.StoppedHalts.{halt_alike}
+use Rattle.cam_cluster.proofs.WorksNodes.{set_tells}
+
+-- What holds of each with one changed held before, where it holds of that one then.
+all_before : {X : Type 0} (P : X → Type 0) (xs : List X) (place : ℕ) (old new : X)
+    → slice_get xs place ≡ Some old → (P new → P old) → AllByRecursion P (set xs place new)
+    → AllByRecursion P xs
+all_before P [] place old new there back all = tt
+all_before P (x ∷ xs) zero old new there back all =
+    (subst P (sym (same_Some x old there)) (back all.0), all.1)
+all_before P (x ∷ xs) (suc place) old new there back all =
+    (all.0, all_before P xs place old new there back all.1)
+
+pub unfailing_before : (starved : Bool) (nodes now : List NodeFields) (place : ℕ)
+    (old new : NodeFields) → slice_get nodes place ≡ Some old → now ≡ set nodes place new
+    → (IsUnfailingNode new → IsUnfailingNode old) → IsUnfailing starved now
+    → IsUnfailing starved nodes
+unfailing_before starved nodes now place old new there are back all = (
+  all.0,
+  all_before IsUnfailingNode nodes place old new there back
+      (subst (AllByRecursion IsUnfailingNode) are all.1),
+)
+
+pub unfailing_there : (starved : Bool) (nodes : List NodeFields) (place : ℕ) (node : NodeFields)
+    → slice_get nodes place ≡ Some node → IsUnfailing starved nodes → IsUnfailingNode node
+unfailing_there starved nodes place node at all = one nodes place at all.1
+  where
+    one : (xs : List NodeFields) (k : ℕ) → slice_get xs k ≡ Some node
+        → AllByRecursion IsUnfailingNode xs → IsUnfailingNode node
+    one [] k at each = absurd (none-some node at)
+    one (x ∷ xs) zero at each = subst IsUnfailingNode (same_Some x node at) each.0
+    one (x ∷ xs) (suc k) at each = one xs k at each.1
+
+pub unfailing_less : (old new : NodeFields) → new.tells ≡ old.tells
+    → old.failures ≤ new.failures → IsUnfailingNode new → IsUnfailingNode old
+unfailing_less old new told more all =
+    let none = all.1 in (sym told ∙ all.0, omega (arith, more, none))
+
+-- how a step failed
+pub fault_is : {T E : Type 0} (result : Result T E) (fault cause : E) → result ≡ Err fault
+    → fault ≡ cause → result ≡ Err cause
+fault_is result fault cause is same = is ∙ ap Err same
+
+pub told_cut : (P T : Type 0) (before left : Option ℕ) {Did : ℕ → Type 0} → T
+    → P ⊎ IsCutOff 4 before left (λ calls. T → Did calls) → P ⊎ IsCutOff 4 before left Did
+told_cut P T before left told (inl other) = inl other
+told_cut P T before left told (inr cut) =
+    inr (record {
+      calls = cut.calls;
+      had = cut.had;
+      fewer = cut.fewer;
+      none = cut.none;
+      did = cut.did told;
+    })
+
+-- A node for which history and turns say the same.
+pub stopped_alike : (objects : List ObjectDecl) (t now : List Event) (h halted : List ℕ)
+    (before turns : List Turn) (s : ℕ) (node : NodeFields)
+    → AreAlike (history_of objects t s) (history_of objects now s)
+    → has_number halted s ≡ has_number h s
+    → calls_left turns s ≡ calls_left before s → stopped_at turns s ≡ stopped_at before s
+    → IsStoppedAs objects t h before s node.site.node node.halted_at node.passes node.reads
+    → IsStoppedAs objects now halted turns s node.site.node node.halted_at node.passes node.reads
+stopped_alike objects t now h halted before turns s node alike same calls stops is = record {
+  awake = λ runs. is.awake (sym same ∙ runs) ∙ sym calls;
+  by_stop = λ said.
+      halt_alike objects (history_of objects t s) before s node.site.node node.halted_at node.reads
+      (is.by_stop (sym same ∙ said)) (history_of objects now s) turns alike stops;
+}
+
+-- One node has changed, and the others are said alike.
+module _ (objects : List ObjectDecl) (t now : List Event) (h halted : List ℕ)
+    (before turns : List Turn) (place : ℕ) (nodes nodes_now : List NodeFields)
+    (old new : NodeFields) (there : slice_get nodes place ≡ Some old)
+    (are : nodes_now ≡ set nodes place new)
+    (alike : (m : ℕ) → (m ≡ place + 1 → ⊥)
+    → AreAlike (history_of objects t m) (history_of objects now m))
+    (same : (m : ℕ) → (m ≡ place + 1 → ⊥) → has_number halted m ≡ has_number h m)
+    (calls : (m : ℕ) → (m ≡ place + 1 → ⊥) → calls_left turns m ≡ calls_left before m)
+    (stops : (m : ℕ) → (m ≡ place + 1 → ⊥) → stopped_at turns m ≡ stopped_at before m) where
+  pub nodes_stopped : (but : ℕ → Bool) → ((m : ℕ) → (m ≡ place + 1 → ⊥) → but m ≡ false)
+      → ((s : ℕ) → IsAsStopped (has_number halted s) turns s)
+      → IsStoppedAs objects now halted turns (place + 1) new.site.node new.halted_at new.passes
+      new.reads
+      → AreStoppedBut but objects t h before nodes
+      → AreStopped objects now halted turns nodes_now
+  nodes_stopped but only said own is = record {
+    said = λ s all. said s;
+    each = λ q n at all.
+        elim (set_tells nodes place q new n (slice_get_within nodes place old there)
+        (ap (λ (ns : List NodeFields). slice_get ns q) (sym are) ∙ at)) [
+          | inl y ↦
+              subst (λ (z : ℕ × NodeFields). IsStoppedAs objects now halted turns (z.0 + 1)
+              z.1.site.node z.1.halted_at z.1.passes z.1.reads)
+              (λ i. (sym y.0 i, y.1 i)) own
+          | inr other ↦
+              let away : q + 1 ≡ place + 1 → ⊥ =
+              λ e. other.0 (let back : q ≡ place = omega (arith, e) in back) in
+              stopped_alike objects t now h halted before turns (q + 1) n (alike (q + 1) away)
+              (same (q + 1) away) (calls (q + 1) away) (stops (q + 1) away)
+              (is.each q n other.1 (only (q + 1) away))
+        ];
+  }
