@@ -1,5 +1,5 @@
 -- The answer to words, by the command of which they are the form.
-use Rattle.std.proofs.Common.{◌≡◌, ◌↔◌, inl, inr, ℕ, Bool, true, false, if◌then◌else◌, List, Option, Some, None, Result, Ok, Err, IfOk, refl, sym, ap, ◌∙◌, subst, is_some, string_bytes}
+use Rattle.std.proofs.Common.{◌≡◌, ◌↔◌, inl, inr, ℕ, Bool, true, false, if◌then◌else◌, List, Option, Some, None, Result, Ok, Err, IfOk, refl, sym, ap, ◌∙◌, subst, is_some}
 use mathlib.Core.Bool.{true≢false}
 use Rattle.cam_base.specs.Told.{IfTold}
 use Rattle.cam_know.specs.declared.Reason.{Reason}
@@ -17,7 +17,10 @@ use Rattle.cam_run.specs.Status.{number}
 use Rattle.cam_run.specs.declared.question.Question.{Question}
 use Rattle.cam_run.specs.declared.question.Question.TheVariants.{Report, Trace, Witness, Why, Summary}
 use Rattle.cam_run.specs.Told.{IsOfAction, IsOfStop, IsTold, has_action, stop_of, told_status}
-use Rattle.cam_run.specs.Commands.{IsBuilt, IsForm, IsFormFor, bytes_for, question_of}
+use Rattle.cam_image.specs.declared.fault.ImageFault.{ImageFault}
+use Rattle.cam_image.specs.declared.fault.ImageFault.TheVariants.{NotALog, BadRecord, NoMemory as NoMemoryOfImage}
+use Rattle.cam_run.specs.Commands.{Asked, IsBuilt, IsForm, IsFormFor, asked_by, asks_something, bytes_for, nothing, of_image, of_run}
+use Rattle.cam_run.specs.Image.{IsOfImage, image_status, made}
 use Rattle.cam_run.specs.Answer.{IsAnswer, IsAsked, IsOfCommand, IsOfScript, asked_status, command_status, script_of, status_of}
 
 -- the command that words are the form of is one alone
@@ -41,13 +44,14 @@ built_is_form words command form finds = (
 pub is_answer : (words : List (List ℕ)) (command : Command) (HasFailed : Type 0) (input : List ℕ) (status : ℕ) (text : List ℕ)
     → IsFormOf words command → Finds words (Ok command) → IsOfCommand command HasFailed input status text
     → IsAnswer words HasFailed input status text
-is_answer words command HasFailed input status text form finds told = by (question_of command) refl told
+is_answer words command HasFailed input status text form finds told = by (asked_by command) refl told
   where
-    by : (asked : Option Question) → question_of command ≡ asked → IsAsked asked command HasFailed input status text
+    by : (asked : Asked) → asked_by command ≡ asked → IsAsked asked command HasFailed input status text
         → IsAnswer words HasFailed input status text
-    by (Some question) is answer = inr (command, record { form = form; built = ap is_some is }, told)
-    by None is answer = inl (
-      λ other. true≢false (sym ((built_is_form words command form finds).1 other) ∙ ap is_some is),
+    by (of_run question) is answer = inr (command, record { form = form; built = ap asks_something is }, told)
+    by (of_image making) is answer = inr (command, record { form = form; built = ap asks_something is }, told)
+    by nothing is answer = inl (
+      λ other. true≢false (sym ((built_is_form words command form finds).1 other) ∙ ap asks_something is),
       answer,
     )
 
@@ -72,15 +76,23 @@ script_has_status question (Ok script) status text told = told_has_status questi
 script_has_status question (Err (Bad line column cause)) status text told = told.0
 script_has_status question (Err NoMemory) status text told = absurd told
 
+image_has_status : (read : Result (List ℕ) ImageFault) (status : ℕ) (text : List ℕ) → IsOfImage read status text → status ≡ image_status read
+image_has_status (Ok bytes) status text told = told.0
+image_has_status (Err (NotALog at)) status text told = told.0
+image_has_status (Err (BadRecord entry at)) status text told = told.0
+image_has_status (Err NoMemoryOfImage) status text told = absurd told
+
 -- the status of the answer to a command, where the source did not fail
 pub command_has_status : (command : Command) (HasFailed : Type 0) (input : List ℕ) (status : ℕ) (text : List ℕ) → IsOfCommand command HasFailed input status text
     → (HasFailed → ⊥) → status ≡ command_status command input
-command_has_status command HasFailed input status text told whole = by (question_of command) told
+command_has_status command HasFailed input status text told whole = by (asked_by command) told
   where
-    by : (asked : Option Question) → IsAsked asked command HasFailed input status text → status ≡ asked_status asked (script_of (bytes_for command input))
-    by (Some question) (inl (reading, failed, told)) = absurd (whole failed)
-    by (Some question) (inr answer) = script_has_status question (script_of (bytes_for command input)) status text answer
-    by None answer = answer.0
+    by : (asked : Asked) → IsAsked asked command HasFailed input status text → status ≡ asked_status asked command input
+    by (of_run question) (inl (reading, failed, told)) = absurd (whole failed)
+    by (of_run question) (inr answer) = script_has_status question (script_of (bytes_for command input)) status text answer
+    by (of_image making) (inl (failed, told)) = absurd (whole failed)
+    by (of_image making) (inr answer) = image_has_status (made making input) status text answer
+    by nothing answer = answer.0
 
 -- so the answer to words has the status of their command
 pub words_have_status : (words : List (List ℕ)) (command : Command) (HasFailed : Type 0) (input : List ℕ) (status : ℕ) (text : List ℕ)
@@ -93,10 +105,10 @@ words_have_status words command HasFailed input status text finds told other for
 -- the answer to a command, from what is told of it before it is known whether it was made, and whether the source tells its bytes
 pub answers_words : {E : Type 0} (words : List (List ℕ)) (command : Command) (HasFailed : Type 0) (old new : Option (List ℕ)) (r : Result Answer E)
     → IsFormOf words command → Finds words (Ok command)
-    → IfTold old new (λ input rest. IfOk r (λ a. IsOfCommand command HasFailed input (number a.status) (string_bytes a.text)))
-    → IfTold old new (λ input rest. IfOk r (λ a. IsAnswer words HasFailed input (number a.status) (string_bytes a.text)))
+    → IfTold old new (λ input rest. IfOk r (λ a. IsOfCommand command HasFailed input (number a.status) a.text.items))
+    → IfTold old new (λ input rest. IfOk r (λ a. IsAnswer words HasFailed input (number a.status) a.text.items))
 answers_words words command HasFailed (Some input) (Some rest) (Ok a) form finds told =
-    is_answer words command HasFailed input (number a.status) (string_bytes a.text) form finds told
+    is_answer words command HasFailed input (number a.status) a.text.items form finds told
 answers_words words command HasFailed (Some input) (Some rest) (Err e) form finds told = tt
 answers_words words command HasFailed (Some input) None r form finds told = absurd told
 answers_words words command HasFailed None (Some rest) r form finds told = absurd told
@@ -105,10 +117,10 @@ answers_words words command HasFailed None None r form finds told = tt
 -- and its status
 pub completes_words : {E : Type 0} (words : List (List ℕ)) (command : Command) (HasFailed : Type 0) (old new : Option (List ℕ)) (r : Result Answer E)
     → Finds words (Ok command)
-    → IfTold old new (λ input rest. IfOk r (λ a. IsOfCommand command HasFailed input (number a.status) (string_bytes a.text)))
+    → IfTold old new (λ input rest. IfOk r (λ a. IsOfCommand command HasFailed input (number a.status) a.text.items))
     → IfTold old new (λ input rest. IfOk r (λ a. (other : Command) → IsFormFor words other → (HasFailed → ⊥) → number a.status ≡ command_status other input))
 completes_words words command HasFailed (Some input) (Some rest) (Ok a) finds told =
-    words_have_status words command HasFailed input (number a.status) (string_bytes a.text) finds told
+    words_have_status words command HasFailed input (number a.status) a.text.items finds told
 completes_words words command HasFailed (Some input) (Some rest) (Err e) finds told = tt
 completes_words words command HasFailed (Some input) None r finds told = absurd told
 completes_words words command HasFailed None (Some rest) r finds told = absurd told
@@ -117,15 +129,15 @@ completes_words words command HasFailed None None r finds told = tt
 -- `gen` answers by the script of its seed, and leaves the source as it is
 pub answers_seed : {E : Type 0} (command : Command) (seed size : ℕ) (HasFailed : Type 0) (left : Option (List ℕ)) (r : Result Answer E)
     → command ≡ Gen seed size
-    → IfOk r (λ a. IsOfScript (Summary size) (script_of (generated seed size)) (number a.status) (string_bytes a.text))
-    → IfTold left left (λ input rest. IfOk r (λ a. IsOfCommand command HasFailed input (number a.status) (string_bytes a.text)))
+    → IfOk r (λ a. IsOfScript (Summary size) (script_of (generated seed size)) (number a.status) a.text.items)
+    → IfTold left left (λ input rest. IfOk r (λ a. IsOfCommand command HasFailed input (number a.status) a.text.items))
 answers_seed {E} command seed size HasFailed left r is told =
-    subst (λ (c : Command). IfTold left left (λ input rest. IfOk r (λ a. IsOfCommand c HasFailed input (number a.status) (string_bytes a.text))))
+    subst (λ (c : Command). IfTold left left (λ input rest. IfOk r (λ a. IsOfCommand c HasFailed input (number a.status) a.text.items)))
     (sym is) (by left r told)
   where
     by : (left : Option (List ℕ)) (r : Result Answer E)
-        → IfOk r (λ a. IsOfScript (Summary size) (script_of (generated seed size)) (number a.status) (string_bytes a.text))
-        → IfTold left left (λ input rest. IfOk r (λ a. IsOfCommand (Gen seed size) HasFailed input (number a.status) (string_bytes a.text)))
+        → IfOk r (λ a. IsOfScript (Summary size) (script_of (generated seed size)) (number a.status) a.text.items)
+        → IfTold left left (λ input rest. IfOk r (λ a. IsOfCommand (Gen seed size) HasFailed input (number a.status) a.text.items))
     by (Some input) (Ok a) answer = inr answer
     by (Some input) (Err e) answer = tt
     by None made answer = tt

@@ -2,3 +2,4 @@ pub mod Recorded
 pub mod Commanded
 pub mod Written
 pub mod WorkedAnswers
+pub mod Imaged

@@ -1,13 +1,13 @@
 -- What the program answers: a status and a text, by its words and by the input.
 --
--- 0 the text of the command, of the run of the script
+-- 0 the text of the command, of the run of the script or of the image of a log
 -- 2 the usage text, where the words are no form
--- 3 where the script is refused: the line of its first fault
+-- 3 where the script or the image is refused: the line of its first fault
 -- 4 `read fault`, where the source failed
 -- 5 a prefix of one of these texts, where the sink failed
 -- 7 nothing, where memory ran out
 -- 8 where the run has no such action, or no such stop: a line that says so
-use Rattle.std.specs.Prelude.{ℕ, ◌≡◌, ◌≤◌, ◌⊎◌, true, List, ◌++◌, length, take, Option, Some, None, Result, Ok, Err}
+use Rattle.std.specs.Prelude.{ℕ, ◌≡◌, ◌≤◌, ◌⊎◌, true, List, ◌++◌, length, take, Result, Ok, Err}
 use Rattle.cam_args.specs.declared.Command.{Command}
 use Rattle.cam_script.specs.declared.Script.{Script}
 use Rattle.cam_words.specs.declared.fault.ScriptFault.{ScriptFault}
@@ -17,7 +17,8 @@ use Rattle.cam_script.specs.Grammar.{read_script}
 use Rattle.cam_run.specs.declared.question.Question.{Question}
 use Rattle.cam_run.specs.Texts.{usage_text, read_fault_text, refused_text}
 use Rattle.cam_run.specs.Taken.{taken_lines}
-use Rattle.cam_run.specs.Commands.{IsForm, IsFormFor, bytes_for, question_of, reads}
+use Rattle.cam_run.specs.Commands.{Asked, IsForm, IsFormFor, asked_by, bytes_for, nothing, of_image, of_run, reads}
+use Rattle.cam_run.specs.Image.{IsOfImage, image_status, made}
 use Rattle.cam_run.specs.Told.{IsTold, told_status}
 
 -- the script that bytes spell, or its first fault
@@ -48,16 +49,18 @@ IsOfInput question HasFailed input status text =
 abbrev pub IsOfWords : ℕ → List ℕ → Type 0
 IsOfWords status text = (status ≡ 2) × (text ≡ usage_text)
 
--- the answer to a command, by what it asks; one that is not built is no form
-abbrev pub IsAsked : Option Question → Command → Type 0 → List ℕ → ℕ → List ℕ → Type 0
-IsAsked (Some question) command HasFailed input status text =
+-- the answer to a command, by what it asks: the source may have failed to give what it reads; one that is not built is no form
+abbrev pub IsAsked : Asked → Command → Type 0 → List ℕ → ℕ → List ℕ → Type 0
+IsAsked (of_run question) command HasFailed input status text =
     ((reads command ≡ true) × HasFailed × IsOfFault status text)
     ⊎ IsOfScript question (script_of (bytes_for command input)) status text
-IsAsked None command HasFailed input status text = IsOfWords status text
+IsAsked (of_image making) command HasFailed input status text =
+    (HasFailed × IsOfFault status text) ⊎ IsOfImage (made making input) status text
+IsAsked nothing command HasFailed input status text = IsOfWords status text
 
 abbrev pub IsOfCommand : Command → Type 0 → List ℕ → ℕ → List ℕ → Type 0
 IsOfCommand command HasFailed input status text =
-    IsAsked (question_of command) command HasFailed input status text
+    IsAsked (asked_by command) command HasFailed input status text
 
 -- The answer to words and an input, which a source may have failed to give.
 abbrev pub IsAnswer : List (List ℕ) → Type 0 → List ℕ → ℕ → List ℕ → Type 0
@@ -79,9 +82,10 @@ status_of question (Ok script) = told_status question script
 status_of question (Err (Bad line column cause)) = 3
 status_of question (Err NoMemory) = 7
 
-abbrev pub asked_status : Option Question → Result Script ScriptFault → ℕ
-asked_status (Some question) read = status_of question read
-asked_status None read = 2
+abbrev pub asked_status : Asked → Command → List ℕ → ℕ
+asked_status (of_run question) command input = status_of question (script_of (bytes_for command input))
+asked_status (of_image making) command input = image_status (made making input)
+asked_status nothing command input = 2
 
 abbrev pub command_status : Command → List ℕ → ℕ
-command_status command input = asked_status (question_of command) (script_of (bytes_for command input))
+command_status command input = asked_status (asked_by command) command input

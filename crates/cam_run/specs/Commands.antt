@@ -1,23 +1,36 @@
--- The commands that are built: what each asks of the run of a script, and where the script comes from.
-use Rattle.std.specs.Prelude.{◌≡◌, ℕ, Bool, true, false, List, Option, Some, None, is_some}
+-- The commands that are built: what each asks, of the run of a script or of the image of a log, and where its bytes come from.
+use Rattle.std.specs.Prelude.{◌≡◌, ℕ, Bool, true, false, List}
 use Rattle.cam_args.specs.declared.Command.{Command}
-use Rattle.cam_args.specs.declared.Command.TheVariants.{Run, Trace, Witness, Gen, Why}
+use Rattle.cam_args.specs.declared.Command.TheVariants.{Run, Trace, Witness, Gen, Inspect, Upgrade, Why}
 use Rattle.cam_args.specs.Forms.{IsForm as IsFormOf}
 use Rattle.cam_gen.specs.Script.{script_of as generated}
 use Rattle.cam_run.specs.declared.question.Question.{Question}
 use Rattle.cam_run.specs.declared.question.Question.TheVariants as questions
+use Rattle.cam_run.specs.declared.image.Making.{Making}
+use Rattle.cam_run.specs.declared.image.Making.TheVariants as makings
 
--- what a command asks, if it is built
-abbrev pub question_of : Command → Option Question
-question_of Run = Some questions.Report
-question_of Trace = Some questions.Trace
-question_of (Witness a) = Some (questions.Witness a)
-question_of (Why event) = Some (questions.Why event)
-question_of (Gen seed size) = Some (questions.Summary size)
-question_of _ = None
+-- what is asked of the run of a script or of the image of a log; nothing by a command that is not built
+pub data Asked : Type 0 where
+  of_run : Question → Asked
+  of_image : Making → Asked
+  nothing : Asked
+
+abbrev pub asked_by : Command → Asked
+asked_by Run = of_run questions.Report
+asked_by Trace = of_run questions.Trace
+asked_by (Witness a) = of_run (questions.Witness a)
+asked_by (Why event) = of_run (questions.Why event)
+asked_by (Gen seed size) = of_run (questions.Summary size)
+asked_by Inspect = of_image makings.Text
+asked_by Upgrade = of_image makings.Version2
+asked_by _ = nothing
+
+abbrev pub asks_something : Asked → Bool
+asks_something nothing = false
+asks_something _ = true
 
 abbrev pub IsBuilt : Command → Type 0
-IsBuilt command = is_some (question_of command) ≡ true
+IsBuilt command = asks_something (asked_by command) ≡ true
 
 -- the bytes of the script that a command runs: the input, and for `gen` those that are made from its seed
 abbrev pub bytes_for : Command → List ℕ → List ℕ
@@ -30,6 +43,8 @@ reads Run = true
 reads Trace = true
 reads (Witness a) = true
 reads (Why event) = true
+reads Inspect = true
+reads Upgrade = true
 reads _ = false
 
 -- the words are the form of this command, which is built

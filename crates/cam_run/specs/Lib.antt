@@ -3,5 +3,6 @@ pub mod Texts
 pub mod Taken
 pub mod Told
 pub mod Commands
+pub mod Image
 pub mod Answer
 pub mod Worked

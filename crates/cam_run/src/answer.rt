@@ -1,4 +1,4 @@
-//! Answers: a status and its text.
+//! Answers: a status and its text, as bytes.
 ghost use Rattle.std.specs.Prelude.{◌≡◌, IfOk, string_bytes};
 ghost use Rattle.cam_words.specs.Causes.{cause_number};
 ghost use Rattle.cam_run.specs.Status.{number};
@@ -10,34 +10,34 @@ use cam_base::NoMemory;
 use cam_script::Cause;
 use std::alloc::Global;
 
-/// A status and its text.
+/// A status and its text, as bytes.
 #[derive(Drop)]
 pub(crate) struct Answer {
     pub(crate) status: Status,
-    pub(crate) text: String,
+    pub(crate) text: Vec<u8>,
 }
 
 /// The answer to words that are no form.
 pub(crate) fn usage(alloc: Global) -> Result<Answer, NoMemory>
-    ensures { IfOk result (λ a. IsOfWords (number a.status) (string_bytes a.text)) }
+    ensures { IfOk result (λ a. IsOfWords (number a.status) a.text.items) }
 {
     let text = format!(in alloc;
         "usage: camelot run | trace | witness NAME | gen SEED SIZE | storm SEED ACTIONS THREADS MODE | inspect | upgrade | why EVENT | timed\n"
     )?;
     Ok(Answer {
         status: Status::Usage,
-        text,
+        text: text.into_bytes(),
     })
 }
 
 /// The answer where the source failed.
 pub(crate) fn read_fault(alloc: Global) -> Result<Answer, NoMemory>
-    ensures { IfOk result (λ a. IsOfFault (number a.status) (string_bytes a.text)) }
+    ensures { IfOk result (λ a. IsOfFault (number a.status) a.text.items) }
 {
     let text = format!(in alloc; "read fault\n")?;
     Ok(Answer {
         status: Status::ReadFault,
-        text,
+        text: text.into_bytes(),
     })
 }
 

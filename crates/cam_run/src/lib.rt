@@ -8,6 +8,7 @@
 #![tactic(auto)]
 
 mod answer;
+mod image;
 mod question;
 mod running;
 mod script;

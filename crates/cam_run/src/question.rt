@@ -1,5 +1,5 @@
 //! What a command asks of the run of a script, and the answer.
-ghost use Rattle.std.specs.Prelude.{◌≡◌, IfOk, string_bytes};
+ghost use Rattle.std.specs.Prelude.{◌≡◌, IfOk};
 ghost use Rattle.cam_script.specs.Law.{IsScript};
 ghost use Rattle.cam_script.specs.OfStage.{IsOfStage};
 ghost use Rattle.cam_headline.specs.Headline.{HasOneRun};
@@ -43,7 +43,7 @@ impl Question {
         requires forms { IsOfStage taken_stage script.now }
         requires run { HasOneRun script.now }
         ensures told { IfOk result
-            (λ a. IsTold self.now script.now (number a.status) (string_bytes a.text)) }
+            (λ a. IsTold self.now script.now (number a.status) a.text.items) }
         ensures telling { IfOk result (λ a. IsTelling a.status) }
     {
         let run = run(alloc, script)?;
@@ -61,12 +61,12 @@ impl Question {
 fn report(alloc: Global, script: &Script, run: &RunRecord) -> Result<Answer, NoMemory>
     requires { IsOneRun script.now run.now }
     ensures told { IfOk result
-        (λ a. IsTold questions.Report script.now (number a.status) (string_bytes a.text)) }
+        (λ a. IsTold questions.Report script.now (number a.status) a.text.items) }
     ensures telling { IfOk result (λ a. IsTelling a.status) }
 {
     Ok(Answer {
         status: Status::Done,
-        text: report_text(alloc, script, run)?,
+        text: report_text(alloc, script, run)?.into_bytes(),
     })
 }
 
@@ -74,12 +74,12 @@ fn report(alloc: Global, script: &Script, run: &RunRecord) -> Result<Answer, NoM
 fn trace(alloc: Global, script: &Script, run: &RunRecord) -> Result<Answer, NoMemory>
     requires { IsOneRun script.now run.now }
     ensures told { IfOk result
-        (λ a. IsTold questions.Trace script.now (number a.status) (string_bytes a.text)) }
+        (λ a. IsTold questions.Trace script.now (number a.status) a.text.items) }
     ensures telling { IfOk result (λ a. IsTelling a.status) }
 {
     Ok(Answer {
         status: Status::Done,
-        text: trace_text(alloc, script, run)?,
+        text: trace_text(alloc, script, run)?.into_bytes(),
     })
 }
 
@@ -88,17 +88,17 @@ fn witness(alloc: Global, script: &Script, run: &RunRecord, name: &Name) -> Resu
     requires { IsOneRun script.now run.now }
     ensures told { IfOk result
         (λ a. IsTold (questions.Witness name.now) script.now
-        (number a.status) (string_bytes a.text)) }
+        (number a.status) a.text.items) }
     ensures telling { IfOk result (λ a. IsTelling a.status) }
 {
     match witness_text(alloc, script, run, name) {
         Ok(text) => Ok(Answer {
             status: Status::Done,
-            text,
+            text: text.into_bytes(),
         }),
         Err(CutFault::NoSuchAction) => Ok(Answer {
             status: Status::Missing,
-            text: format!(in alloc; "no such action\n")?,
+            text: format!(in alloc; "no such action\n")?.into_bytes(),
         }),
         Err(CutFault::NoMemory) => Err(NoMemory),
     }
@@ -109,17 +109,17 @@ fn why(alloc: Global, script: &Script, run: &RunRecord, event: u32) -> Result<An
     requires one { IsOneRun script.now run.now }
     requires run { HasOneRun script.now }
     ensures told { IfOk result
-        (λ a. IsTold (questions.Why event) script.now (number a.status) (string_bytes a.text)) }
+        (λ a. IsTold (questions.Why event) script.now (number a.status) a.text.items) }
     ensures telling { IfOk result (λ a. IsTelling a.status) }
 {
     match why_text(alloc, run, event) {
         Ok(text) => Ok(Answer {
             status: Status::Done,
-            text,
+            text: text.into_bytes(),
         }),
         Err(WhyFault::NoSuchStop) => Ok(Answer {
             status: Status::Missing,
-            text: format!(in alloc; "no such stop\n")?,
+            text: format!(in alloc; "no such stop\n")?.into_bytes(),
         }),
         Err(WhyFault::NoMemory) => Err(NoMemory),
     }
@@ -130,13 +130,13 @@ fn summary(alloc: Global, script: &Script, run: &RunRecord, steps: u32) -> Resul
     requires { IsOneRun script.now run.now }
     ensures told { IfOk result
         (λ a. IsTold (questions.Summary steps) script.now
-        (number a.status) (string_bytes a.text)) }
+        (number a.status) a.text.items) }
     ensures telling { IfOk result (λ a. IsTelling a.status) }
 {
     let report = report_text(alloc, script, run)?;
     let digest = digest_text(alloc, report.as_bytes())?;
     Ok(Answer {
         status: Status::Done,
-        text: summary_text(alloc, run, steps, digest.as_str())?,
+        text: summary_text(alloc, run, steps, digest.as_str())?.into_bytes(),
     })
 }

@@ -1,5 +1,5 @@
 //! The answer to a question by the bytes of a script: those that a source gives, or those that are made from a seed.
-ghost use Rattle.std.specs.Prelude.{◌≡◌, ◌⊎◌, [], IfOk, string_bytes};
+ghost use Rattle.std.specs.Prelude.{◌≡◌, ◌⊎◌, [], IfOk};
 ghost use Rattle.cam_base.specs.Causes.{Rose};
 ghost use Rattle.cam_base.specs.Told.{IfTold};
 ghost use Rattle.cam_gen.specs.Script.{script_of as generated};
@@ -26,7 +26,7 @@ pub(crate) fn of_source<S: Source>(
     ensures answer { IfTold (S.left source.old) (S.left source.new) (λ input _.
         IfOk result (λ a. IsOfInput question.now
         (Rose (S.faults source.old) (S.faults source.new))
-        input (number a.status) (string_bytes a.text))) }
+        input (number a.status) a.text.items)) }
     ensures statuses { IfOk result
         (λ a. IsTelling a.status
         ⊎ ((a.status ≡ statuses.Refused) ⊎ (a.status ≡ statuses.ReadFault))) }
@@ -54,7 +54,7 @@ pub(crate) fn of_source<S: Source>(
 pub(crate) fn of_seed(alloc: Global, seed: u64, size: u32) -> Result<Answer, NoMemory>
     ensures answer { IfOk result
         (λ a. IsOfScript (questions.Summary size) (script_of (generated seed size))
-        (number a.status) (string_bytes a.text)) }
+        (number a.status) a.text.items) }
     ensures statuses { IfOk result
         (λ a. IsTelling a.status ⊎ (a.status ≡ statuses.Refused)) }
 {
@@ -66,7 +66,7 @@ pub(crate) fn of_seed(alloc: Global, seed: u64, size: u32) -> Result<Answer, NoM
 fn of_bytes(alloc: Global, question: &Question, bytes: &[u8]) -> Result<Answer, NoMemory>
     ensures answer { IfOk result
         (λ a. IsOfScript question.now (script_of bytes.now)
-        (number a.status) (string_bytes a.text)) }
+        (number a.status) a.text.items) }
     ensures statuses { IfOk result
         (λ a. IsTelling a.status ⊎ (a.status ≡ statuses.Refused)) }
 {
@@ -79,7 +79,7 @@ fn of_bytes(alloc: Global, question: &Question, bytes: &[u8]) -> Result<Answer, 
 /// The answer to a script with this first fault.
 fn refusal(alloc: Global, fault: ScriptFault) -> Result<Answer, NoMemory>
     ensures answer { IfOk result
-        (λ a. IsRefused fault (number a.status) (string_bytes a.text)) }
+        (λ a. IsRefused fault (number a.status) a.text.items) }
     ensures status { IfOk result (λ a. a.status ≡ statuses.Refused) }
 {
     match fault {
@@ -89,7 +89,7 @@ fn refusal(alloc: Global, fault: ScriptFault) -> Result<Answer, NoMemory>
             cause,
         } => Ok(Answer {
             status: Status::Refused,
-            text: refused_line(alloc, line, column, cause)?,
+            text: refused_line(alloc, line, column, cause)?.into_bytes(),
         }),
         ScriptFault::NoMemory => Err(NoMemory),
     }

@@ -9,7 +9,7 @@ pub enum Status {
     Done,
     /// The words are no form.
     Usage,
-    /// The script was refused.
+    /// The script, or the image of a log, was refused.
     Refused,
     /// The source failed.
     ReadFault,

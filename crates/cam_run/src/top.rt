@@ -4,6 +4,7 @@ ghost use Rattle.cam_base.specs.Causes.{Rose};
 ghost use Rattle.cam_base.specs.Told.{IfTold};
 ghost use Rattle.cam_args.specs.declared.Command.{Command as Commands};
 ghost use Rattle.cam_headline.specs.Headline.{HasOneRun};
+ghost use Rattle.cam_image.specs.Laws.{UpgradeIsMigration, UpgradeIsOnce};
 ghost use Rattle.cam_run.specs.declared.status.Status.TheVariants as statuses;
 ghost use Rattle.cam_run.specs.Status.{number};
 ghost use Rattle.cam_run.specs.Told.{IsTelling};
@@ -11,6 +12,7 @@ ghost use Rattle.cam_run.specs.Commands.{IsBuilt, IsForm, IsFormFor, Reads, read
 ghost use Rattle.cam_run.specs.Answer.{IsAnswer, IsOfCommand, IsWritten, command_status, script_of};
 
 use crate::answer::{Answer, usage};
+use crate::image::{Making, of_image};
 use crate::question::Question;
 use crate::script::{of_seed, of_source};
 use crate::status::Status;
@@ -20,13 +22,15 @@ use cam_io::{Sink, Source, write_all};
 use std::alloc::Global;
 
 /// Does what the words say, and writes its text to the sink. `run`, `trace`, `witness NAME` and `why EVENT` read a script from the
-/// source and tell of its run; `gen SEED SIZE` reads nothing, and tells of the run of the script that is made from the seed.
+/// source and tell of its run; `gen SEED SIZE` reads nothing, and tells of the run of the script that is made from the seed. `inspect` and
+/// `upgrade` read the image of a log: the one tells its records, the other writes the image of the same log in version 2.
 ///
-/// The answer is the status of the program: 0 the text of the command was written; 2 the words are no form; 3 the script was refused;
+/// The answer is the status of the program: 0 the text of the command was written; 2 the words are no form; 3 the script or the image was
+/// refused;
 /// 4 the source failed; 5 the sink failed, and a prefix of the text was written; 7 out of memory, and nothing was written; 8 the run has no
 /// such action, or no such stop. The text is made whole before the first write. What the run of each accepted script owes is told in
 /// `docs/HEADLINE.md`.
-#[tactic(auto, using(cam_headline::proofs::Whole::headline_holds))]
+#[tactic(auto, using(cam_headline::proofs::Whole::headline_holds, cam_image::proofs::Again::upgrade_is_migration, cam_image::proofs::Again::upgrade_is_once))]
 pub fn camelot<S: Source, K: Sink>(
     alloc: Global,
     words: &[String],
@@ -58,7 +62,12 @@ pub fn camelot<S: Source, K: Sink>(
     // hold different outcomes.
     ensures headline { (input : List ℕ) → IfOk (script_of input) HasOneRun }
 
-    // The source: read to its end for what is told of its script, and not at all by words that ask for no such thing.
+    // Of every image that is upgraded: what is written is the migrated log, of which just that is recovered which was recovered of the
+    // image; and upgraded again it is left as it is.
+    ensures upgrade { UpgradeIsMigration }
+    ensures upgrade_again { UpgradeIsOnce }
+
+    // The source: read to its end for what is told of its script or image, and not at all by words that ask for no such thing.
     ensures read { Reads (map string_bytes words.now) → (result ≡ 0) ⊎ (result ≡ 8)
         → IfTold (S.left source.old) (S.left source.new) (λ _ rest. rest ≡ []) }
     ensures unread { ¬ (Reads (map string_bytes words.now)) → source.new ≡ source.old }
@@ -66,7 +75,7 @@ pub fn camelot<S: Source, K: Sink>(
     let Ok(answer) = answer_to(alloc, words, source) else {
         return Status::NoMemory.number();
     };
-    match write_all(sink, answer.text.as_bytes()) {
+    match write_all(sink, &answer.text) {
         Ok(()) => answer.status.number(),
         Err(_) => Status::WriteFault.number(),
     }
@@ -77,7 +86,7 @@ fn answer_to<S: Source>(alloc: Global, words: &[String], source: &mut S) -> Resu
     ensures answer { IfTold (S.left source.old) (S.left source.new) (λ input _.
         IfOk result (λ a.
         IsAnswer (map string_bytes words.now) (Rose (S.faults source.old) (S.faults source.new))
-        input (number a.status) (string_bytes a.text))) }
+        input (number a.status) a.text.items)) }
     ensures complete { IfTold (S.left source.old) (S.left source.new) (λ input _.
         IfOk result (λ a. (command : Commands) → IsFormFor (map string_bytes words.now) command
         → ¬ (Rose (S.faults source.old) (S.faults source.new))
@@ -105,7 +114,7 @@ fn obey<S: Source>(alloc: Global, command: &Command, source: &mut S) -> Result<A
     ensures answer { IfTold (S.left source.old) (S.left source.new) (λ input _.
         IfOk result (λ a. IsOfCommand command.now
         (Rose (S.faults source.old) (S.faults source.new))
-        input (number a.status) (string_bytes a.text))) }
+        input (number a.status) a.text.items)) }
     ensures statuses { IfOk result
         (λ a. IsTelling a.status ⊎ ((a.status ≡ statuses.Usage)
         ⊎ ((a.status ≡ statuses.Refused) ⊎ (a.status ≡ statuses.ReadFault)))) }
@@ -124,8 +133,8 @@ fn obey<S: Source>(alloc: Global, command: &Command, source: &mut S) -> Result<A
         Command::Witness(name) => of_source(alloc, &Question::Witness(*name), source),
         Command::Why(event) => of_source(alloc, &Question::Why(*event), source),
         Command::Gen { seed, size } => of_seed(alloc, *seed, *size),
-        Command::Storm { .. } | Command::Inspect | Command::Upgrade | Command::Timed => usage(
-            alloc,
-        ),
+        Command::Inspect => of_image(alloc, Making::Text, source),
+        Command::Upgrade => of_image(alloc, Making::Version2, source),
+        Command::Storm { .. } | Command::Timed => usage(alloc),
     }
 }

@@ -1,4 +1,4 @@
-//! The commands beside `run`: what each tells of a run, and where there is nothing to tell.
+//! The commands beside `run`: what each tells of a run or of the image of a log, and where there is nothing to tell.
 
 use super::{FIRST_PATH, source, words};
 use cam_io::MemorySink;
@@ -128,8 +128,98 @@ const REFUSED: Row = Row {
     text: "refused 3 1 S3\n",
 };
 
-const ROWS: [Row; 8] = [
-    TRACE, WITNESS, NO_ACTION, ABORT, NO_STOP, NO_EVENT, GENERATED, REFUSED,
+/// The image of a log with one entry, a Count of 2.
+const IMAGE: &str = "CAMELOT\n\x01\0\0\0\0\0\0\0\x05\x01\0\0\0\x02\0";
+
+/// The same in version 2, with an entry of a Version behind it.
+const IMAGE_2: &str =
+    "CAMELOT\n\x01\0\0\0\0\0\0\0\x05\x01\0\0\0\x02\x01\0\0\0\0\0\0\0\x02\x06\x02\0";
+
+/// The image of a log with each record: in the first entry a count, an abort, a commit and a count of another node, in the second one a
+/// Version and a family with one operation.
+const RECORDS: &str =
+    "CAMELOT\n\x01\0\0\0\0\0\0\x005\x01\0\0\0\x02\x02\x01\x01\0\0\0\x01\0\0\0\x01\x03\x02\x01\0\0\0\x01\0\0\0\x02\x02\0\0\0\x01\0\0\0\x01\x02\x01\0\0\0\x01\x02\0\0\0\x03\x04\x03\0\0\0\x04\x01\0\0\0\0\0\0\0#\x06\x02\x05\x01\x01\0\0\0\x01\0\0\0\x01\0\0\0\x02\0\0\0\x01\0\0\0\x07\x03\x02\0\0\0\0\0\0\0\x05\0";
+
+/// The image of a log with checkpoints, without entries.
+const CHECKPOINTS: &str =
+    "CAMCKPT\n\x01\0\0\0\0\0\0\0\x01\0\0\0\0\0\0\0*\0\0\0\0\0\0\0\0\0\0\0\0\0\0\0\0\0\0";
+
+const INSPECTED: Row = Row {
+    command: "inspect",
+    input: RECORDS,
+    status: 0,
+    text: "entry 0
+  count 2
+  abort 1.1.1
+  commit 1.1.2/2.1.1 1:1 2:3
+  seen 3 4
+entry 1
+  version 2
+  secure 1.1.1 2 1
+",
+};
+
+const EMPTY: Row = Row {
+    command: "inspect",
+    input: CHECKPOINTS,
+    status: 0,
+    text: "",
+};
+
+/// The closed gate is missing.
+const NO_LOG: Row = Row {
+    command: "inspect",
+    input: "CAMELOT\n",
+    status: 3,
+    text: "refused log 8\n",
+};
+
+/// A Count is 2 at least.
+const NO_RECORD: Row = Row {
+    command: "upgrade",
+    input: "CAMELOT\n\x01\0\0\0\0\0\0\0\x05\x01\0\0\0\x01\0",
+    status: 3,
+    text: "refused record 0 1\n",
+};
+
+const UPGRADED: Row = Row {
+    command: "upgrade",
+    input: IMAGE,
+    status: 0,
+    text: IMAGE_2,
+};
+
+/// What stands behind the closed gate is left out.
+const UPGRADED_AGAIN: Row = Row {
+    command: "upgrade",
+    input: "CAMELOT\n\x01\0\0\0\0\0\0\0\x02\x06\x02\x07behind",
+    status: 0,
+    text: "CAMELOT\n\x01\0\0\0\0\0\0\0\x02\x06\x02\x07",
+};
+
+const NOT_UPGRADED: Row = Row {
+    command: "upgrade",
+    input: CHECKPOINTS,
+    status: 3,
+    text: "refused log 3\n",
+};
+
+const ROWS: [Row; 15] = [
+    TRACE,
+    WITNESS,
+    NO_ACTION,
+    ABORT,
+    NO_STOP,
+    NO_EVENT,
+    GENERATED,
+    REFUSED,
+    INSPECTED,
+    EMPTY,
+    NO_LOG,
+    NO_RECORD,
+    UPGRADED,
+    UPGRADED_AGAIN,
+    NOT_UPGRADED,
 ];
 
 /// Whether a command has its status and its text.
