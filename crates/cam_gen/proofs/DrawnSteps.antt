@@ -26,7 +26,7 @@ calm_kind s t k high moved = kept ∙ ap (λ (x : ℕ). drain_step x k) (sym mov
     kept : step_of 8 s k ≡ drain_step (next_state s) k
     kept = rw (ne_eqb (drawn s 8) 0 high) refl
 
-either : (P : Written → Type 0) (b : Bool) (x y : Written) → P x → P y → P (if b then x else y)
+pub either : (P : Written → Type 0) (b : Bool) (x y : Written) → P x → P y → P (if b then x else y)
 either P true x y p q = p
 either P false x y p q = q
 

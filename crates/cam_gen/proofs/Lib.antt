@@ -1,1 +1,10 @@
 pub mod DrawnSteps
+pub mod PlainWords
+pub mod Numerals
+pub mod ReadWords
+pub mod Variables
+pub mod MadeLines
+pub mod MadeCalls
+pub mod MadeSteps
+pub mod MadeVariables
+pub mod AllAccepted

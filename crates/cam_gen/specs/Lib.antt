@@ -4,3 +4,4 @@ pub mod Digest
 pub mod Storms
 pub mod Worked
 pub mod Writes
+pub mod Accepted

@@ -12,6 +12,7 @@ mod digest;
 mod draws;
 mod script;
 
+ghost use Rattle.cam_gen.specs.Accepted.{EachIsAccepted};
 ghost use Rattle.cam_gen.specs.Worked.{FirstDraw, NineSteps};
 
 pub use digest::digest_text;
@@ -22,4 +23,9 @@ pub use script::script_of;
 pub fn at_seed_seven()
     ensures draw { FirstDraw }
     ensures script { NineSteps }
+{}
+
+/// The grammar accepts the script of every seed, of 400 steps at most.
+pub fn scripts()
+    ensures accepted { EachIsAccepted }
 {}
