@@ -1,5 +1,6 @@
 -- The answer to words, by the command of which they are the form.
-use Rattle.std.proofs.Common.{◌≡◌, ◌↔◌, inl, inr, ℕ, Bool, true, false, if◌then◌else◌, List, Option, Some, None, Result, Ok, Err, IfOk, refl, sym, ap, ◌∙◌, subst, is_some}
+use Rattle.std.proofs.Common.{◌≡◌, ◌≤◌, ◌↔◌, inl, inr, ℕ, Bool, true, false, if◌then◌else◌, List, Option, Some, None, Result, Ok, Err, IfOk, refl, sym, ap, ◌∙◌, subst, is_some}
+use Rattle.std.specs.Prelude.{IsOk}
 use mathlib.Core.Bool.{true≢false}
 use Rattle.cam_base.specs.Told.{IfTold}
 use Rattle.cam_know.specs.declared.Reason.{Reason}
@@ -12,6 +13,8 @@ use Rattle.cam_script.specs.declared.Script.{Script}
 use Rattle.cam_words.specs.declared.fault.ScriptFault.{ScriptFault}
 use Rattle.cam_words.specs.declared.fault.ScriptFault.TheVariants.{Bad, NoMemory}
 use Rattle.cam_gen.specs.Script.{script_of as generated}
+use Rattle.cam_gen.proofs.AllAccepted.{each_is_accepted}
+use Rattle.cam_run.specs.Taken.{taken_stage}
 use Rattle.cam_run.specs.declared.answer.Answer.{Answer}
 use Rattle.cam_run.specs.Status.{number}
 use Rattle.cam_run.specs.declared.question.Question.{Question}
@@ -141,3 +144,21 @@ answers_seed {E} command seed size HasFailed left r is told =
     by (Some input) (Ok a) answer = inr answer
     by (Some input) (Err e) answer = tt
     by None made answer = tt
+
+-- the script of a seed is accepted, so its summary is answered
+pub seed_is_done : {E : Type 0} (seed size : ℕ) (r : Result Answer E) → size ≤ 400
+    → IfOk r (λ a. IsOfScript (Summary size) (script_of (generated seed size)) (number a.status) a.text.items)
+    → IfOk r (λ a. number a.status ≡ 0)
+seed_is_done seed size (Err e) few told = tt
+seed_is_done seed size (Ok a) few told = by (script_of (generated seed size)) (each_is_accepted taken_stage seed size few) told
+  where
+    by : (read : Result Script ScriptFault) → IsOk read → IsOfScript (Summary size) read (number a.status) a.text.items → number a.status ≡ 0
+    by (Ok script) ok told = told.0
+    by (Err fault) ok told = absurd cc
+
+-- words that are the form of `gen` are those of the command that was read
+pub generated_words : {E : Type 0} (words : List (List ℕ)) (command : Command) (r : Result Answer E) → Finds words (Ok command)
+    → ((seed size : ℕ) → command ≡ Gen seed size → size ≤ 400 → IfOk r (λ a. number a.status ≡ 0))
+    → (seed size : ℕ) → IsFormFor words (Gen seed size) → IfOk r (λ a. number a.status ≡ 0)
+generated_words words command r finds done seed size form =
+    done seed size (same_command words command (Gen seed size) finds form) form.form.is.1.1

@@ -1,5 +1,5 @@
 //! The answer to a question by the bytes of a script: those that a source gives, or those that are made from a seed.
-ghost use Rattle.std.specs.Prelude.{◌≡◌, ◌⊎◌, [], IfOk};
+ghost use Rattle.std.specs.Prelude.{◌≡◌, ◌≤◌, ◌⊎◌, [], IfOk};
 ghost use Rattle.cam_base.specs.Causes.{Rose};
 ghost use Rattle.cam_base.specs.Told.{IfTold};
 ghost use Rattle.cam_gen.specs.Script.{script_of as generated};
@@ -57,6 +57,7 @@ pub(crate) fn of_seed(alloc: Global, seed: u64, size: u32) -> Result<Answer, NoM
         (number a.status) a.text.items) }
     ensures statuses { IfOk result
         (λ a. IsTelling a.status ⊎ (a.status ≡ statuses.Refused)) }
+    ensures accepted { size ≤ 400 → IfOk result (λ a. number a.status ≡ 0) }
 {
     let script = cam_gen::script_of(alloc, seed, size)?;
     of_bytes(alloc, &Question::Summary(size), script.as_bytes())

@@ -1,8 +1,9 @@
 //! What the program answers to words, a source and a sink.
-ghost use Rattle.std.specs.Prelude.{◌≡◌, ◌⊎◌, ◌↔◌, ℕ, false, true, List, [], IfOk, map, string_bytes};
+ghost use Rattle.std.specs.Prelude.{◌≡◌, ◌≤◌, ◌⊎◌, ◌↔◌, ℕ, false, true, List, [], IfOk, map, string_bytes};
 ghost use Rattle.cam_base.specs.Causes.{Rose};
 ghost use Rattle.cam_base.specs.Told.{IfTold};
 ghost use Rattle.cam_args.specs.declared.Command.{Command as Commands};
+ghost use Rattle.cam_args.specs.declared.Command.TheVariants.{Gen};
 ghost use Rattle.cam_headline.specs.Headline.{HasOneRun};
 ghost use Rattle.cam_image.specs.Laws.{UpgradeIsMigration, UpgradeIsOnce};
 ghost use Rattle.cam_run.specs.declared.status.Status.TheVariants as statuses;
@@ -56,6 +57,9 @@ pub fn camelot<S: Source, K: Sink>(
         → ¬ (Rose (S.faults source.old) (S.faults source.new))
         → ¬ (Rose (K.faults sink.old) (K.faults sink.new))
         → (result ≡ command_status command input) ⊎ (result ≡ 7)) }
+    // The script that is made from a seed is never refused.
+    ensures generated { (seed size : ℕ) → IsFormFor (map string_bytes words.now) (Gen seed size)
+        → (result ≡ 0) ⊎ ((result ≡ 5) ⊎ (result ≡ 7)) }
 
     // Of every script that is accepted: the run that is told of is the one run of the step rules; each action in it, orphan or not, has
     // its view in a legal execution in which it is no orphan; committed top actions replay serially in commit order; and no two nodes
@@ -91,6 +95,8 @@ fn answer_to<S: Source>(alloc: Global, words: &[String], source: &mut S) -> Resu
         IfOk result (λ a. (command : Commands) → IsFormFor (map string_bytes words.now) command
         → ¬ (Rose (S.faults source.old) (S.faults source.new))
         → number a.status ≡ command_status command input)) }
+    ensures generated { (seed size : ℕ) → IsFormFor (map string_bytes words.now) (Gen seed size)
+        → IfOk result (λ a. number a.status ≡ 0) }
     ensures statuses { IfOk result
         (λ a. IsTelling a.status ⊎ ((a.status ≡ statuses.Usage)
         ⊎ ((a.status ≡ statuses.Refused) ⊎ (a.status ≡ statuses.ReadFault)))) }
@@ -115,6 +121,8 @@ fn obey<S: Source>(alloc: Global, command: &Command, source: &mut S) -> Result<A
         IfOk result (λ a. IsOfCommand command.now
         (Rose (S.faults source.old) (S.faults source.new))
         input (number a.status) a.text.items)) }
+    ensures generated { (seed size : ℕ) → command.now ≡ Gen seed size → size ≤ 400
+        → IfOk result (λ a. number a.status ≡ 0) }
     ensures statuses { IfOk result
         (λ a. IsTelling a.status ⊎ ((a.status ≡ statuses.Usage)
         ⊎ ((a.status ≡ statuses.Refused) ⊎ (a.status ≡ statuses.ReadFault)))) }
