@@ -1,5 +1,5 @@
 -- A node of a cluster restarts: what that makes of the works.
-use Rattle.std.specs.Prelude.{◌≡◌, ℕ, ◌+◌, Bool, true, List, Option, None, Result, Ok, Err}
+use Rattle.std.specs.Prelude.{◌≡◌, ℕ, ◌+◌, Bool, true, List, Option, Some, None, Result, Ok, Err}
 use Rattle.cam_base.specs.declared.memory.NoMemory.{NoMemory}
 use Rattle.cam_event.specs.declared.Event.{Event}
 use Rattle.cam_event.specs.Inputs.{Restarts}
@@ -19,7 +19,8 @@ use Rattle.cam_histories.specs.InputLaws.{held_setting, halt_of}
 use Rattle.cam_cluster.specs.declared.works.restart.Restart.{Restart}
 use Rattle.cam_cluster.specs.declared.works.restart.Restart.TheVariants as ends
 use Rattle.cam_cluster.specs.SoFar.{KeepsLines, LinesFields}
-use Rattle.cam_cluster.specs.Works.{WorksFields, KeepsRun}
+use Rattle.cam_cluster.specs.Stopping.{stopped_at}
+use Rattle.cam_cluster.specs.Works.{WorksFields, IsUnfailing, KeepsRun}
 
 -- the run with the restart behind, and what is said of that as a halt
 abbrev pub with_restart : Script → Halting → ℕ → (ℕ → Bool) → Standing → ℕ → Standing
@@ -58,6 +59,19 @@ HasRestartedAs place old might_read ends.Stood new may_read =
 HasRestartedAs place old might_read ends.Found new may_read =
     HasFoundHalt place old might_read new may_read
 HasRestartedAs place old might_read ends.Failed new may_read = Unit {0}
+
+-- While nothing has failed by itself, a restart of a node that is halted finds the event just where
+-- the stop of its disk let three calls pass.
+abbrev pub FindsByStop : Option ℕ → Restart → Type 0
+FindsByStop calls ends.Stood = calls ≡ Some 3 → ⊥
+FindsByStop calls ends.Found = calls ≡ Some 3
+FindsByStop calls ends.Failed = Unit {0}
+
+abbrev pub HasFoundByStop : ℕ → WorksFields → (ℕ → Logged → Type 0) → Restart → Type 0
+HasFoundByStop place old might_read done =
+    (script : Script) (st : Standing) → IsScript script → KeepsRun script st old might_read
+    → IsUnfailing old.starved old.nodes → has_number st.halted (place + 1) ≡ true
+    → FindsByStop (stopped_at st.turns (place + 1)) done
 
 -- The same over what the lines keep, where the restart is the run's next step.
 pub record IsFoundEnded (script : Script) (st : Standing) (c : Setting) (s : ℕ) (new : LinesFields)

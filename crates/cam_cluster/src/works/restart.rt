@@ -7,7 +7,7 @@ ghost use Rattle.cam_node.specs.Opened.{MayRead};
 ghost use Rattle.cam_wire.specs.Writable.{IsWritable};
 ghost use Rattle.cam_cluster.specs.OpenHalts.{events_found, halts_found, marks_found, open_halt_of};
 ghost use Rattle.cam_cluster.specs.Puts.{KeepsAsBefore};
-ghost use Rattle.cam_cluster.specs.Restarts.{HasRestartedAs};
+ghost use Rattle.cam_cluster.specs.Restarts.{HasFoundByStop, HasRestartedAs};
 
 use super::found::mark_taken;
 use super::undecided::{close, newest_of, take_found};
@@ -75,6 +75,9 @@ impl<L: CheckpointLog + StopLog> Works<L> {
             (λ node. IsTrue (L.tells node.log.log) → HasRestartedAs place
             (⟦<Works<L> as AsWorks>⟧.fields self.old) (⟦<Works<L> as AsWorks>⟧.may_read self.old) done
             (⟦<Works<L> as AsWorks>⟧.fields self.new) (⟦<Works<L> as AsWorks>⟧.may_read self.new))) }
+        // It finds the event just where a stop let three calls pass.
+        ensures by_stop { IfOk result (HasFoundByStop place
+            (⟦<Works<L> as AsWorks>⟧.fields self.old) (⟦<Works<L> as AsWorks>⟧.may_read self.old)) }
         ensures as_before { OnErr result (KeepsAsBefore
             (⟦<Works<L> as AsWorks>⟧.fields self.old) (⟦<Works<L> as AsWorks>⟧.may_read self.old)
             (⟦<Works<L> as AsWorks>⟧.fields self.new) (⟦<Works<L> as AsWorks>⟧.may_read self.new)) }

@@ -1,6 +1,6 @@
 -- A node is restarted.
 use Rattle.std.proofs.Common.{◌≡◌, ◌<◌, ◌+◌, ◌++◌, ◌∷◌, [], false, Some, None, length, set}
-use Rattle.std.proofs.Common.{sym, ap, ◌∙◌, subst, arith, rules}
+use Rattle.std.proofs.Common.{sym, ap, ◌∙◌, subst, arith, rules, suc}
 use Rattle.std.specs.Prelude.{slice_get, vec_len}
 use Rattle.std.proofs.lemmas.Grind.{common_steps}
 use Rattle.cam_net.specs.Waiting.{is_halted}
@@ -13,6 +13,7 @@ use Rattle.cam_cluster.proofs.HaltsKept.{open_without}
 use Rattle.cam_cluster.proofs.RestartEnds.{after_room, none_if, same_works, some_if, some_there}
 use Rattle.cam_cluster.proofs.RestartReads.{rest_reads}
 use Rattle.cam_cluster.proofs.RestartedWorks.{found_in, restarted_in}
+use Rattle.cam_cluster.proofs.FoundByStop.{none_by_stop, some_by_stop}
 use Rattle.cam_cluster.proofs.StoppedWorks.{unfailing_less}
 use Rattle.cam_cluster.proofs.works.Works.restart.Goals as goal
 
@@ -23,6 +24,9 @@ make_room-requires g c =
 pub returns-in_err-make_room-clause-restarted : goal.returns-in_err-make_room-clause-restarted
 returns-in_err-make_room-clause-restarted g c =
     search rules
+
+pub returns-in_err-make_room-clause-by_stop : goal.returns-in_err-make_room-clause-by_stop
+returns-in_err-make_room-clause-by_stop g c = search rules
 
 pub returns-in_err-make_room-clause-as_before : goal.returns-in_err-make_room-clause-as_before
 returns-in_err-make_room-clause-as_before g c =
@@ -189,3 +193,41 @@ returns-in-Err-clause-restarted g c =
     some_there _ was.nodes.items c.args.place old
     (subst (λ ns. slice_get ns c.args.place ≡ Some old) same
     (taken_there mid.nodes.items c.args.place old there c.index_mut.ensures.value)) (λ told. tt)
+
+pub returns-in-Some-clause-by_stop : goal.returns-in-Some-clause-by_stop
+returns-in-Some-clause-by_stop g c =
+    let got : c.of_halted.result ≡ Some c.in-Some.event = search rules in
+    let was = c.args.self.now in
+    let mid = c.make_room.new.self in
+    let old = c.index_mut.result.now in
+    let same = ap (λ v. v.items) c.make_room.ensures.nodes in
+    let there = subst (λ ns. c.args.place < length ns) (sym same) c.requires.there in
+    some_by_stop (part g.L.CheckpointLog g.L.EntryLog) (tells_of g.L.CheckpointLog g.L.EntryLog)
+    (reads_at g.L.CheckpointLog g.L.EntryLog) c.args.place was.nodes.items was.outbox was.halted
+    was.starved was.undecided.items was.events.events.items was.marks.items old c.requires.place
+    (subst (λ ns. slice_get ns c.args.place ≡ Some old) same
+    (taken_there mid.nodes.items c.args.place old there c.index_mut.ensures.value))
+    c.in-Ok.restarted.found (λ told. c.in-Ok.ensures.found told) c.in-Some.event
+    (some_if _ _ c.in-Some.event (sym got ∙ c.of_halted.ensures)).1
+
+pub returns-in-None-clause-by_stop : goal.returns-in-None-clause-by_stop
+returns-in-None-clause-by_stop g c =
+    let got : c.of_halted.result ≡ None = search rules in
+    let was = c.args.self.now in
+    let mid = c.make_room.new.self in
+    let old = c.index_mut.result.now in
+    let same = ap (λ v. v.items) c.make_room.ensures.nodes in
+    let there = subst (λ ns. c.args.place < length ns) (sym same) c.requires.there in
+    none_by_stop (part g.L.CheckpointLog g.L.EntryLog) (tells_of g.L.CheckpointLog g.L.EntryLog)
+    (reads_at g.L.CheckpointLog g.L.EntryLog) c.args.place was.nodes.items was.outbox was.halted
+    was.starved was.undecided.items was.events.events.items was.marks.items old c.requires.place
+    (subst (λ ns. slice_get ns c.args.place ≡ Some old) same
+    (taken_there mid.nodes.items c.args.place old there c.index_mut.ensures.value))
+    c.in-Ok.restarted.found (λ told. c.in-Ok.ensures.found told)
+    (λ stops. none_if _ _ (sym got ∙ c.of_halted.ensures)
+    (c.is_halted-was_halted.ensures
+    ∙ ap (λ hs. is_halted hs (suc c.args.place)) c.make_room.ensures.halted
+    ∙ sym (ap (is_halted was.halted) (after_is c.args.place)) ∙ stops))
+
+pub returns-in-Err-clause-by_stop : goal.returns-in-Err-clause-by_stop
+returns-in-Err-clause-by_stop g c = λ script st is keeps sound said. tt
