@@ -276,6 +276,7 @@ new_keeps part script nodes may_read is new many = record {
   between = refl;
   newest = tt;
   past = tt;
+  lost = λ s is. absurd (true≢false (sym is));
 }
 
 pub new_lines_keep : {N : Type 0} {works : WorksFields} {bound : List (Option Name)}

@@ -1,7 +1,8 @@
 -- The next request of an action by its body, by cases of whether it makes one: what stands behind
 -- it.
 use Rattle.std.proofs.Common.{◌≡◌, ℕ, Bool, true, false, [], ◌∷◌, Option, Some, None}
-use Rattle.std.proofs.Common.{refl, sym, ap, subst, true≢false}
+use Rattle.std.proofs.Common.{refl, sym, ap, ◌∙◌, subst}
+use Rattle.std.proofs.lemmas.Bool.{true≢false}
 use Rattle.cam_names.specs.declared.name.Name.{Name}
 use Rattle.cam_event.specs.declared.Event.{Event}
 use Rattle.cam_event.specs.declared.Want.{Want}
@@ -31,13 +32,6 @@ use Rattle.cam_cluster.specs.Works.{KeepsRun, WorksFields}
 use Rattle.cam_cluster.proofs.BodyRequests.{gone_under}
 use Rattle.cam_cluster.proofs.Led.{keeps_others}
 use Rattle.cam_cluster.proofs.WorkersStand.{workers_stay}
-
--- what is kept of the same run
-pub kept_at : (script : Script) (one other : Standing) (works : WorksFields)
-    (may : ℕ → Logged → Type 0) → one ≡ other → KeepsRun script other works may
-    → KeepsRun script one works may
-kept_at script one other works may same keeps =
-    subst (λ (x : Standing). KeepsRun script x works may) (sym same) keeps
 
 -- a body that is given changes nothing of the works
 pub given_keeps : (script : Script) (body : Option ℕ) (b : Option Name) (st : Standing)
@@ -112,19 +106,19 @@ module _ (script : Script) (st : Standing) (a : Name) (is : IsScript script)
       said_of = subst (λ (n : Next). IsSaidOf s st a n (Some done)) e
 
   -- or none.
+  none_made : (n : Next) → is_request n ≡ false → make_request s st a child n ≡ st
+  none_made (nexts.Request want) idle = absurd (true≢false idle)
+  none_made nexts.Wait idle = refl
+  none_made nexts.Over idle = refl
+
   pub stayed : (n : Next) (new : WorksFields) (may_read : ℕ → Logged → Type 0) (workers : Workers)
       → next_of script.bodies st a ≡ n → is_request n ≡ false → KeepsRun script st new may_read
       → AreWorkers st workers → IsGone script st s a None new may_read workers
-  stayed (nexts.Request want) new may_read workers e idle keeps are = absurd (true≢false idle)
-  stayed nexts.Wait new may_read workers e idle keeps are = record {
-    made = sym (ap is_request e);
-    runs = λ said. kept_at script (go s script.bodies st a) st new may_read (go_is nexts.Wait e)
-        keeps;
-    workers = λ said. subst (λ (x : Standing). AreWorkers x workers) (sym (go_is nexts.Wait e)) are;
+  stayed n new may_read workers e idle keeps are = record {
+    made = sym (ap is_request e ∙ idle);
+    runs = λ said. subst (λ (x : Standing). KeepsRun script x new may_read) (sym stays) keeps;
+    workers = λ said. subst (λ (x : Standing). AreWorkers x workers) (sym stays) are;
   }
-  stayed nexts.Over new may_read workers e idle keeps are = record {
-    made = sym (ap is_request e);
-    runs = λ said. kept_at script (go s script.bodies st a) st new may_read (go_is nexts.Over e)
-        keeps;
-    workers = λ said. subst (λ (x : Standing). AreWorkers x workers) (sym (go_is nexts.Over e)) are;
-  }
+    where
+      stays : go s script.bodies st a ≡ st
+      stays = go_is n e ∙ none_made n idle

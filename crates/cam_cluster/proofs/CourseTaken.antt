@@ -7,11 +7,13 @@ use Rattle.cam_script.specs.declared.Act.{Act}
 use Rattle.cam_script.specs.declared.Act.TheVariants as acts
 use Rattle.cam_script.specs.declared.Statement.{Statement}
 use Rattle.cam_script.specs.declared.Step.{Step}
+use Rattle.cam_cluster.specs.declared.course.CourseFault.{CourseFault}
+use Rattle.cam_cluster.specs.declared.course.CourseFault.TheVariants as faults
 use Rattle.cam_cluster.specs.declared.LineFault.{LineFault}
 use Rattle.cam_cluster.specs.declared.LineFault.TheVariants as line_faults
 use Rattle.cam_cluster.specs.declared.workers.Workers.{Workers}
 use Rattle.cam_cluster.specs.Between.{KeepsBetween}
-use Rattle.cam_cluster.specs.Courses.{IsAtWorkLine, IsBuilt, IsCourseWanting, IsNextOfCourse}
+use Rattle.cam_cluster.specs.Courses.{IsAtWorkLine, IsCourseWanting, IsNextOfCourse}
 use Rattle.cam_cluster.specs.Seen.{Seen, lines_taken}
 use Rattle.cam_cluster.specs.SoFar.{LinesFields}
 use Rattle.cam_cluster.specs.Taking.{IsStepTaken, IsTakenAlone, IsWanting}
@@ -19,19 +21,23 @@ use Rattle.cam_cluster.specs.VariableLines.{AreAtNodes, IsNextOfSome}
 use Rattle.cam_cluster.specs.Workers.{AreWorkers}
 use Rattle.cam_cluster.proofs.AtNodes.{runs_are_at_nodes}
 use Rattle.cam_cluster.proofs.BodiesStay.{GivesNone}
+use Rattle.cam_cluster.proofs.CourseFrom.{from_itself}
 use Rattle.cam_cluster.proofs.WorkersOn.{refused_on, workers_on}
 
--- The other lines need the actions at bodies, or are a restart.
-pub taken_alone : (a : Act) → IsBuilt a → ((s body : ℕ) → a ≡ acts.Start s body → ⊥)
+-- The other lines need the actions at bodies, or are a restart or a stop.
+pub taken_alone : (a : Act) → ((s body : ℕ) → a ≡ acts.Start s body → ⊥)
     → ((v : ℕ) → a ≡ acts.Go v → ⊥) → (a ≡ acts.Play → ⊥)
-    → ((s : ℕ) → a ≡ acts.Restart s → ⊥) → IsTakenAlone a × GivesNone a
-taken_alone (acts.Start s body) built no_start no_go no_play no_restart =
+    → ((s : ℕ) → a ≡ acts.Restart s → ⊥) → ((s calls : ℕ) → a ≡ acts.Stop s calls → ⊥)
+    → IsTakenAlone a × GivesNone a
+taken_alone (acts.Start s body) no_start no_go no_play no_restart no_stop =
     absurd (no_start s body refl)
-taken_alone (acts.Go v) built no_start no_go no_play no_restart = absurd (no_go v refl)
-taken_alone acts.Play built no_start no_go no_play no_restart = absurd (no_play refl)
-taken_alone (acts.Restart s) built no_start no_go no_play no_restart = absurd (no_restart s refl)
-taken_alone (acts.Stop s calls) built no_start no_go no_play no_restart = elim built [ ]
-taken_alone _ built no_start no_go no_play no_restart = (tt, tt)
+taken_alone (acts.Go v) no_start no_go no_play no_restart no_stop = absurd (no_go v refl)
+taken_alone acts.Play no_start no_go no_play no_restart no_stop = absurd (no_play refl)
+taken_alone (acts.Restart s) no_start no_go no_play no_restart no_stop =
+    absurd (no_restart s refl)
+taken_alone (acts.Stop s calls) no_start no_go no_play no_restart no_stop =
+    absurd (no_stop s calls refl)
+taken_alone _ no_start no_go no_play no_restart no_stop = (tt, tt)
 
 -- The variables of a run that is kept stand for actions at nodes of the script.
 pub variables_placed : (seen : Seen) (lines : LinesFields) (may : ℕ → Logged → Type 0)
@@ -66,10 +72,10 @@ pub fault_at_work : (step : Step) (bodies : List (List Statement)) (old new : Li
     (might may : ℕ → Logged → Type 0) (first before : Workers) (fault : LineFault)
     → IsTakenAlone step.act → ((st : Standing) → AreWorkers st first → AreWorkers st before)
     → IsStepTaken step old might new may (Err fault)
-    → IsAtWorkLine step bodies old might first new may before (Err fault)
+    → IsAtWorkLine step bodies old might first new may before (Err (faults.Line fault))
 fault_at_work step bodies old new might may first before (line_faults.Refused refusal) alone stay
     taken
-    seen keeps next same awake =
+    seen keeps next same =
     let so = taken seen keeps.between next in record {
       test = so.test;
       stands = record {
@@ -80,23 +86,31 @@ fault_at_work step bodies old new might may first before (line_faults.Refused re
     }
 fault_at_work step bodies old new might may first before line_faults.NoMemory alone stay taken seen
     keeps
-    next same awake =
+    next same =
     wanting_at_work step.act seen step new may before alone (taken seen keeps.between next)
     (stay seen.standing keeps.workers)
+
+-- how a line ends that is taken alone
+abbrev pub line_told : Result (Option WireFault) LineFault
+    → Result (Option WireFault) CourseFault
+line_told (Ok bad) = Ok bad
+line_told (Err fault) = Err (faults.Line fault)
 
 pub taken_at_work : (step : Step) (bodies : List (List Statement)) (old new : LinesFields)
     (might may : ℕ → Logged → Type 0) (at_work : Workers)
     (result : Result (Option WireFault) LineFault) → IsTakenAlone step.act → GivesNone step.act
     → IsStepTaken step old might new may result
-    → IsAtWorkLine step bodies old might at_work new may at_work result
-taken_at_work step bodies old new might may at_work (Ok bad) alone none taken seen keeps next same
-    awake =
+    → IsAtWorkLine step bodies old might at_work new may at_work (line_told result)
+taken_at_work step bodies old new might may at_work (Ok bad) alone none taken seen keeps next
+    same =
     let so = taken seen keeps.between next in record {
+      from = seen;
+      is_from = from_itself step.act seen;
       led = so.0;
       workers = workers_on seen step so.0.more at_work none keeps.workers;
       fault = so.1;
     }
 taken_at_work step bodies old new might may at_work (Err fault) alone none taken seen keeps next
-    same awake =
+    same =
     fault_at_work step bodies old new might may at_work at_work fault alone (λ st are. are) taken seen
-    keeps next same awake
+    keeps next same

@@ -28,7 +28,7 @@ use Rattle.cam_cluster.specs.Works.{MayReadAt, no_node, sites_of}
 use Rattle.cam_cluster.proofs.PlacedNodes.{reads_elsewhere, reads_there, seen_there, taken_there}
 use Rattle.cam_cluster.proofs.HaltsKept.{halt_read}
 use Rattle.cam_cluster.proofs.PutWorks.{seen}
-use Rattle.cam_cluster.proofs.StoppedHalts.{halt_alike}
+use Rattle.cam_cluster.proofs.HaltsByStop.{halt_alike}
 use Rattle.cam_cluster.proofs.StoppedWorks.{nodes_stopped, unfailing_before}
 use Rattle.cam_cluster.proofs.WorksNodes.{set_tells}
 

@@ -17,7 +17,7 @@ use Rattle.cam_cluster.specs.Seen.{IsNextStep, Seen, later_steps, setting_in}
 use Rattle.cam_cluster.specs.SoFar.{LinesFields}
 use Rattle.cam_cluster.specs.Taking.{HasDrainedPart, IsStepTaken}
 use Rattle.cam_cluster.proofs.Drains.{drain_is}
-use Rattle.cam_cluster.proofs.EndsSaid.{deliveries_said, from_high, from_low, from_newest}
+use Rattle.cam_cluster.proofs.EndsSaid.{deliveries_said, from_high, from_lost, from_low, from_newest}
 use Rattle.cam_cluster.proofs.EndsSaid.{given_said, handed_over}
 use Rattle.cam_cluster.proofs.GoesOn.{goes_on, held_is}
 
@@ -83,6 +83,7 @@ module _ (line : ℕ) (old new : LinesFields) (might may : ℕ → Logged → Ty
         high =
             from_high (accepted seen.standing.turns)
             (accepted (after_step seen step (more seen has.ends)).standing.turns) has.ends high;
+        lost = from_lost (accepted seen.standing.turns) has.ends;
       }
 
   -- Memory ran out in it.

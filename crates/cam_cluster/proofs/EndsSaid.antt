@@ -46,6 +46,15 @@ from_high k n (puts.Halted ∷ ends) most =
     (from_high (k + 1) n ends (omega (arith, most)))
     (omega (arith, most), tt)
 
+-- lost so far,
+pub from_lost : (k : ℕ) (ends : List Put)
+    → AllByRecursion (λ (h : Halt). h.took ≡ false) (halts_from k ends)
+from_lost k [] = tt
+from_lost k (puts.Stood ∷ ends) = from_lost (k + 1) ends
+from_lost k (puts.Halted ∷ ends) =
+    all_behind (λ (h : Halt). h.took ≡ false) (halts_from (k + 1) ends)
+    (record { input = k; took = false } ∷ []) (from_lost (k + 1) ends) (refl, tt)
+
 -- the newest first.
 pub from_newest : (k : ℕ) (ends : List Put) → AreNewestFirst (halts_from k ends)
 from_newest k [] = tt

@@ -27,7 +27,7 @@ use Rattle.cam_cluster.specs.Works.{NodeFields, WorksFields, IsUnfailing, KeepsR
 use Rattle.cam_cluster.specs.Works.{sites_of}
 use Rattle.cam_cluster.proofs.PlacedNodes.{seen_there}
 use Rattle.cam_cluster.proofs.PutWorks.{seen}
-use Rattle.cam_cluster.proofs.StoppedHalts.{finds_by_stop}
+use Rattle.cam_cluster.proofs.HaltsByStop.{finds_by_stop}
 use Rattle.cam_cluster.proofs.StoppedWorks.{unfailing_there}
 use Rattle.cam_cluster.proofs.WorksNodes.{site_there}
 

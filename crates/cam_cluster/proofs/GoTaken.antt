@@ -14,6 +14,8 @@ use Rattle.cam_runs.specs.Standing.{Setting, Standing}
 use Rattle.cam_script.specs.declared.Act.TheVariants as acts
 use Rattle.cam_script.specs.declared.Statement.{Statement}
 use Rattle.cam_script.specs.declared.Step.{Step}
+use Rattle.cam_cluster.specs.declared.course.CourseFault.{CourseFault}
+use Rattle.cam_cluster.specs.declared.course.CourseFault.TheVariants as faults
 use Rattle.cam_cluster.specs.declared.LineFault.{LineFault}
 use Rattle.cam_cluster.specs.declared.LineFault.TheVariants as line_faults
 use Rattle.cam_cluster.specs.declared.workers.Workers.{Workers}
@@ -33,9 +35,9 @@ use Rattle.cam_cluster.proofs.GoesOn.{led_halts, refused_goes, wanting_goes}
 use Rattle.cam_cluster.proofs.WorkersOn.{refused_is}
 
 -- It tells of no letter.
-abbrev pub none_told : Result (Option Put) LineFault → Result (Option WireFault) LineFault
+abbrev pub none_told : Result (Option Put) LineFault → Result (Option WireFault) CourseFault
 none_told (Ok made) = Ok None
-none_told (Err fault) = Err fault
+none_told (Err fault) = Err (faults.Line fault)
 
 module _ (line v : ℕ) (bodies : List (List Statement)) (old new : LinesFields)
     (might may : ℕ → Logged → Type 0) (before behind : Workers) where
@@ -91,6 +93,8 @@ module _ (line v : ℕ) (bodies : List (List Statement)) (old new : LinesFields)
         (c (halts_from (accepted seen.standing.turns) (done ∷ []))) v (Some done) new may behind
         → HasLedAtWork seen step new may behind None
     request_led done gone = record {
+      from = seen;
+      is_from = refl;
       led = led_goes seen step old new might may keeps.between next (Begins 1) done led counts;
       workers =
           subst (λ (m : List Halt). AreWorkers (after_step seen step m).standing behind)
@@ -123,6 +127,8 @@ module _ (line v : ℕ) (bodies : List (List Statement)) (old new : LinesFields)
         let gone_so =
         gone.stands (none_said (next_of seen.script.bodies seen.standing gone.name) gone.name) in
         record {
+          from = seen;
+          is_from = refl;
           led =
               done_goes seen step old new might may keeps.between next gone.passed gone_so.lines;
           workers =
@@ -173,4 +179,4 @@ module _ (line v : ℕ) (bodies : List (List Statement)) (old new : LinesFields)
   pub go_at_work : (result : Result (Option Put) LineFault)
       → IsLineOfGo line v bodies old might before new may behind result
       → IsAtWorkLine step bodies old might before new may behind (none_told result)
-  go_at_work result is seen keeps next same awake = at_work seen keeps next same result is
+  go_at_work result is seen keeps next same = at_work seen keeps next same result is

@@ -13,12 +13,13 @@ use Rattle.cam_node.specs.Log.{Logged}
 use Rattle.cam_runs.specs.Halts.{Halt, Halting, accepted, given, halt_at}
 use Rattle.cam_runs.specs.HaltedLines.{Led, Passed, Refused, act, after_line, setting}
 use Rattle.cam_runs.specs.Standing.{Setting, Standing, start}
-use Rattle.cam_runs.specs.UnderHalts.{act_by}
+use Rattle.cam_runs.specs.UnderHalts.{IsUnderHalts, act_by}
 use Rattle.cam_runs.proofs.HaltedWhole.{halted_lines_agree}
 use Rattle.cam_runs.proofs.LinesGrow.{act_runs}
 use Rattle.cam_runs.proofs.Range.{script_in_range}
 use Rattle.cam_script.specs.declared.Statement.{Statement}
 use Rattle.cam_script.specs.declared.Step.{Step}
+use Rattle.cam_script.specs.Law.{IsScript}
 use Rattle.cam_histories.specs.Lines.{line_refusal, refused_by}
 use Rattle.cam_histories.proofs.Lines.{lines_are_tested}
 use Rattle.cam_cluster.specs.declared.LineFault.{LineFault}
@@ -28,12 +29,15 @@ use Rattle.cam_cluster.specs.declared.works.Put.TheVariants as puts
 use Rattle.cam_cluster.specs.Between.{AreHaltsOfLine, EndsAreSaid, KeepsBetween, KeepsStep}
 use Rattle.cam_cluster.specs.Between.{LinesGoOn, after_step, halts_from}
 use Rattle.cam_cluster.specs.Between.{HasBeenRefused, HasLedOn, IsStepOf}
-use Rattle.cam_cluster.specs.FoundHalts.{AreNewestFirst}
-use Rattle.cam_cluster.specs.Seen.{Seen, later_steps, run_first, run_of_lines, setting_in}
+use Rattle.cam_cluster.specs.FoundHalts.{AreLostSoFar, AreNewestFirst}
+use Rattle.cam_cluster.specs.Seen.{IsBetweenLines, Seen, later_steps, run_first, run_of_lines}
+use Rattle.cam_cluster.specs.Seen.{setting_in}
 use Rattle.cam_cluster.specs.SoFar.{IsLed, IsLineOfInput, IsRefused, KeepsLines, LinesFields}
 use Rattle.cam_cluster.proofs.LastInputs.{accepted_more}
 use Rattle.cam_cluster.proofs.LaterHalts.{later_halts_stay}
+use Rattle.cam_cluster.proofs.LineExtends.{begun}
 use Rattle.cam_cluster.proofs.LinesUnder.{line_counts}
+use Rattle.cam_cluster.proofs.LostLines.{begun_lost, line_lost}
 
 -- one line more of a script
 one_more : (reading : Reading) (halts : Halting) (bodies : List (List Statement)) (n : ℕ)
@@ -72,10 +76,19 @@ newest_behind n (h ∷ more) halts new old low high = (
   newest_behind n more halts new.1 old low.1 high,
 )
 
-module _ (seen : Seen) (step : Step) (more : List Halt) (old new : LinesFields)
-    (might may : ℕ → Logged → Type 0) (keeps : KeepsBetween seen old might)
+-- the run of the lines so far, with the halts that are known
+pub record IsRunSoFar (seen : Seen) : Type 0 where
+  pub is_script : IsScript seen.script
+  pub under : IsUnderHalts seen.script seen.standing
+  pub between : IsBetweenLines seen
+  pub newest : AreNewestFirst seen.halts
+  pub past : AllByRecursion (λ (h : Halt). h.input < accepted seen.standing.turns) seen.halts
+
+module _ (seen : Seen) (step : Step) (more : List Halt) (new : LinesFields)
+    (may : ℕ → Logged → Type 0) (keeps : IsRunSoFar seen)
     (next : slice_get seen.script.steps (length seen.standing.running.bound) ≡ Some step)
-    (halts : AreHaltsOfLine seen (after_step seen step more) more) where
+    (halts : AreHaltsOfLine seen (after_step seen step more) more)
+    (lost : AreLostSoFar (begun seen.standing step.act) seen.halts) where
   abbrev st : Standing
   st = seen.standing
 
@@ -86,13 +99,13 @@ module _ (seen : Seen) (step : Step) (more : List Halt) (old new : LinesFields)
       ≡ act_by by_pasts (given all) (later_steps seen) seen.script st step
   agree =
       halted_lines_agree seen.script st step (given all) (later_steps seen)
-      (script_in_range seen.script keeps.is_script) keeps.keeps.runs.under next
+      (script_in_range seen.script keeps.is_script) keeps.under next
 
   accepts_one : length (after_step seen step more).standing.running.bound
       ≡ length st.running.bound + 1
   accepts_one =
       line_counts seen.script (given all) st step (later_steps seen)
-      (script_in_range seen.script keeps.is_script) keeps.keeps.runs.under next
+      (script_in_range seen.script keeps.is_script) keeps.under next
 
   grown : accepted st.turns ≤ accepted (after_step seen step more).standing.turns
   grown =
@@ -125,9 +138,9 @@ module _ (seen : Seen) (step : Step) (more : List Halt) (old new : LinesFields)
       ∙ ap (λ (x : Standing). after_line x step.line
       (act (setting_in by_pasts seen all step) seen.script.bodies x step.act)) before)
 
-  pub goes_on : KeepsStep seen step more new may
+  pub run_goes_on : KeepsStep seen step more new may
       → KeepsBetween (after_step seen step more) new may
-  goes_on made = record {
+  run_goes_on made = record {
     is_script = keeps.is_script;
     keeps =
         subst (λ (p : Passed). KeepsLines seen.script (after_line st step.line p) new may) agree made;
@@ -141,11 +154,24 @@ module _ (seen : Seen) (step : Step) (more : List Halt) (old new : LinesFields)
         (all_so (λ (h : Halt). h.input < accepted st.turns)
         (λ (h : Halt). h.input < accepted (after_step seen step more).standing.turns) seen.halts
         (λ h less. let so = grown in omega (arith, less, so)) keeps.past);
+    lost = line_lost seen step more halts keeps.past lost;
   }
 
-pub lines_go_on : LinesGoOn
-lines_go_on seen step more old new might may keeps next halts made =
-    goes_on seen step more old new might may keeps next halts made
+-- What is kept between lines is such a run.
+pub so_far : (seen : Seen) (lines : LinesFields) (may : ℕ → Logged → Type 0)
+    → KeepsBetween seen lines may → IsRunSoFar seen
+so_far seen lines may keeps = record {
+  is_script = keeps.is_script;
+  under = keeps.keeps.runs.under;
+  between = keeps.between;
+  newest = keeps.newest;
+  past = keeps.past;
+}
+
+pub goes_on : LinesGoOn
+goes_on seen step more old new might may keeps next halts made =
+    run_goes_on seen step more new may (so_far seen old might keeps) next halts
+    (begun_lost step.act seen.standing seen.halts keeps.lost) made
 
 -- what is said of the input that is put next
 pub unsaid : (halts : List Halt) (k : ℕ) → AllByRecursion (λ (h : Halt). h.input < k) halts
@@ -198,11 +224,12 @@ refused_step seen step refusal test =
 one_end : (seen new : Seen) (done : Put)
     → accepted new.standing.turns ≡ accepted seen.standing.turns + 1
     → AreHaltsOfLine seen new (halts_from (accepted seen.standing.turns) (done ∷ []))
-one_end seen new puts.Stood accepts_one = record { newest = tt; low = tt; high = tt }
+one_end seen new puts.Stood accepts_one = record { newest = tt; low = tt; high = tt; lost = tt }
 one_end seen new puts.Halted accepts_one = record {
   newest = (tt, tt);
   low = (omega arith, tt);
   high = (omega (arith, accepts_one), tt);
+  lost = (refl, tt);
 }
 
 -- The line of a run that is kept, which is taken next.
@@ -260,7 +287,7 @@ module _ (seen : Seen) (step : Step) (old new : LinesFields) (might may : ℕ �
       → KeepsStep seen step [] new may → HasLedOn seen step new may
   done_goes passed stands =
       let of_line : AreHaltsOfLine seen (after_step seen step []) [] =
-      record { newest = tt; low = tt; high = tt } in
+      record { newest = tt; low = tt; high = tt; lost = tt } in
       record {
         more = [];
         of_line = of_line;
@@ -282,7 +309,7 @@ module _ (seen : Seen) (step : Step) (old new : LinesFields) (might may : ℕ �
     test = sym (refusals_agree seen old might step seen.halts keeps next) ∙ told.test;
     stands =
         goes_on seen step [] old new might may keeps next
-        (record { newest = tt; low = tt; high = tt })
+        (record { newest = tt; low = tt; high = tt; lost = tt })
         (subst (λ (p : Passed). KeepsLines seen.script (after_line seen.standing step.line p) new may)
         (sym (refused_step seen step refusal told.test))
         told.stands);
@@ -296,6 +323,7 @@ module _ (seen : Seen) (step : Step) (old new : LinesFields) (might may : ℕ �
     between = keeps.between;
     newest = keeps.newest;
     past = keeps.past;
+    lost = keeps.lost;
   }
 
   -- A line of one input goes on.

@@ -12,7 +12,7 @@ use Rattle.cam_cluster.specs.FoundHalts.{input_node, is_at, with_taken}
 use Rattle.cam_cluster.proofs.LastInputs.{last_node, last_latest}
 
 -- no halt behind the first is at its input
-none_again : (hs : List Halt) (n k : ℕ) → AllByRecursion (λ (g : Halt). g.input < n) hs → n ≤ k
+pub none_again : (hs : List Halt) (n k : ℕ) → AllByRecursion (λ (g : Halt). g.input < n) hs → n ≤ k
     → halt_at hs k ≡ None
 none_again [] n k all high = refl
 none_again (g ∷ hs) n k all high =
@@ -32,7 +32,7 @@ module _ (turns : List Turn) (s k : ℕ) (last : last_input turns s ≡ Some k) 
   at_node None h = absurd (true≢false (sym h))
   at_node (Some m) h = ap (λ n. Some n) (eqb-true m s h)
 
-  says_taken : (halts : List Halt) → AreNewestFirst halts → halt_at halts k ≡ Some false
+  pub says_taken : (halts : List Halt) → AreNewestFirst halts → halt_at halts k ≡ Some false
       → SaysTaken halts
   says_taken [] newest lost = cc
   says_taken (h ∷ hs) newest lost =

@@ -24,7 +24,7 @@ use Rattle.cam_cluster.specs.SoFar.{LinesFields}
 use Rattle.cam_cluster.specs.Workers.{AreWorkers}
 use Rattle.cam_cluster.proofs.BodiesAtNodes.{runs_have_bodies_at_nodes}
 use Rattle.cam_cluster.proofs.Counts.{counted_as}
-use Rattle.cam_cluster.proofs.EndsSaid.{from_high, from_low, from_newest, given_said}
+use Rattle.cam_cluster.proofs.EndsSaid.{from_high, from_lost, from_low, from_newest, given_said}
 use Rattle.cam_cluster.proofs.GoesOn.{goes_on, held_is}
 
 -- The line led on, with the halts of these ends, and the workers are those behind it.
@@ -107,6 +107,7 @@ module _ (line : ℕ) (bodies : List (List Statement)) (old new : LinesFields)
         high =
             from_high (accepted seen.standing.turns)
             (accepted (after_step seen step (more seen has.ends)).standing.turns) has.ends high;
+        lost = from_lost (accepted seen.standing.turns) has.ends;
       }
 
   -- Memory ran out in it.

@@ -21,6 +21,7 @@ use Rattle.cam_runs.specs.Standing.{Setting, Standing, made, put}
 use Rattle.cam_runs.specs.UnderWay.{Known}
 use Rattle.cam_runs.proofs.Beginnings.{at_end}
 use Rattle.cam_runs.proofs.HaltedNew.{created_new}
+use Rattle.cam_runs.proofs.HaltedParts.{awake_by}
 use Rattle.cam_script.specs.declared.Act.{Act}
 use Rattle.cam_script.specs.declared.Act.TheVariants as acts
 use Rattle.cam_script.specs.declared.Statement.{Statement}
@@ -28,6 +29,7 @@ use Rattle.cam_script.specs.declared.Step.{Step}
 use Rattle.cam_script.specs.Law.{is_node}
 use Rattle.cam_histories.specs.Lines.{line_refusal}
 use Rattle.cam_cluster.specs.declared.LineFault.TheVariants as line_faults
+use Rattle.cam_cluster.specs.declared.course.CourseFault.TheVariants as faults
 use Rattle.cam_cluster.specs.declared.workers.Workers.{Workers}
 use Rattle.cam_cluster.specs.Between.{KeepsBetween, after_step}
 use Rattle.cam_cluster.specs.Courses.{IsAtWorkLine, IsCourseWanting}
@@ -37,6 +39,7 @@ use Rattle.cam_cluster.specs.Taking.{IsStepTaken}
 use Rattle.cam_cluster.specs.VariableLines.{action_of}
 use Rattle.cam_cluster.specs.Workers.{AreWorkers}
 use Rattle.cam_cluster.proofs.BodiesStay.{put_stays}
+use Rattle.cam_cluster.proofs.CourseFrom.{from_itself}
 use Rattle.cam_cluster.proofs.InputsExtend.{put_extends}
 use Rattle.cam_cluster.proofs.StepHolds.{next_holds, node_within}
 use Rattle.cam_cluster.proofs.WorkersStand.{workers_stay}
@@ -114,7 +117,8 @@ module _ (seen : Seen) (step : Step) (s body : ℕ) (is : step.act ≡ acts.Star
       refl refl
       (subst (λ (o : Option Name). AreWorkers (given_body (Some body) o after) behind) newest
       (gives after (λ a is_newest. bare a (sym newest ∙ is_newest))
-      (let put_on = put_extends c seen.standing (Begins s) in
+      (let put_on = put_extends c (more ++ seen.halts) refl seen.standing (Begins s)
+      (awake_by seen.standing s awake) in
       workers_stay seen.standing after before put_on.events (put_stays c seen.standing (Begins s))
       put_on.trace are))))
     where
@@ -133,8 +137,10 @@ pub start_at_work : (step : Step) (s body : ℕ) (bodies : List (List Statement)
     → IsStepTaken step old might new may (Ok bad)
     → IsAtWorkLine step bodies old might first new may behind (Ok bad)
 start_at_work step s body bodies old new might may first before behind bad is stay gives taken seen
-    keeps next same awake =
+    keeps next same =
     let so = taken seen keeps.between next in record {
+      from = seen;
+      is_from = from_itself step.act seen;
       led = so.0;
       workers =
           given_on seen step s body is old might keeps.between next so.0.more
@@ -147,8 +153,9 @@ start_at_work step s body bodies old new might may first before behind bad is st
 pub start_wanting : (step : Step) (s body : ℕ) (bodies : List (List Statement)) (lines : LinesFields)
     (may : ℕ → Logged → Type 0) (first before : Workers) → step.act ≡ acts.Start s body
     → ((st : Standing) → AreWorkers st first → AreWorkers st before)
-    → IsAtWorkLine step bodies lines may first lines may before (Err line_faults.NoMemory)
-start_wanting step s body bodies lines may first before is stay seen keeps next same awake =
+    → IsAtWorkLine step bodies lines may first lines may before
+    (Err (faults.Line line_faults.NoMemory))
+start_wanting step s body bodies lines may first before is stay seen keeps next same =
     subst (λ (a : Act). IsCourseWanting a seen step lines may before) (sym is) (record {
       between = keeps.between;
       workers = stay seen.standing keeps.workers;

@@ -1,184 +1,152 @@
--- A halt by a stop: a restart finds its event just where three calls passed; and it stands for
--- histories and turns that are alike.
-use Rattle.std.proofs.Common.{◌≡◌, ◌⊎◌, inl, inr, ℕ, ◌<◌, ◌≤◌, eqb, nat_lt, Bool, true, false, ◌&&◌}
-use Rattle.std.proofs.Common.{if◌then◌else◌, List, [], ◌∷◌, map, Option, Some, None, is_some}
-use Rattle.std.proofs.Common.{refl, sym, ap, ◌∙◌, subst, arith}
-use Rattle.std.proofs.lemmas.Bool.{eq-eqb, true≢false}
+-- Inputs behind some turns: which disks are stopped, and which halts are of such.
+use Rattle.std.proofs.Common.{◌≡◌, inl, inr, ℕ, ◌<◌, ◌≤◌, ◌+◌, eqb, Bool, true, false}
+use Rattle.std.proofs.Common.{if◌then◌else◌, List, [], ◌∷◌, ◌++◌, Option, Some, None, is_some}
+use Rattle.std.proofs.Common.{refl, sym, ap, ◌∙◌, arith, true≢false}
+use Rattle.std.specs.List.{AllByRecursion}
+use Rattle.std.proofs.lemmas.Bool.{eq-eqb, ne_eqb}
 use Rattle.std.proofs.lemmas.Bool.Decides.{eqb_tells}
-use Rattle.std.proofs.lemmas.Option.{same_Some, none-some}
-use Rattle.cam_type.specs.declared.ObjectDecl.{ObjectDecl}
-use Rattle.cam_event.specs.declared.Event.{Event}
-use Rattle.cam_event.specs.ByDeltas.{Received}
-use Rattle.cam_log.specs.Moments.{Opened}
-use Rattle.cam_node.specs.declared.found.Found.{Found}
-use Rattle.cam_node.specs.Appending.{OpensAs, history_after}
-use Rattle.cam_node.specs.Found.{FindsBy}
-use Rattle.cam_node.specs.Halting.{taken}
-use Rattle.cam_node.specs.Opened.{logged_of}
-use Rattle.cam_node.specs.Represents.{Node}
-use Rattle.cam_runs.specs.Halts.{Turn, Input, Stop, Restart, by_stops, calls_left, stopped_append}
-use Rattle.cam_runs.specs.Stops.{last_stop}
-use Rattle.cam_histories.specs.Alike.{AreAlike}
-use Rattle.cam_histories.specs.PutIn.{nameless}
-use Rattle.cam_histories.proofs.Alike.{logs_keep_alike}
-use Rattle.cam_histories.proofs.HaltsAlike.{halts_stand_alike}
-use Rattle.cam_histories.proofs.LogEntries.{adds_alike}
-use Rattle.cam_histories.proofs.Numbers.{lt_cases}
-use Rattle.cam_cluster.specs.Stopped.{IsHaltByStop}
-use Rattle.cam_cluster.specs.Stopping.{too_few, ends_by, runs_on, stopped_at, told_last}
+use Rattle.cam_runs.specs.Halts.{Halt, Input, Restart, Stop, Turn, accepted, halt_at}
+use Rattle.cam_script.specs.declared.Act.{Act}
+use Rattle.cam_script.specs.declared.Act.TheVariants as acts
+use Rattle.cam_cluster.specs.StoppedDisks.{AreOfStops, begun_turns, is_stopped, was_stopped}
+use Rattle.cam_cluster.proofs.Extends.{AreInputs, halted_node, nodes_in}
+use Rattle.cam_cluster.proofs.LastInputs.{accepted_more}
 
--- a stop that ends lets fewer than four calls pass
-too_few_is : (o : Option ℕ) (calls : ℕ) → too_few o ≡ Some calls → calls < 4
-too_few_is None calls is = cc
-too_few_is (Some n) calls is = by (lt_cases n 4) is
+-- Inputs stop no disk,
+pub inputs_stop_none : (more base : List Turn) (s : ℕ) → AreInputs more
+    → is_stopped (more ++ base) s ≡ is_stopped base s
+inputs_stop_none [] base s inputs = refl
+inputs_stop_none (Input m line w again ∷ more) base s inputs = inputs_stop_none more base s inputs
+inputs_stop_none (Stop m calls ∷ more) base s inputs = absurd inputs
+inputs_stop_none (Restart m ∷ more) base s inputs = absurd inputs
+
+-- and what was so of an input before stays.
+pub was_so : (more base : List Turn) (k : ℕ) → AreInputs more → k < accepted base
+    → was_stopped (more ++ base) k ≡ was_stopped base k
+was_so [] base k inputs low = refl
+was_so (Input m line w again ∷ more) base k inputs low =
+    let grown = accepted_more more base in
+    rw (ne_eqb (accepted (more ++ base)) k (λ e. omega (arith, e, low, grown)))
+    (was_so more base k inputs low)
+was_so (Stop m calls ∷ more) base k inputs low = absurd inputs
+was_so (Restart m ∷ more) base k inputs low = absurd inputs
+
+pub begun_was : (does : Act) (turns : List Turn) (k : ℕ)
+    → was_stopped (begun_turns does turns) k ≡ was_stopped turns k
+begun_was (acts.Stop s calls) turns k = refl
+begun_was (acts.Restart s) turns k = refl
+begun_was _ turns k = refl
+
+pub begun_turns_accept : (does : Act) (turns : List Turn)
+    → accepted (begun_turns does turns) ≡ accepted turns
+begun_turns_accept (acts.Stop s calls) turns = refl
+begun_turns_accept (acts.Restart s) turns = refl
+begun_turns_accept _ turns = refl
+
+-- where no disk is stopped, no input behind is of such a node
+never : (turns : List Turn) (k : ℕ) → accepted turns ≤ k → was_stopped turns k ≡ false
+never [] k high = refl
+never (Input m line w again ∷ before) k high =
+    rw (ne_eqb (accepted before) k (λ e. omega (arith, e, high)))
+    (never before k (omega (arith, high)))
+never (Stop m calls ∷ before) k high = never before k high
+never (Restart m ∷ before) k high = never before k high
+
+pub runs_free : (more base : List Turn) (k : ℕ) → AreInputs more
+    → ((s : ℕ) → is_stopped base s ≡ false) → accepted base ≤ k
+    → was_stopped (more ++ base) k ≡ false
+runs_free [] base k inputs free high = never base k high
+runs_free (Input m line w again ∷ more) base k inputs free high =
+    by (runs_free more base k inputs free high) (eqb (accepted (more ++ base)) k)
   where
-    by : ((nat_lt n 4 ≡ true) × (n < 4)) ⊎ ((nat_lt n 4 ≡ false) × (4 ≤ n))
-        → too_few (Some n) ≡ Some calls → calls < 4
-    by (inl y) is =
-        let less = y.1 in
-        let here : too_few (Some n) ≡ Some n = rw y.0 refl in
-        let same : n ≡ calls = same_Some n calls (sym here ∙ is) in
-        omega (arith, less, same)
-    by (inr high) is =
-        let none : too_few (Some n) ≡ None = rw high.0 refl in
-        absurd (none-some calls (sym none ∙ is))
+    by : was_stopped (more ++ base) k ≡ false → (b : Bool)
+        → (if b then is_stopped (more ++ base) m else was_stopped (more ++ base) k) ≡ false
+    by older true = inputs_stop_none more base m inputs ∙ free m
+    by older false = older
+runs_free (Stop m calls ∷ more) base k inputs free high = absurd inputs
+runs_free (Restart m ∷ more) base k inputs free high = absurd inputs
 
-ends_few : (before : List Turn) (s calls : ℕ) (w : Bool) → ends_by before s w ≡ Some calls
-    → calls < 4
-ends_few before s calls true is = too_few_is (calls_left before s) calls is
-ends_few before s calls false is = cc
+-- a list is two, one behind the other
+pub all_parts : {T : Type 0} (P : T → Type 0) (xs ys : List T) → AllByRecursion P (xs ++ ys)
+    → AllByRecursion P xs × AllByRecursion P ys
+all_parts P [] ys all = (tt, all)
+all_parts P (x ∷ xs) ys all = let rest = all_parts P xs ys all.1 in ((all.0, rest.0), rest.1)
 
--- what the run by stops says of the halt
-of_append : (o : Option ℕ) (again : Bool) (calls : ℕ) → too_few o ≡ Some calls
-    → stopped_append o again ≡ Some (eqb calls 3 && again)
-of_append None again calls is = cc
-of_append (Some n) again calls is = by (lt_cases n 4) is
+-- Where the nodes of all halts of these inputs have stopped disks, each halt is of such a node.
+pub said_stopped : (halts : List Halt) (more base : List Turn) (k : ℕ) → AreInputs more
+    → AllByRecursion (λ (s : ℕ). is_stopped base s ≡ true) (nodes_in halts more base)
+    → accepted base ≤ k → k < accepted (more ++ base) → is_some (halt_at halts k) ≡ true
+    → was_stopped (more ++ base) k ≡ true
+said_stopped halts [] base k inputs all low high said =
+    let none : ⊥ = omega (arith, low, high) in absurd none
+said_stopped halts (Input m line w again ∷ more) base k inputs all low high said =
+    elim (eqb_tells (accepted (more ++ base)) k) [
+      | inl here ↦
+          rw here.0
+          (inputs_stop_none more base m inputs
+          ∙ its_node (halt_at halts (accepted (more ++ base)))
+          (ap (λ (n : ℕ). is_some (halt_at halts n)) here.1 ∙ said) parts.1)
+      | inr away ↦
+          rw away.0
+          (said_stopped halts more base k inputs parts.0 low
+          (let off = away.1 in
+          below (accepted (more ++ base)) k high (λ e. off (sym e))) said)
+    ]
   where
-    by : ((nat_lt n 4 ≡ true) × (n < 4)) ⊎ ((nat_lt n 4 ≡ false) × (4 ≤ n))
-        → too_few (Some n) ≡ Some calls
-        → stopped_append (Some n) again ≡ Some (eqb calls 3 && again)
-    by (inl y) is =
-        let here : too_few (Some n) ≡ Some n = rw y.0 refl in
-        let same : n ≡ calls = same_Some n calls (sym here ∙ is) in
-        rw y.0 (ap (λ (k : ℕ). Some (eqb k 3 && again)) same)
-    by (inr high) is =
-        let none : too_few (Some n) ≡ None = rw high.0 refl in
-        absurd (none-some calls (sym none ∙ is))
+    parts : AllByRecursion (λ (s : ℕ). is_stopped base s ≡ true) (nodes_in halts more base)
+        × AllByRecursion (λ (s : ℕ). is_stopped base s ≡ true)
+        (halted_node (halt_at halts (accepted (more ++ base))) m)
+    parts =
+        all_parts (λ (s : ℕ). is_stopped base s ≡ true) (nodes_in halts more base)
+        (halted_node (halt_at halts (accepted (more ++ base))) m) all
 
-said_at : (before : List Turn) (s calls : ℕ) (w again : Bool) → ends_by before s w ≡ Some calls
-    → by_stops before s w again ≡ Some (eqb calls 3 && again)
-said_at before s calls true again is = of_append (calls_left before s) again calls is
-said_at before s calls false again is = cc
+    its_node : (o : Option Bool) → is_some o ≡ true
+        → AllByRecursion (λ (s : ℕ). is_stopped base s ≡ true) (halted_node o m)
+        → is_stopped base m ≡ true
+    its_node None some of = absurd (true≢false (sym some))
+    its_node (Some took) some of = of.0
 
-pub record IsSaidOf (turns : List Turn) (s calls : ℕ) : Type 0 where
-  pub few : calls < 4
-  pub said : last_stop turns s ≡ Some (eqb calls 3 && told_last turns s)
+    below : (n j : ℕ) → j < n + 1 → (j ≡ n → ⊥) → j < n
+    below n j most off = omega (arith, most, off)
+said_stopped halts (Stop m calls ∷ more) base k inputs all low high said = absurd inputs
+said_stopped halts (Restart m ∷ more) base k inputs all low high said = absurd inputs
 
-pub stopped_said : (turns : List Turn) (s calls : ℕ) → stopped_at turns s ≡ Some calls
-    → IsSaidOf turns s calls
-stopped_said [] s calls is = cc
-stopped_said (Input m line w again ∷ before) s calls is = elim (eqb_tells m s) [
-  | inl y ↦
-      let here : stopped_at (Input m line w again ∷ before) s
-      ≡ (if runs_on before s then ends_by before s w else None) = rw y.0 refl in
-      let ends = run_of (runs_on before s) (sym here ∙ is) in
-      let says : by_stops before m w again ≡ Some (eqb calls 3 && again) =
-      subst (λ (n : ℕ). by_stops before n w again ≡ Some (eqb calls 3 && again)) (sym y.1)
-      (said_at before s calls w again ends) in
-      record { few = ends_few before s calls w ends; said = rw y.0 says }
-  | inr other ↦
-      let older : stopped_at (Input m line w again ∷ before) s ≡ stopped_at before s =
-      rw other.0 refl in
-      let rest = stopped_said before s calls (sym older ∙ is) in
-      record { few = rest.few; said = rw other.0 rest.said }
-]
+-- A list of halts says of each of them that it is one.
+pub all_said : (halts : List Halt)
+    → AllByRecursion (λ (h : Halt). is_some (halt_at halts h.input) ≡ true) halts
+all_said [] = tt
+all_said (h ∷ hs) = (
+  rw (eq-eqb h.input h.input refl) refl,
+  older hs (all_said hs),
+)
   where
-    run_of : (b : Bool) → (if b then ends_by before s w else None) ≡ Some calls
-        → ends_by before s w ≡ Some calls
-    run_of true is = is
-    run_of false is = cc
-stopped_said (Stop m k ∷ before) s calls is =
-    let rest = stopped_said before s calls is in record { few = rest.few; said = rest.said }
-stopped_said (Restart m ∷ before) s calls is =
-    by (eqb m s) (λ was. stopped_said before s calls was) is
-  where
-    by : (b : Bool) → (stopped_at before s ≡ Some calls → IsSaidOf before s calls)
-        → (if b then None else stopped_at before s) ≡ Some calls
-        → IsSaidOf (Restart m ∷ before) s calls
-    by true rest is = cc
-    by false rest is =
-        let all = rest is in record { few = all.few; said = all.said }
+    one : (b : Bool) (o : Option Bool) → is_some o ≡ true
+        → is_some (if b then Some h.took else o) ≡ true
+    one true o so = refl
+    one false o so = so
 
-module _ (objects : List ObjectDecl) (history : List Received) (turns : List Turn) (s : ℕ)
-    (node : Node) (halted_at : Option Event) (reads : Opened)
-    (halt : IsHaltByStop objects history turns s node halted_at reads) where
-  -- A RESTART finds the event just where three calls passed.
-  pub finds_by_stop : (found : Found) → FindsBy objects s node halted_at reads found
-      → is_some found.event ≡ eqb halt.calls 3
-  finds_by_stop found finds =
-      by (nat_lt halt.calls 3) refl (lt_cases halt.calls 3) halt.opens
-    where
-      told : FindsBy objects s node (Some halt.event) reads found
-      told = subst (λ (o : Option Event). FindsBy objects s node o reads found) halt.kept finds
+    older : (gs : List Halt) → AllByRecursion (λ (g : Halt). is_some (halt_at hs g.input) ≡ true) gs
+        → AllByRecursion (λ (g : Halt). is_some (halt_at (h ∷ hs) g.input) ≡ true) gs
+    older [] all = tt
+    older (g ∷ gs) all = (one (eqb h.input g.input) (halt_at hs g.input) all.0, older gs all.1)
 
-      by : (b : Bool) → nat_lt halt.calls 3 ≡ b
-          → ((nat_lt halt.calls 3 ≡ true) × (halt.calls < 3))
-          ⊎ ((nat_lt halt.calls 3 ≡ false) × (3 ≤ halt.calls))
-          → OpensAs objects s (if b then history else taken halt.whole ∷ history) reads
-          → is_some found.event ≡ eqb halt.calls 3
-      by true is (inl y) opens =
-          let less = y.1 in
-          ap (λ (o : Option Event). is_some o)
-          ((told history halt.whole halt.halted).1 opens halt.adds)
-          ∙ sym (off halt.calls less)
-        where
-          off : (k : ℕ) → k < 3 → eqb k 3 ≡ false
-          off k less = elim (eqb_tells k 3) [
-            | inl y ↦ let same = y.1 in absurd (omega (arith, same, less))
-            | inr n ↦ n.0
-          ]
-      by true is (inr n) opens = absurd (true≢false (sym is ∙ n.0))
-      by false is (inl y) opens = absurd (true≢false (sym y.0 ∙ is))
-      by false is (inr n) opens =
-          let high = n.1 in
-          let few = (stopped_said turns s halt.calls halt.stopped).few in
-          ap (λ (o : Option Event). is_some o)
-          ((told history halt.whole halt.halted).0 0 opens)
-          ∙ sym (eq-eqb halt.calls 3 (omega (arith, high, few)))
+-- So the halts of a line are, and those before stay such.
+module _ (halts : List Halt) (inputs base : List Turn) (are : AreInputs inputs)
+    (all : AllByRecursion (λ (s : ℕ). is_stopped base s ≡ true) (nodes_in halts inputs base)) where
+  pub line_of_stops : (more : List Halt)
+      → AllByRecursion (λ (h : Halt). accepted base ≤ h.input) more
+      → AllByRecursion (λ (h : Halt). h.input < accepted (inputs ++ base)) more
+      → AllByRecursion (λ (h : Halt). is_some (halt_at halts h.input) ≡ true) more
+      → AreOfStops (inputs ++ base) more
+  line_of_stops [] low high said = tt
+  line_of_stops (h ∷ hs) low high said = (
+    said_stopped halts inputs base h.input are all low.0 high.0 said.0,
+    line_of_stops hs low.1 high.1 said.1,
+  )
 
-  -- as it is said of the halt by the stops
-  pub said_by_stop : last_stop turns s ≡ Some (eqb halt.calls 3 && told_last turns s)
-  said_by_stop = (stopped_said turns s halt.calls halt.stopped).said
-
-  -- Another history that is alike, and turns that say the same of the node.
-  pub halt_alike : (other : List Received) (later : List Turn) → AreAlike history other
-      → stopped_at later s ≡ stopped_at turns s
-      → IsHaltByStop objects other later s node halted_at reads
-  halt_alike other later alike same = record {
-    whole = halt.whole;
-    event = halt.event;
-    kept = halt.kept;
-    halted =
-        halts_stand_alike objects history other halt.whole node halt.event alike halt.halted;
-    adds = adds_alike objects history other halt.whole alike halt.adds;
-    calls = halt.calls;
-    stopped = same ∙ halt.stopped;
-    opens = record {
-      entries = halt.opens.entries;
-      opens = halt.opens.opens;
-      keeps = record {
-        recovered = halt.opens.keeps.recovered;
-        says = halt.opens.keeps.says;
-        is_log =
-            logs_keep_alike objects s (history_after halt.calls history (taken halt.whole))
-            (history_after halt.calls other (taken halt.whole))
-            (logged_of halt.opens.keeps.recovered) (either (nat_lt halt.calls 3))
-            halt.opens.keeps.is_log;
-      };
-    };
-  }
-    where
-      either : (b : Bool) → AreAlike (if b then history else taken halt.whole ∷ history)
-          (if b then other else taken halt.whole ∷ other)
-      either true = alike
-      either false = λ i. nameless (taken halt.whole) ∷ alike i
+  pub before_of_stops : (old : List Halt)
+      → AllByRecursion (λ (h : Halt). h.input < accepted base) old → AreOfStops base old
+      → AreOfStops (inputs ++ base) old
+  before_of_stops [] past of = tt
+  before_of_stops (h ∷ hs) past of =
+      (was_so inputs base h.input are past.0 ∙ of.0, before_of_stops hs past.1 of.1)

@@ -17,7 +17,7 @@ use Rattle.cam_cluster.specs.Stopped.{IsHaltByStop, IsStoppedAs}
 use Rattle.cam_cluster.specs.Stopping.{ends_by, stopped_at, IsAsStopped}
 use Rattle.cam_cluster.specs.Works.{NodeFields, AreStopped, AreStoppedBut, IsUnfailing, IsUnfailingNode}
 use Rattle.cam_cluster.proofs.StopTurns.{ended_as, halted_as, other_calls, other_stopped, stood_as}
-use Rattle.cam_cluster.proofs.StoppedHalts.{halt_alike}
+use Rattle.cam_cluster.proofs.HaltsByStop.{halt_alike}
 use Rattle.cam_cluster.proofs.WorksNodes.{set_tells}
 
 -- What holds of each with one changed held before, where it holds of that one then.

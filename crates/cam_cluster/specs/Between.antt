@@ -1,13 +1,13 @@
 -- What a cluster keeps between lines: the lines so far, as those of the run with the halts that are
 -- known; and what one line more makes of it.
 use Rattle.std.specs.Prelude.{◌≡◌, ◌≤◌, ◌<◌, ℕ, ◌+◌, false, List, [], ◌∷◌, ◌++◌, Some, None}
-use Rattle.std.specs.Prelude.{Option, Result, Ok, Err}
+use Rattle.std.specs.Prelude.{Result, Ok, Err}
 use Rattle.std.specs.List.{AllByRecursion}
 use Rattle.cam_event.specs.declared.LineRefusal.{LineRefusal}
 use Rattle.cam_event.specs.Inputs.{Input}
 use Rattle.cam_event.specs.Readings.{by_knowledge, by_pasts}
 use Rattle.cam_node.specs.Log.{Logged}
-use Rattle.cam_runs.specs.Halts.{Halt, Turn, accepted}
+use Rattle.cam_runs.specs.Halts.{Halt, accepted}
 use Rattle.cam_runs.specs.HaltedLines.{act, after_line}
 use Rattle.cam_script.specs.declared.Step.{Step}
 use Rattle.cam_script.specs.Law.{IsScript}
@@ -17,12 +17,14 @@ use Rattle.cam_cluster.specs.declared.LineFault.{LineFault}
 use Rattle.cam_cluster.specs.declared.LineFault.TheVariants as line_faults
 use Rattle.cam_cluster.specs.declared.works.Put.{Put}
 use Rattle.cam_cluster.specs.declared.works.Put.TheVariants as puts
-use Rattle.cam_cluster.specs.FoundHalts.{AreNewestFirst, input_node}
+use Rattle.cam_cluster.specs.FoundHalts.{AreLostSoFar, AreNewestFirst, with_taken}
 use Rattle.cam_cluster.specs.Puts.{as_halt}
-use Rattle.cam_cluster.specs.Seen.{IsBetweenLines, IsNextStep, Seen, setting_in}
+use Rattle.cam_cluster.specs.Seen.{IsBetweenLines, IsNextStep, Seen, lines_taken, run_of_lines}
+use Rattle.cam_cluster.specs.Seen.{setting_in}
 use Rattle.cam_cluster.specs.SoFar.{KeepsLines, LinesFields}
 
--- The halts that are known are at inputs that were put.
+-- The halts that are known are at inputs that were put. Each node that is halted halted at its last
+-- input, and the event is lost so far.
 pub record KeepsBetween (seen : Seen) (lines : LinesFields)
     (may_read : ℕ → Logged → Type 0) : Type 0 where
   pub is_script : IsScript seen.script
@@ -30,6 +32,16 @@ pub record KeepsBetween (seen : Seen) (lines : LinesFields)
   pub between : IsBetweenLines seen
   pub newest : AreNewestFirst seen.halts
   pub past : AllByRecursion (λ (h : Halt). h.input < accepted seen.standing.turns) seen.halts
+  pub lost : AreLostSoFar seen.standing seen.halts
+
+-- the lines so far, where the last halt of a node was found to be taken
+abbrev pub seen_found : Seen → ℕ → Seen
+seen_found seen s =
+    let found = with_taken seen.standing.turns s seen.halts in record {
+      script = seen.script;
+      standing = run_of_lines by_pasts seen.script found (lines_taken seen);
+      halts = found;
+    }
 
 -- the line taken, with these halts of it, the newest first
 abbrev pub after_step : Seen → Step → List Halt → Seen
@@ -52,23 +64,14 @@ KeepsStep seen step more new may_read =
     step.act))
     new may_read
 
--- The halts of a line are at inputs that were put in it.
+-- The halts of a line are at inputs that were put in it, and lost so far.
 pub record AreHaltsOfLine (seen new : Seen) (more : List Halt) : Type 0 where
   pub newest : AreNewestFirst more
   pub low :
       AllByRecursion (λ (h : Halt). accepted seen.standing.turns ≤ h.input) more
   pub high :
       AllByRecursion (λ (h : Halt). h.input < accepted new.standing.turns) more
-
--- the halt that came first of these, the newest first; and the node of it
-abbrev pub oldest : List Halt → Option Halt
-oldest [] = None
-oldest (h ∷ []) = Some h
-oldest (h ∷ g ∷ hs) = oldest (g ∷ hs)
-
-abbrev pub node_of_halt : List Turn → Option Halt → Option ℕ
-node_of_halt turns None = None
-node_of_halt turns (Some h) = input_node turns h.input
+  pub lost : AllByRecursion (λ (h : Halt). h.took ≡ false) more
 
 -- So the lines go on: what is kept behind a line is what is kept between lines.
 abbrev pub LinesGoOn : Type 1

@@ -39,6 +39,16 @@ abbrev pub AreNewestFirst : List Halt → Type 0
 AreNewestFirst [] = Unit {0}
 AreNewestFirst (h ∷ hs) = AllByRecursion (λ (g : Halt). g.input < h.input) hs × AreNewestFirst hs
 
+-- The last input of the node is a halt, which is lost so far.
+pub record IsLostSoFar (turns : List Turn) (halts : List Halt) (s : ℕ) : Type 0 where
+  pub number : ℕ
+  pub last : last_input turns s ≡ Some number
+  pub lost : halt_at halts number ≡ Some false
+
+-- So it is of each node that is halted.
+abbrev pub AreLostSoFar : Standing → List Halt → Type 0
+AreLostSoFar st halts = (s : ℕ) → has_number st.halted s ≡ true → IsLostSoFar st.turns halts s
+
 -- The node halted at its last input, and is halted; the event is lost so far.
 pub record IsLastHalt (st : Standing) (halts : List Halt) (s k : ℕ) : Type 0 where
   pub newest : AreNewestFirst halts

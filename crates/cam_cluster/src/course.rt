@@ -1,23 +1,24 @@
 //! The course of a script: its lines so far, and the actions that work at its bodies. The next line
 //! is taken, whichever kind of line it is.
-ghost use Rattle.std.specs.Prelude.{◌≡◌, ◌≤◌, List, drop, length};
+ghost use Rattle.std.specs.Prelude.{◌≡◌, List};
 ghost use Rattle.cam_script.specs.declared.Act.TheVariants as acts;
 ghost use Rattle.cam_script.specs.declared.Statement.{Statement};
-ghost use Rattle.cam_cluster.specs.Courses.{IsAtWorkLine, IsBuilt, IsCourseLine, IsNextOfCourse, IsStartOf, first_halted};
+ghost use Rattle.cam_cluster.specs.Courses.{IsAtWorkLine, IsNextOfCourse, IsStartOf};
 ghost use Rattle.cam_cluster.specs.Servers.{AreServers};
 ghost use Rattle.cam_cluster.specs.VariableLines.{IsNextOfSome};
 
+use crate::LineFault;
 use crate::lines::{AsLines, Lines};
 use crate::servers::Servers;
 use crate::telling::TellingLog;
 use crate::workers::Workers;
-use crate::works::give_body;
-use crate::{LineDone, LineFault};
+use crate::works::{Restart, give_body};
+use cam_base::NoMemory;
 use cam_ckpt::CheckpointLog;
-use cam_event::Mark;
 use cam_script::{Act, Bodies, Step};
 use cam_type::DataType;
 use cam_wire::WireFault;
+use thiserror::Error;
 
 /// The lines of a script so far, and the actions that work at its bodies.
 #[derive(Drop)]
@@ -26,71 +27,48 @@ pub(crate) struct Course<L: CheckpointLog> {
     pub(crate) workers: Workers,
 }
 
-/// The node of the first halt that these marks tell.
-fn first_halted(marks: &[Mark]) -> Option<u8>
-    ensures { result ≡ first_halted marks.now }
-{
-    for mark in marks {
-        if let Mark::Halted { node, .. } = mark {
-            return Some(*node);
-        }
-    }
-    None
+/// Why a line of a course did not do all of what it says.
+#[derive(Clone, Copy, Debug, Error)]
+pub(crate) enum CourseFault {
+    #[error("the line was not taken")]
+    Line(LineFault),
+    /// The disk of the node of this number failed while the node restarted: the run ends there.
+    #[error("a restart failed")]
+    RestartFailed(u8),
 }
 
-/// The node of the first halt that the marks behind so many tell.
-fn first_halted_behind(before: usize, marks: &[Mark]) -> Option<u8>
-    requires { before ≤ length marks.now }
-    ensures { result ≡ first_halted (drop before marks.now) }
-{
-    first_halted(&marks[before..])
+impl From<LineFault> for CourseFault {
+    ghost use Rattle.cam_cluster.specs.declared.course.CourseFault.TheVariants.{Line};
+
+    ghost from_gives = { λ fault e. e ≡ Line fault };
+
+    fn from(fault: LineFault) -> CourseFault {
+        CourseFault::Line(fault)
+    }
+}
+
+impl From<NoMemory> for CourseFault {
+    ghost use Rattle.cam_cluster.specs.declared.LineFault.TheVariants.{NoMemory as LineNoMemory};
+    ghost use Rattle.cam_cluster.specs.declared.course.CourseFault.TheVariants.{Line};
+
+    ghost from_gives = { λ _ e. e ≡ Line LineNoMemory };
+
+    fn from(_: NoMemory) -> CourseFault {
+        CourseFault::Line(LineFault::NoMemory)
+    }
 }
 
 impl<L: TellingLog> Course<L> {
-    /// Takes the next line of the script: it leads on, and what it made is told; or it is refused, by the first test that fails; or
-    /// memory runs out, and what was kept is kept, but that some inputs of a drain or a play may stand.
-    ///
-    /// Of a restart of a halted node the clause says nothing.
+    /// Takes the next line of the script, by its kind: it leads on, and the fault of a letter that it cut short is told; or it is
+    /// refused, by the first test that fails; or memory runs out, and what was kept is kept, but that some inputs of a drain or a play
+    /// may stand; or a restart fails, and nothing is said of what is kept.
     #[tactic(none)]
-    pub(crate) fn line<R: DataType, Q: DataType, C: DataType>(
+    pub(crate) fn take<R: DataType, Q: DataType, C: DataType>(
         &mut self,
         step: &Step,
         bodies: &Bodies,
         servers: &mut Servers<R, Q, C>,
-    ) -> Result<LineDone, LineFault>
-        requires built { IsBuilt step.now.act }
-        requires next { IsNextOfCourse step.now bodies.now
-            (⟦<Lines<L> as AsLines>⟧.fields self.old.lines)
-            (⟦<Lines<L> as AsLines>⟧.may_read self.old.lines) self.old.workers }
-        requires servers { AreServers R.kind Q.kind C.kind
-            servers.old.register servers.old.queue servers.old.counter }
-        ensures line { IsCourseLine step.now bodies.now
-            (⟦<Lines<L> as AsLines>⟧.fields self.old.lines)
-            (⟦<Lines<L> as AsLines>⟧.may_read self.old.lines) self.old.workers
-            (⟦<Lines<L> as AsLines>⟧.fields self.new.lines)
-            (⟦<Lines<L> as AsLines>⟧.may_read self.new.lines) self.new.workers result }
-        ensures servers { AreServers R.kind Q.kind C.kind
-            servers.new.register servers.new.queue servers.new.counter }
-    {
-        let events = self.lines.works.events.len();
-        let marks = self.lines.works.marks.len();
-        let bad = self.take(step, bodies, servers)?;
-        Ok(LineDone {
-            events: (self.lines.works.events.len() - events) as u64,
-            halted: first_halted_behind(marks, &self.lines.works.marks),
-            bad,
-        })
-    }
-
-    /// Takes the next line, by its kind: the fault of a letter that it cut short is told.
-    #[tactic(none)]
-    fn take<R: DataType, Q: DataType, C: DataType>(
-        &mut self,
-        step: &Step,
-        bodies: &Bodies,
-        servers: &mut Servers<R, Q, C>,
-    ) -> Result<Option<WireFault>, LineFault>
-        requires built { IsBuilt step.now.act }
+    ) -> Result<Option<WireFault>, CourseFault>
         requires next { IsNextOfCourse step.now bodies.now
             (⟦<Lines<L> as AsLines>⟧.fields self.old.lines)
             (⟦<Lines<L> as AsLines>⟧.may_read self.old.lines) self.old.workers }
@@ -109,9 +87,8 @@ impl<L: TellingLog> Course<L> {
             Act::Go { action } => self.go(step.line, action, bodies, servers),
             Act::Restart { node } => self.restart(step.line, node),
             Act::Play => self.play(step.line, bodies, servers),
-            // it is not built
-            Act::Stop { .. } => unreachable!(),
-            _ => self.lines.take(step, servers),
+            Act::Stop { node, calls } => self.stop(step.line, node, calls),
+            _ => Ok(self.lines.take(step, servers)?),
         }
     }
 
@@ -122,7 +99,7 @@ impl<L: TellingLog> Course<L> {
         step: &Step,
         body: u8,
         servers: &mut Servers<R, Q, C>,
-    ) -> Result<Option<WireFault>, LineFault>
+    ) -> Result<Option<WireFault>, CourseFault>
         requires start { IsStartOf body step.now.act }
         requires next { IsNextOfSome step.now.line step.now.act
             (⟦<Lines<L> as AsLines>⟧.fields self.old.lines)
@@ -151,7 +128,7 @@ impl<L: TellingLog> Course<L> {
         action: u32,
         bodies: &Bodies,
         servers: &mut Servers<R, Q, C>,
-    ) -> Result<Option<WireFault>, LineFault>
+    ) -> Result<Option<WireFault>, CourseFault>
         requires next { IsNextOfCourse (record { line = line; act = acts.Go action }) bodies.now
             (⟦<Lines<L> as AsLines>⟧.fields self.old.lines)
             (⟦<Lines<L> as AsLines>⟧.may_read self.old.lines) self.old.workers }
@@ -178,7 +155,7 @@ impl<L: TellingLog> Course<L> {
         line: u32,
         bodies: &Bodies,
         servers: &mut Servers<R, Q, C>,
-    ) -> Result<Option<WireFault>, LineFault>
+    ) -> Result<Option<WireFault>, CourseFault>
         requires next { IsNextOfCourse (record { line = line; act = acts.Play }) bodies.now
             (⟦<Lines<L> as AsLines>⟧.fields self.old.lines)
             (⟦<Lines<L> as AsLines>⟧.may_read self.old.lines) self.old.workers }
@@ -196,9 +173,27 @@ impl<L: TellingLog> Course<L> {
         Ok(None)
     }
 
-    /// `restart`: a node goes on from what its log keeps. Of a node that is halted the clause says nothing.
+    /// `stop`: the disk of a node does so many calls more.
     #[tactic(none)]
-    fn restart(&mut self, line: u32, node: u8) -> Result<Option<WireFault>, LineFault>
+    fn stop(&mut self, line: u32, node: u8, calls: u32) -> Result<Option<WireFault>, CourseFault>
+        requires next { IsNextOfSome line (acts.Stop node calls)
+            (⟦<Lines<L> as AsLines>⟧.fields self.old.lines)
+            (⟦<Lines<L> as AsLines>⟧.may_read self.old.lines) }
+        ensures line { (bodies : List (List Statement)) → IsAtWorkLine
+            (record { line = line; act = acts.Stop node calls }) bodies
+            (⟦<Lines<L> as AsLines>⟧.fields self.old.lines)
+            (⟦<Lines<L> as AsLines>⟧.may_read self.old.lines) self.old.workers
+            (⟦<Lines<L> as AsLines>⟧.fields self.new.lines)
+            (⟦<Lines<L> as AsLines>⟧.may_read self.new.lines) self.new.workers result }
+    {
+        self.lines.stop(line, node, calls)?;
+        Ok(None)
+    }
+
+    /// `restart`: a node goes on from what its log keeps. Where the log has the event at which the node had halted, that event stands
+    /// among the others from then on, and the actions at bodies take in all events again.
+    #[tactic(none)]
+    fn restart(&mut self, line: u32, node: u8) -> Result<Option<WireFault>, CourseFault>
         requires next { IsNextOfSome line (acts.Restart node)
             (⟦<Lines<L> as AsLines>⟧.fields self.old.lines)
             (⟦<Lines<L> as AsLines>⟧.may_read self.old.lines) }
@@ -209,7 +204,13 @@ impl<L: TellingLog> Course<L> {
             (⟦<Lines<L> as AsLines>⟧.fields self.new.lines)
             (⟦<Lines<L> as AsLines>⟧.may_read self.new.lines) self.new.workers result }
     {
-        self.lines.restart(node)?;
-        Ok(None)
+        match self.lines.restart(node)? {
+            Restart::Stood => Ok(None),
+            Restart::Found => {
+                self.workers.forget();
+                Ok(None)
+            }
+            Restart::Failed => Err(CourseFault::RestartFailed(node)),
+        }
     }
 }

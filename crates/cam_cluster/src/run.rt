@@ -1,26 +1,26 @@
 //! The run of a whole script: its lines one after another, over a disk for each of its nodes.
-ghost use Rattle.std.specs.Prelude.{◌≡◌, IfOk, None, OnOk, length};
+ghost use Rattle.std.specs.Prelude.{◌≡◌, ◌≤◌, List, IfOk, OnOk, None, Some, true, drop, length, slice_get};
 ghost use Rattle.std.specs.List.{AllByRecursion};
-ghost use Rattle.cam_script.specs.declared.stage.Stage.TheVariants.{WithoutStops};
+ghost use Rattle.cam_runs.specs.Halts.{Turn};
 ghost use Rattle.cam_script.specs.declared.Script.{Script as ScriptFields};
 ghost use Rattle.cam_script.specs.Law.{IsScript};
-ghost use Rattle.cam_script.specs.OfStage.{IsOfStage};
-ghost use Rattle.cam_cluster.specs.Courses.{IsBuilt};
 ghost use Rattle.cam_cluster.specs.Servers.{AreServers};
+ghost use Rattle.cam_cluster.specs.StoppedDisks.{KnowsStops, begun_turns, halted_nodes};
 ghost use Rattle.cam_cluster.specs.WholeRuns.{HasTakenLines, HasTakenNext, IsNextOfRun, IsRecordOf};
 
 use crate::LineFault;
-use crate::course::Course;
+use crate::course::{Course, CourseFault};
 use crate::founding::ClusterFault;
 use crate::lines::{AsLines, Lines};
 use crate::servers::Servers;
+use crate::stopped::Stopped;
 use crate::telling::{TellingDisk, TellingLog};
 use crate::workers::Workers;
 use cam_base::{NoMemory, Sequence};
-use cam_ckpt::Ckpt;
+use cam_ckpt::{CheckpointLog, Ckpt};
 use cam_disk::{Disk, StopDisk};
 use cam_event::RunRecord;
-use cam_script::{Script, Step};
+use cam_script::{Act, Script, Step};
 use cam_type::DataType;
 use std::alloc::Global;
 use thiserror::Error;
@@ -31,9 +31,12 @@ pub enum RunFault {
     /// The disk of the node of this number failed while it was formatted.
     #[error("the disk of a node failed")]
     DiskFault(u8),
-    /// The node of this number halted.
+    /// The node of this number halted, though no line had stopped its disk.
     #[error("a node halted")]
     Halted(u8),
+    /// The disk of the node of this number failed while the node restarted.
+    #[error("a restart failed")]
+    RestartFailed(u8),
     #[error("out of memory")]
     NoMemory,
 }
@@ -69,59 +72,91 @@ fn stoppable<D: Disk>(alloc: Global, disks: Vec<D>) -> Result<Vec<StopDisk<D>>, 
     Ok(over)
 }
 
-impl<D: TellingDisk> Course<Ckpt<StopDisk<D>>> {
-    /// The course of a script before its first line, over a disk for each node, which is formatted.
+/// The run of a script: the course of its lines so far, and the disks that they have stopped.
+#[derive(Drop)]
+struct Run<L: CheckpointLog> {
+    course: Course<L>,
+    stopped: Stopped,
+}
+
+impl<D: TellingDisk> Run<Ckpt<StopDisk<D>>> {
+    /// The run of a script before its first line, over a disk for each node, which is formatted.
     fn new(
         alloc: Global,
         script: &Script,
         disks: Vec<D>,
-    ) -> Result<Course<Ckpt<StopDisk<D>>>, RunFault>
+    ) -> Result<Run<Ckpt<StopDisk<D>>>, RunFault>
         requires script { IsScript script.now }
         requires one_each { length disks.items ≡ script.now.nodes }
-        ensures { IfOk result (λ course. HasTakenLines script.now 0
-            (⟦<Lines<Ckpt<StopDisk<D>>> as AsLines>⟧.fields course.lines)
-            (⟦<Lines<Ckpt<StopDisk<D>>> as AsLines>⟧.may_read course.lines) course.workers) }
+        ensures { IfOk result (λ run. HasTakenLines script.now 0
+            (⟦<Lines<Ckpt<StopDisk<D>>> as AsLines>⟧.fields run.course.lines)
+            (⟦<Lines<Ckpt<StopDisk<D>>> as AsLines>⟧.may_read run.course.lines) run.course.workers
+            run.stopped.nodes) }
     {
         match Lines::new(alloc, script, stoppable(alloc, disks)?) {
-            Ok(lines) => Ok(Course {
-                lines,
-                workers: Workers::new(alloc),
+            Ok(lines) => Ok(Run {
+                course: Course {
+                    lines,
+                    workers: Workers::new(alloc),
+                },
+                stopped: Stopped::none(),
             }),
             Err(refused) => Err(fault_of(refused.fault)),
         }
     }
 }
 
-impl<L: TellingLog> Course<L> {
-    /// Takes the next line of the script, which may be refused. Where a node halted in it, it fails:
-    /// the disk of the node failed or found no memory, but no clause says what a halt came of.
+impl<L: TellingLog> Run<L> {
+    /// Takes the next line of the script, which may be refused. It fails where a node halted in it whose disk no line had stopped: the
+    /// disk of the node failed or found no memory, but no clause says what a halt came of.
     fn take_next<R: DataType, Q: DataType, C: DataType>(
         &mut self,
         script: &Script,
         step: &Step,
         servers: &mut Servers<R, Q, C>,
     ) -> Result<(), RunFault>
-        requires built { IsBuilt step.now.act }
         requires next { IsNextOfRun script.now step.now
-            (⟦<Lines<L> as AsLines>⟧.fields self.old.lines)
-            (⟦<Lines<L> as AsLines>⟧.may_read self.old.lines) self.old.workers }
+            (⟦<Lines<L> as AsLines>⟧.fields self.old.course.lines)
+            (⟦<Lines<L> as AsLines>⟧.may_read self.old.course.lines) self.old.course.workers
+            self.old.stopped.nodes }
         requires servers { AreServers R.kind Q.kind C.kind
             servers.old.register servers.old.queue servers.old.counter }
         ensures taken { OnOk result (HasTakenNext script.now step.now
-            (⟦<Lines<L> as AsLines>⟧.fields self.old.lines)
-            (⟦<Lines<L> as AsLines>⟧.may_read self.old.lines) self.old.workers
-            (⟦<Lines<L> as AsLines>⟧.fields self.new.lines)
-            (⟦<Lines<L> as AsLines>⟧.may_read self.new.lines) self.new.workers) }
+            (⟦<Lines<L> as AsLines>⟧.fields self.old.course.lines)
+            (⟦<Lines<L> as AsLines>⟧.may_read self.old.course.lines) self.old.course.workers
+            self.old.stopped.nodes
+            (⟦<Lines<L> as AsLines>⟧.fields self.new.course.lines)
+            (⟦<Lines<L> as AsLines>⟧.may_read self.new.course.lines) self.new.course.workers
+            self.new.stopped.nodes) }
         ensures servers { AreServers R.kind Q.kind C.kind
             servers.new.register servers.new.queue servers.new.counter }
     {
-        match self.line(step, &script.bodies, servers) {
-            Ok(done) => match done.halted {
-                Some(node) => Err(RunFault::Halted(node)),
-                None => Ok(()),
-            },
-            Err(LineFault::Refused(_)) => Ok(()),
-            Err(LineFault::NoMemory) => Err(RunFault::NoMemory),
+        let marks = self.course.lines.works.marks.len();
+        match self.course.take(step, &script.bodies, servers) {
+            Ok(_) => self.led(&step.act, marks),
+            Err(CourseFault::Line(LineFault::Refused(_))) => Ok(()),
+            Err(CourseFault::Line(LineFault::NoMemory)) => Err(RunFault::NoMemory),
+            Err(CourseFault::RestartFailed(node)) => Err(RunFault::RestartFailed(node)),
+        }
+    }
+
+    /// A line led on behind so many marks: each node that halted in it has to be one whose disk is stopped.
+    fn led(&mut self, act: &Act, marks: usize) -> Result<(), RunFault>
+        requires { marks ≤ length self.old.course.lines.works.marks.items }
+        ensures course { self.new.course ≡ self.old.course }
+        ensures knows { (turns : List Turn) → KnowsStops turns self.old.stopped.nodes
+            → KnowsStops (begun_turns act.now turns) self.new.stopped.nodes }
+        ensures stopped { OnOk result (AllByRecursion
+            (λ s. slice_get self.new.stopped.nodes s ≡ Some true)
+            (halted_nodes (drop marks self.old.course.lines.works.marks.items))) }
+    {
+        self.stopped.lead(act);
+        match self
+            .stopped
+            .first_other(&self.course.lines.works.marks[marks..])
+        {
+            Some(node) => Err(RunFault::Halted(node)),
+            None => Ok(()),
         }
     }
 
@@ -131,14 +166,16 @@ impl<L: TellingLog> Course<L> {
         script: &Script,
         servers: &mut Servers<R, Q, C>,
     ) -> Result<(), RunFault>
-        requires forms { IsOfStage WithoutStops script.now }
-        requires none { HasTakenLines script.now 0 (⟦<Lines<L> as AsLines>⟧.fields self.old.lines)
-            (⟦<Lines<L> as AsLines>⟧.may_read self.old.lines) self.old.workers }
+        requires none { HasTakenLines script.now 0
+            (⟦<Lines<L> as AsLines>⟧.fields self.old.course.lines)
+            (⟦<Lines<L> as AsLines>⟧.may_read self.old.course.lines) self.old.course.workers
+            self.old.stopped.nodes }
         requires servers { AreServers R.kind Q.kind C.kind
             servers.old.register servers.old.queue servers.old.counter }
         ensures all { OnOk result (HasTakenLines script.now (length script.now.steps)
-            (⟦<Lines<L> as AsLines>⟧.fields self.new.lines)
-            (⟦<Lines<L> as AsLines>⟧.may_read self.new.lines) self.new.workers) }
+            (⟦<Lines<L> as AsLines>⟧.fields self.new.course.lines)
+            (⟦<Lines<L> as AsLines>⟧.may_read self.new.course.lines) self.new.course.workers
+            self.new.stopped.nodes) }
         ensures servers { AreServers R.kind Q.kind C.kind
             servers.new.register servers.new.queue servers.new.counter }
     {
@@ -151,11 +188,11 @@ impl<L: TellingLog> Course<L> {
     /// The events and the marks of the lines so far. It takes no memory.
     fn into_record(self) -> RunRecord
         ensures { (script : ScriptFields) → HasTakenLines script (length script.steps)
-            (⟦<Lines<L> as AsLines>⟧.fields self.lines)
-            (⟦<Lines<L> as AsLines>⟧.may_read self.lines) self.workers
-            → IsRecordOf script result }
+            (⟦<Lines<L> as AsLines>⟧.fields self.course.lines)
+            (⟦<Lines<L> as AsLines>⟧.may_read self.course.lines) self.course.workers
+            self.stopped.nodes → IsRecordOf script result }
     {
-        let works = self.lines.works;
+        let works = self.course.lines.works;
         RunRecord {
             trace: works.events.into_trace(),
             marks: Sequence::from_vec(works.marks),
@@ -164,10 +201,12 @@ impl<L: TellingLog> Course<L> {
 }
 
 /// Runs a whole script, each node over the disk at its place, which is formatted, whatever it held.
-/// A line that is refused leaves its mark, and the run goes on.
+/// A line that is refused leaves its mark, and the run goes on; so it does where a node halts whose
+/// disk a line had stopped.
 ///
 /// The servers do the operations of its objects. The run ends by `DiskFault` where a disk fails
-/// while it is formatted, and by `Halted` where a node halts later, since its disk failed or found
+/// while it is formatted, by `RestartFailed` where one fails while its node restarts, and by
+/// `Halted` where a node halts though no line had stopped its disk, since the disk failed or found
 /// no memory. No clause says that a fault has such a cause, nor of which node it is.
 pub fn run_script<D: TellingDisk, R: DataType, Q: DataType, C: DataType>(
     alloc: Global,
@@ -176,7 +215,6 @@ pub fn run_script<D: TellingDisk, R: DataType, Q: DataType, C: DataType>(
     servers: &mut Servers<R, Q, C>,
 ) -> Result<RunRecord, RunFault>
     requires script { IsScript script.now }
-    requires forms { IsOfStage WithoutStops script.now }
     requires one_each { length disks.items ≡ script.now.nodes }
     requires servers { AreServers R.kind Q.kind C.kind
         servers.old.register servers.old.queue servers.old.counter }
@@ -184,7 +222,7 @@ pub fn run_script<D: TellingDisk, R: DataType, Q: DataType, C: DataType>(
     ensures servers { AreServers R.kind Q.kind C.kind
         servers.new.register servers.new.queue servers.new.counter }
 {
-    let mut course = Course::new(alloc, script, disks)?;
-    course.take_all(script, servers)?;
-    Ok(course.into_record())
+    let mut run = Run::new(alloc, script, disks)?;
+    run.take_all(script, servers)?;
+    Ok(run.into_record())
 }

@@ -20,7 +20,9 @@ use Rattle.cam_why.specs.declared.fault.WhyFault.{WhyFault}
 use Rattle.cam_why.specs.declared.fault.WhyFault.TheVariants.{NoSuchStop}
 use Rattle.cam_why.proofs.Stops.{runs_are_whole}
 use Rattle.cam_report.specs.Whys.{IsWhyText}
-use Rattle.cam_cluster.specs.WholeRuns.{IsRecordOf}
+use Rattle.cam_cluster.specs.Seen.{IsRunRecord}
+use Rattle.cam_cluster.specs.WholeRuns.{IsRecordOf, after_all}
+use Rattle.cam_cluster.proofs.WholeRuns.{record_without_stops}
 use Rattle.cam_headline.specs.Headline.{HasOneRun, events, halted_run}
 use Rattle.cam_headline.proofs.Whole.{headline_holds}
 use Rattle.cam_run.specs.Answer.{script_of}
@@ -31,7 +33,7 @@ use Rattle.cam_run.specs.Told.{IsOneRun, IsOfStop, stop_of}
 -- The program takes no line that stops a disk, so the one run is the run without halts.
 pub is_one_run : (script : Script) (run : RunRecord) → IsOfStage taken_stage script
     → IsRecordOf script run → IsOneRun script run
-is_one_run script run forms is =
+is_one_run script run forms recorded =
     record {
       events =
           ap (λ (t : List Event). reverse t) is.trace ∙ reverse-reverse made.running.trace
@@ -44,6 +46,9 @@ is_one_run script run forms is =
 
     same : made ≡ halted_run script by_stops
     same = sym (no_stops_no_halts by_pasts script forms)
+
+    is : IsRunRecord (after_all script []) run
+    is = record_without_stops script run forms recorded
 
 -- the events of the record are those of a run
 is_whole : (script : Script) (run : RunRecord) → IsOneRun script run → HasOneRun script → IsWhole (reverse run.trace)

@@ -2,6 +2,7 @@
 use Rattle.std.proofs.Common.{◌≡◌, Err, sym, subst, rules}
 use Rattle.cam_script.specs.declared.Act.TheVariants as acts
 use Rattle.cam_cluster.specs.declared.LineFault.TheVariants as line_faults
+use Rattle.cam_cluster.specs.declared.course.CourseFault.TheVariants as faults
 use Rattle.cam_cluster.specs.Courses.{IsAtWorkLine}
 use Rattle.cam_cluster.proofs.AsSeen.{lines_of, reads_of}
 use Rattle.cam_cluster.proofs.PlayAtWork.{play_at_work, play_part_at_work}
@@ -26,7 +27,7 @@ returns-in_err-play-clause-line g c =
     let might = reads_of g.L.CheckpointLog g.L.EntryLog c.args.self.now.lines.works in
     let new = lines_of g.L.CheckpointLog g.L.EntryLog c.play.new.self in
     let may = reads_of g.L.CheckpointLog g.L.EntryLog c.play.new.self.works in
-    let is : c.from_residual.result ≡ Err line_faults.NoMemory = search rules in
+    let is : c.from_residual.result ≡ Err (faults.Line line_faults.NoMemory) = search rules in
     subst (λ r. IsAtWorkLine (record { line = c.args.line; act = acts.Play }) c.args.bodies.now old
     might c.args.self.now.workers new may c.play.new.workers r) (sym is)
     (play_part_at_work c.args.line c.args.bodies.now old new might may c.args.self.now.workers

@@ -1,13 +1,14 @@
 -- `restart`, in a course.
-use Rattle.std.proofs.Common.{◌≡◌, ℕ, ◌<◌, ◌≤◌, ◌-◌, length, Ok, Err, sym, subst, arith, rules}
+use Rattle.std.proofs.Common.{◌≡◌, ℕ, ◌<◌, ◌≤◌, ◌-◌, length, None, Ok, Err, sym, subst, arith, rules}
 use Rattle.std.proofs.lemmas.List.{length-map}
-use Rattle.cam_node.specs.Calls.{answers}
 use Rattle.cam_script.specs.declared.Act.TheVariants as acts
+use Rattle.cam_cluster.specs.declared.course.CourseFault.TheVariants as faults
 use Rattle.cam_cluster.specs.declared.LineFault.TheVariants as line_faults
 use Rattle.cam_cluster.specs.Courses.{IsAtWorkLine}
+use Rattle.cam_cluster.specs.Restarts.{IsRestartLine}
 use Rattle.cam_cluster.proofs.AsSeen.{lines_of, part, reads_of}
-use Rattle.cam_cluster.proofs.RestartTaken.{at_place, restart_at_work, restart_told}
-use Rattle.cam_cluster.proofs.RestartTaken.{restarts_within}
+use Rattle.cam_cluster.proofs.RestartTaken.{at_place, failed_at_work, found_at_work}
+use Rattle.cam_cluster.proofs.RestartTaken.{restart_wanting, restarts_within, stood_at_work}
 use Rattle.cam_cluster.proofs.Takes.{some_lines}
 use Rattle.cam_cluster.proofs.course.Course.restart.Goals as goal
 
@@ -44,22 +45,23 @@ returns-in_err-restart g c =
     let many =
     length-map c.args.self.now.lines.works.nodes.items (part g.L.CheckpointLog g.L.EntryLog) in
     omega (arith, low, high, many) in
-    let is : c.from_residual.result ≡ Err line_faults.NoMemory = search rules in
+    let is : c.from_residual.result ≡ Err (faults.Line line_faults.NoMemory) = search rules in
     record {
       line = λ bodies.
           subst (λ r. IsAtWorkLine (record { line = c.args.line; act = acts.Restart c.args.node })
           bodies old might c.args.self.now.workers new may c.args.self.now.workers r) (sym is)
           (at_place c.args.self.now.lines.works.nodes.items (c.args.node - 1) _
           (IsAtWorkLine (record { line = c.args.line; act = acts.Restart c.args.node }) bodies old
-          might c.args.self.now.workers new may c.args.self.now.workers (restart_told (Err c.in_err-restart.field-0.0))) there
+          might c.args.self.now.workers new may c.args.self.now.workers
+          (Err (faults.Line line_faults.NoMemory))) there
           c.in_err-restart.ensures.line
-          (λ node told. restart_at_work c.args.line c.args.node (answers node.core) node.halted_at
-          bodies old new might may c.args.self.now.workers (Err c.in_err-restart.field-0.0)
+          (λ node told. restart_wanting c.args.line c.args.node bodies old new might may
+          c.args.self.now.workers c.in_err-restart.field-0.0
           (told (g.met.L.TellingLog.always node.log.log))));
     }
 
-pub returns : goal.returns
-returns g c =
+pub returns-in-Stood : goal.returns-in-Stood
+returns-in-Stood g c =
     let old = lines_of g.L.CheckpointLog g.L.EntryLog c.args.self.now.lines in
     let might = reads_of g.L.CheckpointLog g.L.EntryLog c.args.self.now.lines.works in
     let new = lines_of g.L.CheckpointLog g.L.EntryLog c.restart.new.self in
@@ -75,9 +77,48 @@ returns g c =
       line = λ bodies.
           at_place c.args.self.now.lines.works.nodes.items (c.args.node - 1) _
           (IsAtWorkLine (record { line = c.args.line; act = acts.Restart c.args.node }) bodies old
-          might c.args.self.now.workers new may c.args.self.now.workers (restart_told (Ok c.in_ok-restart.field-0))) there
+          might c.args.self.now.workers new may c.args.self.now.workers (Ok None)) there
           c.in_ok-restart.ensures.line
-          (λ node told. restart_at_work c.args.line c.args.node (answers node.core) node.halted_at
-          bodies old new might may c.args.self.now.workers (Ok c.in_ok-restart.field-0)
-          (told (g.met.L.TellingLog.always node.log.log)));
+          (λ node told. stood_at_work c.args.line c.args.node bodies old new might may
+          c.args.self.now.workers
+          (subst (λ r. IsRestartLine c.args.node old might new may (Ok r)) c.in-Stood.is
+          (told (g.met.L.TellingLog.always node.log.log))));
+    }
+
+pub returns-in-Found : goal.returns-in-Found
+returns-in-Found g c =
+    let old = lines_of g.L.CheckpointLog g.L.EntryLog c.args.self.now.lines in
+    let might = reads_of g.L.CheckpointLog g.L.EntryLog c.args.self.now.lines.works in
+    let new = lines_of g.L.CheckpointLog g.L.EntryLog c.restart.new.self in
+    let may = reads_of g.L.CheckpointLog g.L.EntryLog c.restart.new.self.works in
+    let within = restarts_within c.args.line c.args.node old might c.requires.next in
+    let there : c.args.node - 1 < length c.args.self.now.lines.works.nodes.items =
+    let low = within.0 in
+    let high = within.1 in
+    let many =
+    length-map c.args.self.now.lines.works.nodes.items (part g.L.CheckpointLog g.L.EntryLog) in
+    omega (arith, low, high, many) in
+    record {
+      line = λ bodies.
+          at_place c.args.self.now.lines.works.nodes.items (c.args.node - 1) _
+          (IsAtWorkLine (record { line = c.args.line; act = acts.Restart c.args.node }) bodies old
+          might c.args.self.now.workers new may c.forget.new.self (Ok None)) there
+          c.in_ok-restart.ensures.line
+          (λ node told. found_at_work c.args.line c.args.node bodies old new might may
+          c.args.self.now.workers c.forget.new.self
+          (subst (λ r. IsRestartLine c.args.node old might new may (Ok r)) c.in-Found.is
+          (told (g.met.L.TellingLog.always node.log.log)))
+          c.forget.ensures.given);
+    }
+
+pub returns-in-Failed : goal.returns-in-Failed
+returns-in-Failed g c =
+    let old = lines_of g.L.CheckpointLog g.L.EntryLog c.args.self.now.lines in
+    let might = reads_of g.L.CheckpointLog g.L.EntryLog c.args.self.now.lines.works in
+    let new = lines_of g.L.CheckpointLog g.L.EntryLog c.restart.new.self in
+    let may = reads_of g.L.CheckpointLog g.L.EntryLog c.restart.new.self.works in
+    record {
+      line = λ bodies.
+          failed_at_work c.args.line c.args.node bodies old new might may c.args.self.now.workers
+          c.args.self.now.workers;
     }

@@ -2,6 +2,7 @@
 use Rattle.std.proofs.Common.{◌≡◌, Some, Err, sym, subst, rules}
 use Rattle.cam_script.specs.declared.Act.{Act}
 use Rattle.cam_cluster.specs.declared.LineFault.TheVariants as line_faults
+use Rattle.cam_cluster.specs.declared.course.CourseFault.TheVariants as faults
 use Rattle.cam_cluster.specs.Courses.{IsAtWorkLine}
 use Rattle.cam_cluster.specs.Taking.{IsTakenAlone}
 use Rattle.cam_cluster.proofs.AsSeen.{lines_of, reads_of}
@@ -13,7 +14,7 @@ pub returns-in_err-reserve-clause-line : goal.returns-in_err-reserve-clause-line
 returns-in_err-reserve-clause-line g c =
     let old = lines_of g.L.CheckpointLog g.L.EntryLog c.args.self.now.lines in
     let might = reads_of g.L.CheckpointLog g.L.EntryLog c.args.self.now.lines.works in
-    let is : c.from_residual.result ≡ Err line_faults.NoMemory = search rules in
+    let is : c.from_residual.result ≡ Err (faults.Line line_faults.NoMemory) = search rules in
     λ bodies.
     subst (λ r. IsAtWorkLine c.args.step.now bodies old might c.args.self.now.workers old might
     c.reserve.new.self r) (sym is)
@@ -42,7 +43,7 @@ returns-in_err-bad-clause-line g c =
     let might = reads_of g.L.CheckpointLog g.L.EntryLog c.args.self.now.lines.works in
     let new = lines_of g.L.CheckpointLog g.L.EntryLog c.take.new.self in
     let may = reads_of g.L.CheckpointLog g.L.EntryLog c.take.new.self.works in
-    let is : c.from_residual-in_err-bad.result ≡ Err c.in_err-bad.field-0.0 = search rules in
+    let is : c.from_residual-in_err-bad.result ≡ Err (faults.Line c.in_err-bad.field-0.0) = search rules in
     λ bodies.
     subst (λ r. IsAtWorkLine c.args.step.now bodies old might c.args.self.now.workers new may
     c.reserve.new.self r) (sym is)

@@ -1,7 +1,8 @@
 -- The next line of a course, by its kind.
-use Rattle.std.proofs.Common.{sym, subst}
+use Rattle.std.proofs.Common.{◌≡◌, Ok, Err, sym, subst, rules}
 use Rattle.cam_script.specs.declared.Act.{Act}
-use Rattle.cam_cluster.specs.Courses.{IsAtWorkLine, IsBuilt, IsNextOfCourse}
+use Rattle.cam_cluster.specs.declared.course.CourseFault.TheVariants as faults
+use Rattle.cam_cluster.specs.Courses.{IsAtWorkLine, IsNextOfCourse}
 use Rattle.cam_cluster.specs.VariableLines.{IsNextOfSome}
 use Rattle.cam_cluster.proofs.AsSeen.{lines_of, reads_of}
 use Rattle.cam_cluster.proofs.CourseTaken.{next_of_course, taken_alone, taken_at_work}
@@ -55,13 +56,16 @@ restart-requires g c =
           c.requires.next);
     }
 
-pub unreachable-requires : goal.unreachable-requires
-unreachable-requires g c =
-    subst IsBuilt c.in-Stop.is c.requires.built
-
-pub unreachable-unreachable : goal.unreachable-unreachable
-unreachable-unreachable g c =
-    absurd (subst IsBuilt c.in-Stop.is c.requires.built)
+pub stop-requires : goal.stop-requires
+stop-requires g c =
+    let old = lines_of g.L.CheckpointLog g.L.EntryLog c.args.self.now.lines in
+    let might = reads_of g.L.CheckpointLog g.L.EntryLog c.args.self.now.lines.works in
+    record {
+      next =
+          subst (λ (a : Act). IsNextOfSome c.args.step.now.line a old might) c.in-Stop.is
+          (next_of_course c.args.step.now c.args.bodies.now old might c.args.self.now.workers
+          c.requires.next);
+    }
 
 pub take-requires : goal.take-requires
 take-requires g c =
@@ -69,8 +73,9 @@ take-requires g c =
     let might = reads_of g.L.CheckpointLog g.L.EntryLog c.args.self.now.lines.works in
     record {
       built =
-          (taken_alone c.args.step.now.act c.requires.built c.in_default.not-Start
-          c.in_default.not-Go c.in_default.not-Play c.in_default.not-Restart).0;
+          (taken_alone c.args.step.now.act c.in_default.not-Start
+          c.in_default.not-Go c.in_default.not-Play c.in_default.not-Restart
+          c.in_default.not-Stop).0;
       next =
           next_of_course c.args.step.now c.args.bodies.now old might c.args.self.now.workers
           c.requires.next;
@@ -127,18 +132,54 @@ pub returns-in-Restart-clause-servers : goal.returns-in-Restart-clause-servers
 returns-in-Restart-clause-servers g c =
     c.requires.servers
 
-pub returns-in_default : goal.returns-in_default
-returns-in_default g c =
+pub returns-in-Stop-clause-line : goal.returns-in-Stop-clause-line
+returns-in-Stop-clause-line g c =
+    let old = lines_of g.L.CheckpointLog g.L.EntryLog c.args.self.now.lines in
+    let might = reads_of g.L.CheckpointLog g.L.EntryLog c.args.self.now.lines.works in
+    let new = lines_of g.L.CheckpointLog g.L.EntryLog c.stop.new.self.lines in
+    let may = reads_of g.L.CheckpointLog g.L.EntryLog c.stop.new.self.lines.works in
+    subst (λ (a : Act). IsAtWorkLine (record { line = c.args.step.now.line; act = a })
+    c.args.bodies.now old might c.args.self.now.workers new may c.stop.new.self.workers
+    c.stop.result) (sym c.in-Stop.is) (c.stop.ensures.line c.args.bodies.now)
+
+pub returns-in-Stop-clause-servers : goal.returns-in-Stop-clause-servers
+returns-in-Stop-clause-servers g c =
+    c.requires.servers
+
+pub returns-in_err-take-in_default : goal.returns-in_err-take-in_default
+returns-in_err-take-in_default g c =
     let old = lines_of g.L.CheckpointLog g.L.EntryLog c.args.self.now.lines in
     let might = reads_of g.L.CheckpointLog g.L.EntryLog c.args.self.now.lines.works in
     let new = lines_of g.L.CheckpointLog g.L.EntryLog c.take.new.self in
     let may = reads_of g.L.CheckpointLog g.L.EntryLog c.take.new.self.works in
     let alone =
-    taken_alone c.args.step.now.act c.requires.built c.in_default.not-Start c.in_default.not-Go
-    c.in_default.not-Play c.in_default.not-Restart in
+    taken_alone c.args.step.now.act c.in_default.not-Start c.in_default.not-Go
+    c.in_default.not-Play c.in_default.not-Restart c.in_default.not-Stop in
+    let is : c.from_residual.result ≡ Err (faults.Line c.in_err-take-in_default.field-0.0) =
+    search rules in
+    record {
+      line =
+          subst (λ r. IsAtWorkLine c.args.step.now c.args.bodies.now old might
+          c.args.self.now.workers new may c.args.self.now.workers r) (sym is)
+          (taken_at_work c.args.step.now c.args.bodies.now old new might may
+          c.args.self.now.workers (Err c.in_err-take-in_default.field-0.0) alone.0 alone.1
+          c.in_err-take-in_default.ensures.line);
+      servers = c.take.ensures.servers;
+    }
+
+pub returns-in_ok-take-in_default : goal.returns-in_ok-take-in_default
+returns-in_ok-take-in_default g c =
+    let old = lines_of g.L.CheckpointLog g.L.EntryLog c.args.self.now.lines in
+    let might = reads_of g.L.CheckpointLog g.L.EntryLog c.args.self.now.lines.works in
+    let new = lines_of g.L.CheckpointLog g.L.EntryLog c.take.new.self in
+    let may = reads_of g.L.CheckpointLog g.L.EntryLog c.take.new.self.works in
+    let alone =
+    taken_alone c.args.step.now.act c.in_default.not-Start c.in_default.not-Go
+    c.in_default.not-Play c.in_default.not-Restart c.in_default.not-Stop in
     record {
       line =
           taken_at_work c.args.step.now c.args.bodies.now old new might may
-          c.args.self.now.workers c.take.result alone.0 alone.1 c.take.ensures.line;
+          c.args.self.now.workers (Ok c.in_ok-take-in_default.field-0) alone.0 alone.1
+          c.in_ok-take-in_default.ensures.line;
       servers = c.take.ensures.servers;
     }

@@ -3,13 +3,14 @@ use Rattle.std.proofs.Common.{◌≡◌}
 use Rattle.cam_cluster.specs.Servers.{AreServers}
 use Rattle.cam_cluster.specs.WholeRuns.{HasTakenLines}
 use Rattle.cam_cluster.proofs.AsSeen.{lines_of, reads_of}
-use Rattle.cam_cluster.proofs.course.Course.take_all.Given as goal
+use Rattle.cam_cluster.proofs.run.Run.take_all.Given as goal
 
 abbrev pub invariant-loop-step : goal.invariant-loop-step
 invariant-loop-step g l = record {
   taken : HasTakenLines l.fn.script l.step-index
-      (lines_of g.L.CheckpointLog g.L.EntryLog l.self.lines)
-      (reads_of g.L.CheckpointLog g.L.EntryLog l.self.lines.works) l.self.workers;
+      (lines_of g.L.CheckpointLog g.L.EntryLog l.self.course.lines)
+      (reads_of g.L.CheckpointLog g.L.EntryLog l.self.course.lines.works) l.self.course.workers
+      l.self.stopped.nodes;
   servers : AreServers g.R.DataType.kind g.Q.DataType.kind g.C.DataType.kind l.servers.register
       l.servers.queue l.servers.counter;
   items : l.step-items ≡ l.fn.script.steps;

@@ -1,11 +1,10 @@
 -- The lines are taken one after another.
-use Rattle.std.proofs.Common.{◌≡◌, ◌≤◌, ◌+◌, ◌∙◌, ℕ, Some, ap, arith, get_or, length, subst}
-use Rattle.std.specs.Prelude.{slice_get}
+use Rattle.std.proofs.Common.{◌≤◌, ◌∙◌, ℕ, ap, arith, length, subst}
 use Rattle.cam_script.specs.declared.Act.TheVariants.{Begin}
 use Rattle.cam_cluster.specs.WholeRuns.{HasTakenLines}
 use Rattle.cam_cluster.proofs.AsSeen.{lines_of, reads_of}
-use Rattle.cam_cluster.proofs.WholeRuns.{built_at, step_at}
-use Rattle.cam_cluster.proofs.course.Course.take_all.Goals as goal
+use Rattle.cam_cluster.proofs.WholeRuns.{step_at}
+use Rattle.cam_cluster.proofs.run.Run.take_all.Goals as goal
 
 pub loop-step-init : goal.loop-step-init
 loop-step-init g c =
@@ -17,10 +16,6 @@ take_next-requires g c =
     step_at c.args.script.now c.as_slice-step-items.result.now c.loop-step.step-index
     (record { line = 0; act = Begin 0 }) c.loop-step-test.true c.loop-step.invariant.items
     in record {
-      built =
-          built_at c.args.script.now c.loop-step.step-index
-          (get_or c.as_slice-step-items.result.now c.loop-step.step-index
-          (record { line = 0; act = Begin 0 })) c.requires.forms at;
       next = record { many = c.loop-step.step-index; taken = c.loop-step.invariant.taken; at = at };
       servers = c.loop-step.invariant.servers;
     }
@@ -40,6 +35,7 @@ pub returns-clause-all : goal.returns-clause-all
 returns-clause-all g c =
     let end : length c.as_slice-step-items.result.now ≤ c.loop-step.step-index = omega arith in
     subst (λ (n : ℕ). HasTakenLines c.args.script.now n
-    (lines_of g.L.CheckpointLog g.L.EntryLog c.loop-step.self.lines)
-    (reads_of g.L.CheckpointLog g.L.EntryLog c.loop-step.self.lines.works) c.loop-step.self.workers)
+    (lines_of g.L.CheckpointLog g.L.EntryLog c.loop-step.self.course.lines)
+    (reads_of g.L.CheckpointLog g.L.EntryLog c.loop-step.self.course.lines.works)
+    c.loop-step.self.course.workers c.loop-step.self.stopped.nodes)
     (omega (arith, end) ∙ ap length c.loop-step.invariant.items) c.loop-step.invariant.taken
