@@ -1,9 +1,7 @@
 //! `cam_cluster`: what each line of a script comes to.
 
 ghost use Rattle.std.specs.Prelude.{◌≡◌, IfOk, length};
-ghost use Rattle.cam_script.specs.declared.stage.Stage.TheVariants.{WithoutStops};
 ghost use Rattle.cam_script.specs.Law.{IsScript};
-ghost use Rattle.cam_script.specs.OfStage.{IsOfStage};
 
 mod words;
 
@@ -112,8 +110,7 @@ fn empty_disks(alloc: Global, count: u8) -> Result<Vec<MemoryDisk>, NoMemory>
 
 /// The run of a script over disks in memory.
 fn run(alloc: Global, script: &Script) -> Result<RunRecord, RunFault>
-    requires script { IsScript script.now }
-    requires forms { IsOfStage WithoutStops script.now }
+    requires { IsScript script.now }
 {
     let mut servers = Servers {
         register: RegisterServer::new(),
@@ -171,5 +168,31 @@ fn with_ample_memory_a_script_runs(rt: HostRuntime) -> Result<(), Fail> {
     assert_eq!(rt; told.as_str(), "node 8 got 0 Plain, create 8.1.1");
     assert_eq!(rt; record.trace.len(), 2);
     assert_eq!(rt; record.marks.len(), 1);
+    Ok(())
+}
+
+/// A node halts at a stop of its disk, as it secures a family, and goes on by its restart. The event is taken where three calls more of
+/// its disk passed: then it stands at its place, behind the three before it, without its letter.
+#[test]
+fn a_run_goes_on_through_a_halt(rt: HostRuntime) -> Result<(), Fail> {
+    let alloc = rt.alloc();
+    let lost = (0u32, false, "node 1 got 0 Plain, another deed", 5usize);
+    let found = (3, true, "node 1 got 2 Plain, another deed", 6);
+    for (calls, taken, fourth, events) in [lost, found] {
+        let text = format!(in alloc;
+            "nodes 1\nbegin A 1\ncommit A 0\nstop 1 {calls}\ndrain\nbegin B 1\nrestart 1\nbegin C 1\n"
+        )?;
+        let script = parse(alloc, Stage::Everything, text.as_bytes())?;
+        let record = run(alloc, &script)?;
+        assert_eq!(rt; record.trace.len(), events, "with {calls} calls");
+        let told = event_text(alloc, &script.labels, &record.trace, 3)?;
+        assert_eq!(rt; told.as_str(), fourth, "with {calls} calls");
+        let halt = record.marks.get(0).ok_or("a mark is missing")?;
+        let mark = format!(in alloc; "{halt:?}")?;
+        let want = format!(in alloc; "Halted {{ line: 5, node: 1, taken: {taken} }}")?;
+        assert_eq!(rt; mark, want, "with {calls} calls");
+        // the other is that of the line that the halted node refuses
+        assert_eq!(rt; record.marks.len(), 2);
+    }
     Ok(())
 }
