@@ -107,8 +107,8 @@ impl<D: TellingDisk> Run<Ckpt<StopDisk<D>>> {
 }
 
 impl<L: TellingLog> Run<L> {
-    /// Takes the next line of the script, which may be refused. It fails where a node halted in it whose disk no line had stopped: the
-    /// disk of the node failed or found no memory, but no clause says what a halt came of.
+    /// Takes the next line of the script, which may be refused. It fails where a node halted in it since memory ran out, or whose disk
+    /// no line had stopped, but no clause says what a halt came of.
     fn take_next<R: DataType, Q: DataType, C: DataType>(
         &mut self,
         script: &Script,
@@ -140,7 +140,8 @@ impl<L: TellingLog> Run<L> {
         }
     }
 
-    /// A line led on behind so many marks: each node that halted in it has to be one whose disk is stopped.
+    /// A line led on behind so many marks: no node may have halted since memory ran out, and each that halted in it has to be one
+    /// whose disk is stopped.
     fn led(&mut self, act: &Act, marks: usize) -> Result<(), RunFault>
         requires { marks ≤ length self.old.course.lines.works.marks.items }
         ensures course { self.new.course ≡ self.old.course }
@@ -151,6 +152,9 @@ impl<L: TellingLog> Run<L> {
             (halted_nodes (drop marks self.old.course.lines.works.marks.items))) }
     {
         self.stopped.lead(act);
+        if self.course.lines.works.starved {
+            return Err(RunFault::NoMemory);
+        }
         match self
             .stopped
             .first_other(&self.course.lines.works.marks[marks..])
@@ -205,9 +209,10 @@ impl<L: TellingLog> Run<L> {
 /// disk a line had stopped.
 ///
 /// The servers do the operations of its objects. The run ends by `DiskFault` where a disk fails
-/// while it is formatted, by `RestartFailed` where one fails while its node restarts, and by
-/// `Halted` where a node halts though no line had stopped its disk, since the disk failed or found
-/// no memory. No clause says that a fault has such a cause, nor of which node it is.
+/// while it is formatted, by `RestartFailed` where one fails while its node restarts, by `NoMemory`
+/// where a node halts since memory ran out in an append, and by `Halted` where one halts for another
+/// reason though no line had stopped its disk. No clause says that a fault has such a cause, nor of
+/// which node it is.
 pub fn run_script<D: TellingDisk, R: DataType, Q: DataType, C: DataType>(
     alloc: Global,
     script: &Script,
