@@ -32,12 +32,7 @@ pub(crate) fn reply_in(replies: &Replies, action: &Name, number: u32) -> Option<
 }
 
 /// Keeps the reply to a call.
-fn note(
-    replies: &mut Replies,
-    action: &Name,
-    number: u32,
-    reply: &Reply,
-) -> Result<(), NoMemory>
+fn note(replies: &mut Replies, action: &Name, number: u32, reply: &Reply) -> Result<(), NoMemory>
     ensures { OnOk result (Puts action.now number reply.now replies.old replies.new) }
 {
     let call = CallName {

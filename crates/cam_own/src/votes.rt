@@ -64,15 +64,17 @@ fn note_mail(votes: &mut Votes, mail: &Option<Mail>) -> Result<(), NoMemory>
     ensures { OnOk result (AddsVotes mail.now votes.old votes.new) }
 {
     match mail {
-        Some(Mail {
-            from,
-            body: Body::Vote {
-                family,
-                count,
-                yes: true,
+        Some(
+            Mail {
+                from,
+                body: Body::Vote {
+                    family,
+                    count,
+                    yes: true,
+                },
+                ..
             },
-            ..
-        }) => add_vote(votes, family, *from, *count),
+        ) => add_vote(votes, family, *from, *count),
         _ => Ok(()),
     }
 }

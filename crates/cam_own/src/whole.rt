@@ -112,8 +112,7 @@ fn is_conflict(own: &Own, action: &Name, object: u8, op: &Op, operation: &Operat
         → result ≡ (eqb operation.now.object object
         && conflicts action.now op.now (lift L s operation.now.action) operation.now.op) }
 {
-    operation.object == object
-        && conflicts(action, op, &own.lift(&operation.action), &operation.op)
+    operation.object == object && conflicts(action, op, &own.lift(&operation.action), &operation.op)
 }
 
 /// The first of the operations on the object that conflicts with an op of an action, by their lifts at a

@@ -75,9 +75,7 @@ pub fn arrive<S: Sighted>(
         Body::Finish { action, deps, .. } => finish_comes(alloc, here, action, deps),
         Body::Quit { action } => quit_comes(alloc, here, action),
         Body::Prepare { family, count } => prepare_comes(alloc, here, family, *count),
-        Body::Vote { family, count, yes } => {
-            vote_comes(alloc, here, from, family, *count, *yes)
-        }
+        Body::Vote { family, count, yes } => { vote_comes(alloc, here, from, family, *count, *yes) }
         Body::Query { family } => query_comes(alloc, here, from, family),
         Body::News => Ok(Did::nothing_but(alloc, &Note::Plain)),
     }

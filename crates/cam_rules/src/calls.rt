@@ -29,7 +29,13 @@ fn is_over<S: Sighted>(here: &S, action: &Name) -> bool
 }
 
 /// The reply to a call of an action.
-fn reply(alloc: Global, note: &Note, action: &Name, number: u32, reply: &Reply) -> Result<Did, NoMemory>
+fn reply(
+    alloc: Global,
+    note: &Note,
+    action: &Name,
+    number: u32,
+    reply: &Reply,
+) -> Result<Did, NoMemory>
     ensures { IfOk result (λ did.
         did ≡ rules.answers note.now (rules.reply_to action.now number reply.now)) }
 {
@@ -59,12 +65,7 @@ fn performed(alloc: Global, action: &Name, number: u32, answer: Answer) -> Resul
 }
 
 /// It bounced off an operation with this lift. One past the top stands in nobody's way.
-fn bounced(
-    alloc: Global,
-    action: &Name,
-    number: u32,
-    lift: &Option<Name>,
-) -> Result<Did, NoMemory>
+fn bounced(alloc: Global, action: &Name, number: u32, lift: &Option<Name>) -> Result<Did, NoMemory>
     ensures { IfOk result (λ did. did ≡ rules.bounced action.now number lift.now) }
 {
     let Some(holder) = lift else {

@@ -49,11 +49,7 @@ pub(crate) fn top_finishes<S: Sighted>(
 }
 
 /// A family aborts, and the other nodes on which it depends are told.
-pub fn abort_family<S: Sighted>(
-    alloc: Global,
-    here: &S,
-    family: &Name,
-) -> Result<Did, NoMemory>
+pub fn abort_family<S: Sighted>(alloc: Global, here: &S, family: &Name) -> Result<Did, NoMemory>
     requires { S.stands here.now }
     ensures { IfOk result (λ did. did ≡ rules.did
         (rules.aborts (untested (S.sight here.now)) family.now)
@@ -64,11 +60,7 @@ pub fn abort_family<S: Sighted>(
 }
 
 /// A top action has quit at its home.
-pub(crate) fn top_quits<S: Sighted>(
-    alloc: Global,
-    here: &S,
-    action: &Name,
-) -> Result<Did, NoMemory>
+pub(crate) fn top_quits<S: Sighted>(alloc: Global, here: &S, action: &Name) -> Result<Did, NoMemory>
     requires { S.stands here.now }
     ensures { IfOk result (λ did. did ≡ top_quits (untested (S.sight here.now)) action.now) }
 {
@@ -79,13 +71,7 @@ pub(crate) fn top_quits<S: Sighted>(
 }
 
 /// A site votes on a family.
-fn vote(
-    alloc: Global,
-    note: &Note,
-    family: &Name,
-    count: u32,
-    yes: bool,
-) -> Result<Did, NoMemory>
+fn vote(alloc: Global, note: &Note, family: &Name, count: u32, yes: bool) -> Result<Did, NoMemory>
     ensures { IfOk result (λ did. did ≡ rules.answers note.now (rules.vote family.now count yes)) }
 {
     let body = Body::Vote {

@@ -94,10 +94,7 @@ pub fn refusal<S: Sighted>(here: &S, action: &Name, want: &Want) -> Option<LineR
 
 /// What stands against a query of a node after a family: the node knows how it ended, or has neither
 /// secured it nor a live operation of it.
-pub fn query_refusal<S: Sighted>(
-    here: &S,
-    family: &Name,
-) -> Result<Option<LineRefusal>, NoMemory>
+pub fn query_refusal<S: Sighted>(here: &S, family: &Name) -> Result<Option<LineRefusal>, NoMemory>
     requires { S.stands here.now }
     ensures { IfOk result (λ refusal.
         refusal ≡ refusals.query_refusal (S.sight here.now) family.now) }

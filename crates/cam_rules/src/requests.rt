@@ -68,12 +68,7 @@ pub fn request<S: Sighted>(
 }
 
 /// It asks for a child at a node.
-fn asks_child<S: Sighted>(
-    alloc: Global,
-    here: &S,
-    action: &Name,
-    node: u8,
-) -> Result<Did, NoMemory>
+fn asks_child<S: Sighted>(alloc: Global, here: &S, action: &Name, node: u8) -> Result<Did, NoMemory>
     requires stands { S.stands here.now }
     requires depth { length action.now < 8 }
     requires node { IsNode node }
@@ -135,12 +130,7 @@ fn makes_call<S: Sighted>(
 }
 
 /// It asks to commit.
-fn finishes<S: Sighted>(
-    alloc: Global,
-    here: &S,
-    action: &Name,
-    value: i64,
-) -> Result<Did, NoMemory>
+fn finishes<S: Sighted>(alloc: Global, here: &S, action: &Name, value: i64) -> Result<Did, NoMemory>
     requires { S.stands here.now }
     ensures { IfOk result (λ did. did
         ≡ rules.wanted [] (untested (S.sight here.now)) action.now (wants.Commit value)) }

@@ -121,12 +121,7 @@ pub trait Sighted {
             (λ o. name_eq family.now (names.family o.action)) (sight self.now).live) };
 
     /// The first live operation on the object that conflicts with an op of an action. Memory may run out.
-    fn conflict(
-        &self,
-        action: &Name,
-        object: u8,
-        op: &Op,
-    ) -> Result<Option<Operation>, NoMemory>
+    fn conflict(&self, action: &Name, object: u8, op: &Op) -> Result<Option<Operation>, NoMemory>
         requires { stands self.now }
         ensures { IfOk result (λ found. found
             ≡ find (rules.is_conflict_here (sight self.now) action.now op.now)

@@ -1,6 +1,6 @@
 -- What a node goes by in a run by time is what tables have, but for what actions depend on; and of each action that was created at the node
 -- it depends on what they have.
-use Rattle.std.proofs.Common.{◌≡◌, ◌≤◌, ◌+◌, inl, inr, ℕ, Bool, true, false, if◌then◌else◌, List, [], ◌∷◌, map, length, Option, refl, sym, ap, ◌∙◌, subst, arith}
+use Rattle.std.proofs.Common.{◌≡◌, ◌≤◌, ◌+◌, inl, inr, ℕ, Bool, true, false, if◌then◌else◌, List, [], ◌∷◌, length, Option, refl, sym, ap, ◌∙◌, subst, arith}
 use Rattle.cam_names.specs.declared.name.Name.{Name}
 use Rattle.cam_names.specs.Names.{home_node}
 use Rattle.cam_names.specs.Dependencies.{as_counts}
@@ -8,12 +8,12 @@ use Rattle.cam_type.specs.declared.ObjectDecl.{ObjectDecl}
 use Rattle.cam_event.specs.declared.LetterId.{LetterId}
 use Rattle.cam_event.specs.declared.Event.{Event}
 use Rattle.cam_event.specs.declared.Deed.{Deed}
-use Rattle.cam_event.specs.History.{after, is_crash, count, created, informed}
+use Rattle.cam_event.specs.History.{after, is_crash, count, created}
 use Rattle.cam_event.specs.Live.{live_at}
 use Rattle.cam_event.specs.Gained.{deps}
-use Rattle.cam_event.specs.Pasts.{in_base, plain, plain_all, every, HasNode, IsEarlier}
-use Rattle.cam_event.specs.Sights.{Sight, entries, own_deeds}
-use Rattle.cam_event.proofs.Members.{In, plain_more, count_more}
+use Rattle.cam_event.specs.Pasts.{in_base, plain_all, every, HasNode, IsEarlier}
+use Rattle.cam_event.specs.Sights.{entries, own_deeds}
+use Rattle.cam_event.proofs.Members.{In, count_more}
 use Rattle.cam_cut.proofs.DepsFacts.{pair_count, pair_range}
 use Rattle.cam_cut.proofs.DepsAgree.{deps_more}
 use Rattle.cam_cut.proofs.Settled.{Settled, created_settled}

@@ -1,8 +1,7 @@
 -- What a node goes by, where tables have it: its own deeds and events; which outcomes it was informed of; and of the deeds of all nodes
 -- the live operations of its site, and on which nodes an action depends. No node crashes, so each count is 1.
-use Rattle.std.specs.Prelude.{◌≡◌, ℕ, true, false, List, Option, Some, None}
+use Rattle.std.specs.Prelude.{◌≡◌, ℕ, true, false, List, None}
 use Rattle.cam_type.specs.declared.ObjectDecl.{ObjectDecl}
-use Rattle.cam_event.specs.declared.LetterId.{LetterId}
 use Rattle.cam_event.specs.declared.Event.{Event}
 use Rattle.cam_event.specs.declared.Deed.{Deed}
 use Rattle.cam_event.specs.History.{after, informed}

@@ -1,0 +1,56 @@
+-- When tables stand for what a node goes by at an event, and what is put to it.
+use Rattle.std.specs.Prelude.{◌≡◌, ℕ, List, [], ◌∷◌, Some}
+use Rattle.cam_names.specs.Names.{parent}
+use Rattle.cam_type.specs.declared.ObjectDecl.{ObjectDecl}
+use Rattle.cam_event.specs.declared.Event.{Event}
+use Rattle.cam_event.specs.declared.Deed.{Deed}
+use Rattle.cam_event.specs.declared.Deed.TheVariants.{Ask}
+use Rattle.cam_event.specs.History.{after, count}
+use Rattle.cam_event.specs.Inputs.{Begins, Requests, Receives, Tells, Queries}
+use Rattle.cam_event.specs.Pasts.{plain_all}
+use Rattle.cam_event.specs.Runs.{IsNode}
+use Rattle.cam_event.specs.Sights.{entries, own_deeds}
+use Rattle.cam_own.specs.declared.own.Own.{Own}
+use Rattle.cam_own.specs.declared.whole.Whole.{Whole}
+use Rattle.cam_own.specs.Own.{KeepsOwn}
+use Rattle.cam_own.specs.Whole.{KeepsWhole}
+use Rattle.cam_rules.specs.Untested.{HasPlace}
+use Rattle.cam_timed.specs.declared.ruled.Put.{Put}
+use Rattle.cam_timed.specs.declared.ruled.Put.TheVariants as puts
+use Rattle.cam_timed.specs.TimedRules.{TimedInput, Puts, Ticks, Expires}
+
+-- each child that was asked for is one of the action that asked
+abbrev pub AskedByParents : List Deed → Type 0
+AskedByParents [] = Unit {0}
+AskedByParents (Ask p b ∷ before) = (parent b ≡ Some p) × AskedByParents before
+AskedByParents (_ ∷ before) = AskedByParents before
+
+-- at an event of a node with these first Informs
+pub record StandHere (objects : List ObjectDecl) (t : List Event) (s : ℕ) (first : List Deed)
+    (own : Own) (whole : Whole) : Type 0 where
+  pub node : IsNode s
+  pub keeps_own :
+      KeepsOwn objects s (after (own_deeds (entries t s)) first) (entries t s) own
+  pub keeps_whole : KeepsWhole objects (after (plain_all t) first) whole
+  pub count : count (after (own_deeds (entries t s)) first) s ≡ 1
+  pub asked : AskedByParents (after (own_deeds (entries t s)) first)
+
+-- what is put to a node, as the rules by time name it
+abbrev pub input_of : ℕ → Put → TimedInput
+input_of s (puts.Begin until) = Puts (Begins s) until
+input_of s (puts.Request a want until) = Puts (Requests (record { action = a; want = want })) until
+input_of s (puts.Letter id) = Puts (Receives id) 0
+input_of s (puts.Tell to) = Puts (Tells s to) 0
+input_of s (puts.Query f) = Puts (Queries s f) 0
+input_of s (puts.Tick moment) = Ticks s moment
+input_of s (puts.Expire a) = Expires a
+
+-- a child or a call that is asked for has a place
+abbrev pub HasPlaceHere : List ObjectDecl → Put → Type 0
+HasPlaceHere objects (puts.Begin until) = Unit {0}
+HasPlaceHere objects (puts.Request a want until) = HasPlace objects a want
+HasPlaceHere objects (puts.Letter id) = Unit {0}
+HasPlaceHere objects (puts.Tell to) = Unit {0}
+HasPlaceHere objects (puts.Query f) = Unit {0}
+HasPlaceHere objects (puts.Tick moment) = Unit {0}
+HasPlaceHere objects (puts.Expire a) = Unit {0}
