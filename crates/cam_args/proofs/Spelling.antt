@@ -19,7 +19,7 @@ decimal_plain (suc n) small = above (decimal (suc n)) (first_decimal (suc n) (om
 pub decimal_read : {E : Type 0} (bs : List ℕ) (n : ℕ) (r : Result ℕ E) → n < 2 ^ 64 → bs ≡ decimal n → ParsesUnsigned 64 10 bs r → r ≡ Ok n
 decimal_read bs n r small is read = parse-decimal 64 n bs r small small is read
 
-no_plus : (bs : List ℕ) → is_plain bs ≡ true → 48 ≤ get_or bs 0 0
+pub no_plus : (bs : List ℕ) → is_plain bs ≡ true → 48 ≤ get_or bs 0 0
 no_plus [] e = absurd (true≢false (sym e))
 no_plus (b ∷ bs) e = first b bs (b == 48) refl e
   where

@@ -1,9 +1,10 @@
 -- The forms of the command line, behind the program's name: the words in which each command is written. Nothing else is a form.
-use Rattle.std.specs.Prelude.{◌≡◌, ◌≤◌, ⊤, ℕ, Bool, if◌then◌else◌, List, [], ◌∷◌, ◌++◌, codes, decimal, Result, Ok}
+use Rattle.std.specs.Prelude.{◌≡◌, ◌≤◌, ⊤, ℕ, Bool, if◌then◌else◌, List, [], ◌∷◌, ◌++◌, codes, decimal, Result, Ok, Err}
 use Rattle.cam_names.specs.Names.{IsName}
 use Rattle.cam_names.specs.Text.{name_text}
 use Rattle.cam_args.specs.declared.Command.{Command}
 use Rattle.cam_args.specs.declared.ArgsFault.{ArgsFault}
+use Rattle.cam_args.specs.declared.ArgsFault.TheVariants.{Usage, NoMemory}
 use Rattle.cam_args.specs.declared.Command.TheVariants.{Run, Trace, Witness, Gen, Storm, Inspect, Upgrade, Why, Timed}
 
 -- a number within two bounds
@@ -50,9 +51,15 @@ usage =
     codes "usage: camelot run | trace | witness NAME | gen SEED SIZE | storm SEED ACTIONS THREADS MODE | inspect | upgrade | why EVENT | timed"
     ++ 10 ∷ []
 
--- each command whose form the words are is found
+-- a fact of what was read, unless memory ran out
+abbrev pub UnlessNoMemory : Result Command ArgsFault → Type 0 → Type 0
+UnlessNoMemory (Ok command) Holds = Holds
+UnlessNoMemory (Err Usage) Holds = Holds
+UnlessNoMemory (Err NoMemory) Holds = ⊤
+
+-- each command whose form the words are is found, unless memory ran out
 abbrev pub Finds : List (List ℕ) → Result Command ArgsFault → Type 0
-Finds words found = (command : Command) → IsForm words command → found ≡ Ok command
+Finds words found = UnlessNoMemory found ((command : Command) → IsForm words command → found ≡ Ok command)
 
 -- five words
 abbrev pub five : List ℕ → List ℕ → List ℕ → List ℕ → List ℕ → List (List ℕ)

@@ -1,15 +1,21 @@
 //! The words of the command line.
 //!
 //! [`read_words`] gives the command of which the words are the form (`specs/Forms`), and refuses the
-//! words exactly where they are no command's form.
+//! words exactly where they are no command's form, unless memory runs out.
 //!
-//! It stands on `cam_names` (the name of an action).
+//! It stands on `clap` (which command and which values the words have) and `cam_names` (the name of
+//! an action).
 #![tactic(auto)]
 
+mod line;
 mod numbers;
 mod words;
 
+ghost use Rattle.cam_args.specs.declared.ArgsFault.TheVariants.{NoMemory as OutOfMemory};
+ghost use Rattle.std.specs.Prelude.{◌≡◌};
+
 use cam_names::Name;
+use std::alloc::AllocError;
 use thiserror::Error;
 pub use words::read_words;
 
@@ -49,4 +55,14 @@ pub enum Command {
 pub enum ArgsFault {
     #[error("the words are no command")]
     Usage,
+    #[error("out of memory")]
+    NoMemory,
+}
+
+impl From<AllocError> for ArgsFault {
+    ghost from_gives = { λ _ e. e ≡ OutOfMemory };
+
+    fn from(_: AllocError) -> ArgsFault {
+        ArgsFault::NoMemory
+    }
 }

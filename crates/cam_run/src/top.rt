@@ -109,9 +109,10 @@ fn answer_to<S: Source>(alloc: Global, words: &[String], source: &mut S) -> Resu
         (λ _ rest. IfOk result (λ a. IsTelling a.status → rest ≡ [])) }
     ensures unread { ¬ (Reads (map string_bytes words.now)) → source.new ≡ source.old }
 {
-    match read_words(words) {
+    match read_words(alloc, words) {
         Ok(command) => obey(alloc, &command, source),
         Err(ArgsFault::Usage) => usage(alloc),
+        Err(ArgsFault::NoMemory) => Err(NoMemory),
     }
 }
 

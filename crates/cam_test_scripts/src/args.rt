@@ -11,7 +11,7 @@ fn read(alloc: Global, line: &str) -> Result<Result<Command, ArgsFault>, Fail> {
     for word in line.split_whitespace() {
         words.push(String::from_str(alloc, word)?)?;
     }
-    Ok(read_words(words.as_slice()))
+    Ok(read_words(alloc, words.as_slice()))
 }
 
 /// Lines that are forms, but for names.
