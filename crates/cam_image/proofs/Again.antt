@@ -50,13 +50,13 @@ short_enough image read entries e = by (nat_lt most_bytes (length image)) refl e
 -- what was written, by the entries that were read and the version behind them
 apart : {P : Type 0} (image output : List ℕ) → upgraded image ≡ Ok output
     → ((entries : List (List ℕ)) (version : ℕ) → log_entries image ≡ Ok entries → migrated entries ≡ Ok (with_version version entries)
-        → in_version2 version entries image ≡ output → P) → P
+    → in_version2 version entries image ≡ output → P) → P
 unfolding upgraded
 apart image output e go =
     step (log_entries image) _ output e (λ entries read e1.
-      step (in_records (said_by entries)) _ output e1 (λ s said e2.
-        go entries s.version read (ap (λ r. r >>= (λ t. Ok (with_version t.version entries))) (records_ok (said_by entries) s said))
-        (given_is {E = ImageFault} (in_version2 s.version entries image) output e2)))
+    step (in_records (said_by entries)) _ output e1 (λ s said e2.
+    go entries s.version read (ap (λ r. r >>= (λ t. Ok (with_version t.version entries))) (records_ok (said_by entries) s said))
+    (given_is {E = ImageFault} (in_version2 s.version entries image) output e2)))
 
 -- the bytes of a log that ends with its closed gate
 record Closes (entries : List (List ℕ)) (bytes : List ℕ) : Type 0 where
@@ -104,19 +104,19 @@ few_bytes image e = ltb-false most_bytes (length image) e
 
 pub upgrade_is_migration : (image output : List ℕ) → IsBytes image → upgraded image ≡ Ok output → IsUpgrade image output
 upgrade_is_migration image output bytes e = apart image output e (λ entries version read moved is.
-  let short = short_enough image (read_log image) entries read in
-  let log = read_is_log entries image bytes short.1 in
-  let closed = closes version entries image log in
-  let up : IsUpgraded image output = record {
-    entries = entries;
-    left = with_version version entries;
-    gate = closed.gate;
-    read = short.1;
-    migrates = moved;
-    is_closed = closed.is_closed;
-    is = sym is ∙ closed.is;
-  } in
-  record { migrated = up; recovers = upgrade_keeps_recovery image output up (are_entries entries image log (few_bytes image short.0)) })
+    let short = short_enough image (read_log image) entries read in
+    let log = read_is_log entries image bytes short.1 in
+    let closed = closes version entries image log in
+    let up : IsUpgraded image output = record {
+      entries = entries;
+      left = with_version version entries;
+      gate = closed.gate;
+      read = short.1;
+      migrates = moved;
+      is_closed = closed.is_closed;
+      is = sym is ∙ closed.is;
+    } in
+    record { migrated = up; recovers = upgrade_keeps_recovery image output up (are_entries entries image log (few_bytes image short.0)) })
 
 -- an image of version 2 that ends with its closed gate is left as it is
 left_as_it_is : (version : ℕ) (entries : List (List ℕ)) (image : List ℕ) (gate : ℕ) → version ≡ 2 → image ≡ header ++ flat_map gated entries ++ gate ∷ []

@@ -21,7 +21,7 @@ version_is_said (entry ∷ entries) number version r =
   where
     by : (read : Result (List Record) RecFault)
         → ((records : List Record) → version_from (number + 1) (version_behind version records) entries
-            ≡ (recover_from (number + 1) (record { version = version_behind version records; recovered = with_records r records }) entries >>= (λ t. Ok t.version)))
+        ≡ (recover_from (number + 1) (record { version = version_behind version records; recovered = with_records r records }) entries >>= (λ t. Ok t.version)))
         → (read >>= (λ records. version_from (number + 1) (version_behind version records) entries))
         ≡ ((read >>= (λ records. recover_from (number + 1) (record { version = version_behind version records; recovered = with_records r records }) entries)) >>= (λ t. Ok t.version))
     by (Ok records) later = later records
@@ -41,7 +41,7 @@ same_fault (entry ∷ entries) number version r text =
   where
     by : (read : Result (List Record) RecFault)
         → ((records : List Record) → fault_alone (inspect_from (number + 1) (version_behind version records) (text ++ entry_text number records) entries)
-            ≡ fault_alone (recover_from (number + 1) (record { version = version_behind version records; recovered = with_records r records }) entries))
+        ≡ fault_alone (recover_from (number + 1) (record { version = version_behind version records; recovered = with_records r records }) entries))
         → fault_alone (read >>= (λ records. inspect_from (number + 1) (version_behind version records) (text ++ entry_text number records) entries))
         ≡ fault_alone (read >>= (λ records. recover_from (number + 1) (record { version = version_behind version records; recovered = with_records r records }) entries))
     by (Ok records) later = later records
