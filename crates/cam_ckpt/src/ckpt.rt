@@ -129,6 +129,13 @@ impl<D: Disk> Ckpt<D> {
         }
     }
 
+    /// The disk, to look at.
+    pub fn disk(&self) -> &D
+        ensures { D.faults_within result.now ≡ ⟦<Ckpt<D> as EntryLog>⟧.faults_within self.now }
+    {
+        &self.disk
+    }
+
     /// The disk, as it is. What a crash may leave of it opens as the log would.
     pub fn into_disk(self) -> D
         ensures opens { IsTrue (D.tells result) → IsFalse (⟦<Ckpt<D> as EntryLog>⟧.broken self)

@@ -39,6 +39,13 @@ impl MemoryDisk {
             faults: 0,
         }
     }
+
+    /// How many of its calls have failed.
+    pub fn failures(&self) -> u64
+        ensures { result ≡ ⟦<MemoryDisk as Disk>⟧.faults self.now }
+    {
+        self.faults
+    }
 }
 
 /// Writes over the bytes from a place on, and past the end, in the time of what is written. Where memory

@@ -29,6 +29,13 @@ impl<D: Disk> StopDisk<D> {
         }
     }
 
+    /// The disk within, to look at.
+    pub fn inner(&self) -> &D
+        ensures { result.now ≡ within self.now }
+    {
+        &self.inner
+    }
+
     /// The disk within, as it is.
     pub fn into_inner(self) -> D
         ensures { result ≡ within self }

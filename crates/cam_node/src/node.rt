@@ -131,6 +131,13 @@ impl<L: CheckpointLog> Node<L> {
         self.core.number()
     }
 
+    /// The log of the node, to look at.
+    pub fn log(&self) -> &L
+        ensures { result.now ≡ self.now.log.log }
+    {
+        &self.log.log
+    }
+
     /// Whether the node is halted: it has to be restarted before the next step.
     pub fn is_halted(&self) -> bool
         ensures { result ≡ self.now.log.halted }
