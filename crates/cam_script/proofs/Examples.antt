@@ -10,8 +10,7 @@ use Rattle.cam_script.specs.declared.Script.{Script}
 use Rattle.cam_script.specs.declared.Act.TheVariants as acts
 use Rattle.cam_script.specs.declared.Statement.TheVariants as statements
 use Rattle.cam_script.specs.declared.OpWith.TheVariants as body_ops
-use Rattle.cam_script.specs.Built.{without_stops}
-use Rattle.cam_script.proofs.Read.{read, read_by, text}
+use Rattle.cam_script.proofs.Read.{read, text}
 
 -- Two actions, one register.
 abbrev two_actions_text : List ℕ
@@ -185,7 +184,7 @@ pub a_step_too_many : read a_step_too_many_text ≡ Err (Bad 514 1 causes.TooMan
 unfolding read
 a_step_too_many = refl
 
--- `stop` where it is not built is an unknown word.
-pub a_stop_not_built : read_by without_stops (text (codes "nodes 1" ∷ codes "stop 1 1" ∷ [])) ≡ Err (Bad 2 1 causes.UnknownWord)
-unfolding read_by
-a_stop_not_built = refl
+-- No line begins with `stops`.
+pub an_unknown_line : read (text (codes "nodes 1" ∷ codes "stops 1 1" ∷ [])) ≡ Err (Bad 2 1 causes.UnknownWord)
+unfolding read
+an_unknown_line = refl

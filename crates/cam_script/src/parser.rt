@@ -1,29 +1,27 @@
 //! The parser: the script that bytes spell, or their first fault.
 ghost use Rattle.std.specs.Prelude.{◌≤◌, length, IfOk};
-ghost use Rattle.cam_script.specs.Built.{built_of};
 ghost use Rattle.cam_script.specs.SoFar.{nothing};
 ghost use Rattle.cam_words.specs.Lines.{lines_of};
 ghost use Rattle.cam_script.specs.Grammar.{read_lines, read_script};
 ghost use Rattle.cam_script.specs.Law.{IsScript};
-ghost use Rattle.cam_script.specs.OfStage.{IsOfStage};
 ghost use Rattle.cam_script.specs.Parse.{Gives};
 
 use crate::so_far::SoFar;
-use crate::{Script, ScriptFault, Stage};
+use crate::{Script, ScriptFault};
 use cam_words::{Cause, Line, first_line};
 use std::alloc::Global;
 
 /// The most bytes of a script.
 pub const MOST_BYTES: usize = 262_144;
 
-/// The script that the bytes spell, or its first fault, by the lines that the stage has.
+/// The script that the bytes spell, or its first fault.
 ///
 /// It answers `NoMemory` where memory runs out, and else `Bad`, with the cause of the first fault by lines, then by words. At one word the
 /// first of 3, 10, 12, 4, 6, 7, 8, 9, 11, 5 counts:
 ///
 /// 1. more than 262,144 bytes, at line 1, column 1, before all other causes;
 /// 2. a byte that is not allowed, before the words of its line: each is 9, 10, 13 or 32 to 126;
-/// 3. an unknown line, kind or operation, or one that the stage does not have;
+/// 3. an unknown line, kind or operation;
 /// 4. a word is missing, at the place behind the last one;
 /// 5. a word too many;
 /// 6. a wrong number, value or expression;
@@ -34,11 +32,10 @@ pub const MOST_BYTES: usize = 262_144;
 ///     body without its `end`;
 /// 11. a node, 1 to 8, that the script does not have;
 /// 12. object 65, body 33, statement 33, the step that passes 512, a body that nests to 9, at the first word.
-#[tactic(auto, using(crate::proofs::Gives::gives_script, crate::proofs::Gives::gives_of_stage))]
-pub fn parse(alloc: Global, stage: Stage, bytes: &[u8]) -> Result<Script, ScriptFault>
-    ensures value { Gives result (read_script (built_of stage) bytes.now) }
+#[tactic(auto, using(crate::proofs::Gives::gives_script))]
+pub fn parse(alloc: Global, bytes: &[u8]) -> Result<Script, ScriptFault>
+    ensures value { Gives result (read_script bytes.now) }
     ensures script { IfOk result IsScript }
-    ensures forms { IfOk result (IsOfStage stage) }
 {
     if bytes.len() > MOST_BYTES {
         return Err(ScriptFault::Bad {
@@ -47,26 +44,23 @@ pub fn parse(alloc: Global, stage: Stage, bytes: &[u8]) -> Result<Script, Script
             cause: Cause::TooLong,
         });
     }
-    read_lines(alloc, stage, bytes)
+    read_lines(alloc, bytes)
 }
 
 /// The script of these lines.
-fn read_lines(alloc: Global, stage: Stage, bytes: &[u8]) -> Result<Script, ScriptFault>
+fn read_lines(alloc: Global, bytes: &[u8]) -> Result<Script, ScriptFault>
     requires { length bytes.now ≤ 262144 }
-    ensures { Gives result (read_lines (built_of stage) nothing 1 (lines_of bytes.now)) }
+    ensures { Gives result (read_lines nothing 1 (lines_of bytes.now)) }
 {
     let mut so_far = SoFar::new(alloc);
     let mut number = 1;
     let mut rest = bytes;
     while !rest.is_empty() {
         let (line, behind) = first_line(rest);
-        so_far.read_line(
-            stage,
-            &Line {
-                number,
-                bytes: line,
-            },
-        )?;
+        so_far.read_line(&Line {
+            number,
+            bytes: line,
+        })?;
         number += 1;
         rest = behind;
     }

@@ -1,7 +1,6 @@
 //! A line, by its first word and by where it stands.
 ghost use Rattle.std.specs.Prelude.{◌≡◌, ◌≤◌, length, Some, None, Ok, Err, IsTrue, IsFalse, IfOk};
 ghost use Rattle.cam_script.specs.SoFar.{Writing as AnyWriting, step_cost};
-ghost use Rattle.cam_script.specs.Built.{built_of};
 ghost use Rattle.cam_script.specs.Order.{is_step, is_too_many};
 ghost use Rattle.cam_script.specs.Grammar.{statement_of, in_body, act_line, outside, by_place, begins_with_hash, with_word, read_line};
 ghost use Rattle.cam_script.specs.Parse.{Leads, IsWithin, costs_one};
@@ -12,21 +11,22 @@ use crate::cut::cut_line;
 use crate::deliver::deliver_line;
 use crate::drain::drain_line;
 use crate::end::end_line;
+use crate::forms::form_named;
 use crate::lose::lose_line;
 use crate::nodes::nodes_line;
 use crate::order::may_stand;
 use crate::play::play_line;
 use crate::so_far::SoFar;
-use crate::{Act, Binding, Form, Stage, Statement};
+use crate::{Act, Binding, Form, Statement};
 use cam_words::{Cause, Line, ScriptFault, Word, bad_byte};
 
 impl SoFar {
     /// Reads a line.
     #[tactic(auto, unfolding(crate::specs::Grammar::read_line))]
-    pub fn read_line(&mut self, stage: Stage, line: &Line) -> Result<(), ScriptFault>
+    pub fn read_line(&mut self, line: &Line) -> Result<(), ScriptFault>
         requires { IsWithin self.old }
         ensures { Leads result self.new
-            (read_line (built_of stage) self.old line.now.number line.now.bytes.now) }
+            (read_line self.old line.now.number line.now.bytes.now) }
     {
         if let Some(at) = bad_byte(line.bytes) {
             return Err(line.fault(at, Cause::ByteNotAllowed));
@@ -35,19 +35,19 @@ impl SoFar {
         if first.is_missing() || begins_with_hash(line.text(first)) {
             return Ok(());
         }
-        self.with_word(stage, line, first)
+        self.with_word(line, first)
     }
 
     /// Reads a line that begins with this word.
     #[tactic(auto, unfolding(crate::specs::Grammar::with_word))]
-    fn with_word(&mut self, stage: Stage, line: &Line, first: Word) -> Result<(), ScriptFault>
+    fn with_word(&mut self, line: &Line, first: Word) -> Result<(), ScriptFault>
         requires within { IsWithin self.old }
         requires start { first.start ≤ first.end }
         requires end { first.end ≤ length line.now.bytes.now }
         ensures { Leads result self.new
-            (with_word (built_of stage) self.old line.now.number first line.now.bytes.now) }
+            (with_word self.old line.now.number first line.now.bytes.now) }
     {
-        let Some(form) = stage.form_of(line.text(first)) else {
+        let Some(form) = form_named(line.text(first)) else {
             return Err(line.fault(first.start, Cause::UnknownWord));
         };
         if !may_stand(self.section(), form) {

@@ -13,7 +13,6 @@ use Rattle.cam_script.specs.declared.Binding.TheVariants as bindings
 use Rattle.cam_script.specs.declared.Form.TheVariants as lines
 use Rattle.cam_script.specs.declared.Section.TheVariants as sections
 use Rattle.cam_script.specs.declared.Step.{Step}
-use Rattle.cam_script.specs.Built.{everything}
 use Rattle.cam_script.specs.SoFar.{SoFar, Variable, Writing}
 use Rattle.cam_script.specs.Declarations.{nodes_line, object_line}
 use Rattle.cam_script.specs.Order.{section_by, section_outside, is_full_script, is_too_many_by}
@@ -250,7 +249,7 @@ ends (Some w) number d s h = tt
 ends None number d s h = by_nodes (d.declared.script.nodes == 0) number d s h
 
 lines_stand : (lines : List (List ℕ)) (d : TimedSoFar) (number : ℕ) → TimedStands d → Holds IsTimedScript (read_timed_lines d number lines)
-lines_stand [] d number s = ends d.declared.writing number d s (lines_hold everything [] (without_variables d.declared) number s.declared)
+lines_stand [] d number s = ends d.declared.writing number d s (lines_hold [] (without_variables d.declared) number s.declared)
 lines_stand (line ∷ lines) d number s =
     then_holds TimedStands IsTimedScript (read_timed_line d number line) _ (line_stands d number line s) (λ next t. lines_stand lines next (number + 1) t)
 

@@ -1,5 +1,4 @@
 use Rattle.std.proofs.Common.{◌≡◌, ◌≤◌, ◌+◌, length}
-use Rattle.cam_script.specs.Built.{built_of}
 use Rattle.cam_script.specs.SoFar.{nothing}
 use Rattle.cam_words.specs.Lines.{lines_of}
 use Rattle.cam_script.specs.Grammar.{read_lines}
@@ -11,7 +10,7 @@ invariant-loop-rest l = record {
   from_one : 1 ≤ l.number;
   count : l.number + length l.rest ≤ length l.bytes + 1;
   stands : Stands l.so_far;
-  value : read_lines (built_of l.stage) l.so_far l.number (lines_of l.rest) ≡ read_lines (built_of l.stage) nothing 1 (lines_of l.bytes);
+  value : read_lines l.so_far l.number (lines_of l.rest) ≡ read_lines nothing 1 (lines_of l.bytes);
 }
 
 abbrev pub decreases-loop-rest : goal.decreases-loop-rest
