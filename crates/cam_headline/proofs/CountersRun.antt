@@ -6,9 +6,8 @@ use Rattle.cam_type.specs.declared.State.TheVariants.{Counter}
 use Rattle.cam_type.specs.declared.Op.TheVariants as ops
 use Rattle.cam_script.specs.declared.Script.{Script}
 use Rattle.cam_script.specs.declared.Act.TheVariants as acts
-use Rattle.cam_script.specs.Built.{everything}
 use Rattle.cam_script.specs.Grammar.{read_script}
-use Rattle.cam_script.proofs.Read.{read_by}
+use Rattle.cam_script.proofs.Read.{read}
 use Rattle.cam_report.specs.Report.{report}
 use Rattle.cam_headline.specs.Headline.{one_run, events}
 use Rattle.cam_headline.specs.Counters.{adders, adders_report, greatest, greatest_report, CountersAreReported}
@@ -50,24 +49,24 @@ of_greatest =
     }
 
 -- the grammar with its definitions opened
-adders_opened : read_script everything adders ≡ read_by everything adders
-unfolding read_by
+adders_opened : read_script adders ≡ read adders
+unfolding read
 adders_opened = refl
 
-adders_read : read_by everything adders ≡ Ok of_adders
-unfolding read_by
+adders_read : read adders ≡ Ok of_adders
+unfolding read
 adders_read = refl
 
 adders_reported : report of_adders.objects of_adders.labels (events of_adders) (one_run of_adders).marks ≡ adders_report
 unfolding digits
 adders_reported = refl
 
-greatest_opened : read_script everything greatest ≡ read_by everything greatest
-unfolding read_by
+greatest_opened : read_script greatest ≡ read greatest
+unfolding read
 greatest_opened = refl
 
-greatest_read : read_by everything greatest ≡ Ok of_greatest
-unfolding read_by
+greatest_read : read greatest ≡ Ok of_greatest
+unfolding read
 greatest_read = refl
 
 greatest_reported : report of_greatest.objects of_greatest.labels (events of_greatest) (one_run of_greatest).marks ≡ greatest_report

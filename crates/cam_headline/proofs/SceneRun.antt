@@ -6,9 +6,8 @@ use Rattle.cam_type.specs.declared.State.TheVariants.{Register}
 use Rattle.cam_type.specs.declared.Op.TheVariants as ops
 use Rattle.cam_script.specs.declared.Script.{Script}
 use Rattle.cam_script.specs.declared.Act.TheVariants as acts
-use Rattle.cam_script.specs.Built.{everything}
 use Rattle.cam_script.specs.Grammar.{read_script}
-use Rattle.cam_script.proofs.Read.{read_by}
+use Rattle.cam_script.proofs.Read.{read}
 use Rattle.cam_cut.specs.Witness.{witness}
 use Rattle.cam_report.specs.Report.{report}
 use Rattle.cam_report.specs.Traces.{witness_text}
@@ -41,12 +40,12 @@ script =
     }
 
 -- the grammar with its definitions opened
-opened : read_script everything scene ≡ read_by everything scene
-unfolding read_by
+opened : read_script scene ≡ read scene
+unfolding read
 opened = refl
 
-read_so : read_by everything scene ≡ Ok script
-unfolding read_by
+read_so : read scene ≡ Ok script
+unfolding read
 read_so = refl
 
 reported : report script.objects script.labels (events script) (one_run script).marks ≡ scene_report

@@ -71,17 +71,17 @@ halted_run_holds script halts range = record {
     legal = halted_legal script.objects taken t is
 
 pub halted_headline : HaltedHeadline
-halted_headline built bytes = by (read_script built bytes) refl
+halted_headline bytes = by (read_script bytes) refl
   where
-    by : (read : Result Script ScriptFault) → read_script built bytes ≡ read
+    by : (read : Result Script ScriptFault) → read_script bytes ≡ read
         → IfOk read (λ script. (halts : Halting) → HasHaltedRun script halts)
     by (Ok script) is = λ halts.
         halted_run_holds script halts
-        (script_in_range script (accepted_is_script built bytes script is))
+        (script_in_range script (accepted_is_script bytes script is))
     by (Err fault) is = tt
 
 pub headline_holds : Headline
-headline_holds built bytes = by (read_script built bytes) (halted_headline built bytes)
+headline_holds bytes = by (read_script bytes) (halted_headline bytes)
   where
     by : (read : Result Script ScriptFault)
         → IfOk read (λ script. (halts : Halting) → HasHaltedRun script halts)
@@ -91,6 +91,6 @@ headline_holds built bytes = by (read_script built bytes) (halted_headline built
 
 -- without a stop line
 pub no_stop_is_the_run : NoStopIsTheRun
-no_stop_is_the_run script of_stage =
-    ap (λ (st : Standing). st.running) (no_stops_no_halts by_pasts script of_stage)
+no_stop_is_the_run script no_stop =
+    ap (λ (st : Standing). st.running) (no_stops_no_halts by_pasts script no_stop)
     ∙ no_halt_is_the_run by_pasts script

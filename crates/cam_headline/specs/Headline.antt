@@ -22,16 +22,14 @@ use Rattle.cam_serial.specs.Serial.{serial, all_committed, Replays, Covers}
 use Rattle.cam_cut.specs.Witness.{witness}
 use Rattle.cam_delta.specs.Laws.{known_by}
 use Rattle.cam_script.specs.declared.Script.{Script}
-use Rattle.cam_script.specs.declared.stage.Stage.TheVariants.{WithoutStops}
-use Rattle.cam_script.specs.Built.{Built}
 use Rattle.cam_script.specs.Grammar.{read_script}
-use Rattle.cam_script.specs.OfStage.{IsOfStage}
 use Rattle.cam_runs.specs.Running.{Running}
 use Rattle.cam_runs.specs.Run.{run}
 use Rattle.cam_runs.specs.Halts.{Halting, by_stops}
 use Rattle.cam_runs.specs.Standing.{Standing}
 use Rattle.cam_runs.specs.HaltedLines.{run_halting}
 use Rattle.cam_runs.specs.HaltedLaws.{IsHaltedRun}
+use Rattle.cam_runs.specs.Stops.{HasNoStop}
 use Rattle.cam_report.specs.Report.{report}
 use Rattle.cam_report.specs.Traces.{trace_text, witness_text}
 use Rattle.cam_report.specs.Records.{record_report, record_trace}
@@ -120,21 +118,20 @@ pub record HasHaltedRun (script : Script) (halts : Halting) : Type 0 where
       → witness_text script.labels (witness (reverse (held_record script halts).trace) a)
       ≡ witness_text script.labels (witness (halted_events script halts) a)
 
--- So it is of the one run of a script, of all bytes that the grammar accepts, at each stage of what
--- is built;
+-- So it is of the one run of a script, of all bytes that the grammar accepts;
 abbrev pub HasOneRun : Script → Type 0
 HasOneRun script = HasHaltedRun script by_stops
 
 abbrev pub Headline : Type 0
-Headline = (built : Built) (bytes : List ℕ) → IfOk (read_script built bytes) HasOneRun
+Headline = (bytes : List ℕ) → IfOk (read_script bytes) HasOneRun
 
 -- and whichever inputs are halts, taken or lost, as where a disk fails by itself.
 abbrev pub HaltedHeadline : Type 0
 HaltedHeadline =
-    (built : Built) (bytes : List ℕ)
-    → IfOk (read_script built bytes) (λ script. (halts : Halting) → HasHaltedRun script halts)
+    (bytes : List ℕ)
+    → IfOk (read_script bytes) (λ script. (halts : Halting) → HasHaltedRun script halts)
 
 -- Of a script without a line that stops a disk the one run is the run without halts.
 abbrev pub NoStopIsTheRun : Type 0
 NoStopIsTheRun =
-    (script : Script) → IsOfStage WithoutStops script → one_run script ≡ run by_pasts script
+    (script : Script) → HasNoStop script → one_run script ≡ run by_pasts script

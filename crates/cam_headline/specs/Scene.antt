@@ -3,7 +3,6 @@
 use Rattle.std.specs.Prelude.{◌≡◌, ℕ, List, [], ◌∷◌, ◌++◌, Ok, codes, flat_map}
 use Rattle.cam_names.specs.declared.name.Name.{Name}
 use Rattle.cam_script.specs.declared.Script.{Script}
-use Rattle.cam_script.specs.Built.{everything}
 use Rattle.cam_script.specs.Grammar.{read_script}
 use Rattle.cam_cut.specs.Witness.{witness}
 use Rattle.cam_report.specs.Report.{report}
@@ -46,6 +45,6 @@ scene_witness =
 -- The bytes spell a script, and these are the texts of its one run.
 pub record IsWorked : Type 0 where
   pub script : Script
-  pub spelled : read_script everything scene ≡ Ok script
+  pub spelled : read_script scene ≡ Ok script
   pub reported : report script.objects script.labels (events script) (one_run script).marks ≡ scene_report
   pub witnessed : witness_text script.labels (witness (events script) orphan_of_scene) ≡ scene_witness

@@ -23,12 +23,11 @@ ghost use Rattle.cam_headline.specs.Scene.{IsWorked};
 ghost use Rattle.cam_headline.specs.Premises.{OnlyStopsAreKnown, StopsAreKnown};
 ghost use Rattle.cam_headline.specs.Recovery.{CommittedIsCovered, CommittedStays, CrashKeepsOthers, CrashKeepsSecured, NoneIsAborted, SecuredStays};
 
-/// For all bytes that spell a script, at each stage of the grammar: the program's run is the one
-/// run of the step rules; for each action, orphan or not, the events before its last event are a
-/// legal execution in which it is no orphan and has the same view; committed top actions replay
-/// serially in commit order; no two nodes hold different outcomes of an action; and the report is
-/// that of this run. Its halts are those that the script's stop lines make; without such a line it
-/// is the run without halts.
+/// For all bytes that spell a script: the program's run is the one run of the step rules; for each
+/// action, orphan or not, the events before its last event are a legal execution in which it is no
+/// orphan and has the same view; committed top actions replay serially in commit order; no two
+/// nodes hold different outcomes of an action; and the report is that of this run. Its halts are
+/// those that the script's stop lines make; without such a line it is the run without halts.
 pub fn headline()
     ensures holds { Headline }
     ensures none { NoStopIsTheRun }

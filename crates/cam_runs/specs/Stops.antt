@@ -9,11 +9,11 @@ use Rattle.std.specs.List.{AllByRecursion, list_any}
 use Rattle.cam_type.specs.declared.ObjectDecl.{ObjectDecl}
 use Rattle.cam_event.specs.Inputs.{Input as NodeInput, node_of}
 use Rattle.cam_event.specs.Readings.{Reading}
+use Rattle.cam_script.specs.declared.Act.{Act}
+use Rattle.cam_script.specs.declared.Act.TheVariants as acts
 use Rattle.cam_script.specs.declared.Script.{Script}
 use Rattle.cam_script.specs.declared.Statement.{Statement}
 use Rattle.cam_script.specs.declared.Step.{Step}
-use Rattle.cam_script.specs.declared.stage.Stage.TheVariants.{WithoutStops}
-use Rattle.cam_script.specs.OfStage.{IsOfStage}
 use Rattle.cam_runs.specs.Running.{has_number}
 use Rattle.cam_runs.specs.Halts.{Halt, Turn, Input, Stop, Restart, accepted}
 use Rattle.cam_runs.specs.Halts.{Halting, appends, by_stops, calls_left, given}
@@ -146,8 +146,17 @@ ToldHaltsAreTaken =
     → last_stop turns s ≡ Some took
     → (left : ℕ) × (last_left turns s ≡ Some left) × (took ≡ eqb left 3)
 
--- Of a script without a line that stops a disk it is the run without halts.
+-- a step that stops no disk
+abbrev pub IsNoStop : Act → Type 0
+IsNoStop (acts.Stop node calls) = ⊥
+IsNoStop _ = Unit {0}
+
+-- a script without a line that stops a disk
+abbrev pub HasNoStop : Script → Type 0
+HasNoStop script = AllByRecursion (λ (step : Step). IsNoStop step.act) script.steps
+
+-- Of such a script the one run is the run without halts.
 abbrev pub NoStopsNoHalts : Type 0
 NoStopsNoHalts =
-    (reading : List ObjectDecl → Reading) (script : Script) → IsOfStage WithoutStops script
+    (reading : List ObjectDecl → Reading) (script : Script) → HasNoStop script
     → run_halting reading by_stops script ≡ run_with reading script []
