@@ -11,8 +11,7 @@ use Rattle.cam_script.specs.declared.Binding.TheVariants as bindings
 use Rattle.cam_script.specs.declared.Form.{Form}
 use Rattle.cam_script.specs.declared.Step.{Step}
 use Rattle.cam_script.specs.declared.Use.TheVariants as uses
-use Rattle.cam_script.specs.declared.stage.Stage.{Stage}
-use Rattle.cam_script.specs.Built.{built_of}
+use Rattle.cam_script.specs.Forms.{form_words}
 use Rattle.cam_script.specs.Grammar.{begins_with_hash, by_place, from_word, read_line, with_word}
 use Rattle.cam_script.specs.Order.{is_declaration, is_step, is_too_many, may_stand, section_of, section_outside}
 use Rattle.cam_script.specs.SoFar.{SoFar, Variable, variable_names}
@@ -110,14 +109,14 @@ stands [] form e = or_true (is_declaration_of form) (is_step form) e
     or_true false b e = e
 stands (s ∷ steps) form e = e
 
-pub line_is : (stage : Stage) (d next : SoFar) (number : ℕ) (line w : List ℕ) (ws : List (List ℕ)) (form : Form) (r : Reads line 0 w ws)
-    → all_from 32 line ≡ true → begins_with_hash w ≡ false → looked_up (built_of stage).forms w ≡ Some form → may_stand (section_of d) form ≡ true
-    → is_too_many d form r.word.end line ≡ false → by_place d.writing d form number r.word.end line ≡ Ok next → read_line (built_of stage) d number line ≡ Ok next
+pub line_is : (d next : SoFar) (number : ℕ) (line w : List ℕ) (ws : List (List ℕ)) (form : Form) (r : Reads line 0 w ws)
+    → all_from 32 line ≡ true → begins_with_hash w ≡ false → looked_up form_words w ≡ Some form → may_stand (section_of d) form ≡ true
+    → is_too_many d form r.word.end line ≡ false → by_place d.writing d form number r.word.end line ≡ Ok next → read_line d number line ≡ Ok next
 unfolding read_line with_word
-line_is stage d next number line w ws form r shown hash known stand room is =
+line_is d next number line w ws form r shown hash known stand room is =
     rw (no_bad_byte 0 line shown)
-    (ap (λ (word : Word). from_word (built_of stage) d number word line) r.next
-    ∙ rw (r.some, ap begins_with_hash r.text ∙ hash, ap (λ (t : List ℕ). looked_up (built_of stage).forms t) r.text ∙ known, stand, room) is)
+    (ap (λ (word : Word). from_word d number word line) r.next
+    ∙ rw (r.some, ap begins_with_hash r.text ∙ hash, ap (λ (t : List ℕ). looked_up form_words t) r.text ∙ known, stand, room) is)
 
 -- behind a line: so many variables, and one step more
 pub record Goes (read : Result SoFar ScriptFault) (k spent : ℕ) : Type 0 where

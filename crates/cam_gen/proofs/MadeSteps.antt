@@ -1,17 +1,12 @@
 -- Each step of a script that is made is read: its line is plain and short, and behind it stands one step more.
-use Rattle.std.proofs.Common.{◌≡◌, ℕ, ◌+◌, ◌<◌, ◌≤◌, le-ltb, true, List, [], ◌∷◌, ◌++◌, length, Some, Result, Ok, codes, decimal, refl, ap, arith, length-append}
+use Rattle.std.proofs.Common.{◌≡◌, ℕ, ◌+◌, ◌<◌, ◌≤◌, le-ltb, true, List, [], ◌∷◌, ◌++◌, length, Result, Ok, codes, decimal, refl, ap, arith, length-append}
 use Rattle.std.specs.Prelude.{pos}
 use Rattle.cam_base.specs.Lines.{words}
 use Rattle.cam_words.specs.declared.fault.ScriptFault.{ScriptFault}
-use Rattle.cam_words.specs.Words.{looked_up}
 use Rattle.cam_script.specs.declared.Act.{Act}
 use Rattle.cam_script.specs.declared.Act.TheVariants as acts
-use Rattle.cam_script.specs.declared.Form.{Form}
 use Rattle.cam_script.specs.declared.Form.TheVariants as forms
 use Rattle.cam_script.specs.declared.Step.{Step}
-use Rattle.cam_script.specs.declared.stage.Stage.{Stage}
-use Rattle.cam_script.specs.declared.stage.Stage.TheVariants as stages
-use Rattle.cam_script.specs.Built.{built_of}
 use Rattle.cam_script.specs.Grammar.{read_line}
 use Rattle.cam_script.specs.Operations.{as_op}
 use Rattle.cam_script.specs.SoFar.{SoFar, Variable}
@@ -23,19 +18,13 @@ use Rattle.cam_gen.proofs.Numerals.{node_is, short_node, short_variable}
 use Rattle.cam_gen.proofs.MadeLines.{Goes, Has, found, labels, line_is, made, stands}
 use Rattle.cam_gen.proofs.MadeCalls.{object_is, operation_is}
 
--- the first word of a line, and its form at either stage
-pub known : (stage : Stage) (w : List ℕ) (form : Form) → looked_up (built_of stages.WithoutStops).forms w ≡ Some form → looked_up (built_of stages.Everything).forms w ≡ Some form
-    → looked_up (built_of stage).forms w ≡ Some form
-known stages.WithoutStops w form one other = one
-known stages.Everything w form one other = other
-
 -- A line of plain words.
-pub record IsLine (stage : Stage) (steps : List Step) (variables : List Variable) (spent number : ℕ) (text : List ℕ) (k : ℕ) : Type 0 where
+pub record IsLine (steps : List Step) (variables : List Variable) (spent number : ℕ) (text : List ℕ) (k : ℕ) : Type 0 where
   pub line : List ℕ
   pub is : text ≡ line ++ 10 ∷ []
   pub shown : all_from 32 line ≡ true
   pub few : length line ≤ 24
-  pub goes : Goes (read_line (built_of stage) (made steps variables spent) number line) k (spent + 1)
+  pub goes : Goes (read_line (made steps variables spent) number line) k (spent + 1)
 
 pub line_few : (w : List ℕ) (ws : List (List ℕ)) → length w + length (spaced ws) ≤ 24 → length (words (w ∷ ws)) ≤ 24
 line_few w ws few = omega (arith, few, ap (λ (t : List ℕ). length t) (words_are w ws), length-append w (spaced ws))
@@ -43,12 +32,12 @@ line_few w ws few = omega (arith, few, ap (λ (t : List ℕ). length t) (words_a
 pub one_short : (w : List ℕ) (ws : List (List ℕ)) → length (spaced (w ∷ ws)) ≡ 1 + (length w + length (spaced ws))
 one_short w ws = omega (arith, length-append w (spaced ws))
 
-module _ (stage : Stage) (steps : List Step) (vs : List Variable) (k spent number : ℕ) (has : Has vs k) (small : k < 512) (room : spent < 512) where
+module _ (steps : List Step) (vs : List Variable) (k spent number : ℕ) (has : Has vs k) (small : k < 512) (room : spent < 512) where
   -- a step that binds no variable
   act_goes : (act : Act) (read : Result SoFar ScriptFault) → read ≡ Ok (made (steps ++ record { line = number; act = act } ∷ []) vs (spent + 1)) → Goes read k (spent + 1)
   act_goes act read is = record { steps = steps ++ record { line = number; act = act } ∷ []; variables = vs; is = is; has = has }
 
-  pub drain_is : IsLine stage steps vs spent number (words (codes "drain" ∷ []) ++ 10 ∷ []) k
+  pub drain_is : IsLine steps vs spent number (words (codes "drain" ∷ []) ++ 10 ∷ []) k
   unfolding drain_line
   drain_is =
       let line = words (codes "drain" ∷ []) in
@@ -60,12 +49,12 @@ module _ (stage : Stage) (steps : List Step) (vs : List Variable) (k spent numbe
         few = omega arith;
         goes =
             act_goes acts.Drain _
-            (line_is stage (made steps vs spent) _ number line (codes "drain") [] forms.Drain r refl refl (known stage (codes "drain") forms.Drain refl refl)
+            (line_is (made steps vs spent) _ number line (codes "drain") [] forms.Drain r refl refl refl
             (stands steps forms.Drain refl) (le-ltb 512 (spent + 1) (omega (arith, room)))
             (rw (end_is line r.word.end number r.behind) refl));
       }
 
-  pub restart_is : (node : ℕ) → node < 3 → IsLine stage steps vs spent number (words (codes "restart" ∷ decimal (node + 1) ∷ []) ++ 10 ∷ []) k
+  pub restart_is : (node : ℕ) → node < 3 → IsLine steps vs spent number (words (codes "restart" ∷ decimal (node + 1) ∷ []) ++ 10 ∷ []) k
   unfolding restart_line
   restart_is node there =
       let w = decimal (node + 1) in
@@ -81,12 +70,12 @@ module _ (stage : Stage) (steps : List Step) (vs : List Variable) (k spent numbe
         few = line_few (codes "restart") (w ∷ []) (omega (arith, one_short w [], short.few));
         goes =
             act_goes (acts.Restart (node + 1)) _
-            (line_is stage (made steps vs spent) _ number line (codes "restart") (w ∷ []) forms.Restart r (words_shown (codes "restart") (w ∷ []) plain (short.plain, tt)) refl
-            (known stage (codes "restart") forms.Restart refl refl) (stands steps forms.Restart refl) (le-ltb 512 (spent + 1) (omega (arith, room)))
+            (line_is (made steps vs spent) _ number line (codes "restart") (w ∷ []) forms.Restart r (words_shown (codes "restart") (w ∷ []) plain (short.plain, tt)) refl
+            refl (stands steps forms.Restart refl) (le-ltb 512 (spent + 1) (omega (arith, room)))
             (rw (node_read line w [] r.word.end number s (node + 1) (node_is node there) (omega arith) (omega (arith, there)), end_is line s.word.end number s.behind) refl));
       }
 
-  pub abort_is : (x : ℕ) → x < k → IsLine stage steps vs spent number (words (codes "abort" ∷ variable x ∷ []) ++ 10 ∷ []) k
+  pub abort_is : (x : ℕ) → x < k → IsLine steps vs spent number (words (codes "abort" ∷ variable x ∷ []) ++ 10 ∷ []) k
   unfolding abort_line
   abort_is x below =
       let w = variable x in
@@ -104,12 +93,12 @@ module _ (stage : Stage) (steps : List Step) (vs : List Variable) (k spent numbe
         few = line_few (codes "abort") (w ∷ []) (omega (arith, one_short w [], short.few));
         goes =
             act_goes (acts.Abort v.v.step) _
-            (line_is stage (made steps vs spent) _ number line (codes "abort") (w ∷ []) forms.Abort r shown refl (known stage (codes "abort") forms.Abort refl refl)
+            (line_is (made steps vs spent) _ number line (codes "abort") (w ∷ []) forms.Abort r shown refl refl
             (stands steps forms.Abort refl) (le-ltb 512 (spent + 1) (omega (arith, room)))
             (rw (variable_read line w [] r.word.end number s vs v.v v.is v.usable, end_is line s.word.end number s.behind) refl));
       }
 
-  pub commit_is : (x : ℕ) → x < k → IsLine stage steps vs spent number (words (codes "commit" ∷ variable x ∷ codes "0" ∷ []) ++ 10 ∷ []) k
+  pub commit_is : (x : ℕ) → x < k → IsLine steps vs spent number (words (codes "commit" ∷ variable x ∷ codes "0" ∷ []) ++ 10 ∷ []) k
   unfolding commit_line
   commit_is x below =
       let w = variable x in
@@ -130,7 +119,7 @@ module _ (stage : Stage) (steps : List Step) (vs : List Variable) (k spent numbe
         few = line_few (codes "commit") rest (omega (arith, one_short w (codes "0" ∷ []), short.few));
         goes =
             act_goes (acts.Commit v.v.step (pos 0)) _
-            (line_is stage (made steps vs spent) _ number line (codes "commit") rest forms.Commit r shown refl (known stage (codes "commit") forms.Commit refl refl)
+            (line_is (made steps vs spent) _ number line (codes "commit") rest forms.Commit r shown refl refl
             (stands steps forms.Commit refl) (le-ltb 512 (spent + 1) (omega (arith, room)))
             (rw (
               variable_read line w (codes "0" ∷ []) r.word.end number s vs v.v v.is v.usable,
@@ -140,7 +129,7 @@ module _ (stage : Stage) (steps : List Step) (vs : List Variable) (k spent numbe
       }
 
   pub call_is : (x object op value : ℕ) → x < k → object < 4 → op < 3 → value < 100
-      → IsLine stage steps vs spent number (words (codes "call" ∷ variable x ∷ object_word object ∷ op_words object op value) ++ 10 ∷ []) k
+      → IsLine steps vs spent number (words (codes "call" ∷ variable x ∷ object_word object ∷ op_words object op value) ++ 10 ∷ []) k
   unfolding call_line
   call_is x object op value below an_object an_op a_value =
       let w = variable x in
@@ -164,7 +153,7 @@ module _ (stage : Stage) (steps : List Step) (vs : List Variable) (k spent numbe
         few = line_few (codes "call") rest (omega (arith, one_short w (object_word object ∷ ws), one_short (object_word object) ws, short.few, o.few, p.few));
         goes =
             act_goes (acts.Call v.v.step object (as_op u.op)) _
-            (line_is stage (made steps vs spent) _ number line (codes "call") rest forms.Call r shown refl (known stage (codes "call") forms.Call refl refl)
+            (line_is (made steps vs spent) _ number line (codes "call") rest forms.Call r shown refl refl
             (stands steps forms.Call refl) (le-ltb 512 (spent + 1) (omega (arith, room)))
             (rw (
               variable_read line w (object_word object ∷ ws) r.word.end number s vs v.v v.is v.usable,

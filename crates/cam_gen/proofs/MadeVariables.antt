@@ -10,7 +10,6 @@ use Rattle.cam_script.specs.declared.Binding.{Binding}
 use Rattle.cam_script.specs.declared.Binding.TheVariants as bindings
 use Rattle.cam_script.specs.declared.Form.TheVariants as forms
 use Rattle.cam_script.specs.declared.Step.{Step}
-use Rattle.cam_script.specs.declared.stage.Stage.{Stage}
 use Rattle.cam_script.specs.Grammar.{bound}
 use Rattle.cam_script.specs.SoFar.{Variable, with_binding_step}
 use Rattle.cam_script.specs.Steps.{ask_line, begin_line}
@@ -19,9 +18,9 @@ use Rattle.cam_gen.proofs.PlainWords.{IsPlain, end_is, reads_first, reads_next, 
 use Rattle.cam_gen.proofs.ReadWords.{new_name_read, node_read, variable_read}
 use Rattle.cam_gen.proofs.Numerals.{named_variable, node_is, short_node, short_variable}
 use Rattle.cam_gen.proofs.MadeLines.{Has, found, has_more, line_is, made, new, stands}
-use Rattle.cam_gen.proofs.MadeSteps.{IsLine, known, line_few, one_short}
+use Rattle.cam_gen.proofs.MadeSteps.{IsLine, line_few, one_short}
 
-module _ (stage : Stage) (steps : List Step) (vs : List Variable) (k spent number : ℕ) (has : Has vs k) (small : k < 512) (room : spent < 512) where
+module _ (steps : List Step) (vs : List Variable) (k spent number : ℕ) (has : Has vs k) (small : k < 512) (room : spent < 512) where
   -- what such a line said, with the word of its variable
   bound_is : (act : Act) (binding : Binding) (line : List ℕ) (word : Word) (said : Result (Word × Act) ScriptFault) → said ≡ Ok (word, act) → text_of word line ≡ variable k
       → (said >>= bound (made steps vs spent) binding number line) ≡ Ok (with_binding_step (made steps vs spent) number (variable k) binding act)
@@ -29,7 +28,7 @@ module _ (stage : Stage) (steps : List Step) (vs : List Variable) (k spent numbe
       ap (λ (r : Result (Word × Act) ScriptFault). r >>= bound (made steps vs spent) binding number line) is
       ∙ ap (λ (t : List ℕ). Ok (with_binding_step (made steps vs spent) number t binding act)) text
 
-  pub begin_is : (node : ℕ) → node < 3 → IsLine stage steps vs spent number (words (codes "begin" ∷ variable k ∷ decimal (node + 1) ∷ []) ++ 10 ∷ []) (k + 1)
+  pub begin_is : (node : ℕ) → node < 3 → IsLine steps vs spent number (words (codes "begin" ∷ variable k ∷ decimal (node + 1) ∷ []) ++ 10 ∷ []) (k + 1)
   unfolding begin_line
   begin_is node there =
       let w = variable k in
@@ -53,7 +52,7 @@ module _ (stage : Stage) (steps : List Step) (vs : List Variable) (k spent numbe
           steps = steps ++ record { line = number; act = acts.Begin (node + 1) } ∷ [];
           variables = vs ++ v ∷ [];
           is =
-              line_is stage (made steps vs spent) _ number line (codes "begin") rest forms.Begin r shown refl (known stage (codes "begin") forms.Begin refl refl)
+              line_is (made steps vs spent) _ number line (codes "begin") rest forms.Begin r shown refl refl
               (stands steps forms.Begin refl) (le-ltb 512 (spent + 1) (omega (arith, room)))
               (bound_is (acts.Begin (node + 1)) bindings.Begin line s.word _
               (rw (
@@ -65,7 +64,7 @@ module _ (stage : Stage) (steps : List Step) (vs : List Variable) (k spent numbe
         };
       }
 
-  pub ask_is : (x node : ℕ) → x < k → node < 3 → IsLine stage steps vs spent number (words (codes "ask" ∷ variable x ∷ variable k ∷ decimal (node + 1) ∷ []) ++ 10 ∷ []) (k + 1)
+  pub ask_is : (x node : ℕ) → x < k → node < 3 → IsLine steps vs spent number (words (codes "ask" ∷ variable x ∷ variable k ∷ decimal (node + 1) ∷ []) ++ 10 ∷ []) (k + 1)
   unfolding ask_line
   ask_is x node below there =
       let p = variable x in
@@ -93,7 +92,7 @@ module _ (stage : Stage) (steps : List Step) (vs : List Variable) (k spent numbe
           steps = steps ++ record { line = number; act = acts.Ask u.v.step (node + 1) } ∷ [];
           variables = vs ++ v ∷ [];
           is =
-              line_is stage (made steps vs spent) _ number line (codes "ask") rest forms.Ask r shown refl (known stage (codes "ask") forms.Ask refl refl)
+              line_is (made steps vs spent) _ number line (codes "ask") rest forms.Ask r shown refl refl
               (stands steps forms.Ask refl) (le-ltb 512 (spent + 1) (omega (arith, room)))
               (bound_is (acts.Ask u.v.step (node + 1)) bindings.Ask line s.word _
               (rw (
