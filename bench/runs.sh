@@ -19,8 +19,6 @@ cat > src/main.rt <<'PROGRAM'
 #![tactic(auto)]
 
 ghost use Rattle.cam_script.specs.Law.{IsScript};
-ghost use Rattle.cam_script.specs.OfStage.{IsOfStage};
-ghost use Rattle.cam_script.specs.declared.stage.Stage.TheVariants.{WithoutStops};
 
 use anyhow::Error;
 use cam_base::NoMemory;
@@ -28,7 +26,7 @@ use cam_cluster::{RunFault, Servers, run_script};
 use cam_disk::MemoryDisk;
 use cam_event::RunRecord;
 use cam_report::report_text;
-use cam_script::{Script, Stage, parse};
+use cam_script::{Script, parse};
 use cam_type::{CounterServer, QueueServer, RegisterServer};
 use std::alloc::Global;
 use std::fmt::Write;
@@ -186,7 +184,6 @@ fn empty_disks(alloc: Global, count: u8) -> Result<Vec<MemoryDisk>, NoMemory> {
 /// A run over empty disks.
 fn run(alloc: Global, script: &Script) -> Result<RunRecord, RunFault>
     requires script { IsScript script.now }
-    requires forms { IsOfStage WithoutStops script.now }
 {
     let disks = empty_disks(alloc, script.nodes)?;
     if disks.len() != script.nodes as usize {
@@ -226,7 +223,6 @@ impl Times {
 /// One run, and its report.
 fn measure_once(rt: &HostRuntime, script: &Script) -> Result<Times, Error>
     requires script { IsScript script.now }
-    requires forms { IsOfStage WithoutStops script.now }
 {
     let start = Instant::now(rt)?;
     let record = run(rt.alloc(), script)?;
@@ -243,7 +239,7 @@ fn measure_once(rt: &HostRuntime, script: &Script) -> Result<Times, Error>
 
 /// The least times of some rounds.
 fn measure(rt: &HostRuntime, text: &str) -> Result<Times, Error> {
-    let script = parse(rt.alloc(), Stage::WithoutStops, text.as_bytes())?;
+    let script = parse(rt.alloc(), text.as_bytes())?;
     let mut times = measure_once(rt, &script)?;
     for _ in 0..ROUNDS {
         times = times.least(measure_once(rt, &script)?);

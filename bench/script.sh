@@ -13,7 +13,7 @@ cat > src/main.rt <<'PROGRAM'
 #![tactic(auto)]
 
 use anyhow::Error;
-use cam_script::{Stage, parse};
+use cam_script::parse;
 use std::fmt::Write;
 use std::time::Instant;
 
@@ -47,7 +47,7 @@ fn script(rt: &HostRuntime, lines: Lines, count: u32) -> Result<String, Error> {
 /// The time of one reading.
 fn parse_once(rt: &HostRuntime, text: &str) -> Result<u128, Error> {
     let start = Instant::now(rt)?;
-    parse(rt.alloc(), Stage::WithoutStops, text.as_bytes())?;
+    parse(rt.alloc(), text.as_bytes())?;
     Ok(start.elapsed(rt)?.as_nanos())
 }
 

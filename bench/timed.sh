@@ -15,7 +15,7 @@ use anyhow::Error;
 use cam_event::{Deed, Deeds, Event, Marks, Note, RunRecord, SentList, Trace, copy_event};
 use cam_names::{Name, Part};
 use cam_report::report_text;
-use cam_script::{Bodies, Labels, Script, Stage, Steps, parse};
+use cam_script::{Bodies, Labels, Script, Steps, parse};
 use cam_timed::{
     Pause, TimedEvent, TimedMarks, TimedRecord, TimedScript, TimedSteps, TimedTrace, parse_timed,
     timed_text, timed_witness,
@@ -168,7 +168,7 @@ fn reading(rt: &HostRuntime) -> Result<(u128, u128), Error> {
         let one = parse_timed(rt.alloc(), timed.as_bytes())?;
         let by_time = start.elapsed(rt)?.as_nanos();
         let start = Instant::now(rt)?;
-        let other = parse(rt.alloc(), Stage::Everything, plain.as_bytes())?;
+        let other = parse(rt.alloc(), plain.as_bytes())?;
         let without = start.elapsed(rt)?.as_nanos();
         if one.steps.len() != other.steps.len() {
             println!(rt; "a script is not whole")?;
