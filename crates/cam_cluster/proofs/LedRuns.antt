@@ -1,8 +1,8 @@
 -- A line more of a script's run: it led on, or was refused.
-use Rattle.std.proofs.Common.{◌≡◌, ◌≤◌, ◌<◌, ◌⊎◌, inl, inr, ℕ, suc, ◌+◌, eqb, Bool, true, false}
+use Rattle.std.proofs.Common.{◌≡◌, ◌≤◌, ◌<◌, ◌⊎◌, inl, inr, ℕ, zero, suc, ◌+◌, eqb, Bool, true, false}
 use Rattle.std.proofs.Common.{if◌then◌else◌, ◌&&◌, not, List, [], ◌∷◌, ◌++◌, drop, length, Option, Some, None}
 use Rattle.std.proofs.Common.{Ok, Err, is_some, refl, sym, ap, ◌∙◌, subst, arith, true≢false}
-use Rattle.std.specs.Prelude.{slice_get}
+use Rattle.std.specs.Prelude.{slice_get, IfSome}
 use Rattle.std.specs.List.{AllByRecursion, list_any}
 use Rattle.std.proofs.lemmas.List.{length-append}
 use Rattle.cam_bytes.specs.declared.WireFault.{WireFault}
@@ -13,15 +13,13 @@ use Rattle.cam_node.specs.Log.{Logged}
 use Rattle.cam_runs.specs.Halts.{Halt, Stop, Turn, accepted, given, halt_at}
 use Rattle.cam_runs.specs.Running.{Running}
 use Rattle.cam_runs.specs.Standing.{Standing}
+use Rattle.cam_runs.specs.Stops.{HasNoStop, IsNoStop}
 use Rattle.cam_runs.proofs.HaltedParts.{awake_by}
-use Rattle.cam_runs.proofs.LeadOn.{step_passes}
 use Rattle.cam_runs.proofs.Range.{script_in_range}
 use Rattle.cam_script.specs.declared.Act.{Act}
 use Rattle.cam_script.specs.declared.Act.TheVariants as acts
 use Rattle.cam_script.specs.declared.Script.{Script}
 use Rattle.cam_script.specs.declared.Step.{Step}
-use Rattle.cam_script.specs.declared.stage.Stage.TheVariants.{WithoutStops}
-use Rattle.cam_script.specs.OfStage.{IsOfStage, form_of, has_form, is_of_stage}
 use Rattle.cam_histories.specs.Found.{as_taken, is_halt_of, with_mark_taken}
 use Rattle.cam_histories.specs.Lines.{line_refusal}
 use Rattle.cam_cluster.specs.declared.course.CourseFault.{CourseFault}
@@ -115,16 +113,25 @@ begun_is (acts.Stop s calls) reading st passed =
 begun_is _ reading st passed = refl
 
 -- Without a line that stops a disk none is stopped.
-begun_free : (does : Act) (turns : List Turn) → has_form WithoutStops (form_of does) ≡ true
+begun_free : (does : Act) (turns : List Turn) → IsNoStop does
     → ((s : ℕ) → is_stopped turns s ≡ false) → (m : ℕ)
     → is_stopped (begun_turns does turns) m ≡ false
-begun_free (acts.Stop s calls) turns has free m = absurd (grind (arith, has))
+begun_free (acts.Stop s calls) turns has free m = absurd has
 begun_free (acts.Restart s) turns has free m = by (eqb s m)
   where
     by : (b : Bool) → (if b then false else is_stopped turns m) ≡ false
     by true = refl
     by false = free m
 begun_free _ turns has free m = free m
+
+-- the step at a place, of steps that stop no disk
+step_is_no_stop : (steps : List Step) (at : ℕ) (step : Step)
+    → AllByRecursion (λ (s : Step). IsNoStop s.act) steps → slice_get steps at ≡ Some step
+    → IsNoStop step.act
+step_is_no_stop [] at step each is = absurd (grind (arith, is))
+step_is_no_stop (s ∷ steps) zero step each is =
+    subst (λ (o : Option Step). IfSome o (λ (t : Step). IsNoStop t.act)) is each.0
+step_is_no_stop (s ∷ steps) (suc at) step each is = step_is_no_stop steps at step each.1 is
 
 -- what stands behind so many
 behind_first : {X : Type 0} (xs ys : List X) → drop (length xs) (xs ++ ys) ≡ ys
@@ -141,8 +148,8 @@ module _ (script : Script) (many : ℕ) (step : Step) (old new : LinesFields)
   abbrev next : IsNextStep seen step
   next = next_step script many step old might before known taken at
 
-  passes : IsOfStage WithoutStops script → has_form WithoutStops (form_of step.act) ≡ true
-  passes forms = step_passes (is_of_stage WithoutStops) script.steps many step forms at
+  passes : HasNoStop script → IsNoStop step.act
+  passes no_stop = step_is_no_stop script.steps many step no_stop at
 
   -- The line led on.
   module _ (bad : Option WireFault) (led : HasLedAtWork seen step new may behind bad) where
@@ -254,12 +261,12 @@ module _ (script : Script) (many : ℕ) (step : Step) (old new : LinesFields)
           absurd (true≢false (sym of.0
           ∙ runs_free extends.more base h.input extends.inputs free low.0))
 
-      no_stops : IsOfStage WithoutStops script → HasNoStops after
-      no_stops forms =
-          let none = taken.without_stops forms in
+      no_stops : HasNoStop script → HasNoStops after
+      no_stops no_stop =
+          let none = taken.without_stops no_stop in
           let free : (s : ℕ) → is_stopped base s ≡ false =
           λ s. ap (λ (ts : List Turn). is_stopped ts s) base_is
-          ∙ begun_free step.act seen.standing.turns (passes forms) none.runs s in
+          ∙ begun_free step.act seen.standing.turns (passes no_stop) none.runs s in
           record {
             runs = λ s.
                 ap (λ (ts : List Turn). is_stopped ts s) extends.turns
@@ -305,8 +312,8 @@ module _ (script : Script) (many : ℕ) (step : Step) (old new : LinesFields)
     knows = λ s is. ap (λ (ts : List Turn). is_stopped ts s) turns ∙ taken.knows s is;
     of_stops =
         subst (λ (ts : List Turn). AreOfStops ts seen.halts) (sym turns) taken.of_stops;
-    without_stops = λ forms.
-        let none = taken.without_stops forms in
+    without_stops = λ no_stop.
+        let none = taken.without_stops no_stop in
         record {
           runs = λ s. ap (λ (ts : List Turn). is_stopped ts s) turns ∙ none.runs s;
           no_halt = none.no_halt;

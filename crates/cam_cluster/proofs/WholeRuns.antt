@@ -11,10 +11,9 @@ use Rattle.cam_node.specs.Log.{Logged}
 use Rattle.cam_runs.specs.Halts.{Halt}
 use Rattle.cam_runs.specs.HaltedLines.{run_with}
 use Rattle.cam_runs.specs.Standing.{Standing, start}
+use Rattle.cam_runs.specs.Stops.{HasNoStop}
 use Rattle.cam_script.specs.declared.Script.{Script}
 use Rattle.cam_script.specs.declared.Step.{Step}
-use Rattle.cam_script.specs.declared.stage.Stage.TheVariants.{WithoutStops}
-use Rattle.cam_script.specs.OfStage.{IsOfStage}
 use Rattle.cam_cluster.specs.declared.workers.Workers.{Workers}
 use Rattle.cam_cluster.specs.Between.{KeepsBetween}
 use Rattle.cam_cluster.specs.Courses.{IsNextOfCourse}
@@ -64,7 +63,7 @@ none_taken script lines may_read at_work stopped keeps workers none = record {
   taken = refl;
   knows = λ s is. absurd (no_disk 9 s (ap (λ (t : List Bool). slice_get t s) (sym none) ∙ is));
   of_stops = tt;
-  without_stops = λ forms. record { runs = λ s. refl; no_halt = refl };
+  without_stops = λ no_stop. record { runs = λ s. refl; no_halt = refl };
 }
 
 -- behind the last
@@ -84,7 +83,7 @@ all_taken script lines may_read at_work stopped trace marks taken events all_mar
         ∙ ap (λ (st : Standing). st.running.marks) stands;
   };
   of_stops = subst (λ (st : Standing). AreOfStops st.turns taken.seen.halts) stands taken.of_stops;
-  without_stops = λ forms. (taken.without_stops forms).no_halt;
+  without_stops = λ no_stop. (taken.without_stops no_stop).no_halt;
 }
   where
     stands : taken.seen.standing ≡ run_with by_pasts script taken.seen.halts
@@ -93,11 +92,11 @@ all_taken script lines may_read at_work stopped trace marks taken events all_mar
         taken.keeps.between.between).standing
 
 -- Without a line that stops a disk the record is that of the run in which no node halts.
-pub record_without_stops : (script : Script) (result : RunRecord) → IsOfStage WithoutStops script
+pub record_without_stops : (script : Script) (result : RunRecord) → HasNoStop script
     → IsRecordOf script result → IsRunRecord (after_all script []) result
-record_without_stops script result forms is =
+record_without_stops script result no_stop is =
     subst (λ (halts : List Halt). IsRunRecord (after_all script halts) result)
-    (is.without_stops forms) is.is_run
+    (is.without_stops no_stop) is.is_run
 
 -- the step at a place of a loop over them
 pub step_at : (script : Script) (steps : List Step) (at : ℕ) (other : Step)

@@ -5,10 +5,9 @@ use Rattle.cam_event.specs.Readings.{by_pasts}
 use Rattle.cam_node.specs.Log.{Logged}
 use Rattle.cam_runs.specs.Halts.{Halt}
 use Rattle.cam_runs.specs.HaltedLines.{run_with}
+use Rattle.cam_runs.specs.Stops.{HasNoStop}
 use Rattle.cam_script.specs.declared.Script.{Script}
 use Rattle.cam_script.specs.declared.Step.{Step}
-use Rattle.cam_script.specs.declared.stage.Stage.TheVariants.{WithoutStops}
-use Rattle.cam_script.specs.OfStage.{IsOfStage}
 use Rattle.cam_cluster.specs.declared.workers.Workers.{Workers}
 use Rattle.cam_cluster.specs.Courses.{KeepsCourse}
 use Rattle.cam_cluster.specs.Seen.{IsRunRecord, Seen, lines_taken}
@@ -26,7 +25,7 @@ pub record IsRecordOf (script : Script) (result : RunRecord) : Type 0 where
   pub halts : List Halt
   pub is_run : IsRunRecord (after_all script halts) result
   pub of_stops : AreOfStops (run_with by_pasts script halts).turns halts
-  pub without_stops : IsOfStage WithoutStops script → halts ≡ []
+  pub without_stops : HasNoStop script → halts ≡ []
 
 -- No disk is stopped, and no node has halted.
 pub record HasNoStops (seen : Seen) : Type 0 where
@@ -43,7 +42,7 @@ pub record HasTakenLines (script : Script) (many : ℕ) (lines : LinesFields)
   pub taken : lines_taken seen ≡ many
   pub knows : KnowsStops seen.standing.turns stopped
   pub of_stops : AreOfStops seen.standing.turns seen.halts
-  pub without_stops : IsOfStage WithoutStops script → HasNoStops seen
+  pub without_stops : HasNoStop script → HasNoStops seen
 
 -- the step that is taken next
 pub record IsNextOfRun (script : Script) (step : Step) (lines : LinesFields)
