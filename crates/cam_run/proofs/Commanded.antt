@@ -10,11 +10,11 @@ use Rattle.cam_args.specs.declared.Command.TheVariants.{Gen}
 use Rattle.cam_args.specs.declared.ArgsFault.{ArgsFault}
 use Rattle.cam_args.specs.Forms.{IsForm as IsFormOf, Finds}
 use Rattle.cam_script.specs.declared.Script.{Script}
+use Rattle.cam_script.specs.Grammar.{read_script}
 use Rattle.cam_words.specs.declared.fault.ScriptFault.{ScriptFault}
 use Rattle.cam_words.specs.declared.fault.ScriptFault.TheVariants.{Bad, NoMemory}
 use Rattle.cam_gen.specs.Script.{script_of as generated}
 use Rattle.cam_gen.proofs.AllAccepted.{each_is_accepted}
-use Rattle.cam_run.specs.Taken.{taken_stage}
 use Rattle.cam_run.specs.declared.answer.Answer.{Answer}
 use Rattle.cam_run.specs.Status.{number}
 use Rattle.cam_run.specs.declared.question.Question.{Question}
@@ -24,7 +24,7 @@ use Rattle.cam_image.specs.declared.fault.ImageFault.{ImageFault}
 use Rattle.cam_image.specs.declared.fault.ImageFault.TheVariants.{NotALog, BadRecord, NoMemory as NoMemoryOfImage}
 use Rattle.cam_run.specs.Commands.{Asked, IsBuilt, IsForm, IsFormFor, asked_by, asks_something, bytes_for, nothing, of_image, of_run}
 use Rattle.cam_run.specs.Image.{IsOfImage, image_status, made}
-use Rattle.cam_run.specs.Answer.{IsAnswer, IsAsked, IsOfCommand, IsOfScript, asked_status, command_status, script_of, status_of}
+use Rattle.cam_run.specs.Answer.{IsAnswer, IsAsked, IsOfCommand, IsOfScript, asked_status, command_status, status_of}
 
 -- the command that words are the form of is one alone
 command_of : Result Command ArgsFault → Command → Command
@@ -92,7 +92,7 @@ command_has_status command HasFailed input status text told whole = by (asked_by
   where
     by : (asked : Asked) → IsAsked asked command HasFailed input status text → status ≡ asked_status asked command input
     by (of_run question) (inl (reading, failed, told)) = absurd (whole failed)
-    by (of_run question) (inr answer) = script_has_status question (script_of (bytes_for command input)) status text answer
+    by (of_run question) (inr answer) = script_has_status question (read_script (bytes_for command input)) status text answer
     by (of_image making) (inl (failed, told)) = absurd (whole failed)
     by (of_image making) (inr answer) = image_has_status (made making input) status text answer
     by nothing answer = answer.0
@@ -132,14 +132,14 @@ completes_words words command HasFailed None None r finds told = tt
 -- `gen` answers by the script of its seed, and leaves the source as it is
 pub answers_seed : {E : Type 0} (command : Command) (seed size : ℕ) (HasFailed : Type 0) (left : Option (List ℕ)) (r : Result Answer E)
     → command ≡ Gen seed size
-    → IfOk r (λ a. IsOfScript (Summary size) (script_of (generated seed size)) (number a.status) a.text.items)
+    → IfOk r (λ a. IsOfScript (Summary size) (read_script (generated seed size)) (number a.status) a.text.items)
     → IfTold left left (λ input rest. IfOk r (λ a. IsOfCommand command HasFailed input (number a.status) a.text.items))
 answers_seed {E} command seed size HasFailed left r is told =
     subst (λ (c : Command). IfTold left left (λ input rest. IfOk r (λ a. IsOfCommand c HasFailed input (number a.status) a.text.items)))
     (sym is) (by left r told)
   where
     by : (left : Option (List ℕ)) (r : Result Answer E)
-        → IfOk r (λ a. IsOfScript (Summary size) (script_of (generated seed size)) (number a.status) a.text.items)
+        → IfOk r (λ a. IsOfScript (Summary size) (read_script (generated seed size)) (number a.status) a.text.items)
         → IfTold left left (λ input rest. IfOk r (λ a. IsOfCommand (Gen seed size) HasFailed input (number a.status) a.text.items))
     by (Some input) (Ok a) answer = inr answer
     by (Some input) (Err e) answer = tt
@@ -147,10 +147,10 @@ answers_seed {E} command seed size HasFailed left r is told =
 
 -- the script of a seed is accepted, so its summary is answered
 pub seed_is_done : {E : Type 0} (seed size : ℕ) (r : Result Answer E) → size ≤ 400
-    → IfOk r (λ a. IsOfScript (Summary size) (script_of (generated seed size)) (number a.status) a.text.items)
+    → IfOk r (λ a. IsOfScript (Summary size) (read_script (generated seed size)) (number a.status) a.text.items)
     → IfOk r (λ a. number a.status ≡ 0)
 seed_is_done seed size (Err e) few told = tt
-seed_is_done seed size (Ok a) few told = by (script_of (generated seed size)) (each_is_accepted taken_stage seed size few) told
+seed_is_done seed size (Ok a) few told = by (read_script (generated seed size)) (each_is_accepted seed size few) told
   where
     by : (read : Result Script ScriptFault) → IsOk read → IsOfScript (Summary size) read (number a.status) a.text.items → number a.status ≡ 0
     by (Ok script) ok told = told.0

@@ -1,5 +1,5 @@
--- The record of a run in which no node halted is that of the one run of its script; and why an event stopped an action, by that record.
-use Rattle.std.proofs.Common.{◌≡◌, ℕ, List, [], Option, Ok, IfOk, refl, ap, ◌∙◌, sym, subst}
+-- The record of a run is that of the one run of its script; and why an event stopped an action, by that record.
+use Rattle.std.proofs.Common.{◌≡◌, ℕ, List, Option, Ok, IfOk, refl, ap, ◌∙◌, sym, subst}
 use Rattle.std.specs.Prelude.{Result, reverse}
 use Rattle.std.proofs.lemmas.List.{reverse-reverse}
 use Rattle.cam_know.specs.declared.Reason.{Reason}
@@ -10,9 +10,8 @@ use Rattle.cam_runs.specs.HaltedLines.{run_with}
 use Rattle.cam_runs.specs.Running.{has_number}
 use Rattle.cam_runs.specs.Halts.{by_stops}
 use Rattle.cam_runs.specs.Standing.{Standing}
-use Rattle.cam_runs.proofs.NoStops.{no_stops_no_halts}
 use Rattle.cam_script.specs.declared.Script.{Script}
-use Rattle.cam_script.specs.OfStage.{IsOfStage}
+use Rattle.cam_script.specs.Grammar.{read_script}
 use Rattle.cam_words.specs.declared.fault.ScriptFault.{ScriptFault}
 use Rattle.cam_why.specs.Causes.{IsWhole, stop_at}
 use Rattle.cam_why.specs.Passes.{Refuses}
@@ -20,35 +19,24 @@ use Rattle.cam_why.specs.declared.fault.WhyFault.{WhyFault}
 use Rattle.cam_why.specs.declared.fault.WhyFault.TheVariants.{NoSuchStop}
 use Rattle.cam_why.proofs.Stops.{runs_are_whole}
 use Rattle.cam_report.specs.Whys.{IsWhyText}
-use Rattle.cam_cluster.specs.Seen.{IsRunRecord}
-use Rattle.cam_cluster.specs.WholeRuns.{IsRecordOf, after_all}
-use Rattle.cam_cluster.proofs.WholeRuns.{record_without_stops}
+use Rattle.cam_cluster.specs.WholeRuns.{IsRecordOf}
 use Rattle.cam_headline.specs.Headline.{HasOneRun, events, halted_run}
 use Rattle.cam_headline.proofs.Whole.{headline_holds}
-use Rattle.cam_run.specs.Answer.{script_of}
-use Rattle.cam_run.specs.Taken.{taken_lines, taken_stage}
 use Rattle.cam_run.specs.Texts.{no_stop_text}
 use Rattle.cam_run.specs.Told.{IsOneRun, IsOfStop, stop_of}
 
--- The program takes no line that stops a disk, so the one run is the run without halts.
-pub is_one_run : (script : Script) (run : RunRecord) → IsOfStage taken_stage script
-    → IsRecordOf script run → IsOneRun script run
-is_one_run script run forms recorded =
+-- The record is that of the run with some halts, which is the one run.
+pub is_one_run : (script : Script) (run : RunRecord) → IsRecordOf script run → IsOneRun script run
+is_one_run script run is =
     record {
       events =
-          ap (λ (t : List Event). reverse t) is.trace ∙ reverse-reverse made.running.trace
-          ∙ ap (λ (st : Standing). st.running.trace) same;
-      marks = is.marks ∙ ap (λ (st : Standing). st.running.marks) same;
+          ap (λ (t : List Event). reverse t) is.is_run.trace ∙ reverse-reverse made.running.trace
+          ∙ ap (λ (st : Standing). st.running.trace) is.one;
+      marks = is.is_run.marks ∙ ap (λ (st : Standing). st.running.marks) is.one;
     }
   where
     made : Standing
-    made = run_with by_pasts script []
-
-    same : made ≡ halted_run script by_stops
-    same = sym (no_stops_no_halts by_pasts script forms)
-
-    is : IsRunRecord (after_all script []) run
-    is = record_without_stops script run forms recorded
+    made = run_with by_pasts script is.halts
 
 -- the events of the record are those of a run
 is_whole : (script : Script) (run : RunRecord) → IsOneRun script run → HasOneRun script → IsWhole (reverse run.trace)
@@ -77,6 +65,6 @@ has_no_stop script run event fault text is one stopless none told =
     (sym (ap (λ (t : List Event). stop_at t event) (sym is.events) ∙ refused)) (refl, told)
 
 -- of a script that was read the headline holds
-pub read_has_one_run : (bytes : List ℕ) (script : Script) → script_of bytes ≡ Ok script → HasOneRun script
+pub read_has_one_run : (bytes : List ℕ) (script : Script) → read_script bytes ≡ Ok script → HasOneRun script
 read_has_one_run bytes script is =
-    subst (λ (read : Result Script ScriptFault). IfOk read HasOneRun) is (headline_holds taken_lines bytes)
+    subst (λ (read : Result Script ScriptFault). IfOk read HasOneRun) is (headline_holds bytes)

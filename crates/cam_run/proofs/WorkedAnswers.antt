@@ -10,25 +10,23 @@ use Rattle.cam_words.specs.declared.fault.ScriptFault.TheVariants.{Bad}
 use Rattle.cam_words.specs.declared.cause.Cause.TheVariants as causes
 use Rattle.cam_script.specs.declared.Step.{Step}
 use Rattle.cam_script.specs.declared.Act.TheVariants as acts
-use Rattle.cam_script.specs.Built.{Built}
 use Rattle.cam_script.specs.Grammar.{read_script}
-use Rattle.cam_script.proofs.Read.{read_by}
+use Rattle.cam_script.proofs.Read.{read}
 use Rattle.cam_run.specs.Texts.{refused_text}
 use Rattle.cam_run.specs.declared.question.Question.TheVariants.{Report}
-use Rattle.cam_run.specs.Taken.{taken_lines}
 use Rattle.cam_run.specs.Told.{script_report}
-use Rattle.cam_run.specs.Answer.{IsOfScript, script_of}
-use Rattle.cam_run.specs.Worked.{open_call, open_call_report, refused_call, refused_call_report, repeated_letter, repeated_letter_report, unknown_line, unknown_line_text, AreWorked}
+use Rattle.cam_run.specs.Answer.{IsOfScript}
+use Rattle.cam_run.specs.Worked.{open_call, open_call_report, refused_call, refused_call_report, repeated_letter, repeated_letter_report, stopped_commit, stopped_commit_report, unknown_line, unknown_line_text, AreWorked}
 
 -- the grammar with its definitions opened
-opened : (built : Built) (bytes : List ℕ) → read_script built bytes ≡ read_by built bytes
-unfolding read_by
-opened built bytes = refl
+opened : (bytes : List ℕ) → read_script bytes ≡ read bytes
+unfolding read
+opened bytes = refl
 
 -- the answer to an input, by what is read of it
-answers : (input : List ℕ) (read : Result Script ScriptFault) (status : ℕ) (text : List ℕ) → read_by taken_lines input ≡ read → IsOfScript Report read status text → IsOfScript Report (script_of input) status text
-answers input read status text spelled answer =
-    subst (λ r. IsOfScript Report r status text) (sym (opened taken_lines input ∙ spelled)) answer
+answers : (input : List ℕ) (is : Result Script ScriptFault) (status : ℕ) (text : List ℕ) → read input ≡ is → IsOfScript Report is status text → IsOfScript Report (read_script input) status text
+answers input is status text spelled answer =
+    subst (λ r. IsOfScript Report r status text) (sym (opened input ∙ spelled)) answer
 
 -- one node and the register x, which holds this number
 abbrev script : ℕ → List Step → Script
@@ -66,32 +64,64 @@ repeated_steps =
     ∷ record { line = 11; act = acts.Deliver 5 }
     ∷ []
 
-open_spelled : read_by taken_lines open_call ≡ Ok (script 0 open_steps)
-unfolding read_by
+open_spelled : read open_call ≡ Ok (script 0 open_steps)
+unfolding read
 open_spelled = refl
 
 open_reported : script_report (script 0 open_steps) ≡ open_call_report
 unfolding digits
 open_reported = refl
 
-refused_spelled : read_by taken_lines refused_call ≡ Ok (script 0 refused_steps)
-unfolding read_by
+refused_spelled : read refused_call ≡ Ok (script 0 refused_steps)
+unfolding read
 refused_spelled = refl
 
 refused_reported : script_report (script 0 refused_steps) ≡ refused_call_report
 unfolding digits
 refused_reported = refl
 
-repeated_spelled : read_by taken_lines repeated_letter ≡ Ok (script 7 repeated_steps)
-unfolding read_by
+repeated_spelled : read repeated_letter ≡ Ok (script 7 repeated_steps)
+unfolding read
 repeated_spelled = refl
 
 repeated_reported : script_report (script 7 repeated_steps) ≡ repeated_letter_report
 unfolding digits
 repeated_reported = refl
 
-unknown_read : read_by taken_lines unknown_line ≡ Err (Bad 3 1 causes.UnknownWord)
-unfolding read_by
+-- two nodes, and the register x at the second
+abbrev stopped_script : Script
+stopped_script =
+    record {
+      nodes = 2;
+      objects = record { node = 2; start = Register (pos 0) } ∷ [];
+      labels = codes "x" ∷ [];
+      bodies = [];
+      steps = record { line = 3; act = acts.Begin 1 }
+          ∷ record { line = 4; act = acts.Call 0 0 (ops.Write (pos 5)) }
+          ∷ record { line = 5; act = acts.Drain }
+          ∷ record { line = 6; act = acts.Commit 0 (pos 0) }
+          ∷ record { line = 7; act = acts.Deliver 3 }
+          ∷ record { line = 8; act = acts.Deliver 4 }
+          ∷ record { line = 9; act = acts.Deliver 5 }
+          ∷ record { line = 10; act = acts.Deliver 6 }
+          ∷ record { line = 11; act = acts.Stop 1 3 }
+          ∷ record { line = 12; act = acts.Deliver 7 }
+          ∷ record { line = 13; act = acts.Restart 1 }
+          ∷ record { line = 14; act = acts.Query 2 0 }
+          ∷ record { line = 15; act = acts.Drain }
+          ∷ [];
+    }
+
+stopped_spelled : read stopped_commit ≡ Ok stopped_script
+unfolding read
+stopped_spelled = refl
+
+stopped_reported : script_report stopped_script ≡ stopped_commit_report
+unfolding digits
+stopped_reported = refl
+
+unknown_read : read unknown_line ≡ Err (Bad 3 1 causes.UnknownWord)
+unfolding read
 unknown_read = refl
 
 unknown_told : refused_text 3 1 3 ≡ unknown_line_text
@@ -104,5 +134,6 @@ are_worked =
       open_call_is_shown = answers open_call (Ok (script 0 open_steps)) 0 open_call_report open_spelled (refl, sym open_reported);
       refused_call_is_marked = answers refused_call (Ok (script 0 refused_steps)) 0 refused_call_report refused_spelled (refl, sym refused_reported);
       repeated_letter_is_performed_once = answers repeated_letter (Ok (script 7 repeated_steps)) 0 repeated_letter_report repeated_spelled (refl, sym repeated_reported);
+      stopped_commit_is_taken = answers stopped_commit (Ok stopped_script) 0 stopped_commit_report stopped_spelled (refl, sym stopped_reported);
       unknown_line_is_refused = answers unknown_line (Err (Bad 3 1 causes.UnknownWord)) 3 unknown_line_text unknown_read (refl, sym unknown_told);
     }

@@ -16,14 +16,9 @@ use Rattle.cam_words.specs.Causes.{cause_number}
 use Rattle.cam_script.specs.Grammar.{read_script}
 use Rattle.cam_run.specs.declared.question.Question.{Question}
 use Rattle.cam_run.specs.Texts.{usage_text, read_fault_text, refused_text}
-use Rattle.cam_run.specs.Taken.{taken_lines}
 use Rattle.cam_run.specs.Commands.{Asked, IsForm, IsFormFor, asked_by, bytes_for, nothing, of_image, of_run, reads}
 use Rattle.cam_run.specs.Image.{IsOfImage, image_status, made}
 use Rattle.cam_run.specs.Told.{IsTold, told_status}
-
--- the script that bytes spell, or its first fault
-abbrev pub script_of : List ℕ → Result Script ScriptFault
-script_of bytes = read_script taken_lines bytes
 
 -- the answer to a script that is refused
 abbrev pub IsRefused : ScriptFault → ℕ → List ℕ → Type 0
@@ -43,7 +38,7 @@ IsOfFault status text = (status ≡ 4) × (text ≡ read_fault_text)
 -- the answer to a question by the script that a source gives, which it may have failed to give
 abbrev pub IsOfInput : Question → Type 0 → List ℕ → ℕ → List ℕ → Type 0
 IsOfInput question HasFailed input status text =
-    (HasFailed × IsOfFault status text) ⊎ IsOfScript question (script_of input) status text
+    (HasFailed × IsOfFault status text) ⊎ IsOfScript question (read_script input) status text
 
 -- the answer to words that are no form
 abbrev pub IsOfWords : ℕ → List ℕ → Type 0
@@ -53,7 +48,7 @@ IsOfWords status text = (status ≡ 2) × (text ≡ usage_text)
 abbrev pub IsAsked : Asked → Command → Type 0 → List ℕ → ℕ → List ℕ → Type 0
 IsAsked (of_run question) command HasFailed input status text =
     ((reads command ≡ true) × HasFailed × IsOfFault status text)
-    ⊎ IsOfScript question (script_of (bytes_for command input)) status text
+    ⊎ IsOfScript question (read_script (bytes_for command input)) status text
 IsAsked (of_image making) command HasFailed input status text =
     (HasFailed × IsOfFault status text) ⊎ IsOfImage (made making input) status text
 IsAsked nothing command HasFailed input status text = IsOfWords status text
@@ -83,7 +78,7 @@ status_of question (Err (Bad line column cause)) = 3
 status_of question (Err NoMemory) = 7
 
 abbrev pub asked_status : Asked → Command → List ℕ → ℕ
-asked_status (of_run question) command input = status_of question (script_of (bytes_for command input))
+asked_status (of_run question) command input = status_of question (read_script (bytes_for command input))
 asked_status (of_image making) command input = image_status (made making input)
 asked_status nothing command input = 2
 

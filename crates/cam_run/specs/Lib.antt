@@ -1,6 +1,5 @@
 pub mod Status
 pub mod Texts
-pub mod Taken
 pub mod Told
 pub mod Commands
 pub mod Image

@@ -1,7 +1,8 @@
 -- Worked answers, from the bytes of a script to the bytes of its text.
 use Rattle.std.specs.Prelude.{ℕ, List, [], ◌∷◌, ◌++◌, codes, flat_map}
+use Rattle.cam_script.specs.Grammar.{read_script}
 use Rattle.cam_run.specs.declared.question.Question.TheVariants.{Report}
-use Rattle.cam_run.specs.Answer.{IsOfScript, script_of}
+use Rattle.cam_run.specs.Answer.{IsOfScript}
 
 -- lines, each with its LF
 abbrev pub text : List (List ℕ) → List ℕ
@@ -48,6 +49,22 @@ repeated_letter_report =
     (codes "action 1.1.1 open" ∷ codes "  created" ∷ codes "  called 1 x swap 5" ∷ codes "  got 1 value 7" ∷ codes "  called 2 x read"
     ∷ codes "  got 2 value 5" ∷ codes "value x 7" ∷ [])
 
+-- The disk of A's node stops behind three calls, in the append of A's commit. Its next restart finds
+-- the commit in the log, and the other node learns of it by its query.
+abbrev pub stopped_commit : List ℕ
+stopped_commit =
+    text
+    (codes "nodes 2" ∷ codes "object x 2 register 0" ∷ codes "begin A 1" ∷ codes "call A x write 5"
+    ∷ codes "drain" ∷ codes "commit A 0" ∷ codes "deliver 3" ∷ codes "deliver 4"
+    ∷ codes "deliver 5" ∷ codes "deliver 6" ∷ codes "stop 1 3" ∷ codes "deliver 7"
+    ∷ codes "restart 1" ∷ codes "query 2 A" ∷ codes "drain" ∷ [])
+
+abbrev pub stopped_commit_report : List ℕ
+stopped_commit_report =
+    text
+    (codes "action 1.1.1 committed" ∷ codes "  created" ∷ codes "  called 1 x write 5"
+    ∷ codes "  got 1 ok" ∷ codes "  commit 0" ∷ codes "halted 12 1 taken" ∷ codes "value x 5" ∷ [])
+
 -- The third line begins with no known word.
 abbrev pub unknown_line : List ℕ
 unknown_line = text (codes "nodes 1" ∷ [] ∷ codes "foo" ∷ [])
@@ -57,7 +74,8 @@ unknown_line_text = text (codes "refused 3 1 S3" ∷ [])
 
 -- The answers are these statuses and texts.
 pub record AreWorked : Type 0 where
-  pub open_call_is_shown : IsOfScript Report (script_of open_call) 0 open_call_report
-  pub refused_call_is_marked : IsOfScript Report (script_of refused_call) 0 refused_call_report
-  pub repeated_letter_is_performed_once : IsOfScript Report (script_of repeated_letter) 0 repeated_letter_report
-  pub unknown_line_is_refused : IsOfScript Report (script_of unknown_line) 3 unknown_line_text
+  pub open_call_is_shown : IsOfScript Report (read_script open_call) 0 open_call_report
+  pub refused_call_is_marked : IsOfScript Report (read_script refused_call) 0 refused_call_report
+  pub repeated_letter_is_performed_once : IsOfScript Report (read_script repeated_letter) 0 repeated_letter_report
+  pub stopped_commit_is_taken : IsOfScript Report (read_script stopped_commit) 0 stopped_commit_report
+  pub unknown_line_is_refused : IsOfScript Report (read_script unknown_line) 3 unknown_line_text

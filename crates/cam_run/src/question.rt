@@ -1,11 +1,9 @@
 //! What a command asks of the run of a script, and the answer.
 ghost use Rattle.std.specs.Prelude.{◌≡◌, IfOk};
 ghost use Rattle.cam_script.specs.Law.{IsScript};
-ghost use Rattle.cam_script.specs.OfStage.{IsOfStage};
 ghost use Rattle.cam_headline.specs.Headline.{HasOneRun};
 ghost use Rattle.cam_run.specs.declared.question.Question.TheVariants as questions;
 ghost use Rattle.cam_run.specs.Status.{number};
-ghost use Rattle.cam_run.specs.Taken.{taken_stage};
 ghost use Rattle.cam_run.specs.Told.{IsOneRun, IsTold, IsTelling};
 
 use crate::answer::Answer;
@@ -40,7 +38,6 @@ impl Question {
     /// The answer, by the run of the script.
     pub(crate) fn answer(&self, alloc: Global, script: &Script) -> Result<Answer, NoMemory>
         requires script { IsScript script.now }
-        requires forms { IsOfStage taken_stage script.now }
         requires run { HasOneRun script.now }
         ensures told { IfOk result
             (λ a. IsTold self.now script.now (number a.status) a.text.items) }

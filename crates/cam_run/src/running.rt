@@ -1,8 +1,6 @@
 //! The run of a script, over nodes whose disks are in memory.
 ghost use Rattle.std.specs.Prelude.{◌≡◌, IfOk, length};
 ghost use Rattle.cam_script.specs.Law.{IsScript};
-ghost use Rattle.cam_script.specs.OfStage.{IsOfStage};
-ghost use Rattle.cam_run.specs.Taken.{taken_stage};
 ghost use Rattle.cam_run.specs.Told.{IsOneRun};
 
 use cam_base::NoMemory;
@@ -16,7 +14,6 @@ use std::alloc::Global;
 /// Runs the script.
 pub fn run(alloc: Global, script: &Script) -> Result<RunRecord, NoMemory>
     requires script { IsScript script.now }
-    requires forms { IsOfStage taken_stage script.now }
     ensures { IfOk result (IsOneRun script.now) }
 {
     let disks = empty_disks(alloc, script.nodes)?;

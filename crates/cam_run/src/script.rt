@@ -3,18 +3,19 @@ ghost use Rattle.std.specs.Prelude.{◌≡◌, ◌≤◌, ◌⊎◌, [], IfOk};
 ghost use Rattle.cam_base.specs.Causes.{Rose};
 ghost use Rattle.cam_base.specs.Told.{IfTold};
 ghost use Rattle.cam_gen.specs.Script.{script_of as generated};
+ghost use Rattle.cam_script.specs.Grammar.{read_script};
 ghost use Rattle.cam_run.specs.declared.status.Status.TheVariants as statuses;
 ghost use Rattle.cam_run.specs.declared.question.Question.TheVariants as questions;
 ghost use Rattle.cam_run.specs.Status.{number};
 ghost use Rattle.cam_run.specs.Told.{IsTelling};
-ghost use Rattle.cam_run.specs.Answer.{IsOfInput, IsOfScript, IsRefused, script_of};
+ghost use Rattle.cam_run.specs.Answer.{IsOfInput, IsOfScript, IsRefused};
 
 use crate::answer::{Answer, read_fault, refused_line};
 use crate::question::Question;
 use crate::status::Status;
 use cam_base::NoMemory;
 use cam_io::{ReadFault, Source, read_all};
-use cam_script::{Cause, MOST_BYTES, ScriptFault, Stage, parse};
+use cam_script::{Cause, MOST_BYTES, ScriptFault, parse};
 use std::alloc::Global;
 
 /// The answer by the script that the source gives.
@@ -53,7 +54,7 @@ pub(crate) fn of_source<S: Source>(
 /// The summary of the script of `size` steps that is made from the seed.
 pub(crate) fn of_seed(alloc: Global, seed: u64, size: u32) -> Result<Answer, NoMemory>
     ensures answer { IfOk result
-        (λ a. IsOfScript (questions.Summary size) (script_of (generated seed size))
+        (λ a. IsOfScript (questions.Summary size) (read_script (generated seed size))
         (number a.status) a.text.items) }
     ensures statuses { IfOk result
         (λ a. IsTelling a.status ⊎ (a.status ≡ statuses.Refused)) }
@@ -66,12 +67,12 @@ pub(crate) fn of_seed(alloc: Global, seed: u64, size: u32) -> Result<Answer, NoM
 /// The answer by the script that the bytes spell, or its first fault.
 fn of_bytes(alloc: Global, question: &Question, bytes: &[u8]) -> Result<Answer, NoMemory>
     ensures answer { IfOk result
-        (λ a. IsOfScript question.now (script_of bytes.now)
+        (λ a. IsOfScript question.now (read_script bytes.now)
         (number a.status) a.text.items) }
     ensures statuses { IfOk result
         (λ a. IsTelling a.status ⊎ (a.status ≡ statuses.Refused)) }
 {
-    match parse(alloc, Stage::WithoutStops, bytes) {
+    match parse(alloc, bytes) {
         Ok(script) => question.answer(alloc, &script),
         Err(fault) => refusal(alloc, fault),
     }

@@ -6,11 +6,12 @@ ghost use Rattle.cam_args.specs.declared.Command.{Command as Commands};
 ghost use Rattle.cam_args.specs.declared.Command.TheVariants.{Gen};
 ghost use Rattle.cam_headline.specs.Headline.{HasOneRun};
 ghost use Rattle.cam_image.specs.Laws.{UpgradeIsMigration, UpgradeIsOnce};
+ghost use Rattle.cam_script.specs.Grammar.{read_script};
 ghost use Rattle.cam_run.specs.declared.status.Status.TheVariants as statuses;
 ghost use Rattle.cam_run.specs.Status.{number};
 ghost use Rattle.cam_run.specs.Told.{IsTelling};
 ghost use Rattle.cam_run.specs.Commands.{IsBuilt, IsForm, IsFormFor, Reads, reads};
-ghost use Rattle.cam_run.specs.Answer.{IsAnswer, IsOfCommand, IsWritten, command_status, script_of};
+ghost use Rattle.cam_run.specs.Answer.{IsAnswer, IsOfCommand, IsWritten, command_status};
 
 use crate::answer::{Answer, usage};
 use crate::image::{Making, of_image};
@@ -64,7 +65,7 @@ pub fn camelot<S: Source, K: Sink>(
     // Of every script that is accepted: the run that is told of is the one run of the step rules; each action in it, orphan or not, has
     // its view in a legal execution in which it is no orphan; committed top actions replay serially in commit order; and no two nodes
     // hold different outcomes.
-    ensures headline { (input : List ℕ) → IfOk (script_of input) HasOneRun }
+    ensures headline { (input : List ℕ) → IfOk (read_script input) HasOneRun }
 
     // Of every image that is upgraded: what is written is the migrated log, of which just that is recovered which was recovered of the
     // image; and upgraded again it is left as it is.

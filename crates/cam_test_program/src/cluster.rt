@@ -9,7 +9,7 @@ use cam_base::NoMemory;
 use cam_cluster::{RunFault, Servers, run_script};
 use cam_disk::MemoryDisk;
 use cam_event::RunRecord;
-use cam_script::{Script, Stage, parse};
+use cam_script::{Script, parse};
 use cam_type::{CounterServer, QueueServer, RegisterServer};
 use std::alloc::Global;
 use std::fmt::Write;
@@ -130,7 +130,7 @@ fn each_line_has_its_event_or_its_mark(rt: HostRuntime) -> Result<(), Fail> {
     let alloc = rt.alloc();
     for table in [CONFLICT, TWO_NODES, REPEATS] {
         let text = script_of(alloc, table)?;
-        let script = parse(alloc, Stage::WithoutStops, text.as_bytes())?;
+        let script = parse(alloc, text.as_bytes())?;
         let record = run(alloc, &script)?;
         let mut events = 0usize;
         let mut marks = 0usize;
@@ -158,11 +158,7 @@ fn each_line_has_its_event_or_its_mark(rt: HostRuntime) -> Result<(), Fail> {
 #[test]
 fn with_ample_memory_a_script_runs(rt: HostRuntime) -> Result<(), Fail> {
     let alloc = rt.alloc();
-    let script = parse(
-        alloc,
-        Stage::WithoutStops,
-        b"nodes 8\nbegin A 8\ndeliver 1\nrestart 3\n",
-    )?;
+    let script = parse(alloc, b"nodes 8\nbegin A 8\ndeliver 1\nrestart 3\n")?;
     let record = run(alloc, &script)?;
     let told = event_text(alloc, &script.labels, &record.trace, 0)?;
     assert_eq!(rt; told.as_str(), "node 8 got 0 Plain, create 8.1.1");
@@ -182,7 +178,7 @@ fn a_run_goes_on_through_a_halt(rt: HostRuntime) -> Result<(), Fail> {
         let text = format!(in alloc;
             "nodes 1\nbegin A 1\ncommit A 0\nstop 1 {calls}\ndrain\nbegin B 1\nrestart 1\nbegin C 1\n"
         )?;
-        let script = parse(alloc, Stage::Everything, text.as_bytes())?;
+        let script = parse(alloc, text.as_bytes())?;
         let record = run(alloc, &script)?;
         assert_eq!(rt; record.trace.len(), events, "with {calls} calls");
         let told = event_text(alloc, &script.labels, &record.trace, 3)?;
