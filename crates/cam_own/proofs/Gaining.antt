@@ -1,12 +1,12 @@
 -- The nodes on which an action depends, deed by deed.
-use Rattle.std.proofs.Common.{◌≡◌, ◌≤◌, ℕ, max, eqb, Bool, true, false, ◌&&◌, if◌then◌else◌, cond, List, [], ◌∷◌, ◌++◌, map, length, Option, Some, unwrap_or, refl, sym, ap, ◌∙◌, arith}
+use Rattle.std.proofs.Common.{◌≡◌, ◌≤◌, ℕ, max, eqb, Bool, true, false, ◌&&◌, if◌then◌else◌, cond, List, [], ◌∷◌, ◌++◌, length, Some, refl, sym, ap, ◌∙◌, arith}
 use Rattle.std.specs.Prelude.{replicate}
 use Rattle.std.specs.HashMap.{HashMap, get}
 use Rattle.std.proofs.lemmas.List.{map-append}
 use Rattle.cam_names.specs.declared.name.Name.{Name}
-use Rattle.cam_names.specs.Names.{name_eq, is_top, is_child, parent, home_node}
+use Rattle.cam_names.specs.Names.{name_eq, is_top, parent, home_node}
 use Rattle.cam_names.specs.Dependencies.{greatest_count, as_counts, greater_counts}
-use Rattle.cam_names.proofs.Names.{name_eq_same, name_eq_sym}
+use Rattle.cam_names.proofs.Names.{name_eq_same}
 use Rattle.cam_names.proofs.Children.{is_some_name, child_of}
 use Rattle.cam_type.specs.declared.ObjectDecl.{ObjectDecl}
 use Rattle.cam_event.specs.declared.Deed.{Deed}

@@ -1,5 +1,5 @@
 -- The open children of each action, as they are kept.
-use Rattle.std.specs.Prelude.{◌≡◌, Bool, false, not, if◌then◌else◌, List, [], ◌∷◌, ◌++◌, filter, Some, unwrap_or}
+use Rattle.std.specs.Prelude.{◌≡◌, Bool, false, not, if◌then◌else◌, List, [], ◌∷◌, ◌++◌, filter, unwrap_or}
 use Rattle.std.specs.HashMap.{HashMap, get}
 use Rattle.std.specs.Option.{option_map_or}
 use Rattle.cam_names.specs.declared.name.Name.{Name}

@@ -1,5 +1,5 @@
 -- On which nodes each action depends, as it is kept: each at count 1.
-use Rattle.std.specs.Prelude.{◌≡◌, ℕ, ◌≤◌, if◌then◌else◌, List, [], ◌∷◌, map, length, replicate, unwrap_or}
+use Rattle.std.specs.Prelude.{◌≡◌, ℕ, ◌≤◌, if◌then◌else◌, List, map, length, replicate, unwrap_or}
 use Rattle.std.specs.HashMap.{HashMap, get}
 use Rattle.cam_names.specs.declared.name.Name.{Name}
 use Rattle.cam_names.specs.Names.{name_eq}

@@ -1,5 +1,5 @@
 -- The names of whose commit, or of whose abort, a site was informed, in order.
-use Rattle.std.specs.Prelude.{◌≡◌, ℕ, eqb, Bool, true, false, if◌then◌else◌, List, [], ◌∷◌, ◌++◌}
+use Rattle.std.specs.Prelude.{◌≡◌, ℕ, eqb, true, false, if◌then◌else◌, List, [], ◌∷◌, ◌++◌}
 use Rattle.cam_names.specs.declared.name.Name.{Name}
 use Rattle.cam_event.specs.declared.Deed.{Deed}
 use Rattle.cam_event.specs.declared.Deed.TheVariants.{Inform}

@@ -1,14 +1,11 @@
 -- The votes yes for each family that is preparing, as they are kept.
-use Rattle.std.specs.Prelude.{◌≡◌, ℕ, Bool, false, if◌then◌else◌, List, [], ◌∷◌, ◌++◌, Option, Some, None, option_map, is_some, unwrap_or}
+use Rattle.std.specs.Prelude.{◌≡◌, ℕ, if◌then◌else◌, List, [], ◌∷◌, ◌++◌, Option, Some, option_map, is_some, unwrap_or}
 use Rattle.std.specs.HashMap.{HashMap, get}
-use Rattle.std.specs.List.{list_any}
 use Rattle.cam_names.specs.declared.name.Name.{Name}
 use Rattle.cam_names.specs.Names.{name_eq}
 use Rattle.cam_names.specs.Dependencies.{has_pair}
-use Rattle.cam_event.specs.declared.Body.{Body}
 use Rattle.cam_event.specs.declared.Note.{Note}
 use Rattle.cam_event.specs.declared.Note.TheVariants as notes
-use Rattle.cam_event.specs.History.{is_crash}
 use Rattle.cam_event.specs.Inputs.{Mail}
 use Rattle.cam_event.specs.Sights.{Entry, votes, yes_for}
 

@@ -1,5 +1,5 @@
 -- What a node goes by where it takes no action for an orphan, and what the rule of a request wants.
-use Rattle.std.specs.Prelude.{ℕ, ◌<◌, List, length, Option, None, option_map}
+use Rattle.std.specs.Prelude.{◌<◌, List, length, Option, None, option_map}
 use Rattle.cam_names.specs.declared.name.Name.{Name}
 use Rattle.cam_type.specs.declared.ObjectDecl.{ObjectDecl}
 use Rattle.cam_event.specs.declared.Want.{Want}

@@ -1,4 +1,4 @@
-use Rattle.std.proofs.Common.{◌≡◌, sym, ap, ◌∙◌}
+use Rattle.std.proofs.Common.{sym, ap, ◌∙◌}
 use Rattle.cam_own.specs.declared.actions.Action.{Action}
 use Rattle.cam_own.proofs.Asking.{or_first, or_second}
 use Rattle.cam_own.proofs.own.Own.ended.Goals as goal
