@@ -1,6 +1,6 @@
 -- The answer to words, by the command of which they are the form.
 use Rattle.std.proofs.Common.{◌≡◌, ◌≤◌, ◌↔◌, inl, inr, ℕ, Bool, true, false, if◌then◌else◌, List, Option, Some, None, Result, Ok, Err, IfOk, refl, sym, ap, ◌∙◌, subst, is_some}
-use Rattle.std.specs.Prelude.{IsOk}
+use Rattle.std.specs.Prelude.{IsOk, is_ok}
 use mathlib.Core.Bool.{true≢false}
 use Rattle.cam_base.specs.Told.{IfTold}
 use Rattle.cam_know.specs.declared.Reason.{Reason}
@@ -8,6 +8,7 @@ use Rattle.cam_names.specs.declared.name.Name.{Name}
 use Rattle.cam_args.specs.declared.Command.{Command}
 use Rattle.cam_args.specs.declared.Command.TheVariants.{Gen}
 use Rattle.cam_args.specs.declared.ArgsFault.{ArgsFault}
+use Rattle.cam_args.specs.declared.ArgsFault.TheVariants.{Usage}
 use Rattle.cam_args.specs.Forms.{IsForm as IsFormOf, Finds}
 use Rattle.cam_script.specs.declared.Script.{Script}
 use Rattle.cam_script.specs.Grammar.{read_script}
@@ -162,3 +163,9 @@ pub generated_words : {E : Type 0} (words : List (List ℕ)) (command : Command)
     → (seed size : ℕ) → IsFormFor words (Gen seed size) → IfOk r (λ a. number a.status ≡ 0)
 generated_words words command r finds done seed size form =
     done seed size (same_command words command (Gen seed size) finds form) form.form.is.1.1
+
+-- words that were refused are no command's form
+pub refused_words : (words : List (List ℕ)) (r : Result Command ArgsFault) (command : Command) → r ≡ Err Usage → Finds words r → IsFormOf words command → ⊥
+refused_words words r command is finds form =
+    let found : Finds words (Err Usage) = subst (λ (x : Result Command ArgsFault). Finds words x) is finds in
+    true≢false (sym (ap (λ (x : Result Command ArgsFault). is_ok x) (found command form)))
