@@ -6,11 +6,13 @@ use Rattle.std.proofs.lemmas.List.{append-nil, append_assoc}
 use Rattle.cam_event.specs.declared.Event.{Event}
 use Rattle.cam_event.specs.declared.Mark.{Mark}
 use Rattle.cam_event.specs.declared.Mark.TheVariants as marks
-use Rattle.cam_runs.specs.Halts.{Halt, Input, Restart, Stop, Turn, accepted, halt_at}
+use Rattle.cam_runs.specs.Halts.{Halt, Input, Restart, Stop, Turn, accepted, given, halt_at}
 use Rattle.cam_runs.specs.Running.{has_number}
 use Rattle.cam_runs.specs.Standing.{Standing}
+use Rattle.cam_runs.specs.Stops.{Agrees, AgreesWithStops}
 use Rattle.cam_cluster.specs.FoundHalts.{AreLostSoFar, IsLostSoFar}
 use Rattle.cam_cluster.specs.StoppedDisks.{halted_nodes}
+use Rattle.cam_cluster.specs.Stopping.{AreAsStopped}
 use Rattle.cam_cluster.proofs.LastInputs.{accepted_more}
 
 -- of marks one after another
@@ -79,6 +81,12 @@ pub record Extends (halts : List Halt) (old new : Standing) : Type 0 where
   pub says : halted_nodes left ≡ nodes_in halts more old.turns
   pub lost :
       NoneTaken halts (accepted old.turns) → AreLostSoFar old halts → AreLostSoFar new halts
+  -- where the nodes that are halted are by the stops, they were, and halts that agree with the stops
+  -- go on agreeing
+  pub stopped : AreAsStopped new.halted new.turns → AreAsStopped old.halted old.turns
+  pub agrees :
+      NoneTaken halts (accepted old.turns) → AreAsStopped new.halted new.turns
+      → Agrees (given halts) old → Agrees (given halts) new
 
 -- the same nodes are halted behind the same turns
 lost_as : (old new : Standing) (halts : List Halt) (s : ℕ) → new.turns ≡ old.turns
@@ -102,6 +110,11 @@ same_extends halts old new trace marked turns halted = record {
   turns = turns;
   says = refl;
   lost = λ none lost s is. lost_as old new halts s turns halted (lost s) is;
+  stopped = λ so.
+      subst (λ (z : List ℕ × List Turn). AreAsStopped z.0 z.1) (λ i. (halted i, turns i)) so;
+  agrees = λ none so agrees.
+      subst (λ (z : List ℕ × List Turn). AgreesWithStops (given halts) z.1 (has_number z.0))
+      (sym (λ i. (halted i, turns i))) agrees;
 }
 
 pub extends_on : (halts : List Halt) (a b d : Standing) → Extends halts a b → Extends halts b d
@@ -127,6 +140,9 @@ extends_on halts a b d one two = record {
       (two.says ∙ ap (nodes_in halts two.more) one.turns)
       ∙ sym (in_append halts two.more one.more a.turns);
   lost = λ none lost. two.lost (none_later none) (one.lost none lost);
+  stopped = λ so. one.stopped (two.stopped so);
+  agrees = λ none so agrees.
+      two.agrees (none_later none) so (one.agrees none (two.stopped so) agrees);
 }
   where
     none_later : NoneTaken halts (accepted a.turns) → NoneTaken halts (accepted b.turns)

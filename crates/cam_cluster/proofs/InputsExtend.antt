@@ -26,10 +26,13 @@ use Rattle.cam_runs.specs.Requests.{asked_in, home_sight}
 use Rattle.cam_runs.specs.Running.{has_number, letters, waiting_weight}
 use Rattle.cam_runs.specs.Standing.{Setting, Standing, addressee, after_input, deliver}
 use Rattle.cam_runs.specs.Standing.{deliver_waiting, deliveries, drain, made, put, waiting}
+use Rattle.cam_runs.specs.Stops.{Agrees}
 use Rattle.cam_histories.proofs.NextLetter.{waits_there}
 use Rattle.cam_script.specs.declared.Statement.{Statement}
 use Rattle.cam_cluster.specs.FoundHalts.{AreLostSoFar, IsLostSoFar}
-use Rattle.cam_cluster.proofs.Extends.{Extends, extends_on, halted_node, same_extends}
+use Rattle.cam_cluster.specs.Stopping.{AreAsStopped}
+use Rattle.cam_cluster.proofs.Extends.{Extends, NoneTaken, extends_on, halted_node, same_extends}
+use Rattle.cam_cluster.proofs.InputAgrees.{put_agrees, was_stopped}
 
 -- an input,
 module _ (halts : List Halt) (line : ℕ) (again : Bool) (st : Standing) (s : ℕ) (e : Event)
@@ -62,9 +65,14 @@ module _ (halts : List Halt) (line : ℕ) (again : Bool) (st : Standing) (s : �
         other_lost m away.1 (lost m (sym was ∙ is))
   ]
 
+  abbrev after : Option Bool → Standing
+  after o = after_input line again st s e w o
+
   after_extends : (o : Option Bool) → o ≡ halt_at halts (accepted st.turns)
-      → Extends halts st (after_input line again st s e w o)
-  after_extends None is = record {
+      → (NoneTaken halts (accepted st.turns) → AreAsStopped (after o).halted (after o).turns
+      → Agrees (given halts) st → Agrees (given halts) (after o))
+      → Extends halts st (after o)
+  after_extends None is agrees = record {
     events = e ∷ [];
     trace = refl;
     left = [];
@@ -74,8 +82,10 @@ module _ (halts : List Halt) (line : ℕ) (again : Bool) (st : Standing) (s : �
     turns = refl;
     says = ap (λ (o : Option Bool). halted_node o s) is;
     lost = λ none lost. still_lost lost;
+    stopped = was_stopped line again st s e w awake None;
+    agrees = agrees;
   }
-  after_extends (Some true) is = record {
+  after_extends (Some true) is agrees = record {
     events = taken_of e ∷ [];
     trace = refl;
     left = marks.Halted line s true ∷ [];
@@ -85,8 +95,10 @@ module _ (halts : List Halt) (line : ℕ) (again : Bool) (st : Standing) (s : �
     turns = refl;
     says = ap (λ (o : Option Bool). halted_node o s) is;
     lost = λ none lost. absurd (none (accepted st.turns) (omega arith) (sym is));
+    stopped = was_stopped line again st s e w awake (Some true);
+    agrees = agrees;
   }
-  after_extends (Some false) is = record {
+  after_extends (Some false) is agrees = record {
     events = [];
     trace = refl;
     left = marks.Halted line s false ∷ [];
@@ -96,6 +108,8 @@ module _ (halts : List Halt) (line : ℕ) (again : Bool) (st : Standing) (s : �
     turns = refl;
     says = ap (λ (o : Option Bool). halted_node o s) is;
     lost = λ none lost. newly_lost (sym is) lost;
+    stopped = was_stopped line again st s e w awake (Some false);
+    agrees = agrees;
   }
 
 not_so : (b : Bool) → not b ≡ true → b ≡ false
@@ -114,6 +128,7 @@ module _ (c : Setting) (halts : List Halt) (known : c.halts ≡ given halts) whe
       after_extends halts c.line (c.restarted s) st s (c.reading.next t input) w awake
       (c.halts st.turns s w (c.restarted s))
       (ap (λ (h : Halting). h st.turns s w (c.restarted s)) known)
+      (put_agrees c halts known st input awake)
 
   -- letters that are handed over,
   pub deliver_extends : (st : Standing) (k : ℕ) (letter : LetterId)

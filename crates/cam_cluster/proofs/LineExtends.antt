@@ -71,6 +71,8 @@ module _ (c : Setting) (halts : List Halt) (known : c.halts ≡ given halts)
     turns = refl;
     says = refl;
     lost = λ none lost. lost;
+    stopped = λ so. so;
+    agrees = λ none so agrees. agrees;
   }
 
   led_leaves : (new : Standing) (binds : Option Name) → Extends halts st new
@@ -139,6 +141,8 @@ module _ (c : Setting) (halts : List Halt) (known : c.halts ≡ given halts)
         turns = refl;
         says = refl;
         lost = λ none lost. lost;
+        stopped = λ so. so;
+        agrees = λ none so agrees. agrees;
       }
       by false = deliver_extends c halts known st k l awake
 

@@ -43,7 +43,7 @@ none_of (h ∷ more) k lost is = elim (eqb_tells h.input k) [
       none_of more k lost.1 (sym older ∙ is)
 ]
 
-none_taken : (more halts : List Halt) (n : ℕ) → AllByRecursion (λ (h : Halt). h.input < n) halts
+pub none_taken : (more halts : List Halt) (n : ℕ) → AllByRecursion (λ (h : Halt). h.input < n) halts
     → AllByRecursion (λ (h : Halt). h.took ≡ false) more → NoneTaken (more ++ halts) n
 none_taken more halts n past lost k least is =
     none_of more k lost (sym (newest_say more halts n k past least) ∙ is)
