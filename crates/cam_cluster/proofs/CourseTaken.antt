@@ -105,7 +105,8 @@ taken_at_work step bodies old new might may at_work (Ok bad) alone none taken se
     same =
     let so = taken seen keeps.between next in record {
       from = seen;
-      is_from = from_itself step.act seen;
+      is_from =
+          from_itself old.works step.act seen (λ s is. subst IsTakenAlone is alone);
       led = so.0;
       workers = workers_on seen step so.0.more at_work none keeps.workers;
       fault = so.1;

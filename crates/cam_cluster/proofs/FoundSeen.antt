@@ -75,7 +75,7 @@ module _ (seen : Seen) (lines : LinesFields) (may : ℕ → Logged → Type 0)
         from.standing
     beyond = put_in.beyond
 
-    abbrev stands : IsFound s put_in.before put_in.event seen.standing from.standing
+    abbrev pub stands : IsFound s put_in.before put_in.event seen.standing from.standing
     stands = put_in.beyond.stands
 
     pub turns_same : from.standing.turns ≡ seen.standing.turns

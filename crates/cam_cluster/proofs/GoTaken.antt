@@ -91,7 +91,7 @@ module _ (line v : ℕ) (bodies : List (List Statement)) (old new : LinesFields)
     request_led : (done : Put)
         → HasGoneOn seen.script seen.standing
         (c (halts_from (accepted seen.standing.turns) (done ∷ []))) v (Some done) new may behind
-        → HasLedAtWork seen step new may behind None
+        → HasLedAtWork old seen step new may behind None
     request_led done gone = record {
       from = seen;
       is_from = refl;
@@ -122,7 +122,7 @@ module _ (line v : ℕ) (bodies : List (List Statement)) (old new : LinesFields)
 
     -- and where the action makes none.
     none_led : HasGoneOn seen.script seen.standing (c []) v None new may behind
-        → HasLedAtWork seen step new may behind None
+        → HasLedAtWork old seen step new may behind None
     none_led gone =
         let gone_so =
         gone.stands (none_said (next_of seen.script.bodies seen.standing gone.name) gone.name) in
@@ -141,7 +141,7 @@ module _ (line v : ℕ) (bodies : List (List Statement)) (old new : LinesFields)
 
     at_work : (result : Result (Option Put) LineFault)
         → IsLineOfGo line v bodies old might before new may behind result
-        → IsEndedAtWork seen step new may behind (none_told result)
+        → IsEndedAtWork old seen step new may behind (none_told result)
     at_work (Ok (Some done)) is =
         request_led done
         (is seen.script seen.standing

@@ -70,8 +70,8 @@ record GoesFrom (seen from : Seen) : Type 0 where
   pub none : seen.halts ≡ [] → from.halts ≡ []
 
 goes_from : (does : Act) (seen from : Seen) (lines : LinesFields) (may : ℕ → Logged → Type 0)
-    → KeepsBetween seen lines may → IsFrom does seen from → GoesFrom seen from
-goes_from does seen from lines may keeps is = by (from_is does seen from is)
+    → KeepsBetween seen lines may → IsFrom lines.works does seen from → GoesFrom seen from
+goes_from does seen from lines may keeps is = by (from_is lines.works does seen from is)
   where
     by : (from ≡ seen) ⊎ IsFoundBy does seen from → GoesFrom seen from
     by (inl same) =
@@ -152,7 +152,7 @@ module _ (script : Script) (many : ℕ) (step : Step) (old new : LinesFields)
   passes no_stop = step_is_no_stop script.steps many step no_stop at
 
   -- The line led on.
-  module _ (bad : Option WireFault) (led : HasLedAtWork seen step new may behind bad) where
+  module _ (bad : Option WireFault) (led : HasLedAtWork old seen step new may behind bad) where
     abbrev from : Seen
     from = led.from
 

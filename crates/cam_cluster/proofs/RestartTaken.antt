@@ -1,5 +1,5 @@
 -- `restart`, taken: it goes on from what was seen, or from the run in which the halt was taken.
-use Rattle.std.proofs.Common.{◌≡◌, inl, inr, ℕ, zero, suc, ◌<◌, ◌≤◌, List, [], ◌∷◌, None, true}
+use Rattle.std.proofs.Common.{◌≡◌, inl, inr, ℕ, zero, suc, ◌-◌, ◌<◌, ◌≤◌, List, [], ◌∷◌, None, true}
 use Rattle.std.proofs.Common.{Ok, Err, length, refl, sym, ◌∙◌, subst, arith}
 use Rattle.std.specs.Prelude.{IfSome, slice_get}
 use Rattle.cam_event.specs.Readings.{by_knowledge}
@@ -17,7 +17,7 @@ use Rattle.cam_cluster.specs.declared.workers.Workers.{Workers}
 use Rattle.cam_cluster.specs.declared.works.restart.Restart.TheVariants as ends
 use Rattle.cam_cluster.specs.Between.{AreHaltsOfLine, HasLedOn, KeepsBetween, after_step, seen_found}
 use Rattle.cam_cluster.specs.Courses.{IsAtWorkLine}
-use Rattle.cam_cluster.specs.Restarts.{IsFoundEnded, IsRestartLine}
+use Rattle.cam_cluster.specs.Restarts.{HasFoundByStop, IsFoundEnded, IsRestartLine}
 use Rattle.cam_cluster.specs.Seen.{IsNextStep, Seen, later_steps, setting_in}
 use Rattle.cam_cluster.specs.SoFar.{LinesFields}
 use Rattle.cam_cluster.specs.VariableLines.{IsNextOfSome}
@@ -25,6 +25,7 @@ use Rattle.cam_cluster.specs.Workers.{AreWorkers, IsGiven}
 use Rattle.cam_cluster.proofs.FoundSeen.{beyond, bodies_stay_found, found_lost, found_next}
 use Rattle.cam_cluster.proofs.FoundSeen.{found_so_far}
 use Rattle.cam_cluster.proofs.GoesOn.{done_goes, run_goes_on, unsaid, wanting_goes}
+use Rattle.cam_cluster.proofs.RestartAgrees.{has_found, has_stood}
 use Rattle.cam_cluster.proofs.StepHolds.{next_holds, node_within}
 use Rattle.cam_cluster.proofs.WorkersOn.{bodies_same, workers_on}
 
@@ -49,16 +50,18 @@ module _ (line s : ℕ) (bodies : List (List Statement)) (old new : LinesFields)
   abbrev step : Step
   step = record { line = line; act = acts.Restart s }
 
-  pub stood_at_work : (at_work : Workers) → IsRestartLine s old might new may (Ok ends.Stood)
+  pub stood_at_work : (at_work : Workers) → 1 ≤ s
+      → HasFoundByStop (s - 1) old.works might ends.Stood
+      → IsRestartLine s old might new may (Ok ends.Stood)
       → IsAtWorkLine step bodies old might at_work new may at_work (Ok None)
-  stood_at_work at_work is seen keeps next same =
+  stood_at_work at_work low by_stop is seen keeps next same =
       let between = keeps.between in
       let led : HasLedOn seen step new may =
       done_goes seen step old new might may between next refl
       (is seen.script seen.standing (given seen.halts) line (later_steps seen) between.is_script
       between.keeps next (unsaid seen.halts (accepted seen.standing.turns) between.past)) in record {
         from = seen;
-        is_from = inl refl;
+        is_from = inl (has_stood seen old might between line s next low by_stop);
         led = led;
         workers = workers_on seen step led.more at_work tt keeps.workers;
         fault = refl;
@@ -95,12 +98,14 @@ module _ (line s : ℕ) (bodies : List (List Statement)) (old new : LinesFields)
         }
 
   -- The actions at bodies take in all events again.
-  pub found_at_work : (before behind : Workers) → IsRestartLine s old might new may (Ok ends.Found)
+  pub found_at_work : (before behind : Workers) → 1 ≤ s
+      → HasFoundByStop (s - 1) old.works might ends.Found
+      → IsRestartLine s old might new may (Ok ends.Found)
       → ((st : Standing) → IsGiven st.running.bodies before → AreWorkers st behind)
       → IsAtWorkLine step bodies old might before new may behind (Ok None)
-  found_at_work before behind is forgets seen keeps next same = record {
+  found_at_work before behind low by_stop is forgets seen keeps next same = record {
     from = seen_found seen s;
-    is_from = inr (halted, refl);
+    is_from = inr (has_found seen old might keeps.between line s next low by_stop halted);
     led = led;
     workers =
         forgets (after_step (seen_found seen s) step led.more).standing

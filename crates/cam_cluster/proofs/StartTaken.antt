@@ -140,7 +140,7 @@ start_at_work step s body bodies old new might may first before behind bad is st
     keeps next same =
     let so = taken seen keeps.between next in record {
       from = seen;
-      is_from = from_itself step.act seen;
+      is_from = from_itself old.works step.act seen (λ m at. apart m (sym is ∙ at));
       led = so.0;
       workers =
           given_on seen step s body is old might keeps.between next so.0.more
@@ -148,6 +148,9 @@ start_at_work step s body bodies old new might may first before behind bad is st
           may before behind so.0.stands (stay seen.standing keeps.workers) gives;
       fault = so.1;
     }
+  where
+    apart : (m : ℕ) → acts.Start s body ≡ acts.Restart m → ⊥
+    apart m same = cc
 
 -- Memory runs out before.
 pub start_wanting : (step : Step) (s body : ℕ) (bodies : List (List Statement)) (lines : LinesFields)

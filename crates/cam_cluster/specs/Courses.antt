@@ -7,6 +7,7 @@ use Rattle.cam_event.specs.declared.LineRefusal.{LineRefusal}
 use Rattle.cam_event.specs.Readings.{by_knowledge, by_pasts}
 use Rattle.cam_node.specs.Log.{Logged}
 use Rattle.cam_runs.specs.Running.{has_number}
+use Rattle.cam_runs.specs.Stops.{last_stop}
 use Rattle.cam_script.specs.declared.Act.{Act}
 use Rattle.cam_script.specs.declared.Act.TheVariants as acts
 use Rattle.cam_script.specs.declared.Statement.{Statement}
@@ -23,6 +24,7 @@ use Rattle.cam_cluster.specs.Seen.{IsNextStep, Seen}
 use Rattle.cam_cluster.specs.SoFar.{LinesFields}
 use Rattle.cam_cluster.specs.Taking.{HasDrainedPart}
 use Rattle.cam_cluster.specs.Workers.{AreWorkers}
+use Rattle.cam_cluster.specs.Works.{IsUnfailing, WorksFields}
 
 -- The lines so far are those of the run that was seen, and the workers are its actions at bodies.
 pub record KeepsCourse (seen : Seen) (lines : LinesFields) (may_read : ℕ → Logged → Type 0)
@@ -42,12 +44,25 @@ pub record IsNextOfCourse (step : Step) (bodies : List (List Statement)) (lines 
 abbrev pub IsStartOf : ℕ → Act → Type 0
 IsStartOf body act = (s : ℕ) × (act ≡ acts.Start s body)
 
--- A line goes on from what was seen. A restart that finds the event at which its node had halted goes
--- on from the run in which that halt was taken.
-abbrev pub IsFrom : Act → Seen → Seen → Type 0
-IsFrom (acts.Restart s) seen from =
-    (from ≡ seen) ⊎ ((has_number seen.standing.halted s ≡ true) × (from ≡ seen_found seen s))
-IsFrom _ seen from = from ≡ seen
+-- A restart stood: what was seen stands. While nothing has failed by itself, no stop let the last
+-- append of the node be taken.
+pub record HasStood (old : WorksFields) (seen from : Seen) (s : ℕ) : Type 0 where
+  pub same : from ≡ seen
+  pub lost :
+      IsUnfailing old.starved old.nodes → has_number seen.standing.halted s ≡ true
+      → last_stop seen.standing.turns s ≡ Some true → ⊥
+
+-- A restart found the event at which its node had halted: what was seen is the run in which that
+-- halt was taken. While nothing has failed by itself, a stop let it be taken.
+pub record HasFound (old : WorksFields) (seen from : Seen) (s : ℕ) : Type 0 where
+  pub halted : has_number seen.standing.halted s ≡ true
+  pub found : from ≡ seen_found seen s
+  pub taken : IsUnfailing old.starved old.nodes → last_stop seen.standing.turns s ≡ Some true
+
+-- what a line goes on from, by what the works kept before it
+abbrev pub IsFrom : WorksFields → Act → Seen → Seen → Type 0
+IsFrom old (acts.Restart s) seen from = HasStood old seen from s ⊎ HasFound old seen from s
+IsFrom old _ seen from = from ≡ seen
 
 -- It was refused, by the first test that fails.
 pub record HasRefusedLine (seen : Seen) (step : Step) (new : LinesFields)
@@ -66,24 +81,24 @@ IsCourseWanting _ seen step new may_read at_work = KeepsCourse seen new may_read
 
 -- The lines led on, with these halts, and the workers are those behind the line. The fault of a
 -- letter that it cut short is told.
-pub record HasLedAtWork (seen : Seen) (step : Step) (new : LinesFields)
+pub record HasLedAtWork (old : LinesFields) (seen : Seen) (step : Step) (new : LinesFields)
     (may_read : ℕ → Logged → Type 0) (at_work : Workers) (bad : Option WireFault) : Type 0 where
   pub from : Seen
-  pub is_from : IsFrom step.act seen from
+  pub is_from : IsFrom old.works step.act seen from
   pub led : HasLedOn from step new may_read
   pub workers : AreWorkers (after_step from step led.more).standing at_work
   pub fault : bad ≡ cut_fault (by_knowledge seen.script.objects) seen.standing step.act
 
 -- How the line ends. Where a restart fails nothing is said of what is kept: the run ends there.
-abbrev pub IsEndedAtWork : Seen → Step → LinesFields → (ℕ → Logged → Type 0) → Workers
+abbrev pub IsEndedAtWork : LinesFields → Seen → Step → LinesFields → (ℕ → Logged → Type 0) → Workers
     → Result (Option WireFault) CourseFault → Type 0
-IsEndedAtWork seen step new may_read at_work (Ok bad) =
-    HasLedAtWork seen step new may_read at_work bad
-IsEndedAtWork seen step new may_read at_work (Err (faults.Line (line_faults.Refused refusal))) =
+IsEndedAtWork old seen step new may_read at_work (Ok bad) =
+    HasLedAtWork old seen step new may_read at_work bad
+IsEndedAtWork old seen step new may_read at_work (Err (faults.Line (line_faults.Refused refusal))) =
     HasRefusedLine seen step new may_read at_work refusal
-IsEndedAtWork seen step new may_read at_work (Err (faults.Line line_faults.NoMemory)) =
+IsEndedAtWork old seen step new may_read at_work (Err (faults.Line line_faults.NoMemory)) =
     IsCourseWanting step.act seen step new may_read at_work
-IsEndedAtWork seen step new may_read at_work (Err (faults.RestartFailed node)) =
+IsEndedAtWork old seen step new may_read at_work (Err (faults.RestartFailed node)) =
     step.act ≡ acts.Restart node
 
 -- THE CLAUSE of the next line: of each run that is kept, with these bodies, whose next step it is
@@ -93,4 +108,4 @@ abbrev pub IsAtWorkLine : Step → List (List Statement) → LinesFields → (�
 IsAtWorkLine step bodies old might_read old_workers new may_read at_work result =
     (seen : Seen) → KeepsCourse seen old might_read old_workers → IsNextStep seen step
     → bodies ≡ seen.script.bodies
-    → IsEndedAtWork seen step new may_read at_work result
+    → IsEndedAtWork old seen step new may_read at_work result

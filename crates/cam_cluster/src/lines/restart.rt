@@ -1,6 +1,6 @@
 //! `restart NODE`: the node's disk does all calls again, and the node goes on from what its log keeps. The line is never refused.
-ghost use Rattle.std.specs.Prelude.{◌≤◌, ◌-◌, IfSome, IsTrue, length, slice_get};
-ghost use Rattle.cam_cluster.specs.Restarts.{IsRestartLine};
+ghost use Rattle.std.specs.Prelude.{◌≤◌, ◌-◌, IfOk, IfSome, IsTrue, length, slice_get};
+ghost use Rattle.cam_cluster.specs.Restarts.{HasFoundByStop, IsRestartLine};
 ghost use Rattle.cam_cluster.specs.SoFar.{AreLinesOfSome};
 
 use super::{AsLines, Lines};
@@ -26,6 +26,10 @@ impl<L: CheckpointLog + StopLog> Lines<L> {
             (⟦<Lines<L> as AsLines>⟧.fields self.old) (⟦<Lines<L> as AsLines>⟧.may_read self.old)
             (⟦<Lines<L> as AsLines>⟧.fields self.new) (⟦<Lines<L> as AsLines>⟧.may_read self.new)
             result) }
+        // It finds the event just where a stop let three calls pass.
+        ensures by_stop { IfOk result (HasFoundByStop (node - 1)
+            (⟦<Lines<L> as AsLines>⟧.fields self.old).works
+            (⟦<Lines<L> as AsLines>⟧.may_read self.old)) }
     {
         reserve_one(&mut self.bound)?;
         let done = self.works.restart(node as usize - 1)?;

@@ -5,7 +5,7 @@ use Rattle.cam_script.specs.declared.Act.TheVariants as acts
 use Rattle.cam_cluster.specs.declared.course.CourseFault.TheVariants as faults
 use Rattle.cam_cluster.specs.declared.LineFault.TheVariants as line_faults
 use Rattle.cam_cluster.specs.Courses.{IsAtWorkLine}
-use Rattle.cam_cluster.specs.Restarts.{IsRestartLine}
+use Rattle.cam_cluster.specs.Restarts.{HasFoundByStop, IsRestartLine}
 use Rattle.cam_cluster.proofs.AsSeen.{lines_of, part, reads_of}
 use Rattle.cam_cluster.proofs.RestartTaken.{at_place, failed_at_work, found_at_work}
 use Rattle.cam_cluster.proofs.RestartTaken.{restart_wanting, restarts_within, stood_at_work}
@@ -80,7 +80,9 @@ returns-in-Stood g c =
           might c.args.self.now.workers new may c.args.self.now.workers (Ok None)) there
           c.in_ok-restart.ensures.line
           (λ node told. stood_at_work c.args.line c.args.node bodies old new might may
-          c.args.self.now.workers
+          c.args.self.now.workers within.0
+          (subst (λ done. HasFoundByStop (c.args.node - 1) old.works might done) c.in-Stood.is
+          c.in_ok-restart.ensures.by_stop)
           (subst (λ r. IsRestartLine c.args.node old might new may (Ok r)) c.in-Stood.is
           (told (g.met.L.TellingLog.always node.log.log))));
     }
@@ -105,7 +107,9 @@ returns-in-Found g c =
           might c.args.self.now.workers new may c.forget.new.self (Ok None)) there
           c.in_ok-restart.ensures.line
           (λ node told. found_at_work c.args.line c.args.node bodies old new might may
-          c.args.self.now.workers c.forget.new.self
+          c.args.self.now.workers c.forget.new.self within.0
+          (subst (λ done. HasFoundByStop (c.args.node - 1) old.works might done) c.in-Found.is
+          c.in_ok-restart.ensures.by_stop)
           (subst (λ r. IsRestartLine c.args.node old might new may (Ok r)) c.in-Found.is
           (told (g.met.L.TellingLog.always node.log.log)))
           c.forget.ensures.given);

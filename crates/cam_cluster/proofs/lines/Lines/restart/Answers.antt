@@ -1,6 +1,7 @@
 -- The line `restart`.
-use Rattle.std.proofs.Common.{◌≡◌, ◌-◌, ◌++◌, ◌∷◌, [], None, Err, ap, ◌∙◌, arith, rules}
-use Rattle.std.specs.Prelude.{slice_get}
+use Rattle.std.proofs.Common.{◌≡◌, ◌-◌, ◌++◌, ◌∷◌, [], None, Err, sym, ap, ◌∙◌, subst, arith, rules}
+use Rattle.std.specs.Prelude.{IfOk, slice_get}
+use Rattle.cam_cluster.specs.Restarts.{HasFoundByStop}
 use Rattle.cam_cluster.proofs.AsSeen.{lines_of, part, reads_of, works_of}
 use Rattle.cam_cluster.proofs.BeginEnds.{begin_within}
 use Rattle.cam_cluster.proofs.BegunLine.{unput_may_be_written}
@@ -50,6 +51,8 @@ returns-in_err-reserve_one g c =
           c.from_residual.result c.in_err-reserve_one.field-0.0 wants
           (unchanged_lines works works reads reads c.args.self.now.bound.items
           c.reserve_one.new.list.items (λ script st is keeps. keeps) c.reserve_one.ensures.same));
+      by_stop =
+          subst (λ r. IfOk r (HasFoundByStop (c.args.node - 1) works reads)) (sym wants) tt;
     }
 
 pub returns-in_err-done : goal.returns-in_err-done
@@ -69,6 +72,8 @@ returns-in_err-done g c =
           (unchanged_lines works now reads reads_now c.args.self.now.bound.items
           c.reserve_one.new.list.items c.in_err-done.ensures.as_before
           c.reserve_one.ensures.same));
+      by_stop =
+          subst (λ r. IfOk r (HasFoundByStop (c.args.node - 1) works reads)) (sym wants) tt;
     }
 
 pub returns : goal.returns
@@ -86,4 +91,5 @@ returns g c =
           (record { works = now; bound = c.push_reserved.new.list.items }) reads reads_now
           (c.push_reserved.ensures ∙ ap (λ bs. bs ++ None ∷ []) c.reserve_one.ensures.same)
           c.in_ok-done.done (has told)) c.in_ok-done.ensures.restarted;
+      by_stop = c.in_ok-done.ensures.by_stop;
     }
