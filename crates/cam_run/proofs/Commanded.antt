@@ -163,9 +163,3 @@ pub generated_words : {E : Type 0} (words : List (List ℕ)) (command : Command)
     → (seed size : ℕ) → IsFormFor words (Gen seed size) → IfOk r (λ a. number a.status ≡ 0)
 generated_words words command r finds done seed size form =
     done seed size (same_command words command (Gen seed size) finds form) form.form.is.1.1
-
--- words that were refused are no command's form
-pub refused_words : (words : List (List ℕ)) (r : Result Command ArgsFault) (command : Command) → r ≡ Err Usage → Finds words r → IsFormOf words command → ⊥
-refused_words words r command is finds form =
-    let found : Finds words (Err Usage) = subst (λ (x : Result Command ArgsFault). Finds words x) is finds in
-    true≢false (sym (ap (λ (x : Result Command ArgsFault). is_ok x) (found command form)))

@@ -1,9 +1,13 @@
 -- The answer to the words is that to their command.
-use Rattle.std.proofs.Common.{◌≡◌, Err}
+use Rattle.std.proofs.Common.{rules, ◌≡◌, ◌↔◌, List, ℕ, Result, Err, map, refl, string_bytes, subst}
+use Rattle.cam_args.specs.declared.Command.{Command}
+use Rattle.cam_args.specs.declared.ArgsFault.{ArgsFault}
 use Rattle.cam_args.specs.declared.ArgsFault.TheVariants.{Usage}
-use Rattle.cam_args.specs.declared.Command.TheVariants.{Gen}
+use Rattle.cam_args.specs.Forms.{IsNoForm, UnlessNoMemory}
+use Rattle.std.proofs.lemmas.Result.{IfOk-weaker}
 use Rattle.cam_base.specs.Causes.{Rose}
-use Rattle.cam_run.proofs.Commanded.{answers_words, completes_words, refused_words}
+use Rattle.cam_args.specs.declared.Command.TheVariants.{Gen}
+use Rattle.cam_run.proofs.Commanded.{answers_words, built_is_form, completes_words}
 use Rattle.cam_run.proofs.top.answer_to.Goals as goal
 
 pub returns-in-Ok-clause-answer : goal.returns-in-Ok-clause-answer
@@ -18,8 +22,15 @@ returns-in-Ok-clause-complete g c =
     (g.S.Source.left c.args.source.now) (g.S.Source.left c.obey.new.source) c.obey.result
     c.in-Ok.ensures.each c.obey.ensures.answer
 
--- words that are no form are not that of `gen`
+pub returns-in-Ok-clause-usage : goal.returns-in-Ok-clause-usage
+returns-in-Ok-clause-usage g c =
+    let built = built_is_form (map string_bytes c.args.words.now) c.in-Ok.command c.in-Ok.ensures.read c.in-Ok.ensures.each in
+    IfOk-weaker c.obey.result _ _ (λ a is. (λ e form. is.0 e (built.1 form), λ none. is.1 (λ yes. none (built.0 yes)))) c.obey.ensures.usage
+
 pub returns-in-Err-Usage-clause-generated : goal.returns-in-Err-Usage-clause-generated
 returns-in-Err-Usage-clause-generated g c = λ seed size form.
-    let is : c.read_words.result ≡ Err Usage = cc in
-    absurd (refused_words _ c.read_words.result (Gen seed size) is c.read_words.ensures.each form.form)
+    let words = map string_bytes c.args.words.now in
+    let is : c.in-Err-Usage.field-0 ≡ Usage = search rules in
+    let Told : ArgsFault → Type 0 = λ fault. UnlessNoMemory (Err fault) (◌≡◌ {A = Result Command ArgsFault} (Err fault) (Err Usage) ↔ IsNoForm words) in
+    let told : Told Usage = subst Told is c.in-Err-Usage.ensures.usage in
+    absurd (told.0 refl (Gen seed size) form.form)
