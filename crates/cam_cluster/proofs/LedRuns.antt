@@ -35,6 +35,7 @@ use Rattle.cam_cluster.specs.SoFar.{LinesFields}
 use Rattle.cam_cluster.specs.StoppedDisks.{AreOfStops, KnowsStops, begun_turns, halted_nodes}
 use Rattle.cam_cluster.specs.StoppedDisks.{is_stopped, was_stopped}
 use Rattle.cam_cluster.specs.WholeRuns.{HasNoStops, HasTakenLines, HasTakenNext, IsNextOfRun}
+use Rattle.cam_cluster.specs.Works.{IsUnfailing}
 use Rattle.cam_cluster.proofs.CourseFrom.{IsFoundBy, from_is}
 use Rattle.cam_cluster.proofs.Extends.{Extends, nodes_in}
 use Rattle.cam_cluster.proofs.FoundSeen.{all_taken, bound_same, found_so_far}
@@ -277,8 +278,9 @@ module _ (script : Script) (many : ℕ) (step : Step) (old new : LinesFields)
                 led.led.of_line.low) i ++ goes.none none.no_halt i);
           }
 
-      pub led_taken : HasTakenLines script (many + 1) new may behind knows_now
-      led_taken = record {
+      pub led_taken : IsUnfailing new.works.starved new.works.nodes
+          → HasTakenLines script (many + 1) new may behind knows_now
+      led_taken unfailing = record {
         seen = after;
         keeps = record { between = led.led.stands; workers = led.workers };
         of_script = goes.of_script ∙ taken.of_script;
@@ -287,6 +289,7 @@ module _ (script : Script) (many : ℕ) (step : Step) (old new : LinesFields)
             (script_in_range from.script goes.so_far.is_script) goes.so_far.under
             ((λ i. slice_get (goes.of_script i).steps (goes.lines i)) ∙ next)
             ∙ ap (λ n. n + 1) (goes.lines ∙ taken.taken);
+        unfailing = unfailing;
         knows = λ s is.
             ap (λ (ts : List Turn). is_stopped ts s) extends.turns
             ∙ inputs_stop_none extends.more base s extends.inputs ∙ knows_base s is;
@@ -299,8 +302,9 @@ module _ (script : Script) (many : ℕ) (step : Step) (old new : LinesFields)
 
   -- It was refused.
   pub refused_taken : (refusal : LineRefusal) → HasRefusedLine seen step new may behind refusal
+      → IsUnfailing new.works.starved new.works.nodes
       → HasTakenLines script (many + 1) new may behind known
-  refused_taken refusal refused = record {
+  refused_taken refusal refused unfailing = record {
     seen = after_step seen step [];
     keeps = refused.stands;
     of_script = taken.of_script;
@@ -309,6 +313,7 @@ module _ (script : Script) (many : ℕ) (step : Step) (old new : LinesFields)
         (script_in_range seen.script taken.keeps.between.is_script)
         taken.keeps.between.keeps.runs.under next
         ∙ ap (λ n. n + 1) taken.taken;
+    unfailing = unfailing;
     knows = λ s is. ap (λ (ts : List Turn). is_stopped ts s) turns ∙ taken.knows s is;
     of_stops =
         subst (λ (ts : List Turn). AreOfStops ts seen.halts) (sym turns) taken.of_stops;
@@ -342,22 +347,24 @@ module _ (script : Script) (step : Step) (old new : LinesFields) (might may : �
       → KnowsStops (begun_turns step.act turns) knows_now)
       → AllByRecursion (λ (s : ℕ). slice_get knows_now s ≡ Some true)
       (halted_nodes (drop marks new.works.marks))
+      → IsUnfailing new.works.starved new.works.nodes
       → HasTakenNext script step old might before known new may behind knows_now
-  next_led bad knows_now marks are line knows stopped many taken at =
+  next_led bad knows_now marks are line knows stopped unfailing many taken at =
       led_taken script many step old new might may before behind known taken at bad
       (line taken.seen taken.keeps (next_step script many step old might before known taken at)
       (bodies_are script many step old might before known taken at))
       knows_now (knows taken.seen.standing.turns taken.knows)
       (subst (λ (n : ℕ). AllByRecursion (λ (s : ℕ). slice_get knows_now s ≡ Some true)
-      (halted_nodes (drop n new.works.marks))) are stopped)
+      (halted_nodes (drop n new.works.marks))) are stopped) unfailing
 
   pub next_refused : (fault : CourseFault) (of_line : LineFault) (refusal : LineRefusal)
       → fault ≡ faults.Line of_line → of_line ≡ line_faults.Refused refusal
       → IsAtWorkLine step script.bodies old might before new may behind (Err fault)
+      → IsUnfailing new.works.starved new.works.nodes
       → HasTakenNext script step old might before known new may behind known
-  next_refused fault of_line refusal is is_refused line many taken at =
+  next_refused fault of_line refusal is is_refused line unfailing many taken at =
       refused_taken script many step old new might may before behind known taken at refusal
       (subst (λ (f : CourseFault). IsAtWorkLine step script.bodies old might before new may behind
       (Err f)) (is ∙ ap faults.Line is_refused) line taken.seen taken.keeps
       (next_step script many step old might before known taken at)
-      (bodies_are script many step old might before known taken at))
+      (bodies_are script many step old might before known taken at)) unfailing

@@ -23,6 +23,7 @@ use Rattle.cam_cluster.specs.SoFar.{LinesFields}
 use Rattle.cam_cluster.specs.StoppedDisks.{AreOfStops}
 use Rattle.cam_cluster.specs.WholeRuns.{HasTakenLines, IsNextOfRun, IsRecordOf, after_all}
 use Rattle.cam_cluster.specs.Workers.{AreWorkers}
+use Rattle.cam_cluster.specs.Works.{IsUnfailing}
 use Rattle.cam_cluster.proofs.AllLines.{all_lines_are_the_run}
 
 module _ (script : Script) (many : ℕ) (step : Step) (lines : LinesFields)
@@ -55,12 +56,14 @@ no_disk (suc n) (suc s) is = no_disk n s is
 pub none_taken : (script : Script) (lines : LinesFields) (may_read : ℕ → Logged → Type 0)
     (at_work : Workers) (stopped : List Bool) → KeepsBetween (before_first script) lines may_read
     → AreWorkers start at_work → stopped ≡ replicate 9 false
+    → IsUnfailing lines.works.starved lines.works.nodes
     → HasTakenLines script 0 lines may_read at_work stopped
-none_taken script lines may_read at_work stopped keeps workers none = record {
+none_taken script lines may_read at_work stopped keeps workers none unfailing = record {
   seen = before_first script;
   keeps = record { between = keeps; workers = workers };
   of_script = refl;
   taken = refl;
+  unfailing = unfailing;
   knows = λ s is. absurd (no_disk 9 s (ap (λ (t : List Bool). slice_get t s) (sym none) ∙ is));
   of_stops = tt;
   without_stops = λ no_stop. record { runs = λ s. refl; no_halt = refl };

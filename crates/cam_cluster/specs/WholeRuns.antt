@@ -13,6 +13,7 @@ use Rattle.cam_cluster.specs.Courses.{KeepsCourse}
 use Rattle.cam_cluster.specs.Seen.{IsRunRecord, Seen, lines_taken}
 use Rattle.cam_cluster.specs.SoFar.{LinesFields}
 use Rattle.cam_cluster.specs.StoppedDisks.{AreOfStops, KnowsStops, is_stopped}
+use Rattle.cam_cluster.specs.Works.{IsUnfailing}
 
 -- the cluster that has run a whole script, in whose run these inputs are halts
 abbrev pub after_all : Script → List Halt → Seen
@@ -32,14 +33,15 @@ pub record HasNoStops (seen : Seen) : Type 0 where
   pub runs : (s : ℕ) → is_stopped seen.standing.turns s ≡ false
   pub no_halt : seen.halts ≡ []
 
--- So many lines of a script were taken. The disks that are known to be stopped are, and each halt is
--- of a node whose disk was.
+-- So many lines of a script were taken, and nothing has failed by itself. The disks that are known to
+-- be stopped are, and each halt is of a node whose disk was.
 pub record HasTakenLines (script : Script) (many : ℕ) (lines : LinesFields)
     (may_read : ℕ → Logged → Type 0) (at_work : Workers) (stopped : List Bool) : Type 0 where
   pub seen : Seen
   pub keeps : KeepsCourse seen lines may_read at_work
   pub of_script : seen.script ≡ script
   pub taken : lines_taken seen ≡ many
+  pub unfailing : IsUnfailing lines.works.starved lines.works.nodes
   pub knows : KnowsStops seen.standing.turns stopped
   pub of_stops : AreOfStops seen.standing.turns seen.halts
   pub without_stops : HasNoStop script → HasNoStops seen

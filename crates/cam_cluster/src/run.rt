@@ -6,6 +6,7 @@ ghost use Rattle.cam_script.specs.declared.Script.{Script as ScriptFields};
 ghost use Rattle.cam_script.specs.Law.{IsScript};
 ghost use Rattle.cam_cluster.specs.Servers.{AreServers};
 ghost use Rattle.cam_cluster.specs.StoppedDisks.{KnowsStops, begun_turns, halted_nodes};
+ghost use Rattle.cam_cluster.specs.Works.{IsUnfailing};
 ghost use Rattle.cam_cluster.specs.WholeRuns.{HasTakenLines, HasTakenNext, IsNextOfRun, IsRecordOf};
 
 use crate::LineFault;
@@ -28,7 +29,7 @@ use thiserror::Error;
 /// Why a script was not run to its end.
 #[derive(Clone, Copy, Debug, PartialEq, Eq, Error)]
 pub enum RunFault {
-    /// The disk of the node of this number failed while it was formatted.
+    /// The disk of the node of this number failed by itself, in a call that it did.
     #[error("the disk of a node failed")]
     DiskFault(u8),
     /// The node of this number halted, though no line had stopped its disk.
@@ -93,22 +94,40 @@ impl<D: TellingDisk> Run<Ckpt<StopDisk<D>>> {
             (⟦<Lines<Ckpt<StopDisk<D>>> as AsLines>⟧.may_read run.course.lines) run.course.workers
             run.stopped.nodes) }
     {
-        match Lines::new(alloc, script, stoppable(alloc, disks)?) {
-            Ok(lines) => Ok(Run {
-                course: Course {
-                    lines,
-                    workers: Workers::new(alloc),
-                },
-                stopped: Stopped::none(),
-            }),
-            Err(refused) => Err(fault_of(refused.fault)),
-        }
+        let lines = match Lines::new(alloc, script, stoppable(alloc, disks)?) {
+            Ok(lines) => lines,
+            Err(refused) => return Err(fault_of(refused.fault)),
+        };
+        let run = Run {
+            course: Course {
+                lines,
+                workers: Workers::new(alloc),
+            },
+            stopped: Stopped::none(),
+        };
+        run.unfailing()?;
+        Ok(run)
     }
 }
 
 impl<L: TellingLog> Run<L> {
-    /// Takes the next line of the script, which may be refused. It fails where a node halted in it since memory ran out, or whose disk
-    /// no line had stopped, but no clause says what a halt came of.
+    /// Fails where something has failed by itself: memory ran out in an append, or a disk failed a call that it did.
+    fn unfailing(&self) -> Result<(), RunFault>
+        ensures { OnOk result (IsUnfailing
+            (⟦<Lines<L> as AsLines>⟧.fields self.now.course.lines).works.starved
+            (⟦<Lines<L> as AsLines>⟧.fields self.now.course.lines).works.nodes) }
+    {
+        if self.course.lines.works.starved {
+            return Err(RunFault::NoMemory);
+        }
+        match self.course.lines.works.first_failed() {
+            Some(node) => Err(RunFault::DiskFault(node)),
+            None => Ok(()),
+        }
+    }
+
+    /// Takes the next line of the script, which may be refused. It fails where something failed by itself in it, or a node halted whose
+    /// disk no line had stopped, but no clause says that it fails for such a reason.
     fn take_next<R: DataType, Q: DataType, C: DataType>(
         &mut self,
         script: &Script,
@@ -134,14 +153,14 @@ impl<L: TellingLog> Run<L> {
         let marks = self.course.lines.works.marks.len();
         match self.course.take(step, &script.bodies, servers) {
             Ok(_) => self.led(&step.act, marks),
-            Err(CourseFault::Line(LineFault::Refused(_))) => Ok(()),
+            Err(CourseFault::Line(LineFault::Refused(_))) => self.unfailing(),
             Err(CourseFault::Line(LineFault::NoMemory)) => Err(RunFault::NoMemory),
             Err(CourseFault::RestartFailed(node)) => Err(RunFault::RestartFailed(node)),
         }
     }
 
-    /// A line led on behind so many marks: no node may have halted since memory ran out, and each that halted in it has to be one
-    /// whose disk is stopped.
+    /// A line led on behind so many marks: nothing may have failed by itself, and each node that halted in it has to be one whose
+    /// disk is stopped.
     fn led(&mut self, act: &Act, marks: usize) -> Result<(), RunFault>
         requires { marks ≤ length self.old.course.lines.works.marks.items }
         ensures course { self.new.course ≡ self.old.course }
@@ -150,11 +169,12 @@ impl<L: TellingLog> Run<L> {
         ensures stopped { OnOk result (AllByRecursion
             (λ s. slice_get self.new.stopped.nodes s ≡ Some true)
             (halted_nodes (drop marks self.old.course.lines.works.marks.items))) }
+        ensures unfailing { OnOk result (IsUnfailing
+            (⟦<Lines<L> as AsLines>⟧.fields self.old.course.lines).works.starved
+            (⟦<Lines<L> as AsLines>⟧.fields self.old.course.lines).works.nodes) }
     {
         self.stopped.lead(act);
-        if self.course.lines.works.starved {
-            return Err(RunFault::NoMemory);
-        }
+        self.unfailing()?;
         match self
             .stopped
             .first_other(&self.course.lines.works.marks[marks..])
@@ -208,11 +228,11 @@ impl<L: TellingLog> Run<L> {
 /// A line that is refused leaves its mark, and the run goes on; so it does where a node halts whose
 /// disk a line had stopped.
 ///
-/// The servers do the operations of its objects. The run ends by `DiskFault` where a disk fails
-/// while it is formatted, by `RestartFailed` where one fails while its node restarts, by `NoMemory`
-/// where a node halts since memory ran out in an append, and by `Halted` where one halts for another
-/// reason though no line had stopped its disk. No clause says that a fault has such a cause, nor of
-/// which node it is.
+/// The servers do the operations of its objects. The run ends by `DiskFault` where a disk fails by
+/// itself, or had failed before, by `RestartFailed` where one fails while its node restarts, by
+/// `NoMemory` where a node halts since memory ran out in an append, and by `Halted` where one halts
+/// for another reason though no line had stopped its disk. No clause says that a fault has such a
+/// cause, nor of which node it is.
 pub fn run_script<D: TellingDisk, R: DataType, Q: DataType, C: DataType>(
     alloc: Global,
     script: &Script,

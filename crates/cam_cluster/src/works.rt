@@ -14,6 +14,7 @@ ghost use Rattle.cam_cluster.specs.Puts.{HasPut, KeepsAsBefore, letter_of};
 ghost use Rattle.cam_cluster.specs.Servers.{AreServers};
 
 mod drain;
+mod failing;
 mod found;
 mod go;
 mod letters;

@@ -13,6 +13,10 @@ on_ok : {T : Type 0} (r : Result T RunFault) (P Q : Type 0) → (P → Q) → On
 on_ok (Ok done) P Q so holds = so holds
 on_ok (Err fault) P Q so holds = holds
 
+both_ok : {T : Type 0} (r : Result T RunFault) (P Q : Type 0) → OnOk r P → OnOk r Q → OnOk r (P × Q)
+both_ok (Ok done) P Q left right = (left, right)
+both_ok (Err fault) P Q left right = left
+
 pub take-requires-clause-next : goal.take-requires-clause-next
 take-requires-clause-next g c =
     next_of_course c.args.script.now c.args.step.now
@@ -42,7 +46,7 @@ returns-in-Ok-clause-taken g c =
     let count : c.len-marks.result ≡ length old.works.marks =
     first_of (search rules, grind (arith, common_steps, c.len-marks.ensures)) in
     on_ok c.led.result _ _
-    (λ stopped.
+    (λ done.
     subst (λ course. HasTakenNext c.args.script.now c.args.step.now old might
     c.args.self.now.course.workers c.args.self.now.stopped.nodes
     (lines_of g.L.CheckpointLog g.L.EntryLog course.lines)
@@ -51,11 +55,13 @@ returns-in-Ok-clause-taken g c =
     (next_led c.args.script.now c.args.step.now old new might may c.args.self.now.course.workers
     c.take.new.self.workers c.args.self.now.stopped.nodes c.in-Ok.field-0
     c.led.new.self.stopped.nodes c.len-marks.result count c.in-Ok.ensures.line c.led.ensures.knows
-    stopped))
-    c.led.ensures.stopped
+    done.0 done.1))
+    (both_ok c.led.result _ _ c.led.ensures.stopped c.led.ensures.unfailing)
 
 pub returns-in-Err-Line-Refused-clause-taken : goal.returns-in-Err-Line-Refused-clause-taken
 returns-in-Err-Line-Refused-clause-taken g c =
+    on_ok c.unfailing.result _ _
+    (λ unfailing.
     next_refused c.args.script.now c.args.step.now
     (lines_of g.L.CheckpointLog g.L.EntryLog c.args.self.now.course.lines)
     (lines_of g.L.CheckpointLog g.L.EntryLog c.take.new.self.lines)
@@ -64,4 +70,5 @@ returns-in-Err-Line-Refused-clause-taken g c =
     c.args.self.now.course.workers c.take.new.self.workers c.args.self.now.stopped.nodes
     c.in-Err-Line-Refused.field-0 c.in-Err-Line-Refused.field-0-0
     c.in-Err-Line-Refused.field-0-0-0 c.in-Err-Line-Refused.field-0-is
-    c.in-Err-Line-Refused.field-0-0-is c.in-Err-Line-Refused.ensures.line
+    c.in-Err-Line-Refused.field-0-0-is c.in-Err-Line-Refused.ensures.line unfailing)
+    c.unfailing.ensures
