@@ -11,7 +11,7 @@ use Rattle.cam_runs.specs.Running.{has_number}
 use Rattle.cam_runs.specs.Standing.{Standing, ended_halt}
 use Rattle.cam_runs.proofs.Range.{script_in_range}
 use Rattle.cam_script.specs.declared.Step.{Step}
-use Rattle.cam_histories.specs.Found.{IsBeyond, IsFound, last_input, with_mark_taken}
+use Rattle.cam_histories.specs.Found.{IsBeyond, IsFound, last_input}
 use Rattle.cam_cluster.specs.Between.{KeepsBetween, seen_found}
 use Rattle.cam_cluster.specs.FoundHalts.{AreLostSoFar, AreNewestFirst, IsLastHalt, IsLostSoFar}
 use Rattle.cam_cluster.specs.FoundHalts.{IsPutIn, input_node, is_at, with_taken}
@@ -83,10 +83,6 @@ module _ (seen : Seen) (lines : LinesFields) (may : ℕ → Logged → Type 0)
 
     pub bound_same : lines_taken from ≡ lines_taken seen
     bound_same = ap (λ (st : Standing). length st.running.bound) stands.is
-
-    pub marks_taken : from.standing.running.marks
-        ≡ with_mark_taken s seen.standing.running.marks
-    marks_taken = ap (λ (st : Standing). st.running.marks) stands.is
 
     pub bodies_stay_found : from.standing.running.bodies ≡ seen.standing.running.bodies
     bodies_stay_found = ap (λ (st : Standing). st.running.bodies) stands.is

@@ -1,14 +1,12 @@
 -- A restart finds the event at which its node halted: what is kept of the run in which that halt
 -- was taken.
-use Rattle.std.proofs.Common.{◌≡◌, ℕ, zero, ◌+◌, ◌≤◌, ◌<◌, true, List, [], ◌∷◌, ◌++◌, length, Some, Option}
-use Rattle.std.proofs.Common.{refl, sym, ap, ◌∙◌, subst, arith, length-append}
+use Rattle.std.proofs.Common.{◌≡◌, ℕ, zero, ◌+◌, ◌≤◌, ◌<◌, List, ◌∷◌, ◌++◌, length, Some, Option}
+use Rattle.std.proofs.Common.{refl, sym, ap, ◌∙◌, subst, arith}
 use Rattle.std.specs.Prelude.{map, reverse, slice_get}
 use Rattle.std.specs.List.{AllByRecursion}
-use Rattle.std.proofs.lemmas.List.{length-map, length-reverse}
+use Rattle.std.proofs.lemmas.List.{length-reverse}
 use Rattle.std.proofs.lemmas.Option.{same_Some}
-use Rattle.cam_type.specs.declared.ObjectDecl.{ObjectDecl}
 use Rattle.cam_event.specs.declared.Event.{Event}
-use Rattle.cam_event.specs.declared.Mark.{Mark}
 use Rattle.cam_event.specs.ByDeltas.{Received}
 use Rattle.cam_node.specs.declared.found.Found.{Found}
 use Rattle.cam_node.specs.Found.{IsFoundEvent, TellsWhich}

@@ -5,12 +5,10 @@ use Rattle.std.proofs.Common.{arith, true≢false}
 use Rattle.std.specs.Prelude.{nat_lt}
 use Rattle.std.proofs.lemmas.Bool.{and_parts, ne_eqb}
 use Rattle.std.proofs.lemmas.Bool.Decides.{eqb_tells}
-use Rattle.std.proofs.lemmas.List.{append-nil}
 use Rattle.cam_names.specs.declared.name.Name.{Name}
 use Rattle.cam_names.specs.Names.{home_node}
 use Rattle.cam_event.specs.declared.Event.{Event}
 use Rattle.cam_event.specs.declared.LetterId.{LetterId}
-use Rattle.cam_event.specs.declared.Mark.TheVariants as marks
 use Rattle.cam_event.specs.Inputs.{Input as Coming, Receives, Requests, node_of}
 use Rattle.cam_event.specs.Pasts.{plain_all}
 use Rattle.cam_event.specs.Taken.{taken_of}
@@ -31,7 +29,7 @@ use Rattle.cam_histories.proofs.NextLetter.{waits_there}
 use Rattle.cam_script.specs.declared.Statement.{Statement}
 use Rattle.cam_cluster.specs.FoundHalts.{AreLostSoFar, IsLostSoFar}
 use Rattle.cam_cluster.specs.Stopping.{AreAsStopped}
-use Rattle.cam_cluster.proofs.Extends.{Extends, NoneTaken, extends_on, halted_node, same_extends}
+use Rattle.cam_cluster.proofs.Extends.{Extends, NoneTaken, extends_on, same_extends}
 use Rattle.cam_cluster.proofs.InputAgrees.{put_agrees, was_stopped}
 
 -- an input,
@@ -75,12 +73,8 @@ module _ (halts : List Halt) (line : ℕ) (again : Bool) (st : Standing) (s : �
   after_extends None is agrees = record {
     events = e ∷ [];
     trace = refl;
-    left = [];
-    marked = sym (append-nil st.running.marks);
     more = Input s line w again ∷ [];
-    inputs = tt;
     turns = refl;
-    says = ap (λ (o : Option Bool). halted_node o s) is;
     lost = λ none lost. still_lost lost;
     stopped = was_stopped line again st s e w awake None;
     agrees = agrees;
@@ -88,12 +82,8 @@ module _ (halts : List Halt) (line : ℕ) (again : Bool) (st : Standing) (s : �
   after_extends (Some true) is agrees = record {
     events = taken_of e ∷ [];
     trace = refl;
-    left = marks.Halted line s true ∷ [];
-    marked = refl;
     more = Input s line w again ∷ [];
-    inputs = tt;
     turns = refl;
-    says = ap (λ (o : Option Bool). halted_node o s) is;
     lost = λ none lost. absurd (none (accepted st.turns) (omega arith) (sym is));
     stopped = was_stopped line again st s e w awake (Some true);
     agrees = agrees;
@@ -101,12 +91,8 @@ module _ (halts : List Halt) (line : ℕ) (again : Bool) (st : Standing) (s : �
   after_extends (Some false) is agrees = record {
     events = [];
     trace = refl;
-    left = marks.Halted line s false ∷ [];
-    marked = refl;
     more = Input s line w again ∷ [];
-    inputs = tt;
     turns = refl;
-    says = ap (λ (o : Option Bool). halted_node o s) is;
     lost = λ none lost. newly_lost (sym is) lost;
     stopped = was_stopped line again st s e w awake (Some false);
     agrees = agrees;
@@ -137,19 +123,19 @@ module _ (c : Setting) (halts : List Halt) (known : c.halts ≡ given halts) whe
   deliver_extends st k letter awake =
       extends_on halts st (put c st (Receives letter)) (deliver c st k letter)
       (put_extends st (Receives letter) awake)
-      (same_extends halts (put c st (Receives letter)) (deliver c st k letter) refl refl refl refl)
+      (same_extends halts (put c st (Receives letter)) (deliver c st k letter) refl refl refl)
 
   waiting_extends : (st : Standing) → Extends halts st (deliver_waiting c st (waiting st))
   waiting_extends st = by (waiting st) refl
     where
       by : (o : Option (ℕ × LetterId)) → waiting st ≡ o → Extends halts st (deliver_waiting c st o)
-      by None is = same_extends halts st st refl refl refl refl
+      by None is = same_extends halts st st refl refl refl
       by (Some w) is =
           deliver_extends st w.0 w.1
           (waits_there st 1 (letters st.running.trace) w.0 w.1 is).4
 
   deliveries_extend : (n : ℕ) (st : Standing) → Extends halts st (deliveries c n st)
-  deliveries_extend zero st = same_extends halts st st refl refl refl refl
+  deliveries_extend zero st = same_extends halts st st refl refl refl
   deliveries_extend (suc n) st =
       let one = deliver_waiting c st (waiting st) in
       extends_on halts st one (deliveries c n one) (waiting_extends st) (deliveries_extend n one)
@@ -161,10 +147,10 @@ module _ (c : Setting) (halts : List Halt) (known : c.halts ≡ given halts) whe
   pub given_extends : (st : Standing) (body : Option ℕ) (b : Option Name)
       → Extends halts st (given_body body b st)
   given_extends st (Some n) (Some b) =
-      same_extends halts st (given_body (Some n) (Some b) st) refl refl refl refl
+      same_extends halts st (given_body (Some n) (Some b) st) refl refl refl
   given_extends st (Some n) None =
-      same_extends halts st (given_body (Some n) None st) refl refl refl refl
-  given_extends st None b = same_extends halts st (given_body None b st) refl refl refl refl
+      same_extends halts st (given_body (Some n) None st) refl refl refl
+  given_extends st None b = same_extends halts st (given_body None b st) refl refl refl
 
   request_extends : (st : Standing) (a : Name) (child : Option ℕ) (n : Next)
       → has_number st.halted (home_node a) ≡ false → Extends halts st (make_request c st a child n)
@@ -173,8 +159,8 @@ module _ (c : Setting) (halts : List Halt) (known : c.halts ≡ given halts) whe
       extends_on halts st after (given_body child (asked_in (made st after)) after)
       (put_extends st (Requests (record { action = a; want = want })) awake)
       (given_extends after child (asked_in (made st after)))
-  request_extends st a child nexts.Wait awake = same_extends halts st st refl refl refl refl
-  request_extends st a child nexts.Over awake = same_extends halts st st refl refl refl refl
+  request_extends st a child nexts.Wait awake = same_extends halts st st refl refl refl
+  request_extends st a child nexts.Over awake = same_extends halts st st refl refl refl
 
   pub go_extends : (bodies : List (List Statement)) (st : Standing) (a : Name)
       → has_number st.halted (home_node a) ≡ false → Extends halts st (go c bodies st a)
@@ -186,11 +172,11 @@ module _ (c : Setting) (halts : List Halt) (known : c.halts ≡ given halts) whe
   if_extends : (b : Bool) (st one : Standing) → (b ≡ true → Extends halts st one)
       → Extends halts st (if b then one else st)
   if_extends true st one so = so refl
-  if_extends false st one so = same_extends halts st st refl refl refl refl
+  if_extends false st one so = same_extends halts st st refl refl refl
 
   in_round_extends : (bodies : List (List Statement)) (names : List Name) (st : Standing)
       → Extends halts st (go_in_round c bodies names st)
-  in_round_extends bodies [] st = same_extends halts st st refl refl refl refl
+  in_round_extends bodies [] st = same_extends halts st st refl refl refl
   in_round_extends bodies (a ∷ names) st =
       let one : Standing = if may_go_on c st a then go c bodies st a else st in
       extends_on halts st one (go_in_round c bodies names one)
@@ -210,7 +196,7 @@ module _ (c : Setting) (halts : List Halt) (known : c.halts ≡ given halts) whe
 
   pub rounds_extend : (bodies : List (List Statement)) (n : ℕ) (st : Standing)
       → Extends halts st (rounds c bodies n st)
-  rounds_extend bodies zero st = same_extends halts st st refl refl refl refl
+  rounds_extend bodies zero st = same_extends halts st st refl refl refl
   rounds_extend bodies (suc n) st =
       let one : Standing = round c bodies st in
       extends_on halts st one

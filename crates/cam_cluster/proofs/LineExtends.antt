@@ -64,12 +64,8 @@ module _ (c : Setting) (halts : List Halt) (known : c.halts ≡ given halts)
   refused_leaves refusal = record {
     events = [];
     trace = refl;
-    left = marks.Refused line refusal ∷ [];
-    marked = refl;
     more = [];
-    inputs = tt;
     turns = refl;
-    says = refl;
     lost = λ none lost. lost;
     stopped = λ so. so;
     agrees = λ none so agrees. agrees;
@@ -79,7 +75,7 @@ module _ (c : Setting) (halts : List Halt) (known : c.halts ≡ given halts)
       → Left (Led new binds)
   led_leaves new binds so =
       extends_on halts st new (after_line st line (Led new binds)) so
-      (same_extends halts new (after_line st line (Led new binds)) refl refl refl refl)
+      (same_extends halts new (after_line st line (Led new binds)) refl refl refl)
 
   unless_leaves : (o : Option LineRefusal) (passed : Passed) → (o ≡ None → Left passed)
       → Left (unless o passed)
@@ -134,12 +130,8 @@ module _ (c : Setting) (halts : List Halt) (known : c.halts ≡ given halts)
       by true = record {
         events = [];
         trace = refl;
-        left = marks.Cut c.line k Short bytes ∷ [];
-        marked = refl;
         more = [];
-        inputs = tt;
         turns = refl;
-        says = refl;
         lost = λ none lost. lost;
         stopped = λ so. so;
         agrees = λ none so agrees. agrees;
@@ -153,7 +145,7 @@ module _ (c : Setting) (halts : List Halt) (known : c.halts ≡ given halts)
   stop_leaves s calls true is = refused_leaves refusals.Halted
   stop_leaves s calls false is =
       let stopped : Standing = record st { turns = Stop s calls ∷ st.turns } in
-      same_extends halts stopped (after_line st line (Led stopped None)) refl refl refl refl
+      same_extends halts stopped (after_line st line (Led stopped None)) refl refl refl
 
   pub act_extends : (does : Act)
       → Extends halts (begun st does) (after_line st line (act c bodies st does))
@@ -192,13 +184,13 @@ module _ (c : Setting) (halts : List Halt) (known : c.halts ≡ given halts)
       (cut_extends k bytes l (awake_by st (addressee st l) none))))
   act_extends (acts.Lose k) =
       letter_leaves (letter_of st.running k) (λ l. Led (lose st k) None)
-      (λ l. led_leaves (lose st k) None (same_extends halts st (lose st k) refl refl refl refl))
+      (λ l. led_leaves (lose st k) None (same_extends halts st (lose st k) refl refl refl))
   act_extends (acts.Restart s) =
       let ended = ended_halt st s in
       let after = put c ended (Restarts s) in
       extends_on halts ended after (after_line st line (Led after None))
       (put_extends c halts known ended (Restarts s) (ended_awake st s))
-      (same_extends halts after (after_line st line (Led after None)) refl refl refl refl)
+      (same_extends halts after (after_line st line (Led after None)) refl refl refl)
   act_extends acts.Drain =
       led_leaves (drain c st) None (drain_extends c halts known st)
   act_extends acts.Play =

@@ -1,26 +1,21 @@
 -- The works' numbers and the run's, where an event is put in.
-use Rattle.std.proofs.Common.{◌≡◌, ℕ, suc, ◌+◌, ◌-◌, ◌^◌, ◌≤◌, ◌<◌, eqb, Bool, true, false}
+use Rattle.std.proofs.Common.{◌≡◌, ℕ, ◌+◌, ◌≤◌, ◌<◌, eqb, Bool, true, false}
 use Rattle.std.proofs.Common.{if◌then◌else◌, List, [], ◌∷◌, ◌++◌, length, Option, Some, None}
 use Rattle.std.proofs.Common.{refl, sym, ap, ◌∙◌, subst, arith, drop, take, option_map}
-use Rattle.std.specs.Prelude.{map, min, nat_lt, reverse}
+use Rattle.std.specs.Prelude.{map, nat_lt, reverse}
 use Rattle.std.specs.List.{AllByRecursion}
 use Rattle.std.proofs.Math.Seq.{drop-append_seam, take-append_seam}
 use Rattle.std.proofs.lemmas.Grind.{common_steps}
-use Rattle.std.proofs.lemmas.List.{length-reverse, map-append, reverse-append}
-use Rattle.std.proofs.lemmas.Option.{same_Some}
+use Rattle.std.proofs.lemmas.List.{length-reverse, reverse-append}
 use Rattle.cam_type.specs.declared.ObjectDecl.{ObjectDecl}
 use Rattle.cam_event.specs.declared.Event.{Event}
 use Rattle.cam_event.specs.declared.LetterId.{LetterId}
-use Rattle.cam_event.specs.ByPast.{next}
-use Rattle.cam_event.specs.Inputs.{got_of}
 use Rattle.cam_event.specs.Runs.{IsNext}
-use Rattle.cam_event.specs.Taken.{IsRunTaking, MayStand, taken_of}
+use Rattle.cam_event.specs.Taken.{IsRunTaking, MayStand}
 use Rattle.cam_runs.specs.Standing.{Undecided, undecided_of}
 use Rattle.cam_runs.specs.UnderHalts.{ArePlaced}
-use Rattle.cam_runs.proofs.Undecided.{without_node}
 use Rattle.cam_histories.specs.Found.{moved_undecided, undecided_beside}
 use Rattle.cam_histories.specs.PutIn.{moved, moved_event, moved_letter, put_in}
-use Rattle.cam_cluster.specs.declared.works.undecided.OpenHalt.{OpenHalt}
 use Rattle.cam_cluster.specs.OpenHalts.{behind_event, next_number, open_beside, open_halt_of}
 use Rattle.cam_cluster.specs.OpenHalts.{put_in_at, renumbered, with_letter_renumbered}
 use Rattle.cam_cluster.specs.Works.{IsSentBefore, open_halt}

@@ -1,39 +1,34 @@
 -- What the works keep of a run, where letters are put or a node finds no memory.
-use Rattle.std.proofs.Common.{◌≡◌, inl, inr, ℕ, ◌+◌, ◌≤◌, ◌<◌, Bool, true, false}
+use Rattle.std.proofs.Common.{◌≡◌, ℕ, ◌+◌, ◌≤◌, ◌<◌, true, false}
 use Rattle.std.proofs.Common.{List, [], length, set, Some}
 use Rattle.std.proofs.Common.{refl, sym, ap, ◌∙◌, subst, arith}
 use Rattle.std.specs.Prelude.{slice_get}
 use Rattle.std.proofs.lemmas.Bool.{true≢false}
-use Rattle.std.proofs.lemmas.Option.{slice_get_within}
-use Rattle.std.proofs.lemmas.List.{length-set, length-reverse}
-use Rattle.cam_type.specs.declared.ObjectDecl.{ObjectDecl}
+use Rattle.std.proofs.lemmas.List.{length-reverse}
 use Rattle.cam_event.specs.declared.Event.{Event}
 use Rattle.cam_event.specs.ByDeltas.{Received}
 use Rattle.cam_locks.specs.Site.{Site}
 use Rattle.cam_net.specs.Outbox.{OutboxFields, HasPutSome}
-use Rattle.cam_net.specs.Waiting.{is_halted}
 use Rattle.cam_node.specs.Calls.{AreSame}
 use Rattle.cam_node.specs.Log.{Logged}
 use Rattle.cam_node.specs.LogOrder.{IsInOrder}
 use Rattle.cam_recman.specs.Says.{Says}
 use Rattle.cam_runs.specs.Running.{has_number}
-use Rattle.cam_runs.specs.Standing.{Standing, Undecided, undecided_of}
+use Rattle.cam_runs.specs.Standing.{Standing}
 use Rattle.cam_script.specs.declared.Script.{Script}
 use Rattle.cam_script.specs.Law.{IsScript}
-use Rattle.cam_histories.specs.Alike.{AreAlike}
 use Rattle.cam_histories.specs.Laws.{history_of}
-use Rattle.cam_histories.specs.Undecided.{IsUndecidedAlike}
 use Rattle.cam_histories.specs.Whole.{KeepsInOrder, StandsAt, IsSiteOf, AreSitesOf}
 use Rattle.cam_histories.proofs.ManyPut.{all_may_be_written, some_put_stand}
 use Rattle.cam_histories.proofs.Sites.{site_at, sites_with}
-use Rattle.cam_cluster.specs.Works.{NodeFields, WorksFields, IsHaltOf, IsNodeOf, KeepsRun}
+use Rattle.cam_cluster.specs.Works.{NodeFields, WorksFields, KeepsRun}
 use Rattle.cam_cluster.specs.Works.{IsUnfailingNode, no_node, sites_of}
 use Rattle.cam_cluster.proofs.HaltsKept.{undecided_on}
 use Rattle.cam_cluster.proofs.NodeChanged.{KeepsNodes, kept_nodes, as_many, halts_are, nodes_are}
 use Rattle.cam_cluster.proofs.NodeChanged.{sites_are}
 use Rattle.cam_cluster.proofs.SameNode.{same_represents}
 use Rattle.cam_cluster.proofs.StoppedWorks.{nodes_stopped, unfailing_before}
-use Rattle.cam_cluster.proofs.WorksNodes.{set_tells, site_there, sites_set}
+use Rattle.cam_cluster.proofs.WorksNodes.{site_there}
 
 -- Letters that were to be put next are put.
 pub keeps_as_put : (script : Script) (st : Standing) (works : WorksFields) (now : OutboxFields)

@@ -1,7 +1,7 @@
 -- Halts that agree with the lines that stop disks go on agreeing behind a restart, which finds the
 -- event of a halt just where the stop let it be taken.
 use Rattle.std.proofs.Common.{◌≡◌, inl, inr, ℕ, zero, suc, ◌+◌, ◌-◌, ◌≤◌, eqb, Bool, true, false}
-use Rattle.std.proofs.Common.{◌&&◌, if◌then◌else◌, List, [], ◌∷◌, drop, length, Option, Some, None}
+use Rattle.std.proofs.Common.{◌&&◌, if◌then◌else◌, List, [], ◌∷◌, drop, Option, Some, None}
 use Rattle.std.proofs.Common.{is_some, refl, sym, ap, ◌∙◌, subst, arith, true≢false, eqb-true}
 use Rattle.std.specs.Prelude.{slice_get}
 use Rattle.std.specs.List.{list_any}
@@ -32,7 +32,7 @@ use Rattle.cam_cluster.specs.Restarts.{FindsByStop, HasFoundByStop}
 use Rattle.cam_cluster.specs.Seen.{IsNextStep, Seen, lines_taken, run_first}
 use Rattle.cam_cluster.specs.SoFar.{LinesFields}
 use Rattle.cam_cluster.specs.Stopping.{IsAsStopped, stopped_at, told_last}
-use Rattle.cam_cluster.specs.Works.{IsUnfailing, WorksFields}
+use Rattle.cam_cluster.specs.Works.{IsUnfailing}
 use Rattle.cam_cluster.proofs.FoundSeen.{stands}
 use Rattle.cam_cluster.proofs.HaltsByStop.{stopped_said}
 use Rattle.cam_cluster.proofs.HaltsDiffer.{found_halts_differ}

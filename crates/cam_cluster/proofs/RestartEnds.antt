@@ -1,5 +1,5 @@
 -- What a restart found and left, and works before and behind it.
-use Rattle.std.proofs.Common.{◌≡◌, ℕ, zero, ◌+◌, Bool, true, false, List, []}
+use Rattle.std.proofs.Common.{◌≡◌, ℕ, zero, Bool, true, false, List, []}
 use Rattle.std.proofs.Common.{Option, Some, None, refl, sym, ap}
 use Rattle.std.proofs.Common.{◌∙◌, subst}
 use Rattle.std.specs.Prelude.{IfSome, if◌then◌else◌, slice_get}

@@ -1,19 +1,15 @@
 -- What a restart reads of a node's log, and what a node tells of it before its disk was cleared.
-use Rattle.std.proofs.Common.{◌≡◌, ◌⊎◌, inl, inr, ℕ, Bool, List, [], ◌∷◌, Option, None}
+use Rattle.std.proofs.Common.{◌≡◌, ℕ, Bool, List, Option}
 use Rattle.std.proofs.Common.{Ok, Err, refl, sym, ap, ◌∙◌, subst}
 use Rattle.std.specs.Prelude.{IfOk, OnErr, Result}
 use Rattle.cam_type.specs.declared.ObjectDecl.{ObjectDecl}
 use Rattle.cam_event.specs.declared.Event.{Event}
 use Rattle.cam_event.specs.ByDeltas.{Received}
-use Rattle.cam_event.specs.Inputs.{Restarts}
-use Rattle.cam_event.specs.Loads.{no_load}
 use Rattle.cam_log.specs.Moments.{Opened}
 use Rattle.cam_node.specs.declared.found.Restarted.{Restarted}
 use Rattle.cam_node.specs.Found.{FindsBy, HasRestarted}
-use Rattle.cam_node.specs.Halting.{IsEnded, IsThrough}
-use Rattle.cam_node.specs.Keeping.{IsHalt, IsLogOf, IsLogOfEither, IsRestartHalt, IsRestartOf}
-use Rattle.cam_node.specs.Keeping.{KeepsHistory, KeepsNode}
-use Rattle.cam_node.specs.Halting.{taken_step}
+use Rattle.cam_node.specs.Keeping.{IsLogOf}
+use Rattle.cam_node.specs.Keeping.{KeepsHistory}
 use Rattle.cam_node.specs.Log.{Logged}
 use Rattle.cam_node.specs.Opened.{MayRead, logged_of}
 use Rattle.cam_node.specs.Represents.{Node}

@@ -15,7 +15,7 @@ use Rattle.cam_net.specs.Waiting.{is_halted}
 use Rattle.cam_node.specs.Calls.{letters_of}
 use Rattle.cam_node.specs.Keeping.{IsLogOf, IsRestart}
 use Rattle.cam_node.specs.Log.{Logged}
-use Rattle.cam_runs.specs.Halts.{Halting, Turn, Restart, after_append, appends, calls_left}
+use Rattle.cam_runs.specs.Halts.{Halting, Restart, after_append, appends, calls_left}
 use Rattle.cam_runs.specs.Running.{has_number}
 use Rattle.cam_runs.specs.Standing.{Standing, Setting, Undecided, ended_halt, put, undecided_of}
 use Rattle.cam_runs.specs.UnderHalts.{IsUnderHalts}

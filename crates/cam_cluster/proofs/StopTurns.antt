@@ -1,15 +1,14 @@
 -- What one more turn makes of the nodes at which stops end.
-use Rattle.std.proofs.Common.{◌≡◌, ◌⊎◌, inl, inr, ℕ, ◌+◌, ◌-◌, ◌<◌, ◌≤◌, eqb, nat_lt, Bool, true, false, not, ◌&&◌, ◌||◌}
+use Rattle.std.proofs.Common.{◌≡◌, ◌⊎◌, inl, inr, ℕ, ◌-◌, ◌<◌, ◌≤◌, eqb, nat_lt, Bool, true, false, not, ◌&&◌}
 use Rattle.std.proofs.Common.{if◌then◌else◌, List, [], ◌∷◌, Option, Some, None, is_some}
 use Rattle.std.proofs.Common.{refl, sym, ap, ◌∙◌, subst, arith}
-use Rattle.std.specs.Prelude.{filter}
-use Rattle.std.proofs.lemmas.Bool.{eq-eqb, ne_eqb, true≢false}
+use Rattle.std.proofs.lemmas.Bool.{eq-eqb, ne_eqb}
 use Rattle.std.proofs.lemmas.Bool.Decides.{eqb_tells}
 use Rattle.cam_event.specs.History.{is_empty}
 use Rattle.cam_log.specs.Spent.{Spent}
 use Rattle.cam_recman.specs.declared.Record.{Record}
 use Rattle.cam_runs.specs.Running.{has_number}
-use Rattle.cam_runs.specs.Halts.{Turn, Input, Stop, Restart, calls_left, after_append, by_stops, stopped_append}
+use Rattle.cam_runs.specs.Halts.{Turn, Input, Restart, calls_left, after_append, by_stops, stopped_append}
 use Rattle.cam_node.specs.Appending.{SpentFor}
 use Rattle.cam_histories.proofs.Numbers.{lt_cases}
 use Rattle.cam_cluster.specs.Stopping.{too_few, ends_by, runs_on, stopped_at, IsAsStopped}

@@ -1,6 +1,6 @@
 -- An input put to a node of works, by the lines that stop its disk.
-use Rattle.std.proofs.Common.{◌≡◌, ◌⊎◌, inl, inr, ℕ, ◌+◌, ◌<◌, ◌≤◌, eqb, Bool, true, false, ◌||◌}
-use Rattle.std.proofs.Common.{List, ◌∷◌, map, set, Option, Some, None}
+use Rattle.std.proofs.Common.{◌≡◌, ◌⊎◌, inl, inr, ℕ, ◌+◌, eqb, Bool, true, false, ◌||◌}
+use Rattle.std.proofs.Common.{List, ◌∷◌, map, set, Option, Some}
 use Rattle.std.proofs.Common.{refl, sym, ap, ◌∙◌, subst, arith}
 use Rattle.std.specs.Prelude.{slice_get}
 use Rattle.std.proofs.lemmas.Bool.{eq-eqb, ne_eqb, or_left, true≢false}
@@ -23,8 +23,8 @@ use Rattle.cam_script.specs.declared.Script.{Script}
 use Rattle.cam_histories.specs.Laws.{history_of}
 use Rattle.cam_histories.specs.PutIn.{nameless}
 use Rattle.cam_cluster.specs.Puts.{IsPutAt}
-use Rattle.cam_cluster.specs.Stopped.{IsHaltByStop, IsStoppedAs}
-use Rattle.cam_cluster.specs.Stopping.{IsAsStopped, ends_by, runs_on}
+use Rattle.cam_cluster.specs.Stopped.{IsHaltByStop}
+use Rattle.cam_cluster.specs.Stopping.{IsAsStopped, ends_by}
 use Rattle.cam_cluster.specs.Works.{NodeFields, WorksFields, KeepsRun, AreStopped, IsUnfailing}
 use Rattle.cam_cluster.specs.Works.{IsUnfailingNode, no_node}
 use Rattle.cam_cluster.proofs.PutNode.{site_is, node_keeps, may_then}

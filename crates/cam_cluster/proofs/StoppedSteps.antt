@@ -1,9 +1,8 @@
 -- A step of a node in a run, by the lines that stop its disk: it halts just where a stop ends, and
 -- its log has what was taken of the event just where three calls passed.
-use Rattle.std.proofs.Common.{◌≡◌, inl, inr, ℕ, ◌<◌, ◌≤◌, eqb, Bool, true, false, not, if◌then◌else◌}
-use Rattle.std.proofs.Common.{List, [], ◌∷◌, map, Option, Some, None, refl, sym, ap, ◌∙◌, subst}
+use Rattle.std.proofs.Common.{◌≡◌, ℕ, ◌<◌, Bool, true, false, not}
+use Rattle.std.proofs.Common.{List, ◌∷◌, Option, Some, None, refl, sym, ap, ◌∙◌, subst}
 use Rattle.std.proofs.lemmas.Bool.{true≢false}
-use Rattle.std.proofs.lemmas.Option.{same_Some}
 use Rattle.cam_type.specs.declared.ObjectDecl.{ObjectDecl}
 use Rattle.cam_event.specs.declared.Event.{Event}
 use Rattle.cam_event.specs.History.{is_empty}
@@ -16,9 +15,9 @@ use Rattle.cam_event.specs.Taken.{IsRunTaking}
 use Rattle.cam_commit.specs.Steps.{is_restarting}
 use Rattle.cam_log.specs.Moments.{Opened}
 use Rattle.cam_recman.specs.declared.Record.{Record}
-use Rattle.cam_node.specs.Appending.{HasAppended, IsCutAfter, OpensAfter, OpensAs, history_after}
+use Rattle.cam_node.specs.Appending.{HasAppended, OpensAfter, OpensAs, history_after}
 use Rattle.cam_node.specs.Entries.{entry_records}
-use Rattle.cam_node.specs.Found.{Adds, IsHaltedAt, HaltsAt, whole_step}
+use Rattle.cam_node.specs.Found.{Adds, HaltsAt, whole_step}
 use Rattle.cam_node.specs.Halting.{IsStepThrough, taken}
 use Rattle.cam_node.specs.Keeping.{KeepsNode, MayBePutThen}
 use Rattle.cam_node.specs.Represents.{Node}
@@ -28,7 +27,7 @@ use Rattle.cam_histories.specs.LogEntries.{next_whole}
 use Rattle.cam_histories.specs.Stepping.{IsPut}
 use Rattle.cam_histories.proofs.LogEntries.{entries_add, entries_are_appended}
 use Rattle.cam_cluster.specs.Stopped.{IsHaltByStop}
-use Rattle.cam_cluster.specs.Stopping.{ends_by, runs_on, stopped_at}
+use Rattle.cam_cluster.specs.Stopping.{ends_by, runs_on}
 use Rattle.cam_cluster.proofs.StopTurns.{cut_as_stopped, own_stopped, spent_as}
 
 module _ (objects : List ObjectDecl) (taking : ℕ → Bool) (trace : List Event)

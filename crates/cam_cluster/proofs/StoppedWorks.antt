@@ -1,22 +1,20 @@
 -- The nodes of works by the lines that stop their disks, where one of them steps or restarts.
-use Rattle.std.proofs.Common.{◌≡◌, inl, inr, ℕ, zero, suc, ◌+◌, ◌<◌, ◌≤◌, eqb, Bool, true, false, ◌||◌}
-use Rattle.std.proofs.Common.{◌⊎◌, List, [], ◌∷◌, map, set, Option, Some, None, Result, Err}
-use Rattle.std.proofs.Common.{refl, sym, ap, ◌∙◌, subst, arith}
+use Rattle.std.proofs.Common.{◌≡◌, inl, inr, ℕ, zero, suc, ◌+◌, ◌≤◌, Bool, false}
+use Rattle.std.proofs.Common.{◌⊎◌, List, [], ◌∷◌, set, Option, Some, Result, Err}
+use Rattle.std.proofs.Common.{sym, ap, ◌∙◌, subst, arith}
 use Rattle.std.specs.Prelude.{slice_get}
 use Rattle.std.specs.List.{AllByRecursion}
-use Rattle.std.proofs.lemmas.Bool.{ne_eqb, eq-eqb, true≢false, or_left}
 use Rattle.std.proofs.lemmas.Option.{none-some, slice_get_within, same_Some}
 use Rattle.cam_type.specs.declared.ObjectDecl.{ObjectDecl}
 use Rattle.cam_event.specs.declared.Event.{Event}
 use Rattle.cam_log.specs.CutOff.{IsCutOff}
 use Rattle.cam_runs.specs.Running.{has_number}
-use Rattle.cam_runs.specs.Halts.{Turn, Input, Stop, Restart, calls_left}
+use Rattle.cam_runs.specs.Halts.{Turn, calls_left}
 use Rattle.cam_histories.specs.Alike.{AreAlike}
 use Rattle.cam_histories.specs.Laws.{history_of}
-use Rattle.cam_cluster.specs.Stopped.{IsHaltByStop, IsStoppedAs}
-use Rattle.cam_cluster.specs.Stopping.{ends_by, stopped_at, IsAsStopped}
+use Rattle.cam_cluster.specs.Stopped.{IsStoppedAs}
+use Rattle.cam_cluster.specs.Stopping.{stopped_at, IsAsStopped}
 use Rattle.cam_cluster.specs.Works.{NodeFields, AreStopped, AreStoppedBut, IsUnfailing, IsUnfailingNode}
-use Rattle.cam_cluster.proofs.StopTurns.{ended_as, halted_as, other_calls, other_stopped, stood_as}
 use Rattle.cam_cluster.proofs.HaltsByStop.{halt_alike}
 use Rattle.cam_cluster.proofs.WorksNodes.{set_tells}
 

@@ -28,7 +28,6 @@ pub mod LetterCounts
 pub mod Stops
 pub mod Restarts
 pub mod Taking
-pub mod StoppedDisks
 pub mod Courses
 pub mod Founding
 pub mod WholeRuns

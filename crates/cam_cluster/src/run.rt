@@ -1,11 +1,9 @@
 //! The run of a whole script: its lines one after another, over a disk for each of its nodes.
-ghost use Rattle.std.specs.Prelude.{◌≡◌, ◌≤◌, List, IfOk, OnOk, None, Some, true, drop, length, slice_get};
+ghost use Rattle.std.specs.Prelude.{◌≡◌, IfOk, OnOk, None, length};
 ghost use Rattle.std.specs.List.{AllByRecursion};
-ghost use Rattle.cam_runs.specs.Halts.{Turn};
 ghost use Rattle.cam_script.specs.declared.Script.{Script as ScriptFields};
 ghost use Rattle.cam_script.specs.Law.{IsScript};
 ghost use Rattle.cam_cluster.specs.Servers.{AreServers};
-ghost use Rattle.cam_cluster.specs.StoppedDisks.{KnowsStops, begun_turns, halted_nodes};
 ghost use Rattle.cam_cluster.specs.Works.{IsUnfailing};
 ghost use Rattle.cam_cluster.specs.WholeRuns.{HasTakenLines, HasTakenNext, IsNextOfRun, IsRecordOf};
 
@@ -14,14 +12,13 @@ use crate::course::{Course, CourseFault};
 use crate::founding::ClusterFault;
 use crate::lines::{AsLines, Lines};
 use crate::servers::Servers;
-use crate::stopped::Stopped;
 use crate::telling::{TellingDisk, TellingLog};
 use crate::workers::Workers;
 use cam_base::{NoMemory, Sequence};
 use cam_ckpt::{CheckpointLog, Ckpt};
 use cam_disk::{Disk, StopDisk};
 use cam_event::RunRecord;
-use cam_script::{Act, Script, Step};
+use cam_script::{Script, Step};
 use cam_type::DataType;
 use std::alloc::Global;
 use thiserror::Error;
@@ -32,9 +29,6 @@ pub enum RunFault {
     /// The disk of the node of this number failed by itself, in a call that it did.
     #[error("the disk of a node failed")]
     DiskFault(u8),
-    /// The node of this number halted, though no line had stopped its disk.
-    #[error("a node halted")]
-    Halted(u8),
     /// The disk of the node of this number failed while the node restarted.
     #[error("a restart failed")]
     RestartFailed(u8),
@@ -73,11 +67,10 @@ fn stoppable<D: Disk>(alloc: Global, disks: Vec<D>) -> Result<Vec<StopDisk<D>>, 
     Ok(over)
 }
 
-/// The run of a script: the course of its lines so far, and the disks that they have stopped.
+/// The run of a script: the course of its lines so far.
 #[derive(Drop)]
 struct Run<L: CheckpointLog> {
     course: Course<L>,
-    stopped: Stopped,
 }
 
 impl<D: TellingDisk> Run<Ckpt<StopDisk<D>>> {
@@ -91,8 +84,7 @@ impl<D: TellingDisk> Run<Ckpt<StopDisk<D>>> {
         requires one_each { length disks.items ≡ script.now.nodes }
         ensures { IfOk result (λ run. HasTakenLines script.now 0
             (⟦<Lines<Ckpt<StopDisk<D>>> as AsLines>⟧.fields run.course.lines)
-            (⟦<Lines<Ckpt<StopDisk<D>>> as AsLines>⟧.may_read run.course.lines) run.course.workers
-            run.stopped.nodes) }
+            (⟦<Lines<Ckpt<StopDisk<D>>> as AsLines>⟧.may_read run.course.lines) run.course.workers) }
     {
         let lines = match Lines::new(alloc, script, stoppable(alloc, disks)?) {
             Ok(lines) => lines,
@@ -103,7 +95,6 @@ impl<D: TellingDisk> Run<Ckpt<StopDisk<D>>> {
                 lines,
                 workers: Workers::new(alloc),
             },
-            stopped: Stopped::none(),
         };
         run.unfailing()?;
         Ok(run)
@@ -126,8 +117,8 @@ impl<L: TellingLog> Run<L> {
         }
     }
 
-    /// Takes the next line of the script, which may be refused. It fails where something failed by itself in it, or a node halted whose
-    /// disk no line had stopped, but no clause says that it fails for such a reason.
+    /// Takes the next line of the script, which may be refused. It fails where something failed by itself in it, but no clause says
+    /// that it fails for such a reason.
     fn take_next<R: DataType, Q: DataType, C: DataType>(
         &mut self,
         script: &Script,
@@ -136,51 +127,22 @@ impl<L: TellingLog> Run<L> {
     ) -> Result<(), RunFault>
         requires next { IsNextOfRun script.now step.now
             (⟦<Lines<L> as AsLines>⟧.fields self.old.course.lines)
-            (⟦<Lines<L> as AsLines>⟧.may_read self.old.course.lines) self.old.course.workers
-            self.old.stopped.nodes }
+            (⟦<Lines<L> as AsLines>⟧.may_read self.old.course.lines) self.old.course.workers }
         requires servers { AreServers R.kind Q.kind C.kind
             servers.old.register servers.old.queue servers.old.counter }
         ensures taken { OnOk result (HasTakenNext script.now step.now
             (⟦<Lines<L> as AsLines>⟧.fields self.old.course.lines)
             (⟦<Lines<L> as AsLines>⟧.may_read self.old.course.lines) self.old.course.workers
-            self.old.stopped.nodes
             (⟦<Lines<L> as AsLines>⟧.fields self.new.course.lines)
-            (⟦<Lines<L> as AsLines>⟧.may_read self.new.course.lines) self.new.course.workers
-            self.new.stopped.nodes) }
+            (⟦<Lines<L> as AsLines>⟧.may_read self.new.course.lines) self.new.course.workers) }
         ensures servers { AreServers R.kind Q.kind C.kind
             servers.new.register servers.new.queue servers.new.counter }
     {
-        let marks = self.course.lines.works.marks.len();
         match self.course.take(step, &script.bodies, servers) {
-            Ok(_) => self.led(&step.act, marks),
+            Ok(_) => self.unfailing(),
             Err(CourseFault::Line(LineFault::Refused(_))) => self.unfailing(),
             Err(CourseFault::Line(LineFault::NoMemory)) => Err(RunFault::NoMemory),
             Err(CourseFault::RestartFailed(node)) => Err(RunFault::RestartFailed(node)),
-        }
-    }
-
-    /// A line led on behind so many marks: nothing may have failed by itself, and each node that halted in it has to be one whose
-    /// disk is stopped.
-    fn led(&mut self, act: &Act, marks: usize) -> Result<(), RunFault>
-        requires { marks ≤ length self.old.course.lines.works.marks.items }
-        ensures course { self.new.course ≡ self.old.course }
-        ensures knows { (turns : List Turn) → KnowsStops turns self.old.stopped.nodes
-            → KnowsStops (begun_turns act.now turns) self.new.stopped.nodes }
-        ensures stopped { OnOk result (AllByRecursion
-            (λ s. slice_get self.new.stopped.nodes s ≡ Some true)
-            (halted_nodes (drop marks self.old.course.lines.works.marks.items))) }
-        ensures unfailing { OnOk result (IsUnfailing
-            (⟦<Lines<L> as AsLines>⟧.fields self.old.course.lines).works.starved
-            (⟦<Lines<L> as AsLines>⟧.fields self.old.course.lines).works.nodes) }
-    {
-        self.stopped.lead(act);
-        self.unfailing()?;
-        match self
-            .stopped
-            .first_other(&self.course.lines.works.marks[marks..])
-        {
-            Some(node) => Err(RunFault::Halted(node)),
-            None => Ok(()),
         }
     }
 
@@ -192,14 +154,12 @@ impl<L: TellingLog> Run<L> {
     ) -> Result<(), RunFault>
         requires none { HasTakenLines script.now 0
             (⟦<Lines<L> as AsLines>⟧.fields self.old.course.lines)
-            (⟦<Lines<L> as AsLines>⟧.may_read self.old.course.lines) self.old.course.workers
-            self.old.stopped.nodes }
+            (⟦<Lines<L> as AsLines>⟧.may_read self.old.course.lines) self.old.course.workers }
         requires servers { AreServers R.kind Q.kind C.kind
             servers.old.register servers.old.queue servers.old.counter }
         ensures all { OnOk result (HasTakenLines script.now (length script.now.steps)
             (⟦<Lines<L> as AsLines>⟧.fields self.new.course.lines)
-            (⟦<Lines<L> as AsLines>⟧.may_read self.new.course.lines) self.new.course.workers
-            self.new.stopped.nodes) }
+            (⟦<Lines<L> as AsLines>⟧.may_read self.new.course.lines) self.new.course.workers) }
         ensures servers { AreServers R.kind Q.kind C.kind
             servers.new.register servers.new.queue servers.new.counter }
     {
@@ -213,8 +173,7 @@ impl<L: TellingLog> Run<L> {
     fn into_record(self) -> RunRecord
         ensures { (script : ScriptFields) → HasTakenLines script (length script.steps)
             (⟦<Lines<L> as AsLines>⟧.fields self.course.lines)
-            (⟦<Lines<L> as AsLines>⟧.may_read self.course.lines) self.course.workers
-            self.stopped.nodes → IsRecordOf script result }
+            (⟦<Lines<L> as AsLines>⟧.may_read self.course.lines) self.course.workers → IsRecordOf script result }
     {
         let works = self.course.lines.works;
         RunRecord {
@@ -225,14 +184,14 @@ impl<L: TellingLog> Run<L> {
 }
 
 /// Runs a whole script, each node over the disk at its place, which is formatted, whatever it held.
-/// A line that is refused leaves its mark, and the run goes on; so it does where a node halts whose
-/// disk a line had stopped.
+/// A line that is refused leaves its mark, and the run goes on; so it does where a node halts since
+/// a line has stopped its disk. What it gives is the record of the one run of the script: a node
+/// halts just where such a line cuts its append off.
 ///
 /// The servers do the operations of its objects. The run ends by `DiskFault` where a disk fails by
-/// itself, or had failed before, by `RestartFailed` where one fails while its node restarts, by
-/// `NoMemory` where a node halts since memory ran out in an append, and by `Halted` where one halts
-/// for another reason though no line had stopped its disk. No clause says that a fault has such a
-/// cause, nor of which node it is.
+/// itself, or had failed before, by `RestartFailed` where one fails while its node restarts, and by
+/// `NoMemory` where memory runs out. No clause says that a fault has such a cause, nor of which node
+/// it is.
 pub fn run_script<D: TellingDisk, R: DataType, Q: DataType, C: DataType>(
     alloc: Global,
     script: &Script,

@@ -4,5 +4,5 @@ use Rattle.cam_cluster.proofs.run.Run+Ckpt+StopDisk+D.new.Goals as goal
 
 pub returns : goal.returns
 returns g c =
-    none_taken c.args.script.now _ _ _ _ c.in-Ok.ensures.before_first c.new-2.ensures
-    c.none.ensures c.in_ok-unfailing.ensures
+    none_taken c.args.script.now _ _ _ c.in-Ok.ensures.before_first c.new-2.ensures
+    c.in_ok-unfailing.ensures

@@ -7,5 +7,5 @@ pub returns : goal.returns
 returns g c script taken =
     all_taken script (lines_of g.L.CheckpointLog g.L.EntryLog c.args.self.course.lines)
     (reads_of g.L.CheckpointLog g.L.EntryLog c.args.self.course.lines.works)
-    c.args.self.course.workers c.args.self.stopped.nodes c.into_trace.result c.from_vec.result taken
+    c.args.self.course.workers c.into_trace.result c.from_vec.result taken
     c.into_trace.ensures c.from_vec.ensures

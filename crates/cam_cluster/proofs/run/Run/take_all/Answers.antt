@@ -37,5 +37,5 @@ returns-clause-all g c =
     subst (λ (n : ℕ). HasTakenLines c.args.script.now n
     (lines_of g.L.CheckpointLog g.L.EntryLog c.loop-step.self.course.lines)
     (reads_of g.L.CheckpointLog g.L.EntryLog c.loop-step.self.course.lines.works)
-    c.loop-step.self.course.workers c.loop-step.self.stopped.nodes)
+    c.loop-step.self.course.workers)
     (omega (arith, end) ∙ ap length c.loop-step.invariant.items) c.loop-step.invariant.taken

@@ -9,8 +9,7 @@ abbrev pub invariant-loop-step : goal.invariant-loop-step
 invariant-loop-step g l = record {
   taken : HasTakenLines l.fn.script l.step-index
       (lines_of g.L.CheckpointLog g.L.EntryLog l.self.course.lines)
-      (reads_of g.L.CheckpointLog g.L.EntryLog l.self.course.lines.works) l.self.course.workers
-      l.self.stopped.nodes;
+      (reads_of g.L.CheckpointLog g.L.EntryLog l.self.course.lines.works) l.self.course.workers;
   servers : AreServers g.R.DataType.kind g.Q.DataType.kind g.C.DataType.kind l.servers.register
       l.servers.queue l.servers.counter;
   items : l.step-items ≡ l.fn.script.steps;

@@ -1,5 +1,5 @@
 -- A node's disk is stopped.
-use Rattle.std.proofs.Common.{refl, ap, arith, rules}
+use Rattle.std.proofs.Common.{refl, arith, rules}
 use Rattle.std.proofs.lemmas.Grind.{common_steps}
 use Rattle.cam_node.specs.Calls.{answers}
 use Rattle.cam_cluster.proofs.AsSeen.{part, reads_at, tells_of}
