@@ -5,7 +5,6 @@ use Rattle.std.proofs.Common.{true≢false, Option, Some, None, ◌-◌}
 use Rattle.std.proofs.lemmas.List.{length-map}
 use Rattle.std.proofs.lemmas.Option.{same_Some, slice_get_past}
 use Rattle.std.specs.Option.{unwrap_or}
-use Rattle.std.specs.List.{AllByRecursion}
 use Rattle.cam_log.specs.Spent.{Spent}
 use Rattle.std.specs.Prelude.{Result, IfOk, IsFalse, slice_get}
 use Rattle.cam_type.specs.declared.ObjectDecl.{ObjectDecl}
@@ -67,15 +66,6 @@ pub none_spent : {N E : Type 0} (passes : N → Option ℕ) (result : Result N E
 none_spent passes (Ok n) calls before none spent =
     subst (λ (o : Option ℕ). Spent calls o (passes n)) none spent
 none_spent passes (Err e) calls before none spent = tt
-
--- of disks the last, and those before it
-pub fresh_parts : {D : Type 0} (P : D → Type 0) (disks all : List D) (disk : D)
-    → all ≡ disks ++ disk ∷ [] → AllByRecursion P all → P disk × AllByRecursion P disks
-fresh_parts {D = D} P disks all disk is each = by disks (subst (AllByRecursion P) is each)
-  where
-    by : (xs : List D) → AllByRecursion P (xs ++ disk ∷ []) → P disk × AllByRecursion P xs
-    by [] last = (last.0, tt)
-    by (x ∷ xs) more = let rest = by xs more.1 in (rest.0, (more.0, rest.1))
 
 -- one disk more, the last
 pub back_behind : {D : Type 0} (tells : D → Bool) (faults_of : D → ℕ) (fault : ClusterFault)

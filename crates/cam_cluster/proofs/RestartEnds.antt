@@ -68,7 +68,8 @@ after_room place old mid new might mays may ends.Found before has = record {
       has.stands script st found k ahead e halts line restarted is (before script st is keeps)
       under beyond stands;
 }
-after_room place old mid new might mays may ends.Failed before has = tt
+after_room place old mid new might mays may ends.Failed before has =
+    λ script st is keeps. has script st is (before script st is keeps)
 
 pub nothing_sent : (node : Node) (sent : List Sent) (letters : List Letter) → letters ≡ []
     → sent ≡ [] → letters ≡ letters_of node sent

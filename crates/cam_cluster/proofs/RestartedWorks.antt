@@ -50,7 +50,7 @@ module _ (script : Script) (st : Standing) (place : ℕ) (works : WorksFields)
   over = (keeps.nodes place old there).over
 
   -- while it is not halted what is read of its log is that of its history
-  read_awake : (logged : Logged) → has_number st.halted (place + 1) ≡ false
+  pub read_awake : (logged : Logged) → has_number st.halted (place + 1) ≡ false
       → IsReadOf old.site.entries logged
       → IsLogOf script.objects (place + 1) (history_of script.objects st.running.trace (place + 1))
       logged

@@ -1,6 +1,8 @@
 -- Disks that are taken out of nodes.
 use Rattle.std.proofs.Common.{◌≡◌, ℕ, Bool, List, [], ◌∷◌, ◌++◌, Ok, sym, subst}
 use Rattle.cam_ckpt.specs.Reading.{read_ckpt}
+use Rattle.cam_disk.specs.declared.stop.StopDisk.{StopDisk}
+use Rattle.cam_disk.specs.Stopping.{within}
 use Rattle.cam_log.specs.Moments.{Opened, OpeningsBy}
 use Rattle.cam_node.specs.Log.{Logged}
 use Rattle.cam_node.specs.Opened.{MayRead}
@@ -20,12 +22,22 @@ disk_reads {opens = opens} {now = now} since same logged read = record {
   is = read.is;
 }
 
+-- what is told of a disk that can be stopped is told of the disk within
+pub out_within : {N D : Type 0} {tells_node : N → Bool} {node_reads : N → Logged → Type 0}
+    {tells : D → Bool} {moment : D → ℕ} {left : D → ℕ → List ℕ → Type 0} {node : N}
+    (over : StopDisk D) (disk : D) → disk ≡ within over
+    → IsTakenOut tells_node node_reads tells moment left node over.inner
+    → IsTakenOut tells_node node_reads tells moment left node disk
+out_within {tells_node = tells_node} {node_reads = node_reads} {tells = tells} {moment = moment}
+    {left = left} {node = node} over disk is out =
+    subst (IsTakenOut tells_node node_reads tells moment left node) (sym is) out
+
 module _ {N D : Type 0} {tells_node : N → Bool} {node_reads : N → Logged → Type 0}
-    {tells : D → Bool} {reads : D → Logged → Type 0} where
+    {tells : D → Bool} {moment : D → ℕ} {left : D → ℕ → List ℕ → Type 0} where
   out_behind : (nodes : List N) (disks : List D) (node : N) (disk : D)
-      → AreTakenOut tells_node node_reads tells reads nodes disks
-      → IsTakenOut tells_node node_reads tells reads node disk
-      → AreTakenOut tells_node node_reads tells reads (nodes ++ node ∷ []) (disks ++ disk ∷ [])
+      → AreTakenOut tells_node node_reads tells moment left nodes disks
+      → IsTakenOut tells_node node_reads tells moment left node disk
+      → AreTakenOut tells_node node_reads tells moment left (nodes ++ node ∷ []) (disks ++ disk ∷ [])
   out_behind [] [] node disk out last = (last, tt)
   out_behind [] (d ∷ disks) node disk out last = elim out [ ]
   out_behind (n ∷ nodes) [] node disk out last = elim out [ ]
@@ -35,9 +47,9 @@ module _ {N D : Type 0} {tells_node : N → Bool} {node_reads : N → Logged →
   -- the last disk is taken out behind the others
   pub out_last : (nodes all : List N) (disks now : List D) (node : N) (disk : D)
       → all ≡ nodes ++ node ∷ [] → now ≡ disks ++ disk ∷ []
-      → AreTakenOut tells_node node_reads tells reads nodes disks
-      → IsTakenOut tells_node node_reads tells reads node disk
-      → AreTakenOut tells_node node_reads tells reads all now
+      → AreTakenOut tells_node node_reads tells moment left nodes disks
+      → IsTakenOut tells_node node_reads tells moment left node disk
+      → AreTakenOut tells_node node_reads tells moment left all now
   out_last nodes all disks now node disk all_is now_is out last =
-      subst (λ (z : List N × List D). AreTakenOut tells_node node_reads tells reads z.0 z.1)
+      subst (λ (z : List N × List D). AreTakenOut tells_node node_reads tells moment left z.0 z.1)
       (sym (λ i. (all_is i, now_is i))) (out_behind nodes disks node disk out last)

@@ -16,10 +16,11 @@ use Rattle.cam_script.specs.declared.Step.{Step}
 use Rattle.cam_cluster.specs.declared.workers.Workers.{Workers}
 use Rattle.cam_cluster.specs.Between.{KeepsBetween}
 use Rattle.cam_cluster.specs.Courses.{IsNextOfCourse}
+use Rattle.cam_cluster.specs.Disks.{KeepsLogs}
 use Rattle.cam_cluster.specs.Founding.{before_first}
-use Rattle.cam_cluster.specs.Seen.{IsNextStep}
+use Rattle.cam_cluster.specs.Seen.{IsNextStep, Seen}
 use Rattle.cam_cluster.specs.SoFar.{LinesFields}
-use Rattle.cam_cluster.specs.WholeRuns.{HasTakenLines, IsNextOfRun, IsRecordOf}
+use Rattle.cam_cluster.specs.WholeRuns.{HasTakenLines, IsNextOfRun, IsRunWithLogs}
 use Rattle.cam_cluster.specs.Workers.{AreWorkers}
 use Rattle.cam_cluster.specs.Works.{IsUnfailing}
 use Rattle.cam_cluster.proofs.AllLines.{all_lines_are_the_run}
@@ -62,22 +63,28 @@ none_taken script lines may_read at_work keeps workers unfailing = record {
 -- behind the last
 pub all_taken : (script : Script) (lines : LinesFields) (may_read : ℕ → Logged → Type 0)
     (at_work : Workers) (trace : List Event) (marks : List Mark)
-    → HasTakenLines script (length script.steps) lines may_read at_work
-    → trace ≡ lines.works.events → marks ≡ lines.works.marks
-    → IsRecordOf script (record { trace = trace; marks = marks })
-all_taken script lines may_read at_work trace marks taken events all_marks = record {
-  halts = taken.seen.halts;
-  is_run = record {
-    trace =
-        events ∙ taken.keeps.between.keeps.runs.events
-        ∙ ap (λ (st : Standing). reverse st.running.trace) stands;
-    marks =
-        all_marks ∙ taken.keeps.between.keeps.runs.all_marks
-        ∙ ap (λ (st : Standing). st.running.marks) stands;
+    → (taken : HasTakenLines script (length script.steps) lines may_read at_work)
+    → trace ≡ lines.works.events → marks ≡ lines.works.marks → KeepsLogs taken.seen may_read
+    → IsRunWithLogs script may_read (record { trace = trace; marks = marks })
+all_taken script lines may_read at_work trace marks taken events all_marks logs = record {
+  recorded = record {
+    halts = taken.seen.halts;
+    is_run = record {
+      trace =
+          events ∙ taken.keeps.between.keeps.runs.events
+          ∙ ap (λ (st : Standing). reverse st.running.trace) stands;
+      marks =
+          all_marks ∙ taken.keeps.between.keeps.runs.all_marks
+          ∙ ap (λ (st : Standing). st.running.marks) stands;
+    };
+    one =
+        agreeing_runs_are_by_stops by_pasts script (given taken.seen.halts)
+        (subst (Agrees (given taken.seen.halts)) stands taken.agrees);
   };
-  one =
-      agreeing_runs_are_by_stops by_pasts script (given taken.seen.halts)
-      (subst (Agrees (given taken.seen.halts)) stands taken.agrees);
+  logs =
+      subst (λ (x : Seen). KeepsLogs x may_read)
+      (λ i. record { script = taken.of_script i; standing = stands i; halts = taken.seen.halts })
+      logs;
 }
   where
     stands : taken.seen.standing ≡ run_with by_pasts script taken.seen.halts

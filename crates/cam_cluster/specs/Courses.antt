@@ -1,6 +1,6 @@
 -- The course of a script: the lines so far, with the actions that work at its bodies. What a
 -- cluster keeps of both between lines, and what the next line makes of it, by the pasts of events.
-use Rattle.std.specs.Prelude.{◌≡◌, ◌⊎◌, ℕ, true, List, [], Option, Some}
+use Rattle.std.specs.Prelude.{◌≡◌, ◌⊎◌, ℕ, true, List, [], length, Option, Some}
 use Rattle.std.specs.Prelude.{Result, Ok, Err}
 use Rattle.cam_bytes.specs.declared.WireFault.{WireFault}
 use Rattle.cam_event.specs.declared.LineRefusal.{LineRefusal}
@@ -89,7 +89,8 @@ pub record HasLedAtWork (old : LinesFields) (seen : Seen) (step : Step) (new : L
   pub workers : AreWorkers (after_step from step led.more).standing at_work
   pub fault : bad ≡ cut_fault (by_knowledge seen.script.objects) seen.standing step.act
 
--- How the line ends. Where a restart fails nothing is said of what is kept: the run ends there.
+-- How the line ends. Where a restart fails there are as many nodes, and nothing is said of what is
+-- kept: the run ends there.
 abbrev pub IsEndedAtWork : LinesFields → Seen → Step → LinesFields → (ℕ → Logged → Type 0) → Workers
     → Result (Option WireFault) CourseFault → Type 0
 IsEndedAtWork old seen step new may_read at_work (Ok bad) =
@@ -99,7 +100,7 @@ IsEndedAtWork old seen step new may_read at_work (Err (faults.Line (line_faults.
 IsEndedAtWork old seen step new may_read at_work (Err (faults.Line line_faults.NoMemory)) =
     IsCourseWanting step.act seen step new may_read at_work
 IsEndedAtWork old seen step new may_read at_work (Err (faults.RestartFailed node)) =
-    step.act ≡ acts.Restart node
+    (step.act ≡ acts.Restart node) × (length new.works.nodes ≡ seen.script.nodes)
 
 -- THE CLAUSE of the next line: of each run that is kept, with these bodies, whose next step it is
 abbrev pub IsAtWorkLine : Step → List (List Statement) → LinesFields → (ℕ → Logged → Type 0)

@@ -1,14 +1,17 @@
--- What the disks of a cluster keep: that of each node that is not halted opens as a log from which
--- a restart recovers what the run keeps. No call owes it yet, since none hands disks back.
-use Rattle.std.specs.Prelude.{◌≡◌, ◌≤◌, ℕ, ◌-◌, Bool, true, false, List, length, Some}
-use Rattle.std.specs.Prelude.{slice_get}
-use Rattle.cam_base.specs.Causes.{Rose}
+-- What the disks of a cluster keep: that of each node is a log again, and from that of each node
+-- that is not halted a restart recovers what the run keeps.
+use Rattle.std.specs.Prelude.{◌≡◌, ◌≤◌, ℕ, ◌-◌, Bool, true, false, List, Some, slice_get}
 use Rattle.cam_ckpt.specs.Reading.{read_ckpt}
 use Rattle.cam_log.specs.Moments.{OpeningsBy}
 use Rattle.cam_node.specs.Log.{Logged, KeepsLog}
-use Rattle.cam_node.specs.Opened.{MayRead}
+use Rattle.cam_node.specs.Opened.{MayRead, is_readable}
 use Rattle.cam_runs.specs.Running.{has_number}
 use Rattle.cam_histories.specs.Laws.{history_of}
+use Rattle.cam_cluster.specs.declared.founding.ClusterFault.{ClusterFault}
+use Rattle.cam_cluster.specs.declared.founding.ClusterFault.TheVariants as founding_faults
+use Rattle.cam_cluster.specs.declared.run.RunFault.{RunFault}
+use Rattle.cam_cluster.specs.declared.run.RunFault.TheVariants as faults
+use Rattle.cam_cluster.specs.Founding.{AreHandedBack, IsFaultAmong}
 use Rattle.cam_cluster.specs.Seen.{Seen}
 
 -- Whatever may be read from the disk of a node that is not halted keeps the node's history of the
@@ -30,16 +33,29 @@ pub record MayReadDisk {D : Type 0} (tells : D → Bool) (moment : D → ℕ)
   pub told : tells disk ≡ true
   pub reads : MayRead (OpeningsBy read_ckpt (left_since disk)) (moment disk) logged
 
--- All disks at their places, and those of nodes that are not halted
--- keep the run.
-pub record AreDisksOf {D : Type 0} (tells : D → Bool) (moment : D → ℕ)
-    (left_since : D → ℕ → List ℕ → Type 0) (many : ℕ) (cluster : Seen)
-    (disks : List D) : Type 0 where
-  pub all : length disks ≡ many
-  pub logs : KeepsLogs cluster (MayReadDisk tells moment left_since disks)
+-- Whatever a crash now leaves of one of these disks is the log of a node: a halted node has one too.
+abbrev pub AreLogs : {D : Type 0} → (D → Bool) → (D → ℕ) → (D → ℕ → List ℕ → Type 0) → List D
+    → Type 0
+AreLogs {D} tells moment left_since disks =
+    (place : ℕ) (disk : D) (image : List ℕ) → slice_get disks place ≡ Some disk
+    → tells disk ≡ true → left_since disk (moment disk) image
+    → is_readable (read_ckpt image) ≡ true
 
--- A cluster was refused as the disk of this node failed while it was formatted.
-abbrev pub HasFailed : {D : Type 0} → (D → ℕ) → List D → List D → ℕ → Type 0
-HasFailed {D} faults before after s =
-    (old new : D) → slice_get before (s - 1) ≡ Some old → slice_get after (s - 1) ≡ Some new
-    → Rose (faults old) (faults new)
+-- why a script was not run, where no cluster was made
+abbrev pub run_fault : ClusterFault → RunFault
+run_fault (founding_faults.DiskFault s) = faults.FormatFailed s
+run_fault founding_faults.NoMemory = faults.NoMemory
+
+-- a fault that may come once the disks are formatted
+abbrev pub IsLater : RunFault → Type 0
+IsLater (faults.FormatFailed s) = ⊥
+IsLater _ = Unit {0}
+
+-- A fault of formatting is that of a disk that failed: its count of faults rose. Each disk is at its
+-- place, tells what it holds just where it did, and its count did not fall.
+abbrev pub IsOfFormatting : {D : Type 0} → (D → Bool) → (D → ℕ) → ℕ → List D → List D → RunFault
+    → Type 0
+IsOfFormatting tells faults_of many before after (faults.FormatFailed s) =
+    IsFaultAmong many (founding_faults.DiskFault s)
+    × AreHandedBack tells faults_of (founding_faults.DiskFault s) 1 before after
+IsOfFormatting tells faults_of many before after _ = Unit {0}

@@ -1,9 +1,12 @@
 -- A cluster before its first line: its nodes, each formatted over the disk at its place, and the
 -- disks that are handed back where none is made.
-use Rattle.std.specs.Prelude.{◌≡◌, ◌≤◌, ◌+◌, ℕ, Bool, false, List, [], ◌∷◌, None}
+use Rattle.std.specs.Prelude.{◌≡◌, ◌≤◌, ◌+◌, ℕ, Bool, true, false, List, [], ◌∷◌, None}
 use Rattle.cam_base.specs.Causes.{Rose}
+use Rattle.cam_ckpt.specs.Reading.{read_ckpt}
+use Rattle.cam_log.specs.Moments.{OpeningsBy}
 use Rattle.cam_type.specs.declared.ObjectDecl.{ObjectDecl}
 use Rattle.cam_node.specs.Log.{Logged}
+use Rattle.cam_node.specs.Opened.{MayRead, is_readable}
 use Rattle.cam_node.specs.declared.fault.NodeFault.{NodeFault}
 use Rattle.cam_node.specs.declared.fault.NodeFault.TheVariants as node_faults
 use Rattle.cam_runs.specs.Standing.{start}
@@ -73,19 +76,26 @@ new_works nodes = record {
   marks = [];
 }
 
--- A disk that was taken out of a node: it tells what it holds just where the node's log did, and
--- whatever may be read from it might be read from the log.
+-- A disk that was taken out of a node: it tells what it holds just where the node's log did, whatever
+-- may be read from it might be read from the log, and whatever a crash now leaves of it is a log of a
+-- node.
 pub record IsTakenOut {N D : Type 0} (tells_node : N → Bool) (node_reads : N → Logged → Type 0)
-    (tells : D → Bool) (reads : D → Logged → Type 0) (node : N) (disk : D) : Type 0 where
+    (tells : D → Bool) (moment : D → ℕ) (left_since : D → ℕ → List ℕ → Type 0) (node : N)
+    (disk : D) : Type 0 where
   pub told : tells disk ≡ tells_node node
-  pub less : (logged : Logged) → reads disk logged → node_reads node logged
+  pub less :
+      (logged : Logged) → MayRead (OpeningsBy read_ckpt (left_since disk)) (moment disk) logged
+      → node_reads node logged
+  pub readable :
+      (image : List ℕ) → tells disk ≡ true → left_since disk (moment disk) image
+      → is_readable (read_ckpt image) ≡ true
 
 -- those of all nodes, each at its place
 abbrev pub AreTakenOut : {N D : Type 0} → (N → Bool) → (N → Logged → Type 0) → (D → Bool)
-    → (D → Logged → Type 0) → List N → List D → Type 0
-AreTakenOut tells_node node_reads tells reads [] [] = Unit {0}
-AreTakenOut tells_node node_reads tells reads [] (disk ∷ disks) = ⊥
-AreTakenOut tells_node node_reads tells reads (node ∷ nodes) [] = ⊥
-AreTakenOut tells_node node_reads tells reads (node ∷ nodes) (disk ∷ disks) =
-    IsTakenOut tells_node node_reads tells reads node disk
-    × AreTakenOut tells_node node_reads tells reads nodes disks
+    → (D → ℕ) → (D → ℕ → List ℕ → Type 0) → List N → List D → Type 0
+AreTakenOut tells_node node_reads tells moment left_since [] [] = Unit {0}
+AreTakenOut tells_node node_reads tells moment left_since [] (disk ∷ disks) = ⊥
+AreTakenOut tells_node node_reads tells moment left_since (node ∷ nodes) [] = ⊥
+AreTakenOut tells_node node_reads tells moment left_since (node ∷ nodes) (disk ∷ disks) =
+    IsTakenOut tells_node node_reads tells moment left_since node disk
+    × AreTakenOut tells_node node_reads tells moment left_since nodes disks

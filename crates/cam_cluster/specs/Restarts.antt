@@ -1,5 +1,5 @@
 -- A node of a cluster restarts: what that makes of the works.
-use Rattle.std.specs.Prelude.{◌≡◌, ℕ, ◌+◌, Bool, true, List, Option, Some, None, Result, Ok, Err}
+use Rattle.std.specs.Prelude.{◌≡◌, ℕ, ◌+◌, Bool, true, List, length, Option, Some, None, Result, Ok, Err}
 use Rattle.cam_base.specs.declared.memory.NoMemory.{NoMemory}
 use Rattle.cam_event.specs.declared.Event.{Event}
 use Rattle.cam_event.specs.Inputs.{Restarts}
@@ -47,8 +47,8 @@ pub record HasFoundHalt (place : ℕ) (old : WorksFields) (might_read : ℕ → 
       → KeepsRun script (with_restart script halts line restarted found (place + 1)) new may_read
 
 -- Of each run that the works kept, where the restart stands: if nothing was found they keep the run
--- with the restart behind, and else the run in which the halt was taken. Where it failed nothing is
--- said of what they keep.
+-- with the restart behind, and else the run in which the halt was taken. Where it failed they have as
+-- many nodes, and nothing is said of what they keep.
 abbrev pub HasRestartedAs : ℕ → WorksFields → (ℕ → Logged → Type 0) → Restart → WorksFields
     → (ℕ → Logged → Type 0) → Type 0
 HasRestartedAs place old might_read ends.Stood new may_read =
@@ -58,7 +58,9 @@ HasRestartedAs place old might_read ends.Stood new may_read =
     → KeepsRun script (with_restart script halts line restarted st (place + 1)) new may_read
 HasRestartedAs place old might_read ends.Found new may_read =
     HasFoundHalt place old might_read new may_read
-HasRestartedAs place old might_read ends.Failed new may_read = Unit {0}
+HasRestartedAs place old might_read ends.Failed new may_read =
+    (script : Script) (st : Standing) → IsScript script → KeepsRun script st old might_read
+    → length new.nodes ≡ script.nodes
 
 -- While nothing has failed by itself, a restart of a node that is halted finds the event just where
 -- the stop of its disk let three calls pass.
@@ -94,7 +96,8 @@ IsRestartEnded script st c s new may_read (Ok ends.Stood) =
     (acts.Restart s))) new may_read
 IsRestartEnded script st c s new may_read (Ok ends.Found) =
     IsFoundEnded script st c s new may_read
-IsRestartEnded script st c s new may_read (Ok ends.Failed) = Unit {0}
+IsRestartEnded script st c s new may_read (Ok ends.Failed) =
+    length new.works.nodes ≡ script.nodes
 IsRestartEnded script st c s new may_read (Err wanting) = KeepsLines script st new may_read
 
 -- THE CLAUSE of `restart`, over what nodes hold, at a node whose disk tells what it holds.

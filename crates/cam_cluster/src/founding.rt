@@ -1,14 +1,11 @@
 //! The nodes of a cluster before its first line, each formatted over the disk at its place.
 ghost use Rattle.std.specs.Prelude.{◌≡◌, ◌+◌, ◌≤◌, ◌<◌, ◌++◌, ◌∷◌, [], IfErr, IfOk, OnErr, OnOk, length, vec_capacity, vec_len};
-ghost use Rattle.cam_ckpt.specs.Reading.{read_ckpt};
-ghost use Rattle.cam_log.specs.Moments.{OpeningsBy};
 ghost use Rattle.cam_node.specs.Opened.{MayRead};
-ghost use Rattle.std.specs.List.{AllByRecursion};
 ghost use Rattle.cam_cluster.specs.Founding.{AreHandedBack, AreNewNodes, AreTakenOut, IsFaultAmong, IsHandedBack, IsNewNode, fault_at};
 
 use cam_base::NoMemory;
 use cam_ckpt::{CheckpointLog, Ckpt};
-use cam_disk::Disk;
+use cam_disk::{Disk, StopDisk};
 use cam_log::EntryLog;
 use cam_node::{FormatRefused, Node, NodeFault};
 use cam_type::Objects;
@@ -23,13 +20,6 @@ pub enum ClusterFault {
     DiskFault(u8),
     #[error("out of memory")]
     NoMemory,
-}
-
-/// Disks over which no cluster was made, each at its place, and why.
-#[derive(Drop)]
-pub struct ClusterRefused<D> {
-    pub fault: ClusterFault,
-    pub disks: Vec<D>,
 }
 
 /// What contracts see of a node.
@@ -88,30 +78,38 @@ fn copy_objects(alloc: Global, objects: &Objects) -> Result<Objects, NoMemory>
     Ok(copy)
 }
 
-/// The node of this number, to which nothing has happened, over a disk. The disk is handed back
-/// where it failed, or memory ran out.
+/// The node of this number, to which nothing has happened, over a disk that can be stopped. The disk
+/// within is handed back where it failed, or memory ran out.
 fn found_one<D: Disk>(
     alloc: Global,
     number: u8,
     objects: &Objects,
     disk: D,
-) -> Result<Node<Ckpt<D>>, FormatRefused<D>>
-    requires number { (1 ≤ number) × (number ≤ 8) }
-    requires fresh { D.passes disk ≡ None }
+) -> Result<Node<Ckpt<StopDisk<D>>>, FormatRefused<D>>
+    requires { (1 ≤ number) × (number ≤ 8) }
     ensures new { IfOk result (λ node. IsNewNode objects.now number
-        (⟦<Node<Ckpt<D>> as AsPart>⟧.part node)) }
+        (⟦<Node<Ckpt<StopDisk<D>>> as AsPart>⟧.part node)) }
     ensures tells { IfOk result
-        (λ node. ⟦<Ckpt<D> as EntryLog>⟧.tells node.log.log ≡ D.tells disk) }
-    ensures later { IfOk result
-        (λ node. D.faults disk ≤ ⟦<Ckpt<D> as EntryLog>⟧.faults node.log.log) }
+        (λ node. ⟦<Ckpt<StopDisk<D>> as EntryLog>⟧.tells node.log.log ≡ D.tells disk) }
+    ensures later { IfOk result (λ node. D.faults disk
+        ≤ ⟦<Ckpt<StopDisk<D>> as EntryLog>⟧.faults_within node.log.log) }
     ensures back { IfErr result (λ refused. IsHandedBack D.tells D.faults
         (fault_at number refused.fault) number disk refused.disk) }
 {
-    match copy_objects(alloc, objects) {
-        Ok(own) => Node::format(alloc, number, own, disk),
-        Err(NoMemory) => Err(FormatRefused {
-            fault: NodeFault::NoMemory,
-            disk,
+    let own = match copy_objects(alloc, objects) {
+        Ok(own) => own,
+        Err(NoMemory) => {
+            return Err(FormatRefused {
+                fault: NodeFault::NoMemory,
+                disk,
+            });
+        }
+    };
+    match Node::format(alloc, number, own, StopDisk::new(disk)) {
+        Ok(node) => Ok(node),
+        Err(refused) => Err(FormatRefused {
+            fault: refused.fault,
+            disk: refused.disk.into_inner(),
         }),
     }
 }
@@ -122,14 +120,13 @@ pub(crate) fn found<D: Disk>(
     alloc: Global,
     objects: &Objects,
     disks: &mut Vec<D>,
-    nodes: &mut Vec<Node<Ckpt<D>>>,
+    nodes: &mut Vec<Node<Ckpt<StopDisk<D>>>>,
 ) -> Result<(), ClusterFault>
     requires eight { vec_len disks.old ≤ 8 }
     requires none { nodes.old.items ≡ [] }
-    requires fresh { AllByRecursion (λ disk. D.passes disk ≡ None) disks.old.items }
     requires room { vec_len disks.old ≤ vec_capacity nodes.old }
-    ensures new { OnOk result (AreNewNodes (⟦<Node<Ckpt<D>> as AsPart>⟧.part) objects.now 1
-        nodes.new.items) }
+    ensures new { OnOk result (AreNewNodes (⟦<Node<Ckpt<StopDisk<D>>> as AsPart>⟧.part)
+        objects.now 1 nodes.new.items) }
     ensures count { OnOk result (length nodes.new.items ≡ length disks.old.items) }
     ensures empty { OnOk result (disks.new.items ≡ []) }
     ensures back { IfErr result (λ fault. AreHandedBack D.tells D.faults fault 1 disks.old.items
@@ -156,27 +153,26 @@ pub(crate) fn found<D: Disk>(
             Ok(())
         }
         Err(fault) => {
-            push_owned(disks, node.into_disk());
+            push_owned(disks, node.into_disk().into_inner());
             Err(fault)
         }
     }
 }
 
-/// Takes the disks out of all of these nodes, each at its place, into a list that has room for
-/// them. It takes no memory.
-pub(crate) fn take_out<D: Disk>(nodes: &mut Vec<Node<Ckpt<D>>>, disks: &mut Vec<D>)
+/// Takes the disks out of all of these nodes, each to its place in a list that has room for them.
+/// It takes no memory.
+pub(crate) fn take_out<D: Disk>(nodes: &mut Vec<Node<Ckpt<StopDisk<D>>>>, disks: &mut Vec<D>)
     requires none { disks.old.items ≡ [] }
     requires room { vec_len nodes.old ≤ vec_capacity disks.old }
-    ensures out { AreTakenOut (λ node. ⟦<Ckpt<D> as EntryLog>⟧.tells node.log.log)
-        (λ node. MayRead (⟦<Ckpt<D> as EntryLog>⟧.opens_since node.log.log)
-        (⟦<Ckpt<D> as EntryLog>⟧.moment node.log.log))
-        D.tells (λ disk. MayRead (OpeningsBy read_ckpt (D.left_since disk)) (D.moment disk))
-        nodes.old.items disks.new.items }
+    ensures out { AreTakenOut (λ node. ⟦<Ckpt<StopDisk<D>> as EntryLog>⟧.tells node.log.log)
+        (λ node. MayRead (⟦<Ckpt<StopDisk<D>> as EntryLog>⟧.opens_since node.log.log)
+        (⟦<Ckpt<StopDisk<D>> as EntryLog>⟧.moment node.log.log))
+        D.tells D.moment D.left_since nodes.old.items disks.new.items }
     ensures count { length disks.new.items ≡ length nodes.old.items }
     ensures capacity { vec_capacity disks.old ≤ vec_capacity disks.new }
 {
     if let Some(node) = nodes.pop() {
         take_out(nodes, disks);
-        push_owned(disks, node.into_disk());
+        push_owned(disks, node.into_disk().into_inner());
     }
 }

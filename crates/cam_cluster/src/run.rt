@@ -1,23 +1,27 @@
 //! The run of a whole script: its lines one after another, over a disk for each of its nodes.
-ghost use Rattle.std.specs.Prelude.{◌≡◌, IfOk, OnOk, None, length};
+ghost use Rattle.std.specs.Prelude.{◌≡◌, ◌≤◌, [], IfErr, IfOk, OnErr, OnOk, length, vec_capacity, vec_len};
 ghost use Rattle.std.specs.List.{AllByRecursion};
 ghost use Rattle.cam_script.specs.declared.Script.{Script as ScriptFields};
 ghost use Rattle.cam_script.specs.Law.{IsScript};
+ghost use Rattle.cam_cluster.specs.Disks.{AreLogs, IsLater, IsOfFormatting, MayReadDisk, run_fault};
 ghost use Rattle.cam_cluster.specs.Servers.{AreServers};
+ghost use Rattle.cam_cluster.specs.Courses.{KeepsCourse};
+ghost use Rattle.cam_cluster.specs.Founding.{before_first};
 ghost use Rattle.cam_cluster.specs.Works.{IsUnfailing};
-ghost use Rattle.cam_cluster.specs.WholeRuns.{HasTakenLines, HasTakenNext, IsNextOfRun, IsRecordOf};
+ghost use Rattle.cam_cluster.specs.WholeRuns.{HasTakenLines, HasTakenNext, IsNextOfRun, IsRunWithLogs};
 
 use crate::LineFault;
 use crate::course::{Course, CourseFault};
-use crate::founding::ClusterFault;
+use crate::founding::{ClusterFault, take_out};
 use crate::lines::{AsLines, Lines};
 use crate::servers::Servers;
 use crate::telling::{TellingDisk, TellingLog};
 use crate::workers::Workers;
 use cam_base::{NoMemory, Sequence};
 use cam_ckpt::{CheckpointLog, Ckpt};
-use cam_disk::{Disk, StopDisk};
+use cam_disk::StopDisk;
 use cam_event::RunRecord;
+use cam_node::Node;
 use cam_script::{Script, Step};
 use cam_type::DataType;
 use std::alloc::Global;
@@ -26,6 +30,9 @@ use thiserror::Error;
 /// Why a script was not run to its end.
 #[derive(Clone, Copy, Debug, PartialEq, Eq, Error)]
 pub enum RunFault {
+    /// The disk of the node of this number failed while it was formatted.
+    #[error("the disk of a node failed while it was formatted")]
+    FormatFailed(u8),
     /// The disk of the node of this number failed by itself, in a call that it did.
     #[error("the disk of a node failed")]
     DiskFault(u8),
@@ -46,25 +53,14 @@ impl From<NoMemory> for RunFault {
     }
 }
 
-/// Why a script was not run, where no cluster was made. No clause says which fault this is.
-fn fault_of(fault: ClusterFault) -> RunFault {
+/// Why a script was not run, where no cluster was made.
+fn fault_of(fault: ClusterFault) -> RunFault
+    ensures { result ≡ run_fault fault }
+{
     match fault {
-        ClusterFault::DiskFault(node) => RunFault::DiskFault(node),
+        ClusterFault::DiskFault(node) => RunFault::FormatFailed(node),
         ClusterFault::NoMemory => RunFault::NoMemory,
     }
-}
-
-/// Disks that can be stopped, each over the one at its place.
-fn stoppable<D: Disk>(alloc: Global, disks: Vec<D>) -> Result<Vec<StopDisk<D>>, NoMemory>
-    ensures one_each { IfOk result (λ over. length over.items ≡ length disks.items) }
-    ensures fresh { IfOk result (λ over.
-        AllByRecursion (λ disk. ⟦<StopDisk<D> as Disk>⟧.passes disk ≡ None) over.items) }
-{
-    let mut over = Vec::with_capacity(alloc, disks.len())?;
-    for disk in disks {
-        over.push(StopDisk::new(disk))?;
-    }
-    Ok(over)
 }
 
 /// The run of a script: the course of its lines so far.
@@ -73,38 +69,70 @@ struct Run<L: CheckpointLog> {
     course: Course<L>,
 }
 
+/// A run that is over: what it gives, and its nodes.
+#[derive(Drop)]
+struct Ended<L: CheckpointLog> {
+    record: RunRecord,
+    nodes: Vec<Node<L>>,
+}
+
 impl<D: TellingDisk> Run<Ckpt<StopDisk<D>>> {
-    /// The run of a script before its first line, over a disk for each node, which is formatted.
+    /// The run of a script before its first line, over a disk for each node, which is formatted. The
+    /// disks are taken from their list, which keeps its room.
     fn new(
         alloc: Global,
         script: &Script,
-        disks: Vec<D>,
+        disks: &mut Vec<D>,
     ) -> Result<Run<Ckpt<StopDisk<D>>>, RunFault>
         requires script { IsScript script.now }
-        requires one_each { length disks.items ≡ script.now.nodes }
-        ensures { IfOk result (λ run. HasTakenLines script.now 0
+        requires one_each { length disks.old.items ≡ script.now.nodes }
+        ensures before_first { IfOk result (λ run. KeepsCourse (before_first script.now)
             (⟦<Lines<Ckpt<StopDisk<D>>> as AsLines>⟧.fields run.course.lines)
             (⟦<Lines<Ckpt<StopDisk<D>>> as AsLines>⟧.may_read run.course.lines) run.course.workers) }
+        ensures count { IfOk result
+            (λ run. length run.course.lines.works.nodes.items ≡ length disks.old.items) }
+        ensures empty { OnOk result (disks.new.items ≡ []) }
+        ensures back { OnErr result (length disks.new.items ≡ length disks.old.items) }
+        ensures formatting { IfErr result (IsOfFormatting D.tells D.faults script.now.nodes
+            disks.old.items disks.new.items) }
+        ensures capacity { vec_capacity disks.old ≤ vec_capacity disks.new }
     {
-        let lines = match Lines::new(alloc, script, stoppable(alloc, disks)?) {
-            Ok(lines) => lines,
-            Err(refused) => return Err(fault_of(refused.fault)),
-        };
-        let run = Run {
-            course: Course {
-                lines,
-                workers: Workers::new(alloc),
-            },
-        };
-        run.unfailing()?;
-        Ok(run)
+        match Lines::new(alloc, script, disks) {
+            Ok(lines) => Ok(Run {
+                course: Course {
+                    lines,
+                    workers: Workers::new(alloc),
+                },
+            }),
+            Err(fault) => Err(fault_of(fault)),
+        }
+    }
+
+    /// The record of the lines so far; the disks are back in their list, each at its place. It takes
+    /// no memory.
+    fn end(self, disks: &mut Vec<D>) -> RunRecord
+        requires none { disks.old.items ≡ [] }
+        requires room { vec_len self.course.lines.works.nodes ≤ vec_capacity disks.old }
+        ensures record { (script : ScriptFields) → HasTakenLines script (length script.steps)
+            (⟦<Lines<Ckpt<StopDisk<D>>> as AsLines>⟧.fields self.course.lines)
+            (⟦<Lines<Ckpt<StopDisk<D>>> as AsLines>⟧.may_read self.course.lines)
+            self.course.workers
+            → IsRunWithLogs script (MayReadDisk D.tells D.moment D.left_since disks.new.items) result }
+        ensures count { length disks.new.items ≡ length self.course.lines.works.nodes.items }
+        ensures logs { AreLogs D.tells D.moment D.left_since disks.new.items }
+    {
+        let ended = self.into_ended();
+        let mut nodes = ended.nodes;
+        take_out(&mut nodes, disks);
+        ended.record
     }
 }
 
 impl<L: TellingLog> Run<L> {
     /// Fails where something has failed by itself: memory ran out in an append, or a disk failed a call that it did.
     fn unfailing(&self) -> Result<(), RunFault>
-        ensures { OnOk result (IsUnfailing
+        ensures not_of_formatting { IfErr result IsLater }
+        ensures unfailing { OnOk result (IsUnfailing
             (⟦<Lines<L> as AsLines>⟧.fields self.now.course.lines).works.starved
             (⟦<Lines<L> as AsLines>⟧.fields self.now.course.lines).works.nodes) }
     {
@@ -130,6 +158,9 @@ impl<L: TellingLog> Run<L> {
             (⟦<Lines<L> as AsLines>⟧.may_read self.old.course.lines) self.old.course.workers }
         requires servers { AreServers R.kind Q.kind C.kind
             servers.old.register servers.old.queue servers.old.counter }
+        ensures as_many { length self.new.course.lines.works.nodes.items
+            ≡ length self.old.course.lines.works.nodes.items }
+        ensures not_of_formatting { IfErr result IsLater }
         ensures taken { OnOk result (HasTakenNext script.now step.now
             (⟦<Lines<L> as AsLines>⟧.fields self.old.course.lines)
             (⟦<Lines<L> as AsLines>⟧.may_read self.old.course.lines) self.old.course.workers
@@ -146,39 +177,48 @@ impl<L: TellingLog> Run<L> {
         }
     }
 
-    /// Takes all lines of the script, of which none is taken yet.
+    /// Takes all lines of the script, of which none is taken yet. It fails at once where something has failed by itself.
     fn take_all<R: DataType, Q: DataType, C: DataType>(
         &mut self,
         script: &Script,
         servers: &mut Servers<R, Q, C>,
     ) -> Result<(), RunFault>
-        requires none { HasTakenLines script.now 0
+        requires before_first { KeepsCourse (before_first script.now)
             (⟦<Lines<L> as AsLines>⟧.fields self.old.course.lines)
             (⟦<Lines<L> as AsLines>⟧.may_read self.old.course.lines) self.old.course.workers }
         requires servers { AreServers R.kind Q.kind C.kind
             servers.old.register servers.old.queue servers.old.counter }
+        ensures as_many { length self.new.course.lines.works.nodes.items
+            ≡ length self.old.course.lines.works.nodes.items }
+        ensures not_of_formatting { IfErr result IsLater }
         ensures all { OnOk result (HasTakenLines script.now (length script.now.steps)
             (⟦<Lines<L> as AsLines>⟧.fields self.new.course.lines)
             (⟦<Lines<L> as AsLines>⟧.may_read self.new.course.lines) self.new.course.workers) }
         ensures servers { AreServers R.kind Q.kind C.kind
             servers.new.register servers.new.queue servers.new.counter }
     {
+        self.unfailing()?;
         for step in script.steps.as_slice() {
             self.take_next(script, step, servers)?;
         }
         Ok(())
     }
 
-    /// The events and the marks of the lines so far. It takes no memory.
-    fn into_record(self) -> RunRecord
-        ensures { (script : ScriptFields) → HasTakenLines script (length script.steps)
+    /// The events and the marks of the lines so far, and the nodes. It takes no memory.
+    fn into_ended(self) -> Ended<L>
+        ensures record { (script : ScriptFields) → HasTakenLines script (length script.steps)
             (⟦<Lines<L> as AsLines>⟧.fields self.course.lines)
-            (⟦<Lines<L> as AsLines>⟧.may_read self.course.lines) self.course.workers → IsRecordOf script result }
+            (⟦<Lines<L> as AsLines>⟧.may_read self.course.lines) self.course.workers
+            → IsRunWithLogs script (⟦<Lines<L> as AsLines>⟧.may_read self.course.lines) result.record }
+        ensures nodes { result.nodes ≡ self.course.lines.works.nodes }
     {
         let works = self.course.lines.works;
-        RunRecord {
-            trace: works.events.into_trace(),
-            marks: Sequence::from_vec(works.marks),
+        Ended {
+            record: RunRecord {
+                trace: works.events.into_trace(),
+                marks: Sequence::from_vec(works.marks),
+            },
+            nodes: works.nodes,
         }
     }
 }
@@ -186,27 +226,37 @@ impl<L: TellingLog> Run<L> {
 /// Runs a whole script, each node over the disk at its place, which is formatted, whatever it held.
 /// A line that is refused leaves its mark, and the run goes on; so it does where a node halts since
 /// a line has stopped its disk. What it gives is the record of the one run of the script: a node
-/// halts just where such a line cuts its append off.
+/// halts just where such a line cuts its append off. However the run ends, the disks are back in
+/// their list, each at its place.
 ///
-/// The servers do the operations of its objects. The run ends by `DiskFault` where a disk fails by
-/// itself, or had failed before, by `RestartFailed` where one fails while its node restarts, and by
-/// `NoMemory` where memory runs out. No clause says that a fault has such a cause, nor of which node
-/// it is.
+/// The servers do the operations of its objects. The run ends by `FormatFailed` where a disk fails
+/// while it is formatted, by `DiskFault` where one fails by itself behind that, or had failed before,
+/// by `RestartFailed` where one fails while its node restarts, and by `NoMemory` where memory runs
+/// out. But for `FormatFailed` no clause says that a fault has such a cause, nor of which node it is.
 pub fn run_script<D: TellingDisk, R: DataType, Q: DataType, C: DataType>(
     alloc: Global,
     script: &Script,
-    disks: Vec<D>,
+    disks: &mut Vec<D>,
     servers: &mut Servers<R, Q, C>,
 ) -> Result<RunRecord, RunFault>
     requires script { IsScript script.now }
-    requires one_each { length disks.items ≡ script.now.nodes }
+    requires one_each { length disks.old.items ≡ script.now.nodes }
     requires servers { AreServers R.kind Q.kind C.kind
         servers.old.register servers.old.queue servers.old.counter }
-    ensures run { IfOk result (IsRecordOf script.now) }
+    ensures run { IfOk result (IsRunWithLogs script.now
+        (MayReadDisk D.tells D.moment D.left_since disks.new.items)) }
+    ensures disks { length disks.new.items ≡ length disks.old.items }
+    ensures logs { OnOk result (AreLogs D.tells D.moment D.left_since disks.new.items) }
+    ensures formatting { IfErr result (IsOfFormatting D.tells D.faults script.now.nodes
+        disks.old.items disks.new.items) }
     ensures servers { AreServers R.kind Q.kind C.kind
         servers.new.register servers.new.queue servers.new.counter }
 {
     let mut run = Run::new(alloc, script, disks)?;
-    run.take_all(script, servers)?;
-    Ok(run.into_record())
+    let taken = run.take_all(script, servers);
+    let record = run.end(disks);
+    match taken {
+        Ok(()) => Ok(record),
+        Err(fault) => Err(fault),
+    }
 }

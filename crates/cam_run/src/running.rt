@@ -16,13 +16,13 @@ pub fn run(alloc: Global, script: &Script) -> Result<RunRecord, NoMemory>
     requires script { IsScript script.now }
     ensures { IfOk result (IsOneRun script.now) }
 {
-    let disks = empty_disks(alloc, script.nodes)?;
+    let mut disks = empty_disks(alloc, script.nodes)?;
     let mut servers = Servers {
         register: RegisterServer::new(),
         queue: QueueServer::new(alloc),
         counter: CounterServer::new(),
     };
-    match run_script(alloc, script, disks, &mut servers) {
+    match run_script(alloc, script, &mut disks, &mut servers) {
         Ok(run) => Ok(run),
         // a disk in memory fails only where memory runs out
         Err(_) => Err(NoMemory),

@@ -117,12 +117,8 @@ fn run(alloc: Global, script: &Script) -> Result<RunRecord, RunFault>
         queue: QueueServer::new(alloc),
         counter: CounterServer::new(),
     };
-    run_script(
-        alloc,
-        script,
-        empty_disks(alloc, script.nodes)?,
-        &mut servers,
-    )
+    let mut disks = empty_disks(alloc, script.nodes)?;
+    run_script(alloc, script, &mut disks, &mut servers)
 }
 
 #[test]

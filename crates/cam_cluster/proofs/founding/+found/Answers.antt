@@ -32,10 +32,10 @@ returns-in-Ok-found-clause-new g t c =
       objects = node.objects;
       halted = node.log.halted;
       halted_at = node.halted_at;
-      passes = g.D.Disk.passes node.log.log.disk;
-      reads = read_ckpt (g.D.Disk.seen node.log.log.disk);
-      tells = g.D.Disk.tells node.log.log.disk;
-      failures = g.D.Disk.faults_within node.log.log.disk;
+      passes = node.log.log.disk.passes;
+      reads = read_ckpt (g.D.Disk.seen node.log.log.disk.inner);
+      tells = g.D.Disk.tells node.log.log.disk.inner;
+      failures = g.D.Disk.faults node.log.log.disk.inner;
     }) c.args.objects.now (c.len.result + 1) c.found.new.nodes.items
     c.push_owned-in-Ok-found.new.list.items c.in-Ok.node
     (ap (λ n. n + 1) (c.len.ensures ∙ c.pop.new.self.ok.0 ∙ sym c.in-Ok-found.ensures.count))
@@ -45,8 +45,10 @@ pub returns-in-Err-found-clause-back : goal.returns-in-Err-found-clause-back
 returns-in-Err-found-clause-back g t c =
     taken_back g.D.Disk.tells g.D.Disk.faults c.in-Err-found.fault c.pop.new.self.items
     c.found.new.disks.items c.args.disks.now.items c.push_owned-in-Err-found.new.list.items
-    c.in-Some.disk c.into_disk.result c.in-Some.ensures.items
+    c.in-Some.disk c.into_inner.result c.in-Some.ensures.items
     c.push_owned-in-Err-found.ensures.items c.in-Err-found.ensures.back
-    c.in-Err-found.ensures.of_one (c.into_disk.ensures.tells ∙ c.in-Ok.ensures.tells)
-    (subst (λ n. g.D.Disk.faults c.in-Some.disk ≤ n) (sym c.into_disk.ensures.faults)
+    c.in-Err-found.ensures.of_one
+    (ap g.D.Disk.tells c.into_inner.ensures ∙ c.into_disk.ensures.tells ∙ c.in-Ok.ensures.tells)
+    (subst (λ n. g.D.Disk.faults c.in-Some.disk ≤ n)
+    (sym c.into_disk.ensures.faults_within ∙ sym (ap g.D.Disk.faults c.into_inner.ensures))
     c.in-Ok.ensures.later)

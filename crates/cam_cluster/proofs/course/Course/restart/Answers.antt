@@ -121,8 +121,22 @@ returns-in-Failed g c =
     let might = reads_of g.L.CheckpointLog g.L.EntryLog c.args.self.now.lines.works in
     let new = lines_of g.L.CheckpointLog g.L.EntryLog c.restart.new.self in
     let may = reads_of g.L.CheckpointLog g.L.EntryLog c.restart.new.self.works in
+    let within = restarts_within c.args.line c.args.node old might c.requires.next in
+    let there : c.args.node - 1 < length c.args.self.now.lines.works.nodes.items =
+    let low = within.0 in
+    let high = within.1 in
+    let many =
+    length-map c.args.self.now.lines.works.nodes.items (part g.L.CheckpointLog g.L.EntryLog) in
+    omega (arith, low, high, many) in
     record {
       line = λ bodies.
-          failed_at_work c.args.line c.args.node bodies old new might may c.args.self.now.workers
-          c.args.self.now.workers;
+          at_place c.args.self.now.lines.works.nodes.items (c.args.node - 1) _
+          (IsAtWorkLine (record { line = c.args.line; act = acts.Restart c.args.node }) bodies old
+          might c.args.self.now.workers new may c.args.self.now.workers
+          (Err (faults.RestartFailed c.args.node))) there
+          c.in_ok-restart.ensures.line
+          (λ node told. failed_at_work c.args.line c.args.node bodies old new might may
+          c.args.self.now.workers c.args.self.now.workers
+          (subst (λ r. IsRestartLine c.args.node old might new may (Ok r)) c.in-Failed.is
+          (told (g.met.L.TellingLog.always node.log.log))));
     }

@@ -1,14 +1,21 @@
 -- The lines are taken one after another.
-use Rattle.std.proofs.Common.{◌≤◌, ◌∙◌, ℕ, ap, arith, length, subst}
+use Rattle.std.proofs.Common.{◌≤◌, ◌∙◌, ℕ, ap, arith, length, refl, subst}
 use Rattle.cam_script.specs.declared.Act.TheVariants.{Begin}
 use Rattle.cam_cluster.specs.WholeRuns.{HasTakenLines}
 use Rattle.cam_cluster.proofs.AsSeen.{lines_of, reads_of}
-use Rattle.cam_cluster.proofs.WholeRuns.{step_at}
+use Rattle.cam_cluster.proofs.WholeRuns.{none_taken, step_at}
 use Rattle.cam_cluster.proofs.run.Run.take_all.Goals as goal
 
 pub loop-step-init : goal.loop-step-init
 loop-step-init g c =
-    record { taken = c.requires.none; servers = c.requires.servers; items = c.as_slice-step-items.ensures }
+    record {
+      taken =
+          none_taken c.args.script.now _ _ _ c.requires.before_first.between
+          c.requires.before_first.workers c.in_ok-unfailing.ensures.unfailing;
+      servers = c.requires.servers;
+      items = c.as_slice-step-items.ensures;
+      as_many = refl;
+    }
 
 pub take_next-requires : goal.take_next-requires
 take_next-requires g c =
@@ -29,6 +36,7 @@ loop-step-preserved g c =
       taken = c.in_ok-take_next.ensures.taken c.loop-step.step-index c.loop-step.invariant.taken at;
       servers = c.in_ok-take_next.ensures.servers;
       items = c.loop-step.invariant.items;
+      as_many = c.in_ok-take_next.ensures.as_many ∙ c.loop-step.invariant.as_many;
     }
 
 pub returns-clause-all : goal.returns-clause-all

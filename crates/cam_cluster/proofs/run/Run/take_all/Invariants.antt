@@ -1,5 +1,5 @@
 -- The lines before this one were taken.
-use Rattle.std.proofs.Common.{◌≡◌}
+use Rattle.std.proofs.Common.{◌≡◌, length}
 use Rattle.cam_cluster.specs.Servers.{AreServers}
 use Rattle.cam_cluster.specs.WholeRuns.{HasTakenLines}
 use Rattle.cam_cluster.proofs.AsSeen.{lines_of, reads_of}
@@ -13,4 +13,6 @@ invariant-loop-step g l = record {
   servers : AreServers g.R.DataType.kind g.Q.DataType.kind g.C.DataType.kind l.servers.register
       l.servers.queue l.servers.counter;
   items : l.step-items ≡ l.fn.script.steps;
+  as_many : length l.self.course.lines.works.nodes.items
+      ≡ length l.fn.self.course.lines.works.nodes.items;
 }

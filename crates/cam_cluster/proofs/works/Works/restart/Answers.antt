@@ -1,8 +1,9 @@
 -- A node is restarted.
 use Rattle.std.proofs.Common.{◌≡◌, ◌<◌, ◌+◌, ◌++◌, ◌∷◌, [], false, Some, None, length, set}
 use Rattle.std.proofs.Common.{sym, ap, ◌∙◌, subst, arith, rules, suc}
-use Rattle.std.specs.Prelude.{slice_get, vec_len}
+use Rattle.std.specs.Prelude.{map, slice_get, vec_len}
 use Rattle.std.proofs.lemmas.Grind.{common_steps}
+use Rattle.std.proofs.lemmas.List.{length-map, length-set}
 use Rattle.cam_net.specs.Waiting.{is_halted}
 use Rattle.cam_cluster.specs.declared.works.restart.Restart.TheVariants as ends
 use Rattle.cam_cluster.specs.Restarts.{HasRestartedAs}
@@ -192,7 +193,26 @@ returns-in-Err-clause-restarted g c =
     let there = subst (λ ns. c.args.place < length ns) (sym same) c.requires.there in
     some_there _ was.nodes.items c.args.place old
     (subst (λ ns. slice_get ns c.args.place ≡ Some old) same
-    (taken_there mid.nodes.items c.args.place old there c.index_mut.ensures.value)) (λ told. tt)
+    (taken_there mid.nodes.items c.args.place old there c.index_mut.ensures.value))
+    (λ told. after_room c.args.place
+    (works_of g.L.CheckpointLog g.L.EntryLog was) (works_of g.L.CheckpointLog g.L.EntryLog mid)
+    (record (works_of g.L.CheckpointLog g.L.EntryLog mid) {
+      nodes =
+          map (part g.L.CheckpointLog g.L.EntryLog)
+          (set mid.nodes.items c.args.place c.restart_cleared.new.node);
+    }) (reads_of g.L.CheckpointLog g.L.EntryLog was)
+    (reads_of g.L.CheckpointLog g.L.EntryLog mid)
+    (reads_of g.L.CheckpointLog g.L.EntryLog mid) ends.Failed
+    (room_made (part g.L.CheckpointLog g.L.EntryLog)
+    (tells_of g.L.CheckpointLog g.L.EntryLog) (reads_at g.L.CheckpointLog g.L.EntryLog)
+    was.nodes.items mid.nodes.items was.outbox mid.outbox was.halted mid.halted was.starved mid.starved
+    was.undecided.items mid.undecided.items was.events.events.items mid.events.events.items
+    was.marks.items mid.marks.items same c.make_room.ensures.some
+    c.make_room.ensures.halted c.make_room.ensures.starved c.make_room.ensures.undecided c.make_room.ensures.events
+    c.make_room.ensures.marks)
+    (λ script st is keeps. length-map _ (part g.L.CheckpointLog g.L.EntryLog)
+    ∙ length-set mid.nodes.items c.args.place c.restart_cleared.new.node
+    ∙ sym (length-map mid.nodes.items (part g.L.CheckpointLog g.L.EntryLog)) ∙ keeps.one_each))
 
 pub returns-in-Some-clause-by_stop : goal.returns-in-Some-clause-by_stop
 returns-in-Some-clause-by_stop g c =
