@@ -24,7 +24,7 @@ pub fn run(alloc: Global, script: &Script) -> Result<RunRecord, NoMemory>
     };
     match run_script(alloc, script, &mut disks, &mut servers) {
         Ok(run) => Ok(run),
-        // a disk in memory fails only where memory runs out
+        // a run goes on through stop lines; a disk in memory fails by itself only where memory runs out
         Err(_) => Err(NoMemory),
     }
 }

@@ -28,10 +28,9 @@ use std::alloc::Global;
 /// `upgrade` read the image of a log: the one tells its records, the other writes the image of the same log in version 2.
 ///
 /// The answer is the status of the program: 0 the text of the command was written; 2 the words are no form; 3 the script or the image was
-/// refused;
-/// 4 the source failed; 5 the sink failed, and a prefix of the text was written; 7 out of memory, and nothing was written; 8 the run has no
-/// such action, or no such stop. The text is made whole before the first write. What the run of each accepted script owes is told in
-/// `docs/HEADLINE.md`.
+/// refused; 4 the source failed; 5 the sink failed, and a prefix of the text was written; 7 out of memory, and nothing was written; 8 the
+/// run has no such action, or no such stop. The text is made whole before the first write. What the run of each accepted script owes is
+/// told in `docs/HEADLINE.md`.
 #[tactic(auto, using(cam_headline::proofs::Whole::headline_holds, cam_image::proofs::Again::upgrade_is_migration, cam_image::proofs::Again::upgrade_is_once))]
 pub fn camelot<S: Source, K: Sink>(
     alloc: Global,
@@ -68,7 +67,7 @@ pub fn camelot<S: Source, K: Sink>(
     ensures headline { (input : List ℕ) → IfOk (read_script input) HasOneRun }
 
     // Of every image that is upgraded: what is written is the migrated log, of which just that is recovered which was recovered of the
-    // image; and upgraded again it is left as it is.
+    // image; and upgraded again it is left as it is, unless it is then longer than an image may be.
     ensures upgrade { UpgradeIsMigration }
     ensures upgrade_again { UpgradeIsOnce }
 
