@@ -1,5 +1,4 @@
 pub mod Seen
-pub mod LineOwes
 pub mod Disks
 pub mod AtWork
 pub mod Arrivals
