@@ -46,7 +46,7 @@ fn main(rt: HostRuntime) -> io::Result<()> {
         measure(&rt, "memory", MemoryDisk::new(rt.alloc()), count)?;
     }
     for count in [10, 1_000, 100_000] {
-        measure(&rt, "file", FileDisk::open(&rt, "log_times.log"), count)?;
+        measure(&rt, "file", FileDisk::open(&rt, rt.alloc(), "log_times.log"), count)?;
     }
     fs::remove_file(&rt, "log_times.log")
 }

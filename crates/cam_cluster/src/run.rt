@@ -15,7 +15,7 @@ use crate::course::{Course, CourseFault};
 use crate::founding::{ClusterFault, take_out};
 use crate::lines::{AsLines, Lines};
 use crate::servers::Servers;
-use crate::telling::{TellingDisk, TellingLog};
+use crate::telling::TellingLog;
 use crate::workers::Workers;
 use cam_base::{NoMemory, Sequence};
 use cam_ckpt::{CheckpointLog, Ckpt};

@@ -1,26 +1,9 @@
-//! Disks that always tell what they hold and how often they have failed, and logs over them.
-ghost use Rattle.std.specs.Prelude.{◌≡◌, IsTrue, refl};
+//! Logs over disks that always tell what they hold and how often they have failed.
+ghost use Rattle.std.specs.Prelude.{◌≡◌, IsTrue};
 
 use cam_ckpt::{CheckpointLog, Ckpt};
-use cam_disk::{Disk, MemoryDisk, StopDisk};
+use cam_disk::{StopDisk, TellingDisk};
 use cam_log::StopLog;
-
-/// A disk that always tells what it holds.
-pub trait TellingDisk: Disk {
-    /// How often a call on it has failed.
-    fn failures(&self) -> u64
-        ensures { result ≡ Self.faults self.now };
-
-    ghost always: { (disk : Self) → IsTrue (Self.tells disk) };
-}
-
-impl TellingDisk for MemoryDisk {
-    ghost always = { λ disk. refl };
-
-    fn failures(&self) -> u64 {
-        MemoryDisk::failures(self)
-    }
-}
 
 /// A log whose disk always tells what it holds, and can be stopped.
 pub(crate) trait TellingLog: CheckpointLog + StopLog {

@@ -96,6 +96,12 @@ IsImage-held (Resize size ∷ calls) h =
     )
 IsImage-held (Sync ∷ calls) h = refl
 
+-- the same of bytes that are held after these calls, the oldest first
+pub held_is_image : (calls : List Call) {held : List ℕ} → held ≡ held_after (reverse calls)
+    → IsTrue (is_record (reverse calls)) → IsImage (reverse calls) held
+held_is_image calls is placed =
+    subst (IsImage (reverse calls)) (sym is) (IsImage-held (reverse calls) placed)
+
 -- one more call
 pub LeftSince-more : (calls : List Call) (call : Call) (t : ℕ) (c : List ℕ) → LeftSince calls t c
     → LeftSince (calls ++ call ∷ []) t c

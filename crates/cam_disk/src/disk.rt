@@ -9,8 +9,8 @@ use crate::error::DiskError;
 
 /// A disk of bytes, which may fail at each call, and at which a crash may come at any moment.
 ///
-/// A disk that tells what it holds owes the clauses on its bytes and on crashes; one that does not, as a
-/// file, owes those on its faults alone.
+/// A disk that tells what it holds owes the clauses on its bytes and on crashes; one that does not owes
+/// those on its faults alone.
 pub trait Disk: Drop {
     /// Whether the disk tells what it holds. No call changes it.
     ghost tells: { Self → Bool };

@@ -1,29 +1,38 @@
 // A file as a disk.
-ghost use Rattle.std.specs.Prelude.{◌≡◌, ◌≤◌, ◌+◌, false, [], Some, None, Err, length, IfOk};
+ghost use Rattle.std.specs.Prelude.{◌≡◌, ◌≤◌, [], true, length, IfOk, Err, refl};
 ghost use Rattle.cam_disk.specs.declared.error.DiskError.TheVariants.{Failed};
 ghost use Rattle.cam_disk.specs.Disk.{FailsWithCause};
+ghost use Rattle.cam_disk.specs.Images.{held_is_image, LeftSince-now, LeftSince-only};
 
 use crate::disk::Disk;
 use crate::error::DiskError;
-use crate::limit::fits;
+use crate::memory::MemoryDisk;
+use crate::telling::TellingDisk;
+use std::alloc::Global;
 use std::fs::File;
 use std::io;
 use std::io::{Read, Seek, SeekFrom, Write};
 use std::rt::Files;
 
-/// A file as a disk. It tells nothing of what it holds, so it owes nothing but its count of faults.
+/// A file as a disk, with a copy in memory of what it is to hold, by which it tells that.
+///
+/// It begins empty, whatever the file holds, and opening it changes nothing there: a cut to 0 empties the
+/// file. Until then, and at a file that another one writes to, a call fails that finds the file to be of
+/// another size or to give other bytes than the copy. A file that has failed is not used again, so each
+/// later call fails: what it holds then is not known.
 #[derive(Drop)]
 pub struct FileDisk {
-    /// None where the file could not be opened.
+    /// None where it could not be opened, or has failed.
     file: Option<File>,
-    faults: u64,
+    copy: MemoryDisk,
 }
 
 impl FileDisk {
     /// The file of this path, which is made where it is not there. Where it cannot be opened, each call
     /// on the disk fails, from the first on.
-    pub fn open<R: Files<File = File>>(rt: &R, path: &str) -> FileDisk
-        ensures { ⟦<FileDisk as Disk>⟧.faults result ≡ 0 }
+    pub fn open<R: Files<File = File>>(rt: &R, alloc: Global, path: &str) -> FileDisk
+        ensures seen { ⟦<FileDisk as Disk>⟧.seen result ≡ [] }
+        ensures faults { ⟦<FileDisk as Disk>⟧.faults result ≡ 0 }
     {
         let opened = File::options()
             .read(true)
@@ -32,23 +41,33 @@ impl FileDisk {
             .open(rt, path);
         FileDisk {
             file: opened.ok(),
-            faults: 0,
+            copy: MemoryDisk::new(alloc),
         }
     }
 
-    /// What a call on the file gave, with its fault counted.
-    fn counted<T: Drop>(&mut self, given: Option<T>) -> Result<T, DiskError>
-        ensures given { IfOk result (λ value. given ≡ Some value) }
-        ensures none { given ≡ None → result ≡ Err Failed }
-        ensures cause { FailsWithCause self.old.faults self.new.faults result }
+    /// Whether the file is there, and as long as the copy.
+    fn is_whole(&mut self) -> bool
+        ensures { self.new.copy ≡ self.old.copy }
     {
-        match given {
-            Some(value) => Ok(value),
-            None => {
-                self.faults = self.faults.saturating_add(1);
-                Err(DiskError::Failed)
-            }
+        match &mut self.file {
+            Some(file) => match file.seek(SeekFrom::End(0)) {
+                Ok(size) => size == self.copy.size(),
+                Err(_) => false,
+            },
+            None => false,
         }
+    }
+
+    /// Counts a fault of the file, which is not used again.
+    fn fail<T: Drop>(&mut self) -> Result<T, DiskError>
+        ensures failed { result ≡ Err Failed }
+        ensures cause { FailsWithCause self.old.copy.faults self.new.copy.faults result }
+        ensures bytes { self.new.copy.bytes ≡ self.old.copy.bytes }
+        ensures calls { self.new.copy.calls ≡ self.old.copy.calls }
+    {
+        self.file = None;
+        self.copy.count_fault();
+        Err(DiskError::Failed)
     }
 }
 
@@ -57,8 +76,8 @@ impl FileDisk {
 fn read_from(file: &mut File, at: u64, into: &mut [u8]) -> io::Result<usize>
     ensures { IfOk result (λ n. n ≤ length into.new) }
 {
-    let behind = file.seek(SeekFrom::End(0))?.saturating_sub(at);
-    let count = (into.len() as u64).min(behind) as usize;
+    let after = file.seek(SeekFrom::End(0))?.saturating_sub(at);
+    let count = (into.len() as u64).min(after) as usize;
     file.seek(SeekFrom::Start(at))?;
     file.read_exact(&mut into[..count])?;
     Ok(count)
@@ -70,62 +89,76 @@ fn write_to(file: &mut File, at: u64, bytes: &[u8]) -> io::Result<()> {
 }
 
 impl Disk for FileDisk {
-    ghost tells = { λ _. false };
+    ghost tells = { λ _. true };
 
-    ghost seen = { λ _. [] };
+    ghost seen = { λ disk. ⟦<MemoryDisk as Disk>⟧.seen disk.copy };
 
-    ghost may_leave = { λ _ _. Unit {0} };
+    ghost may_leave = { λ disk. ⟦<MemoryDisk as Disk>⟧.may_leave disk.copy };
 
-    ghost moment = { λ _. 0 };
+    ghost moment = { λ disk. ⟦<MemoryDisk as Disk>⟧.moment disk.copy };
 
-    ghost left_since = { λ _ _ _. Unit {0} };
+    ghost left_since = { λ disk. ⟦<MemoryDisk as Disk>⟧.left_since disk.copy };
 
-    ghost faults = { λ disk. disk.faults };
+    ghost faults = { λ disk. ⟦<MemoryDisk as Disk>⟧.faults disk.copy };
 
-    ghost faults_within = { λ disk. disk.faults };
+    ghost faults_within = { λ disk. ⟦<MemoryDisk as Disk>⟧.faults disk.copy };
 
-    ghost kept = { λ _ _. tt };
+    ghost kept = { λ disk h. held_is_image disk.copy.calls.items disk.copy.held disk.copy.placed };
 
-    ghost counts_now = { λ _ _ _ _ _ _. tt };
+    ghost counts_now = { λ disk t c h. LeftSince-now disk.copy.calls.items t c };
 
-    ghost only_now = { λ _ _ _ _. tt };
+    ghost only_now = { λ disk c h. LeftSince-only disk.copy.calls.items c };
 
     fn read(&mut self, at: u64, into: &mut [u8]) -> Result<usize, DiskError> {
         let given = match &mut self.file {
             Some(file) => read_from(file, at, into).ok(),
             None => None,
         };
-        self.counted(given)
+        match given {
+            Some(count) if self.copy.gives(at, into.len(), &into[..count]) => Ok(count),
+            _ => self.fail(),
+        }
     }
 
     fn write_at(&mut self, at: u64, bytes: &[u8]) -> Result<(), DiskError> {
-        if !fits(at, bytes) {
-            return self.counted(None);
+        if !self.is_whole() {
+            return self.fail();
         }
-        let given = match &mut self.file {
-            Some(file) => write_to(file, at, bytes).ok(),
-            None => None,
+        self.copy.write_at(at, bytes)?;
+        let written = match &mut self.file {
+            Some(file) => write_to(file, at, bytes).is_ok(),
+            None => false,
         };
-        self.counted(given)
+        if written { Ok(()) } else { self.fail() }
     }
 
     fn cut(&mut self, size: u64) -> Result<(), DiskError> {
-        let given = match &self.file {
-            Some(file) => file.set_len(size).ok(),
-            None => None,
-        };
-        self.counted(given)
+        self.copy.cut(size)?;
+        match &self.file {
+            Some(file) if file.set_len(size).is_ok() => Ok(()),
+            _ => self.fail(),
+        }
     }
 
     fn sync(&mut self) -> Result<(), DiskError> {
-        let given = match &self.file {
-            Some(file) => file.sync_all().ok(),
-            None => None,
-        };
-        self.counted(given)
+        if !self.is_whole() {
+            return self.fail();
+        }
+        match &self.file {
+            Some(file) if file.sync_all().is_ok() => self.copy.sync(),
+            _ => self.fail(),
+        }
     }
 
-    fn spoil(&mut self) {
-        self.faults = self.faults.saturating_add(1);
+    fn spoil(&mut self)
+        ensures same { self.new ≡ self.old }
+    {}
+}
+
+impl TellingDisk for FileDisk {
+    ghost always = { λ _. refl };
+
+    fn failures(&self) -> u64 {
+        self.copy.failures()
     }
 }

@@ -1,10 +1,13 @@
 // A disk of this machine.
+ghost use Rattle.std.specs.Prelude.{true, refl};
+
 use crate::disk::Disk;
 use crate::error::DiskError;
 use crate::file::FileDisk;
 use crate::memory::MemoryDisk;
+use crate::telling::TellingDisk;
 
-/// A disk of this machine: in memory, or a file. The one in memory tells what it holds.
+/// A disk of this machine: in memory, or a file. It tells what it holds.
 #[derive(Drop)]
 pub enum HostDisk {
     Memory(MemoryDisk),
@@ -12,27 +15,28 @@ pub enum HostDisk {
 }
 
 impl Disk for HostDisk {
-    ghost use Rattle.cam_disk.specs.Host.{host_tells, host_seen, host_may_leave, host_moment, host_left_since, host_faults, host_kept, host_counts_now, host_only_now};
+    ghost use Rattle.cam_disk.specs.Host.{in_memory};
+    ghost use Rattle.cam_disk.specs.Images.{held_is_image, LeftSince-now, LeftSince-only};
 
-    ghost tells = { host_tells };
+    ghost tells = { λ _. true };
 
-    ghost seen = { host_seen };
+    ghost seen = { λ disk. ⟦<MemoryDisk as Disk>⟧.seen (in_memory disk) };
 
-    ghost may_leave = { host_may_leave };
+    ghost may_leave = { λ disk. ⟦<MemoryDisk as Disk>⟧.may_leave (in_memory disk) };
 
-    ghost moment = { host_moment };
+    ghost moment = { λ disk. ⟦<MemoryDisk as Disk>⟧.moment (in_memory disk) };
 
-    ghost left_since = { host_left_since };
+    ghost left_since = { λ disk. ⟦<MemoryDisk as Disk>⟧.left_since (in_memory disk) };
 
-    ghost faults = { host_faults };
+    ghost faults = { λ disk. ⟦<MemoryDisk as Disk>⟧.faults (in_memory disk) };
 
-    ghost faults_within = { host_faults };
+    ghost faults_within = { λ disk. ⟦<MemoryDisk as Disk>⟧.faults (in_memory disk) };
 
-    ghost kept = { host_kept };
+    ghost kept = { λ disk h. let m = in_memory disk in held_is_image m.calls.items m.held m.placed };
 
-    ghost counts_now = { host_counts_now };
+    ghost counts_now = { λ disk t c h. LeftSince-now (in_memory disk).calls.items t c };
 
-    ghost only_now = { host_only_now };
+    ghost only_now = { λ disk c h. LeftSince-only (in_memory disk).calls.items c };
 
     fn read(&mut self, at: u64, into: &mut [u8]) -> Result<usize, DiskError> {
         match self {
@@ -66,6 +70,17 @@ impl Disk for HostDisk {
         match self {
             HostDisk::Memory(disk) => disk.spoil(),
             HostDisk::File(disk) => disk.spoil(),
+        }
+    }
+}
+
+impl TellingDisk for HostDisk {
+    ghost always = { λ _. refl };
+
+    fn failures(&self) -> u64 {
+        match self {
+            HostDisk::Memory(disk) => disk.failures(),
+            HostDisk::File(disk) => disk.failures(),
         }
     }
 }

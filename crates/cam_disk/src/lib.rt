@@ -5,8 +5,9 @@
 //! trait `Disk` says so of each call, and of each moment inside a call.
 //!
 //! `MemoryDisk` keeps its bytes and a record of its calls, from which the images of a crash follow.
-//! `StopDisk` stops doing calls, as a machine that lost its power. `FileDisk` is a file; it tells nothing
-//! of what it holds. `HostDisk` is one of the two.
+//! `StopDisk` stops doing calls, as a machine that lost its power. `FileDisk` is a file beside a copy in
+//! memory: it tells what the copy holds, and fails where the file gives anything else. `HostDisk` is one
+//! in memory or a file. Those that always tell what they hold are `TellingDisk`s.
 //!
 //! It stands on `cam_base`. Its main clause is `Disk::sync`, `durable`: at `Ok` a crash leaves what a
 //! read gives, and nothing else.
@@ -20,6 +21,7 @@ mod host;
 mod limit;
 mod memory;
 mod stop;
+mod telling;
 
 pub use call::Call;
 pub use disk::Disk;
@@ -28,3 +30,4 @@ pub use file::FileDisk;
 pub use host::HostDisk;
 pub use memory::MemoryDisk;
 pub use stop::StopDisk;
+pub use telling::TellingDisk;

@@ -1,15 +1,16 @@
 // A disk in memory.
-ghost use Rattle.std.specs.Prelude.{◌<◌, IfOk, IfErr, IsErrOf, Err, IsOk, ◌≡◌, ◌+◌, ◌≤◌, ◌^◌, true, [], ◌∷◌, ◌++◌, length, take, reverse, IsTrue, OnOk, OnErr};
+ghost use Rattle.std.specs.Prelude.{◌<◌, ◌↔◌, refl, IfOk, IfErr, IsErrOf, Err, IsOk, ◌≡◌, ◌+◌, ◌≤◌, ◌^◌, true, [], ◌∷◌, ◌++◌, length, take, reverse, IsTrue, OnOk, OnErr};
+ghost use Rattle.cam_base.specs.Causes.{Rose};
 ghost use Rattle.cam_disk.specs.declared.call.Call.TheVariants.{Write, Resize, Sync};
 ghost use Rattle.cam_disk.specs.declared.error.DiskError.TheVariants.{Failed, NoMemory as OutOfMemory};
 ghost use Rattle.cam_disk.specs.Disk.{Only, Follows, Torn, Cut, Same, Holds, FailsWithCause, Reads};
-ghost use Rattle.cam_disk.specs.Images.{held_after, is_record, written, IsImage, MayLeave, Onward, Unchanged, LeftSince, IsImage-held, LeftSince-now, LeftSince-only};
-ghost use Rattle.std.proofs.Common.{subst, sym};
+ghost use Rattle.cam_disk.specs.Images.{held_after, is_record, written, IsImage, MayLeave, Onward, Unchanged, LeftSince, held_is_image, LeftSince-now, LeftSince-only};
 
 use crate::call::Call;
 use crate::disk::Disk;
 use crate::error::DiskError;
 use crate::limit::fits;
+use crate::telling::TellingDisk;
 use cam_base::NoMemory;
 use std::alloc::Global;
 
@@ -40,11 +41,30 @@ impl MemoryDisk {
         }
     }
 
-    /// How many of its calls have failed.
-    pub fn failures(&self) -> u64
-        ensures { result ≡ ⟦<MemoryDisk as Disk>⟧.faults self.now }
+    /// How many bytes it holds.
+    pub fn size(&self) -> u64
+        ensures { result ≡ length (⟦<MemoryDisk as Disk>⟧.seen self.now) }
     {
-        self.faults
+        self.bytes.len() as u64
+    }
+
+    /// Whether a read at a place, with so much room, gives these bytes.
+    pub(crate) fn gives(&self, at: u64, room: usize, bytes: &[u8]) -> bool
+        ensures { IsTrue result
+            ↔ Reads self.now.bytes.items at room (length bytes.now) bytes.now }
+    {
+        let held = &self.bytes[(at.min(self.bytes.len() as u64)) as usize..];
+        bytes == &held[..room.min(held.len())]
+    }
+
+    /// Counts a fault of what stands beside it.
+    pub(crate) fn count_fault(&mut self)
+        ensures rose { Rose self.old.faults self.new.faults }
+        ensures later { self.old.faults ≤ self.new.faults }
+        ensures bytes { self.new.bytes ≡ self.old.bytes }
+        ensures calls { self.new.calls ≡ self.old.calls }
+    {
+        self.faults = self.faults.saturating_add(1);
     }
 }
 
@@ -92,7 +112,7 @@ impl Disk for MemoryDisk {
 
     ghost faults_within = { λ d. d.faults };
 
-    ghost kept = { λ d h. subst (IsImage (reverse d.calls.items)) (sym d.held) (IsImage-held (reverse d.calls.items) d.placed) };
+    ghost kept = { λ d h. held_is_image d.calls.items d.held d.placed };
 
     ghost counts_now = { λ d t c h le now. LeftSince-now d.calls.items t c le now };
 
@@ -175,4 +195,12 @@ impl Disk for MemoryDisk {
     fn spoil(&mut self)
         ensures same { self.new ≡ self.old }
     {}
+}
+
+impl TellingDisk for MemoryDisk {
+    ghost always = { λ _. refl };
+
+    fn failures(&self) -> u64 {
+        self.faults
+    }
 }
