@@ -6,7 +6,10 @@ use Rattle.cam_args.specs.declared.ArgsFault.TheVariants.{Usage, NoMemory}
 use Rattle.cam_args.specs.Forms.{IsForm, IsNoForm, Finds, UnlessNoMemory}
 use Rattle.cam_args.proofs.Spelling.{no_error}
 
-pub refused : (words : List (List ℕ)) (r : Result Command ArgsFault) → IfOk r (IsForm words) → Finds words r → UnlessNoMemory r (r ≡ Err Usage ↔ IsNoForm words)
-refused words (Ok command) read each = (λ e. absurd (no_error (Ok command) Usage command e refl), λ none. absurd (none command read))
-refused words (Err Usage) read each = (λ e command form. no_error (Err Usage) Usage command refl (each command form), λ none. refl)
+pub refused : (words : List (List ℕ)) (r : Result Command ArgsFault) → IfOk r (IsForm words)
+    → Finds words r → UnlessNoMemory r (r ≡ Err Usage ↔ IsNoForm words)
+refused words (Ok command) read each =
+    (λ e. absurd (no_error (Ok command) Usage command e refl), λ none. absurd (none command read))
+refused words (Err Usage) read each =
+    (λ e command form. no_error (Err Usage) Usage command refl (each command form), λ none. refl)
 refused words (Err NoMemory) read each = tt

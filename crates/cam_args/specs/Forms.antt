@@ -1,4 +1,5 @@
--- The forms of the command line, behind the program's name: the words in which each command is written. Nothing else is a form.
+-- The forms of the command line, behind the program's name: the words in which each command is
+-- written. Nothing else is a form.
 use Rattle.std.specs.Prelude.{◌≡◌, ◌≤◌, ⊤, ℕ, Bool, if◌then◌else◌, List, [], ◌∷◌, ◌++◌, codes, decimal, Result, Ok, Err}
 use Rattle.cam_names.specs.Names.{IsName}
 use Rattle.cam_names.specs.Text.{name_text}
@@ -15,7 +16,8 @@ IsFrom least most n = (least ≤ n) × (n ≤ most)
 abbrev pub IsCommand : Command → Type 0
 IsCommand (Witness a) = IsName a
 IsCommand (Gen seed size) = IsFrom 0 18446744073709551615 seed × IsFrom 1 400 size
-IsCommand (Storm seed actions threads calm) = IsFrom 0 18446744073709551615 seed × IsFrom 1 64 actions × IsFrom 1 4 threads
+IsCommand (Storm seed actions threads calm) = IsFrom 0 18446744073709551615 seed
+    × IsFrom 1 64 actions × IsFrom 1 4 threads
 IsCommand (Why event) = IsFrom 0 4294967295 event
 IsCommand _ = ⊤
 
@@ -48,7 +50,8 @@ IsNoForm words = (command : Command) → ¬ (IsForm words command)
 -- what is written where there is no form
 abbrev pub usage : List ℕ
 usage =
-    codes "usage: camelot run | trace | witness NAME | gen SEED SIZE | storm SEED ACTIONS THREADS MODE | inspect | upgrade | why EVENT | timed"
+    codes
+    "usage: camelot run | trace | witness NAME | gen SEED SIZE | storm SEED ACTIONS THREADS MODE | inspect | upgrade | why EVENT | timed"
     ++ 10 ∷ []
 
 -- a fact of what was read, unless memory ran out
@@ -59,7 +62,8 @@ UnlessNoMemory (Err NoMemory) Holds = ⊤
 
 -- each command whose form the words are is found, unless memory ran out
 abbrev pub Finds : List (List ℕ) → Result Command ArgsFault → Type 0
-Finds words found = UnlessNoMemory found ((command : Command) → IsForm words command → found ≡ Ok command)
+Finds words found = UnlessNoMemory found
+    ((command : Command) → IsForm words command → found ≡ Ok command)
 
 -- five words
 abbrev pub five : List ℕ → List ℕ → List ℕ → List ℕ → List ℕ → List (List ℕ)

@@ -1,4 +1,5 @@
--- The command line as clap is told it: a subcommand for each command's first word, with what stands behind that word, in order.
+-- The command line as clap is told it: a subcommand for each command's first word, with what stands
+-- behind that word, in order.
 use Rattle.std.specs.Prelude.{Bool, true, false, ◌==◌, if◌then◌else◌, List, [], ◌∷◌, codes, map, Option, Some, None, unwrap_or}
 use Rattle.std.specs.List.{fold}
 use Rattle.std.specs.Str.{bytes_eq}
@@ -20,12 +21,14 @@ values_of name =
     if bytes_eq name (codes "witness") then codes "name" ∷ []
     else if bytes_eq name (codes "why") then codes "event" ∷ []
     else if bytes_eq name (codes "gen") then codes "seed" ∷ codes "size" ∷ []
-    else if bytes_eq name (codes "storm") then codes "seed" ∷ codes "actions" ∷ codes "threads" ∷ codes "mode" ∷ []
+    else if bytes_eq name (codes "storm")
+    then codes "seed" ∷ codes "actions" ∷ codes "threads" ∷ codes "mode" ∷ []
     else []
 
 -- the first word of each command
 abbrev pub first_words : List Text
-first_words = codes "run" ∷ codes "trace" ∷ codes "witness" ∷ codes "gen" ∷ codes "storm" ∷ codes "inspect" ∷ codes "upgrade"
+first_words = codes "run" ∷ codes "trace" ∷ codes "witness" ∷ codes "gen" ∷ codes "storm"
+    ∷ codes "inspect" ∷ codes "upgrade"
     ∷ codes "why" ∷ codes "timed" ∷ []
 
 -- a value that has to stand there
@@ -39,7 +42,8 @@ command_app name values = fold with_value (new_app name) values
 abbrev pub with_command : App → Text → List Text → App
 with_command line name values = with_subcommand line (command_app name values).top
 
--- a line with no command yet: all its words are the caller's, one of them has to be a command, and there is no help
+-- a line with no command yet: all its words are the caller's, one of them has to be a command, and
+-- there is no help
 abbrev pub empty_shape : Shape → Shape
 empty_shape line = record line {
   no_binary_name = true;

@@ -21,7 +21,8 @@ use std::alloc::Global;
 pub fn read_words(alloc: Global, words: &[String]) -> Result<Command, ArgsFault>
     ensures read { IfOk result (IsForm (map string_bytes words.now)) }
     ensures each { Finds (map string_bytes words.now) result }
-    ensures usage { UnlessNoMemory result (result ≡ Err Usage ↔ IsNoForm (map string_bytes words.now)) }
+    ensures usage { UnlessNoMemory result
+        (result ≡ Err Usage ↔ IsNoForm (map string_bytes words.now)) }
 {
     if has_dashed(words) {
         return Err(ArgsFault::Usage);
@@ -153,7 +154,8 @@ fn generate(seed: &str, size: &str) -> Result<Command, ArgsFault>
 
 /// `storm SEED ACTIONS THREADS MODE`.
 fn storm(seed: &str, actions: &str, threads: &str, mode: &str) -> Result<Command, ArgsFault>
-    ensures read { IfOk result (IsForm (five (codes "storm") seed.now actions.now threads.now mode.now)) }
+    ensures read { IfOk result
+        (IsForm (five (codes "storm") seed.now actions.now threads.now mode.now)) }
     ensures each { Finds (five (codes "storm") seed.now actions.now threads.now mode.now) result }
 {
     let calm = match mode {

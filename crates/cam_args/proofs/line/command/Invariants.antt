@@ -8,5 +8,6 @@ use Rattle.cam_args.proofs.line.command.Given as goal
 
 abbrev pub invariant-loop-value : goal.invariant-loop-value
 invariant-loop-value l =
-    (fold with_value (app_of l.command) (map (λ s. s.now) (drop l.value-index l.values)) ≡ command_app l.name (map (λ s. s.now) l.values))
+    (fold with_value (app_of l.command) (map (λ s. s.now) (drop l.value-index l.values))
+    ≡ command_app l.name (map (λ s. s.now) l.values))
     × ((fields_of l.command).has_globals ≡ false)

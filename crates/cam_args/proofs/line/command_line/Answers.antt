@@ -12,8 +12,10 @@ returns c =
     let none_1 : map (λ s. s.now) c.as_slice.result.now ≡ [] = search rules in
     let none_2 : map (λ s. s.now) c.as_slice-2.result.now ≡ [] = search rules in
     let values_3 : map (λ s. s.now) c.as_slice-3.result.now ≡ codes "name" ∷ [] = search rules in
-    let values_4 : map (λ s. s.now) c.as_slice-4.result.now ≡ codes "seed" ∷ codes "size" ∷ [] = search rules in
-    let values_5 : map (λ s. s.now) c.as_slice-5.result.now ≡ codes "seed" ∷ codes "actions" ∷ codes "threads" ∷ codes "mode" ∷ [] = search rules in
+    let values_4 : map (λ s. s.now) c.as_slice-4.result.now
+    ≡ codes "seed" ∷ codes "size" ∷ [] = search rules in
+    let values_5 : map (λ s. s.now) c.as_slice-5.result.now
+    ≡ codes "seed" ∷ codes "actions" ∷ codes "threads" ∷ codes "mode" ∷ [] = search rules in
     let none_6 : map (λ s. s.now) c.as_slice-6.result.now ≡ [] = search rules in
     let none_7 : map (λ s. s.now) c.as_slice-7.result.now ≡ [] = search rules in
     let values_8 : map (λ s. s.now) c.as_slice-8.result.now ≡ codes "event" ∷ [] = search rules in
@@ -26,4 +28,5 @@ returns c =
     let line_6 = c.in_ok-line-6.ensures ∙ ap₂ (more (codes "inspect")) line_5 none_6 in
     let line_7 = c.in_ok-line-7.ensures ∙ ap₂ (more (codes "upgrade")) line_6 none_7 in
     let line_8 = c.in_ok-line-8.ensures ∙ ap₂ (more (codes "why")) line_7 values_8 in
-    IfOk-weaker c.with_command-9.result _ _ (λ r is. is ∙ ap₂ (more (codes "timed")) line_8 none_9) c.with_command-9.ensures
+    IfOk-weaker c.with_command-9.result _ _ (λ r is. is ∙ ap₂ (more (codes "timed")) line_8 none_9)
+    c.with_command-9.ensures

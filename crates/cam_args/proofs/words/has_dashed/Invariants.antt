@@ -5,4 +5,5 @@ use Rattle.cam_args.specs.Line.{is_dashed}
 use Rattle.cam_args.proofs.words.has_dashed.Given as goal
 
 abbrev pub invariant-loop-word : goal.invariant-loop-word
-invariant-loop-word l = list_any is_dashed (map string_bytes (drop l.word-index l.words)) ≡ list_any is_dashed (map string_bytes l.words)
+invariant-loop-word l = list_any is_dashed (map string_bytes (drop l.word-index l.words))
+    ≡ list_any is_dashed (map string_bytes l.words)
