@@ -4,6 +4,7 @@ pub mod Numerals
 pub mod ReadWords
 pub mod Variables
 pub mod MadeLines
+pub mod MadeText
 pub mod MadeCalls
 pub mod MadeSteps
 pub mod MadeVariables

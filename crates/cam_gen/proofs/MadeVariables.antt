@@ -18,17 +18,22 @@ use Rattle.cam_gen.proofs.PlainWords.{IsPlain, end_is, reads_first, reads_next, 
 use Rattle.cam_gen.proofs.ReadWords.{new_name_read, node_read, variable_read}
 use Rattle.cam_gen.proofs.Numerals.{named_variable, node_is, short_node, short_variable}
 use Rattle.cam_gen.proofs.MadeLines.{Has, found, has_more, line_is, made, new, stands}
-use Rattle.cam_gen.proofs.MadeSteps.{IsLine, line_few, one_short}
+use Rattle.cam_gen.proofs.MadeText.{IsLine, line_few, one_short}
 
-module _ (steps : List Step) (vs : List Variable) (k spent number : ℕ) (has : Has vs k) (small : k < 512) (room : spent < 512) where
+module _ (steps : List Step) (vs : List Variable) (k spent number : ℕ) (has : Has vs k)
+    (small : k < 512) (room : spent < 512) where
   -- what such a line said, with the word of its variable
-  bound_is : (act : Act) (binding : Binding) (line : List ℕ) (word : Word) (said : Result (Word × Act) ScriptFault) → said ≡ Ok (word, act) → text_of word line ≡ variable k
-      → (said >>= bound (made steps vs spent) binding number line) ≡ Ok (with_binding_step (made steps vs spent) number (variable k) binding act)
+  bound_is : (act : Act) (binding : Binding) (line : List ℕ) (word : Word)
+      (said : Result (Word × Act) ScriptFault) → said ≡ Ok (word, act)
+      → text_of word line ≡ variable k → (said >>= bound (made steps vs spent) binding number line)
+      ≡ Ok (with_binding_step (made steps vs spent) number (variable k) binding act)
   bound_is act binding line word said is text =
-      ap (λ (r : Result (Word × Act) ScriptFault). r >>= bound (made steps vs spent) binding number line) is
+      ap (λ (r : Result (Word × Act) ScriptFault).
+      r >>= bound (made steps vs spent) binding number line) is
       ∙ ap (λ (t : List ℕ). Ok (with_binding_step (made steps vs spent) number t binding act)) text
 
-  pub begin_is : (node : ℕ) → node < 3 → IsLine steps vs spent number (words (codes "begin" ∷ variable k ∷ decimal (node + 1) ∷ []) ++ 10 ∷ []) (k + 1)
+  pub begin_is : (node : ℕ) → node < 3 → IsLine steps vs spent number
+      (words (codes "begin" ∷ variable k ∷ decimal (node + 1) ∷ []) ++ 10 ∷ []) (k + 1)
   unfolding begin_line
   begin_is node there =
       let w = variable k in
@@ -47,24 +52,29 @@ module _ (steps : List Step) (vs : List Variable) (k spent number : ℕ) (has : 
         line = line;
         is = refl;
         shown = shown;
-        few = line_few (codes "begin") rest (omega (arith, one_short w (n ∷ []), one_short n [], short.few, one.few));
+        few = line_few (codes "begin") rest
+            (omega (arith, one_short w (n ∷ []), one_short n [], short.few, one.few));
         goes = record {
           steps = steps ++ record { line = number; act = acts.Begin (node + 1) } ∷ [];
           variables = vs ++ v ∷ [];
           is =
-              line_is (made steps vs spent) _ number line (codes "begin") rest forms.Begin r shown refl refl
+              line_is (made steps vs spent) _ number line (codes "begin") rest forms.Begin r
+              shown refl refl
               (stands steps forms.Begin refl) (le-ltb 512 (spent + 1) (omega (arith, room)))
               (bound_is (acts.Begin (node + 1)) bindings.Begin line s.word _
               (rw (
-                new_name_read line w (n ∷ []) r.word.end number s _ (named_variable k small) (new vs k has small),
-                node_read line n [] s.word.end number t (node + 1) (node_is node there) (omega arith) (omega (arith, there)),
+                new_name_read line w (n ∷ []) r.word.end number s _ (named_variable k small)
+                    (new vs k has small),
+                node_read line n [] s.word.end number t (node + 1) (node_is node there)
+                    (omega arith) (omega (arith, there)),
                 end_is line t.word.end number t.behind,
               ) refl) s.text);
           has = has_more vs k v has refl refl;
         };
       }
 
-  pub ask_is : (x node : ℕ) → x < k → node < 3 → IsLine steps vs spent number (words (codes "ask" ∷ variable x ∷ variable k ∷ decimal (node + 1) ∷ []) ++ 10 ∷ []) (k + 1)
+  pub ask_is : (x node : ℕ) → x < k → node < 3 → IsLine steps vs spent number
+      (words (codes "ask" ∷ variable x ∷ variable k ∷ decimal (node + 1) ∷ []) ++ 10 ∷ []) (k + 1)
   unfolding ask_line
   ask_is x node below there =
       let p = variable x in
@@ -77,7 +87,8 @@ module _ (steps : List Step) (vs : List Variable) (k spent number : ℕ) (has : 
       let rest : List (List ℕ) = p ∷ w ∷ n ∷ [] in
       let line = words (codes "ask" ∷ rest) in
       let plain : IsPlain (codes "ask") = record { shown = refl; some = omega arith } in
-      let shown = words_shown (codes "ask") rest plain (parent.plain, (short.plain, (one.plain, tt))) in
+      let shown = words_shown (codes "ask") rest plain
+      (parent.plain, (short.plain, (one.plain, tt))) in
       let r = reads_first line (codes "ask") rest plain (words_are (codes "ask") rest) in
       let q = reads_next line p (w ∷ n ∷ []) r.word.end parent.plain r.behind in
       let s = reads_next line w (n ∷ []) q.word.end short.plain q.behind in
@@ -87,18 +98,30 @@ module _ (steps : List Step) (vs : List Variable) (k spent number : ℕ) (has : 
         line = line;
         is = refl;
         shown = shown;
-        few = line_few (codes "ask") rest (omega (arith, one_short p (w ∷ n ∷ []), one_short w (n ∷ []), one_short n [], parent.few, short.few, one.few));
+        few = line_few (codes "ask") rest
+            (omega (
+              arith,
+              one_short p (w ∷ n ∷ []),
+              one_short w (n ∷ []),
+              one_short n [],
+              parent.few,
+              short.few,
+              one.few,
+            ));
         goes = record {
           steps = steps ++ record { line = number; act = acts.Ask u.v.step (node + 1) } ∷ [];
           variables = vs ++ v ∷ [];
           is =
-              line_is (made steps vs spent) _ number line (codes "ask") rest forms.Ask r shown refl refl
+              line_is (made steps vs spent) _ number line (codes "ask") rest forms.Ask r
+              shown refl refl
               (stands steps forms.Ask refl) (le-ltb 512 (spent + 1) (omega (arith, room)))
               (bound_is (acts.Ask u.v.step (node + 1)) bindings.Ask line s.word _
               (rw (
                 variable_read line p (w ∷ n ∷ []) r.word.end number q vs u.v u.is u.usable,
-                new_name_read line w (n ∷ []) q.word.end number s _ (named_variable k small) (new vs k has small),
-                node_read line n [] s.word.end number t (node + 1) (node_is node there) (omega arith) (omega (arith, there)),
+                new_name_read line w (n ∷ []) q.word.end number s _ (named_variable k small)
+                    (new vs k has small),
+                node_read line n [] s.word.end number t (node + 1) (node_is node there)
+                    (omega arith) (omega (arith, there)),
                 end_is line t.word.end number t.behind,
               ) refl) s.text);
           has = has_more vs k v has refl refl;

@@ -1,4 +1,5 @@
--- The numbers that a script of a seed has, as words: each below its bound is plain, and is read as itself. All by computing.
+-- The numbers that a script of a seed has, as words: each below its bound is plain, and is read as
+-- itself. All by computing.
 use Rattle.std.proofs.Common.{◌≡◌, inl, inr, ℕ, zero, suc, ◌+◌, ◌==◌, ◌<◌, ◌≤◌, Bool, true, false, ◌&&◌, eqb-true, nat_le, leb-true, List, length, Option, Some, None, decimal, refl, ap, ◌∙◌, arith}
 use Rattle.std.specs.Prelude.{ℤ, pos, negsuc}
 use Rattle.std.specs.Fmt.{digits}
@@ -23,7 +24,8 @@ each test (suc bound) n e below =
     let (here, before) = both (test bound) (every test bound) e in
     elim (cases_lt n bound) [
       | inl less ↦ each test bound n before less
-      | inr not_less ↦ ap test (let same : n ≡ bound = omega (arith, below, not_less) in same) ∙ here
+      | inr not_less ↦ ap test (let same : n ≡ bound = omega (arith, below, not_less) in same)
+          ∙ here
     ]
 
 -- a word is plain and has so many bytes at most
@@ -38,7 +40,10 @@ short_of : (most : ℕ) (w : List ℕ) → is_short most w ≡ true → IsShort 
 short_of most w e =
     let (shown, others) = both (all_from 33 w) (nat_le 1 (length w) && nat_le (length w) most) e in
     let (some, few) = both (nat_le 1 (length w)) (nat_le (length w) most) others in
-    record { plain = record { shown = shown; some = leb-true 1 (length w) some }; few = leb-true (length w) most few }
+    record {
+      plain = record { shown = shown; some = leb-true 1 (length w) some };
+      few = leb-true (length w) most few;
+    }
 
 -- variables
 variable_short : every (λ x. is_short 4 (variable x)) 512 ≡ true
@@ -50,7 +55,8 @@ unfolding digits
 variable_named = refl
 
 pub short_variable : (x : ℕ) → x < 512 → IsShort 4 (variable x)
-short_variable x below = short_of 4 (variable x) (each (λ x. is_short 4 (variable x)) 512 x variable_short below)
+short_variable x below = short_of 4 (variable x)
+    (each (λ x. is_short 4 (variable x)) 512 x variable_short below)
 
 pub named_variable : (x : ℕ) → x < 512 → is_name (variable x) ≡ true
 named_variable x below = each (λ x. is_name (variable x)) 512 x variable_named below
@@ -75,10 +81,12 @@ unfolding digits
 values_read = refl
 
 pub short_value : (n : ℕ) → n < 100 → IsShort 2 (decimal n)
-short_value n below = short_of 2 (decimal n) (each (λ n. is_short 2 (decimal n)) 100 n values_short below)
+short_value n below = short_of 2 (decimal n)
+    (each (λ n. is_short 2 (decimal n)) 100 n values_short below)
 
 pub value_is : (n : ℕ) → n < 100 → value_of (decimal n) ≡ Some (pos n)
-value_is n below = value_back (value_of (decimal n)) n (each (λ n. is_value (value_of (decimal n)) n) 100 n values_read below)
+value_is n below = value_back (value_of (decimal n)) n
+    (each (λ n. is_value (value_of (decimal n)) n) 100 n values_read below)
 
 -- nodes
 abbrev is_number : Option ℕ → ℕ → Bool
@@ -98,7 +106,9 @@ unfolding digits
 nodes_read = refl
 
 pub short_node : (n : ℕ) → n < 3 → IsShort 1 (decimal (n + 1))
-short_node n below = short_of 1 (decimal (n + 1)) (each (λ n. is_short 1 (decimal (n + 1))) 3 n nodes_short below)
+short_node n below = short_of 1 (decimal (n + 1))
+    (each (λ n. is_short 1 (decimal (n + 1))) 3 n nodes_short below)
 
 pub node_is : (n : ℕ) → n < 3 → number_of 8 (decimal (n + 1)) ≡ Some (n + 1)
-node_is n below = number_back (number_of 8 (decimal (n + 1))) (n + 1) (each (λ n. is_number (number_of 8 (decimal (n + 1))) (n + 1)) 3 n nodes_read below)
+node_is n below = number_back (number_of 8 (decimal (n + 1))) (n + 1)
+    (each (λ n. is_number (number_of 8 (decimal (n + 1))) (n + 1)) 3 n nodes_read below)

@@ -34,9 +34,11 @@ shown least b bs e =
     record { low = leb-true least b low; high = leb-true b 126 high; rest = rest }
 
 -- such bytes behind others
-pub all_append : (least : ℕ) (xs ys : List ℕ) → all_from least xs ≡ true → all_from least ys ≡ true → all_from least (xs ++ ys) ≡ true
+pub all_append : (least : ℕ) (xs ys : List ℕ) → all_from least xs ≡ true → all_from least ys ≡ true
+    → all_from least (xs ++ ys) ≡ true
 all_append least [] ys e f = f
-all_append least (x ∷ xs) ys e f = by (nat_le least x) (nat_le x 126) (all_from least xs) (all_from least (xs ++ ys)) e (λ g. all_append least xs ys g f)
+all_append least (x ∷ xs) ys e f = by (nat_le least x) (nat_le x 126) (all_from least xs)
+    (all_from least (xs ++ ys)) e (λ g. all_append least xs ys g f)
   where
     by : (a b c d : Bool) → (a && (b && c)) ≡ true → (c ≡ true → d ≡ true) → (a && (b && d)) ≡ true
     by true true true d e go = go refl
@@ -69,24 +71,35 @@ wider (b ∷ bs) e =
 
 spaced_shown : (ws : List (List ℕ)) → ArePlain ws → all_from 32 (spaced ws) ≡ true
 spaced_shown [] are = refl
-spaced_shown (w ∷ ws) are = all_append 32 w (spaced ws) (wider w are.0.shown) (spaced_shown ws are.1)
+spaced_shown (w ∷ ws) are = all_append 32 w (spaced ws) (wider w are.0.shown)
+    (spaced_shown ws are.1)
 
-pub words_shown : (w : List ℕ) (ws : List (List ℕ)) → IsPlain w → ArePlain ws → all_from 32 (words (w ∷ ws)) ≡ true
+pub words_shown : (w : List ℕ) (ws : List (List ℕ)) → IsPlain w → ArePlain ws
+    → all_from 32 (words (w ∷ ws)) ≡ true
 words_shown w ws plain are =
-    ap (λ (t : List ℕ). all_from 32 t) (words_are w ws) ∙ all_append 32 w (spaced ws) (wider w plain.shown) (spaced_shown ws are)
+    ap (λ (t : List ℕ). all_from 32 t) (words_are w ws)
+    ∙ all_append 32 w (spaced ws) (wider w plain.shown) (spaced_shown ws are)
 
 -- it is the next line of a text
-pub next_line : (line rest : List ℕ) → all_from 32 line ≡ true → lines_of (line ++ 10 ∷ rest) ≡ line ∷ lines_of rest
+pub next_line : (line rest : List ℕ) → all_from 32 line ≡ true
+    → lines_of (line ++ 10 ∷ rest) ≡ line ∷ lines_of rest
 next_line [] rest e = refl
 next_line (b ∷ bs) rest e =
     let s = shown 32 b bs e in
-    rw (ne_eqb b 10 (omega (arith, s.low)), ne_eqb b 13 (omega (arith, s.low))) (ap (λ (ls : List (List ℕ)). in_first b ls) (next_line bs rest s.rest))
+    rw (ne_eqb b 10 (omega (arith, s.low)), ne_eqb b 13 (omega (arith, s.low)))
+    (ap (λ (ls : List (List ℕ)). in_first b ls) (next_line bs rest s.rest))
 
 pub no_bad_byte : (at : ℕ) (line : List ℕ) → all_from 32 line ≡ true → bad_byte at line ≡ None
 no_bad_byte at [] e = refl
 no_bad_byte at (b ∷ bs) e =
     let s = shown 32 b bs e in
-    rw (ne_eqb b 9 (omega (arith, s.low)), ne_eqb b 10 (omega (arith, s.low)), ne_eqb b 13 (omega (arith, s.low)), le-leb 32 b s.low, le-leb b 126 s.high)
+    rw (
+      ne_eqb b 9 (omega (arith, s.low)),
+      ne_eqb b 10 (omega (arith, s.low)),
+      ne_eqb b 13 (omega (arith, s.low)),
+      le-leb 32 b s.low,
+      le-leb b 126 s.high,
+    )
     (no_bad_byte (at + 1) bs s.rest)
 
 -- where a word ends
@@ -94,11 +107,14 @@ blank_ends : (at : ℕ) (ws : List (List ℕ)) → word_end at (spaced ws) ≡ a
 blank_ends at [] = refl
 blank_ends at (w ∷ ws) = refl
 
-ends : (at : ℕ) (w : List ℕ) (ws : List (List ℕ)) → all_from 33 w ≡ true → word_end at (w ++ spaced ws) ≡ at + length w
+ends : (at : ℕ) (w : List ℕ) (ws : List (List ℕ)) → all_from 33 w ≡ true
+    → word_end at (w ++ spaced ws) ≡ at + length w
 ends at [] ws e = blank_ends at ws ∙ omega arith
-ends at (b ∷ bs) ws e = let s = shown 33 b bs e in rw (not_blank b s.low) (ends (at + 1) bs ws s.rest ∙ omega arith)
+ends at (b ∷ bs) ws e = let s = shown 33 b bs e in
+    rw (not_blank b s.low) (ends (at + 1) bs ws s.rest ∙ omega arith)
 
-begins : (at : ℕ) (w : List ℕ) (ws : List (List ℕ)) → IsPlain w → blanks_end at (w ++ spaced ws) ≡ at
+begins : (at : ℕ) (w : List ℕ) (ws : List (List ℕ)) → IsPlain w
+    → blanks_end at (w ++ spaced ws) ≡ at
 begins at [] ws plain = absurd (omega (arith, plain.some))
 begins at (b ∷ bs) ws plain = rw (not_blank b (shown 33 b bs plain.shown).low) refl
 
@@ -110,35 +126,45 @@ pub record Reads (line : List ℕ) (at : ℕ) (w : List ℕ) (ws : List (List �
   pub some : is_missing word ≡ false
   pub behind : drop word.end line ≡ spaced ws
 
-reads_from : (line : List ℕ) (at start : ℕ) (w : List ℕ) (ws : List (List ℕ)) → IsPlain w → blanks_end at (drop at line) ≡ start → drop start line ≡ w ++ spaced ws
+reads_from : (line : List ℕ) (at start : ℕ) (w : List ℕ) (ws : List (List ℕ)) → IsPlain w
+    → blanks_end at (drop at line) ≡ start → drop start line ≡ w ++ spaced ws
     → Reads line at w ws
 reads_from line at start w ws plain begun here =
-    let ended : word_end start (drop start line) ≡ start + length w = ap (λ (t : List ℕ). word_end start t) here ∙ ends start w ws plain.shown in
+    let ended : word_end start (drop start line) ≡ start
+    + length w = ap (λ (t : List ℕ). word_end start t) here ∙ ends start w ws plain.shown in
     record {
       word = record { start = start; end = start + length w };
       next = ap (λ (s : ℕ). word_from s line) begun ∙ ap (λ (e : ℕ). word_of start e) ended;
-      text = ap (λ (n : ℕ). take n (drop start line)) (omega arith) ∙ ap (λ (t : List ℕ). take (length w) t) here ∙ take_at w (spaced ws) (length w) refl;
+      text = ap (λ (n : ℕ). take n (drop start line)) (omega arith)
+          ∙ ap (λ (t : List ℕ). take (length w) t) here ∙ take_at w (spaced ws) (length w) refl;
       some = ne_eqb start (start + length w) (omega (arith, plain.some));
-      behind = sym (drop-drop (length w) start line) ∙ ap (λ (t : List ℕ). drop (length w) t) here ∙ drop_at w (spaced ws) (length w) refl;
+      behind = sym (drop-drop (length w) start line) ∙ ap (λ (t : List ℕ). drop (length w) t) here
+          ∙ drop_at w (spaced ws) (length w) refl;
     }
   where
     word_of : ℕ → ℕ → Word
     word_of s e = record { start = s; end = e }
 
-pub reads_first : (line w : List ℕ) (ws : List (List ℕ)) → IsPlain w → line ≡ w ++ spaced ws → Reads line 0 w ws
-reads_first line w ws plain is = reads_from line 0 0 w ws plain (ap (λ (t : List ℕ). blanks_end 0 t) is ∙ begins 0 w ws plain) is
+pub reads_first : (line w : List ℕ) (ws : List (List ℕ)) → IsPlain w → line ≡ w ++ spaced ws
+    → Reads line 0 w ws
+reads_first line w ws plain is =
+    reads_from line 0 0 w ws plain (ap (λ (t : List ℕ). blanks_end 0 t) is ∙ begins 0 w ws plain) is
 
-pub reads_next : (line w : List ℕ) (ws : List (List ℕ)) (at : ℕ) → IsPlain w → drop at line ≡ spaced (w ∷ ws) → Reads line at w ws
+pub reads_next : (line w : List ℕ) (ws : List (List ℕ)) (at : ℕ) → IsPlain w
+    → drop at line ≡ spaced (w ∷ ws) → Reads line at w ws
 reads_next line w ws at plain is =
-    reads_from line at (at + 1) w ws plain (ap (λ (t : List ℕ). blanks_end at t) is ∙ begins (at + 1) w ws plain)
+    reads_from line at (at + 1) w ws plain
+    (ap (λ (t : List ℕ). blanks_end at t) is ∙ begins (at + 1) w ws plain)
     (sym (drop-drop 1 at line) ∙ ap (λ (t : List ℕ). drop 1 t) is)
 
-pub word_is : (line w : List ℕ) (ws : List (List ℕ)) (at number : ℕ) (r : Reads line at w ws) → word_at number at line ≡ Ok r.word
+pub word_is : (line w : List ℕ) (ws : List (List ℕ)) (at number : ℕ) (r : Reads line at w ws)
+    → word_at number at line ≡ Ok r.word
 word_is line w ws at number r = ap (λ (x : Word). some_word number at x) r.next ∙ rw r.some refl
 
 pub end_is : (line : List ℕ) (at number : ℕ) → drop at line ≡ [] → end_at number at line ≡ Ok tt
 end_is line at number is =
-    ap (λ (x : Word). no_word number x) (ap (λ (t : List ℕ). word_from (blanks_end at t) line) is ∙ ap (λ (t : List ℕ). word_of at (word_end at t)) is)
+    ap (λ (x : Word). no_word number x) (ap (λ (t : List ℕ). word_from (blanks_end at t) line) is
+    ∙ ap (λ (t : List ℕ). word_of at (word_end at t)) is)
     ∙ rw (eq-eqb at at refl) refl
   where
     word_of : ℕ → ℕ → Word

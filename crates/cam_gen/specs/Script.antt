@@ -1,9 +1,11 @@
--- The script that is made from a seed: three registers and a queue on three nodes, as many steps as are asked for, and `drain`.
--- Each step draws its kind from 0 to 9, and then what its line has, from left to right. The variables are A1, A2 and so on in
--- order of their lines; X is one of them, drawn by its place. While there is none a step is a begin line, without a draw of its kind.
+-- The script that is made from a seed: three registers and a queue on three nodes, as many steps as
+-- are asked for, and `drain`. Each step draws its kind from 0 to 9, and then what its line has,
+-- from left to right. The variables are A1, A2 and so on in order of their lines; X is one of them,
+-- drawn by its place. While there is none a step is a begin line, without a draw of its kind.
 --     0, 1     begin Ak N          N is 1 to 3
 --     2        ask X Ak N
---     3, 4, 5  call X O OP         O is r1, r2, r3 or q1; OP is read, write V, swap V, or for q1 size, put V, take; V is 0 to 99
+--     3, 4, 5  call X O OP         O is r1, r2, r3 or q1; OP is read, write V, swap V, or for q1
+--                                  size, put V, take; V is 0 to 99
 --     6        commit X 0
 --     7        abort X
 --     8        restart N where a draw from 0 to 7 gives 0, else drain
@@ -27,11 +29,16 @@ abbrev pub node_word : ℕ → List ℕ
 node_word draw = decimal (draw + 1)
 
 abbrev pub begin_step : ℕ → ℕ → Written
-begin_step s k = record { text = line (codes "begin" ∷ variable k ∷ node_word (drawn s 3) ∷ []); state = next_state s; variables = k + 1 }
+begin_step s k = record {
+  text = line (codes "begin" ∷ variable k ∷ node_word (drawn s 3) ∷ []);
+  state = next_state s;
+  variables = k + 1;
+}
 
 abbrev pub ask_step : ℕ → ℕ → Written
 ask_step s k = record {
-  text = line (codes "ask" ∷ variable (drawn s k) ∷ variable k ∷ node_word (drawn (next_state s) 3) ∷ []);
+  text = line (codes "ask" ∷ variable (drawn s k) ∷ variable k
+      ∷ node_word (drawn (next_state s) 3) ∷ []);
   state = state_after s 2;
   variables = k + 1;
 }
@@ -43,8 +50,10 @@ object_word draw = if nat_lt draw 3 then codes "r" ++ decimal (draw + 1) else co
 abbrev pub op_words : ℕ → ℕ → ℕ → List (List ℕ)
 op_words object op value =
     if nat_lt object 3
-    then (if op == 0 then codes "read" ∷ [] else if op == 1 then codes "write" ∷ decimal value ∷ [] else codes "swap" ∷ decimal value ∷ [])
-    else (if op == 0 then codes "size" ∷ [] else if op == 1 then codes "put" ∷ decimal value ∷ [] else codes "take" ∷ [])
+    then (if op == 0 then codes "read" ∷ [] else if op == 1 then codes "write" ∷ decimal value ∷ []
+    else codes "swap" ∷ decimal value ∷ [])
+    else (if op == 0 then codes "size" ∷ [] else if op == 1 then codes "put" ∷ decimal value ∷ []
+    else codes "take" ∷ [])
 
 abbrev pub has_value : ℕ → ℕ → Bool
 has_value object op = if nat_lt object 3 then nat_le 1 op else op == 1
@@ -64,19 +73,32 @@ call_with x object op s k = record (operation_step object op s k) {
 }
 
 abbrev pub call_step : ℕ → ℕ → Written
-call_step s k = call_with (drawn s k) (drawn (next_state s) 4) (drawn (state_after s 2) 3) (state_after s 3) k
+call_step s k = call_with (drawn s k) (drawn (next_state s) 4) (drawn (state_after s 2) 3)
+    (state_after s 3) k
 
 abbrev pub commit_step : ℕ → ℕ → Written
-commit_step s k = record { text = line (codes "commit" ∷ variable (drawn s k) ∷ codes "0" ∷ []); state = next_state s; variables = k }
+commit_step s k = record {
+  text = line (codes "commit" ∷ variable (drawn s k) ∷ codes "0" ∷ []);
+  state = next_state s;
+  variables = k;
+}
 
 abbrev pub abort_step : ℕ → ℕ → Written
-abort_step s k = record { text = line (codes "abort" ∷ variable (drawn s k) ∷ []); state = next_state s; variables = k }
+abort_step s k = record {
+  text = line (codes "abort" ∷ variable (drawn s k) ∷ []);
+  state = next_state s;
+  variables = k;
+}
 
 abbrev pub drain_step : ℕ → ℕ → Written
 drain_step s k = record { text = line (codes "drain" ∷ []); state = s; variables = k }
 
 abbrev pub restart_step : ℕ → ℕ → Written
-restart_step s k = record { text = line (codes "restart" ∷ node_word (drawn s 3) ∷ []); state = next_state s; variables = k }
+restart_step s k = record {
+  text = line (codes "restart" ∷ node_word (drawn s 3) ∷ []);
+  state = next_state s;
+  variables = k;
+}
 
 -- a step by its kind, where so many variables are there
 abbrev pub step_of : ℕ → ℕ → ℕ → Written
@@ -86,7 +108,8 @@ step_of kind s k =
     else if nat_le kind 5 then call_step s k
     else if kind == 6 then commit_step s k
     else if kind == 7 then abort_step s k
-    else if kind == 8 then (if drawn s 8 == 0 then restart_step (next_state s) k else drain_step (next_state s) k)
+    else if kind == 8
+    then (if drawn s 8 == 0 then restart_step (next_state s) k else drain_step (next_state s) k)
     else drain_step s k
 
 abbrev pub step_at : ℕ → ℕ → Written
@@ -103,7 +126,8 @@ steps_from (suc left) s k = followed (step_at s k) (steps_from left)
 
 abbrev pub declarations : List ℕ
 declarations =
-    line (codes "nodes 3" ∷ []) ++ line (codes "object r1 1 register 0" ∷ []) ++ line (codes "object r2 2 register 0" ∷ [])
+    line (codes "nodes 3" ∷ []) ++ line (codes "object r1 1 register 0" ∷ [])
+    ++ line (codes "object r2 2 register 0" ∷ [])
     ++ line (codes "object r3 3 register 0" ∷ []) ++ line (codes "object q1 1 queue" ∷ [])
 
 abbrev pub script_of : ℕ → ℕ → List ℕ
