@@ -7,7 +7,8 @@
 //! It stands on `cam_recman` (the records), `cam_log` and `cam_ckpt` (the two forms of logs), `cam_disk`,
 //! `cam_type`, `cam_names` and `cam_base`. Its main clauses are `shown` of [`inspect_image`] and
 //! `upgraded` of [`upgrade_image`], exact for every image, and the law [`upgrades`]: what is written
-//! recovers what the image that was read does, and is left as it is when it is upgraded again.
+//! recovers what the image that was read does, and is left as it is when it is upgraded again, unless
+//! it is then too long.
 #![tactic(auto)]
 
 mod fault;
