@@ -13,16 +13,23 @@ use Rattle.cam_recman.specs.Inspect.{pair_text, record_words}
 abbrev pub spaced : List (ℕ × ℕ) → List ℕ
 spaced pairs = flat_map (λ pair. 32 ∷ pair_text pair) pairs
 
-words_one : (w : List ℕ) (pairs : List (ℕ × ℕ)) → words (w ∷ map pair_text pairs) ≡ w ++ spaced pairs
+words_one : (w : List ℕ) (pairs : List (ℕ × ℕ))
+    → words (w ∷ map pair_text pairs) ≡ w ++ spaced pairs
 words_one w [] = sym (append-nil w)
 words_one w (pair ∷ pairs) = ap (λ (r : List ℕ). w ++ 32 ∷ r) (words_one (pair_text pair) pairs)
 
-words_two : (v w : List ℕ) (pairs : List (ℕ × ℕ)) → words (v ∷ w ∷ map pair_text pairs) ≡ words (v ∷ w ∷ []) ++ spaced pairs
-words_two v w pairs = ap (λ (r : List ℕ). v ++ 32 ∷ r) (words_one w pairs) ∙ sym (append_assoc v (32 ∷ w) (spaced pairs))
+words_two : (v w : List ℕ) (pairs : List (ℕ × ℕ))
+    → words (v ∷ w ∷ map pair_text pairs) ≡ words (v ∷ w ∷ []) ++ spaced pairs
+words_two v w pairs = ap (λ (r : List ℕ). v ++ 32 ∷ r) (words_one w pairs)
+    ∙ sym (append_assoc v (32 ∷ w) (spaced pairs))
 
 -- a name is written, and then the pairs behind it
-pub commit_words : (one : Record) (a : List PartFields) (d : List ℕ) (old mid new : List ℕ) → one ≡ Commit a d
-    → mid ≡ old ++ words (codes "commit" ∷ name_text a ∷ []) → new ≡ mid ++ spaced (pairs_of d) → new ≡ old ++ words (record_words one)
+pub commit_words : (one : Record) (a : List PartFields) (d : List ℕ) (old mid new : List ℕ)
+    → one ≡ Commit a d
+    → mid ≡ old ++ words (codes "commit" ∷ name_text a ∷ []) → new ≡ mid ++ spaced (pairs_of d)
+    → new ≡ old ++ words (record_words one)
 commit_words one a d old mid new is named paired =
-    paired ∙ ap (λ (t : List ℕ). t ++ spaced (pairs_of d)) named ∙ append_assoc old (words (codes "commit" ∷ name_text a ∷ [])) (spaced (pairs_of d))
-    ∙ ap (λ (t : List ℕ). old ++ t) (sym (words_two (codes "commit") (name_text a) (pairs_of d)) ∙ ap (λ (r : Record). words (record_words r)) (sym is))
+    paired ∙ ap (λ (t : List ℕ). t ++ spaced (pairs_of d)) named
+    ∙ append_assoc old (words (codes "commit" ∷ name_text a ∷ [])) (spaced (pairs_of d))
+    ∙ ap (λ (t : List ℕ). old ++ t) (sym (words_two (codes "commit") (name_text a) (pairs_of d))
+    ∙ ap (λ (r : Record). words (record_words r)) (sym is))

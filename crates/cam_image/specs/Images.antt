@@ -1,7 +1,8 @@
--- What is shown of the image of a log, and what an upgrade writes of it; or the place of its first fault.
+-- What is shown of the image of a log, and what an upgrade writes of it; or the place of its first
+-- fault.
 --
--- An image whose fourth byte is C is that of a log with checkpoints, every other is that of a log. It has 262,144 bytes at most: a longer one
--- is wrong at that place.
+-- An image whose fourth byte is C is that of a log with checkpoints, every other is that of a log.
+-- It has 262,144 bytes at most: a longer one is wrong at that place.
 use Rattle.std.specs.Prelude.{ℕ, ◌+◌, ◌==◌, nat_lt, Bool, List, [], ◌∷◌, ◌++◌, length, take, get_or, Result, Ok, Err, if◌then◌else◌}
 use Rattle.cam_log.specs.declared.fault.LogFault.{LogFault}
 use Rattle.cam_log.specs.declared.fault.LogFault.TheVariants as logs
@@ -39,8 +40,10 @@ in_records (Err fault) = Err (record_fault fault)
 abbrev pub most_bytes : ℕ
 most_bytes = 262144
 
-abbrev pub if_not_too_long : List ℕ → Result (List (List ℕ)) LogFault → Result (List (List ℕ)) ImageFault
-if_not_too_long image read = if nat_lt most_bytes (length image) then Err (NotALog most_bytes) else in_log read
+abbrev pub if_not_too_long : List ℕ → Result (List (List ℕ)) LogFault
+    → Result (List (List ℕ)) ImageFault
+if_not_too_long image read = if nat_lt most_bytes (length image) then Err (NotALog most_bytes)
+    else in_log read
 
 -- the entries of the image of a log, of a log with checkpoints, and of either
 abbrev pub log_entries : List ℕ → Result (List (List ℕ)) ImageFault
@@ -62,11 +65,12 @@ inspected image = do
   entries ← entries_of image
   in_records (inspect_text entries)
 
--- The image of a log in version 2: one that is of version 2 already, up to its closed gate; and one of version 1 with an entry of a Version
--- alone behind the others, and a new closed gate.
+-- The image of a log in version 2: one that is of version 2 already, up to its closed gate; and one
+-- of version 1 with an entry of a Version alone behind the others, and a new closed gate.
 abbrev pub in_version2 : ℕ → List (List ℕ) → List ℕ → List ℕ
 in_version2 version entries image =
-    if version == 1 then log_bytes (entries ++ version_entry ∷ []) else take (gate_place entries + 1) image
+    if version == 1 then log_bytes (entries ++ version_entry ∷ [])
+    else take (gate_place entries + 1) image
 
 unfoldable pub upgraded : List ℕ → Result (List ℕ) ImageFault
 upgraded image = do

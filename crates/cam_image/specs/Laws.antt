@@ -10,18 +10,21 @@ use Rattle.cam_image.specs.Images.{most_bytes, upgraded}
 -- Entries are refused by `inspect` just where they cannot be recovered, with the same fault.
 abbrev pub ShownIsRecovered : Type 0
 ShownIsRecovered =
-    (entries : List (List ℕ)) (fault : RecFault) → (inspect_text entries ≡ Err fault) ↔ (recover entries ≡ Err fault)
+    (entries : List (List ℕ)) (fault : RecFault) → (inspect_text entries ≡ Err fault)
+    ↔ (recover entries ≡ Err fault)
 
--- What is written is the migrated log, up to its closed gate; and read as a log it gives the migrated entries, of which just that is
--- recovered which was recovered of the image that was read.
+-- What is written is the migrated log, up to its closed gate; and read as a log it gives the
+-- migrated entries, of which just that is recovered which was recovered of the image that was read.
 pub record IsUpgrade (image output : List ℕ) : Type 0 where
   pub migrated : IsUpgraded image output
   pub recovers : ReadsAndRecovers migrated.entries migrated.left output
 
 abbrev pub UpgradeIsMigration : Type 0
-UpgradeIsMigration = (image output : List ℕ) → IsBytes image → upgraded image ≡ Ok output → IsUpgrade image output
+UpgradeIsMigration = (image output : List ℕ) → IsBytes image → upgraded image ≡ Ok output
+    → IsUpgrade image output
 
--- Upgraded again, it is left as it is.
+-- Upgraded again, it is left as it is, unless it is then too long.
 abbrev pub UpgradeIsOnce : Type 0
 UpgradeIsOnce =
-    (image output : List ℕ) → IsBytes image → length output ≤ most_bytes → upgraded image ≡ Ok output → upgraded output ≡ Ok output
+    (image output : List ℕ) → IsBytes image → length output ≤ most_bytes
+    → upgraded image ≡ Ok output → upgraded output ≡ Ok output

@@ -13,7 +13,8 @@ Refuses (NotALog at) reading = reading ≡ Err (NotALog at)
 Refuses (BadRecord entry at) reading = reading ≡ Err (BadRecord entry at)
 Refuses NoMemory reading = Unit {0}
 
--- the version behind the entries from this number on, before which it is this one, or the first fault
+-- the version behind the entries from this number on, before which it is this one, or the first
+-- fault
 unfoldable pub version_from : ℕ → ℕ → List (List ℕ) → Result ℕ RecFault
 version_from number version [] = Ok version
 version_from number version (entry ∷ entries) = do

@@ -4,4 +4,5 @@ use Rattle.cam_image.proofs.inspecting.inspect_text.Given as goal
 
 -- what is still to be shown gives what all gives
 abbrev pub invariant-loop-number : goal.invariant-loop-number
-invariant-loop-number l = inspect_from l.number l.version (string_bytes l.text) (drop l.number l.entries) ≡ inspect_text l.entries
+invariant-loop-number l = inspect_from l.number l.version (string_bytes l.text)
+    (drop l.number l.entries) ≡ inspect_text l.entries

@@ -6,4 +6,5 @@ use Rattle.cam_image.proofs.words.write_records.Given as goal
 
 -- the lines of the records so far
 abbrev pub invariant-loop-one : goal.invariant-loop-one
-invariant-loop-one l = string_bytes l.out ≡ string_bytes l.fn.out ++ flat_map (λ one. inner_line (record_words one)) (take l.one-index l.records)
+invariant-loop-one l = string_bytes l.out ≡ string_bytes l.fn.out
+    ++ flat_map (λ one. inner_line (record_words one)) (take l.one-index l.records)
