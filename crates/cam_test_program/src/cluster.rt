@@ -163,26 +163,51 @@ fn with_ample_memory_a_script_runs(rt: HostRuntime) -> Result<(), Fail> {
     Ok(())
 }
 
+/// What is to come of a halt, by the calls that its disk does before it stops.
+#[derive(Clone, Copy)]
+struct Halt {
+    calls: u32,
+    taken: bool,
+    fourth_event: &'static str,
+    events: usize,
+}
+
+/// The disk does nothing more: the event is lost.
+const LOST: Halt = Halt {
+    calls: 0,
+    taken: false,
+    fourth_event: "node 1 got 0 Plain, another deed",
+    events: 5,
+};
+
+/// Its entry has come to the disk: the event is taken.
+const TAKEN: Halt = Halt {
+    calls: 3,
+    taken: true,
+    fourth_event: "node 1 got 2 Plain, another deed",
+    events: 6,
+};
+
 /// A node halts at a stop of its disk, as it secures a family, and goes on by its restart. The event is taken where three calls more of
-/// its disk passed: then it stands at its place, behind the three before it, without its letter.
+/// its disk passed: then it stands at its place, after the three before it, without its letter.
 #[test]
 fn a_run_goes_on_through_a_halt(rt: HostRuntime) -> Result<(), Fail> {
     let alloc = rt.alloc();
-    let lost = (0u32, false, "node 1 got 0 Plain, another deed", 5usize);
-    let found = (3, true, "node 1 got 2 Plain, another deed", 6);
-    for (calls, taken, fourth, events) in [lost, found] {
+    for halt in [LOST, TAKEN] {
+        let calls = halt.calls;
         let text = format!(in alloc;
             "nodes 1\nbegin A 1\ncommit A 0\nstop 1 {calls}\ndrain\nbegin B 1\nrestart 1\nbegin C 1\n"
         )?;
         let script = parse(alloc, text.as_bytes())?;
         let record = run(alloc, &script)?;
-        assert_eq!(rt; record.trace.len(), events, "with {calls} calls");
+        assert_eq!(rt; record.trace.len(), halt.events, "with {calls} calls");
         let told = event_text(alloc, &script.labels, &record.trace, 3)?;
-        assert_eq!(rt; told.as_str(), fourth, "with {calls} calls");
-        let halt = record.marks.get(0).ok_or("a mark is missing")?;
-        let mark = format!(in alloc; "{halt:?}")?;
+        assert_eq!(rt; told.as_str(), halt.fourth_event, "with {calls} calls");
+        let mark = record.marks.get(0).ok_or("a mark is missing")?;
+        let told = format!(in alloc; "{mark:?}")?;
+        let taken = halt.taken;
         let want = format!(in alloc; "Halted {{ line: 5, node: 1, taken: {taken} }}")?;
-        assert_eq!(rt; mark, want, "with {calls} calls");
+        assert_eq!(rt; told, want, "with {calls} calls");
         // the other is that of the line that the halted node refuses
         assert_eq!(rt; record.marks.len(), 2);
     }
