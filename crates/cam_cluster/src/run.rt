@@ -19,7 +19,7 @@ use crate::telling::TellingLog;
 use crate::workers::Workers;
 use cam_base::{NoMemory, Sequence};
 use cam_ckpt::{CheckpointLog, Ckpt};
-use cam_disk::StopDisk;
+use cam_disk::{StopDisk, TellingDisk};
 use cam_event::RunRecord;
 use cam_node::Node;
 use cam_script::{Script, Step};
