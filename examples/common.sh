@@ -8,9 +8,11 @@ is_proved() {
     "$camelot" --is-proved
 }
 
-# the examples, each as FOLDER/NAME
+# the examples, each as FOLDER/NAME. Those of several commands need the proved program: a quick build takes one command, and keeps no file.
 examples() {
-    (cd "$here" && find . -name '*.cam' -o -name '*.make') | sed 's|^\./||; s|\.[a-z]*$||' | LC_ALL=C sort
+    commands=
+    ! is_proved || commands='*.commands'
+    (cd "$here" && find . -name '*.cam' -o -name '*.make' -o -name "$commands") | sed 's|^\./||; s|\.[a-z]*$||' | LC_ALL=C sort
 }
 
 # the name of an example in one folder with all others
@@ -28,15 +30,28 @@ words_of() {
     if [ -f "$here/$1.words" ]; then cat "$here/$1.words"; else echo run; fi
 }
 
+# run_commands EXAMPLE FOLDER   runs the commands of an example in a new folder, which has the program and the examples as the top folder has
+run_commands() {
+    mkdir "$2"
+    ln -s "$here" "$2/examples"
+    printf '#!/bin/sh\nexec "%s" "$@"\n' "$camelot" >"$2/camelot"
+    chmod +x "$2/camelot"
+    (cd "$2" && sh "examples/$1.commands")
+}
+
 # run_examples ROOM   leaves NAME.text and NAME.status of each example in the folder ROOM, with NAME as `flat` has it
 run_examples() {
     if is_proved; then
         for example in $(examples); do
             name=$(flat "$example")
-            script_of "$example" >"$1/$name"
             status=0
-            # shellcheck disable=SC2046
-            "$camelot" $(words_of "$example") <"$1/$name" >"$1/$name.text" 2>/dev/null || status=$?
+            if [ -f "$here/$example.commands" ]; then
+                run_commands "$example" "$1/$name" >"$1/$name.text" 2>/dev/null || status=$?
+            else
+                script_of "$example" >"$1/$name"
+                # shellcheck disable=SC2046
+                "$camelot" $(words_of "$example") <"$1/$name" >"$1/$name.text" 2>/dev/null || status=$?
+            fi
             echo $status >"$1/$name.status"
         done
         return
