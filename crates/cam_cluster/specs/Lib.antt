@@ -22,6 +22,7 @@ pub mod Goes
 pub mod GoLines
 pub mod Making
 pub mod Rounds
+pub mod Over
 pub mod Plays
 pub mod LetterCounts
 pub mod Stops

@@ -1,6 +1,7 @@
-//! What the lines of a script come to, and what a halt that is found to be taken changes, as laws.
+//! What the lines of a script come to, what a halt that is found to be taken changes, and which actions a play may pass over, as laws.
 ghost use Rattle.cam_cluster.specs.FoundHalts.{FoundHaltsDiffer, FoundLinesPutIn, LaterHaltsStay};
 ghost use Rattle.cam_cluster.specs.FoundHalts.{LinesAreUnderHalts};
+ghost use Rattle.cam_cluster.specs.Over.{OverGoesNotOn, OverStays, RoundsPassOver};
 ghost use Rattle.cam_cluster.specs.Seen.{AllLinesAreTheRun, LinesMakeTheRun};
 
 /// All lines of a script, one after another, are its run, whichever inputs are halts. So a cluster
@@ -18,4 +19,13 @@ pub fn found_halts()
     ensures lines { FoundLinesPutIn }
     ensures under { LinesAreUnderHalts }
     ensures later { LaterHaltsStay }
+{}
+
+/// An action is over once it has asked to commit or to abort, or was stopped at its home, or its home
+/// has crashed. It stays so, and makes no request in a round: so a round may leave out those that are
+/// over before it.
+pub fn over_for_good()
+    ensures stays { OverStays }
+    ensures rests { OverGoesNotOn }
+    ensures rounds { RoundsPassOver }
 {}
