@@ -185,7 +185,7 @@ fn empty_disks(alloc: Global, count: u8) -> Result<Vec<MemoryDisk>, NoMemory> {
 fn run(alloc: Global, script: &Script) -> Result<RunRecord, RunFault>
     requires script { IsScript script.now }
 {
-    let disks = empty_disks(alloc, script.nodes)?;
+    let mut disks = empty_disks(alloc, script.nodes)?;
     if disks.len() != script.nodes as usize {
         return Err(RunFault::NoMemory);
     }
@@ -194,7 +194,7 @@ fn run(alloc: Global, script: &Script) -> Result<RunRecord, RunFault>
         queue: QueueServer::new(alloc),
         counter: CounterServer::new(),
     };
-    run_script(alloc, script, disks, &mut servers)
+    run_script(alloc, script, &mut disks, &mut servers)
 }
 
 /// What was measured, in nanoseconds.
