@@ -34,7 +34,7 @@ reads_at g h node = MayRead (h.opens_since node.log.log) (h.moment node.log.log)
 abbrev pub works_of : {X : Type 0} (g : CkptGhosts X) (h : LogGhosts X) → Works X g h → WorksFields
 works_of g h works =
     seen (part g h) (tells_of g h) (reads_at g h) works.nodes.items works.outbox works.halted
-    works.starved works.undecided.items works.events.events.items works.marks.items
+    works.failed works.undecided.items works.events.events.items works.marks.items
 
 abbrev pub reads_of : {X : Type 0} (g : CkptGhosts X) (h : LogGhosts X) → Works X g h
     → ℕ → Logged → Type 0

@@ -10,8 +10,6 @@ use Rattle.std.specs.Prelude.{Result, IfOk, IsFalse, slice_get}
 use Rattle.cam_type.specs.declared.ObjectDecl.{ObjectDecl}
 use Rattle.cam_net.specs.Waiting.{is_halted}
 use Rattle.cam_names.specs.declared.name.Name.{Name}
-use Rattle.cam_node.specs.declared.fault.NodeFault.{NodeFault}
-use Rattle.cam_node.specs.declared.fault.NodeFault.TheVariants as node_faults
 use Rattle.cam_node.specs.Keeping.{KeepsNode}
 use Rattle.cam_node.specs.Log.{Logged}
 use Rattle.cam_runs.proofs.HaltedWhole.{start_is_under_halts}
@@ -20,11 +18,8 @@ use Rattle.cam_script.specs.declared.Script.{Script}
 use Rattle.cam_script.specs.Law.{IsScript}
 use Rattle.cam_histories.proofs.Carried.{new_network_stands}
 use Rattle.cam_histories.specs.Whole.{AreSitesOf, Site, StandsAt}
-use Rattle.cam_cluster.specs.declared.founding.ClusterFault.{ClusterFault}
-use Rattle.cam_cluster.specs.declared.founding.ClusterFault.TheVariants as faults
 use Rattle.cam_cluster.specs.Between.{KeepsBetween}
-use Rattle.cam_cluster.specs.Founding.{AreHandedBack, AreNewNodes, IsFaultAmong, IsHandedBack}
-use Rattle.cam_cluster.specs.Founding.{IsNewNode, before_first, fault_at, new_works}
+use Rattle.cam_cluster.specs.Founding.{AreNewNodes, IsNewNode, before_first, new_works}
 use Rattle.cam_cluster.specs.Works.{IsNodeOf, NodeFields, WorksFields, sites_of}
 
 stands_new : (own objects : List ObjectDecl) (s : ℕ) (site : Site) → own ≡ objects
@@ -66,102 +61,6 @@ pub none_spent : {N E : Type 0} (passes : N → Option ℕ) (result : Result N E
 none_spent passes (Ok n) calls before none spent =
     subst (λ (o : Option ℕ). Spent calls o (passes n)) none spent
 none_spent passes (Err e) calls before none spent = tt
-
--- one disk more, the last
-pub back_behind : {D : Type 0} (tells : D → Bool) (faults_of : D → ℕ) (fault : ClusterFault)
-    (s at : ℕ) (olds news : List D) (old new : D) → at ≡ s + length olds
-    → AreHandedBack tells faults_of fault s olds news → IsHandedBack tells faults_of fault at old new
-    → AreHandedBack tells faults_of fault s (olds ++ old ∷ []) (news ++ new ∷ [])
-back_behind tells faults_of fault s at [] [] old new place back last =
-    (subst (λ k. IsHandedBack tells faults_of fault k old new) (omega (arith, place)) last, tt)
-back_behind tells faults_of fault s at [] (n ∷ news) old new place back last = elim back [ ]
-back_behind tells faults_of fault s at (o ∷ olds) [] old new place back last = elim back [ ]
-back_behind tells faults_of fault s at (o ∷ olds) (n ∷ news) old new place back last = (
-  back.0,
-  back_behind tells faults_of fault (s + 1) at olds news old new
-      (omega (arith, place)) back.1 last,
-)
-
--- the number of the node whose disk failed; none: 0
-abbrev of_fault : ClusterFault → ℕ
-of_fault (faults.DiskFault s) = s
-of_fault faults.NoMemory = 0
-
--- disks of which none was touched
-pub untouched : {D : Type 0} (tells : D → Bool) (faults_of : D → ℕ) (fault : ClusterFault) (s : ℕ)
-    (disks : List D)
-    → ((m : ℕ) → s ≤ m → m < s + length disks → fault ≡ faults.DiskFault m → ⊥)
-    → AreHandedBack tells faults_of fault s disks disks
-untouched tells faults_of fault s [] other = tt
-untouched tells faults_of fault s (disk ∷ disks) other = (
-  record {
-    told = refl;
-    later = omega arith;
-    failed = λ is. absurd (other s (omega arith) (omega arith) is);
-  },
-  untouched tells faults_of fault (s + 1) disks
-      (λ m low high is. other m (omega (arith, low)) (omega (arith, high)) is),
-)
-
--- the disk of one node failed, and no other
-at_only : (s m : ℕ) (fault : NodeFault) → fault_at s fault ≡ faults.DiskFault m → 1 ≤ m → m < s → ⊥
-at_only s m node_faults.DiskFault is low less =
-    let same : s ≡ m = ap of_fault is in omega (arith, same, less)
-at_only s m node_faults.NoMemory is low less =
-    let same : 0 ≡ m = ap of_fault is in omega (arith, same, low)
-
--- a fault among lower nodes is not of this one
-pub not_here : (fault : ClusterFault) (many s : ℕ) → IsFaultAmong many fault → many < s
-    → fault ≡ faults.DiskFault s → ⊥
-not_here (faults.DiskFault k) many s among below is =
-    let same : k ≡ s = ap of_fault is in omega (arith, among.1, below, same)
-not_here faults.NoMemory many s among below is =
-    let same : 0 ≡ s = ap of_fault is in omega (arith, below, same)
-
-module _ {D : Type 0} (tells : D → Bool) (faults_of : D → ℕ) where
-  -- no memory for the list of nodes
-  pub none_made : (disks : List D) → AreHandedBack tells faults_of faults.NoMemory 1 disks disks
-  none_made disks =
-      untouched tells faults_of faults.NoMemory 1 disks
-      (λ m low high is. at_only (1 + length disks) m node_faults.NoMemory is low high)
-
-  -- The node of the last disk was refused: the others are untouched.
-  pub refused_back : (fault : ClusterFault) (given : NodeFault) (s : ℕ) (front all now : List D)
-      (old new : D) → fault ≡ fault_at s given → s ≡ length front + 1 → all ≡ front ++ old ∷ []
-      → now ≡ front ++ new ∷ [] → IsHandedBack tells faults_of (fault_at s given) s old new
-      → AreHandedBack tells faults_of fault 1 all now
-  refused_back fault given s front all now old new is place all_is now_is here =
-      subst (λ (z : List D × List D). AreHandedBack tells faults_of fault 1 z.0 z.1)
-      (sym (λ i. (all_is i, now_is i)))
-      (back_behind tells faults_of fault 1 s front front old new (omega (arith, place))
-      (untouched tells faults_of fault 1 front (λ m low high at. at_only s m given (sym is ∙ at) low
-      (omega (arith, high, place))))
-      (subst (λ f. IsHandedBack tells faults_of f s old new) (sym is) here))
-
-  -- A lower node was refused: the disk of this one is taken back.
-  pub taken_back : (fault : ClusterFault) (front lower all now : List D) (old new : D)
-      → all ≡ front ++ old ∷ [] → now ≡ lower ++ new ∷ []
-      → AreHandedBack tells faults_of fault 1 front lower → IsFaultAmong (length front) fault
-      → tells new ≡ tells old → faults_of old ≤ faults_of new
-      → AreHandedBack tells faults_of fault 1 all now
-  taken_back fault front lower all now old new all_is now_is back among told later =
-      subst (λ (z : List D × List D). AreHandedBack tells faults_of fault 1 z.0 z.1)
-      (sym (λ i. (all_is i, now_is i)))
-      (back_behind tells faults_of fault 1 (1 + length front) front lower old new refl back
-      (record {
-        told = told;
-        later = later;
-        failed =
-            λ is. absurd (not_here fault (length front) (1 + length front) among (omega arith) is);
-      }))
-
-  -- as many are back
-  pub as_many : (fault : ClusterFault) (s : ℕ) (olds news : List D)
-      → AreHandedBack tells faults_of fault s olds news → length news ≡ length olds
-  as_many fault s [] [] back = refl
-  as_many fault s [] (new ∷ news) back = elim back [ ]
-  as_many fault s (old ∷ olds) [] back = elim back [ ]
-  as_many fault s (old ∷ olds) (new ∷ news) back = ap suc (as_many fault (s + 1) olds news back.1)
 
 -- the last node is added
 pub new_last : {N : Type 0} (part : N → NodeFields) (objects : List ObjectDecl) (s : ℕ)

@@ -20,6 +20,7 @@ use Rattle.cam_script.specs.declared.Script.{Script}
 use Rattle.cam_histories.specs.Laws.{history_of}
 use Rattle.cam_histories.specs.Whole.{Site, IsWhole}
 use Rattle.cam_histories.proofs.ManyLines.{others_stand}
+use Rattle.cam_cluster.specs.declared.works.failing.Failed.{Failed}
 use Rattle.cam_cluster.specs.declared.works.undecided.OpenHalt.{OpenHalt}
 use Rattle.cam_cluster.specs.Puts.{HasStopped}
 use Rattle.cam_cluster.specs.Stopping.{IsAsStopped}
@@ -127,7 +128,7 @@ stop_keeps script st works might may place calls old nodes less there are keeps 
   few = keeps.few;
   stops = λ all.
       let before = keeps.stops
-      (unfailing_before works.starved works.nodes nodes place old new there are (λ u. u) all) in
+      (unfailing_before works.failed works.nodes nodes place old new there are (λ u. u) all) in
       nodes_stopped script.objects st.running.trace st.running.trace st.halted st.halted st.turns
       now.turns place works.nodes nodes old new there are (λ m away. refl) (λ m away. refl)
       (λ m away. rw (ne_eqb (place + 1) m (λ e. away (sym e))) refl) (λ m away. refl) no_node
@@ -191,7 +192,7 @@ stop_keeps script st works might may place calls old nodes less there are keeps 
 
 module _ {N : Type 0} (part : N → NodeFields) (tells : N → Bool) (may : N → Logged → Type 0) where
   pub stopped_in : (place calls : ℕ) (nodes now : List N) (o : OutboxFields) (h : List Bool)
-      (v : Bool) (u : List OpenHalt) (e : List Event) (m : List Mark) (old new : N)
+      (v : Failed) (u : List OpenHalt) (e : List Event) (m : List Mark) (old new : N)
       → place < length nodes → old ≡ get_or nodes place old → now ≡ set nodes place new
       → part new ≡ with_passes (Some calls) (part old)
       → tells new ≡ tells old → ((logged : Logged) → may new logged → may old logged)

@@ -18,6 +18,7 @@ use Rattle.cam_script.specs.declared.Script.{Script}
 use Rattle.cam_histories.specs.Laws.{history_of}
 use Rattle.cam_histories.specs.Whole.{IsSiteOf}
 use Rattle.cam_histories.proofs.Sites.{site_at}
+use Rattle.cam_cluster.specs.declared.works.failing.Failed.{Failed}
 use Rattle.cam_cluster.specs.declared.works.restart.Restart.TheVariants as ends
 use Rattle.cam_cluster.specs.declared.works.undecided.OpenHalt.{OpenHalt}
 use Rattle.cam_cluster.specs.Restarts.{HasFoundByStop}
@@ -34,7 +35,7 @@ use Rattle.cam_cluster.proofs.WorksNodes.{site_there}
 module _ (script : Script) (st : Standing) (place : ℕ) (works : WorksFields)
     (might : ℕ → Logged → Type 0) (old : NodeFields) (keeps : KeepsRun script st works might)
     (there : slice_get works.nodes place ≡ Some old)
-    (sound : IsUnfailing works.starved works.nodes)
+    (sound : IsUnfailing works.failed works.nodes)
     (said : has_number st.halted (place + 1) ≡ true) (found : Found)
     (finds : old.tells ≡ true → FindsBy old.objects old.site.node.number old.site.node old.halted_at
     old.reads found) where
@@ -52,7 +53,7 @@ module _ (script : Script) (st : Standing) (place : ℕ) (works : WorksFields)
   finds_here =
       subst (λ (z : List ObjectDecl × ℕ). FindsBy z.0 z.1 old.site.node old.halted_at old.reads
       found) (λ i. ((keeps.nodes place old there).over i, site_here.number i))
-      (finds (unfailing_there works.starved works.nodes place old there sound).0)
+      (finds (unfailing_there works.failed works.nodes place old there sound))
 
   three : is_some found.event ≡ eqb halt.calls 3
   three =
@@ -73,7 +74,7 @@ module _ (script : Script) (st : Standing) (place : ℕ) (works : WorksFields)
       ∙ ap (λ (o : Option Event). is_some o) some))
 
 module _ {N : Type 0} (part : N → NodeFields) (tells : N → Bool) (may : N → Logged → Type 0)
-    (place : ℕ) (nodes : List N) (o : OutboxFields) (h : List Bool) (v : Bool)
+    (place : ℕ) (nodes : List N) (o : OutboxFields) (h : List Bool) (v : Failed)
     (u : List OpenHalt) (e : List Event) (m : List Mark) (old : N) (within : place < 8)
     (there : slice_get nodes place ≡ Some old) (found : Found)
     (finds : (part old).tells ≡ true → FindsBy (part old).objects (part old).site.node.number

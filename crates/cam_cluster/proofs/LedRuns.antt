@@ -57,7 +57,7 @@ module _ (script : Script) (many : ℕ) (step : Step) (old new : LinesFields)
     (might may : ℕ → Logged → Type 0) (before behind : Workers)
     (taken : HasTakenLines script many old might before)
     (at : slice_get script.steps many ≡ Some step)
-    (unfailing : IsUnfailing new.works.starved new.works.nodes) where
+    (unfailing : IsUnfailing new.works.failed new.works.nodes) where
   abbrev seen : Seen
   seen = taken.seen
 
@@ -116,7 +116,7 @@ module _ (script : Script) (step : Step) (old new : LinesFields) (might may : �
     (before behind : Workers) where
   pub next_led : (bad : Option WireFault)
       → IsAtWorkLine step script.bodies old might before new may behind (Ok bad)
-      → IsUnfailing new.works.starved new.works.nodes
+      → IsUnfailing new.works.failed new.works.nodes
       → HasTakenNext script step old might before new may behind
   next_led bad line unfailing many taken at =
       led_taken script many step old new might may before behind taken at unfailing bad
@@ -126,7 +126,7 @@ module _ (script : Script) (step : Step) (old new : LinesFields) (might may : �
   pub next_refused : (fault : CourseFault) (of_line : LineFault) (refusal : LineRefusal)
       → fault ≡ faults.Line of_line → of_line ≡ line_faults.Refused refusal
       → IsAtWorkLine step script.bodies old might before new may behind (Err fault)
-      → IsUnfailing new.works.starved new.works.nodes
+      → IsUnfailing new.works.failed new.works.nodes
       → HasTakenNext script step old might before new may behind
   next_refused fault of_line refusal is is_refused line unfailing many taken at =
       refused_taken script many step old new might may before behind taken at unfailing refusal
@@ -134,3 +134,13 @@ module _ (script : Script) (step : Step) (old new : LinesFields) (might may : �
       (Err f)) (is ∙ ap faults.Line is_refused) line taken.seen taken.keeps
       (next_step script many step old might before taken at)
       (bodies_are script many step old might before taken at))
+
+  pub next_failed : (fault : CourseFault) → fault ≡ faults.RestartFailed
+      → IsAtWorkLine step script.bodies old might before new may behind (Err fault)
+      → IsUnfailing new.works.failed new.works.nodes
+      → HasTakenNext script step old might before new may behind
+  next_failed fault is line unfailing many taken at =
+      absurd (subst (λ (f : CourseFault). IsAtWorkLine step script.bodies old might before new may
+      behind (Err f)) is line taken.seen taken.keeps
+      (next_step script many step old might before taken at)
+      (bodies_are script many step old might before taken at) unfailing.0)

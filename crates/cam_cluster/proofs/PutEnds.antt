@@ -24,6 +24,8 @@ use Rattle.cam_runs.specs.Halts.{Halting}
 use Rattle.cam_runs.specs.Standing.{Standing, put}
 use Rattle.cam_script.specs.declared.Script.{Script}
 use Rattle.cam_histories.specs.InputLaws.{held_setting, halt_of}
+use Rattle.cam_cluster.specs.declared.works.failing.Failed.{Failed}
+use Rattle.cam_cluster.specs.declared.works.failing.Failed.TheVariants.{Nothing}
 use Rattle.cam_cluster.specs.Puts.{IsPutAt, letter_of}
 use Rattle.cam_cluster.specs.Works.{NodeFields, WorksFields, KeepsRun, IsUnfailingNode}
 use Rattle.cam_cluster.proofs.PutNode.{over, number}
@@ -87,7 +89,7 @@ module _ (script : Script) (st : Standing) (place : ℕ) (input : NodeInput) (wo
         nodes = nodes;
         outbox = record { net = works.outbox.net; unput = letters };
         halted = works.halted;
-        starved = works.starved;
+        failed = works.failed;
         undecided = works.undecided;
         events = works.events ++ event ∷ [];
         marks = works.marks;
@@ -117,10 +119,10 @@ module _ (script : Script) (st : Standing) (place : ℕ) (input : NodeInput) (wo
       (mail_of input) (load_of input) (may (place + 1))
       → HaltsAt old.objects old.site.node old.site.entries (input_of old.site.node.number input)
       (mail_of input) (load_of input) new.site.node new.halted_at
-      → (starved : Bool) → (starved ≡ false → works.starved ≡ false)
+      → (failed : Failed) → (failed ≡ Nothing → works.failed ≡ Nothing)
       → (IsUnfailingNode new → IsUnfailingNode old)
-      → (starved ≡ false → new.tells ≡ true → Rose old.failures new.failures
-      ⊎ IsCutOff 4 old.passes new.passes (λ calls. OpensAfter calls old.objects old.site.node
+      → (failed ≡ Nothing → new.tells ≡ true
+      → IsCutOff 4 old.passes new.passes (λ calls. OpensAfter calls old.objects old.site.node
       old.site.entries (input_of old.site.node.number input) (mail_of input) (load_of input)
       new.reads))
       → KeepsRun script
@@ -129,7 +131,7 @@ module _ (script : Script) (st : Standing) (place : ℕ) (input : NodeInput) (wo
         nodes = nodes;
         outbox = works.outbox;
         halted = set works.halted place true;
-        starved = starved;
+        failed = failed;
         undecided = record {
           node = place + 1;
           before = length works.events;
@@ -138,7 +140,7 @@ module _ (script : Script) (st : Standing) (place : ℕ) (input : NodeInput) (wo
         events = works.events;
         marks = works.marks ++ marks.Halted line (place + 1) false ∷ [];
       }) may
-  put_halted none_left stops lost same halt at_event starved fed less cause =
+  put_halted none_left stops lost same halt at_event failed fed less cause =
       halted script st place (input_of (place + 1) input) (mail_of input) (load_of input) works might
       old keeps put_so there within halts line restarted new may nodes are objects others none_left
       stops lost same
@@ -146,17 +148,17 @@ module _ (script : Script) (st : Standing) (place : ℕ) (input : NodeInput) (wo
       (mail_of input) (load_of input) (may (place + 1))) halt)
       (by_place (λ xs s. HaltsAt xs old.site.node old.site.entries (input_of s input)
       (mail_of input) (load_of input) new.site.node new.halted_at) at_event)
-      starved
+      failed
       (halted_stops script st place (input_of (place + 1) input) (mail_of input) (load_of input)
       works might old keeps put_so there new nodes are line
-      (restarted (node_of st.running.trace (input_of (place + 1) input))) less starved fed
+      (restarted (node_of st.running.trace (input_of (place + 1) input))) less failed fed
       (goes_on (place + 1) input)
       (by_place (λ xs s. HaltsAt xs old.site.node old.site.entries (input_of s input)
       (mail_of input) (load_of input) new.site.node new.halted_at) at_event)
-      (by_place (λ xs s. starved ≡ false → new.tells ≡ true → Rose old.failures new.failures
-      ⊎ IsCutOff 4 old.passes new.passes (λ calls. OpensAfter calls xs old.site.node
+      (by_place (λ xs s. failed ≡ Nothing → new.tells ≡ true
+      → IsCutOff 4 old.passes new.passes (λ calls. OpensAfter calls xs old.site.node
       old.site.entries (input_of s input) (mail_of input) (load_of input) new.reads)) cause)
-      (λ all. unfailing_there starved nodes place new
+      (λ all. unfailing_there failed nodes place new
       (ap (λ (ns : List NodeFields). slice_get ns place) are
       ∙ at_set works.nodes place new (slice_get_within works.nodes place old there)) all))
       (letter_of input) (got_is (place + 1) input)

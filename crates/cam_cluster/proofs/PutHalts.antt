@@ -32,6 +32,7 @@ use Rattle.cam_histories.proofs.HaltedLists.{halted_now}
 use Rattle.cam_histories.proofs.Halting.{lost_halts_stand}
 use Rattle.cam_histories.proofs.OneInput.{inputs_lead_on}
 use Rattle.cam_histories.proofs.UndecidedBeside.{newest_other}
+use Rattle.cam_cluster.specs.declared.works.failing.Failed.{Failed}
 use Rattle.cam_cluster.specs.Puts.{IsPutAt}
 use Rattle.cam_cluster.specs.declared.works.undecided.OpenHalt.{OpenHalt}
 use Rattle.cam_cluster.specs.Works.{NodeFields, WorksFields, IsHaltOf, KeepsRun}
@@ -87,8 +88,8 @@ module _ (script : Script) (st : Standing) (place : ℕ) (input : Input) (mail :
       (halt : IsHalt script.objects old.site.node old.site.entries input mail load (may (place + 1)))
       (halts_at : HaltsAt script.objects old.site.node old.site.entries input mail load
       new.site.node new.halted_at)
-      (starved : Bool)
-      (stops_so : IsUnfailing starved nodes
+      (failed : Failed)
+      (stops_so : IsUnfailing failed nodes
       → AreStopped script.objects st.running.trace (r ∷ st.halted)
       (InputTurn r line (appends c.reading st.running.trace input) (restarted r) ∷ st.turns) nodes)
     where
@@ -187,7 +188,7 @@ module _ (script : Script) (st : Standing) (place : ℕ) (input : Input) (mail :
             nodes = nodes;
             outbox = works.outbox;
             halted = now_halted;
-            starved = starved;
+            failed = failed;
             undecided = record {
               node = place + 1;
               before = length works.events;
@@ -224,7 +225,7 @@ module _ (script : Script) (st : Standing) (place : ℕ) (input : Input) (mail :
             nodes = nodes;
             outbox = works.outbox;
             halted = set works.halted place true;
-            starved = starved;
+            failed = failed;
             undecided = record {
               node = place + 1;
               before = length works.events;
@@ -239,7 +240,7 @@ module _ (script : Script) (st : Standing) (place : ℕ) (input : Input) (mail :
             nodes = nodes;
             outbox = works.outbox;
             halted = set works.halted place true;
-            starved = starved;
+            failed = failed;
             undecided = record {
               node = place + 1;
               before = length works.events;

@@ -21,6 +21,8 @@ use Rattle.cam_histories.specs.Laws.{history_of}
 use Rattle.cam_histories.specs.Whole.{KeepsInOrder, StandsAt, IsSiteOf, AreSitesOf}
 use Rattle.cam_histories.proofs.ManyPut.{all_may_be_written, some_put_stand}
 use Rattle.cam_histories.proofs.Sites.{site_at, sites_with}
+use Rattle.cam_cluster.specs.declared.works.failing.Failed.{Failed}
+use Rattle.cam_cluster.specs.declared.works.failing.Failed.TheVariants.{Nothing}
 use Rattle.cam_cluster.specs.Works.{NodeFields, WorksFields, KeepsRun}
 use Rattle.cam_cluster.specs.Works.{IsUnfailingNode, no_node, sites_of}
 use Rattle.cam_cluster.proofs.HaltsKept.{undecided_on}
@@ -59,6 +61,25 @@ keeps_as_put script st works now may is some keeps = record {
   all_marks = keeps.all_marks;
   few = keeps.few;
   stops = keeps.stops;
+}
+
+-- More is known to have failed.
+pub keeps_failing : (script : Script) (st : Standing) (works : WorksFields) (known : Failed)
+    (may : ℕ → Logged → Type 0) → (known ≡ Nothing → works.failed ≡ Nothing)
+    → KeepsRun script st works may → KeepsRun script st (record works { failed = known }) may
+keeps_failing script st works known may less keeps = record {
+  under = keeps.under;
+  one_each = keeps.one_each;
+  eight = keeps.eight;
+  nodes = keeps.nodes;
+  whole = keeps.whole;
+  halts = keeps.halts;
+  undecided = keeps.undecided;
+  sent = keeps.sent;
+  events = keeps.events;
+  all_marks = keeps.all_marks;
+  few = keeps.few;
+  stops = λ all. keeps.stops (less all.0, all.1);
 }
 
 -- One node of works has changed, with its disk alone.
@@ -149,7 +170,7 @@ module _ (script : Script) (st : Standing) (place : ℕ) (works : WorksFields)
       few = keeps.few;
       stops = λ all.
           let before = keeps.stops
-          (unfailing_before works.starved works.nodes nodes place old new there are less all) in
+          (unfailing_before works.failed works.nodes nodes place old new there are less all) in
           nodes_stopped script.objects st.running.trace st.running.trace st.halted st.halted
           st.turns st.turns place works.nodes nodes old new there are (λ m away. refl)
           (λ m away. refl) (λ m away. refl) (λ m away. refl) no_node (λ m away. refl)

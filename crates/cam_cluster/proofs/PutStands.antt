@@ -83,7 +83,7 @@ module _ (script : Script) (st : Standing) (place : ℕ) (input : Input) (mail :
       (on : KeepsOn script.objects old.site.node old.site.entries new.site.node new.site.entries
       input mail load event)
       (sent : letters ≡ letters_of new.site.node event.sent)
-      (stops_so : IsUnfailing works.starved nodes
+      (stops_so : IsUnfailing works.failed nodes
       → AreStopped script.objects
       ((by_knowledge script.objects).next st.running.trace input ∷ st.running.trace) st.halted
       (InputTurn r line (appends (by_knowledge script.objects) st.running.trace input) (restarted r)
@@ -123,7 +123,7 @@ module _ (script : Script) (st : Standing) (place : ℕ) (input : Input) (mail :
           nodes = nodes;
           outbox = record { net = works.outbox.net; unput = letters };
           halted = works.halted;
-          starved = works.starved;
+          failed = works.failed;
           undecided = works.undecided;
           events = works.events ++ event ∷ [];
           marks = works.marks;
@@ -166,7 +166,7 @@ module _ (script : Script) (st : Standing) (place : ℕ) (input : Input) (mail :
           nodes = nodes;
           outbox = record { net = works.outbox.net; unput = letters };
           halted = works.halted;
-          starved = works.starved;
+          failed = works.failed;
           undecided = works.undecided;
           events = works.events ++ event ∷ [];
           marks = works.marks;
@@ -177,7 +177,7 @@ module _ (script : Script) (st : Standing) (place : ℕ) (input : Input) (mail :
           nodes = nodes;
           outbox = record { net = works.outbox.net; unput = letters };
           halted = works.halted;
-          starved = works.starved;
+          failed = works.failed;
           undecided = works.undecided;
           events = works.events ++ event ∷ [];
           marks = works.marks;

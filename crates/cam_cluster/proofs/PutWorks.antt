@@ -21,13 +21,15 @@ use Rattle.cam_node.specs.Keeping.{IsHalt, KeepsOn}
 use Rattle.cam_node.specs.Log.{Logged}
 use Rattle.cam_runs.specs.Standing.{Standing}
 use Rattle.cam_script.specs.declared.Script.{Script}
+use Rattle.cam_cluster.specs.declared.works.failing.Failed.{Failed}
+use Rattle.cam_cluster.specs.declared.works.failing.Failed.TheVariants.{Nothing}
 use Rattle.cam_cluster.specs.declared.works.Put.TheVariants as puts
 use Rattle.cam_cluster.specs.declared.works.undecided.OpenHalt.{OpenHalt}
 use Rattle.cam_cluster.specs.Puts.{HasPut, KeepsAsBefore, letter_of}
 use Rattle.cam_cluster.specs.Works.{NodeFields, WorksFields, KeepsRun, MayReadAt}
 use Rattle.cam_cluster.specs.Works.{IsUnfailingNode}
 use Rattle.cam_cluster.proofs.PlacedNodes.{taken_there, seen_there, reads_elsewhere, reads_there}
-use Rattle.cam_cluster.proofs.PutKeeps.{keeps_as_put, keeps_as_before}
+use Rattle.cam_cluster.proofs.PutKeeps.{keeps_as_before, keeps_as_put, keeps_failing}
 use Rattle.cam_cluster.proofs.PutEnds.{put_stood, put_halted}
 
 -- letters are put behind those that the network has
@@ -38,13 +40,13 @@ net_grows o later some =
     omega (arith, are)
 
 module _ {N : Type 0} (part : N → NodeFields) (tells : N → Bool) (may : N → Logged → Type 0) where
-  abbrev pub seen : List N → OutboxFields → List Bool → Bool → List OpenHalt → List Event
+  abbrev pub seen : List N → OutboxFields → List Bool → Failed → List OpenHalt → List Event
       → List Mark → WorksFields
-  seen nodes outbox halted starved undecided events marks = record {
+  seen nodes outbox halted failed undecided events marks = record {
     nodes = map part nodes;
     outbox = outbox;
     halted = halted;
-    starved = starved;
+    failed = failed;
     undecided = undecided;
     events = events;
     marks = marks;
@@ -52,34 +54,42 @@ module _ {N : Type 0} (part : N → NodeFields) (tells : N → Bool) (may : N �
 
   -- room was made: letters were put
   pub room_made : (nodes now : List N) (o later : OutboxFields) (h halted : List Bool)
-      (v starved : Bool) (u undecided : List OpenHalt) (e events : List Event) (m marks : List Mark)
-      → now ≡ nodes → HasPutSome o later → halted ≡ h → starved ≡ v → undecided ≡ u → events ≡ e
+      (v failed : Failed) (u undecided : List OpenHalt) (e events : List Event) (m marks : List Mark)
+      → now ≡ nodes → HasPutSome o later → halted ≡ h → failed ≡ v → undecided ≡ u → events ≡ e
       → marks ≡ m
       → KeepsAsBefore (seen nodes o h v u e m) (MayReadAt tells may nodes)
-      (seen now later halted starved undecided events marks) (MayReadAt tells may now)
-  room_made nodes now o later h halted v starved u undecided e events m marks same some is_h is_v
+      (seen now later halted failed undecided events marks) (MayReadAt tells may now)
+  room_made nodes now o later h halted v failed u undecided e events m marks same some is_h is_v
       is_u is_e is_m script st is keeps =
-      subst (λ (z : List N × List Bool × Bool × List OpenHalt × List Event × List Mark).
+      subst (λ (z : List N × List Bool × Failed × List OpenHalt × List Event × List Mark).
       KeepsRun script st (seen z.0 later z.1 z.2 z.3 z.4 z.5) (MayReadAt tells may z.0))
       (λ i. (sym same i, sym is_h i, sym is_v i, sym is_u i, sym is_e i, sym is_m i))
       (keeps_as_put script st (seen nodes o h v u e m) later (MayReadAt tells may nodes) is some
       keeps)
 
   pub seen_as : (script : Script) (st : Standing) (nodes : List N) (o later : OutboxFields)
-      (h halted : List Bool) (v starved : Bool) (u undecided : List OpenHalt)
+      (h halted : List Bool) (v failed : Failed) (u undecided : List OpenHalt)
       (e events : List Event) (m marks : List Mark)
-      → later ≡ o → halted ≡ h → starved ≡ v → undecided ≡ u → events ≡ e → marks ≡ m
+      → later ≡ o → halted ≡ h → failed ≡ v → undecided ≡ u → events ≡ e → marks ≡ m
       → KeepsRun script st (seen nodes o h v u e m) (MayReadAt tells may nodes)
-      → KeepsRun script st (seen nodes later halted starved undecided events marks)
+      → KeepsRun script st (seen nodes later halted failed undecided events marks)
       (MayReadAt tells may nodes)
-  seen_as script st nodes o later h halted v starved u undecided e events m marks is_o is_h is_v
+  seen_as script st nodes o later h halted v failed u undecided e events m marks is_o is_h is_v
       is_u is_e is_m keeps =
-      subst (λ (z : OutboxFields × List Bool × Bool × List OpenHalt × List Event × List Mark).
+      subst (λ (z : OutboxFields × List Bool × Failed × List OpenHalt × List Event × List Mark).
       KeepsRun script st (seen nodes z.0 z.1 z.2 z.3 z.4 z.5) (MayReadAt tells may nodes))
       (λ i. (sym is_o i, sym is_h i, sym is_v i, sym is_u i, sym is_e i, sym is_m i)) keeps
 
+  -- more is known to have failed
+  pub failed_as : (nodes : List N) (o : OutboxFields) (h : List Bool) (v w : Failed)
+      (u : List OpenHalt) (e : List Event) (m : List Mark) → (w ≡ Nothing → v ≡ Nothing)
+      → KeepsAsBefore (seen nodes o h v u e m) (MayReadAt tells may nodes)
+      (seen nodes o h w u e m) (MayReadAt tells may nodes)
+  failed_as nodes o h v w u e m less script st is keeps =
+      keeps_failing script st (seen nodes o h v u e m) w (MayReadAt tells may nodes) less keeps
+
   -- One of the nodes was asked for a step.
-  module _ (place : ℕ) (nodes : List N) (o : OutboxFields) (h : List Bool) (v : Bool) (u : List OpenHalt)
+  module _ (place : ℕ) (nodes : List N) (o : OutboxFields) (h : List Bool) (v : Failed) (u : List OpenHalt)
       (e : List Event) (m : List Mark) (old new : N) (there : place < length nodes) (within : place < 8)
       (is_old : old ≡ get_or nodes place old) (now : List N) (set_is : now ≡ set nodes place new)
       (objects : (part new).objects ≡ (part old).objects) where
@@ -137,10 +147,10 @@ module _ {N : Type 0} (part : N → NodeFields) (tells : N → Bool) (may : N �
         → HaltsAt (part old).objects (part old).site.node (part old).site.entries
         (input_of (part old).site.node.number input) (mail_of input) (load_of input)
         (part new).site.node (part new).halted_at
-        → (w : Bool) → (w ≡ false → v ≡ false)
+        → (w : Failed) → (w ≡ Nothing → v ≡ Nothing)
         → (IsUnfailingNode (part new) → IsUnfailingNode (part old))
-        → (w ≡ false → (part new).tells ≡ true → Rose (part old).failures (part new).failures
-        ⊎ IsCutOff 4 (part old).passes (part new).passes (λ calls. OpensAfter calls
+        → (w ≡ Nothing → (part new).tells ≡ true
+        → IsCutOff 4 (part old).passes (part new).passes (λ calls. OpensAfter calls
         (part old).objects (part old).site.node (part old).site.entries
         (input_of (part old).site.node.number input) (mail_of input) (load_of input)
         (part new).reads))

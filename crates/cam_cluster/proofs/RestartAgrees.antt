@@ -116,7 +116,7 @@ module _ (seen : Seen) (lines : LinesFields) (may : ℕ → Logged → Type 0)
       (told_so_far s (told_last turns s) (told_there turns s 3 is)
       ∙ restarted_there seen.script.steps (lines_taken seen) s line next)
 
-  stops_here : IsUnfailing lines.works.starved lines.works.nodes
+  stops_here : IsUnfailing lines.works.failed lines.works.nodes
       → has_number seen.standing.halted s ≡ true → (calls : ℕ) × (stopped_at turns s ≡ Some calls)
   stops_here sound halted =
       stops_somewhere (stopped_at turns s) (by (has_number seen.standing.halted s) halted said)
@@ -130,7 +130,7 @@ module _ (seen : Seen) (lines : LinesFields) (may : ℕ → Logged → Type 0)
 
   module _ (low : 1 ≤ s) where
     here : (done : Ended) → HasFoundByStop (s - 1) lines.works may done
-        → IsUnfailing lines.works.starved lines.works.nodes
+        → IsUnfailing lines.works.failed lines.works.nodes
         → has_number seen.standing.halted s ≡ true → FindsByStop (stopped_at turns s) done
     here done by_stop sound =
         subst (λ (n : ℕ). has_number seen.standing.halted n ≡ true
@@ -179,7 +179,7 @@ found_agrees seen lines may keeps s halted taken agrees =
 
 pub from_agrees : (does : Act) (seen from : Seen) (lines : LinesFields)
     (may : ℕ → Logged → Type 0) → KeepsBetween seen lines may
-    → IsUnfailing lines.works.starved lines.works.nodes → IsFrom lines.works does seen from
+    → IsUnfailing lines.works.failed lines.works.nodes → IsFrom lines.works does seen from
     → Agrees (given seen.halts) seen.standing → Agrees (given from.halts) (begun from.standing does)
 from_agrees (acts.Restart s) seen from lines may keeps sound (inl stood) agrees =
     subst (λ (x : Seen). Agrees (given x.halts) (ended_halt x.standing s)) (sym stood.same)

@@ -18,6 +18,7 @@ use Rattle.cam_node.specs.Log.{Logged}
 use Rattle.cam_node.specs.Represents.{Node}
 use Rattle.cam_runs.specs.Standing.{Undecided}
 use Rattle.cam_histories.specs.Laws.{history_of}
+use Rattle.cam_cluster.specs.declared.works.failing.Failed.{Failed}
 use Rattle.cam_cluster.specs.declared.works.restart.Restart.{Restart}
 use Rattle.cam_cluster.specs.declared.works.restart.Restart.TheVariants as ends
 use Rattle.cam_cluster.specs.Puts.{KeepsAsBefore}
@@ -68,8 +69,7 @@ after_room place old mid new might mays may ends.Found before has = record {
       has.stands script st found k ahead e halts line restarted is (before script st is keeps)
       under beyond stands;
 }
-after_room place old mid new might mays may ends.Failed before has =
-    λ script st is keeps. has script st is (before script st is keeps)
+after_room place old mid new might mays may ends.Failed before has = has
 
 pub nothing_sent : (node : Node) (sent : List Sent) (letters : List Letter) → letters ≡ []
     → sent ≡ [] → letters ≡ letters_of node sent
@@ -78,10 +78,10 @@ nothing_sent node sent letters is none = is ∙ sym (ap (letters_of node) none)
 -- works whose parts are these
 pub same_works : {N : Type 0} (part : N → NodeFields) (tells : N → Bool)
     (may : N → Logged → Type 0) (nodes : List N) (o later : OutboxFields) (h halted : List Bool)
-    (v starved : Bool) (u undecided : List OpenHalt) (e events : List Event) (m marks : List Mark)
-    → o ≡ later → h ≡ halted → v ≡ starved → u ≡ undecided → e ≡ events → m ≡ marks
+    (v failed : Failed) (u undecided : List OpenHalt) (e events : List Event) (m marks : List Mark)
+    → o ≡ later → h ≡ halted → v ≡ failed → u ≡ undecided → e ≡ events → m ≡ marks
     → seen part tells may nodes o h v u e m
-    ≡ seen part tells may nodes later halted starved undecided events marks
-same_works part tells may nodes o later h halted v starved u undecided e events m marks is_o is_h
+    ≡ seen part tells may nodes later halted failed undecided events marks
+same_works part tells may nodes o later h halted v failed u undecided e events m marks is_o is_h
     is_v is_u is_e is_m =
     λ i. seen part tells may nodes (is_o i) (is_h i) (is_v i) (is_u i) (is_e i) (is_m i)

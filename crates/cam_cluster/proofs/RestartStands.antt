@@ -63,7 +63,7 @@ pub record KeepsBut (script : Script) (st : Standing) (place : ℕ) (works : Wor
   pub all_marks : works.marks ≡ st.running.marks
   pub few : length works.events + 1 < 1000000000
   pub stops :
-      IsUnfailing works.starved works.nodes
+      IsUnfailing works.failed works.nodes
       → AreStoppedBut (eqb (place + 1)) script.objects st.running.trace st.halted st.turns
       works.nodes
 
@@ -170,7 +170,7 @@ module _ (script : Script) (st : Standing) (place : ℕ) (works : WorksFields)
         nodes = nodes;
         outbox = record { net = works.outbox.net; unput = letters };
         halted = set works.halted place false;
-        starved = works.starved;
+        failed = works.failed;
         undecided = open_without (place + 1) works.undecided;
         events = works.events ++ event ∷ [];
         marks = works.marks;
@@ -224,7 +224,7 @@ module _ (script : Script) (st : Standing) (place : ℕ) (works : WorksFields)
         let more = length-append works.events (event ∷ []) in omega (arith, few, more);
     stops = λ all.
         let before = keeps.stops
-        (unfailing_before works.starved works.nodes nodes place old new there are less all) in
+        (unfailing_before works.failed works.nodes nodes place old new there are less all) in
         subst (λ (z : Standing). AreStopped script.objects z.running.trace z.halted z.turns nodes)
         (sym is)
         (nodes_stopped script.objects st.running.trace ended.running.trace st.halted ended.halted

@@ -125,12 +125,10 @@ module _ (line s : ℕ) (bodies : List (List Statement)) (old new : LinesFields)
   -- It failed, and the run ends there.
   pub failed_at_work : (before behind : Workers)
       → IsRestartLine s old might new may (Ok ends.Failed)
-      → IsAtWorkLine step bodies old might before new may behind (Err (faults.RestartFailed s))
-  failed_at_work before behind is seen keeps next same = (
-    refl,
-    is seen.script seen.standing (given seen.halts) line (later_steps seen)
-        keeps.between.is_script keeps.between.keeps next,
-  )
+      → IsAtWorkLine step bodies old might before new may behind (Err faults.RestartFailed)
+  failed_at_work before behind is seen keeps next same =
+      is seen.script seen.standing (given seen.halts) line (later_steps seen)
+      keeps.between.is_script keeps.between.keeps next
 
   -- Memory ran out before.
   pub restart_wanting : (at_work : Workers) (fault : NoMemory)

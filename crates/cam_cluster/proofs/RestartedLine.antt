@@ -89,7 +89,7 @@ module _ (place s : ℕ) (back : place + 1 ≡ s) (old new : LinesFields)
         (has.stands script st found k before e halts line (λ m. list_any (is_restart m) later) is
         keeps.runs under beyond stands);
   }
-  ended ends.Failed has = λ script st halts line later is keeps next. has script st is keeps.runs
+  ended ends.Failed has = λ script st halts line later is keeps next. has
 
   pub restart_ended : (done : Restart) → HasRestartedAs place old.works might done new.works may
       → IsRestartLine s old might new may (Ok done)

@@ -21,6 +21,7 @@ use Rattle.cam_script.specs.declared.Script.{Script}
 use Rattle.cam_histories.specs.Laws.{history_of}
 use Rattle.cam_histories.specs.Whole.{IsSiteOf}
 use Rattle.cam_histories.proofs.Sites.{site_at}
+use Rattle.cam_cluster.specs.declared.works.failing.Failed.{Failed}
 use Rattle.cam_cluster.specs.declared.works.restart.Restart.TheVariants as ends
 use Rattle.cam_cluster.specs.declared.works.undecided.OpenHalt.{OpenHalt}
 use Rattle.cam_cluster.specs.OpenHalts.{events_found, halts_found, marks_found, open_halt_of}
@@ -59,7 +60,7 @@ module _ (script : Script) (st : Standing) (place : ℕ) (works : WorksFields)
       old.site.entries logged (site_here.stands awake).log.keeps read
 
 module _ {N : Type 0} (part : N → NodeFields) (tells : N → Bool) (may : N → Logged → Type 0)
-    (place : ℕ) (nodes : List N) (o : OutboxFields) (h : List Bool) (v : Bool) (u : List OpenHalt)
+    (place : ℕ) (nodes : List N) (o : OutboxFields) (h : List Bool) (v : Failed) (u : List OpenHalt)
     (e : List Event) (m : List Mark) (old new : N) (there : place < length nodes)
     (within : place < 8) (is_old : old ≡ get_or nodes place old) (now : List N)
     (set_is : now ≡ set nodes place new) (objects : (part new).objects ≡ (part old).objects)

@@ -4,7 +4,6 @@ use Rattle.std.proofs.Common.{List, ◌∷◌, map, set, Option, Some}
 use Rattle.std.proofs.Common.{refl, sym, ap, ◌∙◌, subst, arith}
 use Rattle.std.specs.Prelude.{slice_get}
 use Rattle.std.proofs.lemmas.Bool.{eq-eqb, ne_eqb, or_left, true≢false}
-use Rattle.cam_base.specs.Causes.{Rose}
 use Rattle.cam_event.specs.declared.Event.{Event}
 use Rattle.cam_event.specs.Inputs.{Input as NodeInput, Mail, node_of}
 use Rattle.cam_event.specs.Loads.{Load}
@@ -22,6 +21,8 @@ use Rattle.cam_runs.specs.Standing.{Standing}
 use Rattle.cam_script.specs.declared.Script.{Script}
 use Rattle.cam_histories.specs.Laws.{history_of}
 use Rattle.cam_histories.specs.PutIn.{nameless}
+use Rattle.cam_cluster.specs.declared.works.failing.Failed.{Failed}
+use Rattle.cam_cluster.specs.declared.works.failing.Failed.TheVariants.{Nothing}
 use Rattle.cam_cluster.specs.Puts.{IsPutAt}
 use Rattle.cam_cluster.specs.Stopped.{IsHaltByStop}
 use Rattle.cam_cluster.specs.Stopping.{IsAsStopped, ends_by}
@@ -31,9 +32,6 @@ use Rattle.cam_cluster.proofs.PutNode.{site_is, node_keeps, may_then}
 use Rattle.cam_cluster.proofs.StopTurns.{halted_as, other_calls, other_stopped, stood_as}
 use Rattle.cam_cluster.proofs.StoppedSteps.{ends_there, halted_by_stop, stood_as_stopped}
 use Rattle.cam_cluster.proofs.StoppedWorks.{nodes_stopped, unfailing_before}
-
-none_rose : (before now : ℕ) → Rose before now → now ≡ 0 → ⊥
-none_rose before now rose none = omega (arith, rose, none)
 
 module _ (script : Script) (st : Standing) (place : ℕ) (input : NodeInput) (mail : Option Mail)
     (load : Load) (works : WorksFields) (might : ℕ → Logged → Type 0) (old : NodeFields)
@@ -56,10 +54,10 @@ module _ (script : Script) (st : Standing) (place : ℕ) (input : NodeInput) (ma
   abbrev pub turns_now : List Turn
   turns_now = Input r line w again ∷ st.turns
 
-  was : (starved : Bool) → (starved ≡ false → works.starved ≡ false) → IsUnfailing starved nodes
+  was : (failed : Failed) → (failed ≡ Nothing → works.failed ≡ Nothing) → IsUnfailing failed nodes
       → AreStopped script.objects t st.halted st.turns works.nodes
-  was starved fed all =
-      let before = unfailing_before starved works.nodes nodes place old new there are less all in
+  was failed fed all =
+      let before = unfailing_before failed works.nodes nodes place old new there are less all in
       keeps.stops (fed before.0, before.1)
 
   passes_is : AreStopped script.objects t st.halted st.turns works.nodes
@@ -80,10 +78,10 @@ module _ (script : Script) (st : Standing) (place : ℕ) (input : NodeInput) (ma
       → IsStepThrough script.objects old.site.node new.site.node input mail load event
       → HasAppended script.objects old.site.node input mail load event old.site.entries
       new.site.entries old.passes new.passes
-      → IsUnfailing works.starved nodes
+      → IsUnfailing works.failed nodes
       → AreStopped script.objects (next ∷ t) st.halted turns_now nodes
   stood_stops event step appended all =
-      let before = was works.starved (λ is. is) all in
+      let before = was works.failed (λ is. is) all in
       let done = stood_as_stopped script.objects (has_number st.taken) t input mail load
       old.site.node old.site.entries keeps.under.run put_so.coming.may put_so.is_put own_number
       (node_keeps script st place input mail load works might old keeps put_so there)
@@ -109,28 +107,25 @@ module _ (script : Script) (st : Standing) (place : ℕ) (input : NodeInput) (ma
       before
 
   -- it halted, and its append was cut off by a stop
-  pub halted_stops : (starved : Bool) → (starved ≡ false → works.starved ≡ false)
+  pub halted_stops : (failed : Failed) → (failed ≡ Nothing → works.failed ≡ Nothing)
       → is_restarting input ≡ false
       → HaltsAt script.objects old.site.node old.site.entries input mail load new.site.node
       new.halted_at
-      → (starved ≡ false → new.tells ≡ true → Rose old.failures new.failures
-      ⊎ IsCutOff 4 old.passes new.passes (λ calls. OpensAfter calls script.objects old.site.node
+      → (failed ≡ Nothing → new.tells ≡ true
+      → IsCutOff 4 old.passes new.passes (λ calls. OpensAfter calls script.objects old.site.node
       old.site.entries input mail load new.reads))
-      → (IsUnfailing starved nodes → IsUnfailingNode new)
-      → IsUnfailing starved nodes
+      → (IsUnfailing failed nodes → IsUnfailingNode new)
+      → IsUnfailing failed nodes
       → AreStopped script.objects t (r ∷ st.halted) turns_now nodes
-  halted_stops starved fed goes_on halts cause here all =
+  halted_stops failed fed goes_on halts cause here all =
       let node = here all in
-      by (was starved fed all) (cause all.0 node.0) node.1
+      by (was failed fed all) (cause all.0 node)
     where
       by : AreStopped script.objects t st.halted st.turns works.nodes
-          → Rose old.failures new.failures
-          ⊎ IsCutOff 4 old.passes new.passes (λ calls. OpensAfter calls script.objects
+          → IsCutOff 4 old.passes new.passes (λ calls. OpensAfter calls script.objects
           old.site.node old.site.entries input mail load new.reads)
-          → new.failures ≡ 0
           → AreStopped script.objects t (r ∷ st.halted) turns_now nodes
-      by before (inl rose) none = absurd (none_rose old.failures new.failures rose none)
-      by before (inr cut) none =
+      by before cut =
           nodes_stopped script.objects t t st.halted (r ∷ st.halted) st.turns turns_now place
           works.nodes nodes old new there are (λ m away. refl)
           (λ m away. ap (λ (b : Bool). b || has_number st.halted m)

@@ -12,6 +12,7 @@ use Rattle.cam_runs.specs.Running.{has_number}
 use Rattle.cam_runs.specs.Halts.{Turn, calls_left}
 use Rattle.cam_histories.specs.Alike.{AreAlike}
 use Rattle.cam_histories.specs.Laws.{history_of}
+use Rattle.cam_cluster.specs.declared.works.failing.Failed.{Failed}
 use Rattle.cam_cluster.specs.Stopped.{IsStoppedAs}
 use Rattle.cam_cluster.specs.Stopping.{stopped_at, IsAsStopped}
 use Rattle.cam_cluster.specs.Works.{NodeFields, AreStopped, AreStoppedBut, IsUnfailing, IsUnfailingNode}
@@ -28,19 +29,19 @@ all_before P (x ∷ xs) zero old new there back all =
 all_before P (x ∷ xs) (suc place) old new there back all =
     (all.0, all_before P xs place old new there back all.1)
 
-pub unfailing_before : (starved : Bool) (nodes now : List NodeFields) (place : ℕ)
+pub unfailing_before : (failed : Failed) (nodes now : List NodeFields) (place : ℕ)
     (old new : NodeFields) → slice_get nodes place ≡ Some old → now ≡ set nodes place new
-    → (IsUnfailingNode new → IsUnfailingNode old) → IsUnfailing starved now
-    → IsUnfailing starved nodes
-unfailing_before starved nodes now place old new there are back all = (
+    → (IsUnfailingNode new → IsUnfailingNode old) → IsUnfailing failed now
+    → IsUnfailing failed nodes
+unfailing_before failed nodes now place old new there are back all = (
   all.0,
   all_before IsUnfailingNode nodes place old new there back
       (subst (AllByRecursion IsUnfailingNode) are all.1),
 )
 
-pub unfailing_there : (starved : Bool) (nodes : List NodeFields) (place : ℕ) (node : NodeFields)
-    → slice_get nodes place ≡ Some node → IsUnfailing starved nodes → IsUnfailingNode node
-unfailing_there starved nodes place node at all = one nodes place at all.1
+pub unfailing_there : (failed : Failed) (nodes : List NodeFields) (place : ℕ) (node : NodeFields)
+    → slice_get nodes place ≡ Some node → IsUnfailing failed nodes → IsUnfailingNode node
+unfailing_there failed nodes place node at all = one nodes place at all.1
   where
     one : (xs : List NodeFields) (k : ℕ) → slice_get xs k ≡ Some node
         → AllByRecursion IsUnfailingNode xs → IsUnfailingNode node
@@ -49,26 +50,25 @@ unfailing_there starved nodes place node at all = one nodes place at all.1
     one (x ∷ xs) (suc k) at each = one xs k at each.1
 
 pub unfailing_less : (old new : NodeFields) → new.tells ≡ old.tells
-    → old.failures ≤ new.failures → IsUnfailingNode new → IsUnfailingNode old
-unfailing_less old new told more all =
-    let none = all.1 in (sym told ∙ all.0, omega (arith, more, none))
+    → IsUnfailingNode new → IsUnfailingNode old
+unfailing_less old new told all = sym told ∙ all
 
 -- how a step failed
 pub fault_is : {T E : Type 0} (result : Result T E) (fault cause : E) → result ≡ Err fault
     → fault ≡ cause → result ≡ Err cause
 fault_is result fault cause is same = is ∙ ap Err same
 
-pub told_cut : (P T : Type 0) (before left : Option ℕ) {Did : ℕ → Type 0} → T
-    → P ⊎ IsCutOff 4 before left (λ calls. T → Did calls) → P ⊎ IsCutOff 4 before left Did
-told_cut P T before left told (inl other) = inl other
-told_cut P T before left told (inr cut) =
-    inr (record {
-      calls = cut.calls;
-      had = cut.had;
-      fewer = cut.fewer;
-      none = cut.none;
-      did = cut.did told;
-    })
+-- It failed by its disk, which did not fail by itself: its append was cut off.
+pub told_cut : (P T : Type 0) (before left : Option ℕ) {Did : ℕ → Type 0} → (P → ⊥) → T
+    → P ⊎ IsCutOff 4 before left (λ calls. T → Did calls) → IsCutOff 4 before left Did
+told_cut P T before left not_so told (inl so) = absurd (not_so so)
+told_cut P T before left not_so told (inr cut) = record {
+  calls = cut.calls;
+  had = cut.had;
+  fewer = cut.fewer;
+  none = cut.none;
+  did = cut.did told;
+}
 
 -- A node for which history and turns say the same.
 pub stopped_alike : (objects : List ObjectDecl) (t now : List Event) (h halted : List ℕ)

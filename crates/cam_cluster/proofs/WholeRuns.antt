@@ -49,7 +49,7 @@ next_of_course script step lines may_read at_work next = record {
 -- before the first line
 pub none_taken : (script : Script) (lines : LinesFields) (may_read : ℕ → Logged → Type 0)
     (at_work : Workers) → KeepsBetween (before_first script) lines may_read
-    → AreWorkers start at_work → IsUnfailing lines.works.starved lines.works.nodes
+    → AreWorkers start at_work → IsUnfailing lines.works.failed lines.works.nodes
     → HasTakenLines script 0 lines may_read at_work
 none_taken script lines may_read at_work keeps workers unfailing = record {
   seen = before_first script;

@@ -1,6 +1,6 @@
 -- The course of a script: the lines so far, with the actions that work at its bodies. What a
 -- cluster keeps of both between lines, and what the next line makes of it, by the pasts of events.
-use Rattle.std.specs.Prelude.{◌≡◌, ◌⊎◌, ℕ, true, List, [], length, Option, Some}
+use Rattle.std.specs.Prelude.{◌≡◌, ◌⊎◌, ℕ, true, List, [], Option, Some}
 use Rattle.std.specs.Prelude.{Result, Ok, Err}
 use Rattle.cam_bytes.specs.declared.WireFault.{WireFault}
 use Rattle.cam_event.specs.declared.LineRefusal.{LineRefusal}
@@ -16,6 +16,7 @@ use Rattle.cam_histories.specs.Lines.{line_refusal}
 use Rattle.cam_cluster.specs.declared.course.CourseFault.{CourseFault}
 use Rattle.cam_cluster.specs.declared.course.CourseFault.TheVariants as faults
 use Rattle.cam_cluster.specs.declared.LineFault.TheVariants as line_faults
+use Rattle.cam_cluster.specs.declared.works.failing.Failed.TheVariants as failed
 use Rattle.cam_cluster.specs.declared.workers.Workers.{Workers}
 use Rattle.cam_cluster.specs.Between.{HasLedOn, KeepsBetween, after_step, seen_found}
 use Rattle.cam_cluster.specs.LetterLines.{cut_fault}
@@ -49,7 +50,7 @@ IsStartOf body act = (s : ℕ) × (act ≡ acts.Start s body)
 pub record HasStood (old : WorksFields) (seen from : Seen) (s : ℕ) : Type 0 where
   pub same : from ≡ seen
   pub lost :
-      IsUnfailing old.starved old.nodes → has_number seen.standing.halted s ≡ true
+      IsUnfailing old.failed old.nodes → has_number seen.standing.halted s ≡ true
       → last_stop seen.standing.turns s ≡ Some true → ⊥
 
 -- A restart found the event at which its node had halted: what was seen is the run in which that
@@ -57,7 +58,7 @@ pub record HasStood (old : WorksFields) (seen from : Seen) (s : ℕ) : Type 0 wh
 pub record HasFound (old : WorksFields) (seen from : Seen) (s : ℕ) : Type 0 where
   pub halted : has_number seen.standing.halted s ≡ true
   pub found : from ≡ seen_found seen s
-  pub taken : IsUnfailing old.starved old.nodes → last_stop seen.standing.turns s ≡ Some true
+  pub taken : IsUnfailing old.failed old.nodes → last_stop seen.standing.turns s ≡ Some true
 
 -- what a line goes on from, by what the works kept before it
 abbrev pub IsFrom : WorksFields → Act → Seen → Seen → Type 0
@@ -89,8 +90,8 @@ pub record HasLedAtWork (old : LinesFields) (seen : Seen) (step : Step) (new : L
   pub workers : AreWorkers (after_step from step led.more).standing at_work
   pub fault : bad ≡ cut_fault (by_knowledge seen.script.objects) seen.standing step.act
 
--- How the line ends. Where a restart fails there are as many nodes, and nothing is said of what is
--- kept: the run ends there.
+-- How the line ends. Where a restart fails something is known to have failed by itself, and nothing
+-- is said of what is kept: the run ends there.
 abbrev pub IsEndedAtWork : LinesFields → Seen → Step → LinesFields → (ℕ → Logged → Type 0) → Workers
     → Result (Option WireFault) CourseFault → Type 0
 IsEndedAtWork old seen step new may_read at_work (Ok bad) =
@@ -99,8 +100,8 @@ IsEndedAtWork old seen step new may_read at_work (Err (faults.Line (line_faults.
     HasRefusedLine seen step new may_read at_work refusal
 IsEndedAtWork old seen step new may_read at_work (Err (faults.Line line_faults.NoMemory)) =
     IsCourseWanting step.act seen step new may_read at_work
-IsEndedAtWork old seen step new may_read at_work (Err (faults.RestartFailed node)) =
-    (step.act ≡ acts.Restart node) × (length new.works.nodes ≡ seen.script.nodes)
+IsEndedAtWork old seen step new may_read at_work (Err faults.RestartFailed) =
+    new.works.failed ≡ failed.Nothing → ⊥
 
 -- THE CLAUSE of the next line: of each run that is kept, with these bodies, whose next step it is
 abbrev pub IsAtWorkLine : Step → List (List Statement) → LinesFields → (ℕ → Logged → Type 0)

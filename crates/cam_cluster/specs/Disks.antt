@@ -7,11 +7,6 @@ use Rattle.cam_node.specs.Log.{Logged, KeepsLog}
 use Rattle.cam_node.specs.Opened.{MayRead, is_readable}
 use Rattle.cam_runs.specs.Running.{has_number}
 use Rattle.cam_histories.specs.Laws.{history_of}
-use Rattle.cam_cluster.specs.declared.founding.ClusterFault.{ClusterFault}
-use Rattle.cam_cluster.specs.declared.founding.ClusterFault.TheVariants as founding_faults
-use Rattle.cam_cluster.specs.declared.run.RunFault.{RunFault}
-use Rattle.cam_cluster.specs.declared.run.RunFault.TheVariants as faults
-use Rattle.cam_cluster.specs.Founding.{AreHandedBack, IsFaultAmong}
 use Rattle.cam_cluster.specs.Seen.{Seen}
 
 -- Whatever may be read from the disk of a node that is not halted keeps the node's history of the
@@ -40,22 +35,3 @@ AreLogs {D} tells moment left_since disks =
     (place : ℕ) (disk : D) (image : List ℕ) → slice_get disks place ≡ Some disk
     → tells disk ≡ true → left_since disk (moment disk) image
     → is_readable (read_ckpt image) ≡ true
-
--- why a script was not run, where no cluster was made
-abbrev pub run_fault : ClusterFault → RunFault
-run_fault (founding_faults.DiskFault s) = faults.FormatFailed s
-run_fault founding_faults.NoMemory = faults.NoMemory
-
--- a fault that may come once the disks are formatted
-abbrev pub IsLater : RunFault → Type 0
-IsLater (faults.FormatFailed s) = ⊥
-IsLater _ = Unit {0}
-
--- A fault of formatting is that of a disk that failed: its count of faults rose. Each disk is at its
--- place, tells what it holds just where it did, and its count did not fall.
-abbrev pub IsOfFormatting : {D : Type 0} → (D → Bool) → (D → ℕ) → ℕ → List D → List D → RunFault
-    → Type 0
-IsOfFormatting tells faults_of many before after (faults.FormatFailed s) =
-    IsFaultAmong many (founding_faults.DiskFault s)
-    × AreHandedBack tells faults_of (founding_faults.DiskFault s) 1 before after
-IsOfFormatting tells faults_of many before after _ = Unit {0}

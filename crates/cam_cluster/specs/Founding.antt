@@ -1,7 +1,6 @@
 -- A cluster before its first line: its nodes, each formatted over the disk at its place, and the
 -- disks that are handed back where none is made.
 use Rattle.std.specs.Prelude.{◌≡◌, ◌≤◌, ◌+◌, ℕ, Bool, true, false, List, [], ◌∷◌, None}
-use Rattle.cam_base.specs.Causes.{Rose}
 use Rattle.cam_ckpt.specs.Reading.{read_ckpt}
 use Rattle.cam_log.specs.Moments.{OpeningsBy}
 use Rattle.cam_type.specs.declared.ObjectDecl.{ObjectDecl}
@@ -12,8 +11,9 @@ use Rattle.cam_node.specs.declared.fault.NodeFault.TheVariants as node_faults
 use Rattle.cam_runs.specs.Standing.{start}
 use Rattle.cam_script.specs.declared.Script.{Script}
 use Rattle.cam_histories.specs.Whole.{StandsAt}
-use Rattle.cam_cluster.specs.declared.founding.ClusterFault.{ClusterFault}
-use Rattle.cam_cluster.specs.declared.founding.ClusterFault.TheVariants as faults
+use Rattle.cam_cluster.specs.declared.fault.RunFault.{RunFault}
+use Rattle.cam_cluster.specs.declared.fault.RunFault.TheVariants as faults
+use Rattle.cam_cluster.specs.declared.works.failing.Failed.TheVariants as failed
 use Rattle.cam_cluster.specs.Seen.{Seen}
 use Rattle.cam_cluster.specs.Works.{NodeFields, WorksFields}
 
@@ -37,32 +37,9 @@ AreNewNodes part objects s (node ∷ more) = IsNewNode objects s (part node)
     × AreNewNodes part objects (s + 1) more
 
 -- why no cluster was made, where the node of this number was refused
-abbrev pub fault_at : ℕ → NodeFault → ClusterFault
+abbrev pub fault_at : ℕ → NodeFault → RunFault
 fault_at s node_faults.DiskFault = faults.DiskFault s
 fault_at s node_faults.NoMemory = faults.NoMemory
-
--- a fault of one of so many nodes
-abbrev pub IsFaultAmong : ℕ → ClusterFault → Type 0
-IsFaultAmong many (faults.DiskFault s) = (1 ≤ s) × (s ≤ many)
-IsFaultAmong many faults.NoMemory = Unit {0}
-
--- The disk of the node of this number, handed back: it tells as before, and its count of faults did
--- not fall. Where it is the disk that failed the count rose.
-pub record IsHandedBack {D : Type 0} (tells : D → Bool) (faults_of : D → ℕ) (fault : ClusterFault)
-    (s : ℕ) (old new : D) : Type 0 where
-  pub told : tells new ≡ tells old
-  pub later : faults_of old ≤ faults_of new
-  pub failed : fault ≡ faults.DiskFault s → Rose (faults_of old) (faults_of new)
-
--- all disks, each at its place, where the first is that of the node of this number
-abbrev pub AreHandedBack : {D : Type 0} → (D → Bool) → (D → ℕ) → ClusterFault → ℕ → List D → List D
-    → Type 0
-AreHandedBack tells faults_of fault s [] [] = Unit {0}
-AreHandedBack tells faults_of fault s [] (new ∷ news) = ⊥
-AreHandedBack tells faults_of fault s (old ∷ olds) [] = ⊥
-AreHandedBack tells faults_of fault s (old ∷ olds) (new ∷ news) =
-    IsHandedBack tells faults_of fault s old new
-    × AreHandedBack tells faults_of fault (s + 1) olds news
 
 -- the works over these nodes, where nothing has happened
 abbrev pub new_works : List NodeFields → WorksFields
@@ -70,7 +47,7 @@ new_works nodes = record {
   nodes = nodes;
   outbox = record { net = []; unput = [] };
   halted = false ∷ false ∷ false ∷ false ∷ false ∷ false ∷ false ∷ false ∷ [];
-  starved = false;
+  failed = failed.Nothing;
   undecided = [];
   events = [];
   marks = [];

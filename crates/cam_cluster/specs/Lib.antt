@@ -1,9 +1,11 @@
 pub mod Seen
+pub mod HandedBack
 pub mod Disks
 pub mod AtWork
 pub mod Arrivals
 pub mod FoundHalts
 pub mod Works
+pub mod Failing
 pub mod Servers
 pub mod Puts
 pub mod OpenHalts

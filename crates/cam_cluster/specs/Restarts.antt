@@ -1,5 +1,5 @@
 -- A node of a cluster restarts: what that makes of the works.
-use Rattle.std.specs.Prelude.{◌≡◌, ℕ, ◌+◌, Bool, true, List, length, Option, Some, None, Result, Ok, Err}
+use Rattle.std.specs.Prelude.{◌≡◌, ℕ, ◌+◌, Bool, true, List, Option, Some, None, Result, Ok, Err}
 use Rattle.cam_base.specs.declared.memory.NoMemory.{NoMemory}
 use Rattle.cam_event.specs.declared.Event.{Event}
 use Rattle.cam_event.specs.Inputs.{Restarts}
@@ -16,6 +16,7 @@ use Rattle.cam_script.specs.declared.Step.{Step}
 use Rattle.cam_script.specs.Law.{IsScript}
 use Rattle.cam_histories.specs.Found.{IsBeyond}
 use Rattle.cam_histories.specs.InputLaws.{held_setting, halt_of}
+use Rattle.cam_cluster.specs.declared.works.failing.Failed.TheVariants as failed
 use Rattle.cam_cluster.specs.declared.works.restart.Restart.{Restart}
 use Rattle.cam_cluster.specs.declared.works.restart.Restart.TheVariants as ends
 use Rattle.cam_cluster.specs.SoFar.{KeepsLines, LinesFields}
@@ -47,8 +48,8 @@ pub record HasFoundHalt (place : ℕ) (old : WorksFields) (might_read : ℕ → 
       → KeepsRun script (with_restart script halts line restarted found (place + 1)) new may_read
 
 -- Of each run that the works kept, where the restart stands: if nothing was found they keep the run
--- with the restart behind, and else the run in which the halt was taken. Where it failed they have as
--- many nodes, and nothing is said of what they keep.
+-- with the restart behind, and else the run in which the halt was taken. Where it failed it is known
+-- that something has failed by itself.
 abbrev pub HasRestartedAs : ℕ → WorksFields → (ℕ → Logged → Type 0) → Restart → WorksFields
     → (ℕ → Logged → Type 0) → Type 0
 HasRestartedAs place old might_read ends.Stood new may_read =
@@ -58,9 +59,7 @@ HasRestartedAs place old might_read ends.Stood new may_read =
     → KeepsRun script (with_restart script halts line restarted st (place + 1)) new may_read
 HasRestartedAs place old might_read ends.Found new may_read =
     HasFoundHalt place old might_read new may_read
-HasRestartedAs place old might_read ends.Failed new may_read =
-    (script : Script) (st : Standing) → IsScript script → KeepsRun script st old might_read
-    → length new.nodes ≡ script.nodes
+HasRestartedAs place old might_read ends.Failed new may_read = new.failed ≡ failed.Nothing → ⊥
 
 -- While nothing has failed by itself, a restart of a node that is halted finds the event just where
 -- the stop of its disk let three calls pass.
@@ -72,7 +71,7 @@ FindsByStop calls ends.Failed = Unit {0}
 abbrev pub HasFoundByStop : ℕ → WorksFields → (ℕ → Logged → Type 0) → Restart → Type 0
 HasFoundByStop place old might_read done =
     (script : Script) (st : Standing) → IsScript script → KeepsRun script st old might_read
-    → IsUnfailing old.starved old.nodes → has_number st.halted (place + 1) ≡ true
+    → IsUnfailing old.failed old.nodes → has_number st.halted (place + 1) ≡ true
     → FindsByStop (stopped_at st.turns (place + 1)) done
 
 -- The same over what the lines keep, where the restart is the run's next step.
@@ -96,8 +95,7 @@ IsRestartEnded script st c s new may_read (Ok ends.Stood) =
     (acts.Restart s))) new may_read
 IsRestartEnded script st c s new may_read (Ok ends.Found) =
     IsFoundEnded script st c s new may_read
-IsRestartEnded script st c s new may_read (Ok ends.Failed) =
-    length new.works.nodes ≡ script.nodes
+IsRestartEnded script st c s new may_read (Ok ends.Failed) = new.works.failed ≡ failed.Nothing → ⊥
 IsRestartEnded script st c s new may_read (Err wanting) = KeepsLines script st new may_read
 
 -- THE CLAUSE of `restart`, over what nodes hold, at a node whose disk tells what it holds.

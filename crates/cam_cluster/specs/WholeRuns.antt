@@ -42,7 +42,7 @@ pub record HasTakenLines (script : Script) (many : ℕ) (lines : LinesFields)
   pub keeps : KeepsCourse seen lines may_read at_work
   pub of_script : seen.script ≡ script
   pub taken : lines_taken seen ≡ many
-  pub unfailing : IsUnfailing lines.works.starved lines.works.nodes
+  pub unfailing : IsUnfailing lines.works.failed lines.works.nodes
   pub agrees : Agrees (given seen.halts) seen.standing
 
 -- the step that is taken next

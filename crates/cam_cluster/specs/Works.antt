@@ -24,6 +24,8 @@ use Rattle.cam_histories.specs.Undecided.{received_at}
 use Rattle.cam_histories.specs.Whole.{Site, IsWhole}
 use Rattle.cam_cluster.specs.Stopped.{IsStoppedAs}
 use Rattle.cam_cluster.specs.Stopping.{IsAsStopped}
+use Rattle.cam_cluster.specs.declared.works.failing.Failed.{Failed}
+use Rattle.cam_cluster.specs.declared.works.failing.Failed.TheVariants as failed
 use Rattle.cam_cluster.specs.declared.works.undecided.OpenHalt.{OpenHalt}
 
 -- a node with what its log lists, over these objects, halted or not; and what its log may have of
@@ -46,8 +48,8 @@ pub record WorksFields : Type 0 where
   pub outbox : OutboxFields
   -- of each of the eight nodes whether it is halted
   pub halted : List Bool
-  -- whether a node halted since memory ran out
-  pub starved : Bool
+  -- what has failed by itself
+  pub failed : Failed
   -- the halts of which no restart has told yet whether they are taken, the newest first
   pub undecided : List OpenHalt
   -- the events, the oldest first, and the marks
@@ -89,14 +91,13 @@ pub record IsHaltOf (objects : List ObjectDecl) (trace : List Event) (undecided 
   pub newest : undecided_of s undecided ≡ Some halt
   pub alike : nameless (taken whole) ≡ nameless (received_at objects trace halt)
 
--- Nothing has failed by itself: the disks tell what they hold, no call of them that was done has
--- failed, and memory did not run out in one.
+-- Nothing has failed by itself, and the disks tell what they hold.
 abbrev pub IsUnfailingNode : NodeFields → Type 0
-IsUnfailingNode node = (node.tells ≡ true) × (node.failures ≡ 0)
+IsUnfailingNode node = node.tells ≡ true
 
-abbrev pub IsUnfailing : Bool → List NodeFields → Type 0
-IsUnfailing starved nodes =
-    (starved ≡ false) × AllByRecursion IsUnfailingNode nodes
+abbrev pub IsUnfailing : Failed → List NodeFields → Type 0
+IsUnfailing known nodes =
+    (known ≡ failed.Nothing) × AllByRecursion IsUnfailingNode nodes
 
 -- Each node, but for some, is by the lines that stop its disk.
 pub record AreStoppedBut (but : ℕ → Bool) (objects : List ObjectDecl) (trace : List Event)
@@ -142,7 +143,7 @@ pub record KeepsRun (script : Script) (st : Standing) (works : WorksFields)
   pub all_marks : works.marks ≡ st.running.marks
   pub few : length works.events < 1000000000
   pub stops :
-      IsUnfailing works.starved works.nodes
+      IsUnfailing works.failed works.nodes
       → AreStopped script.objects st.running.trace st.halted st.turns works.nodes
 
 -- what may be read from the disk of a node of a list, where its disk tells what it holds

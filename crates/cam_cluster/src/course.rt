@@ -4,6 +4,7 @@ ghost use Rattle.std.specs.Prelude.{◌≡◌, List};
 ghost use Rattle.cam_script.specs.declared.Act.TheVariants as acts;
 ghost use Rattle.cam_script.specs.declared.Statement.{Statement};
 ghost use Rattle.cam_cluster.specs.Courses.{IsAtWorkLine, IsNextOfCourse, IsStartOf};
+ghost use Rattle.cam_cluster.specs.Failing.{DisksGoOn};
 ghost use Rattle.cam_cluster.specs.Servers.{AreServers};
 ghost use Rattle.cam_cluster.specs.VariableLines.{IsNextOfSome};
 
@@ -32,9 +33,9 @@ pub(crate) struct Course<L: CheckpointLog> {
 pub(crate) enum CourseFault {
     #[error("the line was not taken")]
     Line(LineFault),
-    /// The disk of the node of this number failed while the node restarted: the run ends there.
+    /// A node's disk failed while it restarted, or memory ran out: the run ends there.
     #[error("a restart failed")]
-    RestartFailed(u8),
+    RestartFailed,
 }
 
 impl From<LineFault> for CourseFault {
@@ -61,7 +62,7 @@ impl From<NoMemory> for CourseFault {
 impl<L: TellingLog> Course<L> {
     /// Takes the next line of the script, by its kind: it leads on, and the fault of a letter that it cut short is told; or it is
     /// refused, by the first test that fails; or memory runs out, and what was kept is kept, but that some inputs of a drain or a play
-    /// may stand; or a restart fails, and nothing is said of what is kept.
+    /// may stand; or a restart fails, and it is known what has failed by itself.
     #[tactic(none)]
     pub(crate) fn take<R: DataType, Q: DataType, C: DataType>(
         &mut self,
@@ -79,6 +80,8 @@ impl<L: TellingLog> Course<L> {
             (⟦<Lines<L> as AsLines>⟧.may_read self.old.lines) self.old.workers
             (⟦<Lines<L> as AsLines>⟧.fields self.new.lines)
             (⟦<Lines<L> as AsLines>⟧.may_read self.new.lines) self.new.workers result }
+        ensures disks { DisksGoOn (⟦<Lines<L> as AsLines>⟧.fields self.old.lines).works
+            (⟦<Lines<L> as AsLines>⟧.fields self.new.lines).works }
         ensures servers { AreServers R.kind Q.kind C.kind
             servers.new.register servers.new.queue servers.new.counter }
     {
@@ -111,6 +114,8 @@ impl<L: TellingLog> Course<L> {
             (⟦<Lines<L> as AsLines>⟧.may_read self.old.lines) self.old.workers
             (⟦<Lines<L> as AsLines>⟧.fields self.new.lines)
             (⟦<Lines<L> as AsLines>⟧.may_read self.new.lines) self.new.workers result }
+        ensures disks { DisksGoOn (⟦<Lines<L> as AsLines>⟧.fields self.old.lines).works
+            (⟦<Lines<L> as AsLines>⟧.fields self.new.lines).works }
         ensures servers { AreServers R.kind Q.kind C.kind
             servers.new.register servers.new.queue servers.new.counter }
     {
@@ -139,6 +144,8 @@ impl<L: TellingLog> Course<L> {
             (⟦<Lines<L> as AsLines>⟧.may_read self.old.lines) self.old.workers
             (⟦<Lines<L> as AsLines>⟧.fields self.new.lines)
             (⟦<Lines<L> as AsLines>⟧.may_read self.new.lines) self.new.workers result }
+        ensures disks { DisksGoOn (⟦<Lines<L> as AsLines>⟧.fields self.old.lines).works
+            (⟦<Lines<L> as AsLines>⟧.fields self.new.lines).works }
         ensures servers { AreServers R.kind Q.kind C.kind
             servers.new.register servers.new.queue servers.new.counter }
     {
@@ -166,6 +173,8 @@ impl<L: TellingLog> Course<L> {
             (⟦<Lines<L> as AsLines>⟧.may_read self.old.lines) self.old.workers
             (⟦<Lines<L> as AsLines>⟧.fields self.new.lines)
             (⟦<Lines<L> as AsLines>⟧.may_read self.new.lines) self.new.workers result }
+        ensures disks { DisksGoOn (⟦<Lines<L> as AsLines>⟧.fields self.old.lines).works
+            (⟦<Lines<L> as AsLines>⟧.fields self.new.lines).works }
         ensures servers { AreServers R.kind Q.kind C.kind
             servers.new.register servers.new.queue servers.new.counter }
     {
@@ -185,6 +194,8 @@ impl<L: TellingLog> Course<L> {
             (⟦<Lines<L> as AsLines>⟧.may_read self.old.lines) self.old.workers
             (⟦<Lines<L> as AsLines>⟧.fields self.new.lines)
             (⟦<Lines<L> as AsLines>⟧.may_read self.new.lines) self.new.workers result }
+        ensures disks { DisksGoOn (⟦<Lines<L> as AsLines>⟧.fields self.old.lines).works
+            (⟦<Lines<L> as AsLines>⟧.fields self.new.lines).works }
     {
         self.lines.stop(line, node, calls)?;
         Ok(None)
@@ -203,6 +214,8 @@ impl<L: TellingLog> Course<L> {
             (⟦<Lines<L> as AsLines>⟧.may_read self.old.lines) self.old.workers
             (⟦<Lines<L> as AsLines>⟧.fields self.new.lines)
             (⟦<Lines<L> as AsLines>⟧.may_read self.new.lines) self.new.workers result }
+        ensures disks { DisksGoOn (⟦<Lines<L> as AsLines>⟧.fields self.old.lines).works
+            (⟦<Lines<L> as AsLines>⟧.fields self.new.lines).works }
     {
         match self.lines.restart(node)? {
             Restart::Stood => Ok(None),
@@ -210,7 +223,7 @@ impl<L: TellingLog> Course<L> {
                 self.workers.forget();
                 Ok(None)
             }
-            Restart::Failed => Err(CourseFault::RestartFailed(node)),
+            Restart::Failed => Err(CourseFault::RestartFailed),
         }
     }
 }

@@ -1,8 +1,12 @@
 //! The nodes of a cluster before its first line, each formatted over the disk at its place.
-ghost use Rattle.std.specs.Prelude.{◌≡◌, ◌+◌, ◌≤◌, ◌<◌, ◌++◌, ◌∷◌, [], IfErr, IfOk, OnErr, OnOk, length, vec_capacity, vec_len};
+ghost use Rattle.std.specs.Prelude.{◌≡◌, ◌+◌, ◌≤◌, ◌<◌, ◌++◌, ◌∷◌, [], IfErr, IfOk, OnErr, OnOk, length, map, vec_capacity, vec_len};
 ghost use Rattle.cam_node.specs.Opened.{MayRead};
-ghost use Rattle.cam_cluster.specs.Founding.{AreHandedBack, AreNewNodes, AreTakenOut, IsFaultAmong, IsHandedBack, IsNewNode, fault_at};
+ghost use Rattle.cam_base.specs.Causes.{Rose};
+ghost use Rattle.cam_node.specs.declared.fault.NodeFault.TheVariants.{DiskFault};
+ghost use Rattle.cam_cluster.specs.Founding.{AreNewNodes, AreTakenOut, IsNewNode, fault_at};
+ghost use Rattle.cam_cluster.specs.HandedBack.{AreHandedBack, AreLater, HasCause, IsLater};
 
+use crate::fault::RunFault;
 use cam_base::NoMemory;
 use cam_ckpt::{CheckpointLog, Ckpt};
 use cam_disk::{Disk, StopDisk};
@@ -10,17 +14,6 @@ use cam_log::EntryLog;
 use cam_node::{FormatRefused, Node, NodeFault};
 use cam_type::Objects;
 use std::alloc::Global;
-use thiserror::Error;
-
-/// Why no cluster was made.
-#[derive(Clone, Copy, Debug, PartialEq, Eq, Error)]
-pub enum ClusterFault {
-    /// The disk of the node of this number failed while it was formatted.
-    #[error("the disk of a node failed")]
-    DiskFault(u8),
-    #[error("out of memory")]
-    NoMemory,
-}
 
 /// What contracts see of a node.
 pub(crate) trait AsPart {
@@ -58,12 +51,12 @@ fn push_owned<T: Drop>(list: &mut Vec<T>, value: T)
 }
 
 /// Why no cluster was made, where the node of this number was refused.
-fn fault_at(number: u8, fault: NodeFault) -> ClusterFault
+fn fault_at(number: u8, fault: NodeFault) -> RunFault
     ensures { result ≡ fault_at number fault }
 {
     match fault {
-        NodeFault::DiskFault => ClusterFault::DiskFault(number),
-        NodeFault::NoMemory => ClusterFault::NoMemory,
+        NodeFault::DiskFault => RunFault::DiskFault(number),
+        NodeFault::NoMemory => RunFault::NoMemory,
     }
 }
 
@@ -89,12 +82,12 @@ fn found_one<D: Disk>(
     requires { (1 ≤ number) × (number ≤ 8) }
     ensures new { IfOk result (λ node. IsNewNode objects.now number
         (⟦<Node<Ckpt<StopDisk<D>>> as AsPart>⟧.part node)) }
-    ensures tells { IfOk result
-        (λ node. ⟦<Ckpt<StopDisk<D>> as EntryLog>⟧.tells node.log.log ≡ D.tells disk) }
-    ensures later { IfOk result (λ node. D.faults disk
-        ≤ ⟦<Ckpt<StopDisk<D>> as EntryLog>⟧.faults_within node.log.log) }
-    ensures back { IfErr result (λ refused. IsHandedBack D.tells D.faults
-        (fault_at number refused.fault) number disk refused.disk) }
+    ensures later { IfOk result (λ node. IsLater D.tells D.faults (λ n. n.tells) (λ n. n.failures)
+        disk (⟦<Node<Ckpt<StopDisk<D>>> as AsPart>⟧.part node)) }
+    ensures back { IfErr result (λ refused. IsLater D.tells D.faults D.tells D.faults
+        disk refused.disk) }
+    ensures cause { IfErr result (λ refused. refused.fault ≡ DiskFault
+        → Rose (D.faults disk) (D.faults refused.disk)) }
 {
     let own = match copy_objects(alloc, objects) {
         Ok(own) => own,
@@ -121,18 +114,20 @@ pub(crate) fn found<D: Disk>(
     objects: &Objects,
     disks: &mut Vec<D>,
     nodes: &mut Vec<Node<Ckpt<StopDisk<D>>>>,
-) -> Result<(), ClusterFault>
+) -> Result<(), RunFault>
     requires eight { vec_len disks.old ≤ 8 }
     requires none { nodes.old.items ≡ [] }
     requires room { vec_len disks.old ≤ vec_capacity nodes.old }
     ensures new { OnOk result (AreNewNodes (⟦<Node<Ckpt<StopDisk<D>>> as AsPart>⟧.part)
         objects.now 1 nodes.new.items) }
     ensures count { OnOk result (length nodes.new.items ≡ length disks.old.items) }
+    ensures later { OnOk result (AreLater D.tells D.faults (λ n. n.tells) (λ n. n.failures)
+        disks.old.items (map (⟦<Node<Ckpt<StopDisk<D>>> as AsPart>⟧.part) nodes.new.items)) }
     ensures empty { OnOk result (disks.new.items ≡ []) }
-    ensures back { IfErr result (λ fault. AreHandedBack D.tells D.faults fault 1 disks.old.items
-        disks.new.items) }
+    ensures back { OnErr result
+        (AreHandedBack D.tells D.faults disks.old.items disks.new.items) }
+    ensures cause { IfErr result (HasCause D.faults disks.old.items disks.new.items) }
     ensures none { OnErr result (nodes.new.items ≡ []) }
-    ensures of_one { IfErr result (λ fault. IsFaultAmong (length disks.old.items) fault) }
     ensures capacity { (vec_capacity disks.old ≤ vec_capacity disks.new)
         × (vec_capacity nodes.old ≤ vec_capacity nodes.new) }
 {
@@ -168,6 +163,9 @@ pub(crate) fn take_out<D: Disk>(nodes: &mut Vec<Node<Ckpt<StopDisk<D>>>>, disks:
         (λ node. MayRead (⟦<Ckpt<StopDisk<D>> as EntryLog>⟧.opens_since node.log.log)
         (⟦<Ckpt<StopDisk<D>> as EntryLog>⟧.moment node.log.log))
         D.tells D.moment D.left_since nodes.old.items disks.new.items }
+    // Each tells what it holds just where the node's log did, and no count of faults fell.
+    ensures later { AreLater (λ n. n.tells) (λ n. n.failures) D.tells D.faults
+        (map (⟦<Node<Ckpt<StopDisk<D>>> as AsPart>⟧.part) nodes.old.items) disks.new.items }
     ensures count { length disks.new.items ≡ length nodes.old.items }
     ensures capacity { vec_capacity disks.old ≤ vec_capacity disks.new }
 {

@@ -8,6 +8,7 @@ ghost use Rattle.cam_node.specs.Numbers.{MayStep};
 ghost use Rattle.cam_node.specs.Refused.{IsNotRefused};
 ghost use Rattle.cam_node.specs.Calls.{answers};
 ghost use Rattle.cam_wire.specs.Writable.{IsWritable};
+ghost use Rattle.cam_cluster.specs.Failing.{DisksGoOn};
 ghost use Rattle.cam_cluster.specs.Servers.{AreServers};
 ghost use Rattle.cam_cluster.specs.SoFar.{HasLed, HasRefused, IsBinding, KeepsLinesAsBefore, bound_by};
 
@@ -31,6 +32,7 @@ mod tell;
 
 use crate::room::{push_reserved, reserve_one};
 use crate::servers::Servers;
+use crate::telling::TellingLog;
 use crate::works::{AsWorks, Put, Works};
 use cam_base::NoMemory;
 use cam_ckpt::CheckpointLog;
@@ -123,7 +125,7 @@ pub(crate) fn bound_after(done: Put, input: &Input, events: &[Event]) -> Option<
     }
 }
 
-impl<L: CheckpointLog> Lines<L> {
+impl<L: TellingLog> Lines<L> {
     /// Puts the input of a line to the node at a place, against which nothing stands there, and binds the line's variable. Where
     /// memory runs out the lines are those before.
     #[tactic(none)]
@@ -148,6 +150,8 @@ impl<L: CheckpointLog> Lines<L> {
         ensures as_before { OnErr result (KeepsLinesAsBefore
             (⟦<Lines<L> as AsLines>⟧.fields self.old) (⟦<Lines<L> as AsLines>⟧.may_read self.old)
             (⟦<Lines<L> as AsLines>⟧.fields self.new) (⟦<Lines<L> as AsLines>⟧.may_read self.new)) }
+        ensures disks { DisksGoOn (⟦<Lines<L> as AsLines>⟧.fields self.old).works
+            (⟦<Lines<L> as AsLines>⟧.fields self.new).works }
         ensures servers { AreServers R.kind Q.kind C.kind
             servers.new.register servers.new.queue servers.new.counter }
     {
@@ -167,6 +171,8 @@ impl<L: CheckpointLog> Lines<L> {
         ensures as_before { OnErr result (KeepsLinesAsBefore
             (⟦<Lines<L> as AsLines>⟧.fields self.old) (⟦<Lines<L> as AsLines>⟧.may_read self.old)
             (⟦<Lines<L> as AsLines>⟧.fields self.new) (⟦<Lines<L> as AsLines>⟧.may_read self.new)) }
+        ensures disks { DisksGoOn (⟦<Lines<L> as AsLines>⟧.fields self.old).works
+            (⟦<Lines<L> as AsLines>⟧.fields self.new).works }
     {
         reserve_one(&mut self.works.marks)?;
         reserve_one(&mut self.bound)?;

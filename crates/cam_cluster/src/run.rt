@@ -3,21 +3,25 @@ ghost use Rattle.std.specs.Prelude.{◌≡◌, ◌≤◌, [], IfErr, IfOk, OnErr
 ghost use Rattle.std.specs.List.{AllByRecursion};
 ghost use Rattle.cam_script.specs.declared.Script.{Script as ScriptFields};
 ghost use Rattle.cam_script.specs.Law.{IsScript};
-ghost use Rattle.cam_cluster.specs.Disks.{AreLogs, IsLater, IsOfFormatting, MayReadDisk, run_fault};
+ghost use Rattle.cam_cluster.specs.Disks.{AreLogs, MayReadDisk};
+ghost use Rattle.cam_cluster.specs.HandedBack.{AreHandedBack, AreLater, HasCause};
 ghost use Rattle.cam_cluster.specs.Servers.{AreServers};
 ghost use Rattle.cam_cluster.specs.Courses.{KeepsCourse};
+ghost use Rattle.cam_cluster.specs.declared.works.failing.Failed.TheVariants.{Nothing};
+ghost use Rattle.cam_cluster.specs.Failing.{DisksGoOn, IsOfKnown};
 ghost use Rattle.cam_cluster.specs.Founding.{before_first};
 ghost use Rattle.cam_cluster.specs.Works.{IsUnfailing};
 ghost use Rattle.cam_cluster.specs.WholeRuns.{HasTakenLines, HasTakenNext, IsNextOfRun, IsRunWithLogs};
 
 use crate::LineFault;
 use crate::course::{Course, CourseFault};
-use crate::founding::{ClusterFault, take_out};
+use crate::fault::RunFault;
+use crate::founding::take_out;
 use crate::lines::{AsLines, Lines};
 use crate::servers::Servers;
 use crate::telling::TellingLog;
 use crate::workers::Workers;
-use cam_base::{NoMemory, Sequence};
+use cam_base::Sequence;
 use cam_ckpt::{CheckpointLog, Ckpt};
 use cam_disk::{StopDisk, TellingDisk};
 use cam_event::RunRecord;
@@ -25,43 +29,6 @@ use cam_node::Node;
 use cam_script::{Script, Step};
 use cam_type::DataType;
 use std::alloc::Global;
-use thiserror::Error;
-
-/// Why a script was not run to its end.
-#[derive(Clone, Copy, Debug, PartialEq, Eq, Error)]
-pub enum RunFault {
-    /// The disk of the node of this number failed while it was formatted.
-    #[error("the disk of a node failed while it was formatted")]
-    FormatFailed(u8),
-    /// The disk of the node of this number failed by itself, in a call that it did.
-    #[error("the disk of a node failed")]
-    DiskFault(u8),
-    /// The disk of the node of this number failed while the node restarted.
-    #[error("a restart failed")]
-    RestartFailed(u8),
-    #[error("out of memory")]
-    NoMemory,
-}
-
-impl From<NoMemory> for RunFault {
-    ghost use Rattle.cam_cluster.specs.declared.run.RunFault.TheVariants.{NoMemory as OutOfMemory};
-
-    ghost from_gives = { λ _ e. e ≡ OutOfMemory };
-
-    fn from(_: NoMemory) -> RunFault {
-        RunFault::NoMemory
-    }
-}
-
-/// Why a script was not run, where no cluster was made.
-fn fault_of(fault: ClusterFault) -> RunFault
-    ensures { result ≡ run_fault fault }
-{
-    match fault {
-        ClusterFault::DiskFault(node) => RunFault::FormatFailed(node),
-        ClusterFault::NoMemory => RunFault::NoMemory,
-    }
-}
 
 /// The run of a script: the course of its lines so far.
 #[derive(Drop)]
@@ -92,20 +59,23 @@ impl<D: TellingDisk> Run<Ckpt<StopDisk<D>>> {
         ensures count { IfOk result
             (λ run. length run.course.lines.works.nodes.items ≡ length disks.old.items) }
         ensures empty { OnOk result (disks.new.items ≡ []) }
-        ensures back { OnErr result (length disks.new.items ≡ length disks.old.items) }
-        ensures formatting { IfErr result (IsOfFormatting D.tells D.faults script.now.nodes
-            disks.old.items disks.new.items) }
+        // Each node's disk tells what it holds just where it did, and no count of faults fell.
+        ensures later { IfOk result (λ run. AreLater D.tells D.faults (λ n. n.tells)
+            (λ n. n.failures) disks.old.items
+            (⟦<Lines<Ckpt<StopDisk<D>>> as AsLines>⟧.fields run.course.lines).works.nodes) }
+        ensures nothing { IfOk result (λ run. run.course.lines.works.failed ≡ Nothing) }
+        ensures back { OnErr result
+            (AreHandedBack D.tells D.faults disks.old.items disks.new.items) }
+        ensures cause { IfErr result (HasCause D.faults disks.old.items disks.new.items) }
         ensures capacity { vec_capacity disks.old ≤ vec_capacity disks.new }
     {
-        match Lines::new(alloc, script, disks) {
-            Ok(lines) => Ok(Run {
-                course: Course {
-                    lines,
-                    workers: Workers::new(alloc),
-                },
-            }),
-            Err(fault) => Err(fault_of(fault)),
-        }
+        let lines = Lines::new(alloc, script, disks)?;
+        Ok(Run {
+            course: Course {
+                lines,
+                workers: Workers::new(alloc),
+            },
+        })
     }
 
     /// The record of the lines so far; the disks are back in their list, each at its place. It takes
@@ -118,8 +88,13 @@ impl<D: TellingDisk> Run<Ckpt<StopDisk<D>>> {
             (⟦<Lines<Ckpt<StopDisk<D>>> as AsLines>⟧.may_read self.course.lines)
             self.course.workers
             → IsRunWithLogs script (MayReadDisk D.tells D.moment D.left_since disks.new.items) result }
+        // Each tells what it holds just where the node's log did, and no count of faults fell.
+        ensures later { AreLater (λ n. n.tells) (λ n. n.failures) D.tells D.faults
+            (⟦<Lines<Ckpt<StopDisk<D>>> as AsLines>⟧.fields self.course.lines).works.nodes
+            disks.new.items }
         ensures count { length disks.new.items ≡ length self.course.lines.works.nodes.items }
         ensures logs { AreLogs D.tells D.moment D.left_since disks.new.items }
+        ensures capacity { vec_capacity disks.old ≤ vec_capacity disks.new }
     {
         let ended = self.into_ended();
         let mut nodes = ended.nodes;
@@ -129,24 +104,18 @@ impl<D: TellingDisk> Run<Ckpt<StopDisk<D>>> {
 }
 
 impl<L: TellingLog> Run<L> {
-    /// Fails where something has failed by itself: memory ran out in an append, or a disk failed a call that it did.
+    /// Fails where something has failed by itself.
     fn unfailing(&self) -> Result<(), RunFault>
-        ensures not_of_formatting { IfErr result IsLater }
         ensures unfailing { OnOk result (IsUnfailing
-            (⟦<Lines<L> as AsLines>⟧.fields self.now.course.lines).works.starved
+            (⟦<Lines<L> as AsLines>⟧.fields self.now.course.lines).works.failed
             (⟦<Lines<L> as AsLines>⟧.fields self.now.course.lines).works.nodes) }
+        ensures cause { IfErr result (IsOfKnown self.now.course.lines.works.failed) }
     {
-        if self.course.lines.works.starved {
-            return Err(RunFault::NoMemory);
-        }
-        match self.course.lines.works.first_failed() {
-            Some(node) => Err(RunFault::DiskFault(node)),
-            None => Ok(()),
-        }
+        self.course.lines.works.failed.told()
     }
 
-    /// Takes the next line of the script, which may be refused. It fails where something failed by itself in it, but no clause says
-    /// that it fails for such a reason.
+    /// Takes the next line of the script, which may be refused. It fails where something failed by
+    /// itself in it.
     fn take_next<R: DataType, Q: DataType, C: DataType>(
         &mut self,
         script: &Script,
@@ -158,9 +127,11 @@ impl<L: TellingLog> Run<L> {
             (⟦<Lines<L> as AsLines>⟧.may_read self.old.course.lines) self.old.course.workers }
         requires servers { AreServers R.kind Q.kind C.kind
             servers.old.register servers.old.queue servers.old.counter }
+        ensures disks { DisksGoOn (⟦<Lines<L> as AsLines>⟧.fields self.old.course.lines).works
+            (⟦<Lines<L> as AsLines>⟧.fields self.new.course.lines).works }
         ensures as_many { length self.new.course.lines.works.nodes.items
             ≡ length self.old.course.lines.works.nodes.items }
-        ensures not_of_formatting { IfErr result IsLater }
+        ensures cause { IfErr result (IsOfKnown self.new.course.lines.works.failed) }
         ensures taken { OnOk result (HasTakenNext script.now step.now
             (⟦<Lines<L> as AsLines>⟧.fields self.old.course.lines)
             (⟦<Lines<L> as AsLines>⟧.may_read self.old.course.lines) self.old.course.workers
@@ -173,11 +144,12 @@ impl<L: TellingLog> Run<L> {
             Ok(_) => self.unfailing(),
             Err(CourseFault::Line(LineFault::Refused(_))) => self.unfailing(),
             Err(CourseFault::Line(LineFault::NoMemory)) => Err(RunFault::NoMemory),
-            Err(CourseFault::RestartFailed(node)) => Err(RunFault::RestartFailed(node)),
+            Err(CourseFault::RestartFailed) => self.unfailing(),
         }
     }
 
-    /// Takes all lines of the script, of which none is taken yet. It fails at once where something has failed by itself.
+    /// Takes all lines of the script, of which none is taken yet. It fails at once where something
+    /// fails by itself.
     fn take_all<R: DataType, Q: DataType, C: DataType>(
         &mut self,
         script: &Script,
@@ -186,18 +158,20 @@ impl<L: TellingLog> Run<L> {
         requires before_first { KeepsCourse (before_first script.now)
             (⟦<Lines<L> as AsLines>⟧.fields self.old.course.lines)
             (⟦<Lines<L> as AsLines>⟧.may_read self.old.course.lines) self.old.course.workers }
+        requires nothing { self.old.course.lines.works.failed ≡ Nothing }
         requires servers { AreServers R.kind Q.kind C.kind
             servers.old.register servers.old.queue servers.old.counter }
+        ensures disks { DisksGoOn (⟦<Lines<L> as AsLines>⟧.fields self.old.course.lines).works
+            (⟦<Lines<L> as AsLines>⟧.fields self.new.course.lines).works }
         ensures as_many { length self.new.course.lines.works.nodes.items
             ≡ length self.old.course.lines.works.nodes.items }
-        ensures not_of_formatting { IfErr result IsLater }
+        ensures cause { IfErr result (IsOfKnown self.new.course.lines.works.failed) }
         ensures all { OnOk result (HasTakenLines script.now (length script.now.steps)
             (⟦<Lines<L> as AsLines>⟧.fields self.new.course.lines)
             (⟦<Lines<L> as AsLines>⟧.may_read self.new.course.lines) self.new.course.workers) }
         ensures servers { AreServers R.kind Q.kind C.kind
             servers.new.register servers.new.queue servers.new.counter }
     {
-        self.unfailing()?;
         for step in script.steps.as_slice() {
             self.take_next(script, step, servers)?;
         }
@@ -229,10 +203,10 @@ impl<L: TellingLog> Run<L> {
 /// halts just where such a line cuts its append off. However the run ends, the disks are back in
 /// their list, each at its place.
 ///
-/// The servers do the operations of its objects. The run ends by `FormatFailed` where a disk fails
-/// while it is formatted, by `DiskFault` where one fails by itself behind that, or had failed before,
-/// by `RestartFailed` where one fails while its node restarts, and by `NoMemory` where memory runs
-/// out. But for `FormatFailed` no clause says that a fault has such a cause, nor of which node it is.
+/// The servers do the operations of its objects. The run ends by `DiskFault` where the disk of a
+/// node fails by itself, in a call that it does: while it is formatted, in a line, or while its node
+/// restarts. That disk's count of faults rose then; how often it had failed before does not matter.
+/// It ends by `NoMemory` where memory runs out.
 pub fn run_script<D: TellingDisk, R: DataType, Q: DataType, C: DataType>(
     alloc: Global,
     script: &Script,
@@ -245,10 +219,12 @@ pub fn run_script<D: TellingDisk, R: DataType, Q: DataType, C: DataType>(
         servers.old.register servers.old.queue servers.old.counter }
     ensures run { IfOk result (IsRunWithLogs script.now
         (MayReadDisk D.tells D.moment D.left_since disks.new.items)) }
-    ensures disks { length disks.new.items ≡ length disks.old.items }
+    ensures disks { AreHandedBack D.tells D.faults disks.old.items disks.new.items }
     ensures logs { OnOk result (AreLogs D.tells D.moment D.left_since disks.new.items) }
-    ensures formatting { IfErr result (IsOfFormatting D.tells D.faults script.now.nodes
-        disks.old.items disks.new.items) }
+    // A disk is named only where it failed by itself in the run.
+    ensures cause { IfErr result (HasCause D.faults disks.old.items disks.new.items) }
+    // The list keeps its room.
+    ensures capacity { vec_capacity disks.old ≤ vec_capacity disks.new }
     ensures servers { AreServers R.kind Q.kind C.kind
         servers.new.register servers.new.queue servers.new.counter }
 {

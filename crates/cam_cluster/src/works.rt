@@ -1,15 +1,15 @@
 //! The nodes of a cluster, the letters between them, and what they did. An input is put to one node: its event is added to the
 //! events and its letters are put next, or the node halts.
-ghost use Rattle.std.specs.Prelude.{◌≡◌, ◌+◌, ◌≤◌, ◌<◌, ◌++◌, ◌∷◌, [], IfOk, IfSome, IsFalse, IsTrue, OnErr, OnOk, length, set, slice_get, suc, true, false, vec_capacity, vec_len};
+ghost use Rattle.std.specs.Prelude.{◌≡◌, ◌+◌, ◌≤◌, ◌<◌, ◌++◌, ◌∷◌, [], IfOk, IfSome, IsFalse, OnErr, OnOk, length, set, slice_get, suc, true, false, vec_capacity, vec_len};
 ghost use Rattle.cam_event.specs.declared.Mark.TheVariants as marks;
 ghost use Rattle.std.specs.List.{AllByRecursion};
 ghost use Rattle.cam_net.specs.Outbox.{HasPutSome};
 ghost use Rattle.cam_net.specs.Waiting.{is_halted};
-ghost use Rattle.cam_node.specs.declared.fault.NodeFault.TheVariants.{DiskFault};
 ghost use Rattle.cam_node.specs.Numbers.{MayStep};
 ghost use Rattle.cam_node.specs.Refused.{IsNotRefused};
 ghost use Rattle.cam_node.specs.Calls.{answers};
 ghost use Rattle.cam_wire.specs.Writable.{IsWritable};
+ghost use Rattle.cam_cluster.specs.Failing.{DisksGoOn, IsAfterHalt};
 ghost use Rattle.cam_cluster.specs.Puts.{HasPut, KeepsAsBefore, letter_of};
 ghost use Rattle.cam_cluster.specs.Servers.{AreServers};
 
@@ -28,6 +28,7 @@ mod undecided;
 
 use crate::room::{push_reserved, reserve_one};
 use crate::servers::Servers;
+use crate::telling::TellingLog;
 use cam_base::NoMemory;
 use cam_ckpt::CheckpointLog;
 use cam_event::{LetterId, Mark};
@@ -35,6 +36,7 @@ use cam_log::EntryLog;
 use cam_net::Outbox;
 use cam_node::{Input, Node, NodeFault, Stepped};
 use cam_type::DataType;
+pub(crate) use failing::Failed;
 pub(crate) use go::give_body;
 pub(crate) use letters::Coming;
 pub(crate) use numbered::NumberedEvents;
@@ -57,8 +59,8 @@ pub(crate) struct Works<L: CheckpointLog> {
     pub(crate) nodes: Vec<Node<L>>,
     pub(crate) outbox: Outbox,
     pub(crate) halted: [bool; 8],
-    /// Whether a node halted as memory ran out in its step, and not by its disk.
-    pub(crate) starved: bool,
+    /// What has failed by itself.
+    pub(crate) failed: Failed,
     /// The halts of which no restart has told yet whether they are taken, the newest first.
     pub(crate) undecided: Vec<OpenHalt>,
     pub(crate) events: NumberedEvents,
@@ -95,7 +97,7 @@ impl<L: CheckpointLog> AsWorks for Works<L> {
       }) works.nodes.items;
       outbox = works.outbox;
       halted = works.halted;
-      starved = works.starved;
+      failed = works.failed;
       undecided = works.undecided.items;
       events = works.events.events.items;
       marks = works.marks.items;
@@ -122,7 +124,7 @@ fn received_in(input: &Input) -> Option<LetterId>
     }
 }
 
-impl<L: CheckpointLog> Works<L> {
+impl<L: TellingLog> Works<L> {
     /// Puts an input to the node at a place, against which nothing stands there.
     ///
     /// Its event stands and its letters are put next; or the node halted, which leaves a mark. Where memory runs out before
@@ -148,11 +150,14 @@ impl<L: CheckpointLog> Works<L> {
         ensures as_before { OnErr result (KeepsAsBefore
             (⟦<Works<L> as AsWorks>⟧.fields self.old) (⟦<Works<L> as AsWorks>⟧.may_read self.old)
             (⟦<Works<L> as AsWorks>⟧.fields self.new) (⟦<Works<L> as AsWorks>⟧.may_read self.new)) }
+        ensures disks { DisksGoOn (⟦<Works<L> as AsWorks>⟧.fields self.old)
+            (⟦<Works<L> as AsWorks>⟧.fields self.new) }
         ensures net { length self.old.outbox.net ≤ length self.new.outbox.net }
         ensures servers { AreServers R.kind Q.kind C.kind
             servers.new.register servers.new.queue servers.new.counter }
     {
         self.make_room()?;
+        let before = self.nodes[place].log().failures();
         match self.nodes[place].step(
             input,
             &mut servers.register,
@@ -160,10 +165,12 @@ impl<L: CheckpointLog> Works<L> {
             &mut servers.counter,
         ) {
             Ok(stepped) => {
+                self.failed = self.failed_since(place, before);
                 self.stand(stepped);
                 Ok(Put::Stood)
             }
             Err(fault) => {
+                self.failed = self.failed_since(place, before);
                 if !self.nodes[place].is_halted() {
                     return Err(NoMemory);
                 }
@@ -178,7 +185,7 @@ impl<L: CheckpointLog> Works<L> {
         requires { AllByRecursion IsWritable self.old.outbox.unput }
         ensures nodes { self.new.nodes ≡ self.old.nodes }
         ensures halted { self.new.halted ≡ self.old.halted }
-        ensures starved { self.new.starved ≡ self.old.starved }
+        ensures failed { self.new.failed ≡ self.old.failed }
         ensures undecided { self.new.undecided.items ≡ self.old.undecided.items }
         ensures events { self.new.events.events.items ≡ self.old.events.events.items }
         ensures marks { self.new.marks.items ≡ self.old.marks.items }
@@ -209,7 +216,7 @@ impl<L: CheckpointLog> Works<L> {
         requires none { self.old.outbox.unput ≡ [] }
         ensures nodes { self.new.nodes ≡ self.old.nodes }
         ensures halted { self.new.halted ≡ self.old.halted }
-        ensures starved { self.new.starved ≡ self.old.starved }
+        ensures failed { self.new.failed ≡ self.old.failed }
         ensures undecided { self.new.undecided ≡ self.old.undecided }
         ensures events { self.new.events.events.items ≡ self.old.events.events.items ++ stepped.event ∷ [] }
         ensures marks { self.new.marks ≡ self.old.marks }
@@ -226,8 +233,7 @@ impl<L: CheckpointLog> Works<L> {
         requires halt_room { vec_len self.old.undecided < vec_capacity self.old.undecided }
         ensures nodes { self.new.nodes ≡ self.old.nodes }
         ensures halted { self.new.halted ≡ set self.old.halted place true }
-        ensures starved { IsFalse self.new.starved
-            → IsFalse self.old.starved × (fault ≡ DiskFault) }
+        ensures failed { IsAfterHalt fault self.old.failed self.new.failed }
         ensures undecided { self.new.undecided.items ≡ record {
           node = place + 1;
           before = length self.old.events.events.items;
@@ -239,9 +245,7 @@ impl<L: CheckpointLog> Works<L> {
     {
         let node = place as u8 + 1;
         self.halted[place] = true;
-        if matches!(fault, NodeFault::NoMemory) {
-            self.starved = true;
-        }
+        self.failed = self.failed.after_halt(fault);
         let halt = OpenHalt {
             node,
             before: self.events.len(),

@@ -2,6 +2,7 @@
 //! not delivered; else it is delivered.
 ghost use Rattle.std.specs.Prelude.{OnErr, OnOk};
 ghost use Rattle.cam_script.specs.declared.Act.TheVariants as acts;
+ghost use Rattle.cam_cluster.specs.Failing.{DisksGoOn};
 ghost use Rattle.cam_cluster.specs.LetterLines.{HasMarkedCut, IsCut, IsLineBy};
 ghost use Rattle.cam_cluster.specs.Servers.{AreServers};
 ghost use Rattle.cam_cluster.specs.SoFar.{AreLinesOfSome, KeepsLinesAsBefore};
@@ -11,9 +12,9 @@ use crate::LineFault;
 use crate::arrival::Arrival;
 use crate::room::{push_reserved, reserve_one};
 use crate::servers::Servers;
+use crate::telling::TellingLog;
 use crate::works::Put;
 use cam_base::NoMemory;
-use cam_ckpt::CheckpointLog;
 use cam_event::{LetterFault, Mark};
 use cam_type::DataType;
 use cam_wire::WireFault;
@@ -27,7 +28,7 @@ pub(crate) enum CutLetter {
     Delivered(Put),
 }
 
-impl<L: CheckpointLog> Lines<L> {
+impl<L: TellingLog> Lines<L> {
     /// Delivers a letter of which no more than so many bytes arrive.
     #[tactic(none)]
     pub(crate) fn cut<R: DataType, Q: DataType, C: DataType>(
@@ -44,6 +45,8 @@ impl<L: CheckpointLog> Lines<L> {
         ensures line { IsLineBy line (acts.Cut letter bytes) (IsCut letter bytes)
             (⟦<Lines<L> as AsLines>⟧.fields self.old) (⟦<Lines<L> as AsLines>⟧.may_read self.old)
             (⟦<Lines<L> as AsLines>⟧.fields self.new) (⟦<Lines<L> as AsLines>⟧.may_read self.new) result }
+        ensures disks { DisksGoOn (⟦<Lines<L> as AsLines>⟧.fields self.old).works
+            (⟦<Lines<L> as AsLines>⟧.fields self.new).works }
         ensures servers { AreServers R.kind Q.kind C.kind
             servers.new.register servers.new.queue servers.new.counter }
     {
@@ -69,6 +72,8 @@ impl<L: CheckpointLog> Lines<L> {
         ensures as_before { OnErr result (KeepsLinesAsBefore
             (⟦<Lines<L> as AsLines>⟧.fields self.old) (⟦<Lines<L> as AsLines>⟧.may_read self.old)
             (⟦<Lines<L> as AsLines>⟧.fields self.new) (⟦<Lines<L> as AsLines>⟧.may_read self.new)) }
+        ensures disks { DisksGoOn (⟦<Lines<L> as AsLines>⟧.fields self.old).works
+            (⟦<Lines<L> as AsLines>⟧.fields self.new).works }
     {
         reserve_one(&mut self.works.marks)?;
         reserve_one(&mut self.bound)?;

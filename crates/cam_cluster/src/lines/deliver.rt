@@ -1,6 +1,7 @@
 //! `deliver N`: the letter of this number is handed over to its node. The line is refused where it was never sent or is lost, and where
 //! its node is halted.
 ghost use Rattle.cam_script.specs.declared.Act.TheVariants as acts;
+ghost use Rattle.cam_cluster.specs.Failing.{DisksGoOn};
 ghost use Rattle.cam_cluster.specs.LetterLines.{IsDelivery, IsLineBy};
 ghost use Rattle.cam_cluster.specs.Servers.{AreServers};
 ghost use Rattle.cam_cluster.specs.SoFar.{AreLinesOfSome};
@@ -8,11 +9,11 @@ ghost use Rattle.cam_cluster.specs.SoFar.{AreLinesOfSome};
 use super::{AsLines, Lines};
 use crate::LineFault;
 use crate::servers::Servers;
+use crate::telling::TellingLog;
 use crate::works::Put;
-use cam_ckpt::CheckpointLog;
 use cam_type::DataType;
 
-impl<L: CheckpointLog> Lines<L> {
+impl<L: TellingLog> Lines<L> {
     /// Delivers a letter.
     #[tactic(none)]
     pub(crate) fn deliver<R: DataType, Q: DataType, C: DataType>(
@@ -28,6 +29,8 @@ impl<L: CheckpointLog> Lines<L> {
         ensures line { IsLineBy line (acts.Deliver letter) (IsDelivery letter)
             (⟦<Lines<L> as AsLines>⟧.fields self.old) (⟦<Lines<L> as AsLines>⟧.may_read self.old)
             (⟦<Lines<L> as AsLines>⟧.fields self.new) (⟦<Lines<L> as AsLines>⟧.may_read self.new) result }
+        ensures disks { DisksGoOn (⟦<Lines<L> as AsLines>⟧.fields self.old).works
+            (⟦<Lines<L> as AsLines>⟧.fields self.new).works }
         ensures servers { AreServers R.kind Q.kind C.kind
             servers.new.register servers.new.queue servers.new.counter }
     {

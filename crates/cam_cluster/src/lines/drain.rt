@@ -2,17 +2,18 @@
 //! refused.
 ghost use Rattle.std.specs.Prelude.{OnErr, OnOk};
 ghost use Rattle.cam_cluster.specs.Drains.{IsLineOfDrain, IsPartOfDrain};
+ghost use Rattle.cam_cluster.specs.Failing.{DisksGoOn};
 ghost use Rattle.cam_cluster.specs.Servers.{AreServers};
 ghost use Rattle.cam_cluster.specs.SoFar.{AreLinesOfSome};
 
 use super::{AsLines, Lines};
 use crate::room::{push_reserved, reserve_one};
 use crate::servers::Servers;
+use crate::telling::TellingLog;
 use cam_base::NoMemory;
-use cam_ckpt::CheckpointLog;
 use cam_type::DataType;
 
-impl<L: CheckpointLog> Lines<L> {
+impl<L: TellingLog> Lines<L> {
     /// Drains the network. Where memory runs out some letters were handed over, each event whole.
     #[tactic(none)]
     pub(crate) fn drain<R: DataType, Q: DataType, C: DataType>(
@@ -30,6 +31,8 @@ impl<L: CheckpointLog> Lines<L> {
         ensures part { OnErr result (IsPartOfDrain line
             (⟦<Lines<L> as AsLines>⟧.fields self.old) (⟦<Lines<L> as AsLines>⟧.may_read self.old)
             (⟦<Lines<L> as AsLines>⟧.fields self.new) (⟦<Lines<L> as AsLines>⟧.may_read self.new)) }
+        ensures disks { DisksGoOn (⟦<Lines<L> as AsLines>⟧.fields self.old).works
+            (⟦<Lines<L> as AsLines>⟧.fields self.new).works }
         ensures servers { AreServers R.kind Q.kind C.kind
             servers.new.register servers.new.queue servers.new.counter }
     {

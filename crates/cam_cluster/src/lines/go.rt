@@ -1,5 +1,6 @@
 //! `go A`: the action that a variable stands for makes the next request of its body, if it makes one now. The line is refused where no
 //! action stands for the variable, where the action's home is halted, and where the action has ended, waits, or is not open there.
+ghost use Rattle.cam_cluster.specs.Failing.{DisksGoOn};
 ghost use Rattle.cam_cluster.specs.GoLines.{IsGoOfSome, IsLineOfGo};
 ghost use Rattle.cam_cluster.specs.Servers.{AreServers};
 
@@ -7,15 +8,15 @@ use super::{AsLines, Lines};
 use crate::LineFault;
 use crate::room::{push_reserved, reserve_one};
 use crate::servers::Servers;
+use crate::telling::TellingLog;
 use crate::workers::Workers;
 use crate::works::{Put, is_halted};
-use cam_ckpt::CheckpointLog;
 use cam_event::{LineRefusal, Request, Want};
 use cam_node::Input;
 use cam_script::Bodies;
 use cam_type::DataType;
 
-impl<L: CheckpointLog> Lines<L> {
+impl<L: TellingLog> Lines<L> {
     /// An action makes the next request of its body, if it makes one now. Its home tests it as it tests a request to commit.
     #[tactic(none)]
     pub(crate) fn go<R: DataType, Q: DataType, C: DataType>(
@@ -35,6 +36,8 @@ impl<L: CheckpointLog> Lines<L> {
             workers.old
             (⟦<Lines<L> as AsLines>⟧.fields self.new) (⟦<Lines<L> as AsLines>⟧.may_read self.new)
             workers.new result }
+        ensures disks { DisksGoOn (⟦<Lines<L> as AsLines>⟧.fields self.old).works
+            (⟦<Lines<L> as AsLines>⟧.fields self.new).works }
         ensures servers { AreServers R.kind Q.kind C.kind
             servers.new.register servers.new.queue servers.new.counter }
     {

@@ -2,6 +2,7 @@
 ghost use Rattle.std.specs.Prelude.{◌≡◌, IfOk, OnErr, Some, [], false, suc};
 ghost use Rattle.cam_net.specs.Waiting.{is_halted};
 ghost use Rattle.cam_cluster.specs.Coming.{HasFound, HasRead};
+ghost use Rattle.cam_cluster.specs.Failing.{DisksGoOn};
 ghost use Rattle.cam_cluster.specs.LetterLines.{HasLedLetter, HasTaken};
 ghost use Rattle.cam_cluster.specs.Servers.{AreServers};
 ghost use Rattle.cam_cluster.specs.SoFar.{AreLinesOfSome, KeepsLinesAsBefore};
@@ -10,22 +11,24 @@ use super::{AsLines, Lines};
 use crate::LineFault;
 use crate::room::{push_reserved, reserve_one};
 use crate::servers::Servers;
+use crate::telling::TellingLog;
 use crate::works::{Coming, Put, is_halted};
 use cam_base::NoMemory;
-use cam_ckpt::CheckpointLog;
 use cam_event::{Letter, LineRefusal};
 use cam_type::DataType;
 
-impl<L: CheckpointLog> Lines<L> {
+impl<L: TellingLog> Lines<L> {
     /// The letter of a number, for a line that hands it over. The line is refused where the letter was never sent or is lost, and
     /// where its node is halted.
     #[tactic(none)]
     pub(super) fn take_letter(&mut self, line: u32, number: u32) -> Result<Coming, LineFault>
         requires stand { AreLinesOfSome (⟦<Lines<L> as AsLines>⟧.fields self.old)
             (⟦<Lines<L> as AsLines>⟧.may_read self.old) }
-        ensures { HasTaken line number
+        ensures taken { HasTaken line number
             (⟦<Lines<L> as AsLines>⟧.fields self.old) (⟦<Lines<L> as AsLines>⟧.may_read self.old)
             (⟦<Lines<L> as AsLines>⟧.fields self.new) (⟦<Lines<L> as AsLines>⟧.may_read self.new) result }
+        ensures disks { DisksGoOn (⟦<Lines<L> as AsLines>⟧.fields self.old).works
+            (⟦<Lines<L> as AsLines>⟧.fields self.new).works }
     {
         self.works.put_letters()?;
         let Some(coming) = self.works.coming(number) else {
@@ -65,6 +68,8 @@ impl<L: CheckpointLog> Lines<L> {
         ensures as_before { OnErr result (KeepsLinesAsBefore
             (⟦<Lines<L> as AsLines>⟧.fields self.old) (⟦<Lines<L> as AsLines>⟧.may_read self.old)
             (⟦<Lines<L> as AsLines>⟧.fields self.new) (⟦<Lines<L> as AsLines>⟧.may_read self.new)) }
+        ensures disks { DisksGoOn (⟦<Lines<L> as AsLines>⟧.fields self.old).works
+            (⟦<Lines<L> as AsLines>⟧.fields self.new).works }
         ensures servers { AreServers R.kind Q.kind C.kind
             servers.new.register servers.new.queue servers.new.counter }
     {

@@ -1,11 +1,14 @@
 //! The lines of a script before its first.
-ghost use Rattle.std.specs.Prelude.{◌≡◌, ◌≤◌, [], IfErr, IfOk, OnOk, length, vec_capacity};
+ghost use Rattle.std.specs.Prelude.{◌≡◌, ◌≤◌, [], IfErr, IfOk, OnErr, OnOk, length, vec_capacity};
 ghost use Rattle.cam_script.specs.Law.{IsScript};
 ghost use Rattle.cam_cluster.specs.Between.{KeepsBetween};
-ghost use Rattle.cam_cluster.specs.Founding.{AreHandedBack, IsFaultAmong, before_first};
+ghost use Rattle.cam_cluster.specs.declared.works.failing.Failed.TheVariants.{Nothing};
+ghost use Rattle.cam_cluster.specs.Founding.{before_first};
+ghost use Rattle.cam_cluster.specs.HandedBack.{AreHandedBack, AreLater, HasCause};
 
 use super::{AsLines, Lines};
-use crate::founding::{ClusterFault, found};
+use crate::fault::RunFault;
+use crate::founding::found;
 use crate::works::Works;
 use cam_ckpt::Ckpt;
 use cam_disk::{Disk, StopDisk};
@@ -20,7 +23,7 @@ impl<D: Disk> Lines<Ckpt<StopDisk<D>>> {
         alloc: Global,
         script: &Script,
         disks: &mut Vec<D>,
-    ) -> Result<Lines<Ckpt<StopDisk<D>>>, ClusterFault>
+    ) -> Result<Lines<Ckpt<StopDisk<D>>>, RunFault>
         requires script { IsScript script.now }
         requires one_each { length disks.old.items ≡ script.now.nodes }
         ensures before_first { IfOk result (λ lines. KeepsBetween (before_first script.now)
@@ -28,15 +31,20 @@ impl<D: Disk> Lines<Ckpt<StopDisk<D>>> {
             (⟦<Lines<Ckpt<StopDisk<D>>> as AsLines>⟧.may_read lines)) }
         ensures count { IfOk result
             (λ lines. length lines.works.nodes.items ≡ length disks.old.items) }
+        // Each node's disk tells what it holds just where it did, and no count of faults fell.
+        ensures later { IfOk result (λ lines. AreLater D.tells D.faults (λ n. n.tells)
+            (λ n. n.failures) disks.old.items
+            (⟦<Lines<Ckpt<StopDisk<D>>> as AsLines>⟧.fields lines).works.nodes) }
+        ensures nothing { IfOk result (λ lines. lines.works.failed ≡ Nothing) }
         ensures empty { OnOk result (disks.new.items ≡ []) }
-        ensures back { IfErr result (λ fault. AreHandedBack D.tells D.faults fault 1
-            disks.old.items disks.new.items) }
-        ensures of_one { IfErr result (λ fault. IsFaultAmong script.now.nodes fault) }
+        ensures back { OnErr result
+            (AreHandedBack D.tells D.faults disks.old.items disks.new.items) }
+        ensures cause { IfErr result (HasCause D.faults disks.old.items disks.new.items) }
         ensures capacity { vec_capacity disks.old ≤ vec_capacity disks.new }
     {
         let mut nodes = match Vec::with_capacity(alloc, disks.len()) {
             Ok(nodes) => nodes,
-            Err(_) => return Err(ClusterFault::NoMemory),
+            Err(_) => return Err(RunFault::NoMemory),
         };
         match found(alloc, &script.objects, disks, &mut nodes) {
             Ok(()) => Ok(Lines {

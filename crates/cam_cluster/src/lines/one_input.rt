@@ -1,6 +1,7 @@
 //! A line that puts one input to a node, unless it is refused: the node is halted, or something
 //! stands against the input there. And what a variable stands for.
 ghost use Rattle.std.specs.Prelude.{◌≡◌, ◌+◌, ◌-◌, length};
+ghost use Rattle.cam_cluster.specs.Failing.{DisksGoOn};
 ghost use Rattle.cam_cluster.specs.InputLines.{IsLineToSome, IsRefusedAs, IsTriedLine};
 ghost use Rattle.cam_cluster.specs.Servers.{AreServers};
 ghost use Rattle.cam_cluster.specs.VariableLines.{action_of};
@@ -8,15 +9,15 @@ ghost use Rattle.cam_cluster.specs.VariableLines.{action_of};
 use super::{AsLines, Lines};
 use crate::LineFault;
 use crate::servers::Servers;
+use crate::telling::TellingLog;
 use crate::works::{Put, is_halted};
 use cam_base::NoMemory;
-use cam_ckpt::CheckpointLog;
 use cam_event::LineRefusal;
 use cam_names::Name;
 use cam_node::Input;
 use cam_type::DataType;
 
-impl<L: CheckpointLog> Lines<L> {
+impl<L: TellingLog> Lines<L> {
     /// The action that a variable stands for; none where its line was refused or halted.
     pub(crate) fn action_of(&self, variable: u32) -> Option<Name>
         ensures { result ≡ action_of self.now.bound.items variable }
@@ -40,10 +41,12 @@ impl<L: CheckpointLog> Lines<L> {
     /// Refuses the line by this test: the fault that says so, or that memory ran out.
     #[tactic(none)]
     pub(crate) fn refused(&mut self, line: u32, refusal: LineRefusal) -> LineFault
-        ensures { IsRefusedAs line refusal
+        ensures refused { IsRefusedAs line refusal
             (⟦<Lines<L> as AsLines>⟧.fields self.old) (⟦<Lines<L> as AsLines>⟧.may_read self.old)
             (⟦<Lines<L> as AsLines>⟧.fields self.new) (⟦<Lines<L> as AsLines>⟧.may_read self.new)
             result }
+        ensures disks { DisksGoOn (⟦<Lines<L> as AsLines>⟧.fields self.old).works
+            (⟦<Lines<L> as AsLines>⟧.fields self.new).works }
     {
         match self.refuse(line, refusal) {
             Ok(()) => LineFault::Refused(refusal),
@@ -68,6 +71,8 @@ impl<L: CheckpointLog> Lines<L> {
             (⟦<Lines<L> as AsLines>⟧.fields self.old) (⟦<Lines<L> as AsLines>⟧.may_read self.old)
             (⟦<Lines<L> as AsLines>⟧.fields self.new) (⟦<Lines<L> as AsLines>⟧.may_read self.new)
             result }
+        ensures disks { DisksGoOn (⟦<Lines<L> as AsLines>⟧.fields self.old).works
+            (⟦<Lines<L> as AsLines>⟧.fields self.new).works }
         ensures servers { AreServers R.kind Q.kind C.kind
             servers.new.register servers.new.queue servers.new.counter }
     {

@@ -1,19 +1,20 @@
 //! `play`: rounds, in each of which the actions with a body make their next requests and the letters that wait are handed over, until
 //! the first without an input. The line is never refused.
 ghost use Rattle.std.specs.Prelude.{OnErr, OnOk};
+ghost use Rattle.cam_cluster.specs.Failing.{DisksGoOn};
 ghost use Rattle.cam_cluster.specs.Plays.{IsLineOfPlay, IsPartOfPlay, IsPlayOfSome};
 ghost use Rattle.cam_cluster.specs.Servers.{AreServers};
 
 use super::{AsLines, Lines};
 use crate::room::{push_reserved, reserve_one};
 use crate::servers::Servers;
+use crate::telling::TellingLog;
 use crate::workers::Workers;
 use cam_base::NoMemory;
-use cam_ckpt::CheckpointLog;
 use cam_script::Bodies;
 use cam_type::DataType;
 
-impl<L: CheckpointLog> Lines<L> {
+impl<L: TellingLog> Lines<L> {
     /// Plays the rounds. Where memory runs out some of its inputs were put, each event whole.
     #[tactic(none)]
     pub(crate) fn play<R: DataType, Q: DataType, C: DataType>(
@@ -37,6 +38,8 @@ impl<L: CheckpointLog> Lines<L> {
             workers.old
             (⟦<Lines<L> as AsLines>⟧.fields self.new) (⟦<Lines<L> as AsLines>⟧.may_read self.new)
             workers.new) }
+        ensures disks { DisksGoOn (⟦<Lines<L> as AsLines>⟧.fields self.old).works
+            (⟦<Lines<L> as AsLines>⟧.fields self.new).works }
         ensures servers { AreServers R.kind Q.kind C.kind
             servers.new.register servers.new.queue servers.new.counter }
     {

@@ -1,6 +1,7 @@
 //! Requests of the action that a variable stands for, each put to the action's home.
 ghost use Rattle.cam_event.specs.declared.Want.TheVariants as wants;
 ghost use Rattle.cam_script.specs.declared.Act.TheVariants as acts;
+ghost use Rattle.cam_cluster.specs.Failing.{DisksGoOn};
 ghost use Rattle.cam_cluster.specs.Servers.{AreServers};
 ghost use Rattle.cam_cluster.specs.VariableLines.{IsVariableLine, IsNextOfSome, IsRequestBySome};
 ghost use Rattle.cam_cluster.specs.VariableLines.{IsRequestLine, action_of, give_up_of, request_of};
@@ -8,13 +9,13 @@ ghost use Rattle.cam_cluster.specs.VariableLines.{IsRequestLine, action_of, give
 use super::{AsLines, Lines};
 use crate::LineFault;
 use crate::servers::Servers;
+use crate::telling::TellingLog;
 use crate::works::Put;
-use cam_ckpt::CheckpointLog;
 use cam_event::{LineRefusal, Request, Want};
 use cam_node::Input;
 use cam_type::{DataType, Op};
 
-impl<L: CheckpointLog> Lines<L> {
+impl<L: TellingLog> Lines<L> {
     /// Makes a request of the action that a variable stands for.
     #[tactic(none)]
     pub(crate) fn request<R: DataType, Q: DataType, C: DataType>(
@@ -32,6 +33,8 @@ impl<L: CheckpointLog> Lines<L> {
             (⟦<Lines<L> as AsLines>⟧.fields self.old) (⟦<Lines<L> as AsLines>⟧.may_read self.old)
             (⟦<Lines<L> as AsLines>⟧.fields self.new) (⟦<Lines<L> as AsLines>⟧.may_read self.new)
             result }
+        ensures disks { DisksGoOn (⟦<Lines<L> as AsLines>⟧.fields self.old).works
+            (⟦<Lines<L> as AsLines>⟧.fields self.new).works }
         ensures servers { AreServers R.kind Q.kind C.kind
             servers.new.register servers.new.queue servers.new.counter }
     {
@@ -64,6 +67,8 @@ impl<L: CheckpointLog> Lines<L> {
             (⟦<Lines<L> as AsLines>⟧.fields self.old) (⟦<Lines<L> as AsLines>⟧.may_read self.old)
             (⟦<Lines<L> as AsLines>⟧.fields self.new) (⟦<Lines<L> as AsLines>⟧.may_read self.new)
             result }
+        ensures disks { DisksGoOn (⟦<Lines<L> as AsLines>⟧.fields self.old).works
+            (⟦<Lines<L> as AsLines>⟧.fields self.new).works }
         ensures servers { AreServers R.kind Q.kind C.kind
             servers.new.register servers.new.queue servers.new.counter }
     {
@@ -90,6 +95,8 @@ impl<L: CheckpointLog> Lines<L> {
             (⟦<Lines<L> as AsLines>⟧.fields self.old) (⟦<Lines<L> as AsLines>⟧.may_read self.old)
             (⟦<Lines<L> as AsLines>⟧.fields self.new) (⟦<Lines<L> as AsLines>⟧.may_read self.new)
             result }
+        ensures disks { DisksGoOn (⟦<Lines<L> as AsLines>⟧.fields self.old).works
+            (⟦<Lines<L> as AsLines>⟧.fields self.new).works }
         ensures servers { AreServers R.kind Q.kind C.kind
             servers.new.register servers.new.queue servers.new.counter }
     {
@@ -115,6 +122,8 @@ impl<L: CheckpointLog> Lines<L> {
             (⟦<Lines<L> as AsLines>⟧.fields self.old) (⟦<Lines<L> as AsLines>⟧.may_read self.old)
             (⟦<Lines<L> as AsLines>⟧.fields self.new) (⟦<Lines<L> as AsLines>⟧.may_read self.new)
             result }
+        ensures disks { DisksGoOn (⟦<Lines<L> as AsLines>⟧.fields self.old).works
+            (⟦<Lines<L> as AsLines>⟧.fields self.new).works }
         ensures servers { AreServers R.kind Q.kind C.kind
             servers.new.register servers.new.queue servers.new.counter }
     {
@@ -139,6 +148,8 @@ impl<L: CheckpointLog> Lines<L> {
             (⟦<Lines<L> as AsLines>⟧.fields self.old) (⟦<Lines<L> as AsLines>⟧.may_read self.old)
             (⟦<Lines<L> as AsLines>⟧.fields self.new) (⟦<Lines<L> as AsLines>⟧.may_read self.new)
             result }
+        ensures disks { DisksGoOn (⟦<Lines<L> as AsLines>⟧.fields self.old).works
+            (⟦<Lines<L> as AsLines>⟧.fields self.new).works }
         ensures servers { AreServers R.kind Q.kind C.kind
             servers.new.register servers.new.queue servers.new.counter }
     {
@@ -165,6 +176,8 @@ impl<L: CheckpointLog> Lines<L> {
             (⟦<Lines<L> as AsLines>⟧.fields self.old) (⟦<Lines<L> as AsLines>⟧.may_read self.old)
             (⟦<Lines<L> as AsLines>⟧.fields self.new) (⟦<Lines<L> as AsLines>⟧.may_read self.new)
             result }
+        ensures disks { DisksGoOn (⟦<Lines<L> as AsLines>⟧.fields self.old).works
+            (⟦<Lines<L> as AsLines>⟧.fields self.new).works }
         ensures servers { AreServers R.kind Q.kind C.kind
             servers.new.register servers.new.queue servers.new.counter }
     {

@@ -1,6 +1,7 @@
 //! `stop NODE CALLS`: the node's disk does so many calls more. The line is refused where the node is halted.
 ghost use Rattle.std.specs.Prelude.{◌≤◌, length};
 ghost use Rattle.cam_script.specs.declared.Act.TheVariants as acts;
+ghost use Rattle.cam_cluster.specs.Failing.{DisksGoOn};
 ghost use Rattle.cam_cluster.specs.LetterLines.{IsLineBy};
 ghost use Rattle.cam_cluster.specs.SoFar.{AreLinesOfSome};
 ghost use Rattle.cam_cluster.specs.Stops.{IsStop};
@@ -8,12 +9,11 @@ ghost use Rattle.cam_cluster.specs.Stops.{IsStop};
 use super::{AsLines, Lines};
 use crate::LineFault;
 use crate::room::{push_reserved, reserve_one};
+use crate::telling::TellingLog;
 use crate::works::is_halted;
-use cam_ckpt::CheckpointLog;
 use cam_event::LineRefusal;
-use cam_log::StopLog;
 
-impl<L: CheckpointLog + StopLog> Lines<L> {
+impl<L: TellingLog> Lines<L> {
     /// Stops the disk of a node after this many calls more.
     #[tactic(none)]
     pub(crate) fn stop(&mut self, line: u32, node: u8, calls: u32) -> Result<(), LineFault>
@@ -25,6 +25,8 @@ impl<L: CheckpointLog + StopLog> Lines<L> {
             (⟦<Lines<L> as AsLines>⟧.fields self.old) (⟦<Lines<L> as AsLines>⟧.may_read self.old)
             (⟦<Lines<L> as AsLines>⟧.fields self.new) (⟦<Lines<L> as AsLines>⟧.may_read self.new)
             result }
+        ensures disks { DisksGoOn (⟦<Lines<L> as AsLines>⟧.fields self.old).works
+            (⟦<Lines<L> as AsLines>⟧.fields self.new).works }
     {
         let place = node as usize - 1;
         if is_halted(&self.works.halted, place) {

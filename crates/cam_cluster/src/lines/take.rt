@@ -1,4 +1,5 @@
 //! The next line of a script is taken: each kind of line has a function of its own.
+ghost use Rattle.cam_cluster.specs.Failing.{DisksGoOn};
 ghost use Rattle.cam_cluster.specs.Servers.{AreServers};
 ghost use Rattle.cam_cluster.specs.Taking.{IsTakenAlone, IsInputLine, IsStepTaken, PutsInput};
 ghost use Rattle.cam_cluster.specs.VariableLines.{IsNextOfSome};
@@ -7,14 +8,14 @@ use super::cut::CutLetter;
 use super::{AsLines, Lines};
 use crate::LineFault;
 use crate::servers::Servers;
+use crate::telling::TellingLog;
 use crate::works::Put;
 use cam_base::NoMemory;
-use cam_ckpt::CheckpointLog;
 use cam_script::{Act, Step};
 use cam_type::DataType;
 use cam_wire::WireFault;
 
-impl<L: CheckpointLog> Lines<L> {
+impl<L: TellingLog> Lines<L> {
     /// Takes a line that puts one input, unless it is refused.
     #[tactic(none)]
     fn put_line<R: DataType, Q: DataType, C: DataType>(
@@ -31,6 +32,8 @@ impl<L: CheckpointLog> Lines<L> {
             (⟦<Lines<L> as AsLines>⟧.fields self.old) (⟦<Lines<L> as AsLines>⟧.may_read self.old)
             (⟦<Lines<L> as AsLines>⟧.fields self.new) (⟦<Lines<L> as AsLines>⟧.may_read self.new)
             result }
+        ensures disks { DisksGoOn (⟦<Lines<L> as AsLines>⟧.fields self.old).works
+            (⟦<Lines<L> as AsLines>⟧.fields self.new).works }
         ensures servers { AreServers R.kind Q.kind C.kind
             servers.new.register servers.new.queue servers.new.counter }
     {
@@ -74,6 +77,8 @@ impl<L: CheckpointLog> Lines<L> {
             (⟦<Lines<L> as AsLines>⟧.fields self.old) (⟦<Lines<L> as AsLines>⟧.may_read self.old)
             (⟦<Lines<L> as AsLines>⟧.fields self.new) (⟦<Lines<L> as AsLines>⟧.may_read self.new)
             result }
+        ensures disks { DisksGoOn (⟦<Lines<L> as AsLines>⟧.fields self.old).works
+            (⟦<Lines<L> as AsLines>⟧.fields self.new).works }
         ensures servers { AreServers R.kind Q.kind C.kind
             servers.new.register servers.new.queue servers.new.counter }
     {

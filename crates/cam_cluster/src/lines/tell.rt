@@ -1,6 +1,7 @@
 //! `tell NODE TO`: the node tells another what it knows.
 ghost use Rattle.cam_event.specs.Inputs.{Tells};
 ghost use Rattle.cam_script.specs.declared.Act.TheVariants as acts;
+ghost use Rattle.cam_cluster.specs.Failing.{DisksGoOn};
 ghost use Rattle.cam_cluster.specs.Servers.{AreServers};
 ghost use Rattle.cam_cluster.specs.SoFar.{IsLineOfInput};
 ghost use Rattle.cam_cluster.specs.VariableLines.{IsNextOfSome};
@@ -8,12 +9,12 @@ ghost use Rattle.cam_cluster.specs.VariableLines.{IsNextOfSome};
 use super::{AsLines, Lines};
 use crate::LineFault;
 use crate::servers::Servers;
+use crate::telling::TellingLog;
 use crate::works::Put;
-use cam_ckpt::CheckpointLog;
 use cam_node::Input;
 use cam_type::DataType;
 
-impl<L: CheckpointLog> Lines<L> {
+impl<L: TellingLog> Lines<L> {
     /// Tells another node what a node knows.
     #[tactic(none)]
     pub(crate) fn tell<R: DataType, Q: DataType, C: DataType>(
@@ -32,6 +33,8 @@ impl<L: CheckpointLog> Lines<L> {
             (⟦<Lines<L> as AsLines>⟧.fields self.old) (⟦<Lines<L> as AsLines>⟧.may_read self.old)
             (⟦<Lines<L> as AsLines>⟧.fields self.new) (⟦<Lines<L> as AsLines>⟧.may_read self.new)
             result }
+        ensures disks { DisksGoOn (⟦<Lines<L> as AsLines>⟧.fields self.old).works
+            (⟦<Lines<L> as AsLines>⟧.fields self.new).works }
         ensures servers { AreServers R.kind Q.kind C.kind
             servers.new.register servers.new.queue servers.new.counter }
     {

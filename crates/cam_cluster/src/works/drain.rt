@@ -2,16 +2,17 @@
 ghost use Rattle.std.specs.Prelude.{IfOk, OnErr, OnOk};
 ghost use Rattle.cam_cluster.specs.Coming.{AreWorksOfSome};
 ghost use Rattle.cam_cluster.specs.Drains.{HasDeliveredSome, HasDrained, HasNextDelivered};
+ghost use Rattle.cam_cluster.specs.Failing.{DisksGoOn};
 ghost use Rattle.cam_cluster.specs.Puts.{KeepsAsBefore};
 ghost use Rattle.cam_cluster.specs.Servers.{AreServers};
 
 use super::{AsWorks, Put, Works};
 use crate::servers::Servers;
+use crate::telling::TellingLog;
 use cam_base::NoMemory;
-use cam_ckpt::CheckpointLog;
 use cam_type::DataType;
 
-impl<L: CheckpointLog> Works<L> {
+impl<L: TellingLog> Works<L> {
     /// Hands over the least letter that waits for a node that is not halted; none where none waits.
     #[tactic(none)]
     pub(crate) fn deliver_next<R: DataType, Q: DataType, C: DataType>(
@@ -29,6 +30,8 @@ impl<L: CheckpointLog> Works<L> {
         ensures as_before { OnErr result (KeepsAsBefore
             (⟦<Works<L> as AsWorks>⟧.fields self.old) (⟦<Works<L> as AsWorks>⟧.may_read self.old)
             (⟦<Works<L> as AsWorks>⟧.fields self.new) (⟦<Works<L> as AsWorks>⟧.may_read self.new)) }
+        ensures disks { DisksGoOn (⟦<Works<L> as AsWorks>⟧.fields self.old)
+            (⟦<Works<L> as AsWorks>⟧.fields self.new) }
         ensures servers { AreServers R.kind Q.kind C.kind
             servers.new.register servers.new.queue servers.new.counter }
     {
@@ -63,6 +66,8 @@ impl<L: CheckpointLog> Works<L> {
         ensures part { OnErr result (HasDeliveredSome line
             (⟦<Works<L> as AsWorks>⟧.fields self.old) (⟦<Works<L> as AsWorks>⟧.may_read self.old)
             (⟦<Works<L> as AsWorks>⟧.fields self.new) (⟦<Works<L> as AsWorks>⟧.may_read self.new)) }
+        ensures disks { DisksGoOn (⟦<Works<L> as AsWorks>⟧.fields self.old)
+            (⟦<Works<L> as AsWorks>⟧.fields self.new) }
         ensures servers { AreServers R.kind Q.kind C.kind
             servers.new.register servers.new.queue servers.new.counter }
     {

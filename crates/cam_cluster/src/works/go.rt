@@ -4,6 +4,7 @@ ghost use Rattle.cam_names.specs.declared.name.Name.{Name as NameFields};
 ghost use Rattle.cam_runs.specs.HaltedPlaying.{given_body};
 ghost use Rattle.cam_runs.specs.Playing.{body_number};
 ghost use Rattle.cam_runs.specs.Standing.{Standing};
+ghost use Rattle.cam_cluster.specs.Failing.{DisksGoOn};
 ghost use Rattle.cam_cluster.specs.Goes.{GoesOfSome, HasGone, KeepsWorkersAsBefore};
 ghost use Rattle.cam_cluster.specs.Puts.{KeepsAsBefore};
 ghost use Rattle.cam_cluster.specs.Servers.{AreServers};
@@ -12,10 +13,10 @@ ghost use Rattle.cam_cluster.specs.Workers.{AreWorkers};
 use super::{AsWorks, Put, Works};
 use crate::lines::bound_after;
 use crate::servers::Servers;
+use crate::telling::TellingLog;
 use crate::workers::{Intention, Workers};
 use cam_base::NoMemory;
 use cam_body::Next;
-use cam_ckpt::CheckpointLog;
 use cam_event::{Request, Want};
 use cam_names::Name;
 use cam_node::Input;
@@ -36,7 +37,7 @@ pub(crate) fn give_body(workers: &mut Workers, action: Option<Name>, body: Optio
     }
 }
 
-impl<L: CheckpointLog> Works<L> {
+impl<L: TellingLog> Works<L> {
     /// An action makes the next request of its body, if it makes one now. Where memory runs out, the works and the workers stand as
     /// before.
     #[tactic(none)]
@@ -63,6 +64,8 @@ impl<L: CheckpointLog> Works<L> {
         ensures workers_as_before { OnErr result (KeepsWorkersAsBefore
             (⟦<Works<L> as AsWorks>⟧.fields self.old) (⟦<Works<L> as AsWorks>⟧.may_read self.old)
             workers.old workers.new) }
+        ensures disks { DisksGoOn (⟦<Works<L> as AsWorks>⟧.fields self.old)
+            (⟦<Works<L> as AsWorks>⟧.fields self.new) }
         ensures servers { AreServers R.kind Q.kind C.kind
             servers.new.register servers.new.queue servers.new.counter }
     {

@@ -8,14 +8,15 @@ ghost use Rattle.cam_node.specs.Numbers.{MayStep};
 ghost use Rattle.cam_wire.specs.Writable.{IsWritable};
 ghost use Rattle.cam_cluster.specs.Coming.{AreWorksOfSome, HasArrived, HasDelivered, HasFound};
 ghost use Rattle.cam_cluster.specs.Coming.{HasRead};
+ghost use Rattle.cam_cluster.specs.Failing.{DisksGoOn};
 ghost use Rattle.cam_cluster.specs.Puts.{KeepsAsBefore};
 ghost use Rattle.cam_cluster.specs.Servers.{AreServers};
 
 use super::{AsWorks, Put, Works};
 use crate::arrival::{Arrival, read_arrival};
 use crate::servers::Servers;
+use crate::telling::TellingLog;
 use cam_base::NoMemory;
-use cam_ckpt::CheckpointLog;
 use cam_event::{Event, Letter, LetterId};
 use cam_node::Input;
 use cam_type::DataType;
@@ -38,7 +39,7 @@ fn receiver(events: &[Event], letter: &LetterId) -> Option<u8>
     }
 }
 
-impl<L: CheckpointLog> Works<L> {
+impl<L: TellingLog> Works<L> {
     /// Puts the letters that are put next, so that the network has them all.
     #[tactic(none)]
     pub(crate) fn put_letters(&mut self) -> Result<(), NoMemory>
@@ -49,6 +50,8 @@ impl<L: CheckpointLog> Works<L> {
         ensures all { OnOk result (self.new.outbox.unput ≡ []) }
         ensures nodes { self.new.nodes ≡ self.old.nodes }
         ensures halted { self.new.halted ≡ self.old.halted }
+        ensures disks { DisksGoOn (⟦<Works<L> as AsWorks>⟧.fields self.old)
+            (⟦<Works<L> as AsWorks>⟧.fields self.new) }
     {
         self.outbox.put_all()
     }
@@ -146,6 +149,8 @@ impl<L: CheckpointLog> Works<L> {
         ensures as_before { OnErr result (KeepsAsBefore
             (⟦<Works<L> as AsWorks>⟧.fields self.old) (⟦<Works<L> as AsWorks>⟧.may_read self.old)
             (⟦<Works<L> as AsWorks>⟧.fields self.new) (⟦<Works<L> as AsWorks>⟧.may_read self.new)) }
+        ensures disks { DisksGoOn (⟦<Works<L> as AsWorks>⟧.fields self.old)
+            (⟦<Works<L> as AsWorks>⟧.fields self.new) }
         ensures servers { AreServers R.kind Q.kind C.kind
             servers.new.register servers.new.queue servers.new.counter }
     {

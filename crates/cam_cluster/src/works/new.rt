@@ -2,7 +2,7 @@
 ghost use Rattle.std.specs.Prelude.{◌≡◌, map};
 ghost use Rattle.cam_cluster.specs.Founding.{new_works};
 
-use super::{AsWorks, NumberedEvents, Works};
+use super::{AsWorks, Failed, NumberedEvents, Works};
 use crate::founding::AsPart;
 use cam_ckpt::CheckpointLog;
 use cam_net::Outbox;
@@ -19,7 +19,7 @@ impl<L: CheckpointLog> Works<L> {
             nodes,
             outbox: Outbox::new(alloc),
             halted: [false; 8],
-            starved: false,
+            failed: Failed::Nothing,
             undecided: Vec::new(alloc),
             events: NumberedEvents::new(alloc),
             marks: Vec::new(alloc),

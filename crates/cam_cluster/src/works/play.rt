@@ -2,15 +2,16 @@
 //! handed over. They go on until a round puts no input.
 ghost use Rattle.std.specs.Prelude.{◌≡◌, ◌||◌, IfOk, OnErr, OnOk, length, nat_lt};
 ghost use Rattle.cam_runs.specs.HaltedPlaying.{play};
+ghost use Rattle.cam_cluster.specs.Failing.{DisksGoOn};
 ghost use Rattle.cam_cluster.specs.Making.{HaveMade};
 ghost use Rattle.cam_cluster.specs.Plays.{HasPlayedPart, HasPlayedRound, HasPlayedSome, IsPlayOfSome, all_turns};
 ghost use Rattle.cam_cluster.specs.Servers.{AreServers};
 
 use super::{AsWorks, Works};
 use crate::servers::Servers;
+use crate::telling::TellingLog;
 use crate::workers::Workers;
 use cam_base::NoMemory;
-use cam_ckpt::CheckpointLog;
 use cam_script::Bodies;
 use cam_type::DataType;
 
@@ -18,7 +19,7 @@ use cam_type::DataType;
 /// and each later one but the last has a request.
 const MOST_ROUNDS: usize = 514;
 
-impl<L: CheckpointLog> Works<L> {
+impl<L: TellingLog> Works<L> {
     /// Whether there are more events than so many, or more marks.
     fn has_more(&self, events: usize, marks: usize) -> bool
         ensures { result ≡ (nat_lt events (length self.now.events.events.items)
@@ -50,6 +51,8 @@ impl<L: CheckpointLog> Works<L> {
             workers.old
             (⟦<Works<L> as AsWorks>⟧.fields self.new) (⟦<Works<L> as AsWorks>⟧.may_read self.new)
             workers.new) }
+        ensures disks { DisksGoOn (⟦<Works<L> as AsWorks>⟧.fields self.old)
+            (⟦<Works<L> as AsWorks>⟧.fields self.new) }
         ensures servers { AreServers R.kind Q.kind C.kind
             servers.new.register servers.new.queue servers.new.counter }
     {
@@ -82,6 +85,8 @@ impl<L: CheckpointLog> Works<L> {
             workers.old
             (⟦<Works<L> as AsWorks>⟧.fields self.new) (⟦<Works<L> as AsWorks>⟧.may_read self.new)
             workers.new) }
+        ensures disks { DisksGoOn (⟦<Works<L> as AsWorks>⟧.fields self.old)
+            (⟦<Works<L> as AsWorks>⟧.fields self.new) }
         ensures servers { AreServers R.kind Q.kind C.kind
             servers.new.register servers.new.queue servers.new.counter }
     {
@@ -115,6 +120,8 @@ impl<L: CheckpointLog> Works<L> {
             workers.old
             (⟦<Works<L> as AsWorks>⟧.fields self.new) (⟦<Works<L> as AsWorks>⟧.may_read self.new)
             workers.new) }
+        ensures disks { DisksGoOn (⟦<Works<L> as AsWorks>⟧.fields self.old)
+            (⟦<Works<L> as AsWorks>⟧.fields self.new) }
         ensures servers { AreServers R.kind Q.kind C.kind
             servers.new.register servers.new.queue servers.new.counter }
     {

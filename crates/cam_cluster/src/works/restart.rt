@@ -6,12 +6,14 @@ ghost use Rattle.cam_node.specs.Found.{FindsBy, HasRestarted};
 ghost use Rattle.cam_node.specs.Opened.{MayRead};
 ghost use Rattle.cam_wire.specs.Writable.{IsWritable};
 ghost use Rattle.cam_cluster.specs.OpenHalts.{events_found, halts_found, marks_found, open_halt_of};
+ghost use Rattle.cam_cluster.specs.Failing.{DisksGoOn};
 ghost use Rattle.cam_cluster.specs.Puts.{KeepsAsBefore};
 ghost use Rattle.cam_cluster.specs.Restarts.{HasFoundByStop, HasRestartedAs};
 
 use super::found::mark_taken;
 use super::undecided::{close, newest_of, take_found};
 use super::{AsWorks, Works, is_halted};
+use crate::telling::TellingLog;
 use cam_base::NoMemory;
 use cam_ckpt::CheckpointLog;
 use cam_event::{Event, SentList};
@@ -25,8 +27,8 @@ pub(crate) enum Restart {
     Stood,
     /// It stands, and the log has the event at which the node had halted: the event stands at its place.
     Found,
-    /// It failed by the node's disk, or memory ran out in it, and the node is halted. The run ends there: of what the works keep then
-    /// nothing is said.
+    /// It failed by the node's disk, or memory ran out in it, and the node is halted. It is known which. The run ends there: of what
+    /// else the works keep then nothing is said.
     Failed,
 }
 
@@ -60,7 +62,7 @@ fn restart_cleared<L: CheckpointLog + StopLog>(node: &mut Node<L>) -> Result<Res
     node.restart()
 }
 
-impl<L: CheckpointLog + StopLog> Works<L> {
+impl<L: TellingLog> Works<L> {
     /// Restarts the node at a place, halted or not.
     ///
     /// Where its disk tells what it holds, and the restart stands: the node is not halted, and its event is added to the events. If the
@@ -78,25 +80,33 @@ impl<L: CheckpointLog + StopLog> Works<L> {
         // It finds the event just where a stop let three calls pass.
         ensures by_stop { IfOk result (HasFoundByStop place
             (⟦<Works<L> as AsWorks>⟧.fields self.old) (⟦<Works<L> as AsWorks>⟧.may_read self.old)) }
+        ensures disks { DisksGoOn (⟦<Works<L> as AsWorks>⟧.fields self.old)
+            (⟦<Works<L> as AsWorks>⟧.fields self.new) }
         ensures as_before { OnErr result (KeepsAsBefore
             (⟦<Works<L> as AsWorks>⟧.fields self.old) (⟦<Works<L> as AsWorks>⟧.may_read self.old)
             (⟦<Works<L> as AsWorks>⟧.fields self.new) (⟦<Works<L> as AsWorks>⟧.may_read self.new)) }
     {
         self.make_room()?;
         let was_halted = is_halted(&self.halted, place);
+        let before = self.nodes[place].log().failures();
         match restart_cleared(&mut self.nodes[place]) {
-            Ok(restarted) => match of_halted(was_halted, restarted.found.event) {
-                Some(event) => {
-                    self.put_in(place, event);
-                    self.go_on(place, restarted.stepped);
-                    Ok(Restart::Found)
+            Ok(restarted) => {
+                self.failed = self.failed_since(place, before);
+                match of_halted(was_halted, restarted.found.event) {
+                    Some(event) => {
+                        self.put_in(place, event);
+                        self.go_on(place, restarted.stepped);
+                        Ok(Restart::Found)
+                    }
+                    None => {
+                        self.go_on(place, restarted.stepped);
+                        Ok(Restart::Stood)
+                    }
                 }
-                None => {
-                    self.go_on(place, restarted.stepped);
-                    Ok(Restart::Stood)
-                }
-            },
+            }
             Err(_) => {
+                self.failed = self.failed_since(place, before);
+                self.failed = self.failed.after_restart();
                 self.halted[place] = true;
                 Ok(Restart::Failed)
             }
@@ -110,7 +120,7 @@ impl<L: CheckpointLog + StopLog> Works<L> {
             × (vec_len self.old.events.counts + 1 < vec_capacity self.old.events.counts) }
         ensures nodes { self.new.nodes ≡ self.old.nodes }
         ensures halted { self.new.halted ≡ self.old.halted }
-        ensures starved { self.new.starved ≡ self.old.starved }
+        ensures failed { self.new.failed ≡ self.old.failed }
         ensures undecided { self.new.undecided.items ≡ halts_found (place + 1)
             (open_halt_of (place + 1) self.old.undecided.items) self.old.undecided.items }
         ensures events { self.new.events.events.items ≡ events_found
@@ -144,7 +154,7 @@ impl<L: CheckpointLog + StopLog> Works<L> {
         requires none { self.old.outbox.unput ≡ [] }
         ensures nodes { self.new.nodes ≡ self.old.nodes }
         ensures halted { self.new.halted ≡ set self.old.halted place false }
-        ensures starved { self.new.starved ≡ self.old.starved }
+        ensures failed { self.new.failed ≡ self.old.failed }
         ensures undecided { self.new.undecided.items
             ≡ filter (λ halt. not (eqb halt.node (place + 1))) self.old.undecided.items }
         ensures events { self.new.events.events.items

@@ -1,5 +1,6 @@
 //! A round of a play: each action with a body makes its next request, if it may go on.
 ghost use Rattle.std.specs.Prelude.{IfOk, OnErr, OnOk};
+ghost use Rattle.cam_cluster.specs.Failing.{DisksGoOn};
 ghost use Rattle.cam_cluster.specs.Goes.{KeepsWorkersAsBefore};
 ghost use Rattle.cam_cluster.specs.Puts.{KeepsAsBefore};
 ghost use Rattle.cam_cluster.specs.Rounds.{AreTurnsOfSome, HasHadTurn, HaveHadSomeTurns, HaveHadTurns, IsAtNodeOfSome, IsMayGoOn, IsTurnOfSome};
@@ -7,16 +8,16 @@ ghost use Rattle.cam_cluster.specs.Servers.{AreServers};
 
 use super::{AsWorks, Put, Works, is_halted};
 use crate::servers::Servers;
+use crate::telling::TellingLog;
 use crate::workers::Workers;
 use cam_base::NoMemory;
-use cam_ckpt::CheckpointLog;
 use cam_event::{Request, Want};
 use cam_names::Name;
 use cam_node::Input;
 use cam_script::Bodies;
 use cam_type::DataType;
 
-impl<L: CheckpointLog> Works<L> {
+impl<L: TellingLog> Works<L> {
     /// Whether an action makes its next request in a round: it was created at its home and has not ended, its home has not crashed
     /// since and is not halted, and it was never stopped there. The workers have to have taken in all.
     #[tactic(none)]
@@ -67,6 +68,8 @@ impl<L: CheckpointLog> Works<L> {
         ensures workers_as_before { OnErr result (KeepsWorkersAsBefore
             (⟦<Works<L> as AsWorks>⟧.fields self.old) (⟦<Works<L> as AsWorks>⟧.may_read self.old)
             workers.old workers.new) }
+        ensures disks { DisksGoOn (⟦<Works<L> as AsWorks>⟧.fields self.old)
+            (⟦<Works<L> as AsWorks>⟧.fields self.new) }
         ensures servers { AreServers R.kind Q.kind C.kind
             servers.new.register servers.new.queue servers.new.counter }
     {
@@ -102,6 +105,8 @@ impl<L: CheckpointLog> Works<L> {
             workers.old
             (⟦<Works<L> as AsWorks>⟧.fields self.new) (⟦<Works<L> as AsWorks>⟧.may_read self.new)
             workers.new) }
+        ensures disks { DisksGoOn (⟦<Works<L> as AsWorks>⟧.fields self.old)
+            (⟦<Works<L> as AsWorks>⟧.fields self.new) }
         ensures servers { AreServers R.kind Q.kind C.kind
             servers.new.register servers.new.queue servers.new.counter }
     {

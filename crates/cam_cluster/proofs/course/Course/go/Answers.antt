@@ -18,6 +18,10 @@ pub go-requires-clause-servers : goal.go-requires-clause-servers
 go-requires-clause-servers g c =
     c.requires.servers
 
+pub returns-in_err-go-clause-disks : goal.returns-in_err-go-clause-disks
+returns-in_err-go-clause-disks g c =
+    c.go.ensures.disks
+
 pub returns-in_err-go-clause-line : goal.returns-in_err-go-clause-line
 returns-in_err-go-clause-line g c =
     let old = lines_of g.L.CheckpointLog g.L.EntryLog c.args.self.now.lines in
@@ -33,6 +37,10 @@ returns-in_err-go-clause-line g c =
 pub returns-in_err-go-clause-servers : goal.returns-in_err-go-clause-servers
 returns-in_err-go-clause-servers g c =
     c.go.ensures.servers
+
+pub returns-clause-disks : goal.returns-clause-disks
+returns-clause-disks g c =
+    c.go.ensures.disks
 
 pub returns-clause-line : goal.returns-clause-line
 returns-clause-line g c =

@@ -21,6 +21,10 @@ pub play-requires-clause-servers : goal.play-requires-clause-servers
 play-requires-clause-servers g c =
     c.requires.servers
 
+pub returns-in_err-play-clause-disks : goal.returns-in_err-play-clause-disks
+returns-in_err-play-clause-disks g c =
+    c.play.ensures.disks
+
 pub returns-in_err-play-clause-line : goal.returns-in_err-play-clause-line
 returns-in_err-play-clause-line g c =
     let old = lines_of g.L.CheckpointLog g.L.EntryLog c.args.self.now.lines in
@@ -36,6 +40,10 @@ returns-in_err-play-clause-line g c =
 pub returns-in_err-play-clause-servers : goal.returns-in_err-play-clause-servers
 returns-in_err-play-clause-servers g c =
     c.play.ensures.servers
+
+pub returns-clause-disks : goal.returns-clause-disks
+returns-clause-disks g c =
+    c.play.ensures.disks
 
 pub returns-clause-line : goal.returns-clause-line
 returns-clause-line g c =

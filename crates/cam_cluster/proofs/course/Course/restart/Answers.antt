@@ -58,6 +58,7 @@ returns-in_err-restart g c =
           (λ node told. restart_wanting c.args.line c.args.node bodies old new might may
           c.args.self.now.workers c.in_err-restart.field-0.0
           (told (g.met.L.TellingLog.always node.log.log))));
+      disks = c.restart.ensures.disks;
     }
 
 pub returns-in-Stood : goal.returns-in-Stood
@@ -85,6 +86,7 @@ returns-in-Stood g c =
           c.in_ok-restart.ensures.by_stop)
           (subst (λ r. IsRestartLine c.args.node old might new may (Ok r)) c.in-Stood.is
           (told (g.met.L.TellingLog.always node.log.log))));
+      disks = c.restart.ensures.disks;
     }
 
 pub returns-in-Found : goal.returns-in-Found
@@ -113,6 +115,7 @@ returns-in-Found g c =
           (subst (λ r. IsRestartLine c.args.node old might new may (Ok r)) c.in-Found.is
           (told (g.met.L.TellingLog.always node.log.log)))
           c.forget.ensures.given);
+      disks = c.restart.ensures.disks;
     }
 
 pub returns-in-Failed : goal.returns-in-Failed
@@ -133,10 +136,11 @@ returns-in-Failed g c =
           at_place c.args.self.now.lines.works.nodes.items (c.args.node - 1) _
           (IsAtWorkLine (record { line = c.args.line; act = acts.Restart c.args.node }) bodies old
           might c.args.self.now.workers new may c.args.self.now.workers
-          (Err (faults.RestartFailed c.args.node))) there
+          (Err faults.RestartFailed)) there
           c.in_ok-restart.ensures.line
           (λ node told. failed_at_work c.args.line c.args.node bodies old new might may
           c.args.self.now.workers c.args.self.now.workers
           (subst (λ r. IsRestartLine c.args.node old might new may (Ok r)) c.in-Failed.is
           (told (g.met.L.TellingLog.always node.log.log))));
+      disks = c.restart.ensures.disks;
     }

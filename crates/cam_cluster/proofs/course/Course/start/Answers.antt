@@ -7,8 +7,13 @@ use Rattle.cam_cluster.specs.Courses.{IsAtWorkLine}
 use Rattle.cam_cluster.specs.Taking.{IsTakenAlone}
 use Rattle.cam_cluster.proofs.AsSeen.{lines_of, reads_of}
 use Rattle.cam_cluster.proofs.CourseTaken.{fault_at_work}
+use Rattle.cam_cluster.proofs.DisksGoOn.{goes_on_still}
 use Rattle.cam_cluster.proofs.StartTaken.{Gives, start_at_work, start_wanting}
 use Rattle.cam_cluster.proofs.course.Course.start.Goals as goal
+
+pub returns-in_err-reserve-clause-disks : goal.returns-in_err-reserve-clause-disks
+returns-in_err-reserve-clause-disks g c =
+    goes_on_still
 
 pub returns-in_err-reserve-clause-line : goal.returns-in_err-reserve-clause-line
 returns-in_err-reserve-clause-line g c =
@@ -37,6 +42,10 @@ pub take-requires-clause-servers : goal.take-requires-clause-servers
 take-requires-clause-servers g c =
     c.requires.servers
 
+pub returns-in_err-bad-clause-disks : goal.returns-in_err-bad-clause-disks
+returns-in_err-bad-clause-disks g c =
+    c.take.ensures.disks
+
 pub returns-in_err-bad-clause-line : goal.returns-in_err-bad-clause-line
 returns-in_err-bad-clause-line g c =
     let old = lines_of g.L.CheckpointLog g.L.EntryLog c.args.self.now.lines in
@@ -59,6 +68,10 @@ returns-in_err-bad-clause-servers g c =
 pub give_body-requires : goal.give_body-requires
 give_body-requires g c =
     c.in_ok-reserve.ensures.room
+
+pub returns-clause-disks : goal.returns-clause-disks
+returns-clause-disks g c =
+    c.take.ensures.disks
 
 pub returns-clause-line : goal.returns-clause-line
 returns-clause-line g c =

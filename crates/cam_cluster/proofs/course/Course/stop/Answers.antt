@@ -43,6 +43,7 @@ returns-in_err-stop g c =
           c.args.self.now.workers new may c.args.self.now.workers r) (sym is)
           (stop_at_work c.args.line c.args.node c.args.calls bodies old new might may
           c.args.self.now.workers (Err c.in_err-stop.field-0.0) c.in_err-stop.ensures.line);
+      disks = c.stop.ensures.disks;
     }
 
 pub returns : goal.returns
@@ -55,4 +56,5 @@ returns g c =
       line = λ bodies.
           stop_at_work c.args.line c.args.node c.args.calls bodies old new might may
           c.args.self.now.workers (Ok c.in_ok-stop.field-0) c.in_ok-stop.ensures.line;
+      disks = c.stop.ensures.disks;
     }

@@ -82,6 +82,10 @@ take-requires g c =
       servers = c.requires.servers;
     }
 
+pub returns-in-Start-clause-disks : goal.returns-in-Start-clause-disks
+returns-in-Start-clause-disks g c =
+    c.start.ensures.disks
+
 pub returns-in-Start-clause-line : goal.returns-in-Start-clause-line
 returns-in-Start-clause-line g c =
     c.start.ensures.line c.args.bodies.now
@@ -89,6 +93,10 @@ returns-in-Start-clause-line g c =
 pub returns-in-Start-clause-servers : goal.returns-in-Start-clause-servers
 returns-in-Start-clause-servers g c =
     c.start.ensures.servers
+
+pub returns-in-Go-clause-disks : goal.returns-in-Go-clause-disks
+returns-in-Go-clause-disks g c =
+    c.go.ensures.disks
 
 pub returns-in-Go-clause-line : goal.returns-in-Go-clause-line
 returns-in-Go-clause-line g c =
@@ -104,6 +112,10 @@ pub returns-in-Go-clause-servers : goal.returns-in-Go-clause-servers
 returns-in-Go-clause-servers g c =
     c.go.ensures.servers
 
+pub returns-in-Play-clause-disks : goal.returns-in-Play-clause-disks
+returns-in-Play-clause-disks g c =
+    c.play.ensures.disks
+
 pub returns-in-Play-clause-line : goal.returns-in-Play-clause-line
 returns-in-Play-clause-line g c =
     let old = lines_of g.L.CheckpointLog g.L.EntryLog c.args.self.now.lines in
@@ -118,6 +130,10 @@ pub returns-in-Play-clause-servers : goal.returns-in-Play-clause-servers
 returns-in-Play-clause-servers g c =
     c.play.ensures.servers
 
+pub returns-in-Restart-clause-disks : goal.returns-in-Restart-clause-disks
+returns-in-Restart-clause-disks g c =
+    c.restart.ensures.disks
+
 pub returns-in-Restart-clause-line : goal.returns-in-Restart-clause-line
 returns-in-Restart-clause-line g c =
     let old = lines_of g.L.CheckpointLog g.L.EntryLog c.args.self.now.lines in
@@ -131,6 +147,10 @@ returns-in-Restart-clause-line g c =
 pub returns-in-Restart-clause-servers : goal.returns-in-Restart-clause-servers
 returns-in-Restart-clause-servers g c =
     c.requires.servers
+
+pub returns-in-Stop-clause-disks : goal.returns-in-Stop-clause-disks
+returns-in-Stop-clause-disks g c =
+    c.stop.ensures.disks
 
 pub returns-in-Stop-clause-line : goal.returns-in-Stop-clause-line
 returns-in-Stop-clause-line g c =
@@ -165,6 +185,7 @@ returns-in_err-take-in_default g c =
           c.args.self.now.workers (Err c.in_err-take-in_default.field-0.0) alone.0 alone.1
           c.in_err-take-in_default.ensures.line);
       servers = c.take.ensures.servers;
+      disks = c.take.ensures.disks;
     }
 
 pub returns-in_ok-take-in_default : goal.returns-in_ok-take-in_default
@@ -182,4 +203,5 @@ returns-in_ok-take-in_default g c =
           c.args.self.now.workers (Ok c.in_ok-take-in_default.field-0) alone.0 alone.1
           c.in_ok-take-in_default.ensures.line;
       servers = c.take.ensures.servers;
+      disks = c.take.ensures.disks;
     }

@@ -18,6 +18,10 @@ pub request-requires-clause-servers : goal.request-requires-clause-servers
 request-requires-clause-servers g c =
     c.requires.servers
 
+pub returns-clause-disks : goal.returns-clause-disks
+returns-clause-disks g c =
+    c.request.ensures.disks
+
 pub returns-clause-line : goal.returns-clause-line
 returns-clause-line g c =
     let old = lines_of g.L.CheckpointLog g.L.EntryLog c.args.self.now in

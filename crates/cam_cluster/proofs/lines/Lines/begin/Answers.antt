@@ -20,6 +20,10 @@ pub overflow_sub-place : goal.overflow_sub-place
 overflow_sub-place g c =
     c.requires.low
 
+pub returns-in_err-refuse-clause-disks : goal.returns-in_err-refuse-clause-disks
+returns-in_err-refuse-clause-disks g c =
+    c.refuse.ensures.disks
+
 pub returns-in_err-refuse-clause-line : goal.returns-in_err-refuse-clause-line
 returns-in_err-refuse-clause-line g c =
     let wants : c.from_residual.result ≡ Err line_faults.NoMemory = search rules in
@@ -30,6 +34,10 @@ returns-in_err-refuse-clause-line g c =
     (lines_of g.L.CheckpointLog g.L.EntryLog c.args.self.now) (lines_of g.L.CheckpointLog g.L.EntryLog c.refuse.new.self)
     (reads_of g.L.CheckpointLog g.L.EntryLog c.args.self.now.works) (reads_of g.L.CheckpointLog g.L.EntryLog c.refuse.new.self.works)
     c.in_err-refuse.ensures.as_before)
+
+pub returns-then-is_halted-clause-disks : goal.returns-then-is_halted-clause-disks
+returns-then-is_halted-clause-disks g c =
+    c.refuse.ensures.disks
 
 pub returns-then-is_halted-clause-line : goal.returns-then-is_halted-clause-line
 returns-then-is_halted-clause-line g c =
@@ -65,6 +73,10 @@ pub lead-requires-clause-writable : goal.lead-requires-clause-writable
 lead-requires-clause-writable g c =
     unput_may_be_written _ _ c.requires.stand
 
+pub returns-in_err-lead-clause-disks : goal.returns-in_err-lead-clause-disks
+returns-in_err-lead-clause-disks g c =
+    c.lead.ensures.disks
+
 pub returns-in_err-lead-clause-line : goal.returns-in_err-lead-clause-line
 returns-in_err-lead-clause-line g c =
     let wants : c.from_residual-in_err-lead.result ≡ Err line_faults.NoMemory = search rules in
@@ -75,6 +87,10 @@ returns-in_err-lead-clause-line g c =
     (lines_of g.L.CheckpointLog g.L.EntryLog c.args.self.now) (lines_of g.L.CheckpointLog g.L.EntryLog c.lead.new.self)
     (reads_of g.L.CheckpointLog g.L.EntryLog c.args.self.now.works) (reads_of g.L.CheckpointLog g.L.EntryLog c.lead.new.self.works)
     c.in_err-lead.ensures.as_before)
+
+pub returns-clause-disks : goal.returns-clause-disks
+returns-clause-disks g c =
+    c.lead.ensures.disks
 
 pub returns-clause-line : goal.returns-clause-line
 returns-clause-line g c =

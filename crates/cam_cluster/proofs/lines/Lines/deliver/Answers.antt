@@ -4,12 +4,17 @@ use Rattle.cam_script.specs.declared.Act.TheVariants as acts
 use Rattle.cam_cluster.specs.declared.LineFault.TheVariants as line_faults
 use Rattle.cam_cluster.specs.LetterLines.{IsDelivery, IsLineBy}
 use Rattle.cam_cluster.proofs.AsSeen.{lines_of, reads_of}
+use Rattle.cam_cluster.proofs.DisksGoOn.{goes_on_then}
 use Rattle.cam_cluster.proofs.LetterLines.{deliver_ends, not_taken}
 use Rattle.cam_cluster.proofs.LineEnds.{both_before, some_lines, wanting_ends, works_of_lines}
 use Rattle.cam_cluster.proofs.lines.Lines.deliver.Goals as goal
 
 pub take_letter-requires : goal.take_letter-requires
 take_letter-requires g c = record { stand = c.requires.stand }
+
+pub returns-in_err-coming-clause-disks : goal.returns-in_err-coming-clause-disks
+returns-in_err-coming-clause-disks g c =
+    c.take_letter.ensures.disks
 
 pub returns-in_err-coming-clause-line : goal.returns-in_err-coming-clause-line
 returns-in_err-coming-clause-line g c =
@@ -20,7 +25,7 @@ returns-in_err-coming-clause-line g c =
     (not_taken (IsDelivery c.args.letter) c.args.line c.args.letter (acts.Deliver c.args.letter)
     (λ script st. refl) (lines_of g.L.CheckpointLog g.L.EntryLog c.args.self.now) (lines_of g.L.CheckpointLog g.L.EntryLog c.take_letter.new.self)
     (reads_of g.L.CheckpointLog g.L.EntryLog c.args.self.now.works)
-    (reads_of g.L.CheckpointLog g.L.EntryLog c.take_letter.new.self.works) c.in_err-coming.field-0.0 c.in_err-coming.ensures)
+    (reads_of g.L.CheckpointLog g.L.EntryLog c.take_letter.new.self.works) c.in_err-coming.field-0.0 c.in_err-coming.ensures.taken)
 
 pub returns-in_err-coming-clause-servers : goal.returns-in_err-coming-clause-servers
 returns-in_err-coming-clause-servers g c =
@@ -28,18 +33,22 @@ returns-in_err-coming-clause-servers g c =
 
 pub read-requires-clause-all : goal.read-requires-clause-all
 read-requires-clause-all g c =
-    c.in_ok-coming.ensures.all
+    c.in_ok-coming.ensures.taken.all
 
 pub read-requires-clause-stand : goal.read-requires-clause-stand
 read-requires-clause-stand g c =
     works_of_lines (lines_of g.L.CheckpointLog g.L.EntryLog c.take_letter.new.self) (reads_of g.L.CheckpointLog g.L.EntryLog c.take_letter.new.self.works)
     (some_lines (lines_of g.L.CheckpointLog g.L.EntryLog c.args.self.now) (lines_of g.L.CheckpointLog g.L.EntryLog c.take_letter.new.self)
     (reads_of g.L.CheckpointLog g.L.EntryLog c.args.self.now.works)
-    (reads_of g.L.CheckpointLog g.L.EntryLog c.take_letter.new.self.works) c.in_ok-coming.ensures.as_before c.requires.stand)
+    (reads_of g.L.CheckpointLog g.L.EntryLog c.take_letter.new.self.works) c.in_ok-coming.ensures.taken.as_before c.requires.stand)
 
 pub read-requires-clause-found : goal.read-requires-clause-found
 read-requires-clause-found g c =
-    c.in_ok-coming.ensures.found
+    c.in_ok-coming.ensures.taken.found
+
+pub returns-in_err-whole-clause-disks : goal.returns-in_err-whole-clause-disks
+returns-in_err-whole-clause-disks g c =
+    c.take_letter.ensures.disks
 
 pub returns-in_err-whole-clause-line : goal.returns-in_err-whole-clause-line
 returns-in_err-whole-clause-line g c =
@@ -50,7 +59,7 @@ returns-in_err-whole-clause-line g c =
     (wanting_ends (IsDelivery c.args.letter) c.args.line (acts.Deliver c.args.letter)
     (lines_of g.L.CheckpointLog g.L.EntryLog c.args.self.now) (lines_of g.L.CheckpointLog g.L.EntryLog c.take_letter.new.self)
     (reads_of g.L.CheckpointLog g.L.EntryLog c.args.self.now.works) (reads_of g.L.CheckpointLog g.L.EntryLog c.take_letter.new.self.works)
-    c.in_ok-coming.ensures.as_before)
+    c.in_ok-coming.ensures.taken.as_before)
 
 pub returns-in_err-whole-clause-servers : goal.returns-in_err-whole-clause-servers
 returns-in_err-whole-clause-servers g c =
@@ -60,19 +69,19 @@ pub lead_letter-requires-clause-stand : goal.lead_letter-requires-clause-stand
 lead_letter-requires-clause-stand g c =
     (some_lines (lines_of g.L.CheckpointLog g.L.EntryLog c.args.self.now) (lines_of g.L.CheckpointLog g.L.EntryLog c.take_letter.new.self)
     (reads_of g.L.CheckpointLog g.L.EntryLog c.args.self.now.works)
-    (reads_of g.L.CheckpointLog g.L.EntryLog c.take_letter.new.self.works) c.in_ok-coming.ensures.as_before c.requires.stand)
+    (reads_of g.L.CheckpointLog g.L.EntryLog c.take_letter.new.self.works) c.in_ok-coming.ensures.taken.as_before c.requires.stand)
 
 pub lead_letter-requires-clause-all : goal.lead_letter-requires-clause-all
 lead_letter-requires-clause-all g c =
-    c.in_ok-coming.ensures.all
+    c.in_ok-coming.ensures.taken.all
 
 pub lead_letter-requires-clause-found : goal.lead_letter-requires-clause-found
 lead_letter-requires-clause-found g c =
-    c.in_ok-coming.ensures.found
+    c.in_ok-coming.ensures.taken.found
 
 pub lead_letter-requires-clause-awake : goal.lead_letter-requires-clause-awake
 lead_letter-requires-clause-awake g c =
-    c.in_ok-coming.ensures.awake
+    c.in_ok-coming.ensures.taken.awake
 
 pub lead_letter-requires-clause-read : goal.lead_letter-requires-clause-read
 lead_letter-requires-clause-read g c =
@@ -81,6 +90,10 @@ lead_letter-requires-clause-read g c =
 pub lead_letter-requires-clause-servers : goal.lead_letter-requires-clause-servers
 lead_letter-requires-clause-servers g c =
     c.requires.servers
+
+pub returns-in_err-lead_letter-clause-disks : goal.returns-in_err-lead_letter-clause-disks
+returns-in_err-lead_letter-clause-disks g c =
+    goes_on_then c.take_letter.ensures.disks c.lead_letter.ensures.disks
 
 pub returns-in_err-lead_letter-clause-line : goal.returns-in_err-lead_letter-clause-line
 returns-in_err-lead_letter-clause-line g c =
@@ -95,12 +108,16 @@ returns-in_err-lead_letter-clause-line g c =
     (both_before (lines_of g.L.CheckpointLog g.L.EntryLog c.args.self.now) (lines_of g.L.CheckpointLog g.L.EntryLog c.take_letter.new.self) (lines_of g.L.CheckpointLog g.L.EntryLog c.lead_letter.new.self)
     (reads_of g.L.CheckpointLog g.L.EntryLog c.args.self.now.works)
     (reads_of g.L.CheckpointLog g.L.EntryLog c.take_letter.new.self.works)
-    (reads_of g.L.CheckpointLog g.L.EntryLog c.lead_letter.new.self.works) c.in_ok-coming.ensures.as_before
+    (reads_of g.L.CheckpointLog g.L.EntryLog c.lead_letter.new.self.works) c.in_ok-coming.ensures.taken.as_before
     c.in_err-lead_letter.ensures.as_before))
 
 pub returns-in_err-lead_letter-clause-servers : goal.returns-in_err-lead_letter-clause-servers
 returns-in_err-lead_letter-clause-servers g c =
     c.lead_letter.ensures.servers
+
+pub returns-clause-disks : goal.returns-clause-disks
+returns-clause-disks g c =
+    goes_on_then c.take_letter.ensures.disks c.lead_letter.ensures.disks
 
 pub returns-clause-line : goal.returns-clause-line
 returns-clause-line g c =
@@ -108,7 +125,7 @@ returns-clause-line g c =
     (lines_of g.L.CheckpointLog g.L.EntryLog c.take_letter.new.self) (lines_of g.L.CheckpointLog g.L.EntryLog c.lead_letter.new.self)
     (reads_of g.L.CheckpointLog g.L.EntryLog c.args.self.now.works)
     (reads_of g.L.CheckpointLog g.L.EntryLog c.take_letter.new.self.works)
-    (reads_of g.L.CheckpointLog g.L.EntryLog c.lead_letter.new.self.works) c.in_ok-coming.ensures c.in_ok-lead_letter.field-0
+    (reads_of g.L.CheckpointLog g.L.EntryLog c.lead_letter.new.self.works) c.in_ok-coming.ensures.taken c.in_ok-lead_letter.field-0
     c.in_ok-lead_letter.ensures.led
 
 pub returns-clause-servers : goal.returns-clause-servers

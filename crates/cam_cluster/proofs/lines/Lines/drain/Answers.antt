@@ -1,10 +1,15 @@
 -- The line `drain`.
 use Rattle.std.proofs.Common.{◌++◌, ◌∷◌, [], None, ap, ◌∙◌, rules}
 use Rattle.cam_cluster.proofs.AsSeen.{lines_of, reads_of, works_of}
+use Rattle.cam_cluster.proofs.DisksGoOn.{goes_on_still}
 use Rattle.cam_cluster.proofs.Drains.{drain_line, drain_part, none_so_far}
 use Rattle.cam_cluster.proofs.LineEnds.{works_of_lines}
 use Rattle.cam_cluster.proofs.PlacedNodes.{on_err}
 use Rattle.cam_cluster.proofs.lines.Lines.drain.Goals as goal
+
+pub returns-in_err-reserve_one-clause-disks : goal.returns-in_err-reserve_one-clause-disks
+returns-in_err-reserve_one-clause-disks g c =
+    goes_on_still
 
 pub returns-in_err-reserve_one-clause-line : goal.returns-in_err-reserve_one-clause-line
 returns-in_err-reserve_one-clause-line g c =
@@ -28,6 +33,10 @@ pub drain-requires-clause-servers : goal.drain-requires-clause-servers
 drain-requires-clause-servers g c =
     c.requires.servers
 
+pub returns-in_err-drain-clause-disks : goal.returns-in_err-drain-clause-disks
+returns-in_err-drain-clause-disks g c =
+    c.drain.ensures.disks
+
 pub returns-in_err-drain-clause-line : goal.returns-in_err-drain-clause-line
 returns-in_err-drain-clause-line g c =
     search rules
@@ -45,6 +54,10 @@ returns-in_err-drain-clause-servers g c =
 pub push_reserved-requires : goal.push_reserved-requires
 push_reserved-requires g c =
     c.in_ok-reserve_one.ensures.room
+
+pub returns-clause-disks : goal.returns-clause-disks
+returns-clause-disks g c =
+    c.drain.ensures.disks
 
 pub returns-clause-line : goal.returns-clause-line
 returns-clause-line g c =

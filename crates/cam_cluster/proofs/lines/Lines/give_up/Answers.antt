@@ -18,6 +18,10 @@ pub request-requires-clause-servers : goal.request-requires-clause-servers
 request-requires-clause-servers g c =
     c.requires.servers
 
+pub returns-in-Some-clause-disks : goal.returns-in-Some-clause-disks
+returns-in-Some-clause-disks g c =
+    c.request.ensures.disks
+
 pub returns-in-Some-clause-line : goal.returns-in-Some-clause-line
 returns-in-Some-clause-line g c =
     let old = lines_of g.L.CheckpointLog g.L.EntryLog c.args.self.now in
@@ -31,6 +35,10 @@ pub returns-in-Some-clause-servers : goal.returns-in-Some-clause-servers
 returns-in-Some-clause-servers g c =
     c.request.ensures.servers
 
+pub returns-in-None-clause-disks : goal.returns-in-None-clause-disks
+returns-in-None-clause-disks g c =
+    c.refused.ensures.disks
+
 pub returns-in-None-clause-line : goal.returns-in-None-clause-line
 returns-in-None-clause-line g c =
     let old = lines_of g.L.CheckpointLog g.L.EntryLog c.args.self.now in
@@ -38,7 +46,7 @@ returns-in-None-clause-line g c =
     let new = lines_of g.L.CheckpointLog g.L.EntryLog c.refused.new.self in
     let may = reads_of g.L.CheckpointLog g.L.EntryLog c.refused.new.self.works in
     give_up_refused c.args.line c.args.action c.args.child old new might may (sym
-    c.in-None.ensures) c.refused.result c.refused.ensures
+    c.in-None.ensures) c.refused.result c.refused.ensures.refused
 
 pub returns-in-None-clause-servers : goal.returns-in-None-clause-servers
 returns-in-None-clause-servers g c =

@@ -7,12 +7,17 @@ use Rattle.cam_cluster.specs.declared.LineFault.TheVariants as line_faults
 use Rattle.cam_cluster.specs.GoLines.{IsLineOfGo}
 use Rattle.cam_cluster.specs.SoFar.{LinesFields}
 use Rattle.cam_cluster.proofs.AsSeen.{lines_of, part, reads_of, works_of}
+use Rattle.cam_cluster.proofs.DisksGoOn.{goes_on_still}
 use Rattle.cam_cluster.proofs.GoLine.{go_wanting, goes_of_some, gone_line}
 use Rattle.cam_cluster.proofs.GoTests.{go_halted, go_low, go_refused, go_there, go_unbound}
 use Rattle.cam_cluster.proofs.PlacedNodes.{after_is, seen_there, taken_there}
 use Rattle.cam_cluster.proofs.TriedEnds.{place_of}
 use Rattle.cam_cluster.proofs.VariableEnds.{home_place}
 use Rattle.cam_cluster.proofs.lines.Lines.go.Goals as goal
+
+pub returns-in_default-clause-disks : goal.returns-in_default-clause-disks
+returns-in_default-clause-disks g c =
+    c.refused.ensures.disks
 
 pub returns-in_default-clause-line : goal.returns-in_default-clause-line
 returns-in_default-clause-line g c =
@@ -21,7 +26,7 @@ returns-in_default-clause-line g c =
     let new = lines_of g.L.CheckpointLog g.L.EntryLog c.refused.new.self in
     let may = reads_of g.L.CheckpointLog g.L.EntryLog c.refused.new.self.works in
     go_unbound c.args.line c.args.action c.args.bodies.now old new might may c.args.workers.now
-    c.requires.go (sym c.in_default.ensures) c.refused.result c.refused.ensures
+    c.requires.go (sym c.in_default.ensures) c.refused.result c.refused.ensures.refused
 
 pub returns-in_default-clause-servers : goal.returns-in_default-clause-servers
 returns-in_default-clause-servers g c =
@@ -40,6 +45,10 @@ overflow_sub-place g c =
     c.args.workers.now c.requires.go c.in-Some.name at in
     subst (λ (n : ℕ). 1 ≤ n) (sym (ap (λ (p : ℕ × ℕ). p.0) c.home.ensures)) low
 
+pub returns-then-is_halted-clause-disks : goal.returns-then-is_halted-clause-disks
+returns-then-is_halted-clause-disks g c =
+    c.refused-then-is_halted.ensures.disks
+
 pub returns-then-is_halted-clause-line : goal.returns-then-is_halted-clause-line
 returns-then-is_halted-clause-line g c =
     let old = lines_of g.L.CheckpointLog g.L.EntryLog c.args.self.now in
@@ -55,7 +64,7 @@ returns-then-is_halted-clause-line g c =
     c.is_halted.ensures ∙ c.if-is_halted.true in
     go_halted c.args.line c.args.action c.args.bodies.now old new might may c.args.workers.now
     c.requires.go c.in-Some.name at place home runs c.refused-then-is_halted.result
-    c.refused-then-is_halted.ensures
+    c.refused-then-is_halted.ensures.refused
 
 pub returns-then-is_halted-clause-servers : goal.returns-then-is_halted-clause-servers
 returns-then-is_halted-clause-servers g c =
@@ -75,6 +84,10 @@ index-requires g c =
     let item = place_of (part g.L.CheckpointLog g.L.EntryLog) c.args.self.now.works.nodes.items
     place within in
     first_of (search rules, grind (arith, common_steps, item))
+
+pub returns-in-Some-refusal-clause-disks : goal.returns-in-Some-refusal-clause-disks
+returns-in-Some-refusal-clause-disks g c =
+    c.refused-in-Some-refusal.ensures.disks
 
 pub returns-in-Some-refusal-clause-line : goal.returns-in-Some-refusal-clause-line
 returns-in-Some-refusal-clause-line g c =
@@ -100,11 +113,15 @@ returns-in-Some-refusal-clause-line g c =
     go_refused c.args.line c.args.action c.args.bodies.now old new might may c.args.workers.now
     c.requires.go c.in-Some.name at place home runs _ seen (pos 0) _
     c.in-Some-refusal.ensures.rule c.in-Some-refusal.refusal refl
-    c.refused-in-Some-refusal.result c.refused-in-Some-refusal.ensures
+    c.refused-in-Some-refusal.result c.refused-in-Some-refusal.ensures.refused
 
 pub returns-in-Some-refusal-clause-servers : goal.returns-in-Some-refusal-clause-servers
 returns-in-Some-refusal-clause-servers g c =
     c.requires.servers
+
+pub returns-in_err-reserve_one-clause-disks : goal.returns-in_err-reserve_one-clause-disks
+returns-in_err-reserve_one-clause-disks g c =
+    goes_on_still
 
 pub returns-in_err-reserve_one-clause-line : goal.returns-in_err-reserve_one-clause-line
 returns-in_err-reserve_one-clause-line g c =
@@ -150,6 +167,10 @@ pub go-requires-clause-servers : goal.go-requires-clause-servers
 go-requires-clause-servers g c =
     c.requires.servers
 
+pub returns-in_err-done-clause-disks : goal.returns-in_err-done-clause-disks
+returns-in_err-done-clause-disks g c =
+    c.go.ensures.disks
+
 pub returns-in_err-done-clause-line : goal.returns-in_err-done-clause-line
 returns-in_err-done-clause-line g c =
     let old = lines_of g.L.CheckpointLog g.L.EntryLog c.args.self.now in
@@ -173,6 +194,10 @@ returns-in_err-done-clause-servers g c =
 pub push_reserved-requires : goal.push_reserved-requires
 push_reserved-requires g c =
     c.in_ok-reserve_one.ensures.room
+
+pub returns-clause-disks : goal.returns-clause-disks
+returns-clause-disks g c =
+    c.go.ensures.disks
 
 pub returns-clause-line : goal.returns-clause-line
 returns-clause-line g c =

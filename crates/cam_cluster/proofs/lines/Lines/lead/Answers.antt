@@ -2,9 +2,14 @@
 use Rattle.std.proofs.Common.{ap, ◌∙◌, ◌++◌, ◌∷◌, [], rules, subst}
 use Rattle.cam_cluster.specs.SoFar.{IsBinding}
 use Rattle.cam_cluster.proofs.AsSeen.{reads_of, works_of}
+use Rattle.cam_cluster.proofs.DisksGoOn.{goes_on_still}
 use Rattle.cam_cluster.proofs.Led.{led_by, unchanged_lines}
 use Rattle.cam_cluster.proofs.PlacedNodes.{on_err}
 use Rattle.cam_cluster.proofs.lines.Lines.lead.Goals as goal
+
+pub returns-in_err-reserve_one-clause-disks : goal.returns-in_err-reserve_one-clause-disks
+returns-in_err-reserve_one-clause-disks g c =
+    goes_on_still
 
 pub returns-in_err-reserve_one-clause-led : goal.returns-in_err-reserve_one-clause-led
 returns-in_err-reserve_one-clause-led g c =
@@ -34,6 +39,10 @@ pub put-requires-clause-writable : goal.put-requires-clause-writable
 put-requires-clause-writable g c =
     c.requires.writable
 
+pub returns-in_err-done-clause-disks : goal.returns-in_err-done-clause-disks
+returns-in_err-done-clause-disks g c =
+    c.put.ensures.disks
+
 pub returns-in_err-done-clause-led : goal.returns-in_err-done-clause-led
 returns-in_err-done-clause-led g c =
     search rules
@@ -49,6 +58,10 @@ returns-in_err-done-clause-as_before g c =
 pub push_reserved-requires : goal.push_reserved-requires
 push_reserved-requires g c =
     c.in_ok-reserve_one.ensures.room
+
+pub returns-clause-disks : goal.returns-clause-disks
+returns-clause-disks g c =
+    c.put.ensures.disks
 
 pub returns-clause-led : goal.returns-clause-led
 returns-clause-led g c =

@@ -1,11 +1,16 @@
 -- A letter is handed over, and the line's variable stands for nothing.
 use Rattle.std.proofs.Common.{ap, ◌∙◌, ◌++◌, ◌∷◌, [], None, rules}
 use Rattle.cam_cluster.proofs.AsSeen.{lines_of, reads_of, works_of}
+use Rattle.cam_cluster.proofs.DisksGoOn.{goes_on_still}
 use Rattle.cam_cluster.proofs.Led.{unchanged_lines}
 use Rattle.cam_cluster.proofs.LetterEnds.{led_letter}
 use Rattle.cam_cluster.proofs.LineEnds.{works_of_lines}
 use Rattle.cam_cluster.proofs.PlacedNodes.{on_err}
 use Rattle.cam_cluster.proofs.lines.Lines.lead_letter.Goals as goal
+
+pub returns-in_err-reserve_one-clause-disks : goal.returns-in_err-reserve_one-clause-disks
+returns-in_err-reserve_one-clause-disks g c =
+    goes_on_still
 
 pub returns-in_err-reserve_one-clause-led : goal.returns-in_err-reserve_one-clause-led
 returns-in_err-reserve_one-clause-led g c =
@@ -50,6 +55,10 @@ pub hand_over-requires-clause-servers : goal.hand_over-requires-clause-servers
 hand_over-requires-clause-servers g c =
     c.requires.servers
 
+pub returns-in_err-done-clause-disks : goal.returns-in_err-done-clause-disks
+returns-in_err-done-clause-disks g c =
+    c.hand_over.ensures.disks
+
 pub returns-in_err-done-clause-led : goal.returns-in_err-done-clause-led
 returns-in_err-done-clause-led g c =
     search rules
@@ -71,6 +80,10 @@ returns-in_err-done-clause-servers g c =
 pub push_reserved-requires : goal.push_reserved-requires
 push_reserved-requires g c =
     c.in_ok-reserve_one.ensures.room
+
+pub returns-clause-disks : goal.returns-clause-disks
+returns-clause-disks g c =
+    c.hand_over.ensures.disks
 
 pub returns-clause-led : goal.returns-clause-led
 returns-clause-led g c =

@@ -6,6 +6,7 @@ use Rattle.cam_cluster.specs.declared.LineFault.TheVariants as line_faults
 use Rattle.cam_cluster.specs.LetterLines.{IsLineBy, IsLoss}
 use Rattle.cam_cluster.specs.SoFar.{HasRefused, KeepsLinesAsBefore}
 use Rattle.cam_cluster.proofs.AsSeen.{lines_of, part, reads_at, reads_of, tells_of, works_of}
+use Rattle.cam_cluster.proofs.DisksGoOn.{goes_on_then}
 use Rattle.cam_cluster.proofs.HandedOver.{works_may_be_written}
 use Rattle.cam_cluster.proofs.Led.{unchanged_lines}
 use Rattle.cam_cluster.proofs.LetterLines.{loss_ends, loss_refused}
@@ -39,6 +40,7 @@ returns-in_err-put_letters g c =
           (reads_of g.L.CheckpointLog g.L.EntryLog c.args.self.now.works)
           (reads_of g.L.CheckpointLog g.L.EntryLog c.put_letters.new.self) c.args.self.now.bound.items c.args.self.now.bound.items
           c.put_letters.ensures.as_before refl));
+      disks = c.put_letters.ensures.disks;
     }
 
 pub returns-in_err-reserve_one : goal.returns-in_err-reserve_one
@@ -61,6 +63,7 @@ returns-in_err-reserve_one g c =
           (reads_of g.L.CheckpointLog g.L.EntryLog c.args.self.now.works)
           (reads_of g.L.CheckpointLog g.L.EntryLog c.put_letters.new.self) c.args.self.now.bound.items c.reserve_one.new.list.items
           c.put_letters.ensures.as_before c.reserve_one.ensures.same));
+      disks = c.put_letters.ensures.disks;
     }
 
 pub returns-in_err-refuse : goal.returns-in_err-refuse
@@ -84,11 +87,12 @@ returns-in_err-refuse g c =
             works =
                 seen (part g.L.CheckpointLog g.L.EntryLog) (tells_of g.L.CheckpointLog g.L.EntryLog) (reads_at g.L.CheckpointLog g.L.EntryLog)
                 c.put_letters.new.self.nodes.items o c.put_letters.new.self.halted
-                c.put_letters.new.self.starved c.put_letters.new.self.undecided.items
+                c.put_letters.new.self.failed c.put_letters.new.self.undecided.items
                 c.put_letters.new.self.events.events.items c.put_letters.new.self.marks.items;
             bound = c.reserve_one.new.list.items;
           }) (reads_of g.L.CheckpointLog g.L.EntryLog c.put_letters.new.self) (lines_of g.L.CheckpointLog g.L.EntryLog c.refuse.new.self) (reads_of g.L.CheckpointLog g.L.EntryLog c.refuse.new.self.works))
           (c.lose.ensures.unchanged c.if-not-lose.true) c.in_err-refuse.ensures.as_before)));
+      disks = goes_on_then c.put_letters.ensures.disks c.refuse.ensures.disks;
     }
 
 pub returns-then-not-lose : goal.returns-then-not-lose
@@ -105,11 +109,12 @@ returns-then-not-lose g c = record {
         works =
             seen (part g.L.CheckpointLog g.L.EntryLog) (tells_of g.L.CheckpointLog g.L.EntryLog) (reads_at g.L.CheckpointLog g.L.EntryLog)
             c.put_letters.new.self.nodes.items o c.put_letters.new.self.halted
-            c.put_letters.new.self.starved c.put_letters.new.self.undecided.items
+            c.put_letters.new.self.failed c.put_letters.new.self.undecided.items
             c.put_letters.new.self.events.events.items c.put_letters.new.self.marks.items;
         bound = c.reserve_one.new.list.items;
       }) (reads_of g.L.CheckpointLog g.L.EntryLog c.put_letters.new.self) (lines_of g.L.CheckpointLog g.L.EntryLog c.refuse.new.self) (reads_of g.L.CheckpointLog g.L.EntryLog c.refuse.new.self.works))
       (c.lose.ensures.unchanged c.if-not-lose.true) c.in_ok-refuse.ensures.refused);
+  disks = goes_on_then c.put_letters.ensures.disks c.refuse.ensures.disks;
 }
 
 pub push_reserved-requires : goal.push_reserved-requires
@@ -124,7 +129,7 @@ returns g c = record {
         works =
             seen (part g.L.CheckpointLog g.L.EntryLog) (tells_of g.L.CheckpointLog g.L.EntryLog) (reads_at g.L.CheckpointLog g.L.EntryLog)
             c.put_letters.new.self.nodes.items o c.put_letters.new.self.halted
-            c.put_letters.new.self.starved c.put_letters.new.self.undecided.items
+            c.put_letters.new.self.failed c.put_letters.new.self.undecided.items
             c.put_letters.new.self.events.events.items c.put_letters.new.self.marks.items;
         bound = c.push_reserved.new.list.items;
       }) (reads_of g.L.CheckpointLog g.L.EntryLog c.put_letters.new.self) (Ok tt)) (sym c.lose.ensures.lost)
@@ -135,4 +140,5 @@ returns g c = record {
       (reads_of g.L.CheckpointLog g.L.EntryLog c.put_letters.new.self) c.args.self.now.bound.items c.reserve_one.new.list.items
       c.put_letters.ensures.as_before c.reserve_one.ensures.same) c.in_ok-put_letters.ensures.all
       (sym c.lose.ensures.answer ∙ c.if-not-lose.false) c.push_reserved.ensures);
+  disks = c.put_letters.ensures.disks;
 }

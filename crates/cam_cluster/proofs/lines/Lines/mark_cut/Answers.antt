@@ -3,10 +3,15 @@ use Rattle.std.proofs.Common.{refl, ap, ◌∙◌, ◌++◌, ◌∷◌, [], None
 use Rattle.cam_event.specs.declared.LetterFault.TheVariants.{Short}
 use Rattle.cam_event.specs.declared.Mark.TheVariants as marks
 use Rattle.cam_cluster.proofs.AsSeen.{reads_of, works_of}
+use Rattle.cam_cluster.proofs.DisksGoOn.{goes_on_still}
 use Rattle.cam_cluster.proofs.Led.{same_works, unchanged_lines}
 use Rattle.cam_cluster.proofs.LetterEnds.{marked_cut}
 use Rattle.cam_cluster.proofs.PlacedNodes.{on_err}
 use Rattle.cam_cluster.proofs.lines.Lines.mark_cut.Goals as goal
+
+pub returns-in_err-reserve_one-clause-disks : goal.returns-in_err-reserve_one-clause-disks
+returns-in_err-reserve_one-clause-disks g c =
+    goes_on_still
 
 pub returns-in_err-reserve_one-clause-marked : goal.returns-in_err-reserve_one-clause-marked
 returns-in_err-reserve_one-clause-marked g c =
@@ -19,6 +24,10 @@ returns-in_err-reserve_one-clause-as_before g c =
     (record (works_of g.L.CheckpointLog g.L.EntryLog c.args.self.now.works) { marks = c.reserve_one.new.list.items }) (reads_of g.L.CheckpointLog g.L.EntryLog c.args.self.now.works)
     (reads_of g.L.CheckpointLog g.L.EntryLog c.args.self.now.works) c.args.self.now.bound.items c.args.self.now.bound.items
     (same_works (works_of g.L.CheckpointLog g.L.EntryLog c.args.self.now.works) c.reserve_one.new.list.items (reads_of g.L.CheckpointLog g.L.EntryLog c.args.self.now.works) c.reserve_one.ensures.same) refl)
+
+pub returns-in_err-reserve_one-2-clause-disks : goal.returns-in_err-reserve_one-2-clause-disks
+returns-in_err-reserve_one-2-clause-disks g c =
+    goes_on_still
 
 pub returns-in_err-reserve_one-2-clause-marked : goal.returns-in_err-reserve_one-2-clause-marked
 returns-in_err-reserve_one-2-clause-marked g c =
@@ -39,6 +48,10 @@ push_reserved-requires g c =
 pub push_reserved-requires-2 : goal.push_reserved-requires-2
 push_reserved-requires-2 g c =
     c.in_ok-reserve_one-2.ensures.room
+
+pub returns-clause-disks : goal.returns-clause-disks
+returns-clause-disks g c =
+    goes_on_still
 
 pub returns-clause-marked : goal.returns-clause-marked
 returns-clause-marked g c =

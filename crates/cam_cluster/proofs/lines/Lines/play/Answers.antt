@@ -1,9 +1,14 @@
 -- The line `play`.
 use Rattle.std.proofs.Common.{◌++◌, ◌∷◌, [], None, ap, ◌∙◌, rules}
 use Rattle.cam_cluster.proofs.AsSeen.{reads_of, works_of}
+use Rattle.cam_cluster.proofs.DisksGoOn.{goes_on_still}
 use Rattle.cam_cluster.proofs.PlacedNodes.{on_err}
 use Rattle.cam_cluster.proofs.PlayLine.{none_played, play_line, play_wanting}
 use Rattle.cam_cluster.proofs.lines.Lines.play.Goals as goal
+
+pub returns-in_err-reserve_one-clause-disks : goal.returns-in_err-reserve_one-clause-disks
+returns-in_err-reserve_one-clause-disks g c =
+    goes_on_still
 
 pub returns-in_err-reserve_one-clause-line : goal.returns-in_err-reserve_one-clause-line
 returns-in_err-reserve_one-clause-line g c =
@@ -31,6 +36,10 @@ pub play-requires-clause-servers : goal.play-requires-clause-servers
 play-requires-clause-servers g c =
     c.requires.servers
 
+pub returns-in_err-play-clause-disks : goal.returns-in_err-play-clause-disks
+returns-in_err-play-clause-disks g c =
+    c.play.ensures.disks
+
 pub returns-in_err-play-clause-line : goal.returns-in_err-play-clause-line
 returns-in_err-play-clause-line g c =
     search rules
@@ -53,6 +62,10 @@ returns-in_err-play-clause-servers g c =
 pub push_reserved-requires : goal.push_reserved-requires
 push_reserved-requires g c =
     c.in_ok-reserve_one.ensures.room
+
+pub returns-clause-disks : goal.returns-clause-disks
+returns-clause-disks g c =
+    c.play.ensures.disks
 
 pub returns-clause-line : goal.returns-clause-line
 returns-clause-line g c =

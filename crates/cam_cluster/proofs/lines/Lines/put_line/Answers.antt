@@ -167,6 +167,10 @@ pub unreachable-unreachable : goal.unreachable-unreachable
 unreachable-unreachable g c =
     absurd (puts_none c.args.step.now.act c.requires.input c.in-Go.is)
 
+pub returns-in-Begin-clause-disks : goal.returns-in-Begin-clause-disks
+returns-in-Begin-clause-disks g c =
+    c.begin.ensures.disks
+
 pub returns-in-Begin-clause-line : goal.returns-in-Begin-clause-line
 returns-in-Begin-clause-line g c =
     input_line c.args.step.now (lines_of g.L.CheckpointLog g.L.EntryLog c.args.self.now)
@@ -183,6 +187,10 @@ returns-in-Begin-clause-line g c =
 pub returns-in-Begin-clause-servers : goal.returns-in-Begin-clause-servers
 returns-in-Begin-clause-servers g c =
     c.begin.ensures.servers
+
+pub returns-in-Start-clause-disks : goal.returns-in-Start-clause-disks
+returns-in-Start-clause-disks g c =
+    c.start.ensures.disks
 
 pub returns-in-Start-clause-line : goal.returns-in-Start-clause-line
 returns-in-Start-clause-line g c =
@@ -201,6 +209,10 @@ pub returns-in-Start-clause-servers : goal.returns-in-Start-clause-servers
 returns-in-Start-clause-servers g c =
     c.start.ensures.servers
 
+pub returns-in-Ask-clause-disks : goal.returns-in-Ask-clause-disks
+returns-in-Ask-clause-disks g c =
+    c.ask.ensures.disks
+
 pub returns-in-Ask-clause-line : goal.returns-in-Ask-clause-line
 returns-in-Ask-clause-line g c =
     line_by c.args.step.now (lines_of g.L.CheckpointLog g.L.EntryLog c.args.self.now)
@@ -218,6 +230,10 @@ pub returns-in-Ask-clause-servers : goal.returns-in-Ask-clause-servers
 returns-in-Ask-clause-servers g c =
     c.ask.ensures.servers
 
+pub returns-in-Call-clause-disks : goal.returns-in-Call-clause-disks
+returns-in-Call-clause-disks g c =
+    c.call.ensures.disks
+
 pub returns-in-Call-clause-line : goal.returns-in-Call-clause-line
 returns-in-Call-clause-line g c =
     line_by c.args.step.now (lines_of g.L.CheckpointLog g.L.EntryLog c.args.self.now)
@@ -234,6 +250,10 @@ returns-in-Call-clause-line g c =
 pub returns-in-Call-clause-servers : goal.returns-in-Call-clause-servers
 returns-in-Call-clause-servers g c =
     c.call.ensures.servers
+
+pub returns-in-Commit-clause-disks : goal.returns-in-Commit-clause-disks
+returns-in-Commit-clause-disks g c =
+    c.commit.ensures.disks
 
 pub returns-in-Commit-clause-line : goal.returns-in-Commit-clause-line
 returns-in-Commit-clause-line g c =
@@ -259,6 +279,10 @@ pub returns-in-Commit-clause-servers : goal.returns-in-Commit-clause-servers
 returns-in-Commit-clause-servers g c =
     c.commit.ensures.servers
 
+pub returns-in-Abort-clause-disks : goal.returns-in-Abort-clause-disks
+returns-in-Abort-clause-disks g c =
+    c.abort.ensures.disks
+
 pub returns-in-Abort-clause-line : goal.returns-in-Abort-clause-line
 returns-in-Abort-clause-line g c =
     line_by c.args.step.now (lines_of g.L.CheckpointLog g.L.EntryLog c.args.self.now)
@@ -275,6 +299,10 @@ returns-in-Abort-clause-line g c =
 pub returns-in-Abort-clause-servers : goal.returns-in-Abort-clause-servers
 returns-in-Abort-clause-servers g c =
     c.abort.ensures.servers
+
+pub returns-in-GiveUp-clause-disks : goal.returns-in-GiveUp-clause-disks
+returns-in-GiveUp-clause-disks g c =
+    c.give_up.ensures.disks
 
 pub returns-in-GiveUp-clause-line : goal.returns-in-GiveUp-clause-line
 returns-in-GiveUp-clause-line g c =
@@ -295,6 +323,10 @@ pub returns-in-GiveUp-clause-servers : goal.returns-in-GiveUp-clause-servers
 returns-in-GiveUp-clause-servers g c =
     c.give_up.ensures.servers
 
+pub returns-in-Tell-clause-disks : goal.returns-in-Tell-clause-disks
+returns-in-Tell-clause-disks g c =
+    c.tell.ensures.disks
+
 pub returns-in-Tell-clause-line : goal.returns-in-Tell-clause-line
 returns-in-Tell-clause-line g c =
     input_line c.args.step.now (lines_of g.L.CheckpointLog g.L.EntryLog c.args.self.now)
@@ -312,6 +344,10 @@ pub returns-in-Tell-clause-servers : goal.returns-in-Tell-clause-servers
 returns-in-Tell-clause-servers g c =
     c.tell.ensures.servers
 
+pub returns-in-Query-clause-disks : goal.returns-in-Query-clause-disks
+returns-in-Query-clause-disks g c =
+    c.query.ensures.disks
+
 pub returns-in-Query-clause-line : goal.returns-in-Query-clause-line
 returns-in-Query-clause-line g c =
     line_by c.args.step.now (lines_of g.L.CheckpointLog g.L.EntryLog c.args.self.now)
@@ -328,6 +364,10 @@ returns-in-Query-clause-line g c =
 pub returns-in-Query-clause-servers : goal.returns-in-Query-clause-servers
 returns-in-Query-clause-servers g c =
     c.query.ensures.servers
+
+pub returns-in-Deliver-clause-disks : goal.returns-in-Deliver-clause-disks
+returns-in-Deliver-clause-disks g c =
+    c.deliver.ensures.disks
 
 pub returns-in-Deliver-clause-line : goal.returns-in-Deliver-clause-line
 returns-in-Deliver-clause-line g c =

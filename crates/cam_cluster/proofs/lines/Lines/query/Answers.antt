@@ -31,6 +31,10 @@ pub try_lead-requires-clause-servers : goal.try_lead-requires-clause-servers
 try_lead-requires-clause-servers g c =
     c.requires.servers
 
+pub returns-in-Some-clause-disks : goal.returns-in-Some-clause-disks
+returns-in-Some-clause-disks g c =
+    c.try_lead.ensures.disks
+
 pub returns-in-Some-clause-line : goal.returns-in-Some-clause-line
 returns-in-Some-clause-line g c =
     let old = lines_of g.L.CheckpointLog g.L.EntryLog c.args.self.now in
@@ -50,6 +54,10 @@ pub returns-in-Some-clause-servers : goal.returns-in-Some-clause-servers
 returns-in-Some-clause-servers g c =
     c.try_lead.ensures.servers
 
+pub returns-in-None-clause-disks : goal.returns-in-None-clause-disks
+returns-in-None-clause-disks g c =
+    c.refused.ensures.disks
+
 pub returns-in-None-clause-line : goal.returns-in-None-clause-line
 returns-in-None-clause-line g c =
     let old = lines_of g.L.CheckpointLog g.L.EntryLog c.args.self.now in
@@ -57,7 +65,7 @@ returns-in-None-clause-line g c =
     let new = lines_of g.L.CheckpointLog g.L.EntryLog c.refused.new.self in
     let may = reads_of g.L.CheckpointLog g.L.EntryLog c.refused.new.self.works in
     query_refused c.args.line c.args.node c.args.action old new might may (sym c.in-None.ensures)
-    c.refused.result c.refused.ensures
+    c.refused.result c.refused.ensures.refused
 
 pub returns-in-None-clause-servers : goal.returns-in-None-clause-servers
 returns-in-None-clause-servers g c =

@@ -2,9 +2,14 @@
 use Rattle.std.proofs.Common.{refl, ap, ◌∙◌, ◌++◌, ◌∷◌, [], None, rules}
 use Rattle.cam_event.specs.declared.Mark.TheVariants as marks
 use Rattle.cam_cluster.proofs.AsSeen.{reads_of, works_of}
+use Rattle.cam_cluster.proofs.DisksGoOn.{goes_on_still}
 use Rattle.cam_cluster.proofs.Led.{refused_by, same_works, unchanged_lines}
 use Rattle.cam_cluster.proofs.PlacedNodes.{on_err}
 use Rattle.cam_cluster.proofs.lines.Lines.refuse.Goals as goal
+
+pub returns-in_err-reserve_one-clause-disks : goal.returns-in_err-reserve_one-clause-disks
+returns-in_err-reserve_one-clause-disks g c =
+    goes_on_still
 
 pub returns-in_err-reserve_one-clause-refused : goal.returns-in_err-reserve_one-clause-refused
 returns-in_err-reserve_one-clause-refused g c =
@@ -17,6 +22,10 @@ returns-in_err-reserve_one-clause-as_before g c =
     (record (works_of g.L.CheckpointLog g.L.EntryLog c.args.self.now.works) { marks = c.reserve_one.new.list.items }) (reads_of g.L.CheckpointLog g.L.EntryLog c.args.self.now.works)
     (reads_of g.L.CheckpointLog g.L.EntryLog c.args.self.now.works) c.args.self.now.bound.items c.args.self.now.bound.items
     (same_works (works_of g.L.CheckpointLog g.L.EntryLog c.args.self.now.works) c.reserve_one.new.list.items (reads_of g.L.CheckpointLog g.L.EntryLog c.args.self.now.works) c.reserve_one.ensures.same) refl)
+
+pub returns-in_err-reserve_one-2-clause-disks : goal.returns-in_err-reserve_one-2-clause-disks
+returns-in_err-reserve_one-2-clause-disks g c =
+    goes_on_still
 
 pub returns-in_err-reserve_one-2-clause-refused : goal.returns-in_err-reserve_one-2-clause-refused
 returns-in_err-reserve_one-2-clause-refused g c =
@@ -37,6 +46,10 @@ push_reserved-requires g c =
 pub push_reserved-requires-2 : goal.push_reserved-requires-2
 push_reserved-requires-2 g c =
     c.in_ok-reserve_one-2.ensures.room
+
+pub returns-clause-disks : goal.returns-clause-disks
+returns-clause-disks g c =
+    goes_on_still
 
 pub returns-clause-refused : goal.returns-clause-refused
 returns-clause-refused g c =

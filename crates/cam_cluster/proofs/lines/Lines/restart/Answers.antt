@@ -5,6 +5,7 @@ use Rattle.cam_cluster.specs.Restarts.{HasFoundByStop}
 use Rattle.cam_cluster.proofs.AsSeen.{lines_of, part, reads_of, works_of}
 use Rattle.cam_cluster.proofs.BeginEnds.{begin_within}
 use Rattle.cam_cluster.proofs.BegunLine.{unput_may_be_written}
+use Rattle.cam_cluster.proofs.DisksGoOn.{goes_on_still}
 use Rattle.cam_cluster.proofs.Led.{unchanged_lines}
 use Rattle.cam_cluster.proofs.PlacedNodes.{each_there, sees}
 use Rattle.cam_cluster.proofs.RestartedLine.{restart_ended, restart_wanting, some_so}
@@ -53,6 +54,7 @@ returns-in_err-reserve_one g c =
           c.reserve_one.new.list.items (λ script st is keeps. keeps) c.reserve_one.ensures.same));
       by_stop =
           subst (λ r. IfOk r (HasFoundByStop (c.args.node - 1) works reads)) (sym wants) tt;
+      disks = goes_on_still;
     }
 
 pub returns-in_err-done : goal.returns-in_err-done
@@ -74,6 +76,7 @@ returns-in_err-done g c =
           c.reserve_one.ensures.same));
       by_stop =
           subst (λ r. IfOk r (HasFoundByStop (c.args.node - 1) works reads)) (sym wants) tt;
+      disks = c.restart.ensures.disks;
     }
 
 pub returns : goal.returns
@@ -92,4 +95,5 @@ returns g c =
           (c.push_reserved.ensures ∙ ap (λ bs. bs ++ None ∷ []) c.reserve_one.ensures.same)
           c.in_ok-done.done (has told)) c.in_ok-done.ensures.restarted;
       by_stop = c.in_ok-done.ensures.by_stop;
+      disks = c.restart.ensures.disks;
     }

@@ -17,6 +17,10 @@ pub overflow_sub-place : goal.overflow_sub-place
 overflow_sub-place g c =
     c.requires.low
 
+pub returns-then-is_halted-clause-disks : goal.returns-then-is_halted-clause-disks
+returns-then-is_halted-clause-disks g c =
+    c.refused.ensures.disks
+
 pub returns-then-is_halted-clause-line : goal.returns-then-is_halted-clause-line
 returns-then-is_halted-clause-line g c =
     let old = lines_of g.L.CheckpointLog g.L.EntryLog c.args.self.now in
@@ -32,7 +36,7 @@ returns-then-is_halted-clause-line g c =
     let stops = ap (is_halted c.args.self.now.works.halted) (after_is (c.args.node - 1)) ∙ sym
     c.is_halted.ensures ∙ c.if-is_halted.true in
     start_halted c.args.line (c.args.node - 1) c.args.node (let low = c.requires.low in omega
-    (arith, low)) old new might may there stops c.refused.result c.refused.ensures
+    (arith, low)) old new might may there stops c.refused.result c.refused.ensures.refused
 
 pub returns-then-is_halted-clause-servers : goal.returns-then-is_halted-clause-servers
 returns-then-is_halted-clause-servers g c =
@@ -79,6 +83,10 @@ pub lead-requires-clause-writable : goal.lead-requires-clause-writable
 lead-requires-clause-writable g c =
     unput_may_be_written _ _ c.requires.stand
 
+pub returns-in_err-lead-clause-disks : goal.returns-in_err-lead-clause-disks
+returns-in_err-lead-clause-disks g c =
+    c.lead.ensures.disks
+
 pub returns-in_err-lead-clause-line : goal.returns-in_err-lead-clause-line
 returns-in_err-lead-clause-line g c =
     let old = lines_of g.L.CheckpointLog g.L.EntryLog c.args.self.now in
@@ -93,6 +101,10 @@ returns-in_err-lead-clause-line g c =
 pub returns-in_err-lead-clause-servers : goal.returns-in_err-lead-clause-servers
 returns-in_err-lead-clause-servers g c =
     c.lead.ensures.servers
+
+pub returns-clause-disks : goal.returns-clause-disks
+returns-clause-disks g c =
+    c.lead.ensures.disks
 
 pub returns-clause-line : goal.returns-clause-line
 returns-clause-line g c =

@@ -6,6 +6,7 @@ use Rattle.cam_cluster.specs.declared.LineFault.TheVariants as line_faults
 use Rattle.cam_cluster.specs.LetterLines.{IsLineBy}
 use Rattle.cam_cluster.specs.Stops.{IsStop}
 use Rattle.cam_cluster.proofs.AsSeen.{lines_of, part, reads_of, works_of}
+use Rattle.cam_cluster.proofs.DisksGoOn.{goes_on_still}
 use Rattle.cam_cluster.proofs.Led.{unchanged_lines}
 use Rattle.cam_cluster.proofs.LineEnds.{wanting_ends}
 use Rattle.cam_cluster.proofs.PlacedNodes.{after_is, sees}
@@ -34,7 +35,8 @@ returns-then-is_halted g c =
           (let low = c.requires.low in let node = c.requires.node in omega (arith, low, node)))
           c.refused.result
           (ap (is_halted c.args.self.now.works.halted) (after_is (c.args.node - 1)) ∙ sym
-          c.is_halted.ensures ∙ c.if-is_halted.true) c.refused.ensures;
+          c.is_halted.ensures ∙ c.if-is_halted.true) c.refused.ensures.refused;
+      disks = c.refused.ensures.disks;
     }
 
 pub returns-in_err-reserve_one : goal.returns-in_err-reserve_one
@@ -54,6 +56,7 @@ returns-in_err-reserve_one g c =
           (record { works = works; bound = c.reserve_one.new.list.items }) reads reads
           (unchanged_lines works works reads reads c.args.self.now.bound.items
           c.reserve_one.new.list.items (λ script st is keeps. keeps) c.reserve_one.ensures.same));
+      disks = goes_on_still;
     }
 
 pub stop_after-requires : goal.stop_after-requires
@@ -80,6 +83,7 @@ returns g c =
           (c.args.node - 1)
           (let low = c.requires.low in let node = c.requires.node in omega (arith, low, node)))
           (ap (is_halted c.args.self.now.works.halted) (after_is (c.args.node - 1)) ∙ sym
-          c.is_halted.ensures ∙ c.if-is_halted.false) c.stop_after.ensures
+          c.is_halted.ensures ∙ c.if-is_halted.false) c.stop_after.ensures.stopped
           (c.push_reserved.ensures ∙ ap (λ bs. bs ++ None ∷ []) c.reserve_one.ensures.same);
+      disks = c.stop_after.ensures.disks;
     }

@@ -41,6 +41,10 @@ put_line-requires g c =
       servers = c.requires.servers;
     }
 
+pub returns-in-Ok-clause-disks : goal.returns-in-Ok-clause-disks
+returns-in-Ok-clause-disks g c =
+    c.lose.ensures.disks
+
 pub returns-in-Ok-clause-line : goal.returns-in-Ok-clause-line
 returns-in-Ok-clause-line g c =
     subst (λ (a : Act). IsStepTaken (record { line = c.args.step.now.line; act = a })
@@ -57,6 +61,10 @@ returns-in-Ok-clause-line g c =
 pub returns-in-Ok-clause-servers : goal.returns-in-Ok-clause-servers
 returns-in-Ok-clause-servers g c =
     c.requires.servers
+
+pub returns-in-Err-clause-disks : goal.returns-in-Err-clause-disks
+returns-in-Err-clause-disks g c =
+    c.lose.ensures.disks
 
 pub returns-in-Err-clause-line : goal.returns-in-Err-clause-line
 returns-in-Err-clause-line g c =
@@ -75,6 +83,10 @@ returns-in-Err-clause-line g c =
 pub returns-in-Err-clause-servers : goal.returns-in-Err-clause-servers
 returns-in-Err-clause-servers g c =
     c.requires.servers
+
+pub returns-in-Ok-Bad-clause-disks : goal.returns-in-Ok-Bad-clause-disks
+returns-in-Ok-Bad-clause-disks g c =
+    c.cut.ensures.disks
 
 pub returns-in-Ok-Bad-clause-line : goal.returns-in-Ok-Bad-clause-line
 returns-in-Ok-Bad-clause-line g c =
@@ -99,6 +111,10 @@ pub returns-in-Ok-Bad-clause-servers : goal.returns-in-Ok-Bad-clause-servers
 returns-in-Ok-Bad-clause-servers g c =
     c.cut.ensures.servers
 
+pub returns-in-Ok-Delivered-clause-disks : goal.returns-in-Ok-Delivered-clause-disks
+returns-in-Ok-Delivered-clause-disks g c =
+    c.cut.ensures.disks
+
 pub returns-in-Ok-Delivered-clause-line : goal.returns-in-Ok-Delivered-clause-line
 returns-in-Ok-Delivered-clause-line g c =
     subst (λ (a : Act). IsStepTaken (record { line = c.args.step.now.line; act = a })
@@ -122,6 +138,10 @@ returns-in-Ok-Delivered-clause-line g c =
 pub returns-in-Ok-Delivered-clause-servers : goal.returns-in-Ok-Delivered-clause-servers
 returns-in-Ok-Delivered-clause-servers g c =
     c.cut.ensures.servers
+
+pub returns-in-Err-cut-clause-disks : goal.returns-in-Err-cut-clause-disks
+returns-in-Err-cut-clause-disks g c =
+    c.cut.ensures.disks
 
 pub returns-in-Err-cut-clause-line : goal.returns-in-Err-cut-clause-line
 returns-in-Err-cut-clause-line g c =
@@ -153,6 +173,7 @@ returns-in-Ok-put_line g c =
           (other_input c.args.step.now.act c.requires.built c.in_default.not-Cut c.in_default.not-Drain
           c.in_default.not-Lose) c.in-Ok-put_line.field-0 c.in-Ok-put_line.ensures.line;
       servers = c.in-Ok-put_line.ensures.servers;
+      disks = c.put_line.ensures.disks;
     }
 
 pub returns-in-Err-put_line : goal.returns-in-Err-put_line
@@ -166,6 +187,7 @@ returns-in-Err-put_line g c =
           (other_input c.args.step.now.act c.requires.built c.in_default.not-Cut c.in_default.not-Drain
           c.in_default.not-Lose) c.in-Err-put_line.fault c.in-Err-put_line.ensures.line;
       servers = c.in-Err-put_line.ensures.servers;
+      disks = c.put_line.ensures.disks;
     }
 
 pub drain-requires-clause-stand : goal.drain-requires-clause-stand
@@ -177,6 +199,10 @@ drain-requires-clause-stand g c =
 pub drain-requires-clause-servers : goal.drain-requires-clause-servers
 drain-requires-clause-servers g c =
     c.requires.servers
+
+pub returns-in-Ok-drain-clause-disks : goal.returns-in-Ok-drain-clause-disks
+returns-in-Ok-drain-clause-disks g c =
+    c.drain.ensures.disks
 
 pub returns-in-Ok-drain-clause-line : goal.returns-in-Ok-drain-clause-line
 returns-in-Ok-drain-clause-line g c =
@@ -195,6 +221,10 @@ returns-in-Ok-drain-clause-line g c =
 pub returns-in-Ok-drain-clause-servers : goal.returns-in-Ok-drain-clause-servers
 returns-in-Ok-drain-clause-servers g c =
     c.drain.ensures.servers
+
+pub returns-in-Err-drain-clause-disks : goal.returns-in-Err-drain-clause-disks
+returns-in-Err-drain-clause-disks g c =
+    c.drain.ensures.disks
 
 pub returns-in-Err-drain-clause-line : goal.returns-in-Err-drain-clause-line
 returns-in-Err-drain-clause-line g c =

@@ -3,6 +3,7 @@ use Rattle.std.proofs.Common.{◌≡◌, Err, refl, sym, ◌∙◌, subst, rules
 use Rattle.cam_cluster.specs.declared.LineFault.TheVariants as line_faults
 use Rattle.cam_cluster.specs.LetterLines.{HasTaken}
 use Rattle.cam_cluster.proofs.AsSeen.{lines_of, reads_of, works_of}
+use Rattle.cam_cluster.proofs.DisksGoOn.{goes_on_then}
 use Rattle.cam_cluster.proofs.HandedOver.{works_may_be_written}
 use Rattle.cam_cluster.proofs.Led.{unchanged_lines}
 use Rattle.cam_cluster.proofs.LetterEnds.{halted_letter, no_letter}
@@ -16,8 +17,12 @@ put_letters-requires g c = record {
       (works_of_lines (lines_of g.L.CheckpointLog g.L.EntryLog c.args.self.now) (reads_of g.L.CheckpointLog g.L.EntryLog c.args.self.now.works) c.requires.stand);
 }
 
-pub returns-in_err-put_letters : goal.returns-in_err-put_letters
-returns-in_err-put_letters g c =
+pub returns-in_err-put_letters-clause-disks : goal.returns-in_err-put_letters-clause-disks
+returns-in_err-put_letters-clause-disks g c =
+    c.put_letters.ensures.disks
+
+pub returns-in_err-put_letters-clause-taken : goal.returns-in_err-put_letters-clause-taken
+returns-in_err-put_letters-clause-taken g c =
     let wants : c.from_residual.result ≡ Err line_faults.NoMemory = search rules in
     subst (λ r. HasTaken c.args.line c.args.number (lines_of g.L.CheckpointLog g.L.EntryLog c.args.self.now)
     (reads_of g.L.CheckpointLog g.L.EntryLog c.args.self.now.works) (record {
@@ -33,8 +38,12 @@ returns-in_err-put_letters g c =
 pub coming-requires : goal.coming-requires
 coming-requires g c = record { all = c.in_ok-put_letters.ensures.all }
 
-pub returns-in_err-refuse : goal.returns-in_err-refuse
-returns-in_err-refuse g c =
+pub returns-in_err-refuse-clause-disks : goal.returns-in_err-refuse-clause-disks
+returns-in_err-refuse-clause-disks g c =
+    goes_on_then c.put_letters.ensures.disks c.refuse.ensures.disks
+
+pub returns-in_err-refuse-clause-taken : goal.returns-in_err-refuse-clause-taken
+returns-in_err-refuse-clause-taken g c =
     let wants : c.from_residual-in_err-refuse.result ≡ Err line_faults.NoMemory = search rules in
     subst (λ r. HasTaken c.args.line c.args.number (lines_of g.L.CheckpointLog g.L.EntryLog c.args.self.now)
     (reads_of g.L.CheckpointLog g.L.EntryLog c.args.self.now.works)
@@ -53,8 +62,12 @@ returns-in_err-refuse g c =
     (reads_of g.L.CheckpointLog g.L.EntryLog c.put_letters.new.self) c.args.self.now.bound.items c.args.self.now.bound.items
     c.put_letters.ensures.as_before refl) c.in_err-refuse.ensures.as_before)
 
-pub returns-in_default : goal.returns-in_default
-returns-in_default g c =
+pub returns-in_default-clause-disks : goal.returns-in_default-clause-disks
+returns-in_default-clause-disks g c =
+    goes_on_then c.put_letters.ensures.disks c.refuse.ensures.disks
+
+pub returns-in_default-clause-taken : goal.returns-in_default-clause-taken
+returns-in_default-clause-taken g c =
     no_letter c.args.line c.args.number (lines_of g.L.CheckpointLog g.L.EntryLog c.args.self.now) (record {
       works = works_of g.L.CheckpointLog g.L.EntryLog c.put_letters.new.self;
       bound = c.args.self.now.bound.items;
@@ -69,8 +82,12 @@ returns-in_default g c =
     (reads_of g.L.CheckpointLog g.L.EntryLog c.refuse.new.self.works)
     c.in_default.ensures.found c.in_ok-refuse.ensures.refused
 
-pub returns-in_err-refuse-2 : goal.returns-in_err-refuse-2
-returns-in_err-refuse-2 g c =
+pub returns-in_err-refuse-2-clause-disks : goal.returns-in_err-refuse-2-clause-disks
+returns-in_err-refuse-2-clause-disks g c =
+    goes_on_then c.put_letters.ensures.disks c.refuse-then-is_halted.ensures.disks
+
+pub returns-in_err-refuse-2-clause-taken : goal.returns-in_err-refuse-2-clause-taken
+returns-in_err-refuse-2-clause-taken g c =
     let wants : c.from_residual-in_err-refuse-2.result ≡ Err line_faults.NoMemory = search rules in
     subst (λ r. HasTaken c.args.line c.args.number (lines_of g.L.CheckpointLog g.L.EntryLog c.args.self.now)
     (reads_of g.L.CheckpointLog g.L.EntryLog c.args.self.now.works)
@@ -89,8 +106,12 @@ returns-in_err-refuse-2 g c =
     (reads_of g.L.CheckpointLog g.L.EntryLog c.put_letters.new.self) c.args.self.now.bound.items c.args.self.now.bound.items
     c.put_letters.ensures.as_before refl) c.in_err-refuse-2.ensures.as_before)
 
-pub returns-then-is_halted : goal.returns-then-is_halted
-returns-then-is_halted g c =
+pub returns-then-is_halted-clause-disks : goal.returns-then-is_halted-clause-disks
+returns-then-is_halted-clause-disks g c =
+    goes_on_then c.put_letters.ensures.disks c.refuse-then-is_halted.ensures.disks
+
+pub returns-then-is_halted-clause-taken : goal.returns-then-is_halted-clause-taken
+returns-then-is_halted-clause-taken g c =
     halted_letter c.args.line c.args.number (lines_of g.L.CheckpointLog g.L.EntryLog c.args.self.now) (record {
       works = works_of g.L.CheckpointLog g.L.EntryLog c.put_letters.new.self;
       bound = c.args.self.now.bound.items;
@@ -106,8 +127,12 @@ returns-then-is_halted g c =
     c.in-Some.coming c.in-Some.ensures.found (sym c.is_halted.ensures ∙ c.if-is_halted.true)
     c.in_ok-refuse-2.ensures.refused
 
-pub returns : goal.returns
-returns g c = record {
+pub returns-clause-disks : goal.returns-clause-disks
+returns-clause-disks g c =
+    c.put_letters.ensures.disks
+
+pub returns-clause-taken : goal.returns-clause-taken
+returns-clause-taken g c = record {
   as_before =
       (unchanged_lines (works_of g.L.CheckpointLog g.L.EntryLog c.args.self.now.works) (works_of g.L.CheckpointLog g.L.EntryLog c.put_letters.new.self)
       (reads_of g.L.CheckpointLog g.L.EntryLog c.args.self.now.works)

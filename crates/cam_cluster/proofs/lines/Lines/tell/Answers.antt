@@ -26,6 +26,10 @@ pub try_lead-requires-clause-servers : goal.try_lead-requires-clause-servers
 try_lead-requires-clause-servers g c =
     c.requires.servers
 
+pub returns-clause-disks : goal.returns-clause-disks
+returns-clause-disks g c =
+    c.try_lead.ensures.disks
+
 pub returns-clause-line : goal.returns-clause-line
 returns-clause-line g c =
     let old = lines_of g.L.CheckpointLog g.L.EntryLog c.args.self.now in

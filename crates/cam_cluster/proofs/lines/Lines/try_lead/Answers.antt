@@ -12,6 +12,10 @@ use Rattle.cam_cluster.proofs.TriedEnds.{one_there, place_of, tried_halted, trie
 use Rattle.cam_cluster.proofs.TriedEnds.{tried_may, tried_refused, tried_there, tried_wanting}
 use Rattle.cam_cluster.proofs.lines.Lines.try_lead.Goals as goal
 
+pub returns-then-is_halted-clause-disks : goal.returns-then-is_halted-clause-disks
+returns-then-is_halted-clause-disks g c =
+    c.refused.ensures.disks
+
 pub returns-then-is_halted-clause-line : goal.returns-then-is_halted-clause-line
 returns-then-is_halted-clause-line g c =
     let old = lines_of g.L.CheckpointLog g.L.EntryLog c.args.self.now in
@@ -22,7 +26,7 @@ returns-then-is_halted-clause-line g c =
     let stops = ap (is_halted c.args.self.now.works.halted) (after_is c.args.place) ∙ sym
     c.is_halted.ensures ∙ c.if-is_halted.true in
     tried_halted c.args.line c.args.place c.args.input.now old new might may within stops
-    c.refused.result c.refused.ensures
+    c.refused.result c.refused.ensures.refused
 
 pub returns-then-is_halted-clause-servers : goal.returns-then-is_halted-clause-servers
 returns-then-is_halted-clause-servers g c =
@@ -85,6 +89,10 @@ lead-requires-clause-writable g c =
     let some = tried_lines (c.args.place + 1) c.args.input.now old might c.requires.to in
     unput_may_be_written _ _ some
 
+pub returns-in_err-lead-in-None-clause-disks : goal.returns-in_err-lead-in-None-clause-disks
+returns-in_err-lead-in-None-clause-disks g c =
+    c.lead.ensures.disks
+
 pub returns-in_err-lead-in-None-clause-line : goal.returns-in_err-lead-in-None-clause-line
 returns-in_err-lead-in-None-clause-line g c =
     let old = lines_of g.L.CheckpointLog g.L.EntryLog c.args.self.now in
@@ -100,6 +108,10 @@ returns-in_err-lead-in-None-clause-line g c =
 pub returns-in_err-lead-in-None-clause-servers : goal.returns-in_err-lead-in-None-clause-servers
 returns-in_err-lead-in-None-clause-servers g c =
     c.lead.ensures.servers
+
+pub returns-in-Some-clause-disks : goal.returns-in-Some-clause-disks
+returns-in-Some-clause-disks g c =
+    c.refused-in-Some.ensures.disks
 
 pub returns-in-Some-clause-line : goal.returns-in-Some-clause-line
 returns-in-Some-clause-line g c =
@@ -118,11 +130,15 @@ returns-in-Some-clause-line g c =
     c.is_halted.ensures ∙ c.if-is_halted.false in
     tried_refused c.args.line c.args.place c.args.input.now old new might may within
     c.in-Some.refusal runs _ seen c.in-Some.ensures.rule c.refused-in-Some.result
-    c.refused-in-Some.ensures
+    c.refused-in-Some.ensures.refused
 
 pub returns-in-Some-clause-servers : goal.returns-in-Some-clause-servers
 returns-in-Some-clause-servers g c =
     c.requires.servers
+
+pub returns-in_ok-lead-in-None-clause-disks : goal.returns-in_ok-lead-in-None-clause-disks
+returns-in_ok-lead-in-None-clause-disks g c =
+    c.lead.ensures.disks
 
 pub returns-in_ok-lead-in-None-clause-line : goal.returns-in_ok-lead-in-None-clause-line
 returns-in_ok-lead-in-None-clause-line g c =

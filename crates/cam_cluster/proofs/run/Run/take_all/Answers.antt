@@ -2,7 +2,9 @@
 use Rattle.std.proofs.Common.{◌≤◌, ◌∙◌, ℕ, ap, arith, length, refl, subst}
 use Rattle.cam_script.specs.declared.Act.TheVariants.{Begin}
 use Rattle.cam_cluster.specs.WholeRuns.{HasTakenLines}
-use Rattle.cam_cluster.proofs.AsSeen.{lines_of, reads_of}
+use Rattle.cam_cluster.proofs.AsSeen.{lines_of, part, reads_of}
+use Rattle.cam_cluster.proofs.DisksGoOn.{goes_on_still, goes_on_then}
+use Rattle.cam_cluster.proofs.RunDisks.{all_tell}
 use Rattle.cam_cluster.proofs.WholeRuns.{none_taken, step_at}
 use Rattle.cam_cluster.proofs.run.Run.take_all.Goals as goal
 
@@ -11,9 +13,14 @@ loop-step-init g c =
     record {
       taken =
           none_taken c.args.script.now _ _ _ c.requires.before_first.between
-          c.requires.before_first.workers c.in_ok-unfailing.ensures.unfailing;
+          c.requires.before_first.workers (
+            c.requires.nothing,
+            all_tell (part g.L.CheckpointLog g.L.EntryLog)
+                (λ node. g.met.L.TellingLog.always node.log.log) _,
+          );
       servers = c.requires.servers;
       items = c.as_slice-step-items.ensures;
+      disks = goes_on_still;
       as_many = refl;
     }
 
@@ -36,7 +43,8 @@ loop-step-preserved g c =
       taken = c.in_ok-take_next.ensures.taken c.loop-step.step-index c.loop-step.invariant.taken at;
       servers = c.in_ok-take_next.ensures.servers;
       items = c.loop-step.invariant.items;
-      as_many = c.in_ok-take_next.ensures.as_many ∙ c.loop-step.invariant.as_many;
+      disks = goes_on_then c.loop-step.invariant.disks c.take_next.ensures.disks;
+      as_many = c.take_next.ensures.as_many ∙ c.loop-step.invariant.as_many;
     }
 
 pub returns-clause-all : goal.returns-clause-all
@@ -47,3 +55,19 @@ returns-clause-all g c =
     (reads_of g.L.CheckpointLog g.L.EntryLog c.loop-step.self.course.lines.works)
     c.loop-step.self.course.workers)
     (omega (arith, end) ∙ ap length c.loop-step.invariant.items) c.loop-step.invariant.taken
+
+pub returns-in_err-take_next-clause-disks : goal.returns-in_err-take_next-clause-disks
+returns-in_err-take_next-clause-disks g c =
+    goes_on_then c.loop-step.invariant.disks c.take_next.ensures.disks
+
+pub returns-clause-disks : goal.returns-clause-disks
+returns-clause-disks g c =
+    c.loop-step.invariant.disks
+
+pub returns-in_err-take_next-clause-as_many : goal.returns-in_err-take_next-clause-as_many
+returns-in_err-take_next-clause-as_many g c =
+    c.take_next.ensures.as_many ∙ c.loop-step.invariant.as_many
+
+pub returns-clause-as_many : goal.returns-clause-as_many
+returns-clause-as_many g c =
+    c.loop-step.invariant.as_many

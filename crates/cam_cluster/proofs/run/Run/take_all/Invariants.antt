@@ -1,8 +1,9 @@
 -- The lines before this one were taken.
 use Rattle.std.proofs.Common.{◌≡◌, length}
+use Rattle.cam_cluster.specs.Failing.{DisksGoOn}
 use Rattle.cam_cluster.specs.Servers.{AreServers}
 use Rattle.cam_cluster.specs.WholeRuns.{HasTakenLines}
-use Rattle.cam_cluster.proofs.AsSeen.{lines_of, reads_of}
+use Rattle.cam_cluster.proofs.AsSeen.{lines_of, reads_of, works_of}
 use Rattle.cam_cluster.proofs.run.Run.take_all.Given as goal
 
 abbrev pub invariant-loop-step : goal.invariant-loop-step
@@ -13,6 +14,10 @@ invariant-loop-step g l = record {
   servers : AreServers g.R.DataType.kind g.Q.DataType.kind g.C.DataType.kind l.servers.register
       l.servers.queue l.servers.counter;
   items : l.step-items ≡ l.fn.script.steps;
-  as_many : length l.self.course.lines.works.nodes.items
+  disks :
+      DisksGoOn (works_of g.L.CheckpointLog g.L.EntryLog l.fn.self.course.lines.works)
+      (works_of g.L.CheckpointLog g.L.EntryLog l.self.course.lines.works);
+  as_many :
+      length l.self.course.lines.works.nodes.items
       ≡ length l.fn.self.course.lines.works.nodes.items;
 }

@@ -1,9 +1,9 @@
 -- The next line is taken, or refused.
 use Rattle.std.proofs.Common.{OnOk, Result, Ok, Err}
-use Rattle.cam_cluster.specs.declared.run.RunFault.{RunFault}
+use Rattle.cam_cluster.specs.declared.fault.RunFault.{RunFault}
 use Rattle.cam_cluster.proofs.AsSeen.{lines_of, part, reads_of}
-use Rattle.cam_cluster.proofs.LedRuns.{next_led, next_refused}
-use Rattle.cam_cluster.proofs.NodesStay.{as_many, nodes_stay}
+use Rattle.cam_cluster.proofs.FoundedDisks.{nodes_as_many}
+use Rattle.cam_cluster.proofs.LedRuns.{next_failed, next_led, next_refused}
 use Rattle.cam_cluster.proofs.WholeRuns.{next_of_course}
 use Rattle.cam_cluster.proofs.run.Run.take_next.Goals as goal
 
@@ -47,50 +47,40 @@ returns-in-Err-Line-Refused-clause-taken g c =
     c.in-Err-Line-Refused.field-0-0-is c.in-Err-Line-Refused.ensures.line unfailing)
     c.unfailing-in-Err-Line-Refused.ensures.unfailing
 
-pub returns-in-Ok-clause-as_many : goal.returns-in-Ok-clause-as_many
-returns-in-Ok-clause-as_many g c =
-    as_many (part g.L.CheckpointLog g.L.EntryLog)
-    c.args.self.now.course.lines.works.nodes.items c.take.new.self.lines.works.nodes.items
-    (nodes_stay c.args.script.now c.args.step.now
+pub returns-in-Err-RestartFailed-clause-taken : goal.returns-in-Err-RestartFailed-clause-taken
+returns-in-Err-RestartFailed-clause-taken g c =
+    on_ok c.unfailing-in-Err-RestartFailed.result _ _
+    (λ unfailing.
+    next_failed c.args.script.now c.args.step.now
     (lines_of g.L.CheckpointLog g.L.EntryLog c.args.self.now.course.lines)
     (lines_of g.L.CheckpointLog g.L.EntryLog c.take.new.self.lines)
     (reads_of g.L.CheckpointLog g.L.EntryLog c.args.self.now.course.lines.works)
     (reads_of g.L.CheckpointLog g.L.EntryLog c.take.new.self.lines.works)
-    c.args.self.now.course.workers c.take.new.self.workers c.take.result c.requires.next
-    c.take.ensures.line)
+    c.args.self.now.course.workers c.take.new.self.workers
+    c.in-Err-RestartFailed.field-0 c.in-Err-RestartFailed.field-0-is
+    c.in-Err-RestartFailed.ensures.line unfailing)
+    c.unfailing-in-Err-RestartFailed.ensures.unfailing
+
+pub returns-in-Ok-clause-as_many : goal.returns-in-Ok-clause-as_many
+returns-in-Ok-clause-as_many g c =
+    nodes_as_many (part g.L.CheckpointLog g.L.EntryLog)
+    c.args.self.now.course.lines.works.nodes.items c.take.new.self.lines.works.nodes.items
+    c.take.ensures.disks.later
 
 pub returns-in-Err-Line-Refused-clause-as_many : goal.returns-in-Err-Line-Refused-clause-as_many
 returns-in-Err-Line-Refused-clause-as_many g c =
-    as_many (part g.L.CheckpointLog g.L.EntryLog)
+    nodes_as_many (part g.L.CheckpointLog g.L.EntryLog)
     c.args.self.now.course.lines.works.nodes.items c.take.new.self.lines.works.nodes.items
-    (nodes_stay c.args.script.now c.args.step.now
-    (lines_of g.L.CheckpointLog g.L.EntryLog c.args.self.now.course.lines)
-    (lines_of g.L.CheckpointLog g.L.EntryLog c.take.new.self.lines)
-    (reads_of g.L.CheckpointLog g.L.EntryLog c.args.self.now.course.lines.works)
-    (reads_of g.L.CheckpointLog g.L.EntryLog c.take.new.self.lines.works)
-    c.args.self.now.course.workers c.take.new.self.workers c.take.result c.requires.next
-    c.take.ensures.line)
+    c.take.ensures.disks.later
 
 pub returns-in-Err-Line-NoMemory-clause-as_many : goal.returns-in-Err-Line-NoMemory-clause-as_many
 returns-in-Err-Line-NoMemory-clause-as_many g c =
-    as_many (part g.L.CheckpointLog g.L.EntryLog)
+    nodes_as_many (part g.L.CheckpointLog g.L.EntryLog)
     c.args.self.now.course.lines.works.nodes.items c.take.new.self.lines.works.nodes.items
-    (nodes_stay c.args.script.now c.args.step.now
-    (lines_of g.L.CheckpointLog g.L.EntryLog c.args.self.now.course.lines)
-    (lines_of g.L.CheckpointLog g.L.EntryLog c.take.new.self.lines)
-    (reads_of g.L.CheckpointLog g.L.EntryLog c.args.self.now.course.lines.works)
-    (reads_of g.L.CheckpointLog g.L.EntryLog c.take.new.self.lines.works)
-    c.args.self.now.course.workers c.take.new.self.workers c.take.result c.requires.next
-    c.take.ensures.line)
+    c.take.ensures.disks.later
 
 pub returns-in-Err-RestartFailed-clause-as_many : goal.returns-in-Err-RestartFailed-clause-as_many
 returns-in-Err-RestartFailed-clause-as_many g c =
-    as_many (part g.L.CheckpointLog g.L.EntryLog)
+    nodes_as_many (part g.L.CheckpointLog g.L.EntryLog)
     c.args.self.now.course.lines.works.nodes.items c.take.new.self.lines.works.nodes.items
-    (nodes_stay c.args.script.now c.args.step.now
-    (lines_of g.L.CheckpointLog g.L.EntryLog c.args.self.now.course.lines)
-    (lines_of g.L.CheckpointLog g.L.EntryLog c.take.new.self.lines)
-    (reads_of g.L.CheckpointLog g.L.EntryLog c.args.self.now.course.lines.works)
-    (reads_of g.L.CheckpointLog g.L.EntryLog c.take.new.self.lines.works)
-    c.args.self.now.course.workers c.take.new.self.workers c.take.result c.requires.next
-    c.take.ensures.line)
+    c.take.ensures.disks.later

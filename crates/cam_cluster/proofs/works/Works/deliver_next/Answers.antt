@@ -2,6 +2,7 @@
 use Rattle.std.proofs.Common.{ap, ◌∙◌, rules}
 use Rattle.cam_net.specs.Waiting.{next_of}
 use Rattle.cam_cluster.proofs.AsSeen.{reads_of, works_of}
+use Rattle.cam_cluster.proofs.DisksGoOn.{goes_on_then}
 use Rattle.cam_cluster.proofs.HandedOver.{works_may_be_written}
 use Rattle.cam_cluster.proofs.LineEnds.{some_works, then_before}
 use Rattle.cam_cluster.proofs.NextDelivered.{handed_next, next_awake, next_found, none_next}
@@ -12,6 +13,10 @@ pub put_letters-requires : goal.put_letters-requires
 put_letters-requires g c = record {
   writable = works_may_be_written (works_of g.L.CheckpointLog g.L.EntryLog c.args.self.now) (reads_of g.L.CheckpointLog g.L.EntryLog c.args.self.now) c.requires.stand;
 }
+
+pub returns-in_err-put_letters-clause-disks : goal.returns-in_err-put_letters-clause-disks
+returns-in_err-put_letters-clause-disks g c =
+    c.put_letters.ensures.disks
 
 pub returns-in_err-put_letters-clause-next : goal.returns-in_err-put_letters-clause-next
 returns-in_err-put_letters-clause-next g c =
@@ -24,6 +29,10 @@ returns-in_err-put_letters-clause-as_before g c =
 pub returns-in_err-put_letters-clause-servers : goal.returns-in_err-put_letters-clause-servers
 returns-in_err-put_letters-clause-servers g c =
     c.requires.servers
+
+pub returns-in_default-clause-disks : goal.returns-in_default-clause-disks
+returns-in_default-clause-disks g c =
+    c.put_letters.ensures.disks
 
 pub returns-in_default-clause-next : goal.returns-in_default-clause-next
 returns-in_default-clause-next g c =
@@ -61,6 +70,10 @@ read-requires-clause-stand g c =
 pub read-requires-clause-found : goal.read-requires-clause-found
 read-requires-clause-found g c =
     c.in-Some-coming.ensures.found
+
+pub returns-in_err-letter-clause-disks : goal.returns-in_err-letter-clause-disks
+returns-in_err-letter-clause-disks g c =
+    c.put_letters.ensures.disks
 
 pub returns-in_err-letter-clause-next : goal.returns-in_err-letter-clause-next
 returns-in_err-letter-clause-next g c =
@@ -100,6 +113,10 @@ pub hand_over-requires-clause-servers : goal.hand_over-requires-clause-servers
 hand_over-requires-clause-servers g c =
     c.requires.servers
 
+pub returns-in_err-done-clause-disks : goal.returns-in_err-done-clause-disks
+returns-in_err-done-clause-disks g c =
+    goes_on_then c.put_letters.ensures.disks c.hand_over.ensures.disks
+
 pub returns-in_err-done-clause-next : goal.returns-in_err-done-clause-next
 returns-in_err-done-clause-next g c =
     search rules
@@ -113,6 +130,10 @@ returns-in_err-done-clause-as_before g c =
 pub returns-in_err-done-clause-servers : goal.returns-in_err-done-clause-servers
 returns-in_err-done-clause-servers g c =
     c.hand_over.ensures.servers
+
+pub returns-clause-disks : goal.returns-clause-disks
+returns-clause-disks g c =
+    goes_on_then c.put_letters.ensures.disks c.hand_over.ensures.disks
 
 pub returns-clause-next : goal.returns-clause-next
 returns-clause-next g c =

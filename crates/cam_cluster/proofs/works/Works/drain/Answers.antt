@@ -1,6 +1,7 @@
 -- The letters that wait are handed over, one after another.
 use Rattle.std.proofs.Common.{sym, ◌∙◌, rules}
 use Rattle.cam_cluster.proofs.AsSeen.{reads_of, works_of}
+use Rattle.cam_cluster.proofs.DisksGoOn.{goes_on_still, goes_on_then}
 use Rattle.cam_cluster.proofs.Drains.{and_next, and_over, and_wanting, next_none, next_some}
 use Rattle.cam_cluster.proofs.Drains.{none_so_far}
 use Rattle.cam_cluster.proofs.NextDelivered.{some_behind, weighs_less}
@@ -12,6 +13,7 @@ loop-init g c = record {
   so_far = none_so_far c.args.line (works_of g.L.CheckpointLog g.L.EntryLog c.args.self.now) (reads_of g.L.CheckpointLog g.L.EntryLog c.args.self.now);
   some = c.requires.stand;
   servers = c.requires.servers;
+  disks = goes_on_still;
 }
 
 pub deliver_next-requires-clause-stand : goal.deliver_next-requires-clause-stand
@@ -21,6 +23,10 @@ deliver_next-requires-clause-stand g c =
 pub deliver_next-requires-clause-servers : goal.deliver_next-requires-clause-servers
 deliver_next-requires-clause-servers g c =
     c.loop.invariant.servers
+
+pub returns-in_err-deliver_next-clause-disks : goal.returns-in_err-deliver_next-clause-disks
+returns-in_err-deliver_next-clause-disks g c =
+    goes_on_then c.loop.invariant.disks c.deliver_next.ensures.disks
 
 pub returns-in_err-deliver_next-clause-drained : goal.returns-in_err-deliver_next-clause-drained
 returns-in_err-deliver_next-clause-drained g c =
@@ -53,7 +59,12 @@ loop-preserved g c =
           next.1;
       some = some_behind c.args.line (works_of g.L.CheckpointLog g.L.EntryLog c.loop.self) (works_of g.L.CheckpointLog g.L.EntryLog c.deliver_next.new.self) (reads_of g.L.CheckpointLog g.L.EntryLog c.loop.self) (reads_of g.L.CheckpointLog g.L.EntryLog c.deliver_next.new.self) next.0 c.loop.invariant.some next.1;
       servers = c.deliver_next.ensures.servers;
+      disks = goes_on_then c.loop.invariant.disks c.deliver_next.ensures.disks;
     }
+
+pub returns-clause-disks : goal.returns-clause-disks
+returns-clause-disks g c =
+    goes_on_then c.loop.invariant.disks c.deliver_next.ensures.disks
 
 pub returns-clause-drained : goal.returns-clause-drained
 returns-clause-drained g c =

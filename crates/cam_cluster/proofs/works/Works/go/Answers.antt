@@ -3,6 +3,7 @@ use Rattle.std.proofs.Common.{ℕ, ◌≤◌, ◌-◌, length, rules, sym, ◌�
 use Rattle.cam_node.specs.declared.Input.TheVariants as inputs
 use Rattle.cam_cluster.specs.SoFar.{IsBinding}
 use Rattle.cam_cluster.proofs.AsSeen.{part, reads_of, works_of}
+use Rattle.cam_cluster.proofs.DisksGoOn.{goes_on_still}
 use Rattle.cam_cluster.proofs.GoneOn.{CatchesUp, idle_gone, is_next, request_gone, rests}
 use Rattle.cam_cluster.proofs.HomeSteps.{goes_writably, home_has_numbers, home_is_free}
 use Rattle.cam_cluster.proofs.HomeSteps.{home_runs, home_there, home_within}
@@ -19,6 +20,10 @@ catch_up-requires g c =
     let many = as_many c.args.self.now.events.events.items goes.standing.running.trace goes.keeps.events in
     subst (λ es. c.args.workers.now.events ≤ length es) (sym c.as_slice.ensures.value)
     (omega (arith, fits, many))
+
+pub returns-in_err-catch_up-clause-disks : goal.returns-in_err-catch_up-clause-disks
+returns-in_err-catch_up-clause-disks g c =
+    goes_on_still
 
 pub returns-in_err-catch_up-clause-gone : goal.returns-in_err-catch_up-clause-gone
 returns-in_err-catch_up-clause-gone g c =
@@ -37,6 +42,10 @@ returns-in_err-catch_up-clause-workers_as_before g c =
 pub returns-in_err-catch_up-clause-servers : goal.returns-in_err-catch_up-clause-servers
 returns-in_err-catch_up-clause-servers g c =
     c.requires.servers
+
+pub returns-in_err-reserve-clause-disks : goal.returns-in_err-reserve-clause-disks
+returns-in_err-reserve-clause-disks g c =
+    goes_on_still
 
 pub returns-in_err-reserve-clause-gone : goal.returns-in_err-reserve-clause-gone
 returns-in_err-reserve-clause-gone g c =
@@ -64,6 +73,10 @@ overflow_cast-place g c =
 pub put-requires-clause-servers : goal.put-requires-clause-servers
 put-requires-clause-servers g c =
     c.requires.servers
+
+pub returns-in_err-done-in-Request-clause-disks : goal.returns-in_err-done-in-Request-clause-disks
+returns-in_err-done-in-Request-clause-disks g c =
+    c.put.ensures.disks
 
 pub returns-in_err-done-in-Request-clause-gone : goal.returns-in_err-done-in-Request-clause-gone
 returns-in_err-done-in-Request-clause-gone g c =
@@ -151,6 +164,10 @@ returns-in_err-done-in-Request-clause-servers g c =
 pub give_body-requires : goal.give_body-requires
 give_body-requires g c = c.in_ok-reserve.ensures.room
 
+pub returns-in_ok-done-in-Request-clause-disks : goal.returns-in_ok-done-in-Request-clause-disks
+returns-in_ok-done-in-Request-clause-disks g c =
+    c.put.ensures.disks
+
 pub returns-in_ok-done-in-Request-clause-servers : goal.returns-in_ok-done-in-Request-clause-servers
 returns-in_ok-done-in-Request-clause-servers g c = c.put.ensures.servers
 
@@ -198,4 +215,5 @@ returns-in-Wait g c =
       as_before = tt;
       workers_as_before = tt;
       servers = c.requires.servers;
+      disks = goes_on_still;
     }

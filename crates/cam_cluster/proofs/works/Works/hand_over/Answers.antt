@@ -5,6 +5,7 @@ use Rattle.std.specs.Prelude.{slice_get}
 use Rattle.cam_wire.specs.Writable.{IsWritable}
 use Rattle.cam_cluster.specs.Coming.{HasDelivered}
 use Rattle.cam_cluster.proofs.AsSeen.{part, reads_at, reads_of, tells_of, works_of}
+use Rattle.cam_cluster.proofs.DisksGoOn.{goes_on_still}
 use Rattle.cam_cluster.proofs.HandedOver.{handed, may_so, node_awake, place_within, there_so}
 use Rattle.cam_cluster.proofs.PlacedNodes.{each_there, on_err, seen_there, sees}
 use Rattle.cam_cluster.proofs.PutWorks.{seen}
@@ -20,6 +21,10 @@ has_numbers-requires g c = record {
       (seen_there (part g.L.CheckpointLog g.L.EntryLog) c.args.self.now.nodes.items
       c.args.coming.now.place node at));
 }
+
+pub returns-then-not-has_numbers-clause-disks : goal.returns-then-not-has_numbers-clause-disks
+returns-then-not-has_numbers-clause-disks g c =
+    goes_on_still
 
 pub returns-then-not-has_numbers-clause-as_before :
     goal.returns-then-not-has_numbers-clause-as_before
@@ -64,6 +69,10 @@ pub put-requires-clause-writable : goal.put-requires-clause-writable
 put-requires-clause-writable g c =
     subst (AllByRecursion IsWritable) (sym c.requires.all) tt
 
+pub returns-in_err-done-clause-disks : goal.returns-in_err-done-clause-disks
+returns-in_err-done-clause-disks g c =
+    c.put.ensures.disks
+
 pub returns-in_err-done-clause-delivered : goal.returns-in_err-done-clause-delivered
 returns-in_err-done-clause-delivered g c =
     search rules
@@ -76,6 +85,10 @@ pub returns-in_err-done-clause-servers : goal.returns-in_err-done-clause-servers
 returns-in_err-done-clause-servers g c =
     c.put.ensures.servers
 
+pub returns-clause-disks : goal.returns-clause-disks
+returns-clause-disks g c =
+    c.put.ensures.disks
+
 pub returns-clause-delivered : goal.returns-clause-delivered
 returns-clause-delivered g c =
     let old = c.args.self.now in
@@ -85,7 +98,7 @@ returns-clause-delivered g c =
     c.in_ok-done.done
     (seen (part g.L.CheckpointLog g.L.EntryLog) (tells_of g.L.CheckpointLog g.L.EntryLog)
     (reads_at g.L.CheckpointLog g.L.EntryLog) mid.nodes.items o mid.halted
-    mid.starved mid.undecided.items mid.events.events.items mid.marks.items)
+    mid.failed mid.undecided.items mid.events.events.items mid.marks.items)
     (reads_of g.L.CheckpointLog g.L.EntryLog mid)) (sym c.delivered.ensures)
     (handed c.args.line c.args.number c.args.coming.now c.args.letter
     (works_of g.L.CheckpointLog g.L.EntryLog old) (reads_of g.L.CheckpointLog g.L.EntryLog old)

@@ -3,6 +3,7 @@ use Rattle.std.proofs.Common.{Bool, false, true, ◌≡◌, rules, subst, arith}
 use Rattle.std.proofs.lemmas.Bool.{not-false, not-true}
 use Rattle.cam_cluster.specs.Plays.{HasPlayedRound}
 use Rattle.cam_cluster.proofs.AsSeen.{reads_of, works_of}
+use Rattle.cam_cluster.proofs.DisksGoOn.{goes_on_still, goes_on_then}
 use Rattle.cam_cluster.proofs.PlacedNodes.{on_err}
 use Rattle.cam_cluster.proofs.PlayedRounds.{all_rounds, last_round, next_round, no_round}
 use Rattle.cam_cluster.proofs.PlayedRounds.{rounds_wanting, some_behind_round}
@@ -15,6 +16,7 @@ loop-init g c = record {
       (reads_of g.L.CheckpointLog g.L.EntryLog c.args.self.now) c.args.workers.now;
   some = c.requires.play;
   servers = c.requires.servers;
+  disks = goes_on_still;
 }
 
 pub play_round-requires-clause-play : goal.play_round-requires-clause-play
@@ -24,6 +26,10 @@ play_round-requires-clause-play g c =
 pub play_round-requires-clause-servers : goal.play_round-requires-clause-servers
 play_round-requires-clause-servers g c =
     c.loop.invariant.servers
+
+pub returns-in_err-puts_one-clause-disks : goal.returns-in_err-puts_one-clause-disks
+returns-in_err-puts_one-clause-disks g c =
+    goes_on_then c.loop.invariant.disks c.play_round.ensures.disks
 
 pub returns-in_err-puts_one-clause-played : goal.returns-in_err-puts_one-clause-played
 returns-in_err-puts_one-clause-played g c =
@@ -66,7 +72,12 @@ loop-preserved g c =
           some_behind_round c.args.line c.args.bodies.now mid new mays may c.loop.workers
           c.play_round.new.workers c.loop.invariant.some one.made;
       servers = c.play_round.ensures.servers;
+      disks = goes_on_then c.loop.invariant.disks c.play_round.ensures.disks;
     }
+
+pub returns-then-not-puts_one-clause-disks : goal.returns-then-not-puts_one-clause-disks
+returns-then-not-puts_one-clause-disks g c =
+    goes_on_then c.loop.invariant.disks c.play_round.ensures.disks
 
 pub returns-then-not-puts_one-clause-played : goal.returns-then-not-puts_one-clause-played
 returns-then-not-puts_one-clause-played g c =
@@ -87,6 +98,10 @@ returns-then-not-puts_one-clause-played g c =
 pub returns-then-not-puts_one-clause-servers : goal.returns-then-not-puts_one-clause-servers
 returns-then-not-puts_one-clause-servers g c =
     c.play_round.ensures.servers
+
+pub returns-clause-disks : goal.returns-clause-disks
+returns-clause-disks g c =
+    c.loop.invariant.disks
 
 pub returns-clause-played : goal.returns-clause-played
 returns-clause-played g c =

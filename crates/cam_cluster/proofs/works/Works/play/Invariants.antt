@@ -1,5 +1,6 @@
 -- So many rounds were played, in each of which an input was put, and some run is kept.
 use Rattle.cam_cluster.specs.Plays.{IsPlayOfSome}
+use Rattle.cam_cluster.specs.Failing.{DisksGoOn}
 use Rattle.cam_cluster.specs.Servers.{AreServers}
 use Rattle.cam_cluster.proofs.AsSeen.{reads_of, works_of}
 use Rattle.cam_cluster.proofs.PlayedRounds.{PlayedRounds}
@@ -16,6 +17,9 @@ invariant-loop g l = record {
   some :
       IsPlayOfSome l.bodies (works_of g.L.CheckpointLog g.L.EntryLog l.self)
       (reads_of g.L.CheckpointLog g.L.EntryLog l.self) l.workers;
+  disks :
+      DisksGoOn (works_of g.L.CheckpointLog g.L.EntryLog l.initial.self)
+      (works_of g.L.CheckpointLog g.L.EntryLog l.self);
   servers :
       AreServers g.R.DataType.kind g.Q.DataType.kind g.C.DataType.kind l.servers.register
       l.servers.queue l.servers.counter;

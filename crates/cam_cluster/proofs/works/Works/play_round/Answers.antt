@@ -2,6 +2,7 @@
 use Rattle.std.proofs.Common.{◌≡◌, ◌||◌, arith, length, nat_lt, rules, ◌∙◌}
 use Rattle.std.proofs.lemmas.Grind.{common_steps}
 use Rattle.cam_cluster.proofs.AsSeen.{reads_of, works_of}
+use Rattle.cam_cluster.proofs.DisksGoOn.{goes_on_then}
 use Rattle.cam_cluster.proofs.PlacedNodes.{on_err}
 use Rattle.cam_cluster.proofs.PlayRound.{drain_wanting, round_told, some_behind_turns}
 use Rattle.cam_cluster.proofs.works.Works.play_round.Goals as goal
@@ -13,6 +14,10 @@ take_all_turns-requires-clause-play g c =
 pub take_all_turns-requires-clause-servers : goal.take_all_turns-requires-clause-servers
 take_all_turns-requires-clause-servers g c =
     c.requires.servers
+
+pub returns-in_err-take_all_turns-clause-disks : goal.returns-in_err-take_all_turns-clause-disks
+returns-in_err-take_all_turns-clause-disks g c =
+    c.take_all_turns.ensures.disks
 
 pub returns-in_err-take_all_turns-clause-round : goal.returns-in_err-take_all_turns-clause-round
 returns-in_err-take_all_turns-clause-round g c =
@@ -39,6 +44,10 @@ pub drain-requires-clause-servers : goal.drain-requires-clause-servers
 drain-requires-clause-servers g c =
     c.take_all_turns.ensures.servers
 
+pub returns-in_err-drain-clause-disks : goal.returns-in_err-drain-clause-disks
+returns-in_err-drain-clause-disks g c =
+    goes_on_then c.take_all_turns.ensures.disks c.drain.ensures.disks
+
 pub returns-in_err-drain-clause-round : goal.returns-in_err-drain-clause-round
 returns-in_err-drain-clause-round g c =
     search rules
@@ -59,6 +68,10 @@ returns-in_err-drain-clause-part g c =
 pub returns-in_err-drain-clause-servers : goal.returns-in_err-drain-clause-servers
 returns-in_err-drain-clause-servers g c =
     c.drain.ensures.servers
+
+pub returns-clause-disks : goal.returns-clause-disks
+returns-clause-disks g c =
+    goes_on_then c.take_all_turns.ensures.disks c.drain.ensures.disks
 
 pub returns-clause-round : goal.returns-clause-round
 returns-clause-round g c =

@@ -1,6 +1,7 @@
 -- The letters that are put next are put.
 use Rattle.std.proofs.Common.{refl}
 use Rattle.cam_cluster.proofs.AsSeen.{part, reads_at, tells_of}
+use Rattle.cam_cluster.proofs.DisksGoOn.{goes_on_still}
 use Rattle.cam_cluster.proofs.PutWorks.{room_made}
 use Rattle.cam_cluster.proofs.works.Works.put_letters.Goals as goal
 
@@ -8,12 +9,16 @@ pub put_all-requires : goal.put_all-requires
 put_all-requires g c =
     c.requires.writable
 
+pub returns-clause-disks : goal.returns-clause-disks
+returns-clause-disks g c =
+    goes_on_still
+
 pub returns-clause-as_before : goal.returns-clause-as_before
 returns-clause-as_before g c =
     let old = c.args.self.now in
     room_made (part g.L.CheckpointLog g.L.EntryLog) (tells_of g.L.CheckpointLog g.L.EntryLog)
     (reads_at g.L.CheckpointLog g.L.EntryLog) old.nodes.items old.nodes.items old.outbox
-    c.put_all.new.self old.halted old.halted old.starved old.starved old.undecided.items old.undecided.items
+    c.put_all.new.self old.halted old.halted old.failed old.failed old.undecided.items old.undecided.items
     old.events.events.items old.events.events.items old.marks.items old.marks.items refl
     c.put_all.ensures.some refl refl refl refl refl
 

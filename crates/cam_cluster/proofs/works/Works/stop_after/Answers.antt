@@ -4,20 +4,21 @@ use Rattle.std.proofs.lemmas.Grind.{common_steps}
 use Rattle.cam_node.specs.Calls.{answers}
 use Rattle.cam_cluster.proofs.AsSeen.{part, reads_at, tells_of}
 use Rattle.cam_cluster.proofs.DiskChanges.{stays_reads, stopped_in}
+use Rattle.cam_cluster.proofs.DisksGoOn.{stays_at}
 use Rattle.cam_cluster.proofs.works.Works.stop_after.Goals as goal
 
 pub index_mut-requires : goal.index_mut-requires
 index_mut-requires g c =
     first_of (search rules, grind (arith, common_steps, c.requires))
 
-pub returns : goal.returns
-returns g c =
+pub returns-clause-stopped : goal.returns-clause-stopped
+returns-clause-stopped g c =
     let works = c.args.self.now in
     let old = c.index_mut.result.now in
     let new = c.stop_after.new.self in
     stopped_in (part g.L.CheckpointLog g.L.EntryLog) (tells_of g.L.CheckpointLog g.L.EntryLog)
     (reads_at g.L.CheckpointLog g.L.EntryLog) c.args.place c.args.calls works.nodes.items _ works.outbox
-    works.halted works.starved works.undecided.items works.events.events.items works.marks.items old new c.requires c.index_mut.ensures.value
+    works.halted works.failed works.undecided.items works.events.events.items works.marks.items old new c.requires c.index_mut.ensures.value
     refl
     (λ i. record {
       site = record {
@@ -34,3 +35,9 @@ returns g c =
     })
     c.stop_after.ensures.tells
     (λ logged read. stays_reads _ _ _ _ _ _ _ _ logged c.stop_after.ensures.stays read)
+
+pub returns-clause-disks : goal.returns-clause-disks
+returns-clause-disks g c =
+    stays_at (part g.L.CheckpointLog g.L.EntryLog) c.args.self.now.nodes.items
+    c.args.self.now.failed c.args.place c.index_mut.result.now c.stop_after.new.self c.requires
+    c.index_mut.ensures.value c.stop_after.ensures.tells c.stop_after.ensures.faults_within

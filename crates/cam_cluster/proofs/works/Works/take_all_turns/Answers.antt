@@ -7,6 +7,7 @@ use Rattle.cam_cluster.proofs.AsSeen.{reads_of, works_of}
 use Rattle.cam_cluster.proofs.GoneOn.{CatchesUp}
 use Rattle.cam_cluster.proofs.PlacedNodes.{on_err}
 use Rattle.cam_cluster.proofs.AllTurns.{all_had, no_turns, some_had, turns_of_all}
+use Rattle.cam_cluster.proofs.DisksGoOn.{goes_on_still}
 use Rattle.cam_cluster.proofs.Turns.{on_err_gives, on_ok_gives}
 use Rattle.cam_cluster.proofs.WorkersStand.{as_many}
 use Rattle.cam_cluster.proofs.works.Works.take_all_turns.Goals as goal
@@ -19,6 +20,10 @@ catch_up-requires g c =
     play.keeps.runs.events in
     subst (λ es. c.args.workers.now.events ≤ length es) (sym c.as_slice.ensures.value)
     (omega (arith, fits, many))
+
+pub returns-in_err-catch_up-clause-disks : goal.returns-in_err-catch_up-clause-disks
+returns-in_err-catch_up-clause-disks g c =
+    goes_on_still
 
 pub returns-in_err-catch_up-clause-turns : goal.returns-in_err-catch_up-clause-turns
 returns-in_err-catch_up-clause-turns g c =
@@ -35,6 +40,10 @@ returns-in_err-catch_up-clause-part g c =
 pub returns-in_err-catch_up-clause-servers : goal.returns-in_err-catch_up-clause-servers
 returns-in_err-catch_up-clause-servers g c =
     c.requires.servers
+
+pub returns-in_err-names-clause-disks : goal.returns-in_err-names-clause-disks
+returns-in_err-names-clause-disks g c =
+    goes_on_still
 
 pub returns-in_err-names-clause-turns : goal.returns-in_err-names-clause-turns
 returns-in_err-names-clause-turns g c =
@@ -68,6 +77,10 @@ take_turns-requires-clause-turns g c =
 pub take_turns-requires-clause-servers : goal.take_turns-requires-clause-servers
 take_turns-requires-clause-servers g c =
     c.requires.servers
+
+pub returns-clause-disks : goal.returns-clause-disks
+returns-clause-disks g c =
+    c.take_turns.ensures.disks
 
 pub returns-clause-turns : goal.returns-clause-turns
 returns-clause-turns g c =

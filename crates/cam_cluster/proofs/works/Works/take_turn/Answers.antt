@@ -3,6 +3,7 @@ use Rattle.std.proofs.Common.{◌≤◌, length, rules, sym, ◌∙◌, subst, a
 use Rattle.cam_cluster.specs.Goes.{HasGone, KeepsWorkersAsBefore}
 use Rattle.cam_cluster.specs.Rounds.{HasHadTurn, IsMayGoOn}
 use Rattle.cam_cluster.proofs.AsSeen.{reads_of, works_of}
+use Rattle.cam_cluster.proofs.DisksGoOn.{goes_on_still}
 use Rattle.cam_cluster.proofs.GoneOn.{CatchesUp}
 use Rattle.cam_cluster.proofs.PlacedNodes.{on_err}
 use Rattle.cam_cluster.proofs.Turns.{at_node, if_ok_gives, on_err_gives, turn_goes, turn_gone}
@@ -17,6 +18,10 @@ catch_up-requires g c =
     let many = as_many c.args.self.now.events.events.items turn.standing.running.trace turn.keeps.events in
     subst (λ es. c.args.workers.now.events ≤ length es) (sym c.as_slice.ensures.value)
     (omega (arith, fits, many))
+
+pub returns-in_err-catch_up-clause-disks : goal.returns-in_err-catch_up-clause-disks
+returns-in_err-catch_up-clause-disks g c =
+    goes_on_still
 
 pub returns-in_err-catch_up-clause-turn : goal.returns-in_err-catch_up-clause-turn
 returns-in_err-catch_up-clause-turn g c =
@@ -68,6 +73,10 @@ pub go-requires-clause-servers : goal.go-requires-clause-servers
 go-requires-clause-servers g c =
     c.requires.servers
 
+pub returns-then-may_go_on-clause-disks : goal.returns-then-may_go_on-clause-disks
+returns-then-may_go_on-clause-disks g c =
+    c.go.ensures.disks
+
 pub returns-then-may_go_on-clause-turn : goal.returns-then-may_go_on-clause-turn
 returns-then-may_go_on-clause-turn g c =
     let works = works_of g.L.CheckpointLog g.L.EntryLog c.args.self.now in
@@ -114,6 +123,10 @@ returns-then-may_go_on-clause-workers_as_before g c =
 pub returns-then-may_go_on-clause-servers : goal.returns-then-may_go_on-clause-servers
 returns-then-may_go_on-clause-servers g c =
     c.go.ensures.servers
+
+pub returns-clause-disks : goal.returns-clause-disks
+returns-clause-disks g c =
+    goes_on_still
 
 pub returns-clause-turn : goal.returns-clause-turn
 returns-clause-turn g c =

@@ -5,6 +5,7 @@ use Rattle.std.proofs.lemmas.List.{take_all, take_more}
 use Rattle.cam_names.specs.declared.name.Name.{Name}
 use Rattle.cam_cluster.specs.Rounds.{HaveHadTurns}
 use Rattle.cam_cluster.proofs.AsSeen.{reads_of, works_of}
+use Rattle.cam_cluster.proofs.DisksGoOn.{goes_on_still, goes_on_then}
 use Rattle.cam_cluster.proofs.PlacedNodes.{on_err, taken_there}
 use Rattle.cam_cluster.proofs.RoundTurns.{next_turn, no_turn, some_turn_behind, turn_of_some}
 use Rattle.cam_cluster.proofs.RoundTurns.{turns_wanting}
@@ -15,6 +16,7 @@ loop-name-init g c = record {
   had = no_turn c.args.line c.args.bodies.now (works_of g.L.CheckpointLog g.L.EntryLog c.args.self.now) (reads_of g.L.CheckpointLog g.L.EntryLog c.args.self.now) c.args.workers.now;
   some = c.requires.turns;
   servers = c.requires.servers;
+  disks = goes_on_still;
 }
 
 pub offset_bounds-names-name-index : goal.offset_bounds-names-name-index
@@ -30,6 +32,10 @@ take_turn-requires-clause-turn g c =
 
 pub take_turn-requires-clause-servers : goal.take_turn-requires-clause-servers
 take_turn-requires-clause-servers g c = c.loop-name.invariant.servers
+
+pub returns-in_err-take_turn-clause-disks : goal.returns-in_err-take_turn-clause-disks
+returns-in_err-take_turn-clause-disks g c =
+    goes_on_then c.loop-name.invariant.disks c.take_turn.ensures.disks
 
 pub returns-in_err-take_turn-clause-turns : goal.returns-in_err-take_turn-clause-turns
 returns-in_err-take_turn-clause-turns g c =
@@ -75,7 +81,12 @@ loop-name-preserved g c =
           (works_of g.L.CheckpointLog g.L.EntryLog c.loop-name.self) (works_of g.L.CheckpointLog g.L.EntryLog c.take_turn.new.self) (reads_of g.L.CheckpointLog g.L.EntryLog c.loop-name.self) (reads_of g.L.CheckpointLog g.L.EntryLog c.take_turn.new.self) c.loop-name.workers c.take_turn.new.workers c.loop-name.invariant.some
           c.in_ok-take_turn.field-0 c.in_ok-take_turn.ensures.turn;
       servers = c.take_turn.ensures.servers;
+      disks = goes_on_then c.loop-name.invariant.disks c.take_turn.ensures.disks;
     }
+
+pub returns-clause-disks : goal.returns-clause-disks
+returns-clause-disks g c =
+    c.loop-name.invariant.disks
 
 pub returns-clause-turns : goal.returns-clause-turns
 returns-clause-turns g c =

@@ -1,6 +1,7 @@
 -- The first actions had their turns, and some run is kept of which the homes of all are nodes.
 use Rattle.std.proofs.Common.{take}
 use Rattle.cam_cluster.specs.Rounds.{AreTurnsOfSome, HaveHadTurns}
+use Rattle.cam_cluster.specs.Failing.{DisksGoOn}
 use Rattle.cam_cluster.specs.Servers.{AreServers}
 use Rattle.cam_cluster.proofs.AsSeen.{reads_of, works_of}
 use Rattle.cam_cluster.proofs.works.Works.take_turns.Given as goal
@@ -16,6 +17,9 @@ invariant-loop-name g l = record {
   some :
       AreTurnsOfSome l.names l.bodies (works_of g.L.CheckpointLog g.L.EntryLog l.self)
       (reads_of g.L.CheckpointLog g.L.EntryLog l.self) l.workers;
+  disks :
+      DisksGoOn (works_of g.L.CheckpointLog g.L.EntryLog l.initial.self)
+      (works_of g.L.CheckpointLog g.L.EntryLog l.self);
   servers :
       AreServers g.R.DataType.kind g.Q.DataType.kind g.C.DataType.kind l.servers.register
       l.servers.queue l.servers.counter;

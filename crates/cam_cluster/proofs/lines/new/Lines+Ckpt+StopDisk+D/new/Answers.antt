@@ -1,15 +1,17 @@
 -- Lines before the first.
-use Rattle.std.proofs.Common.{◌∙◌, ap, length}
+use Rattle.std.proofs.Common.{◌∙◌, ap, length, sym, subst}
 use Rattle.cam_ckpt.specs.Reading.{read_ckpt}
 use Rattle.cam_node.specs.Calls.{answers}
+use Rattle.cam_cluster.specs.HandedBack.{AreLater}
 use Rattle.cam_cluster.specs.Works.{WorksFields}
-use Rattle.cam_cluster.proofs.BeforeFirst.{new_lines_keep, none_made}
-use Rattle.cam_cluster.proofs.NodesStay.{as_many}
+use Rattle.cam_cluster.proofs.BeforeFirst.{new_lines_keep}
+use Rattle.cam_cluster.proofs.HandedBack.{all_same}
+use Rattle.cam_cluster.proofs.FoundedDisks.{as_many_nodes}
 use Rattle.cam_cluster.proofs.lines.new.Lines+Ckpt+StopDisk+D.new.Goals as goal
 
 pub returns-in-Err-clause-back : goal.returns-in-Err-clause-back
 returns-in-Err-clause-back g c =
-    none_made g.D.Disk.tells g.D.Disk.faults c.args.disks.now.items
+    all_same g.D.Disk.tells g.D.Disk.faults c.args.disks.now.items
 
 pub returns-in-Ok-found-clause-before_first : goal.returns-in-Ok-found-clause-before_first
 returns-in-Ok-found-clause-before_first g c =
@@ -28,7 +30,7 @@ returns-in-Ok-found-clause-before_first g c =
 
 pub returns-in-Ok-found-clause-count : goal.returns-in-Ok-found-clause-count
 returns-in-Ok-found-clause-count g c =
-    as_many (λ node. record {
+    as_many_nodes (λ node. record {
       site = record { node = answers node.core; entries = node.log.log.state.entries };
       objects = node.objects;
       halted = node.log.halted;
@@ -39,3 +41,13 @@ returns-in-Ok-found-clause-count g c =
       failures = g.D.Disk.faults node.log.log.disk.inner;
     }) c.found.new.nodes.items c.new.result.nodes.items
     (ap (λ (w : WorksFields). length w.nodes) c.new.ensures) ∙ c.in-Ok-found.ensures.count
+
+pub returns-in-Ok-found-clause-later : goal.returns-in-Ok-found-clause-later
+returns-in-Ok-found-clause-later g c =
+    subst (λ (w : WorksFields). AreLater g.D.Disk.tells g.D.Disk.faults (λ n. n.tells)
+    (λ n. n.failures) c.args.disks.now.items w.nodes) (sym c.new.ensures)
+    c.in-Ok-found.ensures.later
+
+pub returns-in-Ok-found-clause-nothing : goal.returns-in-Ok-found-clause-nothing
+returns-in-Ok-found-clause-nothing g c =
+    ap (λ (w : WorksFields). w.failed) c.new.ensures
