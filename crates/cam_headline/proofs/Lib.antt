@@ -9,7 +9,6 @@ pub mod Recovered
 pub mod HaltedRuns
 pub mod HaltedHeld
 pub mod Whole
-pub mod KnownHalts
 pub mod HaltedRowsRun
 pub mod KeptWhole
 pub mod KeptKnowledge

@@ -27,6 +27,7 @@ use Rattle.cam_headline.specs.Headline.{halted_run, halted_events, HasHaltedRun,
 use Rattle.cam_headline.specs.Headline.{Headline, HaltedHeadline, NoStopIsTheRun}
 use Rattle.cam_headline.proofs.HaltedRuns.{halted_legal, halted_views}
 use Rattle.cam_headline.proofs.HaltedHeld.{halted_nodes_agree, halted_committed_is_covered}
+use Rattle.cam_headline.proofs.KeptIndices.{logs_keep}
 use Rattle.cam_headline.proofs.PlainFor.{texts_by}
 
 -- the run of a script in range
@@ -40,6 +41,7 @@ halted_run_holds script halts range = record {
   kept = λ a all. halted_committed_is_covered script.objects taken t a is all;
   views = λ a there. halted_views script.objects taken t a is there;
   agree = λ s r a. halted_nodes_agree script.objects taken t s r a is;
+  recovered = λ s logged log. logs_keep script.objects taken t s logged is log;
   reported = texts_by (report script.objects script.labels) made one same_running;
   traced = texts_by (trace_text script.labels) made one same_running;
   witnessed = λ a.

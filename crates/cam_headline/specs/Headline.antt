@@ -4,8 +4,9 @@
 -- its stop lines; for each action, orphan or not, the events before its last event, read as plain
 -- nested transactions, are a legal execution in which it is no orphan and has the same view;
 -- committed top actions replay serially in order of their commits; and no two nodes hold different
--- outcomes of an action. So it is whichever inputs are halts.
-use Rattle.std.specs.Prelude.{◌≡◌, ℕ, true, false, List, reverse, Some, None, IfOk}
+-- outcomes of an action; and what a log recovers that keeps a node's history is what the node kept.
+-- So it is whichever inputs are halts.
+use Rattle.std.specs.Prelude.{◌≡◌, ◌≤◌, ℕ, true, false, List, reverse, Some, None, IfOk}
 use Rattle.cam_names.specs.declared.name.Name.{Name}
 use Rattle.cam_type.specs.declared.ObjectDecl.{ObjectDecl}
 use Rattle.cam_know.specs.Known.{knows_abort, knows_commit}
@@ -20,10 +21,12 @@ use Rattle.cam_event.specs.Readings.{by_pasts, by_knowledge}
 use Rattle.cam_plain.specs.Legal.{Legal}
 use Rattle.cam_serial.specs.Serial.{serial, all_committed, Replays, Covers}
 use Rattle.cam_cut.specs.Witness.{witness}
-use Rattle.cam_delta.specs.Laws.{known_by}
+use Rattle.cam_delta.specs.Laws.{known_by, node_history}
+use Rattle.cam_node.specs.Kept.{IsKept}
+use Rattle.cam_node.specs.Log.{Logged, KeepsLog}
 use Rattle.cam_script.specs.declared.Script.{Script}
 use Rattle.cam_script.specs.Grammar.{read_script}
-use Rattle.cam_runs.specs.Running.{Running}
+use Rattle.cam_runs.specs.Running.{Running, has_number}
 use Rattle.cam_runs.specs.Run.{run}
 use Rattle.cam_runs.specs.Halts.{Halting, by_stops}
 use Rattle.cam_runs.specs.Standing.{Standing}
@@ -103,6 +106,11 @@ pub record HasHaltedRun (script : Script) (halts : Halting) : Type 0 where
       (s r : ℕ) (a : Name)
       → knows_commit (known_by script.objects (halted_events script halts) s) a ≡ true
       → knows_abort (known_by script.objects (halted_events script halts) r) a ≡ false
+  -- A log that keeps a node's history gives what the node keeps over a restart.
+  pub recovered :
+      (s : ℕ) (logged : Logged)
+      → KeepsLog script.objects s (node_history script.objects (halted_events script halts) s) logged
+      → IsKept script.objects (halted_events script halts) s logged.count logged.know logged.held
   -- The report of the record that the program has is the report of this run.
   pub reported :
       record_report script (held_record script halts)
@@ -125,11 +133,19 @@ HasOneRun script = HasHaltedRun script by_stops
 abbrev pub Headline : Type 0
 Headline = (bytes : List ℕ) → IfOk (read_script bytes) HasOneRun
 
--- and whichever inputs are halts, taken or lost, as where a disk fails by itself.
+-- and whichever inputs are halts, taken or lost.
 abbrev pub HaltedHeadline : Type 0
 HaltedHeadline =
     (bytes : List ℕ)
     → IfOk (read_script bytes) (λ script. (halts : Halting) → HasHaltedRun script halts)
+
+-- What may be recovered from the disk of a node that is not halted at the end of the one run of a
+-- script is what the node kept. `may_recover` is what the disk of each node opens as.
+abbrev pub LeavesLogs : Script → (ℕ → Logged → Type 0) → Type 0
+LeavesLogs script may_recover =
+    (s : ℕ) (logged : Logged) → 1 ≤ s → s ≤ script.nodes
+    → has_number (halted_run script by_stops).halted s ≡ false → may_recover s logged
+    → IsKept script.objects (events script) s logged.count logged.know logged.held
 
 -- Of a script without a line that stops a disk the one run is the run without halts.
 abbrev pub NoStopIsTheRun : Type 0

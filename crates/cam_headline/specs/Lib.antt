@@ -3,7 +3,6 @@ pub mod Outcomes
 pub mod Recovery
 pub mod Halted
 pub mod HaltedHeld
-pub mod Premises
 pub mod KeptLog
 pub mod HaltedRows
 pub mod Scene

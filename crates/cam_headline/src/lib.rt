@@ -20,14 +20,14 @@ ghost use Rattle.cam_headline.specs.Headline.{HaltedHeadline, Headline, NoStopIs
 ghost use Rattle.cam_headline.specs.KeptLog.{LogsKeep, LogsKeepKnowledge, LogsKeepOrder, LogsKeepSecured};
 ghost use Rattle.cam_headline.specs.Outcomes.{CommitNeedsSecured, CommittedIsSecured, EachIsDecidedOnce, HeldWasDecided, NoTwoEventsDiffer, NoTwoNodesDiffer};
 ghost use Rattle.cam_headline.specs.Scene.{IsWorked};
-ghost use Rattle.cam_headline.specs.Premises.{OnlyStopsAreKnown, StopsAreKnown};
 ghost use Rattle.cam_headline.specs.Recovery.{CommittedIsCovered, CommittedStays, CrashKeepsOthers, CrashKeepsSecured, NoneIsAborted, SecuredStays};
 
 /// For all bytes that spell a script: the program's run is the one run of the step rules; for each
 /// action, orphan or not, the events before its last event are a legal execution in which it is no
 /// orphan and has the same view; committed top actions replay serially in commit order; no two
-/// nodes hold different outcomes of an action; and the report is that of this run. Its halts are
-/// those that the script's stop lines make; without such a line it is the run without halts.
+/// nodes hold different outcomes of an action; a log that keeps a node's history of it gives what
+/// the node keeps over a restart; and the report is that of this run. Its halts are those that the
+/// script's stop lines make; without such a line it is the run without halts.
 pub fn headline()
     ensures holds { Headline }
     ensures none { NoStopIsTheRun }
@@ -92,17 +92,10 @@ pub fn kept_logs()
     ensures kept { LogsKeep }
 {}
 
-/// For all bytes that spell a script, whichever inputs are halts, taken or lost, as where a disk
-/// fails by itself: the same holds of the run in which they are.
+/// For all bytes that spell a script, whichever inputs are halts, taken or lost: the same holds of
+/// the run in which they are.
 pub fn halted_headline()
     ensures { HaltedHeadline }
-{}
-
-/// Where no disk that was handed in failed, the halts of a run are those of its stop lines, and no
-/// others.
-pub fn known_halts()
-    ensures stops { StopsAreKnown }
-    ensures only { OnlyStopsAreKnown }
 {}
 
 /// A worked scene: an action that runs on after its parent has given it up. From the bytes of its
@@ -118,7 +111,7 @@ pub fn worked_counters()
 {}
 
 /// Worked runs in which a node halts: a stop at each device call of the append of a commit, lost at
-/// the first three, taken at the fourth, none behind it; and a disk that fails by itself.
+/// the first three, taken at the fourth, none after it.
 pub fn worked_halts()
     ensures { AreWorked }
 {}
