@@ -1,15 +1,20 @@
-//! The program `camelot`: it hands the words behind its name and the standard streams to the top call of `cam_run`, which reads a script,
-//! runs it, and writes the report of the run.
+//! The program `camelot`: it hands the words after its name, the standard streams, eight disks and the data servers to the top call of
+//! `cam_run`, which reads a script, runs it over the disks, and writes the report of the run.
 #![tactic(auto)]
 
+ghost use Rattle.std.specs.Prelude.{◌≡◌, IfOk, length};
+
 use cam_base::NoMemory;
+use cam_cluster::Servers;
+use cam_disk::{FileDisk, HostDisk, MemoryDisk};
 use cam_io::{StdSink, StdSource};
 use cam_run::{Status, camelot};
+use cam_type::{CounterServer, QueueServer, RegisterServer};
 use std::env;
 use std::io::ErrorKind;
 use std::process::ExitCode;
 
-/// The words behind the program's name. Words that are no text are none: they are no form either.
+/// The words after the program's name. Words that are no text are none: they are no form either.
 fn words(rt: &HostRuntime) -> Result<Vec<String>, NoMemory> {
     let mut words = Vec::new(rt.alloc());
     match env::args(rt) {
@@ -24,11 +29,73 @@ fn words(rt: &HostRuntime) -> Result<Vec<String>, NoMemory> {
     Ok(words)
 }
 
+/// Where the disks are.
+#[derive(Clone, Copy, Debug)]
+enum Place {
+    Memory,
+    /// The files `cam1.log` to `cam8.log` of the current folder.
+    Files,
+}
+
+/// Where the disks are to be: the word `files` after the others asks for files, and is taken off.
+fn take_place(words: &mut Vec<String>) -> Place {
+    let is_files = match words.last() {
+        Some(word) => word.as_str() == "files",
+        None => false,
+    };
+    if is_files {
+        words.pop();
+        Place::Files
+    } else {
+        Place::Memory
+    }
+}
+
+/// The disk of the node of this number.
+fn disk(rt: &HostRuntime, place: Place, number: u8) -> Result<HostDisk, NoMemory> {
+    match place {
+        Place::Memory => Ok(HostDisk::Memory(MemoryDisk::new(rt.alloc()))),
+        Place::Files => {
+            let path = format!(in rt.alloc(); "cam{number}.log")?;
+            Ok(HostDisk::File(FileDisk::open(rt, rt.alloc(), &path)))
+        }
+    }
+}
+
+/// Eight disks: as many as a script may have nodes.
+fn disks(rt: &HostRuntime, place: Place) -> Result<Vec<HostDisk>, NoMemory>
+    ensures { IfOk result (λ disks. length disks.items ≡ 8) }
+{
+    let mut disks = Vec::with_capacity(rt.alloc(), 8)?;
+    for before in 0..8u8 {
+        disks.push(disk(rt, place, before + 1)?)?;
+    }
+    Ok(disks)
+}
+
 fn main(rt: HostRuntime) -> ExitCode {
-    let Ok(words) = words(&rt) else {
-        return ExitCode::from(Status::NoMemory.number());
+    let out_of_memory = ExitCode::from(Status::NoMemory.number());
+    let Ok(mut words) = words(&rt) else {
+        return out_of_memory;
+    };
+    let place = take_place(&mut words);
+    let Ok(mut disks) = disks(&rt, place) else {
+        return out_of_memory;
+    };
+    let mut servers = Servers {
+        register: RegisterServer::new(),
+        queue: QueueServer::new(rt.alloc()),
+        counter: CounterServer::new(),
     };
     let mut source = StdSource::new(rt.stdin());
     let mut sink = StdSink::new(rt.stdout());
-    ExitCode::from(camelot(rt.alloc(), &words, &mut source, &mut sink))
+    let status = camelot(
+        rt.alloc(),
+        &words,
+        &mut source,
+        &mut sink,
+        &mut disks,
+        &mut servers,
+    );
+    ExitCode::from(status)
 }

@@ -3,3 +3,5 @@ pub mod Commanded
 pub mod Written
 pub mod WorkedAnswers
 pub mod Imaged
+pub mod FirstDisks
+pub mod LeftDisks

@@ -1,5 +1,5 @@
 -- The worked answers, as the checker computes them.
-use Rattle.std.proofs.Common.{◌≡◌, ℕ, List, [], ◌∷◌, ◌++◌, Ok, Err, refl, sym, subst, ◌∙◌, pos}
+use Rattle.std.proofs.Common.{◌≡◌, ℕ, List, [], ◌∷◌, ◌++◌, Ok, Err, refl, sym, subst, ◌∙◌, inr, pos}
 use Rattle.std.specs.Prelude.{Result, codes}
 use Rattle.std.specs.Fmt.{digits}
 use Rattle.cam_type.specs.declared.State.TheVariants.{Register}
@@ -16,7 +16,7 @@ use Rattle.cam_run.specs.Texts.{refused_text}
 use Rattle.cam_run.specs.declared.question.Question.TheVariants.{Report}
 use Rattle.cam_run.specs.Told.{script_report}
 use Rattle.cam_run.specs.Answer.{IsOfScript}
-use Rattle.cam_run.specs.Worked.{open_call, open_call_report, refused_call, refused_call_report, repeated_letter, repeated_letter_report, stopped_commit, stopped_commit_report, unknown_line, unknown_line_text, AreWorked}
+use Rattle.cam_run.specs.Worked.{open_call, open_call_report, refused_call, refused_call_report, repeated_letter, repeated_letter_report, stopped_commit, stopped_commit_report, unknown_line, unknown_line_text, none, AreWorked}
 
 -- the grammar with its definitions opened
 opened : (bytes : List ℕ) → read_script bytes ≡ read bytes
@@ -24,9 +24,9 @@ unfolding read
 opened bytes = refl
 
 -- the answer to an input, by what is read of it
-answers : (input : List ℕ) (is : Result Script ScriptFault) (status : ℕ) (text : List ℕ) → read input ≡ is → IsOfScript Report is status text → IsOfScript Report (read_script input) status text
+answers : (input : List ℕ) (is : Result Script ScriptFault) (status : ℕ) (text : List ℕ) → read input ≡ is → IsOfScript Report is none status text → IsOfScript Report (read_script input) none status text
 answers input is status text spelled answer =
-    subst (λ r. IsOfScript Report r status text) (sym (opened input ∙ spelled)) answer
+    subst (λ r. IsOfScript Report r none status text) (sym (opened input ∙ spelled)) answer
 
 -- one node and the register x, which holds this number
 abbrev script : ℕ → List Step → Script
@@ -131,9 +131,9 @@ unknown_told = refl
 pub are_worked : AreWorked
 are_worked =
     record {
-      open_call_is_shown = answers open_call (Ok (script 0 open_steps)) 0 open_call_report open_spelled (refl, sym open_reported);
-      refused_call_is_marked = answers refused_call (Ok (script 0 refused_steps)) 0 refused_call_report refused_spelled (refl, sym refused_reported);
-      repeated_letter_is_performed_once = answers repeated_letter (Ok (script 7 repeated_steps)) 0 repeated_letter_report repeated_spelled (refl, sym repeated_reported);
-      stopped_commit_is_taken = answers stopped_commit (Ok stopped_script) 0 stopped_commit_report stopped_spelled (refl, sym stopped_reported);
+      open_call_is_shown = answers open_call (Ok (script 0 open_steps)) 0 open_call_report open_spelled (inr (refl, sym open_reported));
+      refused_call_is_marked = answers refused_call (Ok (script 0 refused_steps)) 0 refused_call_report refused_spelled (inr (refl, sym refused_reported));
+      repeated_letter_is_performed_once = answers repeated_letter (Ok (script 7 repeated_steps)) 0 repeated_letter_report repeated_spelled (inr (refl, sym repeated_reported));
+      stopped_commit_is_taken = answers stopped_commit (Ok stopped_script) 0 stopped_commit_report stopped_spelled (inr (refl, sym stopped_reported));
       unknown_line_is_refused = answers unknown_line (Err (Bad 3 1 causes.UnknownWord)) 3 unknown_line_text unknown_read (refl, sym unknown_told);
     }

@@ -5,9 +5,10 @@
 -- 3 where the script or the image is refused: the line of its first fault
 -- 4 `read fault`, where the source failed
 -- 5 a prefix of one of these texts, where the sink failed
+-- 6 `disk fault NODE`, where the disk of that node failed by itself in the run
 -- 7 nothing, where memory ran out
 -- 8 where the run has no such action, or no such stop: a line that says so
-use Rattle.std.specs.Prelude.{ℕ, ◌≡◌, ◌≤◌, ◌⊎◌, true, List, ◌++◌, length, take, Result, Ok, Err}
+use Rattle.std.specs.Prelude.{ℕ, ◌≡◌, ◌≤◌, ◌⊎◌, true, List, ◌++◌, length, take, Result, Ok, Err, IfOk}
 use Rattle.cam_args.specs.declared.Command.{Command}
 use Rattle.cam_script.specs.declared.Script.{Script}
 use Rattle.cam_words.specs.declared.fault.ScriptFault.{ScriptFault}
@@ -15,10 +16,17 @@ use Rattle.cam_words.specs.declared.fault.ScriptFault.TheVariants.{Bad, NoMemory
 use Rattle.cam_words.specs.Causes.{cause_number}
 use Rattle.cam_script.specs.Grammar.{read_script}
 use Rattle.cam_run.specs.declared.question.Question.{Question}
-use Rattle.cam_run.specs.Texts.{usage_text, read_fault_text, refused_text}
-use Rattle.cam_run.specs.Commands.{Asked, IsForm, IsFormFor, asked_by, bytes_for, nothing, of_image, of_run, reads}
+use Rattle.cam_run.specs.Texts.{usage_text, read_fault_text, disk_fault_text, refused_text}
+use Rattle.cam_run.specs.Commands.{Asked, IsForm, IsFormFor, asked_by, bytes_for}
+use Rattle.cam_run.specs.Commands.{nothing, of_image, of_run, reads}
+use Rattle.cam_run.specs.Disks.{OneFailed}
 use Rattle.cam_run.specs.Image.{IsOfImage, image_status, made}
 use Rattle.cam_run.specs.Told.{IsTold, told_status}
+
+-- what failed in a call: the source, and of the disks that of the node of a number
+pub record Failing : Type 1 where
+  pub source : Type 0
+  pub disk : ℕ → Type 0
 
 -- the answer to a script that is refused
 abbrev pub IsRefused : ScriptFault → ℕ → List ℕ → Type 0
@@ -26,49 +34,68 @@ IsRefused (Bad line column cause) status text =
     (status ≡ 3) × (text ≡ refused_text line column (cause_number cause))
 IsRefused NoMemory status text = ⊥
 
--- the answer to a question, by what the bytes spell: what is told of the script's run, or the refusal
-abbrev pub IsOfScript : Question → Result Script ScriptFault → ℕ → List ℕ → Type 0
-IsOfScript question (Ok script) status text = IsTold question script status text
-IsOfScript question (Err fault) status text = IsRefused fault status text
+-- the answer where the disk of a node of the script failed
+pub record IsOfDisk (script : Script) (failed : ℕ → Type 0) (status : ℕ) (text : List ℕ) : Type 0
+  where
+    pub one : OneFailed script.nodes failed
+    pub is : status ≡ 6
+    pub names : text ≡ disk_fault_text one.node
+
+-- the answer to a question about a script: what is told of its run, unless a disk failed in it
+abbrev pub IsOfRun : Question → Script → (ℕ → Type 0) → ℕ → List ℕ → Type 0
+IsOfRun question script failed status text =
+    IsOfDisk script failed status text ⊎ IsTold question script status text
+
+-- the answer to a question, by what the bytes spell: a script, or a refusal
+abbrev pub IsOfScript : Question → Result Script ScriptFault → (ℕ → Type 0) → ℕ → List ℕ → Type 0
+IsOfScript question (Ok script) failed status text = IsOfRun question script failed status text
+IsOfScript question (Err fault) failed status text = IsRefused fault status text
 
 -- the answer where the source failed
 abbrev pub IsOfFault : ℕ → List ℕ → Type 0
 IsOfFault status text = (status ≡ 4) × (text ≡ read_fault_text)
 
 -- the answer to a question by the script that a source gives, which it may have failed to give
-abbrev pub IsOfInput : Question → Type 0 → List ℕ → ℕ → List ℕ → Type 0
-IsOfInput question HasFailed input status text =
-    (HasFailed × IsOfFault status text) ⊎ IsOfScript question (read_script input) status text
+abbrev pub IsOfInput : Question → Failing → List ℕ → ℕ → List ℕ → Type 0
+IsOfInput question failing input status text =
+    (failing.source × IsOfFault status text)
+    ⊎ IsOfScript question (read_script input) failing.disk status text
 
 -- the answer to words that are no form
 abbrev pub IsOfWords : ℕ → List ℕ → Type 0
 IsOfWords status text = (status ≡ 2) × (text ≡ usage_text)
 
--- the answer to a command, by what it asks: the source may have failed to give what it reads; one that is not built is no form
-abbrev pub IsAsked : Asked → Command → Type 0 → List ℕ → ℕ → List ℕ → Type 0
-IsAsked (of_run question) command HasFailed input status text =
-    ((reads command ≡ true) × HasFailed × IsOfFault status text)
-    ⊎ IsOfScript question (read_script (bytes_for command input)) status text
-IsAsked (of_image making) command HasFailed input status text =
-    (HasFailed × IsOfFault status text) ⊎ IsOfImage (made making input) status text
-IsAsked nothing command HasFailed input status text = IsOfWords status text
+-- the answer to a command, by what it asks: the source may have failed to give what it reads; one
+-- that is not built is no form
+abbrev pub IsAsked : Asked → Command → Failing → List ℕ → ℕ → List ℕ → Type 0
+IsAsked (of_run question) command failing input status text =
+    ((reads command ≡ true) × failing.source × IsOfFault status text)
+    ⊎ IsOfScript question (read_script (bytes_for command input)) failing.disk status text
+IsAsked (of_image making) command failing input status text =
+    (failing.source × IsOfFault status text) ⊎ IsOfImage (made making input) status text
+IsAsked nothing command failing input status text = IsOfWords status text
 
-abbrev pub IsOfCommand : Command → Type 0 → List ℕ → ℕ → List ℕ → Type 0
-IsOfCommand command HasFailed input status text =
-    IsAsked (asked_by command) command HasFailed input status text
+abbrev pub IsOfCommand : Command → Failing → List ℕ → ℕ → List ℕ → Type 0
+IsOfCommand command failing input status text =
+    IsAsked (asked_by command) command failing input status text
 
 -- The answer to words and an input, which a source may have failed to give.
-abbrev pub IsAnswer : List (List ℕ) → Type 0 → List ℕ → ℕ → List ℕ → Type 0
-IsAnswer words HasFailed input status text =
+abbrev pub IsAnswer : List (List ℕ) → Failing → List ℕ → ℕ → List ℕ → Type 0
+IsAnswer words failing input status text =
     ((¬ IsForm words) × IsOfWords status text)
-    ⊎ ((command : Command) × IsFormFor words command × IsOfCommand command HasFailed input status text)
+    ⊎ ((command : Command) × IsFormFor words command × IsOfCommand command failing input status text)
 
--- What was written after what stood there: the whole text of the answer; where the sink failed a prefix of some answer's text; where
--- memory ran out nothing.
-pub record IsWritten (words : List (List ℕ)) (HasFailed : Type 0) (input : List ℕ) (status : ℕ) (before after : List ℕ) : Type 0 where
-  pub whole : (status ≡ 5 → ⊥) → (status ≡ 7 → ⊥) → (text : List ℕ) × IsAnswer words HasFailed input status text × (after ≡ before ++ text)
-  pub front : status ≡ 5 → (meant : ℕ) × (text : List ℕ) × (n : ℕ) × IsAnswer words HasFailed input meant text × (n ≤ length text)
-      × (after ≡ before ++ take n text)
+-- What was written after what stood there: the whole text of the answer; where the sink failed a
+-- prefix of some answer's text; where memory ran out nothing.
+pub record IsWritten (words : List (List ℕ)) (failing : Failing) (input : List ℕ) (status : ℕ)
+    (before after : List ℕ) : Type 0 where
+  pub whole :
+      (status ≡ 5 → ⊥) → (status ≡ 7 → ⊥)
+      → (text : List ℕ) × IsAnswer words failing input status text × (after ≡ before ++ text)
+  pub front :
+      status ≡ 5
+      → (meant : ℕ) × (text : List ℕ) × (n : ℕ) × IsAnswer words failing input meant text
+      × (n ≤ length text) × (after ≡ before ++ take n text)
   pub nothing : status ≡ 7 → after ≡ before
 
 -- the status of a question about a script that was read, and of a command, where nothing fails
@@ -84,3 +111,24 @@ asked_status nothing command input = 2
 
 abbrev pub command_status : Command → List ℕ → ℕ
 command_status command input = asked_status (asked_by command) command input
+
+-- how many nodes has the script that was read, and the one that a command runs: so many disks serve
+-- its run
+abbrev pub nodes_of : Result Script ScriptFault → ℕ
+nodes_of (Ok script) = script.nodes
+nodes_of (Err fault) = 0
+
+abbrev pub asked_nodes : Asked → Command → List ℕ → ℕ
+asked_nodes (of_run question) command input = nodes_of (read_script (bytes_for command input))
+asked_nodes _ command input = 0
+
+abbrev pub nodes_for : Command → List ℕ → ℕ
+nodes_for command input = asked_nodes (asked_by command) command input
+
+-- what holds of the script that a command runs, if it runs one and its bytes spell it
+abbrev pub IfAskedRuns : Asked → Command → List ℕ → (Script → Type 0) → Type 0
+IfAskedRuns (of_run question) command input R = IfOk (read_script (bytes_for command input)) R
+IfAskedRuns _ command input R = Unit {0}
+
+abbrev pub IfRuns : Command → List ℕ → (Script → Type 0) → Type 0
+IfRuns command input R = IfAskedRuns (asked_by command) command input R

@@ -37,6 +37,14 @@ abbrev pub bytes_for : Command → List ℕ → List ℕ
 bytes_for (Gen seed size) input = generated seed size
 bytes_for _ input = input
 
+-- whether a command runs a script
+abbrev pub asks_of_run : Asked → Bool
+asks_of_run (of_run question) = true
+asks_of_run _ = false
+
+abbrev pub runs : Command → Bool
+runs command = asks_of_run (asked_by command)
+
 -- whether a command reads the source
 abbrev pub reads : Command → Bool
 reads Run = true
@@ -55,6 +63,10 @@ pub record IsFormFor (words : List (List ℕ)) (command : Command) : Type 0 wher
 -- the words are a form
 abbrev pub IsForm : List (List ℕ) → Type 0
 IsForm words = (command : Command) × IsFormFor words command
+
+-- the words are the form of a command that runs a script
+abbrev pub Runs : List (List ℕ) → Type 0
+Runs words = (command : Command) × IsFormOf words command × (runs command ≡ true)
 
 -- the words are the form of a command that reads the source
 abbrev pub Reads : List (List ℕ) → Type 0

@@ -9,6 +9,10 @@ usage_text = usage
 abbrev pub read_fault_text : List ℕ
 read_fault_text = codes "read fault" ++ 10 ∷ []
 
+-- `disk fault NODE`, the node whose disk failed
+abbrev pub disk_fault_text : ℕ → List ℕ
+disk_fault_text node = line (codes "disk" ∷ codes "fault" ∷ decimal node ∷ [])
+
 -- the run has no such action, and no such stop
 abbrev pub no_action_text : List ℕ
 no_action_text = codes "no such action" ++ 10 ∷ []

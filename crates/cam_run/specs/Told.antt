@@ -20,7 +20,7 @@ use Rattle.cam_report.specs.Traces.{trace_text, witness_text}
 use Rattle.cam_report.specs.Whys.{IsWhyText}
 use Rattle.cam_headline.specs.Headline.{one_run, events}
 use Rattle.cam_run.specs.declared.status.Status.{Status}
-use Rattle.cam_run.specs.declared.status.Status.TheVariants.{Done, Missing}
+use Rattle.cam_run.specs.declared.status.Status.TheVariants.{Done, DiskFault, Missing, ReadFault, Refused, Usage}
 use Rattle.cam_run.specs.declared.question.Question.{Question}
 use Rattle.cam_run.specs.declared.question.Question.TheVariants.{Report, Trace, Witness, Why, Summary}
 use Rattle.cam_run.specs.Texts.{no_action_text, no_stop_text}
@@ -81,6 +81,14 @@ told_status (Witness a) script = if has_action script a then 0 else 8
 told_status (Why event) script = if is_some (stop_of script event) then 0 else 8
 told_status _ script = 0
 
--- a status with which a run is told of
+-- a status with which a run is told of, and one to which a run comes
 abbrev pub IsTelling : Status → Type 0
 IsTelling status = (status ≡ Done) ⊎ (status ≡ Missing)
+
+abbrev pub ComesOfRun : Status → Type 0
+ComesOfRun status = IsTelling status ⊎ (status ≡ DiskFault)
+
+-- a status with which words are answered
+abbrev pub MayAnswer : Status → Type 0
+MayAnswer status =
+    ComesOfRun status ⊎ ((status ≡ Usage) ⊎ ((status ≡ Refused) ⊎ (status ≡ ReadFault)))

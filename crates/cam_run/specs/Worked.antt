@@ -49,7 +49,7 @@ repeated_letter_report =
     (codes "action 1.1.1 open" ∷ codes "  created" ∷ codes "  called 1 x swap 5" ∷ codes "  got 1 value 7" ∷ codes "  called 2 x read"
     ∷ codes "  got 2 value 5" ∷ codes "value x 7" ∷ [])
 
--- The disk of A's node stops behind three calls, in the append of A's commit. Its next restart finds
+-- The disk of A's node stops after three calls, in the append of A's commit. Its next restart finds
 -- the commit in the log, and the other node learns of it by its query.
 abbrev pub stopped_commit : List ℕ
 stopped_commit =
@@ -72,10 +72,14 @@ unknown_line = text (codes "nodes 1" ∷ [] ∷ codes "foo" ∷ [])
 abbrev pub unknown_line_text : List ℕ
 unknown_line_text = text (codes "refused 3 1 S3" ∷ [])
 
+-- no disk fails
+abbrev pub none : ℕ → Type 0
+none s = ⊥
+
 -- The answers are these statuses and texts.
 pub record AreWorked : Type 0 where
-  pub open_call_is_shown : IsOfScript Report (read_script open_call) 0 open_call_report
-  pub refused_call_is_marked : IsOfScript Report (read_script refused_call) 0 refused_call_report
-  pub repeated_letter_is_performed_once : IsOfScript Report (read_script repeated_letter) 0 repeated_letter_report
-  pub stopped_commit_is_taken : IsOfScript Report (read_script stopped_commit) 0 stopped_commit_report
-  pub unknown_line_is_refused : IsOfScript Report (read_script unknown_line) 3 unknown_line_text
+  pub open_call_is_shown : IsOfScript Report (read_script open_call) none 0 open_call_report
+  pub refused_call_is_marked : IsOfScript Report (read_script refused_call) none 0 refused_call_report
+  pub repeated_letter_is_performed_once : IsOfScript Report (read_script repeated_letter) none 0 repeated_letter_report
+  pub stopped_commit_is_taken : IsOfScript Report (read_script stopped_commit) none 0 stopped_commit_report
+  pub unknown_line_is_refused : IsOfScript Report (read_script unknown_line) none 3 unknown_line_text

@@ -1,8 +1,9 @@
 //! Answers: a status and its text, as bytes.
 ghost use Rattle.std.specs.Prelude.{◌≡◌, IfOk, string_bytes};
 ghost use Rattle.cam_words.specs.Causes.{cause_number};
+ghost use Rattle.cam_run.specs.declared.status.Status.TheVariants as statuses;
 ghost use Rattle.cam_run.specs.Status.{number};
-ghost use Rattle.cam_run.specs.Texts.{refused_text};
+ghost use Rattle.cam_run.specs.Texts.{disk_fault_text, refused_text};
 ghost use Rattle.cam_run.specs.Answer.{IsOfFault, IsOfWords};
 
 use crate::status::Status;
@@ -37,6 +38,18 @@ pub(crate) fn read_fault(alloc: Global) -> Result<Answer, NoMemory>
     let text = format!(in alloc; "read fault\n")?;
     Ok(Answer {
         status: Status::ReadFault,
+        text: text.into_bytes(),
+    })
+}
+
+/// The answer where the disk of a node failed by itself.
+pub(crate) fn disk_fault(alloc: Global, node: u8) -> Result<Answer, NoMemory>
+    ensures status { IfOk result (λ a. a.status ≡ statuses.DiskFault) }
+    ensures text { IfOk result (λ a. a.text.items ≡ disk_fault_text node) }
+{
+    let text = format!(in alloc; "disk fault {node}\n")?;
+    Ok(Answer {
+        status: Status::DiskFault,
         text: text.into_bytes(),
     })
 }

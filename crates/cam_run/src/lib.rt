@@ -1,4 +1,4 @@
-//! The top call of the program: what it answers to words, a source and a sink.
+//! The top call of the program: what it answers to words, a source and a sink, over disks and data servers that are handed in.
 //!
 //! It stands on `cam_args` (the words), `cam_io` (the streams), `cam_script` and `cam_gen` (the script that is read, and the one that is
 //! made), `cam_cluster` (the run), `cam_report` (the texts of a run) and `cam_headline` (what each run owes). Its main clauses are those of

@@ -1,21 +1,29 @@
 //! What a command asks of the run of a script, and the answer.
-ghost use Rattle.std.specs.Prelude.{◌≡◌, IfOk};
+ghost use Rattle.std.specs.Prelude.{◌≡◌, ◌≤◌, IfOk, drop, length};
 ghost use Rattle.cam_script.specs.Law.{IsScript};
+ghost use Rattle.cam_cluster.specs.HandedBack.{AreHandedBack};
+ghost use Rattle.cam_cluster.specs.Servers.{AreServers};
 ghost use Rattle.cam_headline.specs.Headline.{HasOneRun};
 ghost use Rattle.cam_run.specs.declared.question.Question.TheVariants as questions;
 ghost use Rattle.cam_run.specs.Status.{number};
-ghost use Rattle.cam_run.specs.Told.{IsOneRun, IsTold, IsTelling};
+ghost use Rattle.cam_run.specs.declared.status.Status.TheVariants as statuses;
+ghost use Rattle.cam_run.specs.Told.{ComesOfRun, IsOneRun, IsTold, IsTelling};
+ghost use Rattle.cam_run.specs.Disks.{FailedAt, LeavesDisks, OneFailed};
+ghost use Rattle.cam_run.specs.Answer.{IsOfRun};
 
-use crate::answer::Answer;
+use crate::answer::{Answer, disk_fault};
 use crate::running::run;
 use crate::status::Status;
 use cam_base::NoMemory;
+use cam_cluster::{RunFault, Servers};
 use cam_cut::CutFault;
+use cam_disk::TellingDisk;
 use cam_event::RunRecord;
 use cam_gen::digest_text;
 use cam_names::Name;
 use cam_report::{report_text, summary_text, trace_text, why_text, witness_text};
 use cam_script::Script;
+use cam_type::DataType;
 use cam_why::WhyFault;
 use std::alloc::Global;
 
@@ -35,21 +43,53 @@ pub(crate) enum Question {
 }
 
 impl Question {
-    /// The answer, by the run of the script.
-    pub(crate) fn answer(&self, alloc: Global, script: &Script) -> Result<Answer, NoMemory>
+    /// The answer, by the run of the script over the first of the disks, one for each of its nodes.
+    pub(crate) fn answer<D: TellingDisk, R: DataType, Q: DataType, C: DataType>(
+        &self,
+        alloc: Global,
+        script: &Script,
+        disks: &mut Vec<D>,
+        servers: &mut Servers<R, Q, C>,
+    ) -> Result<Answer, NoMemory>
         requires script { IsScript script.now }
+        requires run { HasOneRun script.now }
+        requires enough { script.now.nodes ≤ length disks.old.items }
+        requires servers { AreServers R.kind Q.kind C.kind
+            servers.old.register servers.old.queue servers.old.counter }
+        ensures answer { IfOk result (λ a. IsOfRun self.now script.now
+            (FailedAt D.faults disks.old.items disks.new.items) (number a.status) a.text.items) }
+        ensures statuses { IfOk result (λ a. ComesOfRun a.status) }
+        ensures disk_fault { IfOk result (λ a. a.status ≡ statuses.DiskFault
+            → OneFailed script.now.nodes (FailedAt D.faults disks.old.items disks.new.items)) }
+        ensures back { AreHandedBack D.tells D.faults disks.old.items disks.new.items }
+        ensures others { drop script.now.nodes disks.new.items
+            ≡ drop script.now.nodes disks.old.items }
+        ensures recovered { IfOk result (λ a. IsTelling a.status
+            → LeavesDisks D.tells D.moment D.left_since script.now disks.new.items) }
+        ensures servers { AreServers R.kind Q.kind C.kind
+            servers.new.register servers.new.queue servers.new.counter }
+    {
+        match run(alloc, script, disks, servers) {
+            Ok(run) => self.tell(alloc, script, &run),
+            Err(RunFault::DiskFault(node)) => disk_fault(alloc, node),
+            Err(RunFault::NoMemory) => Err(NoMemory),
+        }
+    }
+
+    /// What is told of the run of the script.
+    fn tell(&self, alloc: Global, script: &Script, run: &RunRecord) -> Result<Answer, NoMemory>
+        requires one { IsOneRun script.now run.now }
         requires run { HasOneRun script.now }
         ensures told { IfOk result
             (λ a. IsTold self.now script.now (number a.status) a.text.items) }
         ensures telling { IfOk result (λ a. IsTelling a.status) }
     {
-        let run = run(alloc, script)?;
         match self {
-            Question::Report => report(alloc, script, &run),
-            Question::Trace => trace(alloc, script, &run),
-            Question::Witness(name) => witness(alloc, script, &run, name),
-            Question::Why(event) => why(alloc, script, &run, *event),
-            Question::Summary(steps) => summary(alloc, script, &run, *steps),
+            Question::Report => report(alloc, script, run),
+            Question::Trace => trace(alloc, script, run),
+            Question::Witness(name) => witness(alloc, script, run, name),
+            Question::Why(event) => why(alloc, script, run, *event),
+            Question::Summary(steps) => summary(alloc, script, run, *steps),
         }
     }
 }

@@ -1,41 +1,87 @@
-//! The run of a script, over nodes whose disks are in memory.
-ghost use Rattle.std.specs.Prelude.{◌≡◌, IfOk, length};
+//! The run of a script over the first of the disks that are handed in, one for each of its nodes.
+ghost use Rattle.std.specs.Prelude.{◌≡◌, ◌≤◌, ◌<◌, ◌+◌, ◌++◌, ◌∷◌, [], IfErr, IfOk, OnErr, OnOk, drop, length, reverse, take, vec_capacity, vec_len};
+ghost use Rattle.cam_cluster.specs.HandedBack.{AreHandedBack};
+ghost use Rattle.cam_cluster.specs.Servers.{AreServers};
+ghost use Rattle.cam_headline.specs.Headline.{HasOneRun};
 ghost use Rattle.cam_script.specs.Law.{IsScript};
+ghost use Rattle.cam_run.specs.Disks.{FailedAt, IsCaused, LeavesDisks};
 ghost use Rattle.cam_run.specs.Told.{IsOneRun};
 
 use cam_base::NoMemory;
-use cam_cluster::{Servers, run_script};
-use cam_disk::MemoryDisk;
+use cam_cluster::{RunFault, Servers, run_script};
+use cam_disk::TellingDisk;
 use cam_event::RunRecord;
 use cam_script::Script;
-use cam_type::{CounterServer, QueueServer, RegisterServer};
+use cam_type::DataType;
 use std::alloc::Global;
 
-/// Runs the script.
-pub fn run(alloc: Global, script: &Script) -> Result<RunRecord, NoMemory>
+/// Runs the script, each node over the disk at its place, which is formatted. Further disks stay as they are.
+pub(crate) fn run<D: TellingDisk, R: DataType, Q: DataType, C: DataType>(
+    alloc: Global,
+    script: &Script,
+    disks: &mut Vec<D>,
+    servers: &mut Servers<R, Q, C>,
+) -> Result<RunRecord, RunFault>
     requires script { IsScript script.now }
-    ensures { IfOk result (IsOneRun script.now) }
+    requires run { HasOneRun script.now }
+    requires enough { script.now.nodes ≤ length disks.old.items }
+    requires servers { AreServers R.kind Q.kind C.kind
+        servers.old.register servers.old.queue servers.old.counter }
+    ensures one { IfOk result (IsOneRun script.now) }
+    ensures cause { IfErr result (IsCaused script.now.nodes
+        (FailedAt D.faults disks.old.items disks.new.items)) }
+    ensures back { AreHandedBack D.tells D.faults disks.old.items disks.new.items }
+    ensures others { drop script.now.nodes disks.new.items
+        ≡ drop script.now.nodes disks.old.items }
+    ensures recovered { OnOk result (LeavesDisks D.tells D.moment D.left_since script.now
+        disks.new.items) }
+    ensures servers { AreServers R.kind Q.kind C.kind
+        servers.new.register servers.new.queue servers.new.counter }
 {
-    let mut disks = empty_disks(alloc, script.nodes)?;
-    let mut servers = Servers {
-        register: RegisterServer::new(),
-        queue: QueueServer::new(alloc),
-        counter: CounterServer::new(),
-    };
-    match run_script(alloc, script, &mut disks, &mut servers) {
-        Ok(run) => Ok(run),
-        // a run goes on through stop lines; a disk in memory fails by itself only where memory runs out
-        Err(_) => Err(NoMemory),
+    let mut further = set_aside(alloc, disks, script.nodes as usize)?;
+    let run = run_script(alloc, script, disks, servers);
+    put_back(disks, &mut further);
+    run
+}
+
+/// Adds a value for which there is room.
+fn push_owned<T: Drop>(list: &mut Vec<T>, value: T)
+    requires { vec_len list.old < vec_capacity list.old }
+    ensures items { list.new.items ≡ list.old.items ++ value ∷ [] }
+    ensures capacity { vec_capacity list.old ≤ vec_capacity list.new }
+{
+    match list.push(value) {
+        Ok(()) => {}
+        // there is room
+        Err(_) => unreachable!(),
     }
 }
 
-/// So many empty disks in memory.
-fn empty_disks(alloc: Global, count: u8) -> Result<Vec<MemoryDisk>, NoMemory>
-    ensures { IfOk result (λ disks. length disks.items ≡ count) }
+/// Takes all but the first so many disks off their list, the last first. Where memory runs out they stay.
+fn set_aside<D: Drop>(alloc: Global, disks: &mut Vec<D>, first: usize) -> Result<Vec<D>, NoMemory>
+    requires { first ≤ vec_len disks.old }
+    ensures first { OnOk result (disks.new.items ≡ take first disks.old.items) }
+    ensures further { IfOk result
+        (λ further. reverse further.items ≡ drop first disks.old.items) }
+    ensures room { IfOk result
+        (λ further. first + vec_len further ≤ vec_capacity disks.new) }
+    ensures stay { OnErr result (disks.new ≡ disks.old) }
 {
-    let mut disks = Vec::with_capacity(alloc, count as usize)?;
-    for _ in 0..count {
-        disks.push(MemoryDisk::new(alloc))?;
+    let mut further = Vec::with_capacity(alloc, disks.len() - first)?;
+    while disks.len() > first {
+        if let Some(disk) = disks.pop() {
+            push_owned(&mut further, disk);
+        }
     }
-    Ok(disks)
+    Ok(further)
+}
+
+/// Puts disks that were set aside back after the others. It takes no memory.
+fn put_back<D: Drop>(disks: &mut Vec<D>, further: &mut Vec<D>)
+    requires { vec_len disks.old + vec_len further.old ≤ vec_capacity disks.old }
+    ensures { disks.new.items ≡ disks.old.items ++ reverse further.old.items }
+{
+    while let Some(disk) = further.pop() {
+        push_owned(disks, disk);
+    }
 }

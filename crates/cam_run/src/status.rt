@@ -15,6 +15,8 @@ pub enum Status {
     ReadFault,
     /// The sink failed.
     WriteFault,
+    /// The disk of a node failed by itself.
+    DiskFault,
     /// Out of memory.
     NoMemory,
     /// The run has no such action, or no such stop.
@@ -32,6 +34,7 @@ impl Status {
             Status::Refused => 3,
             Status::ReadFault => 4,
             Status::WriteFault => 5,
+            Status::DiskFault => 6,
             Status::NoMemory => 7,
             Status::Missing => 8,
         }

@@ -1,17 +1,20 @@
-//! What the program answers to words, a source and a sink.
-ghost use Rattle.std.specs.Prelude.{◌≡◌, ◌≤◌, ◌⊎◌, ◌↔◌, ℕ, false, true, List, [], IfOk, map, string_bytes};
+//! What the program answers to words, a source and a sink, over disks and data servers.
+ghost use Rattle.std.specs.Prelude.{◌≡◌, ◌≤◌, ◌⊎◌, ◌↔◌, ℕ, false, true, List, [], IfOk, drop, length, map, string_bytes};
 ghost use Rattle.cam_base.specs.Causes.{Rose};
 ghost use Rattle.cam_base.specs.Told.{IfTold};
 ghost use Rattle.cam_args.specs.declared.Command.{Command as Commands};
 ghost use Rattle.cam_args.specs.declared.Command.TheVariants.{Gen};
+ghost use Rattle.cam_cluster.specs.HandedBack.{AreHandedBack};
+ghost use Rattle.cam_cluster.specs.Servers.{AreServers};
 ghost use Rattle.cam_headline.specs.Headline.{HasOneRun};
 ghost use Rattle.cam_image.specs.Laws.{UpgradeIsMigration, UpgradeIsOnce};
 ghost use Rattle.cam_script.specs.Grammar.{read_script};
 ghost use Rattle.cam_run.specs.declared.status.Status.TheVariants as statuses;
 ghost use Rattle.cam_run.specs.Status.{number};
-ghost use Rattle.cam_run.specs.Told.{IsTelling};
-ghost use Rattle.cam_run.specs.Commands.{IsBuilt, IsForm, IsFormFor, Reads, reads};
-ghost use Rattle.cam_run.specs.Answer.{IsAnswer, IsOfCommand, IsWritten, command_status};
+ghost use Rattle.cam_run.specs.Told.{IsTelling, MayAnswer};
+ghost use Rattle.cam_run.specs.Commands.{IsBuilt, IsForm, IsFormFor, Reads, Runs, reads, runs};
+ghost use Rattle.cam_run.specs.Disks.{FailedAt, LeavesDisks, OneFailed};
+ghost use Rattle.cam_run.specs.Answer.{IfRuns, IsAnswer, IsOfCommand, IsWritten, command_status, nodes_for};
 
 use crate::answer::{Answer, usage};
 use crate::image::{Making, of_image};
@@ -20,51 +23,75 @@ use crate::script::{of_seed, of_source};
 use crate::status::Status;
 use cam_args::{ArgsFault, Command, read_words};
 use cam_base::NoMemory;
+use cam_cluster::Servers;
+use cam_disk::TellingDisk;
 use cam_io::{Sink, Source, write_all};
+use cam_type::DataType;
 use std::alloc::Global;
 
 /// Does what the words say, and writes its text to the sink. `run`, `trace`, `witness NAME` and `why EVENT` read a script from the
-/// source and tell of its run; `gen SEED SIZE` reads nothing, and tells of the run of the script that is made from the seed. `inspect` and
+/// source and tell of its run; `gen SEED SIZE` reads nothing, and tells of the run of the script that is made from the seed. Such a run
+/// is over the first of the disks, one for each node of the script, which are formatted; the others stay as they are. `inspect` and
 /// `upgrade` read the image of a log: the one tells its records, the other writes the image of the same log in version 2.
 ///
 /// The answer is the status of the program: 0 the text of the command was written; 2 the words are no form; 3 the script or the image was
-/// refused; 4 the source failed; 5 the sink failed, and a prefix of the text was written; 7 out of memory, and nothing was written; 8 the
-/// run has no such action, or no such stop. The text is made whole before the first write. What the run of each accepted script owes is
-/// told in `docs/HEADLINE.md`.
+/// refused; 4 the source failed; 5 the sink failed, and a prefix of the text was written; 6 a disk failed by itself, in a run; 7 out of
+/// memory, and nothing was written; 8 the run has no such action, or no such stop. The text is made whole before the first write. What
+/// the run of each accepted script owes is told in `docs/HEADLINE.md`.
 #[tactic(auto, using(cam_headline::proofs::Whole::headline_holds, cam_image::proofs::Again::upgrade_is_migration, cam_image::proofs::Again::upgrade_is_once))]
-pub fn camelot<S: Source, K: Sink>(
+pub fn camelot<S: Source, K: Sink, D: TellingDisk, R: DataType, Q: DataType, C: DataType>(
     alloc: Global,
     words: &[String],
     source: &mut S,
     sink: &mut K,
+    disks: &mut Vec<D>,
+    servers: &mut Servers<R, Q, C>,
 ) -> u8
+    // As many disks as a script may have nodes, and a server of each kind.
+    requires eight { 8 ≤ length disks.old.items }
+    requires servers { AreServers R.kind Q.kind C.kind
+        servers.old.register servers.old.queue servers.old.counter }
+
     // Which statuses there are, and when each comes.
-    ensures statuses { (result ≡ 0) ⊎ ((result ≡ 2) ⊎ ((result ≡ 3)
-        ⊎ ((result ≡ 4) ⊎ ((result ≡ 5) ⊎ ((result ≡ 7) ⊎ (result ≡ 8)))))) }
+    ensures statuses { (result ≡ 0) ⊎ ((result ≡ 2) ⊎ ((result ≡ 3) ⊎ ((result ≡ 4)
+        ⊎ ((result ≡ 5) ⊎ ((result ≡ 6) ⊎ ((result ≡ 7) ⊎ (result ≡ 8))))))) }
     ensures usage { result ≡ 2 → ¬ (IsForm (map string_bytes words.now)) }
     ensures no_form { ¬ (IsForm (map string_bytes words.now))
         → (result ≡ 2) ⊎ ((result ≡ 5) ⊎ (result ≡ 7)) }
     ensures read_fault { result ≡ 4 → Rose (S.faults source.old) (S.faults source.new) }
     ensures write_fault { result ≡ 5 → Rose (K.faults sink.old) (K.faults sink.new) }
+    ensures disk_fault { result ≡ 6
+        → OneFailed 8 (FailedAt D.faults disks.old.items disks.new.items) }
 
     // What was written, and that nothing else keeps an accepted or a refused script from its answer.
     ensures written { IfTold (S.left source.old) (S.left source.new) (λ input _.
         IfTold (K.written sink.old) (K.written sink.new) (λ before after.
-        IsWritten (map string_bytes words.now) (Rose (S.faults source.old) (S.faults source.new))
+        IsWritten (map string_bytes words.now) (record {
+          source = Rose (S.faults source.old) (S.faults source.new);
+          disk = FailedAt D.faults disks.old.items disks.new.items;
+        })
         input result before after)) }
     ensures complete { IfTold (S.left source.old) (S.left source.new) (λ input _.
         (command : Commands) → IsFormFor (map string_bytes words.now) command
         → ¬ (Rose (S.faults source.old) (S.faults source.new))
         → ¬ (Rose (K.faults sink.old) (K.faults sink.new))
+        → ¬ (OneFailed (nodes_for command input)
+        (FailedAt D.faults disks.old.items disks.new.items))
         → (result ≡ command_status command input) ⊎ (result ≡ 7)) }
     // The script that is made from a seed is never refused.
     ensures generated { (seed size : ℕ) → IsFormFor (map string_bytes words.now) (Gen seed size)
-        → (result ≡ 0) ⊎ ((result ≡ 5) ⊎ (result ≡ 7)) }
+        → (result ≡ 0) ⊎ ((result ≡ 5) ⊎ ((result ≡ 6) ⊎ (result ≡ 7))) }
 
     // Of every script that is accepted: the run that is told of is the one run of the step rules; each action in it, orphan or not, has
-    // its view in a legal execution in which it is no orphan; committed top actions replay serially in commit order; and no two nodes
-    // hold different outcomes.
+    // its view in a legal execution in which it is no orphan; committed top actions replay serially in commit order; no two nodes
+    // hold different outcomes; and a log that keeps a node's history gives what the node keeps over a restart.
     ensures headline { (input : List ℕ) → IfOk (read_script input) HasOneRun }
+    // So the disks of its nodes: whatever a crash now leaves of one is a log, and what may be recovered of a node that is not halted at
+    // the end is what the node kept.
+    ensures recovered { IfTold (S.left source.old) (S.left source.new) (λ input _.
+        (command : Commands) → IsFormFor (map string_bytes words.now) command
+        → (result ≡ 0) ⊎ (result ≡ 8) → IfRuns command input (λ script.
+        LeavesDisks D.tells D.moment D.left_since script disks.new.items)) }
 
     // Of every image that is upgraded: what is written is the migrated log, of which just that is recovered which was recovered of the
     // image; and upgraded again it is left as it is, unless it is then longer than an image may be.
@@ -75,8 +102,19 @@ pub fn camelot<S: Source, K: Sink>(
     ensures read { Reads (map string_bytes words.now) → (result ≡ 0) ⊎ (result ≡ 8)
         → IfTold (S.left source.old) (S.left source.new) (λ _ rest. rest ≡ []) }
     ensures unread { ¬ (Reads (map string_bytes words.now)) → source.new ≡ source.old }
+
+    // The disks: each is back at its place, and has not failed less often; those that serve no node of the script are as they were, and
+    // so are all where the words run no script.
+    ensures back { AreHandedBack D.tells D.faults disks.old.items disks.new.items }
+    ensures others { IfTold (S.left source.old) (S.left source.new) (λ input _.
+        (command : Commands) → IsFormFor (map string_bytes words.now) command
+        → drop (nodes_for command input) disks.new.items
+        ≡ drop (nodes_for command input) disks.old.items) }
+    ensures idle { ¬ (Runs (map string_bytes words.now)) → disks.new ≡ disks.old }
+    ensures servers { AreServers R.kind Q.kind C.kind
+        servers.new.register servers.new.queue servers.new.counter }
 {
-    let Ok(answer) = answer_to(alloc, words, source) else {
+    let Ok(answer) = answer_to(alloc, words, source, disks, servers) else {
         return Status::NoMemory.number();
     };
     match write_all(sink, &answer.text) {
@@ -86,62 +124,112 @@ pub fn camelot<S: Source, K: Sink>(
 }
 
 /// The answer to the words and the input.
-fn answer_to<S: Source>(alloc: Global, words: &[String], source: &mut S) -> Result<Answer, NoMemory>
+#[tactic(auto, using(crate::proofs::FirstDisks::as_they_were))]
+fn answer_to<S: Source, D: TellingDisk, R: DataType, Q: DataType, C: DataType>(
+    alloc: Global,
+    words: &[String],
+    source: &mut S,
+    disks: &mut Vec<D>,
+    servers: &mut Servers<R, Q, C>,
+) -> Result<Answer, NoMemory>
+    requires eight { 8 ≤ length disks.old.items }
+    requires servers { AreServers R.kind Q.kind C.kind
+        servers.old.register servers.old.queue servers.old.counter }
     ensures answer { IfTold (S.left source.old) (S.left source.new) (λ input _.
-        IfOk result (λ a.
-        IsAnswer (map string_bytes words.now) (Rose (S.faults source.old) (S.faults source.new))
+        IfOk result (λ a. IsAnswer (map string_bytes words.now) (record {
+          source = Rose (S.faults source.old) (S.faults source.new);
+          disk = FailedAt D.faults disks.old.items disks.new.items;
+        })
         input (number a.status) a.text.items)) }
     ensures complete { IfTold (S.left source.old) (S.left source.new) (λ input _.
-        IfOk result (λ a. (command : Commands) → IsFormFor (map string_bytes words.now) command
-        → ¬ (Rose (S.faults source.old) (S.faults source.new))
+        (command : Commands) → IsFormFor (map string_bytes words.now) command
+        → IfOk result (λ a. ¬ (Rose (S.faults source.old) (S.faults source.new))
+        → ¬ (OneFailed (nodes_for command input)
+        (FailedAt D.faults disks.old.items disks.new.items))
         → number a.status ≡ command_status command input)) }
     ensures generated { (seed size : ℕ) → IsFormFor (map string_bytes words.now) (Gen seed size)
-        → IfOk result (λ a. number a.status ≡ 0) }
-    ensures statuses { IfOk result
-        (λ a. IsTelling a.status ⊎ ((a.status ≡ statuses.Usage)
-        ⊎ ((a.status ≡ statuses.Refused) ⊎ (a.status ≡ statuses.ReadFault)))) }
+        → IfOk result (λ a. (number a.status ≡ 0) ⊎ (number a.status ≡ 6)) }
+    ensures statuses { IfOk result (λ a. MayAnswer a.status) }
     ensures usage { IfOk result
         (λ a. (a.status ≡ statuses.Usage) ↔ (¬ (IsForm (map string_bytes words.now)))) }
     ensures read_fault { IfOk result
         (λ a. a.status ≡ statuses.ReadFault → Rose (S.faults source.old) (S.faults source.new)) }
+    ensures disk_fault { IfOk result (λ a. a.status ≡ statuses.DiskFault
+        → OneFailed 8 (FailedAt D.faults disks.old.items disks.new.items)) }
     ensures read { Reads (map string_bytes words.now)
         → IfTold (S.left source.old) (S.left source.new)
         (λ _ rest. IfOk result (λ a. IsTelling a.status → rest ≡ [])) }
     ensures unread { ¬ (Reads (map string_bytes words.now)) → source.new ≡ source.old }
+    ensures recovered { IfTold (S.left source.old) (S.left source.new) (λ input _.
+        (command : Commands) → IsFormFor (map string_bytes words.now) command
+        → IfOk result (λ a. IsTelling a.status → IfRuns command input (λ script.
+        LeavesDisks D.tells D.moment D.left_since script disks.new.items))) }
+    ensures back { AreHandedBack D.tells D.faults disks.old.items disks.new.items }
+    ensures others { IfTold (S.left source.old) (S.left source.new) (λ input _.
+        (command : Commands) → IsFormFor (map string_bytes words.now) command
+        → drop (nodes_for command input) disks.new.items
+        ≡ drop (nodes_for command input) disks.old.items) }
+    ensures idle { ¬ (Runs (map string_bytes words.now)) → disks.new ≡ disks.old }
+    ensures servers { AreServers R.kind Q.kind C.kind
+        servers.new.register servers.new.queue servers.new.counter }
 {
     match read_words(alloc, words) {
-        Ok(command) => obey(alloc, &command, source),
+        Ok(command) => obey(alloc, &command, source, disks, servers),
         Err(ArgsFault::Usage) => usage(alloc),
         Err(ArgsFault::NoMemory) => Err(NoMemory),
     }
 }
 
 /// The answer to a command and the input; one that is not built is no form.
-fn obey<S: Source>(alloc: Global, command: &Command, source: &mut S) -> Result<Answer, NoMemory>
+#[tactic(auto, using(crate::proofs::FirstDisks::as_they_were))]
+fn obey<S: Source, D: TellingDisk, R: DataType, Q: DataType, C: DataType>(
+    alloc: Global,
+    command: &Command,
+    source: &mut S,
+    disks: &mut Vec<D>,
+    servers: &mut Servers<R, Q, C>,
+) -> Result<Answer, NoMemory>
+    requires eight { 8 ≤ length disks.old.items }
+    requires servers { AreServers R.kind Q.kind C.kind
+        servers.old.register servers.old.queue servers.old.counter }
     ensures answer { IfTold (S.left source.old) (S.left source.new) (λ input _.
-        IfOk result (λ a. IsOfCommand command.now
-        (Rose (S.faults source.old) (S.faults source.new))
+        IfOk result (λ a. IsOfCommand command.now (record {
+          source = Rose (S.faults source.old) (S.faults source.new);
+          disk = FailedAt D.faults disks.old.items disks.new.items;
+        })
         input (number a.status) a.text.items)) }
     ensures generated { (seed size : ℕ) → command.now ≡ Gen seed size → size ≤ 400
-        → IfOk result (λ a. number a.status ≡ 0) }
-    ensures statuses { IfOk result
-        (λ a. IsTelling a.status ⊎ ((a.status ≡ statuses.Usage)
-        ⊎ ((a.status ≡ statuses.Refused) ⊎ (a.status ≡ statuses.ReadFault)))) }
+        → IfOk result (λ a. (number a.status ≡ 0) ⊎ (number a.status ≡ 6)) }
+    ensures statuses { IfOk result (λ a. MayAnswer a.status) }
     ensures usage { IfOk result
         (λ a. (a.status ≡ statuses.Usage) ↔ (¬ (IsBuilt command.now))) }
     ensures read_fault { IfOk result
         (λ a. a.status ≡ statuses.ReadFault → Rose (S.faults source.old) (S.faults source.new)) }
+    ensures disk_fault { IfOk result (λ a. a.status ≡ statuses.DiskFault
+        → OneFailed 8 (FailedAt D.faults disks.old.items disks.new.items)) }
     ensures read { reads command.now ≡ true
         → IfTold (S.left source.old) (S.left source.new)
         (λ _ rest. IfOk result (λ a. IsTelling a.status → rest ≡ [])) }
     ensures unread { reads command.now ≡ false → source.new ≡ source.old }
+    ensures recovered { IfTold (S.left source.old) (S.left source.new) (λ input _.
+        IfOk result (λ a. IsTelling a.status → IfRuns command.now input (λ script.
+        LeavesDisks D.tells D.moment D.left_since script disks.new.items))) }
+    ensures back { AreHandedBack D.tells D.faults disks.old.items disks.new.items }
+    ensures others { IfTold (S.left source.old) (S.left source.new) (λ input _.
+        drop (nodes_for command.now input) disks.new.items
+        ≡ drop (nodes_for command.now input) disks.old.items) }
+    ensures idle { runs command.now ≡ false → disks.new ≡ disks.old }
+    ensures servers { AreServers R.kind Q.kind C.kind
+        servers.new.register servers.new.queue servers.new.counter }
 {
     match command {
-        Command::Run => of_source(alloc, &Question::Report, source),
-        Command::Trace => of_source(alloc, &Question::Trace, source),
-        Command::Witness(name) => of_source(alloc, &Question::Witness(*name), source),
-        Command::Why(event) => of_source(alloc, &Question::Why(*event), source),
-        Command::Gen { seed, size } => of_seed(alloc, *seed, *size),
+        Command::Run => of_source(alloc, &Question::Report, source, disks, servers),
+        Command::Trace => of_source(alloc, &Question::Trace, source, disks, servers),
+        Command::Witness(name) => {
+            of_source(alloc, &Question::Witness(*name), source, disks, servers)
+        }
+        Command::Why(event) => of_source(alloc, &Question::Why(*event), source, disks, servers),
+        Command::Gen { seed, size } => of_seed(alloc, *seed, *size, disks, servers),
         Command::Inspect => of_image(alloc, Making::Text, source),
         Command::Upgrade => of_image(alloc, Making::Version2, source),
         Command::Storm { .. } | Command::Timed => usage(alloc),

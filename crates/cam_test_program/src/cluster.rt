@@ -98,7 +98,7 @@ fn script_of(alloc: Global, table: &str) -> Result<String, NoMemory> {
 }
 
 /// So many empty disks in memory.
-fn empty_disks(alloc: Global, count: u8) -> Result<Vec<MemoryDisk>, NoMemory>
+pub(crate) fn empty_disks(alloc: Global, count: u8) -> Result<Vec<MemoryDisk>, NoMemory>
     ensures { IfOk result (λ disks. length disks.items ≡ count) }
 {
     let mut disks = Vec::with_capacity(alloc, count as usize)?;

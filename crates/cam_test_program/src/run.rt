@@ -1,12 +1,16 @@
-//! `cam_run`: answers to words and scripts, and streams that fail.
+//! `cam_run`: answers to words and scripts, and streams and disks that fail.
 
 ghost use Rattle.std.specs.Prelude.{Some};
 
 mod commands;
+mod failing;
 mod rows;
 
-use cam_io::{Failed, MemorySink, MemorySource, Sink};
+use crate::cluster::empty_disks;
+use cam_cluster::Servers;
+use cam_io::{Failed, MemorySink, MemorySource, Sink, Source};
 use cam_run::{camelot, worked_answers};
+use cam_type::{CounterServer, QueueServer, RegisterServer};
 use rows::ROWS;
 use std::alloc::Global;
 use std::test::Fail;
@@ -102,6 +106,22 @@ fn source(alloc: Global, text: &str, fail: &[u32]) -> Result<MemorySource, Fail>
     Ok(MemorySource::new(text.as_bytes().to_vec(alloc)?, fail.to_vec(alloc)?))
 }
 
+/// The status of the answer to the words, over eight disks in memory.
+fn answered<S: Source, K: Sink>(
+    alloc: Global,
+    words: &[String],
+    source: &mut S,
+    sink: &mut K,
+) -> Result<u8, Fail> {
+    let mut disks = empty_disks(alloc, 8)?;
+    let mut servers = Servers {
+        register: RegisterServer::new(),
+        queue: QueueServer::new(alloc),
+        counter: CounterServer::new(),
+    };
+    Ok(camelot(alloc, words, source, sink, &mut disks, &mut servers))
+}
+
 #[test]
 fn a_script_has_its_answer(rt: HostRuntime) -> Result<(), Fail> {
     worked_answers();
@@ -124,7 +144,7 @@ fn a_script_has_its_answer(rt: HostRuntime) -> Result<(), Fail> {
         let mut source = source(alloc, input, &[])?;
         let mut sink = MemorySink::new(alloc, Vec::new(alloc));
         assert_eq!(rt;
-            camelot(alloc, &run, &mut source, &mut sink),
+            answered(alloc, &run, &mut source, &mut sink)?,
             status,
             "{input}"
         );
@@ -132,7 +152,7 @@ fn a_script_has_its_answer(rt: HostRuntime) -> Result<(), Fail> {
     }
     let mut long = MemorySource::new(vec![in alloc; 10; 262_145]?, Vec::new(alloc));
     let mut sink = MemorySink::new(alloc, Vec::new(alloc));
-    assert_eq!(rt; camelot(alloc, &run, &mut long, &mut sink), 3);
+    assert_eq!(rt; answered(alloc, &run, &mut long, &mut sink)?, 3);
     assert_eq!(rt; sink.text(), b"refused 1 1 S1\n".as_slice());
     Ok(())
 }
@@ -146,7 +166,7 @@ fn worked_runs_have_their_reports(rt: HostRuntime) -> Result<(), Fail> {
         let mut source = source(alloc, row.script, &[])?;
         let mut sink = MemorySink::new(alloc, Vec::new(alloc));
         assert_eq!(rt;
-            camelot(alloc, &run, &mut source, &mut sink),
+            answered(alloc, &run, &mut source, &mut sink)?,
             0,
             "{}",
             row.script
@@ -174,13 +194,17 @@ fn words_that_are_no_form(rt: HostRuntime) -> Result<(), Fail> {
         let words = words(alloc, text)?;
         let mut source = source(alloc, FIRST_PATH, &[])?;
         let mut sink = MemorySink::new(alloc, Vec::new(alloc));
-        assert_eq!(rt; camelot(alloc, &words, &mut source, &mut sink), 2, "{text}");
+        assert_eq!(rt;
+            answered(alloc, &words, &mut source, &mut sink)?,
+            2,
+            "{text}"
+        );
         assert_eq!(rt; sink.text(), USAGE.as_bytes(), "{text}");
     }
     let none = Vec::new(alloc);
     let mut source = source(alloc, FIRST_PATH, &[])?;
     let mut sink = MemorySink::new(alloc, Vec::new(alloc));
-    assert_eq!(rt; camelot(alloc, &none, &mut source, &mut sink), 2);
+    assert_eq!(rt; answered(alloc, &none, &mut source, &mut sink)?, 2);
     Ok(())
 }
 
@@ -197,7 +221,7 @@ fn a_source_that_fails(rt: HostRuntime) -> Result<(), Fail> {
         let mut source = source(alloc, FIRST_PATH, &[call])?;
         let mut sink = MemorySink::new(alloc, Vec::new(alloc));
         assert_eq!(rt;
-            camelot(alloc, &run, &mut source, &mut sink),
+            answered(alloc, &run, &mut source, &mut sink)?,
             status,
             "at call {call}"
         );
@@ -243,7 +267,7 @@ fn a_sink_that_fails(rt: HostRuntime) -> Result<(), Fail> {
         };
         let wanted = if room < whole.len() { 5 } else { 0 };
         assert_eq!(rt;
-            camelot(alloc, &run, &mut source, &mut sink),
+            answered(alloc, &run, &mut source, &mut sink)?,
             wanted,
             "at {room}"
         );

@@ -1,8 +1,7 @@
 //! The commands beside `run`: what each tells of a run or of the image of a log, and where there is nothing to tell.
 
-use super::{FIRST_PATH, source, words};
+use super::{FIRST_PATH, answered, source, words};
 use cam_io::MemorySink;
-use cam_run::camelot;
 use std::alloc::Global;
 use std::test::Fail;
 
@@ -227,7 +226,7 @@ fn is_answered(alloc: Global, row: &Row) -> Result<bool, Fail> {
     let words = words(alloc, row.command)?;
     let mut source = source(alloc, row.input, &[])?;
     let mut sink = MemorySink::new(alloc, Vec::new(alloc));
-    let status = camelot(alloc, &words, &mut source, &mut sink);
+    let status = answered(alloc, &words, &mut source, &mut sink)?;
     Ok(status == row.status && sink.text() == row.text.as_bytes())
 }
 

@@ -1,6 +1,69 @@
--- The record of the run is that of the one run.
+-- A run over the first disks, and what it says of the whole list.
+use Rattle.std.proofs.Common.{◌≡◌, ◌≤◌, ℕ, List, sym, subst, arith}
+use Rattle.std.proofs.lemmas.Grind.{common_steps}
+use Rattle.std.proofs.lemmas.Result.{IfOk-weaker}
+use Rattle.cam_cluster.specs.HandedBack.{AreHandedBack}
+use Rattle.cam_run.proofs.FirstDisks.{all_back, as_they_were, first_length, is_over_first, rest_stays, run_caused}
+use Rattle.cam_run.proofs.LeftDisks.{run_leaves}
 use Rattle.cam_run.proofs.Recorded.{is_one_run}
 use Rattle.cam_run.proofs.running.run.Goals as goal
 
-pub returns-in-Ok : goal.returns-in-Ok
-returns-in-Ok c = is_one_run c.args.script.now _ c.in-Ok.ensures.run.recorded
+pub returns-in_err-further-clause-back : goal.returns-in_err-further-clause-back
+returns-in_err-further-clause-back g c =
+    let stay : c.set_aside.new.disks ≡ c.args.disks.now = c.in_err-further.ensures.stay in
+    subst (λ disks. AreHandedBack g.D.Disk.tells g.D.Disk.faults c.args.disks.now.items disks.items)
+    (sym stay) (as_they_were g.D.Disk.tells g.D.Disk.faults c.args.disks.now.items)
+
+pub put_back-requires : goal.put_back-requires
+put_back-requires g c =
+    let many =
+    first_length g.D.Disk.tells g.D.Disk.faults c.args.script.now.nodes c.args.disks.now.items
+    c.run_script-run.new.disks.items c.requires.enough
+    (subst (λ (xs : List _). AreHandedBack g.D.Disk.tells g.D.Disk.faults xs c.run_script-run.new.disks.items)
+    c.in_ok-further.ensures.first c.run_script-run.ensures.disks) in
+    grind (arith, common_steps)
+
+pub returns-clause-one : goal.returns-clause-one
+returns-clause-one g c =
+    IfOk-weaker c.run_script-run.result _ _
+    (λ run is. is_one_run c.args.script.now run is.recorded) c.run_script-run.ensures.run
+
+pub returns-clause-cause : goal.returns-clause-cause
+returns-clause-cause g c =
+    run_caused g.D.Disk.tells g.D.Disk.faults c.args.script.now.nodes c.args.disks.now.items
+    c.set_aside.new.disks.items c.run_script-run.new.disks.items c.put_back.new.disks.items
+    c.run_script-run.result
+    (is_over_first g.D.Disk.tells g.D.Disk.faults c.args.script.now.nodes c.args.disks.now.items
+    c.set_aside.new.disks.items c.run_script-run.new.disks.items c.in_ok-further.further.items
+    c.put_back.new.disks.items c.requires.enough c.in_ok-further.ensures.first
+    c.run_script-run.ensures.disks c.in_ok-further.ensures.further c.put_back.ensures)
+    c.in_ok-further.ensures.first c.run_script-run.ensures.cause
+
+pub returns-clause-back : goal.returns-clause-back
+returns-clause-back g c =
+    all_back g.D.Disk.tells g.D.Disk.faults c.args.script.now.nodes c.args.disks.now.items
+    c.run_script-run.new.disks.items c.put_back.new.disks.items
+    (is_over_first g.D.Disk.tells g.D.Disk.faults c.args.script.now.nodes c.args.disks.now.items
+    c.set_aside.new.disks.items c.run_script-run.new.disks.items c.in_ok-further.further.items
+    c.put_back.new.disks.items c.requires.enough c.in_ok-further.ensures.first
+    c.run_script-run.ensures.disks c.in_ok-further.ensures.further c.put_back.ensures)
+
+pub returns-clause-others : goal.returns-clause-others
+returns-clause-others g c =
+    rest_stays g.D.Disk.tells g.D.Disk.faults c.args.script.now.nodes c.args.disks.now.items
+    c.run_script-run.new.disks.items c.put_back.new.disks.items
+    (is_over_first g.D.Disk.tells g.D.Disk.faults c.args.script.now.nodes c.args.disks.now.items
+    c.set_aside.new.disks.items c.run_script-run.new.disks.items c.in_ok-further.further.items
+    c.put_back.new.disks.items c.requires.enough c.in_ok-further.ensures.first
+    c.run_script-run.ensures.disks c.in_ok-further.ensures.further c.put_back.ensures)
+
+pub returns-clause-recovered : goal.returns-clause-recovered
+returns-clause-recovered g c =
+    run_leaves g.D.Disk.tells g.D.Disk.faults g.D.Disk.moment g.D.Disk.left_since
+    c.args.script.now c.args.disks.now.items c.run_script-run.new.disks.items
+    c.put_back.new.disks.items c.run_script-run.result
+    (is_over_first g.D.Disk.tells g.D.Disk.faults c.args.script.now.nodes c.args.disks.now.items
+    c.set_aside.new.disks.items c.run_script-run.new.disks.items c.in_ok-further.further.items
+    c.put_back.new.disks.items c.requires.enough c.in_ok-further.ensures.first
+    c.run_script-run.ensures.disks c.in_ok-further.ensures.further c.put_back.ensures)
+    c.requires.run c.run_script-run.ensures.run c.run_script-run.ensures.logs

@@ -1,5 +1,5 @@
 -- The answer to the words is that to their command.
-use Rattle.std.proofs.Common.{rules, ◌≡◌, ◌↔◌, List, ℕ, Result, Err, map, refl, string_bytes, subst}
+use Rattle.std.proofs.Common.{rules, ◌≡◌, ◌↔◌, List, ℕ, Result, Err, IfOk, map, refl, string_bytes, subst}
 use Rattle.cam_args.specs.declared.Command.{Command}
 use Rattle.cam_args.specs.declared.ArgsFault.{ArgsFault}
 use Rattle.cam_args.specs.declared.ArgsFault.TheVariants.{Usage}
@@ -7,20 +7,44 @@ use Rattle.cam_args.specs.Forms.{IsNoForm, UnlessNoMemory}
 use Rattle.std.proofs.lemmas.Result.{IfOk-weaker}
 use Rattle.cam_base.specs.Causes.{Rose}
 use Rattle.cam_args.specs.declared.Command.TheVariants.{Gen}
-use Rattle.cam_run.proofs.Commanded.{answers_words, built_is_form, completes_words}
+use Rattle.cam_run.specs.Told.{IsTelling}
+use Rattle.cam_run.specs.Disks.{FailedAt, LeavesDisks}
+use Rattle.cam_run.specs.Answer.{IfRuns}
+use Rattle.cam_run.proofs.Commanded.{answers_words, built_is_form, completes_words, of_words}
 use Rattle.cam_run.proofs.top.answer_to.Goals as goal
 
 pub returns-in-Ok-clause-answer : goal.returns-in-Ok-clause-answer
 returns-in-Ok-clause-answer g c =
-    answers_words _ c.in-Ok.command (Rose (g.S.Source.faults c.args.source.now) (g.S.Source.faults c.obey.new.source))
+    answers_words _ c.in-Ok.command
+    (record {
+      source = Rose (g.S.Source.faults c.args.source.now) (g.S.Source.faults c.obey.new.source);
+      disk = FailedAt g.D.Disk.faults c.args.disks.now.items c.obey.new.disks.items;
+    })
     (g.S.Source.left c.args.source.now) (g.S.Source.left c.obey.new.source) c.obey.result
     c.in-Ok.ensures.read c.in-Ok.ensures.each c.obey.ensures.answer
 
 pub returns-in-Ok-clause-complete : goal.returns-in-Ok-clause-complete
 returns-in-Ok-clause-complete g c =
-    completes_words _ c.in-Ok.command (Rose (g.S.Source.faults c.args.source.now) (g.S.Source.faults c.obey.new.source))
+    completes_words _ c.in-Ok.command
+    (record {
+      source = Rose (g.S.Source.faults c.args.source.now) (g.S.Source.faults c.obey.new.source);
+      disk = FailedAt g.D.Disk.faults c.args.disks.now.items c.obey.new.disks.items;
+    })
     (g.S.Source.left c.args.source.now) (g.S.Source.left c.obey.new.source) c.obey.result
     c.in-Ok.ensures.each c.obey.ensures.answer
+
+pub returns-in-Ok-clause-recovered : goal.returns-in-Ok-clause-recovered
+returns-in-Ok-clause-recovered g c =
+    of_words _ c.in-Ok.command
+    (λ (command : Command) (input : List ℕ).
+    IfOk c.obey.result
+    (λ a. IsTelling a.status
+    → IfRuns command input
+    (λ script.
+    LeavesDisks g.D.Disk.tells g.D.Disk.moment g.D.Disk.left_since script
+    c.obey.new.disks.items)))
+    (g.S.Source.left c.args.source.now) (g.S.Source.left c.obey.new.source)
+    c.in-Ok.ensures.each c.obey.ensures.recovered
 
 pub returns-in-Ok-clause-usage : goal.returns-in-Ok-clause-usage
 returns-in-Ok-clause-usage g c =

@@ -1,23 +1,60 @@
 -- What the sink took is the answer's text, or a prefix of it.
-use Rattle.std.proofs.Common.{map, string_bytes}
+use Rattle.std.proofs.Common.{◌≡◌, ◌⊎◌, inl, ◌∙◌, ℕ, map, string_bytes, subst, arith}
+use Rattle.cam_base.proofs.Told.{if_told_weaker}
 use Rattle.cam_base.specs.Causes.{Rose}
 use Rattle.cam_run.specs.Status.{number}
-use Rattle.cam_run.proofs.Written.{own_status, writes_front, writes_whole}
+use Rattle.cam_run.specs.Disks.{FailedAt}
+use Rattle.cam_run.specs.Answer.{Failing}
+use Rattle.cam_run.proofs.Written.{is_telling, not_telling, own_status, writes_front, writes_whole}
 use Rattle.cam_run.proofs.top.camelot.Goals as goal
 
 pub returns-in-Ok-write_all-clause-written : goal.returns-in-Ok-write_all-clause-written
 returns-in-Ok-write_all-clause-written g c =
-    writes_whole (map string_bytes c.args.words.now) (Rose (g.S.Source.faults c.args.source.now) (g.S.Source.faults c.answer_to.new.source))
+    let failing : Failing =
+    record {
+      source = Rose (g.S.Source.faults c.args.source.now) (g.S.Source.faults c.answer_to.new.source);
+      disk = FailedAt g.D.Disk.faults c.args.disks.now.items c.answer_to.new.disks.items;
+    } in
+    writes_whole (map string_bytes c.args.words.now) failing
     (g.S.Source.left c.args.source.now) (g.S.Source.left c.answer_to.new.source)
     (g.K.Sink.written c.args.sink.now) (g.K.Sink.written c.write_all.new.sink)
     _ (number c.in-Ok.answer.status) c.in-Ok.answer.text.items c.deref.result.now
-    c.number-in-Ok-write_all.ensures (own_status c.in-Ok.answer.status c.in-Ok.ensures.statuses) c.deref.ensures.value
-    c.in-Ok.ensures.answer c.in-Ok-write_all.ensures.all
+    c.number-in-Ok-write_all.ensures (own_status c.in-Ok.answer.status c.in-Ok.ensures.statuses)
+    c.deref.ensures.value c.in-Ok.ensures.answer c.in-Ok-write_all.ensures.all
 
 pub returns-clause-written : goal.returns-clause-written
 returns-clause-written g c =
-    writes_front (map string_bytes c.args.words.now) (Rose (g.S.Source.faults c.args.source.now) (g.S.Source.faults c.answer_to.new.source))
+    let failing : Failing =
+    record {
+      source = Rose (g.S.Source.faults c.args.source.now) (g.S.Source.faults c.answer_to.new.source);
+      disk = FailedAt g.D.Disk.faults c.args.disks.now.items c.answer_to.new.disks.items;
+    } in
+    writes_front (map string_bytes c.args.words.now) failing
     (g.S.Source.left c.args.source.now) (g.S.Source.left c.answer_to.new.source)
     (g.K.Sink.written c.args.sink.now) (g.K.Sink.written c.write_all.new.sink)
     _ (number c.in-Ok.answer.status) c.in-Ok.answer.text.items c.deref.result.now
     c.number-in-Err.ensures c.deref.ensures.value c.in-Ok.ensures.answer c.in-Err.ensures.front
+
+pub returns-in-Ok-write_all-clause-complete : goal.returns-in-Ok-write_all-clause-complete
+returns-in-Ok-write_all-clause-complete g c =
+    if_told_weaker (g.S.Source.left c.args.source.now) (g.S.Source.left c.answer_to.new.source)
+    (λ input rest said command form read took none.
+    inl (c.number-in-Ok-write_all.ensures ∙ said command form read none))
+    c.in-Ok.ensures.complete
+
+pub returns-in-Ok-write_all-clause-recovered : goal.returns-in-Ok-write_all-clause-recovered
+returns-in-Ok-write_all-clause-recovered g c =
+    if_told_weaker (g.S.Source.left c.args.source.now) (g.S.Source.left c.answer_to.new.source)
+    (λ input rest said command form ends.
+    said command form
+    (is_telling c.in-Ok.answer.status
+    (subst (λ (n : ℕ). (n ≡ 0) ⊎ (n ≡ 8)) c.number-in-Ok-write_all.ensures ends)))
+    c.in-Ok.ensures.recovered
+
+pub returns-clause-recovered : goal.returns-clause-recovered
+returns-clause-recovered g c =
+    if_told_weaker (g.S.Source.left c.args.source.now) (g.S.Source.left c.answer_to.new.source)
+    (λ input rest said command form ends.
+    not_telling 5 (omega arith) (omega arith)
+    (subst (λ (n : ℕ). (n ≡ 0) ⊎ (n ≡ 8)) c.number-in-Err.ensures ends))
+    c.in-Ok.ensures.recovered

@@ -1,10 +1,53 @@
--- `gen` leaves the source as it is.
+-- `gen` leaves the source as it is; a command that runs no script leaves the disks as they are.
+use Rattle.std.proofs.Common.{◌≡◌, ℕ, List, IfOk, drop, refl, subst, sym}
+use Rattle.std.proofs.lemmas.Result.{IfOk-weaker}
+use Rattle.cam_args.specs.declared.Command.{Command}
 use Rattle.cam_base.specs.Causes.{Rose}
-use Rattle.cam_run.proofs.Commanded.{answers_seed}
+use Rattle.cam_run.specs.Told.{IsTelling}
+use Rattle.cam_run.specs.Disks.{FailedAt, LeavesDisks}
+use Rattle.cam_run.specs.Answer.{IfRuns, nodes_for}
+use Rattle.cam_run.proofs.Commanded.{answers_seed, of_unread}
 use Rattle.cam_run.proofs.top.obey.Goals as goal
 
 pub returns-in-Gen-clause-answer : goal.returns-in-Gen-clause-answer
 returns-in-Gen-clause-answer g c =
     answers_seed c.args.command.now c.in-Gen.seed c.in-Gen.size
-    (Rose (g.S.Source.faults c.args.source.now) (g.S.Source.faults c.args.source.now))
+    (record {
+      source = Rose (g.S.Source.faults c.args.source.now) (g.S.Source.faults c.args.source.now);
+      disk = FailedAt g.D.Disk.faults c.args.disks.now.items c.of_seed.new.disks.items;
+    })
     (g.S.Source.left c.args.source.now) c.of_seed.result c.in-Gen.is c.of_seed.ensures.answer
+
+pub returns-in-Gen-clause-others : goal.returns-in-Gen-clause-others
+returns-in-Gen-clause-others g c =
+    of_unread (g.S.Source.left c.args.source.now)
+    (λ (input : List ℕ).
+    drop (nodes_for c.args.command.now input) c.of_seed.new.disks.items
+    ≡ drop (nodes_for c.args.command.now input) c.args.disks.now.items)
+    (λ input.
+    subst
+    (λ (command : Command).
+    drop (nodes_for command input) c.of_seed.new.disks.items
+    ≡ drop (nodes_for command input) c.args.disks.now.items)
+    (sym c.in-Gen.is) c.of_seed.ensures.others)
+
+pub returns-in-Gen-clause-recovered : goal.returns-in-Gen-clause-recovered
+returns-in-Gen-clause-recovered g c =
+    of_unread (g.S.Source.left c.args.source.now)
+    (λ (input : List ℕ).
+    IfOk c.of_seed.result
+    (λ a. IsTelling a.status
+    → IfRuns c.args.command.now input
+    (λ script.
+    LeavesDisks g.D.Disk.tells g.D.Disk.moment g.D.Disk.left_since script
+    c.of_seed.new.disks.items)))
+    (λ input.
+    subst
+    (λ (command : Command).
+    IfOk c.of_seed.result
+    (λ a. IsTelling a.status
+    → IfRuns command input
+    (λ script.
+    LeavesDisks g.D.Disk.tells g.D.Disk.moment g.D.Disk.left_since script
+    c.of_seed.new.disks.items)))
+    (sym c.in-Gen.is) c.of_seed.ensures.recovered)

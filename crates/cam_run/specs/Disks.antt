@@ -1,0 +1,32 @@
+-- The disks of a call: which of them failed in it, and what the run of a script leaves of those of
+-- its nodes.
+use Rattle.std.specs.Prelude.{ℕ, ◌≤◌, Bool, List, take}
+use Rattle.cam_cluster.specs.declared.fault.RunFault.{RunFault}
+use Rattle.cam_cluster.specs.declared.fault.RunFault.TheVariants.{DiskFault, NoMemory}
+use Rattle.cam_cluster.specs.Disks.{AreLogs, MayReadDisk}
+use Rattle.cam_cluster.specs.HandedBack.{HasFailed}
+use Rattle.cam_script.specs.declared.Script.{Script}
+use Rattle.cam_headline.specs.Headline.{LeavesLogs}
+
+-- the node whose disk failed by itself, between what was handed in and what is handed back
+abbrev pub FailedAt : {D : Type 0} → (D → ℕ) → List D → List D → ℕ → Type 0
+FailedAt faults_of before after s = HasFailed faults_of faults_of s before after
+
+-- the disk of one of so many nodes failed
+pub record OneFailed (nodes : ℕ) (failed : ℕ → Type 0) : Type 0 where
+  pub node : ℕ
+  pub high : node ≤ nodes
+  pub did : failed node
+
+-- the cause of a fault of a run: the disk that it names is that of one of so many nodes, and failed
+abbrev pub IsCaused : ℕ → (ℕ → Type 0) → RunFault → Type 0
+IsCaused nodes failed (DiskFault s) = (s ≤ nodes) × failed s
+IsCaused nodes failed NoMemory = Unit {0}
+
+-- What the run of a script leaves on the disks of its nodes: whatever a crash now leaves of one is
+-- the log of a node, and what may be recovered from that of a node that is not halted at the end is
+-- what the node kept.
+pub record LeavesDisks {D : Type 0} (tells : D → Bool) (moment : D → ℕ)
+    (left_since : D → ℕ → List ℕ → Type 0) (script : Script) (disks : List D) : Type 0 where
+  pub logs : AreLogs tells moment left_since (take script.nodes disks)
+  pub kept : LeavesLogs script (MayReadDisk tells moment left_since disks)

@@ -1,0 +1,193 @@
+//! Disks that fail by themselves.
+
+ghost use Rattle.std.specs.Prelude.{◌≡◌, ◌≤◌, IfErr, IfOk, length};
+ghost use Rattle.cam_disk.specs.declared.error.DiskError.TheVariants.{Failed};
+ghost use Rattle.cam_disk.specs.Disk.{FailsWithCause};
+
+use super::{source, words};
+use cam_cluster::Servers;
+use cam_disk::{Disk, DiskError, MemoryDisk, TellingDisk};
+use cam_io::MemorySink;
+use cam_run::camelot;
+use cam_type::{CounterServer, QueueServer, RegisterServer};
+use std::alloc::Global;
+use std::test::Fail;
+
+/// A disk that fails by itself once it has done so many calls: it does none any more.
+#[derive(Drop)]
+struct FailingDisk<D> {
+    within: D,
+    calls: u32,
+    faults: u64,
+}
+
+impl<D: Disk> FailingDisk<D> {
+    /// Counts a call, and fails where none is left.
+    fn pass(&mut self) -> Result<(), DiskError>
+        ensures same { self.new.within ≡ self.old.within }
+        ensures failed { IfErr result (λ error. error ≡ Failed) }
+        ensures cause { FailsWithCause self.old.faults self.new.faults result }
+    {
+        if self.calls == 0 {
+            self.faults = self.faults.saturating_add(1);
+            return Err(DiskError::Failed);
+        }
+        self.calls -= 1;
+        Ok(())
+    }
+
+    /// What a call of the disk within gave, with its fault counted.
+    fn counted<T: Drop>(&mut self, given: Result<T, DiskError>) -> Result<T, DiskError>
+        ensures same { self.new.within ≡ self.old.within }
+        ensures given { result ≡ given }
+        ensures cause { FailsWithCause self.old.faults self.new.faults result }
+    {
+        if given.is_err() {
+            self.faults = self.faults.saturating_add(1);
+        }
+        given
+    }
+}
+
+impl<D: Disk> Disk for FailingDisk<D> {
+    ghost tells = { λ d. D.tells d.within };
+
+    ghost seen = { λ d. D.seen d.within };
+
+    ghost may_leave = { λ d. D.may_leave d.within };
+
+    ghost moment = { λ d. D.moment d.within };
+
+    ghost left_since = { λ d. D.left_since d.within };
+
+    ghost faults = { λ d. d.faults };
+
+    ghost faults_within = { λ d. d.faults };
+
+    ghost kept = { λ d. D.kept d.within };
+
+    ghost counts_now = { λ d. D.counts_now d.within };
+
+    ghost only_now = { λ d. D.only_now d.within };
+
+    fn read(&mut self, at: u64, into: &mut [u8]) -> Result<usize, DiskError> {
+        self.pass()?;
+        let given = self.within.read(at, into);
+        self.counted(given)
+    }
+
+    fn write_at(&mut self, at: u64, bytes: &[u8]) -> Result<(), DiskError> {
+        self.pass()?;
+        let given = self.within.write_at(at, bytes);
+        self.counted(given)
+    }
+
+    fn cut(&mut self, size: u64) -> Result<(), DiskError> {
+        self.pass()?;
+        let given = self.within.cut(size);
+        self.counted(given)
+    }
+
+    fn sync(&mut self) -> Result<(), DiskError> {
+        self.pass()?;
+        let given = self.within.sync();
+        self.counted(given)
+    }
+
+    fn spoil(&mut self) {
+        self.within.spoil();
+        self.faults = self.faults.saturating_add(1);
+    }
+}
+
+impl<D: TellingDisk> TellingDisk for FailingDisk<D> {
+    ghost always = { λ d. D.always d.within };
+
+    fn failures(&self) -> u64 {
+        self.faults
+    }
+}
+
+const COMMIT: &str = "nodes 2
+object x 2 register 0
+begin A 1
+call A x write 5
+drain
+commit A 0
+drain
+";
+
+const COMMITTED: &str = "action 1.1.1 committed
+  created
+  called 1 x write 5
+  got 1 ok
+  commit 0
+value x 5
+";
+
+/// Eight empty disks in memory, each of which has failed so often. The second fails by itself once it has done so many calls.
+fn disks(alloc: Global, calls: u32, faults: u64) -> Result<Vec<FailingDisk<MemoryDisk>>, Fail>
+    ensures { IfOk result (λ disks. length disks.items ≡ 8) }
+{
+    let mut disks = Vec::with_capacity(alloc, 8)?;
+    for place in 0..8u8 {
+        disks.push(FailingDisk {
+            within: MemoryDisk::new(alloc),
+            calls: if place == 1 { calls } else { u32::MAX },
+            faults,
+        })?;
+    }
+    Ok(disks)
+}
+
+/// The answer to `run` over these disks is a status and a text.
+fn is_answer(
+    alloc: Global,
+    disks: &mut Vec<FailingDisk<MemoryDisk>>,
+    status: u8,
+    text: &str,
+) -> Result<bool, Fail>
+    requires { 8 ≤ length disks.old.items }
+{
+    let run = words(alloc, "run")?;
+    let mut script = source(alloc, COMMIT, &[])?;
+    let mut sink = MemorySink::new(alloc, Vec::new(alloc));
+    let mut servers = Servers {
+        register: RegisterServer::new(),
+        queue: QueueServer::new(alloc),
+        counter: CounterServer::new(),
+    };
+    let answer = camelot(alloc, &run, &mut script, &mut sink, disks, &mut servers);
+    Ok(answer == status && sink.text() == text.as_bytes())
+}
+
+/// The disk of node 2 fails at each of its calls in turn: while it is formatted, and in the run. Where it does all of them the run stands.
+#[test]
+fn a_disk_that_fails(rt: HostRuntime) -> Result<(), Fail> {
+    let alloc = rt.alloc();
+    let mut calls = 0u32;
+    while calls < 64 {
+        let mut failing = disks(alloc, calls, 0)?;
+        if is_answer(alloc, &mut failing, 0, COMMITTED)? {
+            break;
+        }
+        let mut failing = disks(alloc, calls, 0)?;
+        let is_told = is_answer(alloc, &mut failing, 6, "disk fault 2\n")?;
+        assert!(rt; is_told, "after {calls} calls");
+        calls += 1;
+    }
+    assert!(rt; 8 < calls && calls < 64, "{calls} calls");
+    Ok(())
+}
+
+/// How often a disk had failed before does not matter.
+#[test]
+fn disks_that_had_failed(rt: HostRuntime) -> Result<(), Fail> {
+    let alloc = rt.alloc();
+    for faults in [1, 7] {
+        let mut failed = disks(alloc, u32::MAX, faults)?;
+        let is_told = is_answer(alloc, &mut failed, 0, COMMITTED)?;
+        assert!(rt; is_told, "{faults} faults");
+    }
+    Ok(())
+}
