@@ -108,22 +108,59 @@ impl<D: TellingDisk> TellingDisk for FailingDisk<D> {
     }
 }
 
-const COMMIT: &str = "nodes 2
+/// A script, and the report of its run where no disk fails by itself.
+#[derive(Clone, Copy)]
+struct Case {
+    script: &'static str,
+    report: &'static str,
+}
+
+const COMMIT: Case = Case {
+    script: "nodes 2
 object x 2 register 0
 begin A 1
 call A x write 5
 drain
 commit A 0
 drain
-";
-
-const COMMITTED: &str = "action 1.1.1 committed
+",
+    report: "action 1.1.1 committed
   created
   called 1 x write 5
   got 1 ok
   commit 0
 value x 5
-";
+",
+};
+
+/// A line stops the disk of node 1, and another restarts the node: through that the run goes on.
+const STOPPED: Case = Case {
+    script: "nodes 2
+object x 2 register 0
+begin A 1
+call A x write 5
+drain
+commit A 0
+deliver 3
+deliver 4
+deliver 5
+deliver 6
+stop 1 3
+deliver 7
+restart 2
+restart 1
+query 2 A
+drain
+",
+    report: "action 1.1.1 committed
+  created
+  called 1 x write 5
+  got 1 ok
+  commit 0
+halted 12 1 taken
+value x 5
+",
+};
 
 /// Eight empty disks in memory, each of which has failed so often. The second fails by itself once it has done so many calls.
 fn disks(alloc: Global, calls: u32, faults: u64) -> Result<Vec<FailingDisk<MemoryDisk>>, Fail>
@@ -140,9 +177,10 @@ fn disks(alloc: Global, calls: u32, faults: u64) -> Result<Vec<FailingDisk<Memor
     Ok(disks)
 }
 
-/// The answer to `run` over these disks is a status and a text.
+/// The answer to `run` of the script over these disks is a status and a text.
 fn is_answer(
     alloc: Global,
+    script: &str,
     disks: &mut Vec<FailingDisk<MemoryDisk>>,
     status: u8,
     text: &str,
@@ -150,7 +188,7 @@ fn is_answer(
     requires { 8 ≤ length disks.old.items }
 {
     let run = words(alloc, "run")?;
-    let mut script = source(alloc, COMMIT, &[])?;
+    let mut script = source(alloc, script, &[])?;
     let mut sink = MemorySink::new(alloc, Vec::new(alloc));
     let mut servers = Servers {
         register: RegisterServer::new(),
@@ -161,22 +199,25 @@ fn is_answer(
     Ok(answer == status && sink.text() == text.as_bytes())
 }
 
-/// The disk of node 2 fails at each of its calls in turn: while it is formatted, and in the run. Where it does all of them the run stands.
+/// The disk of node 2 fails at each of its calls in turn: while it is formatted, in the run, and while its node restarts. Where it does all
+/// of them the run stands.
 #[test]
 fn a_disk_that_fails(rt: HostRuntime) -> Result<(), Fail> {
     let alloc = rt.alloc();
-    let mut calls = 0u32;
-    while calls < 64 {
-        let mut failing = disks(alloc, calls, 0)?;
-        if is_answer(alloc, &mut failing, 0, COMMITTED)? {
-            break;
+    for case in [COMMIT, STOPPED] {
+        let mut calls = 0u32;
+        while calls < 64 {
+            let mut failing = disks(alloc, calls, 0)?;
+            if is_answer(alloc, case.script, &mut failing, 0, case.report)? {
+                break;
+            }
+            let mut failing = disks(alloc, calls, 0)?;
+            let is_told = is_answer(alloc, case.script, &mut failing, 6, "disk fault 2\n")?;
+            assert!(rt; is_told, "after {calls} calls");
+            calls += 1;
         }
-        let mut failing = disks(alloc, calls, 0)?;
-        let is_told = is_answer(alloc, &mut failing, 6, "disk fault 2\n")?;
-        assert!(rt; is_told, "after {calls} calls");
-        calls += 1;
+        assert!(rt; 8 < calls && calls < 64, "{calls} calls");
     }
-    assert!(rt; 8 < calls && calls < 64, "{calls} calls");
     Ok(())
 }
 
@@ -186,7 +227,7 @@ fn disks_that_had_failed(rt: HostRuntime) -> Result<(), Fail> {
     let alloc = rt.alloc();
     for faults in [1, 7] {
         let mut failed = disks(alloc, u32::MAX, faults)?;
-        let is_told = is_answer(alloc, &mut failed, 0, COMMITTED)?;
+        let is_told = is_answer(alloc, COMMIT.script, &mut failed, 0, COMMIT.report)?;
         assert!(rt; is_told, "{faults} faults");
     }
     Ok(())
