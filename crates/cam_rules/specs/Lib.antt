@@ -1,2 +1,3 @@
 pub mod Untested
 pub mod Letters
+pub mod Addressed

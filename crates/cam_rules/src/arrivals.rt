@@ -2,6 +2,7 @@
 ghost use Rattle.std.specs.Prelude.{◌≡◌, IfOk};
 ghost use Rattle.cam_names.specs.Names.{parent};
 ghost use Rattle.cam_event.specs.Rules as rules;
+ghost use Rattle.cam_event.specs.Runs.{IsNode};
 ghost use Rattle.cam_rules.specs.Untested.{untested};
 
 use crate::calls::{answer_comes, call_comes};
@@ -53,7 +54,8 @@ pub fn arrive<S: Sighted>(
     from: u8,
     body: &Body,
 ) -> Result<Did, NoMemory>
-    requires { S.stands here.now }
+    requires stands { S.stands here.now }
+    requires from { IsNode from }
     ensures { IfOk result (λ did.
         did ≡ rules.arrives objects.now (untested (S.sight here.now)) from body.now) }
 {
@@ -83,6 +85,7 @@ pub fn arrive<S: Sighted>(
 
 /// A node tells another what it knows.
 pub fn tell(alloc: Global, to: u8) -> Result<Did, NoMemory>
+    requires { IsNode to }
     ensures { IfOk result (λ did. did ≡ rules.tells to) }
 {
     Did::letter(alloc, to, &Body::News)

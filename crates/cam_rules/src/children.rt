@@ -2,6 +2,7 @@
 ghost use Rattle.std.specs.Prelude.{◌≡◌, IfOk};
 ghost use Rattle.cam_event.specs.Rules.{start_comes, child_finishes, child_quits, decides_child};
 ghost use Rattle.cam_event.specs.Sights.{is_present};
+ghost use Rattle.cam_event.specs.Runs.{IsNode};
 ghost use Rattle.cam_rules.specs.Untested.{untested};
 
 use crate::did::Did;
@@ -29,7 +30,8 @@ pub(crate) fn start_comes<S: Sighted>(
     child: &Name,
     deps: &Deps,
 ) -> Result<Did, NoMemory>
-    requires { S.stands here.now }
+    requires stands { S.stands here.now }
+    requires from { IsNode from }
     ensures { IfOk result (λ did.
         did ≡ start_comes (untested (S.sight here.now)) from child.now deps.now) }
 {

@@ -1,5 +1,6 @@
 //! What an event has behind its first Informs.
 ghost use Rattle.std.specs.Prelude.{◌≡◌, ◌∷◌, [], IfOk};
+ghost use Rattle.cam_event.specs.Runs.{IsNode};
 ghost use Rattle.cam_event.specs.Rules.{answers, did, nothing_but, send, one as single};
 
 use cam_base::{NoMemory, Sequence};
@@ -7,7 +8,8 @@ use cam_event::{Body, Deed, Deeds, Note, Sent, SentList};
 use std::alloc::Global;
 use std::marker::Model;
 
-/// What an event has behind its first Informs: deeds, letters and a note.
+/// What an event has behind its first Informs: deeds, letters and a note. Each letter goes to one of the
+/// eight nodes.
 #[derive(Drop)]
 pub struct Did {
     pub deeds: Deeds,
@@ -20,7 +22,11 @@ impl Model for Did {
 
     ghost Value = { rules.Did };
 
+    ghost use Rattle.cam_rules.specs.Addressed.{AreAddressed};
+
     ghost view = { λ d. record { deeds = d.deeds; sent = d.sent; note = d.note } };
+
+    ghost invariant = { λ d. AreAddressed d.sent };
 }
 
 /// The list of this one value.
@@ -62,6 +68,7 @@ impl Did {
         to: u8,
         body: &Body,
     ) -> Result<Did, NoMemory>
+        requires { IsNode to }
         ensures { IfOk result (λ done.
             done ≡ did (single deed.now) (single (send to body.now))) }
     {
@@ -74,6 +81,7 @@ impl Did {
 
     /// No deed, but a note and a letter.
     pub(crate) fn answer(alloc: Global, note: &Note, to: u8, body: &Body) -> Result<Did, NoMemory>
+        requires { IsNode to }
         ensures { IfOk result (λ done. done ≡ answers note.now (single (send to body.now))) }
     {
         Ok(Did {
@@ -85,6 +93,7 @@ impl Did {
 
     /// A letter, and nothing else.
     pub(crate) fn letter(alloc: Global, to: u8, body: &Body) -> Result<Did, NoMemory>
+        requires { IsNode to }
         ensures { IfOk result (λ done. done ≡ did [] (single (send to body.now))) }
     {
         Did::answer(alloc, &Note::Plain, to, body)

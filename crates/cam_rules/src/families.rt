@@ -6,6 +6,7 @@ ghost use Rattle.cam_names.specs.Dependencies.{AreCounts, has_pair, pairs_from};
 ghost use Rattle.cam_event.specs.Rules as rules;
 ghost use Rattle.cam_event.specs.Rules.{all_yes, top_finishes, top_quits, prepare_comes, vote_comes, query_comes};
 ghost use Rattle.cam_event.specs.Sights.{knows_outcome, votes};
+ghost use Rattle.cam_event.specs.Runs.{IsNode};
 ghost use Rattle.cam_rules.specs.Untested.{untested};
 
 use crate::children::is_present;
@@ -190,7 +191,8 @@ pub(crate) fn query_comes<S: Sighted>(
     from: u8,
     family: &Name,
 ) -> Result<Did, NoMemory>
-    requires { S.stands here.now }
+    requires stands { S.stands here.now }
+    requires from { IsNode from }
     ensures { IfOk result (λ did.
         did ≡ query_comes (untested (S.sight here.now)) from family.now) }
 {

@@ -2,6 +2,7 @@
 //! than its home, or a Prepare to each.
 ghost use Rattle.std.specs.Prelude.{◌≡◌, ◌≤◌, ◌++◌, ◌-◌, drop, IfOk, OnOk};
 ghost use Rattle.cam_names.specs.Dependencies.{AreCounts};
+ghost use Rattle.cam_rules.specs.Addressed.{AreAddressed};
 ghost use Rattle.cam_rules.specs.Letters.{news_to, prepare_to, news_from, prepares_from};
 
 use cam_base::NoMemory;
@@ -12,7 +13,8 @@ use std::alloc::Global;
 /// News to each other node on which a family depends.
 #[tactic(auto, using(crate::proofs::OnTheirPairs::news_are))]
 pub(crate) fn news_to(alloc: Global, own: u8, deps: &Deps) -> Result<SentList, NoMemory>
-    ensures { IfOk result (λ sent. sent ≡ news_to own deps.now) }
+    ensures value { IfOk result (λ sent. sent ≡ news_to own deps.now) }
+    ensures nodes { IfOk result AreAddressed }
 {
     let mut sent = SentList::new(alloc);
     add_news(&mut sent, own, &deps.counts(), 1)?;
@@ -22,7 +24,8 @@ pub(crate) fn news_to(alloc: Global, own: u8, deps: &Deps) -> Result<SentList, N
 /// A Prepare to each node on which a family depends, with the count at which it does.
 #[tactic(auto, using(crate::proofs::OnTheirPairs::prepares_are))]
 pub(crate) fn prepare_to(alloc: Global, family: &Name, deps: &Deps) -> Result<SentList, NoMemory>
-    ensures { IfOk result (λ sent. sent ≡ prepare_to family.now deps.now) }
+    ensures value { IfOk result (λ sent. sent ≡ prepare_to family.now deps.now) }
+    ensures nodes { IfOk result AreAddressed }
 {
     let mut sent = SentList::new(alloc);
     add_prepares(&mut sent, family, &deps.counts(), 1)?;
@@ -33,8 +36,9 @@ pub(crate) fn prepare_to(alloc: Global, family: &Name, deps: &Deps) -> Result<Se
 fn add_news(sent: &mut SentList, own: u8, counts: &[u32; 8], node: u8) -> Result<(), NoMemory>
     requires node { (1 ≤ node) × (node ≤ 9) }
     requires counts { AreCounts 0 counts.now }
-    ensures { OnOk result
+    ensures value { OnOk result
         (sent.new ≡ sent.old ++ news_from own node (drop (node - 1) counts.now)) }
+    ensures nodes { AreAddressed sent.old → OnOk result (AreAddressed sent.new) }
 {
     if node > 8 {
         return Ok(());
@@ -57,8 +61,9 @@ fn add_prepares(
 ) -> Result<(), NoMemory>
     requires node { (1 ≤ node) × (node ≤ 9) }
     requires counts { AreCounts 0 counts.now }
-    ensures { OnOk result (sent.new
+    ensures value { OnOk result (sent.new
         ≡ sent.old ++ prepares_from family.now node (drop (node - 1) counts.now)) }
+    ensures nodes { AreAddressed sent.old → OnOk result (AreAddressed sent.new) }
 {
     if node > 8 {
         return Ok(());

@@ -22,6 +22,7 @@ mod sighted;
 pub use arrivals::{arrive, query, tell};
 pub use did::Did;
 pub use families::abort_family;
+pub use homes::home_of;
 pub use refusals::{end_refusal, query_refusal, refusal};
 pub use requests::{begin, request};
 pub use sighted::{Asked, Sighted};

@@ -8,6 +8,7 @@ ghost use Rattle.cam_event.specs.Inputs.{decider};
 ghost use Rattle.cam_event.specs.Rules as rules;
 ghost use Rattle.cam_event.specs.Rules.{child_name};
 ghost use Rattle.cam_event.specs.Runs.{IsNode};
+ghost use Rattle.cam_rules.specs.Addressed.{AreAddressed};
 ghost use Rattle.cam_rules.specs.Untested.{untested, HasPlace};
 
 use crate::did::{Did, one};
@@ -186,7 +187,8 @@ pub(crate) fn aborts<S: Sighted>(
     action: &Name,
     sent: SentList,
 ) -> Result<Did, NoMemory>
-    requires { S.stands here.now }
+    requires stands { S.stands here.now }
+    requires nodes { AreAddressed sent }
     ensures { IfOk result (λ did. did
         ≡ rules.did (rules.aborts (untested (S.sight here.now)) action.now) sent) }
 {
@@ -205,7 +207,8 @@ pub(crate) fn commits<S: Sighted>(
     action: &Name,
     sent: SentList,
 ) -> Result<Did, NoMemory>
-    requires { S.stands here.now }
+    requires stands { S.stands here.now }
+    requires nodes { AreAddressed sent }
     ensures { IfOk result (λ did. did
         ≡ rules.did (rules.commits (untested (S.sight here.now)) action.now) sent) }
 {
