@@ -3,5 +3,6 @@ mod Topping
 mod Replying
 mod Voting
 mod Gaining
+mod Gathering
 mod Asking
 mod Searching

@@ -8,6 +8,7 @@
 mod actions;
 mod children;
 mod depending;
+mod informs;
 mod mail;
 mod own;
 mod replies;
@@ -16,6 +17,7 @@ mod tops;
 mod votes;
 mod whole;
 
+pub use informs::first_informs;
 pub use mail::Mail;
 pub use own::Own;
 pub use told::Told;

@@ -95,6 +95,14 @@ impl Own {
 
 /// What the deeds of the node say.
 impl Own {
+    /// The node.
+    pub fn node(&self) -> u8
+        ensures { (objects : List ObjectDecl) (s : ℕ) (L : List DeedValue) (E : List Entry)
+            → KeepsOwn objects s L E self.now → result ≡ s }
+    {
+        self.node
+    }
+
     /// How many top actions were created at a node in one of its counts.
     pub fn tops(&self, node: u8, count: u32) -> u64
         ensures { (objects : List ObjectDecl) (s : ℕ) (L : List DeedValue) (E : List Entry)
