@@ -42,7 +42,7 @@ at_least (d ∷ L) s = by (is_crash s d) (at_least L s)
     by true h = omega (arith, h)
     by false h = h
 
-crash_counts : (L : List Deed) (s : ℕ) → In (Crash s) L → 2 ≤ count L s
+pub crash_counts : (L : List Deed) (s : ℕ) → In (Crash s) L → 2 ≤ count L s
 crash_counts [] s h = absurd h
 crash_counts (d ∷ L) s (inl e) =
     let least = at_least L s in

@@ -1,12 +1,12 @@
 -- When tables stand for what a node goes by at an event, and what is put to it.
-use Rattle.std.specs.Prelude.{◌≡◌, ℕ, List, [], ◌∷◌, Some}
+use Rattle.std.specs.Prelude.{◌≡◌, ℕ, List, [], ◌∷◌, Option, Some, None}
 use Rattle.cam_names.specs.Names.{parent}
 use Rattle.cam_type.specs.declared.ObjectDecl.{ObjectDecl}
 use Rattle.cam_event.specs.declared.Event.{Event}
 use Rattle.cam_event.specs.declared.Deed.{Deed}
 use Rattle.cam_event.specs.declared.Deed.TheVariants.{Ask}
 use Rattle.cam_event.specs.History.{after, count}
-use Rattle.cam_event.specs.Inputs.{Begins, Requests, Receives, Tells, Queries}
+use Rattle.cam_event.specs.Inputs.{Mail, Begins, Requests, Receives, Tells, Queries}
 use Rattle.cam_event.specs.Pasts.{plain_all}
 use Rattle.cam_event.specs.Runs.{IsNode}
 use Rattle.cam_event.specs.Sights.{entries, own_deeds}
@@ -36,21 +36,26 @@ pub record StandHere (objects : List ObjectDecl) (t : List Event) (s : ℕ) (fir
   pub asked : AskedByParents (after (own_deeds (entries t s)) first)
 
 -- what is put to a node, as the rules by time name it
-abbrev pub input_of : ℕ → Put → TimedInput
-input_of s (puts.Begin until) = Puts (Begins s) until
-input_of s (puts.Request a want until) = Puts (Requests (record { action = a; want = want })) until
-input_of s (puts.Letter id) = Puts (Receives id) 0
-input_of s (puts.Tell to) = Puts (Tells s to) 0
-input_of s (puts.Query f) = Puts (Queries s f) 0
-input_of s (puts.Tick moment) = Ticks s moment
-input_of s (puts.Expire a) = Expires a
+abbrev pub input_of : Put → TimedInput
+input_of (puts.Begin s until) = Puts (Begins s) until
+input_of (puts.Request a want until) = Puts (Requests (record { action = a; want = want })) until
+input_of (puts.Letter id) = Puts (Receives id) 0
+input_of (puts.Tell s to) = Puts (Tells s to) 0
+input_of (puts.Query s f) = Puts (Queries s f) 0
+input_of (puts.Tick s moment) = Ticks s moment
+input_of (puts.Expire a) = Expires a
 
--- a child or a call that is asked for has a place
+-- a letter comes from a node
+abbrev pub ComesFromNode : Option Mail → Type 0
+ComesFromNode None = Unit {0}
+ComesFromNode (Some mail) = IsNode mail.from
+
+-- a child or a call that is asked for has a place, and what is told goes to a node
 abbrev pub HasPlaceHere : List ObjectDecl → Put → Type 0
-HasPlaceHere objects (puts.Begin until) = Unit {0}
+HasPlaceHere objects (puts.Begin s until) = Unit {0}
 HasPlaceHere objects (puts.Request a want until) = HasPlace objects a want
 HasPlaceHere objects (puts.Letter id) = Unit {0}
-HasPlaceHere objects (puts.Tell to) = Unit {0}
-HasPlaceHere objects (puts.Query f) = Unit {0}
-HasPlaceHere objects (puts.Tick moment) = Unit {0}
+HasPlaceHere objects (puts.Tell s to) = IsNode to
+HasPlaceHere objects (puts.Query s f) = Unit {0}
+HasPlaceHere objects (puts.Tick s moment) = Unit {0}
 HasPlaceHere objects (puts.Expire a) = Unit {0}

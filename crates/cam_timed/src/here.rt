@@ -13,8 +13,9 @@ use cam_rules::{Asked, Sighted};
 use cam_type::{Answer, Objects, Op};
 use std::alloc::Global;
 
-/// A node at an event, behind the first Informs: the tables of its own deeds and of all deeds, which have
-/// these Informs too, and the events before.
+/// A node at an event, after the first Informs: the tables of its own deeds and of all deeds,
+/// which have these Informs too, and the events before.
+#[derive(Clone, Copy)]
 pub(crate) struct Here<'a> {
     pub(crate) alloc: Global,
     pub(crate) objects: &'a Objects,

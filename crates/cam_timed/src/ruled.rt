@@ -1,7 +1,7 @@
 //! What the rule of an input makes at a node in a run by time, by tables.
 ghost use Rattle.std.specs.Prelude.{◌≡◌, reverse, IfOk};
 ghost use Rattle.cam_timed.specs.Moments.{events};
-ghost use Rattle.cam_timed.specs.Here.{HasPlaceHere, StandHere, input_of};
+ghost use Rattle.cam_timed.specs.Here.{ComesFromNode, HasPlaceHere, StandHere, input_of};
 ghost use Rattle.cam_timed.specs.KeptSights.{kept_sight};
 ghost use Rattle.cam_timed.specs.TimedRules.{timed_rule};
 
@@ -12,11 +12,12 @@ use cam_names::Name;
 use cam_own::Mail;
 use cam_rules::{Did, abort_family, arrive, begin, query, request, tell};
 
-/// What is put to a node: an input without time, with the quiesce moment that a begin or an ask gives; a
-/// moment; the end of a top action.
+/// What is put to a node: an input without time, with the quiesce moment that a begin or an ask
+/// gives; a moment; the end of a top action.
 #[derive(Clone, Copy)]
 pub(crate) enum Put {
     Begin {
+        node: u8,
         until: u64,
     },
     Request {
@@ -28,12 +29,15 @@ pub(crate) enum Put {
         id: LetterId,
     },
     Tell {
+        node: u8,
         to: u8,
     },
     Query {
+        node: u8,
         family: Name,
     },
     Tick {
+        node: u8,
         moment: u64,
     },
     Expire {
@@ -45,10 +49,11 @@ pub(crate) enum Put {
 pub(crate) fn made(here: &Here, put: &Put, mail: &Option<Mail>) -> Result<Did, NoMemory>
     requires stands { StandHere here.now.objects.now (events (reverse here.now.trace.now))
         here.now.node here.now.first.now here.now.own.now here.now.whole.now }
+    requires from { ComesFromNode mail.now }
     requires place { HasPlaceHere here.now.objects.now put.now }
     ensures { IfOk result (λ did. did ≡ timed_rule here.now.objects.now
         (kept_sight here.now.objects.now (events (reverse here.now.trace.now)) here.now.node
-        here.now.first.now) mail.now (input_of here.now.node put.now)) }
+        here.now.first.now) mail.now (input_of put.now)) }
 {
     match put {
         Put::Begin { .. } => begin(here.alloc, here),
@@ -59,8 +64,8 @@ pub(crate) fn made(here: &Here, put: &Put, mail: &Option<Mail>) -> Result<Did, N
             Some(mail) => arrive(here.alloc, here, here.objects, mail.from, &mail.body),
             None => Ok(Did::nothing_but(here.alloc, &Note::Plain)),
         },
-        Put::Tell { to } => tell(here.alloc, *to),
-        Put::Query { family } => query(here.alloc, family),
+        Put::Tell { to, .. } => tell(here.alloc, *to),
+        Put::Query { family, .. } => query(here.alloc, family),
         Put::Tick { .. } => Ok(Did::nothing_but(here.alloc, &Note::Plain)),
         Put::Expire { action } => abort_family(here.alloc, here, action),
     }

@@ -35,7 +35,7 @@ fn named_first(deed: &Deed) -> Option<&Name>
 }
 
 /// Notes the quiesce moment of each action that the deeds of an event name first.
-fn note_named(untils: &mut Untils, deeds: &Deeds, until: u64) -> Result<(), NoMemory>
+pub(crate) fn note_named(untils: &mut Untils, deeds: &Deeds, until: u64) -> Result<(), NoMemory>
     ensures { OnOk result ((a : NameFields) → until_in untils.new a ≡ (if list_any (names_first a) deeds.now then until else until_in untils.old a)) }
 {
     for deed in deeds.as_slice() {

@@ -1,0 +1,15 @@
+use Rattle.std.proofs.Common.{◌∙◌, sym}
+use Rattle.cam_timed.proofs.CourseLines.{query_led, query_refused}
+use Rattle.cam_timed.proofs.course.Course.query.Goals as goal
+
+pub returns-in-Some-2 : goal.returns-in-Some-2
+returns-in-Some-2 c = λ r keeps.
+    query_refused c.args.objects.now r c.args.self.now keeps c.args.node c.args.action
+    c.in-Some.action c.family-family.result c.in-Some.ensures c.family-family.ensures
+    c.in-Some-2.refusal (sym c.in-Some-2.is ∙ c.in_ok-refusal.ensures)
+
+pub returns : goal.returns
+returns c = λ r keeps.
+    query_led c.args.objects.now r c.args.self.now keeps c.args.node c.args.action
+    c.in-Some.action c.family-family.result c.in-Some.ensures c.family-family.ensures c.put.new.self
+    (sym c.in_default-2.is ∙ c.in_ok-refusal.ensures) c.in_ok-put.ensures
