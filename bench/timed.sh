@@ -1,7 +1,8 @@
 #!/bin/sh
 # How long the report and a witness of a run by time of 1,000, 10,000 and 50,000 events take, for each event, and how long the report of the
 # same events without moments takes, which has neither pauses nor quiesce moments. And how long scripts by time of 512 steps take to be
-# read, against scripts without time that have the same lines but for their moments.
+# read, against scripts without time that have the same lines but for their moments. And how long the runs of scripts of up to 512 steps
+# take to be made, for each event.
 # A figure is a ratio: the nanoseconds are those of one machine on one day. Each time is the least of several rounds.
 # bench/timed.sh           proves the crates and the program, and runs it
 # bench/timed.sh --quick   runs a build of the same sources that nothing has proved
@@ -18,7 +19,7 @@ use cam_report::report_text;
 use cam_script::{Bodies, Labels, Script, Steps, parse};
 use cam_timed::{
     Pause, TimedEvent, TimedMarks, TimedRecord, TimedScript, TimedSteps, TimedTrace, parse_timed,
-    timed_text, timed_witness,
+    timed, timed_text, timed_witness,
 };
 use cam_type::Objects;
 use std::time::Instant;
@@ -178,6 +179,41 @@ fn reading(rt: &HostRuntime) -> Result<(u128, u128), Error> {
     Ok(times)
 }
 
+/// A script of so many families. Each begins at node 1, adds to an object of each node and commits; the letters are delivered behind it.
+fn families(rt: &HostRuntime, count: u32) -> Result<String, Error> {
+    let mut text = String::from_str(rt.alloc(), "nodes 8\n")?;
+    for node in 1..9 {
+        let line = format!(in rt.alloc(); "object x{node} {node} counter 0\n")?;
+        text.push_str(line.as_str())?;
+    }
+    for number in 0..count {
+        let line = format!(in rt.alloc(); "begin A{number} 1 1000000\n")?;
+        text.push_str(line.as_str())?;
+        for node in 1..9 {
+            let line = format!(in rt.alloc(); "call A{number} x{node} add 1\ndrain\n")?;
+            text.push_str(line.as_str())?;
+        }
+        let line = format!(in rt.alloc(); "commit A{number} 0\ndrain\n")?;
+        text.push_str(line.as_str())?;
+    }
+    Ok(text)
+}
+
+/// The events of a script's run, and the least time of some rounds for each.
+fn running(rt: &HostRuntime, count: u32) -> Result<(usize, u128), Error> {
+    let text = families(rt, count)?;
+    let script = parse_timed(rt.alloc(), text.as_bytes())?;
+    let mut least = u128::MAX;
+    let mut events = 1;
+    for _ in 0..ROUNDS {
+        let start = Instant::now(rt)?;
+        let run = timed(rt.alloc(), &script)?;
+        least = least.min(start.elapsed(rt)?.as_nanos());
+        events = run.trace.len().max(1);
+    }
+    Ok((events, least / events as u128))
+}
+
 /// A time, and how many hundredths of another it is.
 fn show(rt: &HostRuntime, what: &str, time: u128, than: &str, other: u128) -> Result<(), Error> {
     let hundredths = time.saturating_mul(100) / other.max(1);
@@ -193,6 +229,12 @@ fn main(rt: HostRuntime) -> Result<(), Error> {
         show(&rt, "the report", times.report, "the first", first.report)?;
         show(&rt, "the report", times.report, "that without moments", times.untimed)?;
         show(&rt, "a witness", times.witness, "the first", first.witness)?;
+    }
+    let (_, few) = running(&rt, 1)?;
+    for families in [1, 5, 26] {
+        let (events, time) = running(&rt, families)?;
+        println!(rt; "{families} families, {events} events")?;
+        show(&rt, "making one", time, "the first", few)?;
     }
     let (by_time, without) = reading(&rt)?;
     println!(rt; "512 steps")?;

@@ -4,4 +4,6 @@
 #[cfg(test)]
 mod parsing;
 #[cfg(test)]
+mod running;
+#[cfg(test)]
 mod timed;
