@@ -8,7 +8,7 @@ use cam_base::NoMemory;
 use cam_cluster::Servers;
 use cam_disk::{FileDisk, HostDisk, MemoryDisk};
 use cam_io::{StdSink, StdSource};
-use cam_run::{Status, camelot};
+use cam_run::{Status, camelot, runs_script};
 use cam_type::{CounterServer, QueueServer, RegisterServer};
 use std::env;
 use std::io::ErrorKind;
@@ -37,17 +37,25 @@ enum Place {
     Files,
 }
 
-/// Where the disks are to be: the word `files` after the others asks for files, and is taken off.
-fn take_place(words: &mut Vec<String>) -> Place {
+/// Takes the word `files` off, where it stands after the others.
+fn take_files(words: &mut Vec<String>) -> bool {
     let is_files = match words.last() {
         Some(word) => word.as_str() == "files",
         None => false,
     };
     if is_files {
         words.pop();
-        Place::Files
+    }
+    is_files
+}
+
+/// Where the disks are to be: in files where the word `files` stands after words that run a script, and
+/// in memory else. That word is taken off.
+fn take_place(rt: &HostRuntime, words: &mut Vec<String>) -> Result<Place, NoMemory> {
+    if take_files(words) && runs_script(rt.alloc(), words)? {
+        Ok(Place::Files)
     } else {
-        Place::Memory
+        Ok(Place::Memory)
     }
 }
 
@@ -73,13 +81,20 @@ fn disks(rt: &HostRuntime, place: Place) -> Result<Vec<HostDisk>, NoMemory>
     Ok(disks)
 }
 
+/// The disks of words, from which `files` is taken off.
+fn disks_for(rt: &HostRuntime, words: &mut Vec<String>) -> Result<Vec<HostDisk>, NoMemory>
+    ensures { IfOk result (λ disks. length disks.items ≡ 8) }
+{
+    let place = take_place(rt, words)?;
+    disks(rt, place)
+}
+
 fn main(rt: HostRuntime) -> ExitCode {
     let out_of_memory = ExitCode::from(Status::NoMemory.number());
     let Ok(mut words) = words(&rt) else {
         return out_of_memory;
     };
-    let place = take_place(&mut words);
-    let Ok(mut disks) = disks(&rt, place) else {
+    let Ok(mut disks) = disks_for(&rt, &mut words) else {
         return out_of_memory;
     };
     let mut servers = Servers {

@@ -8,6 +8,7 @@
 #![tactic(auto)]
 
 mod answer;
+mod asking;
 mod image;
 mod question;
 mod running;
@@ -16,6 +17,7 @@ mod status;
 mod top;
 mod worked;
 
+pub use asking::runs_script;
 pub use status::Status;
 pub use top::camelot;
 pub use worked::worked_answers;
