@@ -2,7 +2,7 @@
 # How long the report and a witness of a run by time of 1,000, 10,000 and 50,000 events take, for each event, and how long the report of the
 # same events without moments takes, which has neither pauses nor quiesce moments. And how long scripts by time of 512 steps take to be
 # read, against scripts without time that have the same lines but for their moments. And how long the runs of scripts of up to 512 steps
-# take to be made, for each event.
+# take to be made, for each event: of families one after another, and side by side. The largest of these scripts have 494 and 509 steps.
 # A figure is a ratio: the nanoseconds are those of one machine on one day. Each time is the least of several rounds.
 # bench/timed.sh           proves the crates and the program, and runs it
 # bench/timed.sh --quick   runs a build of the same sources that nothing has proved
@@ -179,13 +179,20 @@ fn reading(rt: &HostRuntime) -> Result<(u128, u128), Error> {
     Ok(times)
 }
 
-/// A script of so many families. Each begins at node 1, adds to an object of each node and commits; the letters are delivered behind it.
-fn families(rt: &HostRuntime, count: u32) -> Result<String, Error> {
+/// The head of a script with a counter at each node.
+fn counters(rt: &HostRuntime) -> Result<String, Error> {
     let mut text = String::from_str(rt.alloc(), "nodes 8\n")?;
     for node in 1..9 {
         let line = format!(in rt.alloc(); "object x{node} {node} counter 0\n")?;
         text.push_str(line.as_str())?;
     }
+    Ok(text)
+}
+
+/// A script of so many families, one after another. Each begins at node 1, adds to an object of each node and commits; the letters are
+/// delivered after each line.
+fn in_turn(rt: &HostRuntime, count: u32) -> Result<String, Error> {
+    let mut text = counters(rt)?;
     for number in 0..count {
         let line = format!(in rt.alloc(); "begin A{number} 1 1000000\n")?;
         text.push_str(line.as_str())?;
@@ -199,9 +206,30 @@ fn families(rt: &HostRuntime, count: u32) -> Result<String, Error> {
     Ok(text)
 }
 
+/// A script of so many families side by side. All begin at node 1, add to the object of one node after another, and commit.
+fn together(rt: &HostRuntime, count: u32) -> Result<String, Error> {
+    let mut text = counters(rt)?;
+    for number in 0..count {
+        let line = format!(in rt.alloc(); "begin A{number} 1 1000000\n")?;
+        text.push_str(line.as_str())?;
+    }
+    for node in 1..9 {
+        for number in 0..count {
+            let line = format!(in rt.alloc(); "call A{number} x{node} add 1\n")?;
+            text.push_str(line.as_str())?;
+        }
+        text.push_str("drain\n")?;
+    }
+    for number in 0..count {
+        let line = format!(in rt.alloc(); "commit A{number} 0\n")?;
+        text.push_str(line.as_str())?;
+    }
+    text.push_str("drain\n")?;
+    Ok(text)
+}
+
 /// The events of a script's run, and the least time of some rounds for each.
-fn running(rt: &HostRuntime, count: u32) -> Result<(usize, u128), Error> {
-    let text = families(rt, count)?;
+fn running(rt: &HostRuntime, text: &String) -> Result<(usize, u128), Error> {
     let script = parse_timed(rt.alloc(), text.as_bytes())?;
     let mut least = u128::MAX;
     let mut events = 1;
@@ -230,10 +258,16 @@ fn main(rt: HostRuntime) -> Result<(), Error> {
         show(&rt, "the report", times.report, "that without moments", times.untimed)?;
         show(&rt, "a witness", times.witness, "the first", first.witness)?;
     }
-    let (_, few) = running(&rt, 1)?;
-    for families in [1, 5, 26] {
-        let (events, time) = running(&rt, families)?;
-        println!(rt; "{families} families, {events} events")?;
+    let (_, few) = running(&rt, &in_turn(&rt, 1)?)?;
+    for families in [1, 5, 13, 26] {
+        let (events, time) = running(&rt, &in_turn(&rt, families)?)?;
+        println!(rt; "{families} families in turn, {events} events")?;
+        show(&rt, "making one", time, "the first", few)?;
+    }
+    let (_, few) = running(&rt, &together(&rt, 1)?)?;
+    for families in [1, 5, 25, 50] {
+        let (events, time) = running(&rt, &together(&rt, families)?)?;
+        println!(rt; "{families} families side by side, {events} events")?;
         show(&rt, "making one", time, "the first", few)?;
     }
     let (by_time, without) = reading(&rt)?;

@@ -6,3 +6,5 @@ mod Gaining
 mod Gathering
 mod Asking
 mod Searching
+mod Sites
+mod Living

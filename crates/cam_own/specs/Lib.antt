@@ -6,4 +6,5 @@ pub mod Votes
 pub mod Depending
 pub mod Told
 pub mod Own
+pub mod Live
 pub mod Whole

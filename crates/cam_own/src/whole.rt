@@ -1,10 +1,9 @@
 //! What is kept of the deeds of all nodes together: calls, live operations, and what actions depend on.
-ghost use Rattle.std.specs.Prelude.{◌≡◌, ◌∷◌, [], ℕ, List, filter, find, eqb, ◌&&◌, IfOk, OnOk};
+ghost use Rattle.std.specs.Prelude.{◌≡◌, ◌≤◌, ◌∷◌, [], ℕ, List, filter, find, eqb, ◌&&◌, IfOk, OnOk};
 ghost use Rattle.std.specs.List.{list_any};
 ghost use Rattle.cam_names.specs.Names as names;
 ghost use Rattle.cam_names.specs.Names.{name_eq};
 ghost use Rattle.cam_type.specs.Moss.{conflicts};
-ghost use Rattle.cam_type.specs.Objects.{site_of};
 ghost use Rattle.cam_type.specs.Table.{answer_of};
 ghost use Rattle.cam_type.specs.declared.ObjectDecl.{ObjectDecl};
 ghost use Rattle.cam_event.specs.declared.Deed.{Deed as DeedValue};
@@ -13,9 +12,11 @@ ghost use Rattle.cam_event.specs.Live.{live_at, lift, start_of, replay};
 ghost use Rattle.cam_event.specs.Sights.{Entry};
 ghost use Rattle.cam_own.specs.Depending.{nodes_of};
 ghost use Rattle.cam_own.specs.Own.{KeepsOwn};
+ghost use Rattle.cam_own.specs.Replies.{IsNoCrash};
 ghost use Rattle.cam_own.specs.Whole.{KeepsWhole};
 
 use crate::depending::{Depending, nodes_in, note_gain};
+use crate::live::{Live, has_live_of, note_live};
 use crate::own::Own;
 use cam_base::NoMemory;
 use cam_event::{Deed, Operation};
@@ -29,6 +30,9 @@ use std::alloc::Global;
 pub struct Whole {
     ledger: Ledger,
     depending: Depending,
+    live: Live,
+    /// The operations on an object that has none.
+    none: Operations,
 }
 
 impl Whole {
@@ -39,15 +43,19 @@ impl Whole {
         Whole {
             ledger: Ledger::new(alloc),
             depending: Depending::new(alloc),
+            live: Live::new(alloc),
+            none: Operations::new(alloc),
         }
     }
 
-    /// Takes one more deed over.
-    pub fn note(&mut self, objects: &Objects, deed: &Deed) -> Result<(), NoMemory>
+    /// Takes one more deed over, which is no crash.
+    pub fn note(&mut self, alloc: Global, objects: &Objects, deed: &Deed) -> Result<(), NoMemory>
+        requires { IsNoCrash deed.now }
         ensures { OnOk result ((L : List DeedValue) → KeepsWhole objects.now L self.old
             → KeepsWhole objects.now (deed.now ∷ L) self.new) }
     {
         note_gain(&mut self.depending, objects, &self.ledger, deed)?;
+        note_live(&mut self.live, alloc, objects, &self.ledger, deed)?;
         self.ledger.note(objects, deed)
     }
 
@@ -61,38 +69,30 @@ impl Whole {
         nodes_in(&self.depending, action)
     }
 
-    /// The live operations of a site.
-    pub fn live_at(
-        &self,
-        alloc: Global,
-        objects: &Objects,
-        site: u8,
-    ) -> Result<Operations, NoMemory>
-        ensures { IfOk result (λ live. (L : List DeedValue) → KeepsWhole objects.now L self.now
-            → live ≡ live_at objects.now L site) }
+    /// The live operations on an object of a site: none where the object stands elsewhere.
+    pub fn live_on(&self, objects: &Objects, site: u8, object: u8) -> &Operations
+        requires { 1 ≤ site }
+        ensures { (L : List DeedValue) → KeepsWhole objects.now L self.now
+            → result.now ≡ filter (λ o. eqb o.object object) (live_at objects.now L site) }
     {
-        let live = self.ledger.live(alloc, objects)?;
-        at_site(alloc, objects, &live, site)
-    }
-}
-
-/// Those of the operations that are at a site.
-fn at_site(
-    alloc: Global,
-    objects: &Objects,
-    operations: &Operations,
-    site: u8,
-) -> Result<Operations, NoMemory>
-    ensures { IfOk result (λ here. here
-        ≡ filter (λ o. eqb (site_of objects.now o.object) site) operations.now) }
-{
-    let mut here = Operations::new(alloc);
-    for operation in operations.as_slice() {
-        if site_of(objects, operation.object) == site {
-            here.push_copy(operation)?;
+        if site_of(objects, object) != site {
+            return &self.none;
+        }
+        match self.live.get(&(object as usize)) {
+            Some(operations) => operations,
+            None => &self.none,
         }
     }
-    Ok(here)
+
+    /// Whether an operation of the family is live at a site.
+    pub fn has_live_of(&self, objects: &Objects, site: u8, family: &Name) -> bool
+        requires { 1 ≤ site }
+        ensures { (L : List DeedValue) → KeepsWhole objects.now L self.now
+            → result ≡ list_any (λ o. name_eq family.now (names.family o.action))
+            (live_at objects.now L site) }
+    {
+        has_live_of(&self.live, objects, site, family)
+    }
 }
 
 /// Whether an operation with this lift conflicts with an op of an action.
@@ -150,16 +150,4 @@ pub fn answer(
 {
     let mut state = value_after(objects, object as usize, operations)?;
     apply(&mut state, op)
-}
-
-/// Whether one of the operations is of the family.
-pub fn has_family(operations: &Operations, family: &Name) -> bool
-    ensures { result ≡ list_any (λ o. name_eq family.now (names.family o.action)) operations.now }
-{
-    for operation in operations.as_slice() {
-        if *family == operation.action.family() {
-            return true;
-        }
-    }
-    false
 }

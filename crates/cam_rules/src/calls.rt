@@ -108,7 +108,7 @@ pub(crate) fn call_comes<S: Sighted>(
     if let Some(kept) = here.kept_reply(action, number) {
         return reply(alloc, &Note::Again, action, number, &kept);
     }
-    match here.conflict(action, object, op)? {
+    match here.conflict(action, object, op) {
         Some(other) => bounced(alloc, action, number, &here.lift(&other.action)),
         None => {
             let answer = here.answer(objects, object, op)?;

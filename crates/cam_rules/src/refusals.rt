@@ -94,15 +94,14 @@ pub fn refusal<S: Sighted>(here: &S, action: &Name, want: &Want) -> Option<LineR
 
 /// What stands against a query of a node after a family: the node knows how it ended, or has neither
 /// secured it nor a live operation of it.
-pub fn query_refusal<S: Sighted>(here: &S, family: &Name) -> Result<Option<LineRefusal>, NoMemory>
+pub fn query_refusal<S: Sighted>(here: &S, family: &Name) -> Option<LineRefusal>
     requires { S.stands here.now }
-    ensures { IfOk result (λ refusal.
-        refusal ≡ refusals.query_refusal (S.sight here.now) family.now) }
+    ensures { result ≡ refusals.query_refusal (S.sight here.now) family.now }
 {
-    if knows_outcome(here, family) || !(here.is_secured(family) || here.has_live_of(family)?) {
-        Ok(Some(LineRefusal::NothingToDo))
+    if knows_outcome(here, family) || !(here.is_secured(family) || here.has_live_of(family)) {
+        Some(LineRefusal::NothingToDo)
     } else {
-        Ok(None)
+        None
     }
 }
 

@@ -114,20 +114,20 @@ pub trait Sighted {
         requires { stands self.now }
         ensures { result ≡ rules.lift_here (sight self.now) action.now };
 
-    /// Whether a live operation here is of the family. Memory may run out.
-    fn has_live_of(&self, family: &Name) -> Result<bool, NoMemory>
+    /// Whether a live operation here is of the family.
+    fn has_live_of(&self, family: &Name) -> bool
         requires { stands self.now }
-        ensures { IfOk result (λ has. has ≡ list_any
-            (λ o. name_eq family.now (names.family o.action)) (sight self.now).live) };
+        ensures { result ≡ list_any (λ o. name_eq family.now (names.family o.action))
+            (sight self.now).live };
 
-    /// The first live operation on the object that conflicts with an op of an action. Memory may run out.
-    fn conflict(&self, action: &Name, object: u8, op: &Op) -> Result<Option<Operation>, NoMemory>
+    /// The first live operation on the object that conflicts with an op of an action.
+    fn conflict(&self, action: &Name, object: u8, op: &Op) -> Option<Operation>
         requires { stands self.now }
-        ensures { IfOk result (λ found. found
-            ≡ find (rules.is_conflict_here (sight self.now) action.now op.now)
-            (rules.on_object object (sight self.now).live)) };
+        ensures { result ≡ find (rules.is_conflict_here (sight self.now) action.now op.now)
+            (rules.on_object object (sight self.now).live) };
 
-    /// What an op answers at the value of the object that the live operations leave. Memory may run out.
+    /// What an op answers at the value of the object that the live operations leave. Memory may run
+    /// out.
     fn answer(&self, objects: &Objects, object: u8, op: &Op) -> Result<Answer, NoMemory>
         requires { stands self.now }
         ensures { IfOk result (λ answer. answer

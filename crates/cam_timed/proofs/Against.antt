@@ -71,11 +71,10 @@ module _ (objects : List ObjectDecl) (T : List TimedEvent) (run : IsTimedRun obj
       first = is ∙ ap (λ (h : Sight). against_end a h) sight ∙ end_kept objects T s a run
 
 -- against a query
-pub query_against : {E : Type 0} (objects : List ObjectDecl) (T : List TimedEvent) (s : ℕ)
-    (f : Name) (g : Sight) (result : Result (Option LineRefusal) E) → IsTimedRun objects T
-    → g ≡ kept_sight objects (events T) s []
-    → IfOk result (λ refused. refused ≡ query_refusal g f)
-    → IfOk result (λ refused. refused ≡ query_refusal (sight_here objects T s) f)
-query_against objects T s f g (Ok refused) run sight is =
+pub query_against :
+    (objects : List ObjectDecl) (T : List TimedEvent) (s : ℕ) (f : Name) (g : Sight)
+    (result : Option LineRefusal) → IsTimedRun objects T
+    → g ≡ kept_sight objects (events T) s [] → result ≡ query_refusal g f
+    → result ≡ query_refusal (sight_here objects T s) f
+query_against objects T s f g result run sight is =
     is ∙ ap (λ (h : Sight). query_refusal h f) sight ∙ query_refusal_kept objects T s f run
-query_against objects T s f g (Err e) run sight is = tt

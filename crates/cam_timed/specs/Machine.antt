@@ -22,6 +22,7 @@ use Rattle.cam_timed.specs.declared.machine.Shared.{Shared}
 use Rattle.cam_timed.specs.declared.machine.posting.Sender.{Sender}
 use Rattle.cam_timed.specs.Held.{own_until}
 use Rattle.cam_timed.specs.Moments.{events, moment_of, moment_at}
+use Rattle.cam_timed.specs.Reaches.{KeepsHeard}
 use Rattle.cam_timed.specs.Travelling.{brings_aborts}
 use Rattle.cam_timed.specs.TimedRunning.{letters}
 use Rattle.cam_timed.specs.TimedRuns.{IsTimedRun}
@@ -84,6 +85,7 @@ pub record KeepsTimedRun (objects : List ObjectDecl) (t : List TimedEvent)
   pub nodes :
       (place : ℕ) (node : Node) → slice_get machine.nodes.items place ≡ Some node
       → KeepsNode objects t (place + 1) node
+  pub heard : KeepsHeard (events t) machine.heard
   pub shared : KeepsShared objects t machine.shared
 
 -- the letter at a place of an event, and the letters from a place on

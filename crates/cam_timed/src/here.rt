@@ -8,7 +8,7 @@ use crate::TimedTrace;
 use cam_base::NoMemory;
 use cam_event::{Deeds, Operation, Reply};
 use cam_names::{Deps, Name};
-use cam_own::{Own, Whole, answer, conflict, has_family};
+use cam_own::{Own, Whole, answer, conflict};
 use cam_rules::{Asked, Sighted};
 use cam_type::{Answer, Objects, Op};
 use std::alloc::Global;
@@ -99,19 +99,18 @@ impl<'a> Sighted for Here<'a> {
         self.own.lift(action)
     }
 
-    fn has_live_of(&self, family: &Name) -> Result<bool, NoMemory> {
-        let live = self.whole.live_at(self.alloc, self.objects, self.node)?;
-        Ok(has_family(&live, family))
+    fn has_live_of(&self, family: &Name) -> bool {
+        self.whole.has_live_of(self.objects, self.node, family)
     }
 
-    fn conflict(&self, action: &Name, object: u8, op: &Op) -> Result<Option<Operation>, NoMemory> {
-        let live = self.whole.live_at(self.alloc, self.objects, self.node)?;
-        Ok(conflict(self.own, &live, action, object, op))
+    fn conflict(&self, action: &Name, object: u8, op: &Op) -> Option<Operation> {
+        let live = self.whole.live_on(self.objects, self.node, object);
+        conflict(self.own, live, action, object, op)
     }
 
     fn answer(&self, objects: &Objects, object: u8, op: &Op) -> Result<Answer, NoMemory> {
-        let live = self.whole.live_at(self.alloc, self.objects, self.node)?;
-        answer(objects, &live, object, op)
+        let live = self.whole.live_on(self.objects, self.node, object);
+        answer(objects, live, object, op)
     }
 
     fn knows_abort(&self, action: &Name) -> bool {

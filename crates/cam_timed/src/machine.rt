@@ -15,6 +15,7 @@ ghost use Rattle.cam_timed.specs.TimedScripts.{named_in, newest_deeds};
 ghost use Rattle.cam_timed.specs.Turns.{AreFirst, IsTurn};
 
 mod deciding;
+mod hearing;
 mod posting;
 mod refusals;
 mod stepping;
@@ -29,6 +30,7 @@ use cam_names::Name;
 use cam_own::{Mail, Own, Whole, first_informs};
 use cam_rules::home_of;
 use cam_type::Objects;
+use hearing::{Heard, hear, reach_in, unheard};
 use std::alloc::Global;
 use stepping::step;
 
@@ -60,11 +62,13 @@ pub(crate) struct Shared {
     pub(crate) trace: TimedTrace,
 }
 
-/// A run by time under way: the eight nodes in order, and what is kept of all.
+/// A run by time under way: the eight nodes in order, up to where each has heard of what each other
+/// was informed of, and what is kept of all.
 #[derive(Drop)]
 pub(crate) struct Machine {
     alloc: Global,
     nodes: Vec<Node>,
+    heard: Heard,
     shared: Shared,
 }
 
@@ -94,6 +98,7 @@ impl Machine {
         Ok(Machine {
             alloc,
             nodes,
+            heard: Heard::new(alloc),
             shared: Shared {
                 whole: Whole::new(alloc),
                 untils: Untils::new(alloc),
@@ -158,11 +163,13 @@ impl Machine {
     {
         let first = self.first_informs(turn)?;
         let place = turn.node as usize - 1;
-        step(turn, &mut self.nodes[place], &mut self.shared, first)
+        step(turn, &mut self.nodes[place], &mut self.shared, first)?;
+        hear(&mut self.heard, turn.node, turn.letter)
     }
 
     /// The first Informs of a turn: of the outcomes of which the letter's sender was informed when
-    /// it sent the letter, and the node was not.
+    /// it sent the letter, and the node was not. It looks at those alone of which the node has not
+    /// heard from that sender before.
     fn first_informs(&self, turn: &Turn) -> Result<Deeds, NoMemory>
         requires keeps { KeepsTimedRun turn.now.objects.now (run_of self.now) self.now }
         requires turn { IsTurn turn.now.objects.now (run_of self.now) turn.now.node turn.now.put.now
@@ -172,12 +179,14 @@ impl Machine {
         let Some(letter) = turn.letter else {
             return Ok(Deeds::new(turn.alloc));
         };
-        let told = self.nodes[letter.mail.from as usize - 1].own.told();
+        let from = letter.mail.from;
+        let heard = reach_in(&self.heard, from, turn.node);
+        let told = self.nodes[from as usize - 1].own.told();
         first_informs(
             turn.alloc,
             &self.nodes[turn.node as usize - 1].own,
-            &told.aborts.as_slice()[..letter.aborts],
-            &told.commits.as_slice()[..letter.commits],
+            unheard(told.aborts.as_slice(), heard.aborts, letter.aborts),
+            unheard(told.commits.as_slice(), heard.commits, letter.commits),
         )
     }
 

@@ -47,7 +47,7 @@ impl Course {
             return Ok(unbound());
         };
         let family = action.family();
-        if let Some(refusal) = self.machine.query_refusal(objects, node, &family)? {
+        if let Some(refusal) = self.machine.query_refusal(objects, node, &family) {
             return Ok(Taken::Refused(TimedRefusal::Untimed(refusal)));
         }
         self.machine.put(objects, &Put::Query { node, family })?;

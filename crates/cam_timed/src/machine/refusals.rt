@@ -1,5 +1,5 @@
 //! What stands against a line of a run by time, by what the machine keeps.
-ghost use Rattle.std.specs.Prelude.{◌≡◌, [], List, None, IfOk};
+ghost use Rattle.std.specs.Prelude.{◌≡◌, [], List, None};
 ghost use Rattle.cam_type.specs.declared.ObjectDecl.{ObjectDecl};
 ghost use Rattle.cam_names.specs.Names.{home_node};
 ghost use Rattle.cam_event.specs.Refusals as refusals;
@@ -15,7 +15,6 @@ use super::Machine;
 use crate::here::Here;
 use crate::refusing::TimedRefusal;
 use crate::untils::until_of;
-use cam_base::NoMemory;
 use cam_event::{Deeds, LineRefusal, Want};
 use cam_names::Name;
 use cam_rules::{Sighted, end_refusal, home_of, query_refusal, refusal};
@@ -58,11 +57,11 @@ impl Machine {
         objects: &Objects,
         node: u8,
         family: &Name,
-    ) -> Result<Option<LineRefusal>, NoMemory>
+    ) -> Option<LineRefusal>
         requires keeps { KeepsTimedRun objects.now (run_of self.now) self.now }
         requires node { IsNode node }
-        ensures { IfOk result (λ refusal. refusal ≡ refusals.query_refusal
-            (sight_here objects.now (run_of self.now) node) family.now) }
+        ensures { result ≡ refusals.query_refusal
+            (sight_here objects.now (run_of self.now) node) family.now }
     {
         let none = Deeds::new(self.alloc);
         query_refusal(&self.here(objects, node, &none), family)

@@ -45,7 +45,7 @@ pub(crate) fn note_all(
 {
     for deed in deeds.as_slice() {
         own.note(alloc, objects, deed)?;
-        whole.note(objects, deed)?;
+        whole.note(alloc, objects, deed)?;
     }
     Ok(())
 }

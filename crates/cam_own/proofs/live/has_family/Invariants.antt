@@ -2,7 +2,7 @@ use Rattle.std.proofs.Common.{◌≡◌, drop}
 use Rattle.std.specs.List.{list_any}
 use Rattle.cam_names.specs.Names.{name_eq, family}
 use Rattle.cam_event.specs.declared.Operation.{Operation}
-use Rattle.cam_own.proofs.whole.has_family.Given as goal
+use Rattle.cam_own.proofs.live.has_family.Given as goal
 
 abbrev pub invariant-loop-operation : goal.invariant-loop-operation
 invariant-loop-operation l =

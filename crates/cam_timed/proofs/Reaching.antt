@@ -1,0 +1,254 @@
+-- Up to where nodes have heard of one another: what is left of a letter, and what the table has
+-- after an event.
+use Rattle.std.proofs.Common.{◌≡◌, ◌≤◌, ◌<◌, ◌⊎◌, inl, inr, if◌then◌else◌, ℕ, eqb, leb, max, min, Bool, true, false, not, ◌&&◌, ◌||◌, List, [], ◌∷◌, ◌++◌, length, filter, take, drop, Option, Some, None, refl, sym, ap, ◌∙◌, subst, arith}
+use Rattle.std.specs.Prelude.{slice_range}
+use Rattle.std.specs.List.{list_any}
+use Rattle.std.specs.HashMap.{HashMap}
+use Rattle.std.proofs.lemmas.Bool.{and_parts, eqb-true, or_left, or_right}
+use Rattle.std.proofs.lemmas.Bool.Decides.{leb_tells}
+use Rattle.std.proofs.lemmas.List.{length-append, take-append-drop, take-append-le, take-take}
+use Rattle.std.proofs.lemmas.List.Elements.{filter-append}
+use Rattle.std.proofs.lemmas.List.Folds.{list_any-append}
+use Rattle.std.proofs.lemmas.Slice.{between_is}
+use Rattle.cam_names.specs.declared.name.Name.{Name}
+use Rattle.cam_names.specs.Names.{name_eq}
+use Rattle.cam_names.proofs.Names.{name_eq_refl}
+use Rattle.cam_type.specs.declared.ObjectDecl.{ObjectDecl}
+use Rattle.cam_event.specs.declared.Event.{Event}
+use Rattle.cam_event.specs.declared.Deed.{Deed}
+use Rattle.cam_event.specs.History.{after, committed, aborted, is_commit, is_abort, informed, is_inform}
+use Rattle.cam_event.specs.ByPast.{own_past}
+use Rattle.cam_event.specs.Pasts.{last_of, sender_of, holds, in_past}
+use Rattle.cam_event.specs.Rules.{Did}
+use Rattle.cam_event.proofs.Agree.{any_after}
+use Rattle.cam_event.proofs.SameOutcomes.{plain_or}
+use Rattle.cam_own.specs.Told.{commits_of, aborts_of}
+use Rattle.cam_timed.specs.declared.TimedEvent.{TimedEvent}
+use Rattle.cam_timed.specs.declared.machine.Letter.{Letter}
+use Rattle.cam_timed.specs.declared.machine.hearing.Reach.{Reach}
+use Rattle.cam_timed.specs.declared.machine.hearing.Road.{Road}
+use Rattle.cam_timed.specs.declared.ruled.Put.{Put}
+use Rattle.cam_timed.specs.Here.{input_of}
+use Rattle.cam_timed.specs.Machine.{deeds_of, KeepsLetter}
+use Rattle.cam_timed.specs.Moments.{events, moment_now, until_of}
+use Rattle.cam_timed.specs.Reaches.{HasHeard, Hears, IsReach, KeepsHeard, nowhere, raised, reach_in}
+use Rattle.cam_timed.specs.TimedRules.{moment_by, pause_by, paused, timed_did, timed_got_of, timed_next, timed_node_of}
+use Rattle.cam_timed.specs.TimedRuns.{IsTimedRun}
+use Rattle.cam_timed.specs.Travelling.{carrier, abort_paths, timed_informs}
+use Rattle.cam_timed.specs.Turns.{IsTurn}
+use Rattle.cam_timed.proofs.Brought.{brought_aborts, brought_commits, letter_brings}
+use Rattle.cam_timed.proofs.Deciding.{turn_letter}
+use Rattle.cam_timed.proofs.Holding.{TimedHolds}
+use Rattle.cam_timed.proofs.RuleHolds.{timed_holds}
+use Rattle.cam_timed.proofs.TakenOver.{deeds_mine}
+use Rattle.cam_timed.proofs.Told.{first_by_told}
+use Rattle.cam_timed.proofs.ToldNames.{Grown, aborts_after, commits_after}
+use Rattle.cam_timed.proofs.WereTold.{WereTold, deeds_grown, were_told}
+
+-- none of the names is new where each is known
+none_new :
+    (known : Name → Bool) (names : List Name)
+    → ((a : Name) → list_any (name_eq a) names ≡ true → known a ≡ true)
+    → filter (λ a. not (known a)) names ≡ []
+none_new known [] all = refl
+none_new known (b ∷ names) all =
+    let rest : List Name = filter (λ a. not (known a)) names in
+    let here : known b ≡ true =
+    all b (or_left (name_eq b b) (list_any (name_eq b) names) (name_eq_refl b)) in
+    ap (λ (k : Bool). if not k then b ∷ rest else rest) here
+    ∙ none_new known names
+    (λ a there. all a (or_right (name_eq a b) (list_any (name_eq a) names) there))
+
+-- what is among the first so many is among all
+any_first :
+    (p : Name → Bool) (n : ℕ) (names : List Name)
+    → list_any p (take n names) ≡ true → list_any p names ≡ true
+any_first p n names there =
+    ap (list_any p) (sym (take-append-drop n names))
+    ∙ list_any-append p (take n names) (drop n names)
+    ∙ or_left (list_any p (take n names)) (list_any p (drop n names)) there
+
+-- What is new among the first so many names, some of which were heard, stands after those.
+pub left_new :
+    (known : Name → Bool) (names : List Name) (heard brought : ℕ)
+    → ((a : Name) → list_any (name_eq a) (take heard names) ≡ true → known a ≡ true)
+    → filter (λ a. not (known a)) (slice_range names (min heard brought) brought)
+    ≡ filter (λ a. not (known a)) (take brought names)
+left_new known names heard brought all =
+    ap (filter new) (between_is names low brought)
+    ∙ sym (ap (filter new) (sym (take-append-drop low all_brought))
+    ∙ filter-append new (take low all_brought) (drop low all_brought)
+    ∙ ap (λ (xs : List Name). xs ++ filter new (drop low all_brought)) none)
+  where
+    new : Name → Bool
+    new a = not (known a)
+
+    low : ℕ
+    low = min heard brought
+
+    all_brought : List Name
+    all_brought = take brought names
+
+    less : low ≤ brought
+    less = omega arith
+
+    fewer : low ≤ heard
+    fewer = omega arith
+
+    were : (a : Name) → list_any (name_eq a) (take low names) ≡ true → known a ≡ true
+    were a there =
+        all a (any_first (name_eq a) low (take heard names)
+        (ap (list_any (name_eq a)) (take-take low heard names fewer) ∙ there))
+
+    none : filter new (take low all_brought) ≡ []
+    none =
+        ap (filter new) (take-take low brought names less) ∙ none_new known (take low names) were
+
+-- what a node was informed of it was informed of after more deeds
+informed_after :
+    (ds L : List Deed) (s : ℕ) (a : Name) (o : Bool) → informed L s a o ≡ true
+    → informed (after L ds) s a o ≡ true
+informed_after ds L s a o is =
+    any_after (is_inform s a o) ds L
+    ∙ or_right (list_any (is_inform s a o) ds) (informed L s a o) is
+
+-- A list that has grown begins as before.
+heard_grown :
+    (t : List Event) (s : ℕ) (o : Bool) (old new : List Name) (n : ℕ) → Grown old new
+    → n ≤ length old
+    → ((a : Name) → list_any (name_eq a) (take n old) ≡ true → informed (deeds_of t s) s a o ≡ true)
+    → HasHeard t s o new n
+heard_grown t s o old new n grown few all =
+    let long : length new ≡ length (old ++ grown.0) = ap length grown.1 in
+    record {
+      few = omega (arith, few, long, length-append old grown.0);
+      informed_of = λ a there.
+          all a (sym (ap (list_any (name_eq a))
+          (ap (take n) grown.1 ∙ take-append-le n old grown.0 few)) ∙ there);
+    }
+
+-- what a node has heard of it has heard of after one more event
+heard_still :
+    (e : Event) (t : List Event) (s : ℕ) (o : Bool) (old new : List Name) (n : ℕ)
+    → Grown old new → HasHeard t s o old n → HasHeard (e ∷ t) s o new n
+heard_still e t s o old new n grown heard =
+    heard_grown (e ∷ t) s o old new n grown heard.few (λ a there.
+    let more = deeds_grown e t s in
+    ap (λ (L : List Deed). informed L s a o) more.1
+    ∙ informed_after more.0 (deeds_of t s) s a o (heard.informed_of a there))
+
+-- and so are the lists of those of which another node was informed
+commits_still : (e : Event) (t : List Event) (m : ℕ)
+    → Grown (commits_of (deeds_of t m) m) (commits_of (deeds_of (e ∷ t) m) m)
+commits_still e t m =
+    let more = deeds_grown e t m in
+    subst (λ (L : List Deed). Grown (commits_of (deeds_of t m) m) (commits_of L m)) (sym more.1)
+    (commits_after more.0 (deeds_of t m) m)
+
+aborts_still : (e : Event) (t : List Event) (m : ℕ)
+    → Grown (aborts_of (deeds_of t m) m) (aborts_of (deeds_of (e ∷ t) m) m)
+aborts_still e t m =
+    let more = deeds_grown e t m in
+    subst (λ (L : List Deed). Grown (aborts_of (deeds_of t m) m) (aborts_of L m)) (sym more.1)
+    (aborts_after more.0 (deeds_of t m) m)
+
+pub reach_still : (e : Event) (t : List Event) (m s : ℕ) (r : Reach) → IsReach t m s r
+    → IsReach (e ∷ t) m s r
+reach_still e t m s r reach = record {
+  commits =
+      heard_still e t s true (commits_of (deeds_of t m) m) (commits_of (deeds_of (e ∷ t) m) m)
+      r.commits (commits_still e t m) reach.commits;
+  aborts =
+      heard_still e t s false (aborts_of (deeds_of t m) m) (aborts_of (deeds_of (e ∷ t) m) m)
+      r.aborts (aborts_still e t m) reach.aborts;
+}
+
+-- the farther of two
+pub heard_max : (t : List Event) (s : ℕ) (o : Bool) (names : List Name) (m n : ℕ)
+    → HasHeard t s o names m → HasHeard t s o names n → HasHeard t s o names (max m n)
+heard_max t s o names m n one other = by (leb_tells m n)
+  where
+    by : ((leb m n ≡ true) × (m ≤ n)) ⊎ ((leb m n ≡ false) × (n < m))
+        → HasHeard t s o names (max m n)
+    by (inl less) =
+        let is : n ≡ max m n = omega (arith, less.1) in subst (HasHeard t s o names) is other
+    by (inr more) =
+        let is : m ≡ max m n = omega (arith, more.1) in subst (HasHeard t s o names) is one
+
+-- After the first Informs of its arrival a node was informed of each commit that a letter brings,
+commit_told :
+    (objects : List ObjectDecl) (T : List TimedEvent) (s : ℕ) (letter : Letter) (a : Name)
+    → IsTimedRun objects T → KeepsLetter T letter
+    → list_any (name_eq a) (brought_commits (events T) letter) ≡ true
+    → informed (after (deeds_of (events T) s) (timed_informs (events T) s (Some letter.id))) s a
+    true ≡ true
+commit_told objects T s letter a run keeps there =
+    let t : List Event = events T in
+    let told : TimedHolds objects t = timed_holds objects T run in
+    let own : ℕ → Bool = λ i. holds (in_past t i) (last_of t s) in
+    let sent : ℕ → Bool = λ i. holds (in_past t i) (sender_of (Some letter.id)) in
+    let has = sym (letter_brings objects T letter a run keeps).commits ∙ there in
+    first_by_told t (abort_paths t) s (Some letter.id) (carrier t (Some letter.id)) (deeds_of t s)
+    (told.told s) a true
+    ∙ plain_or (is_commit a) t own sent
+    ∙ or_right (committed (own_past t s) a) _ has
+
+-- and of each abort.
+abort_told :
+    (objects : List ObjectDecl) (T : List TimedEvent) (s : ℕ) (letter : Letter) (a : Name)
+    → IsTimedRun objects T → KeepsLetter T letter
+    → list_any (name_eq a) (brought_aborts (events T) letter) ≡ true
+    → informed (after (deeds_of (events T) s) (timed_informs (events T) s (Some letter.id))) s a
+    false ≡ true
+abort_told objects T s letter a run keeps there =
+    let t : List Event = events T in
+    let u : List Event = abort_paths t in
+    let by = carrier t (Some letter.id) in
+    let told : TimedHolds objects t = timed_holds objects T run in
+    let own : ℕ → Bool = λ i. holds (in_past u i) (last_of u s) in
+    let sent : ℕ → Bool = λ i. holds (in_past u i) (sender_of by) in
+    let has = sym (letter_brings objects T letter a run keeps).aborts ∙ there in
+    first_by_told t u s (Some letter.id) by (deeds_of t s) (told.told s) a false
+    ∙ plain_or (is_abort a) u own sent
+    ∙ or_right (aborted (own_past u s) a) _ has
+
+-- So after its arrival the node has heard of all that the letter brought.
+pub letter_heard :
+    (objects : List ObjectDecl) (T : List TimedEvent) (s : ℕ) (letter : Letter) (e : Event)
+    (more : List Deed) → IsTimedRun objects T → KeepsLetter T letter → e.node ≡ s
+    → e.deeds ≡ timed_informs (events T) s (Some letter.id) ++ more
+    → IsReach (e ∷ events T) letter.mail.from s
+    (record { commits = letter.commits; aborts = letter.aborts })
+letter_heard objects T s letter e more run keeps mine are = record {
+  commits =
+      heard_grown (e ∷ t) s true (commits_of (deeds_of t m) m) (commits_of (deeds_of (e ∷ t) m) m)
+      letter.commits (commits_still e t m) told.few_commits
+      (λ a there. now a true (commit_told objects T s letter a run keeps there));
+  aborts =
+      heard_grown (e ∷ t) s false (aborts_of (deeds_of t m) m) (aborts_of (deeds_of (e ∷ t) m) m)
+      letter.aborts (aborts_still e t m) told.few_aborts
+      (λ a there. now a false (abort_told objects T s letter a run keeps there));
+}
+  where
+    t : List Event
+    t = events T
+
+    m : ℕ
+    m = letter.mail.from
+
+    told : WereTold t letter
+    told = were_told T letter keeps
+
+    first : List Deed
+    first = timed_informs t s (Some letter.id)
+
+    deeds : deeds_of (e ∷ t) s ≡ after (after (deeds_of t s) first) more
+    deeds =
+        subst (λ (n : ℕ). deeds_of (e ∷ t) n ≡ after (after (deeds_of t n) first) more) mine
+        (deeds_mine e t first more are)
+
+    now : (a : Name) (o : Bool) → informed (after (deeds_of t s) first) s a o ≡ true
+        → informed (deeds_of (e ∷ t) s) s a o ≡ true
+    now a o is =
+        ap (λ (L : List Deed). informed L s a o) deeds
+        ∙ informed_after more (after (deeds_of t s) first) s a o is
