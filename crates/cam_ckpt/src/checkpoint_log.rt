@@ -11,12 +11,9 @@ ghost use Rattle.cam_ckpt.specs.Opening.{can_follow};
 use cam_log::{Entries, EntryLog, LogFault};
 
 /// A log whose list of entries can be replaced by another as a whole, as a checkpoint does. A crash at any
-/// moment leaves it with the old list or with the new one.
+/// moment leaves it with the old list or with the new one. A list that takes another's place has the next
+/// number, which is written in 64 bits: the list with the last number cannot be replaced.
 pub trait CheckpointLog: EntryLog {
-    /// The number of the log's list. A log begins with 1, and a list that takes another's place has the next
-    /// number. It is written in 64 bits; the list with the last number cannot be replaced.
-    ghost generation: { Self → ℕ };
-
     /// Where on its disk this list would end, in bytes, if it took the place of the log's own.
     ghost end_of: { Self → List (List ℕ) → ℕ };
 
@@ -26,17 +23,17 @@ pub trait CheckpointLog: EntryLog {
 
     /// Whether the list can be replaced: the log is not broken, and its generation is not the last.
     fn can_replace(&self) -> bool
-        ensures { result ≡ can_follow (Self.broken self.now) (generation self.now) };
+        ensures { result ≡ can_follow (Self.broken self.now) (Self.generation self.now) };
 
     /// Makes the list of entries this one. At `Ok` a crash leaves a log that has it, and at any moment of
     /// the call one that has the old list or the new one. It fails with `DiskFault`, as it does where the new
     /// list would reach past 2^62 bytes, or with `NoMemory`, and its own list is then the old one. It is broken
     /// after a `DiskFault`, and after a `NoMemory` of the disk itself.
     fn replace(&mut self, entries: &Entries) -> Result<(), LogFault>
-        requires { IsTrue (can_follow (Self.broken self.old) (generation self.old)) }
+        requires { IsTrue (can_follow (Self.broken self.old) (Self.generation self.old)) }
         ensures replaced { OnOk result (Self.listed self.new ≡ entries.now) }
         ensures whole { OnOk result (IsFalse (Self.broken self.new)) }
-        ensures generation { OnOk result (generation self.new ≡ generation self.old + 1) }
+        ensures generation { OnOk result (Self.generation self.new ≡ Self.generation self.old + 1) }
         ensures room { OnOk result (end_of self.old entries.now ≤ 2 ^ 62) }
         ensures bytes { IsTrue (Self.tells self.old)
             → OnOk result (is_rewritten self.old entries.now self.new) }
@@ -53,7 +50,7 @@ pub trait CheckpointLog: EntryLog {
             (Self.opens_since self.old) (Self.opens_since self.new)
             (IsOldOrNew (Self.listed self.old) entries.now) }
         ensures not_listed { OnErr result (Self.listed self.new ≡ Self.listed self.old) }
-        ensures same_generation { OnErr result (generation self.new ≡ generation self.old) }
+        ensures same_generation { OnErr result (Self.generation self.new ≡ Self.generation self.old) }
         ensures unchanged { OnErr result (IsFalse (Self.broken self.new)
             → Stays (Self.moment self.old) (Self.moment self.new)
             (Self.opens_since self.old) (Self.opens_since self.new)

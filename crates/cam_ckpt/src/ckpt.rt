@@ -45,7 +45,7 @@ impl<D: Disk> Ckpt<D> {
         ensures whole { IfOk result (λ log. IsFalse (⟦<Ckpt<D> as EntryLog>⟧.broken log)) }
         ensures bytes { IsTrue (D.tells disk)
             → IfOk result (λ log. ⟦<Ckpt<D> as EntryLog>⟧.seen log ≡ formatted) }
-        ensures generation { IfOk result (λ log. ⟦<Ckpt<D> as CheckpointLog>⟧.generation log ≡ 1) }
+        ensures generation { IfOk result (λ log. ⟦<Ckpt<D> as EntryLog>⟧.generation log ≡ 1) }
         // It takes three calls of the disk.
         ensures spent { IfOk result
             (λ log. Spent 3 (D.passes disk) (⟦<Ckpt<D> as EntryLog>⟧.passes log)) }
@@ -102,7 +102,7 @@ impl<D: Disk> Ckpt<D> {
             AddsNothing (D.moment disk) (⟦<Ckpt<D> as EntryLog>⟧.moment log)
             (Openings (D.left_since disk)) (⟦<Ckpt<D> as EntryLog>⟧.opens_since log)) }
         ensures generation { IsTrue (D.tells disk) → IfOk result (λ log.
-            generation_of (D.seen disk) ≡ Some (⟦<Ckpt<D> as CheckpointLog>⟧.generation log)) }
+            generation_of (D.seen disk) ≡ Some (⟦<Ckpt<D> as EntryLog>⟧.generation log)) }
         ensures unbounded { D.passes disk ≡ None
             → IfOk result (λ log. ⟦<Ckpt<D> as EntryLog>⟧.passes log ≡ None) }
         ensures tells { IfOk result (λ log. ⟦<Ckpt<D> as EntryLog>⟧.tells log ≡ D.tells disk) }
@@ -180,6 +180,8 @@ impl<D: Disk> EntryLog for Ckpt<D> {
 
     ghost passes = { λ log. D.passes log.disk };
 
+    ghost generation = { λ log. log.state.generation };
+
     ghost is_written = { λ old entry new. IsAppended old.state.gate (appended entry) (D.seen old.disk) (D.seen new.disk) };
 
     ghost reads_now = { λ log h. (D.seen log.disk, D.counts_now log.disk (D.moment log.disk) (D.seen log.disk) h (Prim.omega arith) (D.kept log.disk h), refl) };
@@ -214,8 +216,6 @@ impl<D: Disk> EntryLog for Ckpt<D> {
 
 impl<D: Disk> CheckpointLog for Ckpt<D> {
     ghost use Rattle.cam_ckpt.specs.Opening.{start_for};
-
-    ghost generation = { λ log. log.state.generation };
 
     ghost end_of = { λ log entries. start_for log.state entries + length (segment entries) };
 

@@ -90,7 +90,7 @@ logs_keep_order objects taken t s logged run log one other first second =
     let b = found order.at n P (paired logged.held (secured_of objects (plain_all t) s)) (beside logged.held (reverse (site (of_node (carried_of objects t) s)).secured)) other second.0 second.1 second.2 all in
     (λ i. nat_lt (a.linked.placed i) (b.linked.placed i))
     ∙ same_order order.at n a.it.1.index b.it.1.index order.rises a.linked.small b.linked.small
-    ∙ sym ((kept_whole objects taken t s logged run log).order a.it b.it a.there b.there)
+    ∙ sym ((kept_whole objects taken t s logged run log).order.order a.it b.it a.there b.there)
     ∙ (λ i. nat_lt (sym a.same i).index (sym b.same i).index)
 
 -- So it is what the node keeps.

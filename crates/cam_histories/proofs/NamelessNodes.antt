@@ -1,14 +1,14 @@
 -- A node and its log stand for a history whatever the numbers of its letters are.
-use Rattle.std.proofs.Common.{◌≡◌, ℕ, true, List, [], ◌∷◌, map, reverse, refl, sym, ap, ◌∙◌, subst}
+use Rattle.std.proofs.Common.{◌≡◌, ℕ, ◌≤◌, true, List, [], ◌∷◌, map, reverse, refl, sym, ap, ◌∙◌, subst}
 use Rattle.std.specs.Prelude.{is_some, unwrap_or}
 use Rattle.cam_names.specs.declared.name.Name.{Name}
 use Rattle.cam_names.specs.Dependencies.{as_counts, has_pair}
 use Rattle.cam_type.specs.declared.ObjectDecl.{ObjectDecl}
 use Rattle.cam_know.specs.Knowledge.{Knowledge}
 use Rattle.cam_know.specs.Known.{known_count, knows_abort, knows_commit}
-use Rattle.cam_event.specs.History.{count as count_in, informed, secured_at}
+use Rattle.cam_event.specs.History.{count as count_in, informed, number_of, secured_at}
 use Rattle.cam_event.specs.Sights.{votes, kept_reply}
-use Rattle.cam_event.specs.ByKnowledge.{Carried, Site, entry_of, deeds_of, own_pairs, held, site}
+use Rattle.cam_event.specs.ByKnowledge.{Carried, Site, entry_of, deeds_of, is_any_perform, own_pairs, held, site}
 use Rattle.cam_event.specs.Loads.{each_node}
 use Rattle.cam_event.specs.ByDeltas.{Received, as_carried, have_of, acked_of, places_of}
 use Rattle.cam_commit.specs.Families.{Families, IsUndecided, CommitsFamilies}
@@ -157,10 +157,13 @@ module _ (objects : List ObjectDecl) (h j : List Received) (same : map nameless 
           says = kept.says;
           is_log = is_log_alike n (logged_of kept.recovered) kept.is_log;
         };
-        order =
-            subst (λ (at : Site). OrderIsKeptWith at kept.recovered.held
-            s.node.server.table.site.live s.node.server.table.site.next) site_alike
-            stands.log.order;
+        order = record {
+          kept = subst (λ (at : Site). OrderIsKeptWith at kept.recovered.held
+              s.node.server.table.site.live s.node.server.table.site.next) site_alike
+              stands.log.order.kept;
+          next = subst (λ L. s.node.server.table.site.next ≤ number_of is_any_perform L)
+              deeds_alike stands.log.order.next;
+        };
       };
     }
       where

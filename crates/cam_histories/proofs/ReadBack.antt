@@ -1,5 +1,5 @@
 -- A letter that was read from its bytes is as good as the one that was sent.
-use Rattle.std.proofs.Common.{◌≡◌, inl, inr, ℕ, ◌-◌, true, not, ◌&&◌, eqb, max, min, if◌then◌else◌}
+use Rattle.std.proofs.Common.{◌≡◌, inl, inr, ℕ, ◌-◌, ◌≤◌, true, not, ◌&&◌, eqb, max, min, if◌then◌else◌}
 use Rattle.std.proofs.Common.{List, [], ◌∷◌, map, length, reverse, Option, Some, refl, sym, ap, ◌∙◌}
 use Rattle.std.proofs.Common.{subst}
 use Rattle.std.specs.Prelude.{slice_index, nat_le}
@@ -15,9 +15,9 @@ use Rattle.cam_know.specs.Known.{both, known_count}
 use Rattle.cam_know.specs.Order.{in_order, told_in_order}
 use Rattle.cam_event.specs.declared.Event.{Event}
 use Rattle.cam_event.specs.declared.Letter.{Letter}
-use Rattle.cam_event.specs.History.{count as count_in}
+use Rattle.cam_event.specs.History.{count as count_in, number_of}
 use Rattle.cam_event.specs.Inputs.{Mail}
-use Rattle.cam_event.specs.ByKnowledge.{Carried, deeds_of, held, site}
+use Rattle.cam_event.specs.ByKnowledge.{Carried, deeds_of, held, is_any_perform, site}
 use Rattle.cam_event.specs.Loads.{Load, each_node}
 use Rattle.cam_event.specs.ByDeltas.{Received, as_carried, known, crashed, is_from, have_of}
 use Rattle.cam_event.specs.ByDeltas.{acked_of, places_of, load_at, load_by, received_of}
@@ -218,6 +218,10 @@ pub in_order_as_good : (objects : List ObjectDecl) (history : List Received) (ev
     → IsAsGood one other
     → IsInOrder (received_with event mail one ∷ history) hs node.server.table.site
     → IsInOrder (received_with event mail other ∷ history) hs node.server.table.site
-in_order_as_good objects history event mail one other hs node good =
-    subst (λ (h : List Carried). OrderIsKeptWith (site h) hs node.server.table.site.live
-    node.server.table.site.next) (carried objects history event mail one other good)
+in_order_as_good objects history event mail one other hs node good is = record {
+  kept = subst (λ (h : List Carried). OrderIsKeptWith (site h) hs node.server.table.site.live
+      node.server.table.site.next) (carried objects history event mail one other good) is.kept;
+  next = subst (λ (h : List Carried). node.server.table.site.next
+      ≤ number_of is_any_perform (deeds_of h))
+      (carried objects history event mail one other good) is.next;
+}

@@ -67,6 +67,10 @@ pub trait EntryLog: Drop {
     /// How many calls its disk still does. None: no bound.
     ghost passes: { Self → Option ℕ } = { λ _. None };
 
+    /// The number of the log's list. A log begins with 1, and an append keeps it: only a list that takes
+    /// another's place has another number.
+    ghost generation: { Self → ℕ } = { λ _. 1 };
+
     /// Whether an append of this entry to a log made it this other one with just the bytes that the log's
     /// format has for it.
     ghost is_written: { Self → List ℕ → Self → Type 0 } = { λ _ _ _. Unit {0} };
@@ -95,6 +99,7 @@ pub trait EntryLog: Drop {
             (opens_since self.old) (opens_since self.new)
             (IsBeforeOrAfter (listed self.old) entry.now) }
         ensures not_listed { OnErr result (listed self.new ≡ listed self.old) }
+        ensures generation { generation self.new ≡ generation self.old }
         ensures unchanged { OnErr result
             (IsFalse (broken self.new) → Stays (moment self.old) (moment self.new)
             (opens_since self.old) (opens_since self.new) (seen self.old) (seen self.new)

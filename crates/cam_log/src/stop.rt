@@ -15,6 +15,7 @@ pub trait StopLog: EntryLog {
         ensures reads { Self.reads self.new ≡ Self.reads self.old }
         ensures faults_within { Self.faults_within self.new ≡ Self.faults_within self.old }
         ensures listed { Self.listed self.new ≡ Self.listed self.old }
+        ensures generation { Self.generation self.new ≡ Self.generation self.old }
         ensures broken { Self.broken self.new ≡ Self.broken self.old }
         ensures tells { Self.tells self.new ≡ Self.tells self.old }
         ensures stays { Stays (Self.moment self.old) (Self.moment self.new)
@@ -28,6 +29,7 @@ pub trait StopLog: EntryLog {
         ensures reads { Self.reads self.new ≡ Self.reads self.old }
         ensures faults_within { Self.faults_within self.new ≡ Self.faults_within self.old }
         ensures listed { Self.listed self.new ≡ Self.listed self.old }
+        ensures generation { Self.generation self.new ≡ Self.generation self.old }
         ensures broken { Self.broken self.new ≡ Self.broken self.old }
         ensures tells { Self.tells self.new ≡ Self.tells self.old }
         ensures stays { Stays (Self.moment self.old) (Self.moment self.new)

@@ -1,5 +1,5 @@
 -- Where a call came to its site, the order of what the log holds and of what is live goes on.
-use Rattle.std.proofs.Common.{◌≡◌, ℕ, List, ◌∷◌, ◌++◌, map, Option, Some, None, sym, ap, ◌∙◌, subst}
+use Rattle.std.proofs.Common.{◌≡◌, ℕ, ◌≤◌, List, ◌∷◌, ◌++◌, map, Option, Some, None, sym, ap, ◌∙◌, subst, arith}
 use Rattle.std.specs.Prelude.{Bool}
 use Rattle.std.proofs.lemmas.List.{append-nil}
 use Rattle.cam_names.specs.declared.name.Name.{Name}
@@ -12,9 +12,9 @@ use Rattle.cam_event.specs.declared.Deed.{Deed}
 use Rattle.cam_event.specs.declared.Event.{Event}
 use Rattle.cam_event.specs.declared.Letter.{Letter}
 use Rattle.cam_event.specs.declared.LetterId.{LetterId}
-use Rattle.cam_event.specs.History.{after}
+use Rattle.cam_event.specs.History.{after, number_of}
 use Rattle.cam_event.specs.ByPast.{event_of}
-use Rattle.cam_event.specs.ByKnowledge.{Carried, Placed, Site, deeds_of, new_informs, site, site_after_all}
+use Rattle.cam_event.specs.ByKnowledge.{Carried, Placed, Site, deeds_of, is_any_perform, new_informs, site, site_after_all}
 use Rattle.cam_event.specs.ByDeltas.{as_carried, known}
 use Rattle.cam_comman.specs.Letters.{load_on}
 use Rattle.cam_recman.specs.declared.Record.{Record}
@@ -27,7 +27,7 @@ use Rattle.cam_server.specs.Events.{informs_abort, IsInformedBy}
 use Rattle.cam_server.specs.Steps.{did_performed}
 use Rattle.cam_server.proofs.QuietDeeds.{left, quiet_live, informs_quiet}
 use Rattle.cam_server.proofs.LiveOps.{are_left}
-use Rattle.cam_server.proofs.Performing.{site_append}
+use Rattle.cam_server.proofs.Performing.{after_append, site_append}
 use Rattle.cam_node.specs.declared.plan.Plan.{Plan}
 use Rattle.cam_node.specs.declared.state.Core.{Core}
 use Rattle.cam_node.specs.Represents.{Node}
@@ -38,25 +38,27 @@ use Rattle.cam_node.specs.Plans.{KeepsOrderFor, Stands, held_in}
 use Rattle.cam_node.specs.Served.{CallStands}
 use Rattle.cam_node.proofs.CallRules.{at_site, answered}
 use Rattle.cam_node.proofs.Ordering.{dropped_in_order}
+use Rattle.cam_node.proofs.Performed.{no_fewer}
 use Rattle.cam_node.proofs.PlacedPast.{past_after_all, site_past}
 use Rattle.cam_node.proofs.Places.{left_at}
-use Rattle.cam_node.proofs.ServedOrder.{served_order}
+use Rattle.cam_node.proofs.ServedOrder.{served_order, InOrderTo}
 use Rattle.cam_node.proofs.Unsecured.{informs_unsecured, same_secured}
 
 -- THE LAW
 pub calls_keep_order : CallsKeepOrder
 calls_keep_order objects old new id mail load asked done event history logged event_is stands through
-    rep order =
-    subst (λ (ds : List Deed). OrderIsKeptWith (site_after_all L (Some mail) now ds) logged
-    new.server.table.site.live new.server.table.site.next) (sym deeds_are)
-    (subst (λ (at : Site). OrderIsKeptWith at logged
-    new.server.table.site.live new.server.table.site.next)
-    (sym (site_append L (Some mail) now first (did_performed asked done).deeds))
-    (served_order (after L first) mail between logged asked k mid new.server done stands.call
-    (sym (answered objects history mail load asked done old new stands rep))
-    stands.served.server.after lived
-    (past_after_all L (Some mail) now first (site_past (map as_carried history)))
-    between_order))
+    rep order = record {
+      kept = subst (λ (ds : List Deed). OrderIsKeptWith (site_after_all L (Some mail) now ds) logged
+          new.server.table.site.live new.server.table.site.next) (sym deeds_are)
+          (subst (λ (at : Site). OrderIsKeptWith at logged
+          new.server.table.site.live new.server.table.site.next)
+          (sym (site_append L (Some mail) now first (did_performed asked done).deeds))
+          served.kept);
+      next = subst (λ (ds : List Deed). new.server.table.site.next ≤ number_of is_any_perform
+          (after L ds)) (sym deeds_are)
+          (subst (λ (ds : List Deed). new.server.table.site.next ≤ number_of is_any_perform ds)
+          (sym (after_append L first (did_performed asked done).deeds)) served.next);
+    }
   where
     s : ℕ
     s = old.number
@@ -119,7 +121,7 @@ calls_keep_order objects old new id mail load asked done event history logged ev
         (λ x h. left_at down old.server.table.site.live now.live rep.serves.site.operations x
         (subst (λ (ps : List Placed). In x
         (live_at (left_live down old.server.table.site.live) ps)) lives h))
-        order
+        order.kept
 
     between_order : OrderIsKeptWith between logged mid.table.site.live mid.table.site.next
     between_order =
@@ -127,6 +129,23 @@ calls_keep_order objects old new id mail load asked done event history logged ev
         (sym informed.live)
         (subst (OrderIsKeptWith between logged (left_live down old.server.table.site.live))
         (sym informed.next) dropped)
+
+    between_next : mid.table.site.next ≤ number_of is_any_perform (after L first)
+    between_next =
+        let within : old.server.table.site.next ≤ number_of is_any_perform L = order.next in
+        let more = no_fewer is_any_perform L first in
+        omega (arith, informed.next, within, more)
+
+    served : InOrderTo
+        (number_of is_any_perform (after (after L first) (did_performed asked done).deeds))
+        (site_after_all (after L first) (Some mail) between (did_performed asked done).deeds) logged
+        new.server.table.site
+    served =
+        served_order (after L first) mail between logged asked k mid new.server done stands.call
+        (sym (answered objects history mail load asked done old new stands rep))
+        stands.served.server.after lived
+        (past_after_all L (Some mail) now first (site_past (map as_carried history)))
+        (record { kept = between_order; next = between_next })
 
 -- So does its plan, where the event stands so.
 pub stood_order : (objects : List ObjectDecl) (id : LetterId) (letter : Letter) (first now : Core)

@@ -32,8 +32,9 @@ nothing_is_known = record {
 
 pub formatted : (objects : List ObjectDecl) (s : ℕ) (node : Node) (entries : List (List ℕ)) → (1 ≤
     s) × (s ≤ 8) → node.number ≡ s → Represents objects [] node
-    → entries ≡ version_entry ∷ [] → KeepsNode objects [] node entries
-formatted objects s node entries range number rep is = record {
+    → node.server.table.site.next ≡ 0 → entries ≡ version_entry ∷ []
+    → KeepsNode objects [] node entries
+formatted objects s node entries range number rep first is = record {
   through = tt;
   represents = rep;
   keeps = record {
@@ -47,5 +48,5 @@ formatted objects s node entries range number rep is = record {
       known = nothing_is_known;
     };
   };
-  order = nothing_in_order node.server.table.site;
+  order = nothing_in_order node.server.table.site first;
 }

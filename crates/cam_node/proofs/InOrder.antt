@@ -1,5 +1,5 @@
 -- The order of what a log holds and of what is live goes on over each event of a node.
-use Rattle.std.proofs.Common.{◌≡◌, ◌⊎◌, inl, inr, ℕ, Bool, true, false, not, cond, List, [], ◌∷◌, ◌++◌, map, filter, reverse, refl, sym, ap, ◌∙◌, subst, true≢false}
+use Rattle.std.proofs.Common.{◌≡◌, ◌⊎◌, inl, inr, ℕ, ◌≤◌, Bool, true, false, not, cond, List, [], ◌∷◌, ◌++◌, map, filter, reverse, refl, sym, ap, ◌∙◌, subst, arith, true≢false}
 use Rattle.std.specs.List.{list_any}
 use Rattle.cam_names.specs.declared.name.Name.{Name}
 use Rattle.cam_names.specs.Names.{ancestors}
@@ -7,8 +7,8 @@ use Rattle.cam_type.specs.declared.Held.{Held}
 use Rattle.cam_type.specs.declared.HeldOp.{HeldOp}
 use Rattle.cam_event.specs.declared.Deed.{Deed}
 use Rattle.cam_event.specs.declared.Deed.TheVariants.{Secure}
-use Rattle.cam_event.specs.ByKnowledge.{Placed, Site, deeds_of, site, site_after_all}
-use Rattle.cam_event.specs.ByDeltas.{as_carried}
+use Rattle.cam_event.specs.ByKnowledge.{Placed, Site, deeds_of, is_any_perform, site, site_after_all}
+use Rattle.cam_event.specs.ByDeltas.{Received, as_carried}
 use Rattle.cam_locks.specs.declared.LiveOp.{LiveOp}
 use Rattle.cam_locks.specs.Members.{In}
 use Rattle.cam_locks.proofs.Members.{in_filter}
@@ -20,9 +20,10 @@ use Rattle.cam_server.proofs.QuietDeeds.{is_down, left, quiet_live}
 use Rattle.cam_server.proofs.LiveOps.{are_left}
 use Rattle.cam_server.proofs.Performing.{site_append}
 use Rattle.cam_node.specs.Entries.{AreHoldings}
-use Rattle.cam_node.specs.LogOrder.{live_at, OrderIsKeptWith, HasDropped, left_live}
+use Rattle.cam_node.specs.LogOrder.{live_at, performed, OrderIsKeptWith, HasDropped, left_live}
 use Rattle.cam_node.specs.OrderLaws.{NothingIsInOrder, DroppingKeepsOrder, SecuringKeepsOrder}
 use Rattle.cam_node.proofs.Places.{left_at, family_ops, held_ops, family_held}
+use Rattle.cam_node.proofs.Performed.{no_fewer}
 use Rattle.cam_node.proofs.Ordering.{dropped_in_order, with_family, secured_in_order, secured_order}
 use Rattle.cam_node.proofs.Unsecured.{same_secured, holdings_behind}
 
@@ -78,21 +79,35 @@ kept_at keeps down (k ∷ ks) (p ∷ ps) are more x h =
 
 -- At first there is nothing.
 pub nothing_in_order : NothingIsInOrder
-nothing_in_order table = record {
-  order = λ one other h k. absurd (none table.live one h);
-  below = λ one h. absurd (none table.live one h);
+nothing_in_order table first = record {
+  kept = record {
+    order = λ one other h k. absurd (none table.live one h);
+    below = λ one h. absurd (none table.live one h);
+    at_most = λ one h. absurd (none table.live one h);
+  };
+  next = omega (arith, first);
 }
   where
     none : (ks : List LiveOp) (x : ℕ × ℕ) → In x (live_at ks []) → ⊥
     none [] x h = h
     none (k ∷ ks) x h = h
 
+-- the next index, where nothing is performed
+pub next_stays : (history : List Received) (c : Received) (old new : ℕ) → new ≡ old
+    → old ≤ performed history → new ≤ performed (c ∷ history)
+next_stays history c old new same within =
+    let more = no_fewer is_any_perform (deeds_of (map as_carried history)) c.event.deeds in
+    omega (arith, same, within, more)
+
 -- After an event that performs and secures nothing, and is no crash.
 pub dropping_in_order : DroppingKeepsOrder
-dropping_in_order objects s history c logged old new quiet none dropped before behind is =
-    subst (λ (n : ℕ). OrderIsKeptWith then logged new.table.site.live n) (sym dropped.next)
-    (dropped_in_order now then logged old.table.site.live new.table.site.live old.table.site.next
-    there among is)
+dropping_in_order objects s history c logged old new quiet none dropped before behind is = record {
+  kept =
+      subst (λ (n : ℕ). OrderIsKeptWith then logged new.table.site.live n) (sym dropped.next)
+      (dropped_in_order now then logged old.table.site.live new.table.site.live old.table.site.next
+      there among is.kept);
+  next = next_stays history c old.table.site.next new.table.site.next dropped.next is.next;
+}
   where
     L : List Deed
     L = deeds_of (map as_carried history)
@@ -154,17 +169,20 @@ securing_in_order holds objects s history c first f n logged old new deeds quiet
             },
             tt,
           )),
-      subst
-          (λ (at : Site). OrderIsKeptWith at
-          (logged ++ holds f n ∷ []) new.live new.next) (sym then_is)
-          (subst
-          (λ (ks : List LiveOp). OrderIsKeptWith (with_family f mid)
-          (logged ++ holds f n ∷ []) ks new.next) (sym lives_new)
-          (subst
-          (λ (next : ℕ). OrderIsKeptWith (with_family f mid) (logged ++ holds f n ∷ []) kept next)
-          (sym next_new)
-          (secured_in_order f mid logged
-          (holds f n) kept old.table.site.next lived mid_logs ops mid_order))),
+      record {
+        kept = subst
+            (λ (at : Site). OrderIsKeptWith at
+            (logged ++ holds f n ∷ []) new.live new.next) (sym then_is)
+            (subst
+            (λ (ks : List LiveOp). OrderIsKeptWith (with_family f mid)
+            (logged ++ holds f n ∷ []) ks new.next) (sym lives_new)
+            (subst
+            (λ (next : ℕ). OrderIsKeptWith (with_family f mid) (logged ++ holds f n ∷ []) kept next)
+            (sym next_new)
+            (secured_in_order f mid logged
+            (holds f n) kept old.table.site.next lived mid_logs ops mid_order)));
+        next = next_stays history c old.table.site.next new.next next_new is.next;
+      },
     )
   where
     L : List Deed
@@ -201,7 +219,7 @@ securing_in_order holds objects s history c first f n logged old new deeds quiet
     mid_order =
         dropped_in_order now mid logged old.table.site.live kept old.table.site.next there
         (λ x h. left_at down old.table.site.live now.live before.site.operations x
-        (subst (λ (ps : List Placed). In x (live_at kept ps)) lives h)) is
+        (subst (λ (ps : List Placed). In x (live_at kept ps)) lives h)) is.kept
 
     ops : (holds f n).ops ≡ held_ops f kept
     ops = ap (λ (h : Held). h.ops) is_held ∙ ap (held_ops f) lives_new

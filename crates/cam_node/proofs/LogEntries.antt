@@ -31,7 +31,10 @@ formatted_keeps objects s low high = (
     own_known = λ first last. omega (arith, one_at_first s low high);
     secured = tt;
     counts = refl;
-    order = λ one other is there. absurd (omega (arith, is.1));
+    order = record {
+      order = λ one other is there. absurd (omega (arith, is.1));
+      at_most = λ one is. absurd (omega (arith, is.1));
+    };
   },
 )
 

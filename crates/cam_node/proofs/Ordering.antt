@@ -1,5 +1,5 @@
 -- The order of what a log holds and of what is live goes on where operations are dropped, where a family is secured, and where one more is performed.
-use Rattle.std.proofs.Common.{◌≡◌, ◌⊎◌, inl, inr, ℕ, ◌+◌, ◌<◌, nat_lt, List, [], ◌∷◌, ◌++◌, map, zip, reverse, Contains, sym, ap, ◌∙◌, subst, arith}
+use Rattle.std.proofs.Common.{◌≡◌, ◌⊎◌, inl, inr, ℕ, ◌+◌, ◌<◌, ◌≤◌, nat_lt, List, [], ◌∷◌, ◌++◌, map, zip, reverse, Contains, sym, ap, ◌∙◌, subst, arith}
 use Rattle.std.proofs.lemmas.Bool.{lt-ltb, le-ltb}
 use Rattle.std.proofs.lemmas.List.{reverse-append}
 use Rattle.cam_names.specs.declared.name.Name.{Name}
@@ -25,6 +25,7 @@ fewer old new logged more live left next among is =
     record {
       order = λ one other h k. is.order one other (among one h) (among other k);
       below = λ one h. is.below one (among one h);
+      at_most = λ one h. is.at_most one (among one h);
     }
 
 -- where operations are dropped
@@ -109,8 +110,10 @@ pub secured_order : (f : Name) (old : Site) (logged : List Held) (h : Held) (liv
     → AreHeld logged (reverse old.secured) → h.ops ≡ held_ops f live
     → OrderIsKeptWith old logged live next
     → OrderIsKept (beside (logged ++ h ∷ []) (reverse (with_family f old).secured))
-secured_order f old logged h live next are held is kept one other p q =
-    kept.order (at one) (at other) (within one p) (within other q)
+secured_order f old logged h live next are held is kept = record {
+  order = λ one other p q. kept.order (at one) (at other) (within one p) (within other q);
+  at_most = λ one p. kept.at_most (at one) (within one p);
+}
   where
     within : (b : HeldOp × Placed)
         → Contains (beside (logged ++ h ∷ []) (reverse (with_family f old).secured)) b
@@ -129,13 +132,18 @@ both_back i j m n h k = le-ltb m i (omega (arith, h)) ∙ sym (le-ltb n j (omega
 
 pub performed_in_order : (n : ℕ) (old : Site) (logged : List Held) (live : List LiveOp) (next : ℕ)
     (k : LiveOp) (p : Placed) → AreLiveOps live old.live
-    → IsPast n old → k.index ≡ next → p.index ≡ n → OrderIsKeptWith old logged live next
+    → IsPast n old → k.index ≡ next → p.index ≡ n → next ≤ n
+    → OrderIsKeptWith old logged live next
     → OrderIsKeptWith (record old { live = old.live ++ p ∷ [] }) logged (live ++ k ∷ []) (next + 1)
-performed_in_order n old logged live next k p are past index place is = record {
+performed_in_order n old logged live next k p are past index place within is = record {
   order = λ one other h m. by one other (either one h) (either other m);
   below = λ one h. elim (either one h) [
     | inl a ↦ omega (arith, is.below one a)
     | inr e ↦ let here : one.0 ≡ next = ap (λ (y : ℕ × ℕ). y.0) e ∙ index in omega (arith, here)
+  ];
+  at_most = λ one h. elim (either one h) [
+    | inl a ↦ is.at_most one a
+    | inr e ↦ subst (λ (y : ℕ × ℕ). y.0 ≤ y.1) (sym (last one e)) within
   ];
 }
   where

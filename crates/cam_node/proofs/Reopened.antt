@@ -7,6 +7,7 @@ use Rattle.cam_know.specs.declared.Outcome.{Outcome}
 use Rattle.cam_know.specs.Invariant.{NoTwice}
 use Rattle.cam_bytes.specs.Ranges.{IsFrom}
 use Rattle.cam_type.specs.declared.ObjectDecl.{ObjectDecl}
+use Rattle.cam_ckpt.specs.Opening.{can_follow}
 use Rattle.cam_log.specs.Moments.{Opened, Grows, AddsNothing, IsBeforeOrAfter}
 use Rattle.cam_recman.specs.declared.Recovered.{Recovered}
 use Rattle.cam_recman.specs.declared.Record.{Record}
@@ -19,7 +20,7 @@ use Rattle.cam_recman.specs.Recovery.{with_records, recover}
 use Rattle.cam_recman.specs.Snapshot.{snapshot}
 use Rattle.cam_recman.specs.Says.{Says}
 use Rattle.cam_recman.proofs.Said.{entry_says, snapshot_says}
-use Rattle.cam_node.specs.Opened.{is_readable, kept_entries, kept_by, raised, IsReadOrKept, CanRestart, Restarts, OpensRestarted}
+use Rattle.cam_node.specs.Opened.{is_readable, kept_entries, kept_by, raised, IsReadOrKept, IsReplaced, CanRestart, Restarts, OpensRestarted}
 use Rattle.cam_node.proofs.Moments.{says_readable, added_then, now_was}
 
 -- What a restart reads could be opened before, and what it leaves is the restart of that.
@@ -121,3 +122,11 @@ count_says entries now entry r kept false is grown entry_is range says =
 -- a test does not answer both
 pub not_both : (b : Bool) → b ≡ false → b ≡ true → ⊥
 not_both b failed met = true≢false (sym met ∙ failed)
+
+-- A whole log whose list cannot be replaced has the last number.
+pub not_replaced : (broken : Bool) (generation now : ℕ) (kept : Recovered)
+    (entries : List (List ℕ)) → broken ≡ false → can_follow broken generation ≡ false
+    → now ≡ generation → IsReplaced now kept entries
+not_replaced true generation now kept entries whole follows same can = cc
+not_replaced false generation now kept entries whole follows same can =
+    absurd (true≢false (sym can ∙ ap (can_follow false) same ∙ follows))

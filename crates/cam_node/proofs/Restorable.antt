@@ -141,7 +141,7 @@ held_is_restorable objects s n owner gs held groups once are order low = (
   may_be_held objects s n owner (all_held held) (all_of (reverse gs))
       (all_are_held held (reverse gs) are) (right_all objects s n owner (reverse gs) back)
       (groups_apart objects s n owner (reverse gs) back (once_backwards gs once))
-      (λ one other a b. order one other (there one a) (there other b)) (low_all held low),
+      (λ one other a b. order.order one other (there one a) (there other b)) (low_all held low),
   subst EachOnce (sym (held_names held (reverse gs) are)) (once_backwards gs once),
 )
   where

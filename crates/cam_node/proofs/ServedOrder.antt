@@ -1,6 +1,6 @@
 -- The order of what the log holds and of what is live goes on over what a site did with a call: an
 -- operation that is performed has the next index, and is the last of those that are live.
-use Rattle.std.proofs.Common.{◌≡◌, ℕ, ◌+◌, List, [], ◌∷◌, ◌++◌, map, Option, Some, None, refl, sym, ap, ◌∙◌, subst}
+use Rattle.std.proofs.Common.{◌≡◌, ℕ, ◌+◌, ◌≤◌, List, [], ◌∷◌, ◌++◌, map, Option, Some, None, refl, sym, ap, ◌∙◌, subst, arith}
 use Rattle.cam_names.specs.declared.name.Name.{Name}
 use Rattle.cam_type.specs.declared.Answer.{Answer}
 use Rattle.cam_type.specs.declared.Held.{Held}
@@ -9,7 +9,7 @@ use Rattle.cam_know.specs.Knowledge.{Knowledge}
 use Rattle.cam_event.specs.declared.Body.TheVariants as bodies
 use Rattle.cam_event.specs.declared.Deed.{Deed}
 use Rattle.cam_event.specs.declared.Operation.{Operation}
-use Rattle.cam_event.specs.History.{number_of}
+use Rattle.cam_event.specs.History.{after, number_of}
 use Rattle.cam_event.specs.Inputs.{Mail}
 use Rattle.cam_event.specs.ByKnowledge.{Placed, Site, is_any_perform, called_op, site_after_all}
 use Rattle.cam_locks.specs.declared.LiveOp.{LiveOp}
@@ -36,12 +36,17 @@ operation_of asked answer = record {
   answer = answer;
 }
 
+-- The order of a table, and that its next index is at most this number of operations.
+pub record InOrderTo (number : ℕ) (at : Site) (logged : List Held) (table : locks.Site) : Type 0
+  where
+    pub kept : OrderIsKeptWith at logged table.live table.next
+    pub next : table.next ≤ number
+
 -- a table that stays as it was
-same_table : (at : Site) (logged : List Held) (one other : locks.Site) → other ≡ one
-    → OrderIsKeptWith at logged one.live one.next
-    → OrderIsKeptWith at logged other.live other.next
-same_table at logged one other is order =
-    subst (λ (t : locks.Site). OrderIsKeptWith at logged t.live t.next) (sym is) order
+same_table : (number : ℕ) (at : Site) (logged : List Held) (one other : locks.Site) → other ≡ one
+    → InOrderTo number at logged one → InOrderTo number at logged other
+same_table number at logged one other is order =
+    subst (InOrderTo number at logged) (sym is) order
 
 -- After what a site did with a call, once it was informed of the news.
 pub served_order : (M : List Deed) (mail : Mail) (at : Site) (logged : List Held) (asked : Asked)
@@ -50,17 +55,22 @@ pub served_order : (M : List Deed) (mail : Mail) (at : Site) (logged : List Held
     asked.visited
     → performed_by k mid asked ≡ r → AfterPerformed asked r mid new
     → AreLiveOps mid.table.site.live at.live → IsPast (number_of is_any_perform M) at
-    → OrderIsKeptWith at logged mid.table.site.live mid.table.site.next
-    → OrderIsKeptWith (site_after_all M (Some mail) at (did_performed asked r).deeds) logged
-    new.table.site.live new.table.site.next
+    → InOrderTo (number_of is_any_perform M) at logged mid.table.site
+    → InOrderTo (number_of is_any_perform (after M (did_performed asked r).deeds))
+    (site_after_all M (Some mail) at (did_performed asked r).deeds) logged new.table.site
 served_order M mail at logged asked k mid new (performed.Done answer) body is did are past order =
-    same_table (site_after_all M (Some mail) at (did_performed asked (performed.Done answer)).deeds)
+    same_table (n + 1)
+    (site_after_all M (Some mail) at (did_performed asked (performed.Done answer)).deeds)
     logged (with_operation before asked.action asked.object asked.op) new.table.site site_is
-    (subst
-    (λ (os : List Operation). OrderIsKeptWith
-    (record at { live = at.live ++ map (λ o. record { index = n; operation = o }) os }) logged
-    (before.live ++ k_new ∷ []) (before.next + 1)) (sym called)
-    (performed_in_order n at logged before.live before.next k_new p_new are past refl refl order))
+    (record {
+      kept = subst
+          (λ (os : List Operation). OrderIsKeptWith
+          (record at { live = at.live ++ map (λ o. record { index = n; operation = o }) os }) logged
+          (before.live ++ k_new ∷ []) (before.next + 1)) (sym called)
+          (performed_in_order n at logged before.live before.next k_new p_new are past refl refl
+          order.next order.kept);
+      next = omega (arith, order.next);
+    })
   where
     before : locks.Site
     before = mid.table.site
@@ -94,7 +104,7 @@ served_order M mail at logged asked k mid new (performed.Done answer) body is di
         ∙ ap (λ (h : Option Name). site_by h before
         (with_operation before asked.action asked.object asked.op)) free
 served_order M mail at logged asked k mid new (performed.Busy u) body is did are past order =
-    same_table at logged mid.table.site new.table.site
+    same_table (number_of is_any_perform M) at logged mid.table.site new.table.site
     (did.site
     ∙ ap (λ (h : Option Name). site_by h mid.table.site
     (with_operation mid.table.site asked.action asked.object asked.op))
@@ -102,10 +112,10 @@ served_order M mail at logged asked k mid new (performed.Busy u) body is did are
     (answer_of (value mid.table.site asked.object) asked.op) u
     (served_is_granted k mid asked (performed.Busy u) is refl))) order
 served_order M mail at logged asked k mid new performed.Missed body is did are past order =
-    same_table at logged mid.table.site new.table.site did.site order
+    same_table (number_of is_any_perform M) at logged mid.table.site new.table.site did.site order
 served_order M mail at logged asked k mid new performed.Ended body is did are past order =
-    same_table at logged mid.table.site new.table.site did.site order
+    same_table (number_of is_any_perform M) at logged mid.table.site new.table.site did.site order
 served_order M mail at logged asked k mid new (performed.Again reply) body is did are past order =
-    same_table at logged mid.table.site new.table.site did.site order
+    same_table (number_of is_any_perform M) at logged mid.table.site new.table.site did.site order
 served_order M mail at logged asked k mid new (performed.Orphan reason) body is did are past order =
-    same_table at logged mid.table.site new.table.site did.site order
+    same_table (number_of is_any_perform M) at logged mid.table.site new.table.site did.site order

@@ -1,15 +1,16 @@
 -- The order of what a log holds and of what is live at the node: the invariant of both that lets a log hold one more family.
 --
 -- The lock table numbers operations as they are performed, and after a restart it counts on from the greatest number that the log holds. The
--- history numbers them through all incarnations. So the numbers differ, and their order is the same.
-use Rattle.std.specs.Prelude.{◌≡◌, ℕ, ◌<◌, nat_lt, Bool, true, false, not, List, [], ◌∷◌, ◌++◌, map, filter, reverse}
+-- history numbers them through all incarnations. So the numbers differ, and their order is the same; and the table's are never greater.
+use Rattle.std.specs.Prelude.{◌≡◌, ℕ, ◌<◌, ◌≤◌, nat_lt, Bool, true, false, not, List, [], ◌∷◌, ◌++◌, map, filter, reverse}
 use Rattle.std.specs.List.{list_any}
 use Rattle.cam_names.specs.declared.name.Name.{Name}
 use Rattle.cam_names.specs.Names.{ancestors}
 use Rattle.cam_type.specs.declared.Held.{Held}
 use Rattle.cam_event.specs.declared.Deed.{Deed}
 use Rattle.cam_event.specs.declared.Deed.TheVariants.{Secure}
-use Rattle.cam_event.specs.ByKnowledge.{Placed, Site, site}
+use Rattle.cam_event.specs.History.{number_of}
+use Rattle.cam_event.specs.ByKnowledge.{Placed, Site, deeds_of, is_any_perform, site}
 use Rattle.cam_event.specs.ByDeltas.{Received, as_carried}
 use Rattle.cam_locks.specs.declared.LiveOp.{LiveOp}
 use Rattle.cam_locks.specs.Members.{In}
@@ -34,16 +35,26 @@ AreOrdered at =
 abbrev pub AreBelow : ℕ → List (ℕ × ℕ) → Type 0
 AreBelow next at = (one : ℕ × ℕ) → In one at → one.0 < next
 
--- Of what the log holds and what is live, and each index is below the next one.
+abbrev pub AreAtMost : List (ℕ × ℕ) → Type 0
+AreAtMost at = (one : ℕ × ℕ) → In one at → one.0 ≤ one.1
+
+-- Of what the log holds and what is live; each index is below the next one, and at most its place.
 pub record OrderIsKeptWith (site : Site) (logged : List Held) (live : List LiveOp)
     (next : ℕ) : Type 0 where
   pub order : AreOrdered (held_at logged (reverse site.secured) ++ live_at live site.live)
   pub below : AreBelow next (held_at logged (reverse site.secured) ++ live_at live site.live)
+  pub at_most : AreAtMost (held_at logged (reverse site.secured) ++ live_at live site.live)
 
--- THE INVARIANT of a node's history, what its log holds, and its lock table
-abbrev pub IsInOrder : List Received → List Held → locks.Site → Type 0
-IsInOrder history logged table =
-    OrderIsKeptWith (site (map as_carried history)) logged table.live table.next
+-- how many operations the node has performed, through all incarnations
+abbrev pub performed : List Received → ℕ
+performed history = number_of is_any_perform (deeds_of (map as_carried history))
+
+-- THE INVARIANT of a node's history, what its log holds, and its lock table. The next index of the
+-- table is at most the number of operations that the node has performed.
+pub record IsInOrder (history : List Received) (logged : List Held) (table : locks.Site) : Type 0
+  where
+    pub kept : OrderIsKeptWith (site (map as_carried history)) logged table.live table.next
+    pub next : table.next ≤ performed history
 
 abbrev pub is_any_secure : Deed → Bool
 is_any_secure (Secure f s c) = true

@@ -1,10 +1,11 @@
 -- What a node's log opens as: entries from which a restart recovers what a history keeps.
-use Rattle.std.specs.Prelude.{◌≡◌, ◌⊎◌, ℕ, ◌+◌, ◌<◌, Bool, true, false, List, [], ◌∷◌, ◌++◌, Ok, Err}
+use Rattle.std.specs.Prelude.{◌≡◌, ◌⊎◌, ℕ, ◌+◌, ◌<◌, Bool, true, false, List, [], ◌∷◌, ◌++◌, length, IsTrue, Ok, Err}
 use Rattle.cam_names.specs.Dependencies.{AreCounts}
 use Rattle.cam_type.specs.declared.ObjectDecl.{ObjectDecl}
 use Rattle.cam_know.specs.Knowledge.{Knowledge}
 use Rattle.cam_know.specs.Known.{counts_raised, with_count}
 use Rattle.cam_know.specs.Invariant.{NoTwice}
+use Rattle.cam_ckpt.specs.Opening.{can_follow}
 use Rattle.cam_log.specs.Moments.{Opened}
 use Rattle.cam_locks.specs.Restored.{CanRestore}
 use Rattle.cam_recman.specs.declared.Record.{Record}
@@ -52,6 +53,16 @@ raised s r = record { count = r.count + 1; know = with_count s (r.count + 1) r.k
 abbrev pub kept_entries : Bool → List (List ℕ) → Recovered → List (List ℕ)
 kept_entries true entries kept = entry_bytes (snapshot kept) ∷ []
 kept_entries false entries kept = entries ++ entry_bytes (records.Count kept.count ∷ []) ∷ []
+
+-- Unless the list has the last number, it is the one entry of what is kept: so a log does not grow
+-- from restart to restart.
+abbrev pub IsReplaced : ℕ → Recovered → List (List ℕ) → Type 0
+IsReplaced generation kept entries =
+    IsTrue (can_follow false generation) → entries ≡ kept_entries true [] kept
+
+-- it lists one entry then
+abbrev pub HasOneEntry : ℕ → List (List ℕ) → Type 0
+HasOneEntry generation entries = IsTrue (can_follow false generation) → length entries ≡ 1
 
 -- what they say then, where the entries said this before
 abbrev pub kept_by : Bool → Recovered → Recovered → Recovered

@@ -32,7 +32,7 @@ use Rattle.cam_node.specs.Served.{CallStands}
 
 -- A log without a family is in order with the table of a node to which nothing has happened.
 abbrev pub NothingIsInOrder : Type 0
-NothingIsInOrder = (table : locks.Site) → IsInOrder [] [] table
+NothingIsInOrder = (table : locks.Site) → table.next ≡ 0 → IsInOrder [] [] table
 
 -- An event that performs and secures nothing, and is no crash: the table may have dropped operations.
 abbrev pub DroppingKeepsOrder : Type 0

@@ -22,7 +22,7 @@ use cam_names::Name;
 impl Core {
     /// An action whose home is this node asks to commit with a value. Nothing stands against the request. It fails where memory runs out, and
     /// is then as it was.
-    pub fn commit(&mut self, action: &Name, value: i64) -> Result<Stepped, NoMemory>
+    pub(crate) fn commit(&mut self, action: &Name, value: i64) -> Result<Stepped, NoMemory>
         requires { IsFree (answers self.old).actions action.now (wants.Commit value) }
         ensures step { (objects : List ObjectDecl) → IfOk result (λ stepped. IsStepThrough objects
             (answers self.old) (answers self.new)
@@ -55,7 +55,7 @@ impl Core {
 
     /// An action whose home is this node asks to abort. Nothing stands against the request. It fails where memory runs out, and is then as it
     /// was.
-    pub fn abort(&mut self, action: &Name) -> Result<Stepped, NoMemory>
+    pub(crate) fn abort(&mut self, action: &Name) -> Result<Stepped, NoMemory>
         requires { IsFree (answers self.old).actions action.now wants.Abort }
         ensures step { (objects : List ObjectDecl) → IfOk result (λ stepped. IsStepThrough objects
             (answers self.old) (answers self.new)

@@ -17,10 +17,11 @@ use std::alloc::Global;
 
 impl Core {
     /// A node, 1 to 8, over these objects, to which nothing has happened.
-    pub fn new(alloc: Global, number: u8, objects: &Objects) -> Result<Core, NoMemory>
+    pub(crate) fn new(alloc: Global, number: u8, objects: &Objects) -> Result<Core, NoMemory>
         requires { (1 ≤ number) × (number ≤ 8) }
         ensures number { IfOk result (λ core. core.number ≡ number) }
         ensures represents { IfOk result (λ core. Represents objects.now [] (answers core)) }
+        ensures next { IfOk result (λ core. (answers core).server.table.site.next ≡ 0) }
     {
         let table = LockTable::new(alloc, objects, number)?;
         Ok(Core {
@@ -35,7 +36,7 @@ impl Core {
     }
 
     /// The number of the node.
-    pub fn number(&self) -> u8
+    pub(crate) fn number(&self) -> u8
         ensures { result ≡ (answers self.now).number }
     {
         self.number

@@ -28,7 +28,7 @@ use std::alloc::Global;
 /// The log of one node. While the node is not halted, a crash leaves just its entries. A node halts where its disk failed, or had no memory,
 /// in an append; then its log is read again before the next one. Wherever the disk tells what it holds, whatever a crash leaves is read.
 #[derive(Drop)]
-pub struct NodeLog<L: CheckpointLog> {
+pub(crate) struct NodeLog<L: CheckpointLog> {
     pub(crate) alloc: Global,
     pub(crate) log: L,
     pub(crate) halted: bool,
@@ -63,7 +63,7 @@ fn append_version<L: EntryLog>(alloc: Global, log: &mut L) -> Result<(), NodeFau
 
 impl<D: Disk> NodeLog<Ckpt<D>> {
     /// Makes a disk the log of a node that has no history, whatever the disk held: its one entry is the Version record alone.
-    pub fn format(alloc: Global, disk: D) -> Result<NodeLog<Ckpt<D>>, FormatRefused<D>>
+    pub(crate) fn format(alloc: Global, disk: D) -> Result<NodeLog<Ckpt<D>>, FormatRefused<D>>
         ensures entries { IfOk result
             (λ node. ⟦<Ckpt<D> as EntryLog>⟧.listed node.log ≡ version_entry ∷ []) }
         ensures running { IfOk result (λ node. IsFalse node.halted) }
@@ -108,7 +108,7 @@ impl<D: Disk> NodeLog<Ckpt<D>> {
     }
 
     /// The disk, as it is. What a crash may leave of it opens as the log would.
-    pub fn into_disk(self) -> D
+    pub(crate) fn into_disk(self) -> D
         ensures opens { IsTrue (D.tells result) → IsFalse self.halted
             → read_ckpt (D.seen result) ≡ Opens (⟦<Ckpt<D> as EntryLog>⟧.listed self.log) }
         ensures opens_since { (t : ℕ) (image : List ℕ) → D.left_since result t image
@@ -142,7 +142,7 @@ impl<L: CheckpointLog> NodeLog<L> {
     }
 
     /// Whether the node is halted: its log has to be read again before the next append.
-    pub fn is_halted(&self) -> bool
+    pub(crate) fn is_halted(&self) -> bool
         ensures { result ≡ self.now.halted }
     {
         self.halted
@@ -160,7 +160,7 @@ impl<L: CheckpointLog> NodeLog<L> {
     /// a crash leaves a log that has the entry, and at any moment of the call one without it or with it. It wants a node that is not halted,
     /// and records that may be written where the format has version 2. The node is halted after a `DiskFault`, and after want of memory of
     /// the disk itself; after any other want of memory nothing has happened.
-    pub fn append(&mut self, records: &Records) -> Result<(), NodeFault>
+    pub(crate) fn append(&mut self, records: &Records) -> Result<(), NodeFault>
         requires running { IsFalse self.old.halted }
         requires writable { All IsWritable records.now }
         requires version { AreOf 2 records.now }
@@ -222,7 +222,7 @@ impl<L: CheckpointLog> NodeLog<L> {
 impl<L: CheckpointLog + StopLog> NodeLog<L> {
     /// Lets the disk do this many calls more, and fail each later one without doing it. It changes neither what a read of the disk gives nor
     /// what a crash may leave of it.
-    pub fn stop_after(&mut self, calls: u32)
+    pub(crate) fn stop_after(&mut self, calls: u32)
         ensures passes { L.passes self.new.log ≡ Some calls }
         ensures reads { L.reads self.new.log ≡ L.reads self.old.log }
         ensures faults_within { L.faults_within self.new.log ≡ L.faults_within self.old.log }
@@ -238,7 +238,7 @@ impl<L: CheckpointLog + StopLog> NodeLog<L> {
     }
 
     /// Lets the disk do all calls again. It changes neither what a read of the disk gives nor what a crash may leave of it.
-    pub fn clear(&mut self)
+    pub(crate) fn clear(&mut self)
         ensures passes { L.passes self.new.log ≡ None }
         ensures reads { L.reads self.new.log ≡ L.reads self.old.log }
         ensures faults_within { L.faults_within self.new.log ≡ L.faults_within self.old.log }

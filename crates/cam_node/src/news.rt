@@ -14,7 +14,11 @@ use std::alloc::Global;
 
 /// The records of what is new to a node that knew these counts, each 1 to 1,000,000,000: each outcome, in the order in which it was learnt,
 /// and each greater count, in order of nodes. `fresh` is what `cam_comman::arrive` answers: the new outcomes, and all counts.
-pub fn news_records(alloc: Global, before: &[u32; 8], fresh: &Know) -> Result<Records, NoMemory>
+pub(crate) fn news_records(
+    alloc: Global,
+    before: &[u32; 8],
+    fresh: &Know,
+) -> Result<Records, NoMemory>
     requires { AreCounts 1 before.now }
     ensures exactly { IfOk result (λ records. records ≡ news_records before.now fresh.now) }
     ensures writable { IfOk result (λ records. All IsWritable records) }

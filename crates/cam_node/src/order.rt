@@ -5,7 +5,8 @@ ghost use Rattle.cam_node.specs.PlanOrder.{PlansKeepOrder};
 
 /// What a node's log holds is in the order in which it was performed, and so is what is live behind
 /// it: at first; after an event that performs and secures nothing; after one that secures a family,
-/// of which the log holds what is live; after that of a call that came; and after a restart.
+/// of which the log holds what is live; after that of a call that came; and after a restart. The
+/// next index of the table is at most the number of the operations that the node has performed.
 pub fn orders_are_kept()
     ensures nothing { NothingIsInOrder }
     ensures dropping { DroppingKeepsOrder }

@@ -16,7 +16,7 @@ use cam_names::Name;
 
 impl Core {
     /// It asks the home of a family how the family ended. It fails where memory runs out. What is answered stays the same.
-    pub fn query(&mut self, family: &Name) -> Result<Stepped, NoMemory>
+    pub(crate) fn query(&mut self, family: &Name) -> Result<Stepped, NoMemory>
         ensures step { (objects : List ObjectDecl) → IfOk result (λ stepped. IsStepThrough objects
             (answers self.old) (answers self.new) (Queries self.old.number family.now) None no_load stepped.event) }
         ensures letters { IfOk result (λ stepped.

@@ -20,7 +20,7 @@ use cam_names::Name;
 impl Core {
     /// What stands against a request of an action, if anything does: by the tests of the rule, the first that holds. The node is the action's
     /// home. It takes no memory.
-    pub fn refusal(&self, request: &Request) -> Option<LineRefusal>
+    pub(crate) fn refusal(&self, request: &Request) -> Option<LineRefusal>
         ensures rule { (objects : List ObjectDecl)
             → IsRefusal objects (answers self.now) request.now.action request.now.want result }
         ensures value { result
@@ -41,7 +41,7 @@ impl Core {
     }
 
     /// What stands against asking the home of a family how the family ended, if anything does. It takes no memory.
-    pub fn query_refusal(&self, family: &Name) -> Option<LineRefusal>
+    pub(crate) fn query_refusal(&self, family: &Name) -> Option<LineRefusal>
         ensures { (objects : List ObjectDecl) → IsQueryRefusal objects (answers self.now) family.now result }
     {
         if self.knowing.tells(family) {

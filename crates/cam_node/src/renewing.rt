@@ -8,7 +8,7 @@ ghost use Rattle.cam_node.specs.Calls.{answers};
 ghost use Rattle.cam_node.specs.Found.{found_by, FindsBy, HasRestarted};
 ghost use Rattle.cam_node.specs.Keeping.{IsRestartHalt};
 ghost use Rattle.cam_node.specs.Log.{Logged};
-ghost use Rattle.cam_node.specs.Opened.{MayRead, OpensRestarted};
+ghost use Rattle.cam_node.specs.Opened.{HasOneEntry, MayRead, OpensRestarted};
 ghost use Rattle.cam_node.specs.Renewed.{IsRenewed, crash_of};
 ghost use Rattle.cam_node.specs.RestartLaws.{IsOfHistory};
 
@@ -132,6 +132,9 @@ impl<L: CheckpointLog> Node<L> {
             FindsBy self.old.objects self.old.core.number (answers self.old.core)
             self.old.halted_at (L.reads self.old.log.log) restarted.found) }
         ensures letters { IfOk result (λ restarted. restarted.stepped.letters ≡ []) }
+        // The log lists one entry then, unless its list has the last number that there is.
+        ensures one_entry { OnOk result
+            (HasOneEntry (L.generation self.new.log.log) (L.listed self.new.log.log)) }
         ensures runs { OnOk result (IsFalse self.new.log.halted) }
         ensures goes_on { OnOk result (self.new.halted_at ≡ None) }
         ensures halted { OnErr result (IsTrue self.new.log.halted) }

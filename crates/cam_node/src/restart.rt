@@ -11,7 +11,7 @@ ghost use Rattle.cam_recman.specs.Ranges.{IsHeld};
 ghost use Rattle.cam_recman.specs.Records.{entry_bytes};
 ghost use Rattle.cam_recman.specs.Says.{Says};
 ghost use Rattle.cam_node.specs.declared.fault.NodeFault.TheVariants.{DiskFault};
-ghost use Rattle.cam_node.specs.Opened.{is_readable, kept_entries, kept_by, raised, IsReadOrKept, CanRestart, MayRestart, OpensRestarted, Rereads};
+ghost use Rattle.cam_node.specs.Opened.{is_readable, kept_entries, kept_by, raised, IsReadOrKept, IsReplaced, CanRestart, MayRestart, OpensRestarted, Rereads};
 
 use crate::fault::NodeFault;
 use crate::log::NodeLog;
@@ -114,6 +114,8 @@ fn keep<L: CheckpointLog>(alloc: Global, log: &mut L, kept: &Recovered) -> Resul
     requires held { AllByRecursion IsHeld kept.now.held }
     ensures kept { OnOk result (L.listed log.new
         ≡ kept_entries (can_follow (L.broken log.old) (L.generation log.old)) (L.listed log.old) kept.now) }
+    // Unless the list has the last number it is replaced.
+    ensures replaced { OnOk result (IsReplaced (L.generation log.new) kept.now (L.listed log.new)) }
     ensures says { (r : Recovery) → Says (L.listed log.old) r → OnOk result (Says (L.listed log.new)
         (kept_by (can_follow (L.broken log.old) (L.generation log.old)) r kept.now)) }
     ensures whole { OnOk result (IsFalse (L.broken log.new)) }
@@ -149,7 +151,7 @@ fn raise(mut recovered: Recovered, node: u8) -> Recovered
 
 /// What a restart of a log read, and put in its place.
 #[derive(Drop)]
-pub struct Reread {
+pub(crate) struct Reread {
     /// All that is kept, with the count that is one more than the one read.
     pub kept: Recovered,
     /// The counts of the nodes that were known by what was read, the node's own among them.
@@ -166,7 +168,7 @@ impl<L: CheckpointLog> NodeLog<L> {
     /// index that stands twice or is above 499,999,999, a family that is secured twice, a commit that depends on a count above the known one
     /// of its node. A disk that does not tell what it holds is spoiled then. Over a disk of which nothing such can be read it comes only where
     /// the disk's count of faults rose. After an error the node is halted.
-    pub fn restart(&mut self, objects: &Objects, node: u8) -> Result<Reread, NodeFault>
+    pub(crate) fn restart(&mut self, objects: &Objects, node: u8) -> Result<Reread, NodeFault>
         requires node { (1 ≤ node) × (node ≤ 8) }
         ensures restarted { IfOk result (λ reread.
             Rereads objects.now node (L.tells self.old.log)
@@ -175,6 +177,9 @@ impl<L: CheckpointLog> NodeLog<L> {
         ensures read_now { IfOk result (λ reread.
             Rereads objects.now node (L.tells self.old.log)
             (λ opened. opened ≡ L.reads self.old.log) (L.listed self.new.log) reread) }
+        // Unless the log's list has the last number, what is kept is the one entry that it lists.
+        ensures replaced { IfOk result (λ reread.
+            IsReplaced (L.generation self.new.log) reread.kept (L.listed self.new.log)) }
         ensures runs { OnOk result (IsFalse self.new.halted) }
         ensures halted { OnErr result (IsTrue self.new.halted) }
         ensures unbounded { L.passes self.old.log ≡ None → L.passes self.new.log ≡ None }

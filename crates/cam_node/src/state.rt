@@ -9,7 +9,7 @@ use std::alloc::Global;
 
 /// A node without its disk: its number and count, what it knows and has noted, and its three parts.
 #[derive(Drop)]
-pub struct Core {
+pub(crate) struct Core {
     pub(crate) alloc: Global,
     pub(crate) number: u8,
     pub(crate) count: u32,

@@ -13,7 +13,7 @@ use cam_event::Body;
 
 impl Core {
     /// It tells another node, 1 to 8, what it knows. It fails where memory runs out. What is answered stays the same.
-    pub fn tell(&mut self, to: u8) -> Result<Stepped, NoMemory>
+    pub(crate) fn tell(&mut self, to: u8) -> Result<Stepped, NoMemory>
         requires { (1 ≤ to) × (to ≤ 8) }
         ensures step { (objects : List ObjectDecl) → IfOk result (λ stepped. IsStepThrough objects
             (answers self.old) (answers self.new) (Tells self.old.number to) None no_load stepped.event) }

@@ -73,4 +73,4 @@ pub log_ordered : (objects : List ObjectDecl) (s : ℕ) (hs : List Held) (gs : L
     → MayBeHeld objects s (all_held hs) → AllOrdered (beside hs gs)
 log_ordered objects s hs gs held kept may =
     all_ordered objects s (beside hs gs) (subst (λ (xs : List HeldOp). MayBeHeld objects s xs) (sym (held_beside hs gs held)) may)
-    (λ one other h k. kept one other (contained (beside hs gs) one h) (contained (beside hs gs) other k))
+    (λ one other h k. kept.order one other (contained (beside hs gs) one h) (contained (beside hs gs) other k))

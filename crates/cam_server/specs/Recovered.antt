@@ -1,5 +1,5 @@
 -- What a log held of the families that a site secured, beside the operations for which it stands.
-use Rattle.std.specs.Prelude.{◌≡◌, nat_lt, List, [], ◌∷◌, ◌++◌, Contains, zip}
+use Rattle.std.specs.Prelude.{◌≡◌, ◌≤◌, nat_lt, List, [], ◌∷◌, ◌++◌, Contains, zip}
 use Rattle.cam_names.specs.declared.name.Name.{Name}
 use Rattle.cam_type.specs.declared.Held.{Held}
 use Rattle.cam_type.specs.declared.HeldOp.{HeldOp}
@@ -29,8 +29,11 @@ beside [] ps = []
 beside (g ∷ gs) [] = []
 beside (g ∷ gs) (p ∷ ps) = zip g.ops p.1 ++ beside gs ps
 
--- of two logged operations the one that was performed first has the lesser index
-abbrev pub OrderIsKept : List (HeldOp × Placed) → Type 0
-OrderIsKept pairs =
-    (one other : HeldOp × Placed) → Contains pairs one → Contains pairs other
-    → nat_lt one.0.index other.0.index ≡ nat_lt one.1.index other.1.index
+-- Of two logged operations the one that was performed first has the lesser index. No index is above
+-- the number of the operations that were performed before: after a restart the indices go on from
+-- what the log holds, and so they may fall behind, and never get ahead.
+pub record OrderIsKept (pairs : List (HeldOp × Placed)) : Type 0 where
+  pub order :
+      (one other : HeldOp × Placed) → Contains pairs one → Contains pairs other
+      → nat_lt one.0.index other.0.index ≡ nat_lt one.1.index other.1.index
+  pub at_most : (one : HeldOp × Placed) → Contains pairs one → one.0.index ≤ one.1.index

@@ -28,7 +28,7 @@ returns-in_err-keep-clause-any_moment g c = λ tells.
     let there : IsTrue (g.L.EntryLog.tells mid) = c.read_again.ensures.tells ∙ tells in
     restart_grows_as c.args.objects.now c.args.node (g.L.EntryLog.moment old) (g.L.EntryLog.moment mid) (g.L.EntryLog.moment new)
     (g.L.EntryLog.opens_since old) (g.L.EntryLog.opens_since mid) (g.L.EntryLog.opens_since new) read c.in_ok-recovered.recovered c.raise-kept.result
-    (can_follow (g.L.EntryLog.broken mid) (g.L.CheckpointLog.generation mid)) c.raise-kept.ensures c.in_ok-recovered.ensures.says
+    (can_follow (g.L.EntryLog.broken mid) (g.L.EntryLog.generation mid)) c.raise-kept.ensures c.in_ok-recovered.ensures.says
     (c.in_ok-can_restart.ensures.0 c.if-not-branch.false) (c.in_ok-recovered.ensures.was tells)
     (λ t le is. g.met.L.EntryLog.counts_now old t (Ok read) tells le is) (c.read_again.ensures.any_moment tells)
     (c.keep.ensures.any_moment c.in_ok-recovered.recovered there c.in_ok-recovered.ensures.says)
@@ -42,7 +42,7 @@ returns-clause-any_moment g c = λ tells.
     let there : IsTrue (g.L.EntryLog.tells mid) = c.read_again.ensures.tells ∙ tells in
     restart_grows_as c.args.objects.now c.args.node (g.L.EntryLog.moment old) (g.L.EntryLog.moment mid) (g.L.EntryLog.moment new)
     (g.L.EntryLog.opens_since old) (g.L.EntryLog.opens_since mid) (g.L.EntryLog.opens_since new) read c.in_ok-recovered.recovered c.raise-kept.result
-    (can_follow (g.L.EntryLog.broken mid) (g.L.CheckpointLog.generation mid)) c.raise-kept.ensures c.in_ok-recovered.ensures.says
+    (can_follow (g.L.EntryLog.broken mid) (g.L.EntryLog.generation mid)) c.raise-kept.ensures c.in_ok-recovered.ensures.says
     (c.in_ok-can_restart.ensures.0 c.if-not-branch.false) (c.in_ok-recovered.ensures.was tells)
     (λ t le is. g.met.L.EntryLog.counts_now old t (Ok read) tells le is) (c.read_again.ensures.any_moment tells)
     (c.keep.ensures.any_moment c.in_ok-recovered.recovered there c.in_ok-recovered.ensures.says)
@@ -51,7 +51,7 @@ pub invariant_of-self-2-clause-stands : goal.invariant_of-self-2-clause-stands
 invariant_of-self-2-clause-stands g c = λ runs.
     let mid = c.read_again.new.log in
     says_readable (g.L.EntryLog.listed c.keep.new.log)
-    (kept_by (can_follow (g.L.EntryLog.broken mid) (g.L.CheckpointLog.generation mid)) c.in_ok-recovered.recovered c.raise-kept.result)
+    (kept_by (can_follow (g.L.EntryLog.broken mid) (g.L.EntryLog.generation mid)) c.in_ok-recovered.recovered c.raise-kept.result)
     (c.in_ok-keep.ensures.says c.in_ok-recovered.recovered c.in_ok-recovered.ensures.says)
 
 pub invariant_of-self-2-clause-readable : goal.invariant_of-self-2-clause-readable
@@ -59,7 +59,7 @@ invariant_of-self-2-clause-readable g c = λ opened tells left.
     let mid = c.read_again.new.log in
     ap is_readable (g.met.L.EntryLog.at_rest c.keep.new.log opened tells c.in_ok-keep.ensures.whole left)
     ∙ says_readable (g.L.EntryLog.listed c.keep.new.log)
-    (kept_by (can_follow (g.L.EntryLog.broken mid) (g.L.CheckpointLog.generation mid)) c.in_ok-recovered.recovered c.raise-kept.result)
+    (kept_by (can_follow (g.L.EntryLog.broken mid) (g.L.EntryLog.generation mid)) c.in_ok-recovered.recovered c.raise-kept.result)
     (c.in_ok-keep.ensures.says c.in_ok-recovered.recovered c.in_ok-recovered.ensures.says)
 
 pub returns-clause-restarted : goal.returns-clause-restarted
@@ -74,7 +74,7 @@ returns-clause-restarted g c =
           says = c.in_ok-recovered.ensures.says;
           can = c.in_ok-can_restart.ensures.0 c.if-not-branch.false;
           is = c.raise-kept.ensures;
-          replaced = can_follow (g.L.EntryLog.broken mid) (g.L.CheckpointLog.generation mid);
+          replaced = can_follow (g.L.EntryLog.broken mid) (g.L.EntryLog.generation mid);
           left = c.in_ok-keep.ensures.kept;
           says_now =
               c.in_ok-keep.ensures.says c.in_ok-recovered.recovered
@@ -97,7 +97,7 @@ returns-clause-read_now g c =
           says = c.in_ok-recovered.ensures.says;
           can = c.in_ok-can_restart.ensures.0 c.if-not-branch.false;
           is = c.raise-kept.ensures;
-          replaced = can_follow (g.L.EntryLog.broken mid) (g.L.CheckpointLog.generation mid);
+          replaced = can_follow (g.L.EntryLog.broken mid) (g.L.EntryLog.generation mid);
           left = c.in_ok-keep.ensures.kept;
           says_now =
               c.in_ok-keep.ensures.says c.in_ok-recovered.recovered

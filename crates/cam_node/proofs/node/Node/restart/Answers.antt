@@ -1,5 +1,5 @@
 -- A node is restarted.
-use Rattle.std.proofs.Common.{◌∙◌, IsTrue, sym, subst, rules}
+use Rattle.std.proofs.Common.{◌∙◌, ℕ, List, length, IsTrue, sym, ap, subst, rules}
 use Rattle.cam_node.specs.Calls.{answers}
 use Rattle.cam_node.specs.Keeping.{IsRestartHalt}
 use Rattle.cam_node.specs.Opened.{MayRead}
@@ -75,3 +75,8 @@ returns-in_err-reread-clause-disk_fault g c = λ of is.
     (g.L.EntryLog.opens_since log) (g.L.EntryLog.moment log) opened c.args.self.now.numbered
     (λ logged read. of logged tells read) left)
     (search rules)
+
+-- the log lists the one entry of what is kept
+pub returns-in-Ok-clause-one_entry : goal.returns-in-Ok-clause-one_entry
+returns-in-Ok-clause-one_entry g c = λ less.
+    ap (λ (entries : List (List ℕ)). length entries) (c.in_ok-reread.ensures.replaced less)
