@@ -151,6 +151,12 @@ module _ (line v : ℕ) (bodies : List (List Statement)) (old new : LinesFields)
           let each = some.keeps.lines.runs.one_each in
           omega (arith, high, each, home)
 
+      -- the node of the home runs
+      pub go_runs : is_halted old.works.halted (place + 1) ≡ false → (node : NodeFields)
+          → slice_get old.works.nodes place ≡ Some node → node.halted ≡ false
+      go_runs runs node is_node =
+          (some.keeps.lines.runs.nodes place node is_node).is_halted ∙ runs
+
       pub home_said : (script : Script) (st : Standing) (b : Bool) → IsScript script
           → KeepsLinesAtWork script st old might before
           → is_halted old.works.halted (place + 1) ≡ b → has_number st.halted (home_node a) ≡ b

@@ -1,7 +1,7 @@
 //! What stands against an input: against a request, a query, or telling a node. A query has nothing
 //! to ask where the node knows how the family ended, or has neither secured the family nor a live
 //! operation of it. A node has nothing to tell itself.
-ghost use Rattle.std.specs.Prelude.{◌≡◌, ◌||◌, List, None};
+ghost use Rattle.std.specs.Prelude.{◌≡◌, ◌||◌, List, IsFalse, None};
 ghost use Rattle.cam_type.specs.declared.ObjectDecl.{ObjectDecl};
 ghost use Rattle.cam_event.specs.Refusals.{tell_refusal};
 ghost use Rattle.cam_locks.specs.Calls.{has_family};
@@ -66,9 +66,10 @@ impl Core {
 impl<L: CheckpointLog> Node<L> {
     /// What stands against an input, if anything does: against a request by the tests of the rule,
     /// the first that holds, where the node is the action's home; and against a query, or telling a
-    /// node. It takes no memory. Of a halted node it goes by its parts, which may stand with an
-    /// event that is not told.
+    /// node. The node is not halted: the parts of one that is may stand with an event that is not
+    /// told. It takes no memory.
     pub fn refusal(&self, input: &Input) -> Option<LineRefusal>
+        requires running { IsFalse self.now.log.halted }
         ensures rule { (objects : List ObjectDecl)
             → IsRefusalOf objects (answers self.now.core) input.now result }
         ensures free { result ≡ None → IsNotRefused (answers self.now.core) input.now }

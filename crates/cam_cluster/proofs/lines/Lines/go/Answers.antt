@@ -9,7 +9,7 @@ use Rattle.cam_cluster.specs.SoFar.{LinesFields}
 use Rattle.cam_cluster.proofs.AsSeen.{lines_of, part, reads_of, works_of}
 use Rattle.cam_cluster.proofs.DisksGoOn.{goes_on_still}
 use Rattle.cam_cluster.proofs.GoLine.{go_wanting, goes_of_some, gone_line}
-use Rattle.cam_cluster.proofs.GoTests.{go_halted, go_low, go_refused, go_there, go_unbound}
+use Rattle.cam_cluster.proofs.GoTests.{go_halted, go_low, go_refused, go_runs, go_there, go_unbound}
 use Rattle.cam_cluster.proofs.PlacedNodes.{after_is, seen_there, taken_there}
 use Rattle.cam_cluster.proofs.TriedEnds.{place_of}
 use Rattle.cam_cluster.proofs.VariableEnds.{home_place}
@@ -84,6 +84,32 @@ index-requires g c =
     let item = place_of (part g.L.CheckpointLog g.L.EntryLog) c.args.self.now.works.nodes.items
     place within in
     first_of (search rules, grind (arith, common_steps, item))
+
+-- the home is not halted
+pub refusal-requires : goal.refusal-requires
+refusal-requires g c =
+    let old = lines_of g.L.CheckpointLog g.L.EntryLog c.args.self.now in
+    let might = reads_of g.L.CheckpointLog g.L.EntryLog c.args.self.now.works in
+    let at = sym c.in-Some.ensures in
+    let low = go_low c.args.line c.args.action c.args.bodies.now old old might might
+    c.args.workers.now c.requires.go c.in-Some.name at in
+    let home = sym (home_place c.home.result _ _ c.home.ensures low) in
+    let place = c.home.result.0 - 1 in
+    let within = go_there c.args.line c.args.action c.args.bodies.now old old might might
+    c.args.workers.now c.requires.go c.in-Some.name at place home in
+    let item = place_of (part g.L.CheckpointLog g.L.EntryLog) c.args.self.now.works.nodes.items
+    place within in
+    let taken = taken_there c.args.self.now.works.nodes.items place c.index.result.now item
+    c.index.ensures in
+    let seen = seen_there (part g.L.CheckpointLog g.L.EntryLog) c.args.self.now.works.nodes.items
+    place c.index.result.now taken in
+    let runs = ap (is_halted c.args.self.now.works.halted) (after_is place) ∙ sym
+    c.is_halted.ensures ∙ c.if-is_halted.false in
+    record {
+      running =
+          go_runs c.args.line c.args.action c.args.bodies.now old old might might
+          c.args.workers.now c.requires.go c.in-Some.name at place home runs _ seen;
+    }
 
 pub returns-in-Some-refusal-clause-disks : goal.returns-in-Some-refusal-clause-disks
 returns-in-Some-refusal-clause-disks g c =

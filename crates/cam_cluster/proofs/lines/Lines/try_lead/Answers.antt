@@ -41,6 +41,23 @@ index-requires g c =
     c.args.place within in
     first_of (search rules, grind (arith, common_steps, item))
 
+-- the node is not halted
+pub refusal-requires : goal.refusal-requires
+refusal-requires g c =
+    let old = lines_of g.L.CheckpointLog g.L.EntryLog c.args.self.now in
+    let might = reads_of g.L.CheckpointLog g.L.EntryLog c.args.self.now.works in
+    let within = tried_there c.args.place c.args.input.now old might c.requires.to in
+    let item = place_of (part g.L.CheckpointLog g.L.EntryLog) c.args.self.now.works.nodes.items
+    c.args.place within in
+    let taken = taken_there c.args.self.now.works.nodes.items c.args.place c.index.result.now item
+    c.index.ensures in
+    let seen = seen_there (part g.L.CheckpointLog g.L.EntryLog) c.args.self.now.works.nodes.items
+    c.args.place c.index.result.now taken in
+    let some = tried_lines (c.args.place + 1) c.args.input.now old might c.requires.to in
+    let runs = ap (is_halted c.args.self.now.works.halted) (after_is c.args.place) ∙ sym
+    c.is_halted.ensures ∙ c.if-is_halted.false in
+    record { running = (begin_may old might c.args.place some within runs _ seen).0 }
+
 pub lead-requires-clause-place : goal.lead-requires-clause-place
 lead-requires-clause-place g c =
     let old = lines_of g.L.CheckpointLog g.L.EntryLog c.args.self.now in

@@ -52,6 +52,25 @@ index-requires g c =
     place within in
     first_of (search rules, grind (arith, common_steps, item))
 
+-- the home is not halted
+pub refusal-requires : goal.refusal-requires
+refusal-requires g c =
+    let works = works_of g.L.CheckpointLog g.L.EntryLog c.args.self.now in
+    let reads = reads_of g.L.CheckpointLog g.L.EntryLog c.args.self.now in
+    let some = c.requires.home in
+    let home = sym (home_place c.home.result _ _ c.home.ensures some.placed.0) in
+    let place = c.home.result.0 - 1 in
+    let within = go_on_there c.args.name.now works reads some place home in
+    let item = place_of (part g.L.CheckpointLog g.L.EntryLog) c.args.self.now.nodes.items
+    place within in
+    let taken = taken_there c.args.self.now.nodes.items place c.index.result.now item
+    c.index.ensures in
+    let seen = seen_there (part g.L.CheckpointLog g.L.EntryLog) c.args.self.now.nodes.items
+    place c.index.result.now taken in
+    let awake = ap (is_halted c.args.self.now.halted) (after_is place) ∙ sym c.is_halted.ensures
+    ∙ c.if-is_halted.false in
+    record { running = (some.keeps.nodes place _ seen).is_halted ∙ awake }
+
 pub returns : goal.returns
 returns g c =
     let works = works_of g.L.CheckpointLog g.L.EntryLog c.args.self.now in
