@@ -29,7 +29,7 @@ use Rattle.cam_histories.specs.Counted.{HasCounted, NodesCountFew, AskedMayRun}
 use Rattle.cam_histories.proofs.Ranging.{IsQuietTest, own_once, count_number}
 
 -- a node has no more events than there are
-no_longer : (objects : List ObjectDecl) (t : List Event) (s : ℕ)
+pub no_longer : (objects : List ObjectDecl) (t : List Event) (s : ℕ)
     → length (history_of objects t s) ≤ length t
 no_longer objects [] s = omega arith
 no_longer objects (e ∷ t) s = by (eqb e.node s) (no_longer objects t s)

@@ -1,10 +1,8 @@
 //! The letters of works: each is found by its number, read from its bytes, and handed to the node to which it was sent.
-ghost use Rattle.std.specs.Prelude.{◌≡◌, ◌↔◌, [], IfOk, IfSome, IsFalse, IsTrue, MatchOption, OnErr, OnOk, Some, false, option_map, reverse, slice_get, suc};
+ghost use Rattle.std.specs.Prelude.{◌≡◌, [], IfOk, OnErr, OnOk, Some, false, option_map, reverse, suc};
 ghost use Rattle.std.specs.List.{AllByRecursion};
 ghost use Rattle.cam_event.specs.Inputs.{letter_at};
 ghost use Rattle.cam_net.specs.Waiting.{is_halted};
-ghost use Rattle.cam_node.specs.Calls.{answers};
-ghost use Rattle.cam_node.specs.Numbers.{MayStep};
 ghost use Rattle.cam_wire.specs.Writable.{IsWritable};
 ghost use Rattle.cam_cluster.specs.Coming.{AreWorksOfSome, HasArrived, HasDelivered, HasFound};
 ghost use Rattle.cam_cluster.specs.Coming.{HasRead};
@@ -120,8 +118,8 @@ impl<L: TellingLog> Works<L> {
         }
     }
 
-    /// Hands a letter to its node, which is not halted. Where memory runs out, or the node has no
-    /// number left for the operation that the letter asks for, the works keep what they kept.
+    /// Hands a letter to its node, which is not halted. Where memory runs out the works keep what
+    /// they kept; so they do where the letter goes to no node of the script.
     #[tactic(none)]
     pub(crate) fn hand_over<R: DataType, Q: DataType, C: DataType>(
         &mut self,
@@ -154,25 +152,12 @@ impl<L: TellingLog> Works<L> {
         ensures servers { AreServers R.kind Q.kind C.kind
             servers.new.register servers.new.queue servers.new.counter }
     {
-        let input = Input::Letter(coming.letter, letter);
-        if !self.has_numbers(coming.place, &input) {
+        if coming.place >= self.nodes.len() {
             return Err(NoMemory);
         }
+        let input = Input::Letter(coming.letter, letter);
         let done = self.put(line, coming.place, &input, servers)?;
         self.outbox.delivered(number);
         Ok(done)
-    }
-
-    /// Whether there is a node at a place, and it has numbers left for what an input makes.
-    #[tactic(none)]
-    fn has_numbers(&self, place: usize, input: &Input) -> bool
-        requires running { IfSome (slice_get self.now.nodes.items place) (λ node. IsFalse node.log.halted) }
-        ensures { IsTrue result ↔ MatchOption (slice_get self.now.nodes.items place) ⊥ (λ node.
-            MayStep (answers node.core) input.now) }
-    {
-        match self.nodes.get(place) {
-            Some(node) => node.may_step(input),
-            None => false,
-        }
     }
 }

@@ -1,38 +1,29 @@
 -- A letter is handed over to its node.
-use Rattle.std.proofs.Common.{sym, subst, rules}
+use Rattle.std.proofs.Common.{sym, ap, ◌∙◌, subst, rules, arith}
+use Rattle.std.proofs.lemmas.Grind.{common_steps}
+use Rattle.std.proofs.lemmas.Option.{slice_get_within}
 use Rattle.std.specs.List.{AllByRecursion}
-use Rattle.std.specs.Prelude.{slice_get}
+use Rattle.cam_net.specs.Waiting.{is_halted}
 use Rattle.cam_wire.specs.Writable.{IsWritable}
 use Rattle.cam_cluster.specs.Coming.{HasDelivered}
 use Rattle.cam_cluster.proofs.AsSeen.{part, reads_at, reads_of, tells_of, works_of}
 use Rattle.cam_cluster.proofs.DisksGoOn.{goes_on_still}
-use Rattle.cam_cluster.proofs.HandedOver.{handed, may_so, node_awake, place_within, there_so}
-use Rattle.cam_cluster.proofs.PlacedNodes.{each_there, on_err, seen_there, sees}
+use Rattle.cam_cluster.proofs.HandedOver.{handed, node_awake, place_within}
+use Rattle.cam_cluster.proofs.NumbersLeft.{letter_may_come}
+use Rattle.cam_cluster.proofs.PlacedNodes.{after_is, each_there, on_err, seen_there, sees}
 use Rattle.cam_cluster.proofs.PutWorks.{seen}
 use Rattle.cam_cluster.proofs.works.Works.hand_over.Goals as goal
 
-pub has_numbers-requires : goal.has_numbers-requires
-has_numbers-requires g c = record {
-  running =
-      each_there _ c.args.self.now.nodes.items c.args.coming.now.place (λ node at.
-      node_awake (works_of g.L.CheckpointLog g.L.EntryLog c.args.self.now)
-      (reads_of g.L.CheckpointLog g.L.EntryLog c.args.self.now) c.args.coming.now.place
-      c.requires.stand c.requires.awake _
-      (seen_there (part g.L.CheckpointLog g.L.EntryLog) c.args.self.now.nodes.items
-      c.args.coming.now.place node at));
-}
-
-pub returns-then-not-has_numbers-clause-disks : goal.returns-then-not-has_numbers-clause-disks
-returns-then-not-has_numbers-clause-disks g c =
+pub returns-then-coming-len-clause-disks : goal.returns-then-coming-len-clause-disks
+returns-then-coming-len-clause-disks g c =
     goes_on_still
 
-pub returns-then-not-has_numbers-clause-as_before :
-    goal.returns-then-not-has_numbers-clause-as_before
-returns-then-not-has_numbers-clause-as_before g c =
+pub returns-then-coming-len-clause-as_before : goal.returns-then-coming-len-clause-as_before
+returns-then-coming-len-clause-as_before g c =
     λ script st is keeps. keeps
 
-pub returns-then-not-has_numbers-clause-servers : goal.returns-then-not-has_numbers-clause-servers
-returns-then-not-has_numbers-clause-servers g c =
+pub returns-then-coming-len-clause-servers : goal.returns-then-coming-len-clause-servers
+returns-then-coming-len-clause-servers g c =
     c.requires.servers
 
 pub put-requires-clause-place : goal.put-requires-clause-place
@@ -41,20 +32,26 @@ put-requires-clause-place g c =
     (reads_of g.L.CheckpointLog g.L.EntryLog c.args.self.now) c.args.coming.now.place
     c.requires.stand
     (sees (part g.L.CheckpointLog g.L.EntryLog) c.args.self.now.nodes.items
-    c.args.coming.now.place
-    (there_so _ c.args.self.now.nodes.items c.args.coming.now.place
-    (c.has_numbers.ensures.0 c.if-not-has_numbers.false)))
+    c.args.coming.now.place (grind (arith, common_steps)))
 
 pub put-requires-clause-may : goal.put-requires-clause-may
 put-requires-clause-may g c =
-    may_so _ _ (slice_get c.args.self.now.nodes.items c.args.coming.now.place)
-    (each_there _ c.args.self.now.nodes.items c.args.coming.now.place (λ node at.
-    node_awake (works_of g.L.CheckpointLog g.L.EntryLog c.args.self.now)
-    (reads_of g.L.CheckpointLog g.L.EntryLog c.args.self.now) c.args.coming.now.place
-    c.requires.stand c.requires.awake _
-    (seen_there (part g.L.CheckpointLog g.L.EntryLog) c.args.self.now.nodes.items
-    c.args.coming.now.place node at)))
-    (c.has_numbers.ensures.0 c.if-not-has_numbers.false)
+    let works = works_of g.L.CheckpointLog g.L.EntryLog c.args.self.now in
+    let reads = reads_of g.L.CheckpointLog g.L.EntryLog c.args.self.now in
+    let place = c.args.coming.now.place in
+    let some = c.requires.stand in
+    each_there _ c.args.self.now.nodes.items place (λ node at.
+    let seen = seen_there (part g.L.CheckpointLog g.L.EntryLog) c.args.self.now.nodes.items place
+    node at in
+    let there = sees (part g.L.CheckpointLog g.L.EntryLog) c.args.self.now.nodes.items place
+    (slice_get_within c.args.self.now.nodes.items place node at) in (
+      node_awake works reads place some c.requires.awake _ seen,
+      tt,
+      letter_may_come some.script some.standing works reads some.is_script some.keeps place there
+          (ap (is_halted c.args.self.now.halted) (after_is place) ∙ c.requires.awake) _ seen
+          c.args.coming.now.letter c.args.letter
+          (c.requires.read some.script some.standing some.is_script some.keeps),
+    ))
 
 pub put-requires-clause-servers : goal.put-requires-clause-servers
 put-requires-clause-servers g c =
@@ -62,8 +59,7 @@ put-requires-clause-servers g c =
 
 pub put-requires-clause-there : goal.put-requires-clause-there
 put-requires-clause-there g c =
-    there_so _ c.args.self.now.nodes.items c.args.coming.now.place
-    (c.has_numbers.ensures.0 c.if-not-has_numbers.false)
+    grind (arith, common_steps)
 
 pub put-requires-clause-writable : goal.put-requires-clause-writable
 put-requires-clause-writable g c =
@@ -107,8 +103,7 @@ returns-clause-delivered g c =
     (place_within (works_of g.L.CheckpointLog g.L.EntryLog old)
     (reads_of g.L.CheckpointLog g.L.EntryLog old) c.args.coming.now.place c.requires.stand
     (sees (part g.L.CheckpointLog g.L.EntryLog) old.nodes.items c.args.coming.now.place
-    (there_so _ old.nodes.items c.args.coming.now.place
-    (c.has_numbers.ensures.0 c.if-not-has_numbers.false))))
+    (grind (arith, common_steps))))
     c.in_ok-done.ensures.put c.put.ensures.net)
 
 pub returns-clause-servers : goal.returns-clause-servers
