@@ -16,6 +16,8 @@ use Rattle.cam_script.specs.declared.Script.{Script}
 use Rattle.cam_script.specs.Grammar.{read_script}
 use Rattle.cam_words.specs.declared.fault.ScriptFault.{ScriptFault}
 use Rattle.cam_words.specs.declared.fault.ScriptFault.TheVariants.{Bad, NoMemory}
+use Rattle.cam_timed.specs.declared.TimedScript.{TimedScript}
+use Rattle.cam_timed.specs.TimedGrammar.{read_timed}
 use Rattle.cam_gen.specs.Script.{script_of as generated}
 use Rattle.cam_gen.proofs.AllAccepted.{each_is_accepted}
 use Rattle.cam_run.specs.declared.answer.Answer.{Answer}
@@ -25,13 +27,13 @@ use Rattle.cam_run.specs.declared.question.Question.TheVariants.{Report, Trace, 
 use Rattle.cam_run.specs.Told.{IsOfAction, IsOfStop, IsTold, has_action, stop_of, told_status}
 use Rattle.cam_image.specs.declared.fault.ImageFault.{ImageFault}
 use Rattle.cam_image.specs.declared.fault.ImageFault.TheVariants.{NotALog, BadRecord, NoMemory as NoMemoryOfImage}
-use Rattle.cam_run.specs.Commands.{Asked, IsBuilt, IsForm, IsFormFor, asked_by, asks_something, bytes_for, nothing, of_image, of_run}
+use Rattle.cam_run.specs.Commands.{Asked, IsBuilt, IsForm, IsFormFor, asked_by, asks_something, by_time, bytes_for, nothing, of_image, of_run}
 use Rattle.cam_run.specs.Image.{IsOfImage, image_status, made}
 use Rattle.cam_cluster.specs.declared.fault.RunFault.TheVariants as faults
 use Rattle.cam_run.specs.declared.status.Status.TheVariants as statuses
 use Rattle.cam_run.specs.Texts.{disk_fault_text}
 use Rattle.cam_run.specs.Disks.{IsCaused, OneFailed}
-use Rattle.cam_run.specs.Answer.{Failing, IsAnswer, IsAsked, IsOfCommand, IsOfRun, IsOfScript, asked_nodes, asked_status, command_status, nodes_for, nodes_of, status_of}
+use Rattle.cam_run.specs.Answer.{Failing, IsAnswer, IsAsked, IsOfCommand, IsOfRun, IsOfScript, IsOfTimed, IsRefused, asked_nodes, asked_status, command_status, nodes_for, nodes_of, refused_status, status_of, timed_status}
 
 -- the command that words are the form of is one alone
 command_of : Result Command ArgsFault → Command → Command
@@ -64,6 +66,8 @@ is_answer words command failing input status text form finds told = by (asked_by
         inr (command, record { form = form; built = ap asks_something is }, told)
     by (of_image making) is answer =
         inr (command, record { form = form; built = ap asks_something is }, told)
+    by by_time is answer =
+        inr (command, record { form = form; built = ap asks_something is }, told)
     by nothing is answer = inl (
       λ other.
           true≢false (sym ((built_is_form words command form finds).1 other) ∙ ap asks_something is),
@@ -91,6 +95,11 @@ told_has_status (Why event) script status text told =
     stop_status (stop_of script event) script event status text told
 told_has_status (Summary steps) script status text told = told.0
 
+refused_has_status : (fault : ScriptFault) (status : ℕ) (text : List ℕ)
+    → IsRefused fault status text → status ≡ refused_status fault
+refused_has_status (Bad line column cause) status text told = told.0
+refused_has_status NoMemory status text told = absurd told
+
 -- where no disk of the script's nodes failed
 script_has_status : (question : Question) (read : Result Script ScriptFault) (failed : ℕ → Type 0)
     (status : ℕ) (text : List ℕ)
@@ -100,8 +109,13 @@ script_has_status question (Ok script) failed status text (inl of_disk) none =
     absurd (none of_disk.one)
 script_has_status question (Ok script) failed status text (inr told) none =
     told_has_status question script status text told
-script_has_status question (Err (Bad line column cause)) failed status text told none = told.0
-script_has_status question (Err NoMemory) failed status text told none = absurd told
+script_has_status question (Err fault) failed status text told none =
+    refused_has_status fault status text told
+
+timed_has_status : (read : Result TimedScript ScriptFault) (status : ℕ) (text : List ℕ)
+    → IsOfTimed read status text → status ≡ timed_status read
+timed_has_status (Ok script) status text told = told.0
+timed_has_status (Err fault) status text told = refused_has_status fault status text told
 
 image_has_status : (read : Result (List ℕ) ImageFault) (status : ℕ) (text : List ℕ)
     → IsOfImage read status text → status ≡ image_status read
@@ -129,6 +143,8 @@ command_has_status command failing input status text told whole none =
         answer none
     by (of_image making) (inl (failed, told)) none = absurd (whole failed)
     by (of_image making) (inr answer) none = image_has_status (made making input) status text answer
+    by by_time (inl (failed, told)) none = absurd (whole failed)
+    by by_time (inr answer) none = timed_has_status (read_timed input) status text answer
     by nothing answer none = answer.0
 
 -- the answer where the disk of a node failed

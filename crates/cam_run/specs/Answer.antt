@@ -1,6 +1,6 @@
 -- What the program answers: a status and a text, by its words and by the input.
 --
--- 0 the text of the command, of the run of the script or of the image of a log
+-- 0 the text of the command, of the run of the script, of its run by time, or of the image of a log
 -- 2 the usage text, where the words are no form
 -- 3 where the script or the image is refused: the line of its first fault
 -- 4 `read fault`, where the source failed
@@ -15,10 +15,13 @@ use Rattle.cam_words.specs.declared.fault.ScriptFault.{ScriptFault}
 use Rattle.cam_words.specs.declared.fault.ScriptFault.TheVariants.{Bad, NoMemory}
 use Rattle.cam_words.specs.Causes.{cause_number}
 use Rattle.cam_script.specs.Grammar.{read_script}
+use Rattle.cam_timed.specs.declared.TimedScript.{TimedScript}
+use Rattle.cam_timed.specs.TimedGrammar.{read_timed}
+use Rattle.cam_timed.specs.TimedReport.{timed_text}
 use Rattle.cam_run.specs.declared.question.Question.{Question}
 use Rattle.cam_run.specs.Texts.{usage_text, read_fault_text, disk_fault_text, refused_text}
 use Rattle.cam_run.specs.Commands.{Asked, IsForm, IsFormFor, asked_by, bytes_for}
-use Rattle.cam_run.specs.Commands.{nothing, of_image, of_run, reads}
+use Rattle.cam_run.specs.Commands.{by_time, nothing, of_image, of_run, reads}
 use Rattle.cam_run.specs.Disks.{OneFailed}
 use Rattle.cam_run.specs.Image.{IsOfImage, image_status, made}
 use Rattle.cam_run.specs.Told.{IsTold, told_status}
@@ -51,6 +54,11 @@ abbrev pub IsOfScript : Question → Result Script ScriptFault → (ℕ → Type
 IsOfScript question (Ok script) failed status text = IsOfRun question script failed status text
 IsOfScript question (Err fault) failed status text = IsRefused fault status text
 
+-- the answer by a script by time, as the bytes spell it: the report of its run, or a refusal
+abbrev pub IsOfTimed : Result TimedScript ScriptFault → ℕ → List ℕ → Type 0
+IsOfTimed (Ok script) status text = (status ≡ 0) × (text ≡ timed_text script)
+IsOfTimed (Err fault) status text = IsRefused fault status text
+
 -- the answer where the source failed
 abbrev pub IsOfFault : ℕ → List ℕ → Type 0
 IsOfFault status text = (status ≡ 4) × (text ≡ read_fault_text)
@@ -73,6 +81,8 @@ IsAsked (of_run question) command failing input status text =
     ⊎ IsOfScript question (read_script (bytes_for command input)) failing.disk status text
 IsAsked (of_image making) command failing input status text =
     (failing.source × IsOfFault status text) ⊎ IsOfImage (made making input) status text
+IsAsked by_time command failing input status text =
+    (failing.source × IsOfFault status text) ⊎ IsOfTimed (read_timed input) status text
 IsAsked nothing command failing input status text = IsOfWords status text
 
 abbrev pub IsOfCommand : Command → Failing → List ℕ → ℕ → List ℕ → Type 0
@@ -98,22 +108,31 @@ pub record IsWritten (words : List (List ℕ)) (failing : Failing) (input : List
       × (n ≤ length text) × (after ≡ before ++ take n text)
   pub nothing : status ≡ 7 → after ≡ before
 
--- the status of a question about a script that was read, and of a command, where nothing fails
+-- the status of a script that is refused; of a question about a script that was read, of a script by
+-- time, and of a command, where nothing fails
+abbrev pub refused_status : ScriptFault → ℕ
+refused_status (Bad line column cause) = 3
+refused_status NoMemory = 7
+
 abbrev pub status_of : Question → Result Script ScriptFault → ℕ
 status_of question (Ok script) = told_status question script
-status_of question (Err (Bad line column cause)) = 3
-status_of question (Err NoMemory) = 7
+status_of question (Err fault) = refused_status fault
+
+abbrev pub timed_status : Result TimedScript ScriptFault → ℕ
+timed_status (Ok script) = 0
+timed_status (Err fault) = refused_status fault
 
 abbrev pub asked_status : Asked → Command → List ℕ → ℕ
 asked_status (of_run question) command input = status_of question (read_script (bytes_for command input))
 asked_status (of_image making) command input = image_status (made making input)
+asked_status by_time command input = timed_status (read_timed input)
 asked_status nothing command input = 2
 
 abbrev pub command_status : Command → List ℕ → ℕ
 command_status command input = asked_status (asked_by command) command input
 
--- how many nodes has the script that was read, and the one that a command runs: so many disks serve
--- its run
+-- how many nodes has the script that was read, and the one that a command runs over disks: so many
+-- of them serve its run
 abbrev pub nodes_of : Result Script ScriptFault → ℕ
 nodes_of (Ok script) = script.nodes
 nodes_of (Err fault) = 0
@@ -125,7 +144,7 @@ asked_nodes _ command input = 0
 abbrev pub nodes_for : Command → List ℕ → ℕ
 nodes_for command input = asked_nodes (asked_by command) command input
 
--- what holds of the script that a command runs, if it runs one and its bytes spell it
+-- what holds of the script that a command runs over disks, if it runs one and its bytes spell it
 abbrev pub IfAskedRuns : Asked → Command → List ℕ → (Script → Type 0) → Type 0
 IfAskedRuns (of_run question) command input R = IfOk (read_script (bytes_for command input)) R
 IfAskedRuns _ command input R = Unit {0}

@@ -1,7 +1,8 @@
--- The commands that are built: what each asks, of the run of a script or of the image of a log, and where its bytes come from.
+-- The commands that are built: what each asks, of the run of a script, of the run by time of one, or of the image of a log, and where its bytes
+-- come from.
 use Rattle.std.specs.Prelude.{◌≡◌, ℕ, Bool, true, false, List}
 use Rattle.cam_args.specs.declared.Command.{Command}
-use Rattle.cam_args.specs.declared.Command.TheVariants.{Run, Trace, Witness, Gen, Inspect, Upgrade, Why}
+use Rattle.cam_args.specs.declared.Command.TheVariants.{Run, Trace, Witness, Gen, Inspect, Upgrade, Why, Timed}
 use Rattle.cam_args.specs.Forms.{IsForm as IsFormOf}
 use Rattle.cam_gen.specs.Script.{script_of as generated}
 use Rattle.cam_run.specs.declared.question.Question.{Question}
@@ -9,10 +10,11 @@ use Rattle.cam_run.specs.declared.question.Question.TheVariants as questions
 use Rattle.cam_run.specs.declared.image.Making.{Making}
 use Rattle.cam_run.specs.declared.image.Making.TheVariants as makings
 
--- what is asked of the run of a script or of the image of a log; nothing by a command that is not built
+-- what is asked: of the run of a script, of the image of a log, or the report of a run by time; nothing by a command that is not built
 pub data Asked : Type 0 where
   of_run : Question → Asked
   of_image : Making → Asked
+  by_time : Asked
   nothing : Asked
 
 abbrev pub asked_by : Command → Asked
@@ -23,6 +25,7 @@ asked_by (Why event) = of_run (questions.Why event)
 asked_by (Gen seed size) = of_run (questions.Summary size)
 asked_by Inspect = of_image makings.Text
 asked_by Upgrade = of_image makings.Version2
+asked_by Timed = by_time
 asked_by _ = nothing
 
 abbrev pub asks_something : Asked → Bool
@@ -37,7 +40,7 @@ abbrev pub bytes_for : Command → List ℕ → List ℕ
 bytes_for (Gen seed size) input = generated seed size
 bytes_for _ input = input
 
--- whether a command runs a script
+-- whether a command runs a script over disks
 abbrev pub asks_of_run : Asked → Bool
 asks_of_run (of_run question) = true
 asks_of_run _ = false
@@ -53,6 +56,7 @@ reads (Witness a) = true
 reads (Why event) = true
 reads Inspect = true
 reads Upgrade = true
+reads Timed = true
 reads _ = false
 
 -- the words are the form of this command, which is built
@@ -64,7 +68,7 @@ pub record IsFormFor (words : List (List ℕ)) (command : Command) : Type 0 wher
 abbrev pub IsForm : List (List ℕ) → Type 0
 IsForm words = (command : Command) × IsFormFor words command
 
--- the words are the form of a command that runs a script
+-- the words are the form of a command that runs a script over disks
 abbrev pub Runs : List (List ℕ) → Type 0
 Runs words = (command : Command) × IsFormOf words command × (runs command ≡ true)
 

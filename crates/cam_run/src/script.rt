@@ -2,6 +2,8 @@
 ghost use Rattle.std.specs.Prelude.{◌≡◌, ◌≤◌, ◌⊎◌, [], IfOk, drop, length};
 ghost use Rattle.cam_base.specs.Causes.{Rose};
 ghost use Rattle.cam_base.specs.Told.{IfTold};
+ghost use Rattle.cam_words.specs.declared.cause.Cause.TheVariants as causes;
+ghost use Rattle.cam_words.specs.declared.fault.ScriptFault.TheVariants.{Bad};
 ghost use Rattle.cam_gen.specs.Script.{script_of as generated};
 ghost use Rattle.cam_cluster.specs.HandedBack.{AreHandedBack};
 ghost use Rattle.cam_cluster.specs.Servers.{AreServers};
@@ -63,14 +65,7 @@ pub(crate) fn of_source<S: Source, D: TellingDisk, R: DataType, Q: DataType, C: 
 {
     match read_all(alloc, source, MOST_BYTES) {
         Ok(bytes) => of_bytes(alloc, question, &bytes, disks, servers),
-        Err(ReadFault::TooLarge) => refusal(
-            alloc,
-            ScriptFault::Bad {
-                line: 1,
-                column: 1,
-                cause: Cause::TooLong,
-            },
-        ),
+        Err(ReadFault::TooLarge) => too_long(alloc),
         Err(ReadFault::Failed) => read_fault(alloc),
         Err(ReadFault::NoMemory) => Err(NoMemory),
     }
@@ -150,8 +145,24 @@ fn of_bytes<D: TellingDisk, R: DataType, Q: DataType, C: DataType>(
     }
 }
 
+/// The answer to a script of more bytes than one may have.
+pub(crate) fn too_long(alloc: Global) -> Result<Answer, NoMemory>
+    ensures answer { IfOk result
+        (λ a. IsRefused (Bad 1 1 causes.TooLong) (number a.status) a.text.items) }
+    ensures status { IfOk result (λ a. a.status ≡ statuses.Refused) }
+{
+    refusal(
+        alloc,
+        ScriptFault::Bad {
+            line: 1,
+            column: 1,
+            cause: Cause::TooLong,
+        },
+    )
+}
+
 /// The answer to a script with this first fault.
-fn refusal(alloc: Global, fault: ScriptFault) -> Result<Answer, NoMemory>
+pub(crate) fn refusal(alloc: Global, fault: ScriptFault) -> Result<Answer, NoMemory>
     ensures answer { IfOk result
         (λ a. IsRefused fault (number a.status) a.text.items) }
     ensures status { IfOk result (λ a. a.status ≡ statuses.Refused) }

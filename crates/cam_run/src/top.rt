@@ -9,6 +9,8 @@ ghost use Rattle.cam_cluster.specs.Servers.{AreServers};
 ghost use Rattle.cam_headline.specs.Headline.{HasOneRun};
 ghost use Rattle.cam_image.specs.Laws.{UpgradeIsMigration, UpgradeIsOnce};
 ghost use Rattle.cam_script.specs.Grammar.{read_script};
+ghost use Rattle.cam_timed.specs.TimedGrammar.{read_timed};
+ghost use Rattle.cam_timed.specs.TimedHeadline.{HasTimedRun};
 ghost use Rattle.cam_run.specs.declared.status.Status.TheVariants as statuses;
 ghost use Rattle.cam_run.specs.Status.{number};
 ghost use Rattle.cam_run.specs.Told.{IsTelling, MayAnswer};
@@ -21,6 +23,7 @@ use crate::image::{Making, of_image};
 use crate::question::Question;
 use crate::script::{of_seed, of_source};
 use crate::status::Status;
+use crate::timed::of_timed;
 use cam_args::{ArgsFault, Command, read_words};
 use cam_base::NoMemory;
 use cam_cluster::Servers;
@@ -31,14 +34,15 @@ use std::alloc::Global;
 
 /// Does what the words say, and writes its text to the sink. `run`, `trace`, `witness NAME` and `why EVENT` read a script from the
 /// source and tell of its run; `gen SEED SIZE` reads nothing, and tells of the run of the script that is made from the seed. Such a run
-/// is over the first of the disks, one for each node of the script, which are formatted; the others stay as they are. `inspect` and
-/// `upgrade` read the image of a log: the one tells its records, the other writes the image of the same log in version 2.
+/// is over the first of the disks, one for each node of the script, which are formatted; the others stay as they are. `timed` reads a
+/// script by time, and reports its run, which has no disks. `inspect` and `upgrade` read the image of a log: the one tells its records, the
+/// other writes the image of the same log in version 2.
 ///
 /// The answer is the status of the program: 0 the text of the command was written; 2 the words are no form; 3 the script or the image was
 /// refused; 4 the source failed; 5 the sink failed, and a prefix of the text was written; 6 a disk failed by itself, in a run; 7 out of
 /// memory, and nothing was written; 8 the run has no such action, or no such stop. The text is made whole before the first write. What
-/// the run of each accepted script owes is told in `docs/HEADLINE.md`.
-#[tactic(auto, using(cam_headline::proofs::Whole::headline_holds, cam_image::proofs::Again::upgrade_is_migration, cam_image::proofs::Again::upgrade_is_once))]
+/// the run of each accepted script owes is told in `docs/HEADLINE.md`, and the rules of runs by time in `docs/RUNS-BY-TIME.md`.
+#[tactic(auto, using(cam_headline::proofs::Whole::headline_holds, cam_timed::proofs::TimedWhole::timed_headline_holds, cam_image::proofs::Again::upgrade_is_migration, cam_image::proofs::Again::upgrade_is_once))]
 pub fn camelot<S: Source, K: Sink, D: TellingDisk, R: DataType, Q: DataType, C: DataType>(
     alloc: Global,
     words: &[String],
@@ -92,6 +96,10 @@ pub fn camelot<S: Source, K: Sink, D: TellingDisk, R: DataType, Q: DataType, C: 
         (command : Commands) → IsFormFor (map string_bytes words.now) command
         → (result ≡ 0) ⊎ (result ≡ 8) → IfRuns command input (λ script.
         LeavesDisks D.tells D.moment D.left_since script disks.new.items)) }
+
+    // Of every script by time that is accepted: its run keeps the rules of runs by time; each action in it, whatever became of its
+    // ancestors, has its view in a legal execution in which it is no orphan; and committed top actions replay serially in commit order.
+    ensures headline_by_time { (input : List ℕ) → IfOk (read_timed input) HasTimedRun }
 
     // Of every image that is upgraded: what is written is the migrated log, of which just that is recovered which was recovered of the
     // image; and upgraded again it is left as it is, unless it is then longer than an image may be.
@@ -232,6 +240,7 @@ fn obey<S: Source, D: TellingDisk, R: DataType, Q: DataType, C: DataType>(
         Command::Gen { seed, size } => of_seed(alloc, *seed, *size, disks, servers),
         Command::Inspect => of_image(alloc, Making::Text, source),
         Command::Upgrade => of_image(alloc, Making::Version2, source),
-        Command::Storm { .. } | Command::Timed => usage(alloc),
+        Command::Timed => of_timed(alloc, source),
+        Command::Storm { .. } => usage(alloc),
     }
 }
