@@ -1,10 +1,13 @@
 -- A body that is given to an action, and its coming into the table.
-use Rattle.std.proofs.Common.{◌≡◌, ◌⊎◌, inl, inr, ℕ, zero, suc, ◌<◌, ◌+◌, cond}
+use Rattle.std.proofs.Common.{◌≡◌, ◌⊎◌, inl, inr, ℕ, zero, suc, ◌<◌, ◌≤◌, ◌+◌, true, cond}
 use Rattle.std.proofs.Common.{List, [], ◌∷◌, ◌++◌, length, take, Some, None, refl, sym, ap, ◌∙◌, arith, subst}
 use Rattle.std.specs.Prelude.{slice_get}
 use Rattle.std.specs.Ordering.{is_eq}
-use Rattle.std.specs.BTreeMap.{BTreeMap, IsOrdered, get, insert_entry, keys}
-use Rattle.std.specs.Map.{keys_of}
+use Rattle.std.specs.BTreeMap.{BTreeMap, IsOrdered, Updates, get, insert_entry, is_at, keys}
+use Rattle.std.specs.BTreeSet as sets
+use Rattle.std.specs.BTreeSet.{contains}
+use Rattle.std.specs.List.Sorted.{IsStrictlySortedBy}
+use Rattle.std.specs.Map.{keys_of, lookup}
 use Rattle.std.proofs.lemmas.List.{length-append, take-append-le, take_all, take_more}
 use Rattle.std.proofs.lemmas.Option.{get_or_from_slice_get, same_Some, slice_get_within}
 use Rattle.cam_names.specs.declared.name.Name.{Name}
@@ -16,7 +19,9 @@ use Rattle.cam_runs.specs.Standing.{Standing}
 use Rattle.cam_cluster.specs.declared.workers.Workers.{Workers}
 use Rattle.cam_cluster.specs.ActionViews.{HasSeen}
 use Rattle.cam_cluster.specs.Workers.{AreWorkers, IsOnceEach, IsTableOf, first_events}
-use Rattle.cam_cluster.proofs.InOrder.{body_number_more, in_order_more, insert_is_put}
+use Rattle.cam_cluster.proofs.InOrder.{body_number_more, has_body, in_order_more}
+use Rattle.cam_cluster.proofs.InOrder.{insert_is_put}
+use Rattle.cam_cluster.proofs.Playing.{given_playing, one_plays, same_playing}
 
 -- what stands in a list with one element more behind it
 behind_last : {X : Type 0} (xs : List X) (x : X) (i : ℕ) (y : X)
@@ -50,10 +55,10 @@ once_more given a body once bare i p there =
 -- A body more is given.
 pub one_given : (st : Standing) (a : Name) (body : ℕ) (old new : Workers)
     → new.given.items ≡ old.given.items ++ (a, body) ∷ [] → new.placed ≡ old.placed
-    → new.bodies ≡ old.bodies → new.seen ≡ old.seen → new.events ≡ old.events
-    → body_number st.running.bodies a ≡ None → AreWorkers st old
+    → new.bodies ≡ old.bodies → new.playing ≡ old.playing → new.seen ≡ old.seen
+    → new.events ≡ old.events → body_number st.running.bodies a ≡ None → AreWorkers st old
     → AreWorkers (given_body (Some body) (Some a) st) new
-one_given st a body old new all placed bodies seen events bare are = record {
+one_given st a body old new all placed bodies playing seen events bare are = record {
   given = record {
     all = all ∙ ap (λ (ps : List (Name × ℕ)). ps ++ (a, body) ∷ []) are.given.all;
     once = once_more st.running.bodies a body are.given.once bare;
@@ -71,10 +76,25 @@ one_given st a body old new all placed bodies seen events bare are = record {
         ∙ take-append-le old.placed st.running.bodies ((a, body) ∷ []) are.given.within))
         are.given.table);
   };
+  playing =
+      same_playing (given_body (Some body) (Some a) st) old new bodies playing
+      (given_playing st a body old bare are.playing);
   within = let within = are.within in omega (arith, within, events);
   seen =
       subst (λ s. HasSeen (first_events new.events st.running.trace) s) (sym seen)
       (subst (λ n. HasSeen (first_events n st.running.trace) old.seen) (sym events) are.seen);
+}
+
+-- a table with the same entries is one of the same bodies
+same_table : (given : List (Name × ℕ)) (old new : BTreeMap Name ℕ) → new.entries ≡ old.entries
+    → IsTableOf given old → IsTableOf given new
+same_table given old new entries is = record {
+  names = ap keys_of entries ∙ is.names;
+  ordered =
+      subst (λ (es : List (Name × ℕ)). IsStrictlySortedBy name_cmp (keys_of es)) (sym entries)
+      is.ordered;
+  at = λ a.
+      ap (λ (es : List (Name × ℕ)). lookup (is_at (name_cmp a)) es) entries ∙ is.at a;
 }
 
 -- The next of the bodies that were given comes into the table.
@@ -101,32 +121,67 @@ one_placed given i p old new once there within table names ordered put =
           ∙ sym (body_number_more (take i given) p.0 p.1 q bare);
     })
 
-pub placed_more : (st : Standing) (old new : Workers) (p : Name × ℕ)
-    → slice_get old.given.items old.placed ≡ Some p → new.given.items ≡ old.given.items
-    → new.placed ≡ old.placed + 1
-    → keys new.bodies ≡ keys_of (insert_entry name_cmp old.bodies.entries p.0 p.1)
-    → IsOrdered name_cmp new.bodies
-    → ((q : Name) → get name_cmp new.bodies q
-    ≡ cond (is_eq (name_cmp p.0 q)) (Some p.1) (get name_cmp old.bodies q))
-    → new.seen ≡ old.seen → new.events ≡ old.events → AreWorkers st old → AreWorkers st new
-placed_more st old new p at items one_more names ordered put seen events are = record {
-  given = record {
-    all = items ∙ are.given.all;
-    once = are.given.once;
-    within = omega (arith, within, one_more);
-    table =
-        subst (λ n. IsTableOf (take n st.running.bodies) new.bodies) (sym one_more)
-        (one_placed st.running.bodies old.placed p old.bodies new.bodies are.given.once there within
-        are.given.table names ordered put);
-  };
-  within = let fits = are.within in omega (arith, fits, events);
-  seen =
-      subst (λ s. HasSeen (first_events new.events st.running.trace) s) (sym seen)
-      (subst (λ n. HasSeen (first_events n st.running.trace) old.seen) (sym events) are.seen);
-}
-  where
-    there : slice_get st.running.bodies old.placed ≡ Some p
-    there = ap (λ (ps : List (Name × ℕ)). slice_get ps old.placed) (sym are.given.all) ∙ at
+module _ (st : Standing) (old new : Workers) (p : Name × ℕ)
+    (at : slice_get old.given.items old.placed ≡ Some p)
+    (items : new.given.items ≡ old.given.items)
+    (playing_ordered : sets.IsOrdered name_cmp new.playing)
+    (plays : (q : Name) → contains name_cmp new.playing q
+    ≡ cond (is_eq (name_cmp p.0 q)) true (contains name_cmp old.playing q))
+    (seen : new.seen ≡ old.seen) (events : new.events ≡ old.events) (are : AreWorkers st old) where
+  there : slice_get st.running.bodies old.placed ≡ Some p
+  there = ap (λ (ps : List (Name × ℕ)). slice_get ps old.placed) (sym are.given.all) ∙ at
 
-    within : old.placed < length st.running.bodies
-    within = slice_get_within st.running.bodies old.placed p there
+  within : old.placed < length st.running.bodies
+  within = slice_get_within st.running.bodies old.placed p there
+
+  still_within : new.events ≤ length st.running.trace
+  still_within = let fits = are.within in omega (arith, fits, events)
+
+  still_seen : HasSeen (first_events new.events st.running.trace) new.seen
+  still_seen =
+      subst (λ s. HasSeen (first_events new.events st.running.trace) s) (sym seen)
+      (subst (λ n. HasSeen (first_events n st.running.trace) old.seen) (sym events) are.seen)
+
+  -- It plays on already;
+  pub plays_first : new.placed ≡ old.placed → new.bodies.entries ≡ old.bodies.entries
+      → AreWorkers st new
+  plays_first placed entries = record {
+    given = record {
+      all = items ∙ are.given.all;
+      once = are.given.once;
+      within = let fits = are.given.within in omega (arith, fits, placed);
+      table =
+          subst (λ n. IsTableOf (take n st.running.bodies) new.bodies) (sym placed)
+          (same_table (take old.placed st.running.bodies) old.bodies new.bodies entries
+          are.given.table);
+    };
+    playing =
+        one_plays st p.0 old new (has_body st.running.bodies old.placed p there) playing_ordered
+        plays
+        (λ q other. ap (λ (es : List (Name × ℕ)). lookup (is_at (name_cmp q)) es) entries)
+        are.playing;
+    within = still_within;
+    seen = still_seen;
+  }
+
+  -- then it is in the table.
+  pub placed_more : new.placed ≡ old.placed + 1
+      → keys new.bodies ≡ keys_of (insert_entry name_cmp old.bodies.entries p.0 p.1)
+      → IsOrdered name_cmp new.bodies → Updates name_cmp old.bodies new.bodies p.0 (Some p.1)
+      → AreWorkers st new
+  placed_more one_more names ordered put = record {
+    given = record {
+      all = items ∙ are.given.all;
+      once = are.given.once;
+      within = omega (arith, within, one_more);
+      table =
+          subst (λ n. IsTableOf (take n st.running.bodies) new.bodies) (sym one_more)
+          (one_placed st.running.bodies old.placed p old.bodies new.bodies are.given.once there
+          within are.given.table names ordered put.0);
+    };
+    playing =
+        one_plays st p.0 old new (has_body st.running.bodies old.placed p there) playing_ordered
+        plays put.2 are.playing;
+    within = still_within;
+    seen = still_seen;
+  }

@@ -1,12 +1,14 @@
 -- The names of the actions that work at a body, in order, and the table of them.
-use Rattle.std.proofs.Common.{◌≡◌, inl, inr, ℕ, Bool, true, false, if◌then◌else◌, cond}
+use Rattle.std.proofs.Common.{◌≡◌, inl, inr, ℕ, zero, suc, Bool, true, false, if◌then◌else◌, cond}
 use Rattle.std.proofs.Common.{List, [], ◌∷◌, ◌++◌, Some, None, refl, sym, ap, ◌∙◌, subst}
+use Rattle.std.specs.Prelude.{is_some, slice_get}
 use Rattle.std.specs.Ordering.{is_eq, is_lt, match_ordering}
 use Rattle.std.specs.declared.cmp.Ordering.{Ordering}
 use Rattle.std.specs.declared.cmp.Ordering.TheVariants.{Less, Equal, Greater}
 use Rattle.std.specs.BTreeMap.{insert_entry, is_at}
 use Rattle.std.specs.Map.{keys_of, lookup}
 use Rattle.std.proofs.lemmas.Bool.{cases_Bool, true≢false}
+use Rattle.std.proofs.lemmas.Option.{same_Some}
 use Rattle.cam_names.specs.declared.name.Name.{Name}
 use Rattle.cam_names.specs.Names.{name_cmp, name_eq, name_lt}
 use Rattle.cam_names.proofs.Names.{name_eq_same, name_eq_refl, name_ties}
@@ -104,6 +106,20 @@ body_number_more (p ∷ ps) a body q bare =
           ∙ ap (λ o. cond (is_eq (name_cmp a q)) (Some body) o)
           (sym (ap (λ t. if t then Some p.1 else body_number ps q) other))
     ]
+
+-- an action that was given a body has one
+pub has_body : (given : List (Name × ℕ)) (i : ℕ) (p : Name × ℕ) → slice_get given i ≡ Some p
+    → is_some (body_number given p.0) ≡ true
+has_body [] i p there = cc
+has_body (e ∷ given) zero p there =
+    ap (λ t. is_some (if t then Some e.1 else body_number given p.0))
+    (ap (λ (q : Name × ℕ). name_eq e.0 q.0) (sym (same_Some e p there)) ∙ name_eq_refl e.0)
+has_body (e ∷ given) (suc i) p there = by (name_eq e.0 p.0) (has_body given i p there)
+  where
+    by : (t : Bool) → is_some (body_number given p.0) ≡ true
+        → is_some (if t then Some e.1 else body_number given p.0) ≡ true
+    by true rest = refl
+    by false rest = rest
 
 -- a name that has no entry comes to its place among the keys
 pub insert_is_put : (es : List (Name × ℕ)) (a : Name) (body : ℕ)

@@ -1,10 +1,10 @@
 -- What inputs make that are put one after another, where actions work at bodies.
-use Rattle.std.proofs.Common.{◌≡◌, ℕ, ◌+◌, false, List, [], ◌∷◌, ◌++◌, length, sym}
+use Rattle.std.proofs.Common.{◌≡◌, ℕ, ◌+◌, Bool, false, List, [], ◌∷◌, ◌++◌, length, sym}
 use Rattle.std.proofs.Common.{subst, arith}
 use Rattle.std.proofs.lemmas.List.{append-nil}
 use Rattle.cam_node.specs.Log.{Logged}
 use Rattle.cam_runs.specs.Halts.{Halting, accepted, given}
-use Rattle.cam_runs.specs.Standing.{Setting, Standing}
+use Rattle.cam_runs.specs.Standing.{Standing}
 use Rattle.cam_script.specs.declared.Script.{Script}
 use Rattle.cam_script.specs.declared.Statement.{Statement}
 use Rattle.cam_script.specs.Law.{IsScript}
@@ -91,15 +91,17 @@ made_wanting making line bodies old mid new might mays may before during after s
 -- What makes the same of each run that was kept was made too.
 abbrev pub made_as : (one other : Making) (line : ℕ) (bodies : List (List Statement))
     (old new : WorksFields) (might may : ℕ → Logged → Type 0) (before after : Workers)
-    → ((script : Script) (c : Setting) (st : Standing) → KeepsAtWork script st old might before
-    → one c script.bodies st ≡ other c script.bodies st)
+    → ((script : Script) (halts : Halting) (restarted : ℕ → Bool) (st : Standing)
+    → KeepsAtWork script st old might before
+    → one (held_setting script.objects halts line restarted) script.bodies st
+    ≡ other (held_setting script.objects halts line restarted) script.bodies st)
     → HaveMade one line bodies old might before new may after
     → HaveMade other line bodies old might before new may after
 made_as one other line bodies old new might may before after same some = record {
   ends = some.ends;
   made = λ script st halts restarted is bodies_are keeps said.
       subst (λ (z : Standing). HaveBeenPut script st z some.ends new may after)
-      (same script (held_setting script.objects halts line restarted) st keeps)
+      (same script halts restarted st keeps)
       (some.made script st halts restarted is bodies_are keeps said);
 }
 

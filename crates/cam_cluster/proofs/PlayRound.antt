@@ -121,7 +121,8 @@ module _ (line : ℕ) (bodies : List (List Statement)) (old mid new : WorksField
         made_as (λ c bs st. deliveries c (length has.ends) (all_turns c bs st))
         (round_part (length (in_order before.given.items)) (length has.ends)) line bodies old new
         might may before after
-        (λ script c st keeps.
+        (λ script halts restarted st keeps.
+        let c = held_setting script.objects halts line restarted in
         ap (λ ns. deliveries c (length has.ends) (go_in_round c script.bodies ns st))
         (sym (take_all (length (in_order before.given.items)) (in_order st.running.bodies)
         (let same = ap (λ given. length (in_order given)) keeps.workers.given.all in

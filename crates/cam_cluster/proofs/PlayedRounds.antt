@@ -85,7 +85,9 @@ module _ (n line : ℕ) (bodies : List (List Statement)) (old mid new : WorksFie
         made =
             made_as (λ c bs st. round c bs (rounds_whole c bs n st)) (whole_rounds (suc n)) line
             bodies old new might may before after
-            (λ script c st keeps. one_more c script.bodies n st) (both one.made);
+            (λ script halts restarted st keeps.
+            one_more (held_setting script.objects halts line restarted) script.bodies n st)
+            (both one.made);
         each = λ script st halts restarted is bodies_are keeps said.
             let c = held_setting script.objects halts line restarted in
             let behind = one_behind one.made script st halts restarted is bodies_are keeps said in

@@ -122,7 +122,8 @@ module _ (line : ℕ) (names : List Name) (bodies : List (List Statement))
       made_as
       (λ c bs st. go_in_round c bs (a ∷ []) (go_in_round c bs names st))
       (turns_of (names ++ a ∷ [])) line bodies old new might may before after
-      (λ script c st keeps. one_more c script.bodies a names st)
+      (λ script halts restarted st keeps.
+      one_more (held_setting script.objects halts line restarted) script.bodies a names st)
       (made_on (turns_of names) (turns_of (a ∷ [])) line bodies old mid new might mays may before
       during after some (one_turn line a bodies mid new mays may during after end has))
 

@@ -1,15 +1,23 @@
 -- The actions that work at a body, as they are kept while events come and are taken in.
-use Rattle.std.proofs.Common.{◌≡◌, ℕ, ◌≤◌, ◌+◌, ◌-◌, List, [], ◌++◌, length, take}
-use Rattle.std.proofs.Common.{drop, reverse, length-drop, sym, ap, ◌∙◌, subst, arith}
-use Rattle.std.specs.BTreeMap.{BTreeMap}
+use Rattle.std.proofs.Common.{◌≡◌, ℕ, ◌≤◌, ◌+◌, ◌-◌, true, false, cond, List, [], ◌++◌, length}
+use Rattle.std.proofs.Common.{take, drop, reverse, length-drop, sym, ap, ◌∙◌, subst, arith}
+use Rattle.std.specs.BTreeMap as maps
+use Rattle.std.specs.BTreeMap.{BTreeMap, IsOrdered, is_at}
+use Rattle.std.specs.BTreeSet as sets
+use Rattle.std.specs.BTreeSet.{contains}
+use Rattle.std.specs.Ordering.{is_eq}
+use Rattle.std.specs.Map.{keys_of, lookup}
 use Rattle.std.proofs.lemmas.List.{length-append, length-reverse, reverse-append, reverse-reverse}
 use Rattle.std.proofs.lemmas.List.{take-append-drop, take-append-le, take_all}
 use Rattle.cam_names.specs.declared.name.Name.{Name}
+use Rattle.cam_names.specs.Names.{name_cmp}
 use Rattle.cam_event.specs.declared.Event.{Event}
 use Rattle.cam_runs.specs.Standing.{Standing}
 use Rattle.cam_cluster.specs.declared.workers.Workers.{Workers}
 use Rattle.cam_cluster.specs.ActionViews.{HasSeen}
-use Rattle.cam_cluster.specs.Workers.{AreWorkers, HaveCaughtUp, IsGiven, IsTableOf, first_events}
+use Rattle.cam_cluster.specs.Workers.{AreWorkers, IsGiven, IsTableOf, first_events}
+use Rattle.cam_cluster.specs.Over.{is_over}
+use Rattle.cam_cluster.proofs.Playing.{none_playing, one_passed_over, playing_stay, same_playing}
 
 -- all events are the first ones, as many as there are
 pub all_first : (t : List Event) → first_events (length t) t ≡ t
@@ -43,6 +51,7 @@ pub workers_stay : (old new : Standing) (workers : Workers) (more : List Event)
     → AreWorkers old workers → AreWorkers new workers
 workers_stay old new workers more bodies trace are = record {
   given = subst (λ (given : List (Name × ℕ)). IsGiven given workers) (sym bodies) are.given;
+  playing = playing_stay old new workers more bodies trace are.playing;
   within =
       let within = are.within in
       let long : length new.running.trace ≡ length more + length old.running.trace =
@@ -80,10 +89,27 @@ same_given given old new items placed bodies is = record {
 
 -- The same workers stand, with room for more.
 pub same_workers : (st : Standing) (old new : Workers) → new.given.items ≡ old.given.items
-    → new.placed ≡ old.placed → new.bodies ≡ old.bodies → new.seen ≡ old.seen
-    → new.events ≡ old.events → AreWorkers st old → AreWorkers st new
-same_workers st old new items placed bodies seen events are = record {
+    → new.placed ≡ old.placed → new.bodies ≡ old.bodies → new.playing ≡ old.playing
+    → new.seen ≡ old.seen → new.events ≡ old.events → AreWorkers st old → AreWorkers st new
+same_workers st old new items placed bodies playing seen events are = record {
   given = same_given st.running.bodies old new items placed bodies are.given;
+  playing = same_playing st old new bodies playing are.playing;
+  within = let within = are.within in omega (arith, within, events);
+  seen =
+      subst (λ s. HasSeen (first_events new.events st.running.trace) s) (sym seen)
+      (subst (λ n. HasSeen (first_events n st.running.trace) old.seen) (sym events) are.seen);
+}
+
+-- One that is over does not play on.
+pub passed_over : (st : Standing) (a : Name) (old new : Workers)
+    → new.given.items ≡ old.given.items → new.placed ≡ old.placed → new.bodies ≡ old.bodies
+    → new.seen ≡ old.seen → new.events ≡ old.events → sets.IsOrdered name_cmp new.playing
+    → ((q : Name) → contains name_cmp new.playing q
+    ≡ cond (is_eq (name_cmp a q)) false (contains name_cmp old.playing q))
+    → is_over st.running.trace a ≡ true → AreWorkers st old → AreWorkers st new
+passed_over st a old new items placed bodies seen events ordered taken over are = record {
+  given = same_given st.running.bodies old new items placed bodies are.given;
+  playing = one_passed_over st a old new bodies ordered taken over are.playing;
   within = let within = are.within in omega (arith, within, events);
   seen =
       subst (λ s. HasSeen (first_events new.events st.running.trace) s) (sym seen)
@@ -93,12 +119,14 @@ same_workers st old new items placed bodies seen events are = record {
 -- The events that were missing are taken in.
 pub taken_in : (st : Standing) (old new : Workers) (events : List Event)
     → events ≡ reverse st.running.trace → new.given.items ≡ old.given.items
-    → new.placed ≡ old.placed → new.bodies ≡ old.bodies → new.events ≡ length events
+    → new.placed ≡ old.placed → new.bodies ≡ old.bodies → new.playing ≡ old.playing
+    → new.events ≡ length events
     → HasSeen (reverse (take (length events - old.events) (drop old.events events))
     ++ first_events old.events st.running.trace) new.seen
     → AreWorkers st old → AreWorkers st new
-taken_in st old new events is items placed bodies counted seen are = record {
+taken_in st old new events is items placed bodies playing counted seen are = record {
   given = same_given st.running.bodies old new items placed bodies are.given;
+  playing = same_playing st old new bodies playing are.playing;
   within = let many = as_many events st.running.trace is in omega (arith, many, counted);
   seen =
       subst (λ (t : List Event). HasSeen t new.seen)
@@ -108,26 +136,26 @@ taken_in st old new events is items placed bodies counted seen are = record {
       ∙ ap (λ n. first_events n st.running.trace) (sym counted)) seen;
 }
 
--- No event is taken in.
+-- No event is taken in, and no body is in the table.
 pub forgotten : (st : Standing) (old new : Workers) → new.given.items ≡ old.given.items
-    → new.placed ≡ old.placed → new.bodies ≡ old.bodies → new.events ≡ 0 → HasSeen [] new.seen
+    → new.placed ≡ 0 → maps.IsEmpty new.bodies → IsOrdered name_cmp new.bodies
+    → sets.IsEmpty new.playing → sets.IsOrdered name_cmp new.playing
+    → new.events ≡ 0 → HasSeen [] new.seen
     → IsGiven st.running.bodies old → AreWorkers st new
-forgotten st old new items placed bodies none seen is = record {
-  given = same_given st.running.bodies old new items placed bodies is;
-  within = omega (arith, none);
+forgotten st old new items placed bare ordered none set_ordered events seen is = record {
+  given = record {
+    all = items ∙ is.all;
+    once = is.once;
+    within = omega (arith, placed);
+    table =
+        subst (λ n. IsTableOf (take n st.running.bodies) new.bodies) (sym placed) (record {
+          names = ap (λ (es : List (Name × ℕ)). keys_of es) bare;
+          ordered = ordered;
+          at = λ a. ap (λ (es : List (Name × ℕ)). lookup (is_at (name_cmp a)) es) bare;
+        });
+  };
+  playing = none_playing st new bare none set_ordered;
+  within = omega (arith, events);
   seen =
-      subst (λ n. HasSeen (first_events n st.running.trace) new.seen) (sym none) seen;
-}
-
--- All bodies are placed, and all events are taken in.
-pub have_caught_up : (st : Standing) (workers : Workers) → AreWorkers st workers
-    → workers.placed ≡ length st.running.bodies → workers.events ≡ length st.running.trace
-    → HaveCaughtUp st workers
-have_caught_up st workers are placed counted = record {
-  table =
-      subst (λ (given : List (Name × ℕ)). IsTableOf given workers.bodies)
-      (take_all workers.placed st.running.bodies (omega (arith, placed))) are.given.table;
-  seen =
-      subst (λ (t : List Event). HasSeen t workers.seen)
-      (ap (λ n. first_events n st.running.trace) counted ∙ all_first st.running.trace) are.seen;
+      subst (λ n. HasSeen (first_events n st.running.trace) new.seen) (sym events) seen;
 }

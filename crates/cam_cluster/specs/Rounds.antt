@@ -1,5 +1,5 @@
 -- Rounds of a play: each action with a body makes its next request where it may go on.
-use Rattle.std.specs.Prelude.{◌≡◌, ℕ, Bool, ◌&&◌, if◌then◌else◌, List, Option}
+use Rattle.std.specs.Prelude.{◌≡◌, ℕ, Bool, true, false, ◌&&◌, if◌then◌else◌, List, Option}
 use Rattle.std.specs.Prelude.{is_some, take}
 use Rattle.std.specs.List.{AllByRecursion}
 use Rattle.cam_names.specs.declared.name.Name.{Name}
@@ -13,8 +13,11 @@ use Rattle.cam_script.specs.Law.{IsScript}
 use Rattle.cam_histories.specs.InputLaws.{held_setting}
 use Rattle.cam_cluster.specs.declared.workers.Workers.{Workers}
 use Rattle.cam_cluster.specs.declared.works.Put.{Put}
+use Rattle.cam_cluster.specs.declared.works.round.Outlook.{Outlook}
+use Rattle.cam_cluster.specs.declared.works.round.Outlook.TheVariants as outlooks
 use Rattle.cam_cluster.specs.Goes.{IsSaidOf, is_request, next_of}
 use Rattle.cam_cluster.specs.Making.{HaveMade, Making}
+use Rattle.cam_cluster.specs.Over.{is_over}
 use Rattle.cam_cluster.specs.VariableLines.{IsAtNode}
 use Rattle.cam_cluster.specs.Workers.{AreWorkers, HaveCaughtUp}
 use Rattle.cam_cluster.specs.Works.{KeepsRun, WorksFields}
@@ -28,13 +31,19 @@ pub record IsAtNodeOfSome (a : Name) (works : WorksFields) (may_read : ℕ → L
   pub keeps : KeepsRun script standing works may_read
   pub placed : IsAtNode script.nodes a
 
--- THE CLAUSE of whether an action goes on in a round: of each run that is kept, and of which the
--- workers have taken in all.
-abbrev pub IsMayGoOn : Name → WorksFields → (ℕ → Logged → Type 0) → Workers → Bool → Type 0
-IsMayGoOn a works may_read workers goes_on =
+-- what a round may expect of an action, where it is so
+abbrev pub HasOutlook : Setting → Standing → Name → Outlook → Type 0
+HasOutlook c st a outlooks.GoesOn = may_go_on c st a ≡ true
+HasOutlook c st a outlooks.Waits = may_go_on c st a ≡ false
+HasOutlook c st a outlooks.Over = is_over st.running.trace a ≡ true
+
+-- THE CLAUSE of it: of each run that is kept, and of which the workers have taken in all.
+abbrev pub IsOutlook :
+    Name → WorksFields → (ℕ → Logged → Type 0) → Workers → Outlook → Type 0
+IsOutlook a works may_read workers outlook =
     (script : Script) (st : Standing) (halts : Halting) (line : ℕ) (restarted : ℕ → Bool)
     → IsScript script → KeepsRun script st works may_read → HaveCaughtUp st workers
-    → goes_on ≡ may_go_on (held_setting script.objects halts line restarted) st a
+    → HasOutlook (held_setting script.objects halts line restarted) st a outlook
 
 -- what stands behind an action of a round, and whether it makes a request
 abbrev pub after_name : Setting → List (List Statement) → Standing → Name → Standing

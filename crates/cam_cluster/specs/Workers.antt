@@ -1,7 +1,10 @@
 -- The actions that work at a body, as they are kept for what stands: the bodies that were given to
--- them, of which the first are in a table, and what they have seen in the first events.
-use Rattle.std.specs.Prelude.{◌≡◌, ℕ, ◌≤◌, List, length, map, reverse, take, None, Some, slice_get}
+-- them, of which the first are in a table, those of the table that play on, and what they have seen
+-- in the first events.
+use Rattle.std.specs.Prelude.{◌≡◌, ℕ, ◌≤◌, Bool, true, false, not, ◌||◌, List, length, map, reverse}
+use Rattle.std.specs.Prelude.{take, None, Some, is_some, slice_get}
 use Rattle.std.specs.BTreeMap.{BTreeMap, IsOrdered, get, keys}
+use Rattle.std.specs.BTreeSet as sets
 use Rattle.std.specs.BTreeSet.{contains}
 use Rattle.std.specs.List.{AllByRecursion}
 use Rattle.cam_names.specs.declared.name.Name.{Name}
@@ -19,6 +22,7 @@ use Rattle.cam_cluster.specs.declared.workers.Intention.{Intention}
 use Rattle.cam_cluster.specs.declared.workers.Workers.{Workers}
 use Rattle.cam_cluster.specs.ActionViews.{HasSeen, view_in}
 use Rattle.cam_cluster.specs.AtWork.{IsWorker, Worker}
+use Rattle.cam_cluster.specs.Over.{is_over}
 
 -- the first events of a trace, so many, the newest of them first
 abbrev pub first_events : ℕ → List Event → List Event
@@ -42,15 +46,30 @@ pub record IsGiven (given : List (Name × ℕ)) (workers : Workers) : Type 0 whe
   pub within : workers.placed ≤ length given
   pub table : IsTableOf (take workers.placed given) workers.bodies
 
+-- It is among those that play on, or is not in the table.
+abbrev pub plays_on : Workers → Name → Bool
+plays_on workers a =
+    contains name_cmp workers.playing a || not (is_some (get name_cmp workers.bodies a))
+
+-- Those that play on are in order, and have bodies. Who does not play on is over.
+pub record ArePlaying (st : Standing) (workers : Workers) : Type 0 where
+  pub ordered : sets.IsOrdered name_cmp workers.playing
+  pub at_body :
+      (a : Name) → contains name_cmp workers.playing a ≡ true
+      → is_some (body_number st.running.bodies a) ≡ true
+  pub others : (a : Name) → plays_on workers a ≡ false → is_over st.running.trace a ≡ true
+
 -- The workers of what stands.
 pub record AreWorkers (st : Standing) (workers : Workers) : Type 0 where
   pub given : IsGiven st.running.bodies workers
+  pub playing : ArePlaying st workers
   pub within : workers.events ≤ length st.running.trace
   pub seen : HasSeen (first_events workers.events st.running.trace) workers.seen
 
 -- All bodies are in the table, and all events are taken in.
 pub record HaveCaughtUp (st : Standing) (workers : Workers) : Type 0 where
   pub table : IsTableOf st.running.bodies workers.bodies
+  pub playing : ArePlaying st workers
   pub seen : HasSeen st.running.trace workers.seen
 
 -- each action with a body as one record

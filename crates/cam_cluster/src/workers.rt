@@ -1,8 +1,9 @@
-//! The actions that work at a body: which body, what each has seen so far, and what it does next by them.
+//! The actions that work at a body: which body, what each has seen so far, what it does next by them, and which may still do something.
 //!
 //! A body that is given to an action is kept at once; `catch_up` then puts it into the table of names, and takes in the events that
-//! are new, each once. The views of all actions are kept, so the one of a new worker needs nothing more.
-ghost use Rattle.std.specs.Prelude.{◌≡◌, ◌≤◌, ◌<◌, IfOk, None, OnOk, Some, length, option_and_then, reverse, slice_get, unwrap_or, vec_capacity, vec_len};
+//! are new, each once. The views of all actions are kept, so the one of a new worker needs nothing more. Who comes into the table plays
+//! on until a round finds that it is over: an action that is over stays so.
+ghost use Rattle.std.specs.Prelude.{◌≡◌, ◌≤◌, ◌<◌, IfOk, None, OnOk, Some, filter, length, option_and_then, reverse, slice_get, true, unwrap_or, vec_capacity, vec_len};
 ghost use Rattle.std.specs.BTreeMap.{get};
 ghost use Rattle.std.specs.List.{list_any};
 ghost use Rattle.cam_names.specs.Names.{name_cmp};
@@ -10,7 +11,8 @@ ghost use Rattle.cam_runs.specs.HaltedPlaying.{given_body};
 ghost use Rattle.cam_runs.specs.Playing.{body_number, in_order, is_stop_of};
 ghost use Rattle.cam_runs.specs.Standing.{Standing, start};
 ghost use Rattle.cam_cluster.specs.ActionViews.{OthersChangeNoView, ViewsGoOn};
-ghost use Rattle.cam_cluster.specs.Workers.{AllWork, AreWorkers, HaveCaughtUp, IsGiven, IsIntention};
+ghost use Rattle.cam_cluster.specs.Over.{is_over};
+ghost use Rattle.cam_cluster.specs.Workers.{AllWork, AreWorkers, HaveCaughtUp, IsGiven, IsIntention, plays_on};
 
 use crate::room::{push_reserved, reserve_one};
 use crate::views::ActionViews;
@@ -20,7 +22,7 @@ use cam_event::{Event, View};
 use cam_names::Name;
 use cam_script::{Bodies, BodyText};
 use std::alloc::Global;
-use std::collections::BTreeMap;
+use std::collections::{BTreeMap, BTreeSet};
 
 /// What an action does next by its body, and the body of the child for which it asks.
 #[derive(Clone, Copy, Debug)]
@@ -39,6 +41,8 @@ pub(crate) struct Workers {
     pub(crate) placed: usize,
     /// Which body an action works at.
     pub(crate) bodies: BTreeMap<Name, u8>,
+    /// Which actions of the table play on: all others are over, and make no request any more.
+    pub(crate) playing: BTreeSet<Name>,
     /// What the actions have seen in the first events.
     pub(crate) seen: ActionViews,
     /// How many events are taken in.
@@ -55,6 +59,7 @@ impl Workers {
             given: Vec::new(alloc),
             placed: 0,
             bodies: BTreeMap::new(alloc),
+            playing: BTreeSet::new(alloc),
             seen: ActionViews::new(alloc),
             events: 0,
         }
@@ -79,7 +84,7 @@ impl Workers {
         push_reserved(&mut self.given, &(*name, body));
     }
 
-    /// Puts the bodies into the table that are not in it.
+    /// Puts the bodies into the table that are not in it. Each of their actions plays on.
     fn place(&mut self) -> Result<(), NoMemory>
         ensures stay { (st : Standing) → AreWorkers st self.old → AreWorkers st self.new }
         ensures all { OnOk result ((st : Standing) → AreWorkers st self.old
@@ -88,20 +93,21 @@ impl Workers {
     {
         while self.placed < self.given.len() {
             let (name, body) = self.given[self.placed];
+            self.playing.insert(name)?;
             self.bodies.insert(name, body)?;
             self.placed += 1;
         }
         Ok(())
     }
 
-    /// Takes in the events that are not taken in. Where memory runs out, none is taken in any more: the next call takes in them
+    /// Takes in the events that are not taken in. Where memory runs out, none is taken in any more: the next `catch_up` takes in them
     /// all.
     fn take_in(&mut self, events: &[Event]) -> Result<(), NoMemory>
         requires { self.old.events ≤ length events.now }
         ensures stay { (st : Standing) → events.now ≡ reverse st.running.trace
             → AreWorkers st self.old → AreWorkers st self.new }
         ensures all { OnOk result (self.new.events ≡ length events.now) }
-        ensures placed { self.new.placed ≡ self.old.placed }
+        ensures placed { OnOk result (self.new.placed ≡ self.old.placed) }
     {
         match self.seen.take_events(&events[self.events..]) {
             Ok(()) => {
@@ -115,13 +121,15 @@ impl Workers {
         }
     }
 
-    /// No event is taken in any more, and the next `catch_up` takes in them all. It is for events of which one came to stand before
-    /// others, as where a restart finds one that was taken.
+    /// No event is taken in any more, and the table has no body: the next `catch_up` takes in them all, and each action plays on until it
+    /// is found to be over again. It is for events of which one came to stand before others, as where a restart finds one that was taken.
     pub(crate) fn forget(&mut self)
         ensures given { (st : Standing) → IsGiven st.running.bodies self.old
             → AreWorkers st self.new }
-        ensures placed { self.new.placed ≡ self.old.placed }
     {
+        self.placed = 0;
+        self.bodies = BTreeMap::new(self.alloc);
+        self.playing = BTreeSet::new(self.alloc);
         self.seen = ActionViews::new(self.alloc);
         self.events = 0;
     }
@@ -139,16 +147,24 @@ impl Workers {
         self.take_in(events)
     }
 
-    /// The names of the actions that work at a body, in order.
+    /// The names of the actions that play on, in order: those that work at a body, but for some that are over.
     pub(crate) fn names(&self) -> Result<Sequence<Name>, NoMemory>
         ensures { IfOk result (λ names. (st : Standing) → HaveCaughtUp st self.now
-            → names ≡ in_order st.running.bodies) }
+            → names ≡ filter (plays_on self.now) (in_order st.running.bodies)) }
     {
         let mut names = Sequence::new(self.alloc);
-        for name in self.bodies.keys() {
+        for name in self.playing.iter() {
             names.push_copy(name)?;
         }
         Ok(names)
+    }
+
+    /// An action that is over does not play on.
+    pub(crate) fn pass_over(&mut self, name: &Name)
+        ensures { (st : Standing) → AreWorkers st self.old
+            → is_over st.running.trace name.now ≡ true → AreWorkers st self.new }
+    {
+        self.playing.remove(name);
     }
 
     /// Whether an event stopped an action at its home.

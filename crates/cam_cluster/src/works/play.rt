@@ -1,5 +1,5 @@
 //! The rounds of a play: in each, every action with a body makes its next request where it may go on, and the letters that wait are
-//! handed over. They go on until a round puts no input.
+//! handed over. Actions that are known to be over get no turn. The rounds go on until one puts no input.
 ghost use Rattle.std.specs.Prelude.{◌≡◌, ◌||◌, IfOk, OnErr, OnOk, length, nat_lt};
 ghost use Rattle.cam_runs.specs.HaltedPlaying.{play};
 ghost use Rattle.cam_cluster.specs.Failing.{DisksGoOn};
@@ -28,7 +28,8 @@ impl<L: TellingLog> Works<L> {
         self.events.len() > events || self.marks.len() > marks
     }
 
-    /// All actions with a body have their turns, in order of their names. Where memory runs out, the first of them had theirs.
+    /// The actions that play on have their turns, in order of their names: all with a body, but for some that are over, which comes to
+    /// the turns of all. Where memory runs out, the first of them had theirs.
     #[tactic(none)]
     fn take_all_turns<R: DataType, Q: DataType, C: DataType>(
         &mut self,

@@ -1,7 +1,6 @@
 -- The names so far, and those behind them.
 use Rattle.std.proofs.Common.{◌≡◌, ◌++◌}
-use Rattle.std.specs.BTreeMap.{keys}
 use Rattle.cam_cluster.proofs.workers.Workers.names.Given as goal
 
 abbrev pub invariant-loop-name : goal.invariant-loop-name
-invariant-loop-name l = l.names ++ l.name-iterator ≡ keys l.self.bodies
+invariant-loop-name l = l.names ++ l.name-iterator ≡ l.self.playing.keys

@@ -1,13 +1,13 @@
 -- An action has its turn in a round.
 use Rattle.std.proofs.Common.{◌≤◌, length, rules, sym, ◌∙◌, subst, arith}
 use Rattle.cam_cluster.specs.Goes.{HasGone, KeepsWorkersAsBefore}
-use Rattle.cam_cluster.specs.Rounds.{HasHadTurn, IsMayGoOn}
+use Rattle.cam_cluster.specs.Rounds.{HasHadTurn, IsOutlook}
 use Rattle.cam_cluster.proofs.AsSeen.{reads_of, works_of}
 use Rattle.cam_cluster.proofs.DisksGoOn.{goes_on_still}
 use Rattle.cam_cluster.proofs.GoneOn.{CatchesUp}
 use Rattle.cam_cluster.proofs.PlacedNodes.{on_err}
 use Rattle.cam_cluster.proofs.Turns.{at_node, if_ok_gives, on_err_gives, turn_goes, turn_gone}
-use Rattle.cam_cluster.proofs.Turns.{turn_stayed, workers_before}
+use Rattle.cam_cluster.proofs.Turns.{turn_over, turn_waits, workers_before}
 use Rattle.cam_cluster.proofs.WorkersStand.{as_many}
 use Rattle.cam_cluster.proofs.works.Works.take_turn.Goals as goal
 
@@ -41,8 +41,8 @@ pub returns-in_err-catch_up-clause-servers : goal.returns-in_err-catch_up-clause
 returns-in_err-catch_up-clause-servers g c =
     c.requires.servers
 
-pub may_go_on-requires : goal.may_go_on-requires
-may_go_on-requires g c =
+pub outlook-requires : goal.outlook-requires
+outlook-requires g c =
     let works = works_of g.L.CheckpointLog g.L.EntryLog c.args.self.now in
     let reads = reads_of g.L.CheckpointLog g.L.EntryLog c.args.self.now in
     let caught_up : CatchesUp c.args.self.now.events.events.items c.args.workers.now
@@ -64,8 +64,8 @@ go-requires-clause-goes g c =
       c.catch_up.ensures.stay st (c.as_slice.ensures.value ∙ is) are,
       c.in_ok-catch_up.ensures.caught_up st (c.as_slice.ensures.value ∙ is) are,
     ) in
-    let told = subst (λ b. IsMayGoOn c.args.name.now works reads c.catch_up.new.self b)
-    c.if-may_go_on.true c.may_go_on.ensures in
+    let told = subst (λ o. IsOutlook c.args.name.now works reads c.catch_up.new.self o)
+    c.in-GoesOn.is c.outlook.ensures in
     turn_goes c.args.line c.args.name.now c.args.bodies.now works reads c.args.workers.now
     c.catch_up.new.self c.requires.turn caught_up told
 
@@ -73,12 +73,12 @@ pub go-requires-clause-servers : goal.go-requires-clause-servers
 go-requires-clause-servers g c =
     c.requires.servers
 
-pub returns-then-may_go_on-clause-disks : goal.returns-then-may_go_on-clause-disks
-returns-then-may_go_on-clause-disks g c =
+pub returns-in-GoesOn-clause-disks : goal.returns-in-GoesOn-clause-disks
+returns-in-GoesOn-clause-disks g c =
     c.go.ensures.disks
 
-pub returns-then-may_go_on-clause-turn : goal.returns-then-may_go_on-clause-turn
-returns-then-may_go_on-clause-turn g c =
+pub returns-in-GoesOn-clause-turn : goal.returns-in-GoesOn-clause-turn
+returns-in-GoesOn-clause-turn g c =
     let works = works_of g.L.CheckpointLog g.L.EntryLog c.args.self.now in
     let reads = reads_of g.L.CheckpointLog g.L.EntryLog c.args.self.now in
     let caught_up : CatchesUp c.args.self.now.events.events.items c.args.workers.now
@@ -86,8 +86,8 @@ returns-then-may_go_on-clause-turn g c =
       c.catch_up.ensures.stay st (c.as_slice.ensures.value ∙ is) are,
       c.in_ok-catch_up.ensures.caught_up st (c.as_slice.ensures.value ∙ is) are,
     ) in
-    let told = subst (λ b. IsMayGoOn c.args.name.now works reads c.catch_up.new.self b)
-    c.if-may_go_on.true c.may_go_on.ensures in
+    let told = subst (λ o. IsOutlook c.args.name.now works reads c.catch_up.new.self o)
+    c.in-GoesOn.is c.outlook.ensures in
     let new = works_of g.L.CheckpointLog g.L.EntryLog c.go.new.self in
     let may = reads_of g.L.CheckpointLog g.L.EntryLog c.go.new.self in
     if_ok_gives c.go.result
@@ -99,13 +99,13 @@ returns-then-may_go_on-clause-turn g c =
     c.catch_up.new.self c.requires.turn caught_up end new may c.go.new.workers told has)
     c.go.ensures.gone
 
-pub returns-then-may_go_on-clause-as_before : goal.returns-then-may_go_on-clause-as_before
-returns-then-may_go_on-clause-as_before g c =
+pub returns-in-GoesOn-clause-as_before : goal.returns-in-GoesOn-clause-as_before
+returns-in-GoesOn-clause-as_before g c =
     c.go.ensures.as_before
 
-pub returns-then-may_go_on-clause-workers_as_before :
-    goal.returns-then-may_go_on-clause-workers_as_before
-returns-then-may_go_on-clause-workers_as_before g c =
+pub returns-in-GoesOn-clause-workers_as_before :
+    goal.returns-in-GoesOn-clause-workers_as_before
+returns-in-GoesOn-clause-workers_as_before g c =
     let works = works_of g.L.CheckpointLog g.L.EntryLog c.args.self.now in
     let reads = reads_of g.L.CheckpointLog g.L.EntryLog c.args.self.now in
     let caught_up : CatchesUp c.args.self.now.events.events.items c.args.workers.now
@@ -120,16 +120,16 @@ returns-then-may_go_on-clause-workers_as_before g c =
     c.catch_up.new.self c.requires.turn caught_up c.go.new.workers)
     c.go.ensures.workers_as_before
 
-pub returns-then-may_go_on-clause-servers : goal.returns-then-may_go_on-clause-servers
-returns-then-may_go_on-clause-servers g c =
+pub returns-in-GoesOn-clause-servers : goal.returns-in-GoesOn-clause-servers
+returns-in-GoesOn-clause-servers g c =
     c.go.ensures.servers
 
-pub returns-clause-disks : goal.returns-clause-disks
-returns-clause-disks g c =
+pub returns-in-Waits-clause-disks : goal.returns-in-Waits-clause-disks
+returns-in-Waits-clause-disks g c =
     goes_on_still
 
-pub returns-clause-turn : goal.returns-clause-turn
-returns-clause-turn g c =
+pub returns-in-Waits-clause-turn : goal.returns-in-Waits-clause-turn
+returns-in-Waits-clause-turn g c =
     let works = works_of g.L.CheckpointLog g.L.EntryLog c.args.self.now in
     let reads = reads_of g.L.CheckpointLog g.L.EntryLog c.args.self.now in
     let caught_up : CatchesUp c.args.self.now.events.events.items c.args.workers.now
@@ -137,11 +137,33 @@ returns-clause-turn g c =
       c.catch_up.ensures.stay st (c.as_slice.ensures.value ∙ is) are,
       c.in_ok-catch_up.ensures.caught_up st (c.as_slice.ensures.value ∙ is) are,
     ) in
-    let told = subst (λ b. IsMayGoOn c.args.name.now works reads c.catch_up.new.self b)
-    c.if-may_go_on.false c.may_go_on.ensures in
-    turn_stayed c.args.line c.args.name.now c.args.bodies.now works reads c.args.workers.now
-    c.catch_up.new.self c.requires.turn caught_up told
+    turn_waits c.args.line c.args.name.now c.args.bodies.now works reads c.args.workers.now
+    c.catch_up.new.self c.requires.turn caught_up
+    (subst (λ o. IsOutlook c.args.name.now works reads c.catch_up.new.self o) c.in-Waits.is
+    c.outlook.ensures)
 
-pub returns-clause-servers : goal.returns-clause-servers
-returns-clause-servers g c =
+pub returns-in-Waits-clause-servers : goal.returns-in-Waits-clause-servers
+returns-in-Waits-clause-servers g c =
+    c.requires.servers
+
+pub returns-in-Over-clause-disks : goal.returns-in-Over-clause-disks
+returns-in-Over-clause-disks g c =
+    goes_on_still
+
+pub returns-in-Over-clause-turn : goal.returns-in-Over-clause-turn
+returns-in-Over-clause-turn g c =
+    let works = works_of g.L.CheckpointLog g.L.EntryLog c.args.self.now in
+    let reads = reads_of g.L.CheckpointLog g.L.EntryLog c.args.self.now in
+    let caught_up : CatchesUp c.args.self.now.events.events.items c.args.workers.now
+    c.catch_up.new.self = λ st is are. (
+      c.catch_up.ensures.stay st (c.as_slice.ensures.value ∙ is) are,
+      c.in_ok-catch_up.ensures.caught_up st (c.as_slice.ensures.value ∙ is) are,
+    ) in
+    turn_over c.args.line c.args.name.now c.args.bodies.now works reads c.args.workers.now
+    c.catch_up.new.self c.requires.turn caught_up c.pass_over.new.self
+    (subst (λ o. IsOutlook c.args.name.now works reads c.catch_up.new.self o) c.in-Over.is
+    c.outlook.ensures) c.pass_over.ensures
+
+pub returns-in-Over-clause-servers : goal.returns-in-Over-clause-servers
+returns-in-Over-clause-servers g c =
     c.requires.servers

@@ -1,0 +1,9 @@
+-- One that is over does not play on.
+use Rattle.std.proofs.Common.{refl}
+use Rattle.cam_cluster.proofs.WorkersStand.{passed_over}
+use Rattle.cam_cluster.proofs.workers.Workers.pass_over.Goals as goal
+
+pub returns : goal.returns
+returns c st are over =
+    passed_over st c.args.name.now c.args.self.now _ refl refl refl refl refl
+    c.remove.ensures.ordered c.remove.ensures.updates.0 over are
