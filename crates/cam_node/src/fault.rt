@@ -10,9 +10,11 @@ use thiserror::Error;
 /// Why a call of a node failed.
 #[derive(Clone, Copy, Debug, PartialEq, Eq, Error)]
 pub enum NodeFault {
-    /// The node's disk failed: its count of faults rose. The node is halted.
+    /// The node's disk failed, and its count of faults rose; or a restart read what cannot be
+    /// restarted, as a count that is the last. A node in whose step or restart it comes is halted.
     #[error("the disk failed")]
     DiskFault,
+    /// Out of memory. The node is halted where its disk had none, and where it comes of a restart.
     #[error("out of memory")]
     NoMemory,
 }

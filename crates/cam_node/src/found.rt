@@ -22,7 +22,8 @@ use cam_type::Held;
 #[derive(Drop)]
 pub struct Found {
     /// What the log has of the event at which the node had halted; None where it has nothing of it,
-    /// and where the node had not halted.
+    /// and where the node had not halted. Of an event that adds nothing to what the log keeps either
+    /// answer is right.
     pub event: Option<Event>,
     /// How many restarts that failed had reached the log.
     pub restarts: u32,

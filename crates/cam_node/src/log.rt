@@ -158,8 +158,8 @@ impl<L: CheckpointLog> NodeLog<L> {
 
     /// Appends one entry of these records and forces it, which four calls of the disk do; where there are no records, nothing is done. At Ok
     /// a crash leaves a log that has the entry, and at any moment of the call one without it or with it. It wants a node that is not halted,
-    /// and records that may be written where the format has version 2. The node is halted after a `DiskFault`, and after want of memory of
-    /// the disk itself; after any other want of memory nothing has happened.
+    /// and records that may be written where the format has version 2. The node is halted after a `DiskFault`, and where the disk itself is
+    /// out of memory; where memory runs out elsewhere nothing has happened.
     pub(crate) fn append(&mut self, records: &Records) -> Result<(), NodeFault>
         requires running { IsFalse self.old.halted }
         requires writable { All IsWritable records.now }

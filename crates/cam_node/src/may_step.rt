@@ -13,7 +13,9 @@ use cam_event::{Body, Request, Want};
 impl<L: CheckpointLog> Node<L> {
     /// What [`Node::step`] wants of an input besides that nothing stands against it
     /// ([`Node::refusal`]): that numbers are left, and for a Prepare that at most 64 objects are
-    /// declared. The node is not halted. It takes no memory.
+    /// declared. The node is not halted. It takes no memory. It does not say whether the op of a
+    /// call fits its object, nor whether a restart takes the index that a call gets: it takes none
+    /// above 499,999,999.
     pub fn may_step(&self, input: &Input) -> bool
         requires running { IsFalse self.now.log.halted }
         ensures { IsTrue result ↔ MayStep (answers self.now.core) input.now }

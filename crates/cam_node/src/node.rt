@@ -26,8 +26,8 @@ use cam_type::{Objects, State};
 use std::alloc::Global;
 
 /// One node, 1 to 8, over the declared objects: its parts, and the log that it forces before a
-/// letter leaves. While it is not halted both
-/// stand for one history. Over a disk its log is a [`Ckpt`].
+/// letter leaves. Both stand for one history from `format` on: `step` and `restart` keep that, where
+/// what is put to the node may be put to it. Over a disk its log is a [`Ckpt`].
 #[derive(Drop)]
 pub struct Node<L: CheckpointLog> {
     pub(crate) core: Core,
@@ -41,8 +41,7 @@ pub struct Node<L: CheckpointLog> {
 
 impl<D: Disk> Node<Ckpt<D>> {
     /// Makes a node, 1 to 8, to which nothing has happened, and formats a disk for it, whatever the
-    /// disk held. The disk is handed back where
-    /// it failed, or memory ran out.
+    /// disk held. The disk is handed back where it failed, or memory ran out.
     pub fn format(
         alloc: Global,
         number: u8,

@@ -1,6 +1,5 @@
 //! A step of a node: it learns the letter and applies the rule, makes all growth, appends the
-//! event's entry and forces it; then the event
-//! stands, and its letters are handed out.
+//! event's entry and forces it; then the event stands, and its letters are handed out.
 ghost use Rattle.std.specs.Prelude.{◌≡◌, ◌⊎◌, ◌≤◌, false, List, Some, None, IsTrue, IsFalse, OnOk, OnErr, IfOk, IsErrOf, All, ◌++◌, Ok as Opens};
 ghost use Rattle.cam_base.specs.Causes.{Rose};
 ghost use Rattle.cam_ckpt.specs.Moments.{IsOldOrNew};
@@ -93,14 +92,15 @@ impl Core {
 
 impl<L: CheckpointLog> Node<L> {
     /// A step of the node that is not halted: an input is put to it against which nothing stands.
-    /// The event is that of the input's rule, and its
-    /// letters are those that the rule sends.
+    /// The event is that of the input's rule, and its letters are those that the rule sends.
     ///
-    /// Where memory runs out nothing has happened. After a fault of the disk, and where the disk
-    /// itself has no memory, the node is halted: its
-    /// log may have the event's entry, no event is told and no letter is handed out. `DiskFault`
-    /// comes only where the disk's count of faults
-    /// rose.
+    /// Where memory runs out, but not on the disk itself, nothing has happened. After a fault of the
+    /// disk, and where the disk has no memory, the node is halted: its log may have the event's
+    /// entry, no event is told and no letter is handed out. `DiskFault` comes only where the disk's
+    /// count of faults rose.
+    ///
+    /// A call takes an index up to 999,999,999, and a family may be secured with it; a restart takes
+    /// none above 499,999,999.
     pub fn step<R: DataType, Q: DataType, C: DataType>(
         &mut self,
         input: &Input,
@@ -203,9 +203,8 @@ impl<L: CheckpointLog> Node<L> {
     }
 
     /// Appends the entry of an event that may stand, and forces it; then the event stands. Where
-    /// the node is halted its log may have the
-    /// entry, and its parts stand with the event, which is not told. After an error without a halt
-    /// nothing has happened.
+    /// the node is halted its log may have the entry, and its parts stand with the event, which is
+    /// not told. After an error without a halt nothing has happened.
     #[tactic(auto, using(crate::proofs::TakenMoments::some_records))]
     pub(crate) fn take(&mut self, plan: Plan) -> Result<Stepped, NodeFault>
         requires running { IsFalse self.old.log.halted }

@@ -109,10 +109,9 @@ impl Core {
 
 impl<L: CheckpointLog> Node<L> {
     /// Restarts the node, halted or not: it reads its log again, puts all that is kept with the
-    /// raised count in place of what it read, and
-    /// goes on from that. The event is the restart; no letter is sent.
-    /// It tells what it found: whether the log has what was taken of the event at which the node
-    /// had halted, and how many restarts that failed had reached the log.
+    /// raised count in place of what it read, and goes on from that. The event is the restart; no
+    /// letter is sent. It tells what it found: whether the log has what was taken of the event at
+    /// which the node had halted, and how many restarts that failed had reached the log.
     ///
     /// `DiskFault` comes where what was read cannot be restarted: a count that is the last, an
     /// operation that is not on an object of the node or does not fit it, an index that stands
@@ -127,12 +126,13 @@ impl<L: CheckpointLog> Node<L> {
             (MayRead (L.opens_since self.old.log.log) (L.moment self.old.log.log))
             (answers self.old.core) self.old.halted_at
             (answers self.new.core) (L.listed self.new.log.log) restarted) }
-        // Of a disk that tells it read what the log read, and found the event just where that has it.
+        // Of a disk that tells, by what the log reads when it begins: the event is found where that
+        // has it, and none where that has the history before and the event adds to it.
         ensures found { IsTrue (L.tells self.old.log.log) → IfOk result (λ restarted.
             FindsBy self.old.objects self.old.core.number (answers self.old.core)
             self.old.halted_at (L.reads self.old.log.log) restarted.found) }
         ensures letters { IfOk result (λ restarted. restarted.stepped.letters ≡ []) }
-        // The log lists one entry then, unless its list has the last number that there is.
+        // The log lists one entry then, unless the number of its list is the last.
         ensures one_entry { OnOk result
             (HasOneEntry (L.generation self.new.log.log) (L.listed self.new.log.log)) }
         ensures runs { OnOk result (IsFalse self.new.log.halted) }
