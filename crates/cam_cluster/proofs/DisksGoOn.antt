@@ -1,6 +1,6 @@
 -- The works go on with their disks: as they are, one after another, and where one node was called.
 use Rattle.std.proofs.Common.{◌≡◌, ◌⊎◌, inl, inr, ℕ, ◌+◌, ◌-◌, ◌≤◌, ◌<◌, Bool, true, false, List}
-use Rattle.std.proofs.Common.{length, get_or, set}
+use Rattle.std.proofs.Common.{◌^◌, length, get_or, min, set}
 use Rattle.std.proofs.Common.{Some, true≢false, refl, sym, ap, ◌∙◌, subst, arith}
 use Rattle.std.specs.Prelude.{IfSome, map, slice_get}
 use Rattle.std.proofs.lemmas.Bool.Decides.{leb_tells}
@@ -11,8 +11,8 @@ use Rattle.cam_node.specs.declared.fault.NodeFault.{NodeFault}
 use Rattle.cam_node.specs.declared.fault.NodeFault.TheVariants as faults
 use Rattle.cam_cluster.specs.declared.works.failing.Failed.{Failed}
 use Rattle.cam_cluster.specs.declared.works.failing.Failed.TheVariants as failed
-use Rattle.cam_cluster.specs.Failing.{GoOn, IsAfterCall, IsAfterHalt, IsAfterRestart}
-use Rattle.cam_cluster.specs.Failing.{IsKnownToFail}
+use Rattle.cam_cluster.specs.Failing.{GoOn, IsAfterCall, IsAfterHalt, IsKnownToFail}
+use Rattle.cam_cluster.specs.Failing.{KnownFirst}
 use Rattle.cam_cluster.specs.HandedBack.{AreHandedBack, HasFailed}
 use Rattle.cam_cluster.specs.Works.{NodeFields}
 use Rattle.cam_cluster.proofs.HandedBack.{all_same, counts_same, failed_between, one_later}
@@ -91,32 +91,57 @@ not_risen before now low still = elim (leb_tells (before + 1) now) [
   | inr less ↦ let less = less.1 in omega (arith, low, less)
 ]
 
-known_after : (nodes : List NodeFields) (place : ℕ) (old new : NodeFields) (was now : Failed)
-    → slice_get nodes place ≡ Some old → new.tells ≡ old.tells → old.failures ≤ new.failures
-    → IsAfterCall (place + 1) old.failures new.failures was now
+-- Whether a count rose is decided.
+rose_or_still : (before now : ℕ) → Rose before now ⊎ (Rose before now → ⊥)
+rose_or_still before now = elim (leb_tells (min (before + 1) (2 ^ 64 - 1)) now) [
+  | inl more ↦ inl more.1
+  | inr less ↦ inr (λ rose. let less = less.1 in omega (arith, less, rose))
+]
+
+-- where a count rose, its disk failed, or what was known is known
+known_risen : (nodes : List NodeFields) (place : ℕ) (old new : NodeFields) (was now : Failed)
+    → slice_get nodes place ≡ Some old → Rose old.failures new.failures
+    → KnownFirst was (failed.Disk (place + 1)) now
     → IsKnownToFail was nodes now (set nodes place new)
-known_after nodes place old new was failed.Nothing at told later after = (
-  after.0,
-  counts_same count nodes place old new at
-      (not_risen old.failures new.failures later after.1),
-)
-known_after nodes place old new was (failed.Disk s) at told later (inl same) = inl same
-known_after nodes place old new was (failed.Disk s) at told later (inr rose) =
-    let less = slice_get_within nodes place old at in
-    let is = rose.0 in
-    let back : place ≡ s - 1 = omega (arith, is) in
-    inr (record {
-      low = omega (arith, is);
-      high = omega (arith, is, less);
+known_risen nodes place old new failed.Nothing now at rose is =
+    subst (λ (f : Failed). IsKnownToFail failed.Nothing nodes f (set nodes place new)) (sym is)
+    (inr (record {
+      low = omega arith;
+      high = omega (arith, less);
       old = old;
       new = new;
       was = subst (λ (k : ℕ). slice_get nodes k ≡ Some old) back at;
       is =
           subst (λ (k : ℕ). slice_get (set nodes place new) k ≡ Some new) back
           (at_set nodes place new less);
-      rose = rose.1;
-    })
-known_after nodes place old new was failed.Memory at told later after = tt
+      rose = rose;
+    }))
+  where
+    less : place < length nodes
+    less = slice_get_within nodes place old at
+
+    back : place ≡ (place + 1) - 1
+    back = omega arith
+known_risen nodes place old new (failed.Disk s) now at rose is =
+    subst (λ (f : Failed). IsKnownToFail (failed.Disk s) nodes f (set nodes place new)) (sym is)
+    (inl refl)
+known_risen nodes place old new failed.Memory now at rose is =
+    subst (λ (f : Failed). IsKnownToFail failed.Memory nodes f (set nodes place new)) (sym is) tt
+
+known_after : (nodes : List NodeFields) (place : ℕ) (old new : NodeFields) (was now : Failed)
+    → slice_get nodes place ≡ Some old → new.tells ≡ old.tells → old.failures ≤ new.failures
+    → IsAfterCall (place + 1) old.failures new.failures was now
+    → IsKnownToFail was nodes now (set nodes place new)
+known_after nodes place old new was now at told later after =
+    elim (rose_or_still old.failures new.failures) [
+      | inl rose ↦ known_risen nodes place old new was now at rose (after.rose rose)
+      | inr still ↦
+          subst (λ (f : Failed). IsKnownToFail was nodes f (set nodes place new))
+          (sym (after.still still))
+          (known_same was nodes (set nodes place new)
+          (counts_same count nodes place old new at
+          (not_risen old.failures new.failures later still)))
+    ]
 
 -- One node was called, and its count is watched.
 pub goes_on_at : (nodes : List NodeFields) (before : Failed) (news : List NodeFields)
@@ -189,23 +214,17 @@ memory_too olds before news known now (inl memory) on =
     subst (GoOn olds before news) (sym memory) (record { later = on.later; known = tt })
 memory_too olds before news known now (inr same) on = subst (GoOn olds before news) (sym same) on
 
--- so where a node halts, and where a restart fails
+-- so where memory ran out, and where a node halts
+pub memory_known : (old new : Failed) → KnownFirst old failed.Memory new
+    → (new ≡ failed.Memory) ⊎ (new ≡ old)
+memory_known failed.Nothing new is = inl is
+memory_known (failed.Disk s) new is = inr is
+memory_known failed.Memory new is = inr is
+
 pub halt_is : (fault : NodeFault) (old new : Failed) → IsAfterHalt fault old new
     → (new ≡ failed.Memory) ⊎ (new ≡ old)
-halt_is faults.NoMemory old new is = inl is
+halt_is faults.NoMemory old new is = memory_known old new is
 halt_is faults.DiskFault old new is = inr is
-
-pub restart_is : (old new : Failed) → IsAfterRestart old new
-    → (new ≡ failed.Memory) ⊎ (new ≡ old)
-restart_is failed.Nothing new is = inl is
-restart_is (failed.Disk s) new is = inr is
-restart_is failed.Memory new is = inr is
-
--- nothing is known only where nothing was known before
-pub nothing_before : (s before now : ℕ) (old new : Failed) → IsAfterCall s before now old new
-    → new ≡ failed.Nothing → (old ≡ failed.Nothing) × (Rose before now → ⊥)
-nothing_before s before now old new after is =
-    subst (λ (f : Failed). IsAfterCall s before now old f) is after
 
 abbrev is_nothing : Failed → Bool
 is_nothing failed.Nothing = true
@@ -214,14 +233,24 @@ is_nothing _ = false
 pub some_is_not : (now : Failed) → is_nothing now ≡ false → now ≡ failed.Nothing → ⊥
 some_is_not now some none = true≢false (sym (ap is_nothing none) ∙ some)
 
+-- after something failed, something is known
+pub some_known : (old this new : Failed) → is_nothing this ≡ false → KnownFirst old this new
+    → new ≡ failed.Nothing → ⊥
+some_known failed.Nothing this new some is none = some_is_not this some (sym is ∙ none)
+some_known (failed.Disk s) this new some is none =
+    some_is_not (failed.Disk s) refl (sym is ∙ none)
+some_known failed.Memory this new some is none = some_is_not failed.Memory refl (sym is ∙ none)
+
+-- nothing is known only where nothing was known before
+pub nothing_before : (s before now : ℕ) (old new : Failed) → IsAfterCall s before now old new
+    → new ≡ failed.Nothing → (old ≡ failed.Nothing) × (Rose before now → ⊥)
+nothing_before s before now old new after none =
+    let still : Rose before now → ⊥ =
+    λ rose. some_known old (failed.Disk s) new refl (after.rose rose) none in
+    (sym (after.still still) ∙ none, still)
+
 -- where a node halted and nothing is known, its disk was at fault
 pub halt_none : (fault : NodeFault) (old new : Failed) → IsAfterHalt fault old new
     → new ≡ failed.Nothing → (old ≡ failed.Nothing) × (fault ≡ faults.DiskFault)
-halt_none faults.NoMemory old new is none = absurd (some_is_not failed.Memory refl (sym is ∙ none))
+halt_none faults.NoMemory old new is none = absurd (some_known old failed.Memory new refl is none)
 halt_none faults.DiskFault old new is none = (sym is ∙ none, refl)
-
--- after a restart that failed something is known
-pub restart_known : (old new : Failed) → IsAfterRestart old new → new ≡ failed.Nothing → ⊥
-restart_known failed.Nothing new is none = some_is_not failed.Memory refl (sym is ∙ none)
-restart_known (failed.Disk s) new is none = some_is_not (failed.Disk s) refl (sym is ∙ none)
-restart_known failed.Memory new is none = some_is_not failed.Memory refl (sym is ∙ none)

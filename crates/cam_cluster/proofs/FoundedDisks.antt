@@ -10,7 +10,7 @@ use Rattle.cam_node.specs.declared.fault.NodeFault.TheVariants as node_faults
 use Rattle.cam_cluster.specs.declared.fault.RunFault.{RunFault}
 use Rattle.cam_cluster.specs.declared.fault.RunFault.TheVariants as faults
 use Rattle.cam_cluster.specs.Founding.{fault_at}
-use Rattle.cam_cluster.specs.HandedBack.{AreHandedBack, AreLater, HasCause, HasFailed, IsLater}
+use Rattle.cam_cluster.specs.HandedBack.{AreHandedBack, AreLater, HasFailed, IsLater, NamesFailed}
 use Rattle.cam_cluster.specs.Works.{NodeFields}
 use Rattle.cam_cluster.proofs.HandedBack.{all_same, as_many}
 
@@ -103,26 +103,26 @@ module _ {D : Type 0} (tells : D → Bool) (faults_of : D → ℕ) where
       (old new : D) → fault ≡ fault_at s given → s ≡ length front + 1 → all ≡ front ++ old ∷ []
       → now ≡ front ++ new ∷ []
       → (given ≡ node_faults.DiskFault → Rose (faults_of old) (faults_of new))
-      → HasCause faults_of all now fault
+      → NamesFailed faults_of all now fault
   cause_last fault given s front all now old new is place all_is now_is rose =
-      subst (λ (z : List D × List D × RunFault). HasCause faults_of z.0 z.1 z.2)
+      subst (λ (z : List D × List D × RunFault). NamesFailed faults_of z.0 z.1 z.2)
       (sym (λ i. (all_is i, now_is i, is i))) (by given rose)
     where
       by : (n : NodeFault) → (n ≡ node_faults.DiskFault → Rose (faults_of old) (faults_of new))
-          → HasCause faults_of (front ++ old ∷ []) (front ++ new ∷ []) (fault_at s n)
+          → NamesFailed faults_of (front ++ old ∷ []) (front ++ new ∷ []) (fault_at s n)
       by node_faults.DiskFault has = last_failed front old new s place (has refl)
       by node_faults.NoMemory has = tt
 
   -- and where it is one before
   pub cause_front : (fault : RunFault) (front lower all now : List D) (old new : D)
-      → all ≡ front ++ old ∷ [] → now ≡ lower ++ new ∷ [] → HasCause faults_of front lower fault
-      → HasCause faults_of all now fault
+      → all ≡ front ++ old ∷ [] → now ≡ lower ++ new ∷ [] → NamesFailed faults_of front lower fault
+      → NamesFailed faults_of all now fault
   cause_front fault front lower all now old new all_is now_is cause =
-      subst (λ (z : List D × List D). HasCause faults_of z.0 z.1 fault)
+      subst (λ (z : List D × List D). NamesFailed faults_of z.0 z.1 fault)
       (sym (λ i. (all_is i, now_is i))) (by fault cause)
     where
-      by : (f : RunFault) → HasCause faults_of front lower f
-          → HasCause faults_of (front ++ old ∷ []) (lower ++ new ∷ []) f
+      by : (f : RunFault) → NamesFailed faults_of front lower f
+          → NamesFailed faults_of (front ++ old ∷ []) (lower ++ new ∷ []) f
       by (faults.DiskFault s) failed =
           let high = failed.high in
           let many = length-append front (old ∷ []) in

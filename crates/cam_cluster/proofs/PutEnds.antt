@@ -27,7 +27,7 @@ use Rattle.cam_histories.specs.InputLaws.{held_setting, halt_of}
 use Rattle.cam_cluster.specs.declared.works.failing.Failed.{Failed}
 use Rattle.cam_cluster.specs.declared.works.failing.Failed.TheVariants.{Nothing}
 use Rattle.cam_cluster.specs.Puts.{IsPutAt, letter_of}
-use Rattle.cam_cluster.specs.Works.{NodeFields, WorksFields, KeepsRun, IsUnfailingNode}
+use Rattle.cam_cluster.specs.Works.{HasTellingDisk, NodeFields, WorksFields, KeepsRun}
 use Rattle.cam_cluster.proofs.PutNode.{over, number}
 use Rattle.cam_cluster.proofs.PutStands.{stood}
 use Rattle.cam_cluster.proofs.PutHalts.{halted}
@@ -80,7 +80,7 @@ module _ (script : Script) (st : Standing) (place : ℕ) (input : NodeInput) (wo
       → KeepsOn old.objects old.site.node old.site.entries new.site.node new.site.entries
       (input_of old.site.node.number input) (mail_of input) (load_of input) event
       → letters ≡ letters_of new.site.node event.sent
-      → (IsUnfailingNode new → IsUnfailingNode old)
+      → (HasTellingDisk new → HasTellingDisk old)
       → HasAppended old.objects old.site.node (input_of old.site.node.number input) (mail_of input)
       (load_of input) event old.site.entries new.site.entries old.passes new.passes
       → KeepsRun script
@@ -120,7 +120,7 @@ module _ (script : Script) (st : Standing) (place : ℕ) (input : NodeInput) (wo
       → HaltsAt old.objects old.site.node old.site.entries (input_of old.site.node.number input)
       (mail_of input) (load_of input) new.site.node new.halted_at
       → (failed : Failed) → (failed ≡ Nothing → works.failed ≡ Nothing)
-      → (IsUnfailingNode new → IsUnfailingNode old)
+      → (HasTellingDisk new → HasTellingDisk old)
       → (failed ≡ Nothing → new.tells ≡ true
       → IsCutOff 4 old.passes new.passes (λ calls. OpensAfter calls old.objects old.site.node
       old.site.entries (input_of old.site.node.number input) (mail_of input) (load_of input)

@@ -24,7 +24,7 @@ use Rattle.cam_histories.proofs.Sites.{site_at, sites_with}
 use Rattle.cam_cluster.specs.declared.works.failing.Failed.{Failed}
 use Rattle.cam_cluster.specs.declared.works.failing.Failed.TheVariants.{Nothing}
 use Rattle.cam_cluster.specs.Works.{NodeFields, WorksFields, KeepsRun}
-use Rattle.cam_cluster.specs.Works.{IsUnfailingNode, no_node, sites_of}
+use Rattle.cam_cluster.specs.Works.{HasTellingDisk, no_node, sites_of}
 use Rattle.cam_cluster.proofs.HaltsKept.{undecided_on}
 use Rattle.cam_cluster.proofs.NodeChanged.{KeepsNodes, kept_nodes, as_many, halts_are, nodes_are}
 use Rattle.cam_cluster.proofs.NodeChanged.{sites_are}
@@ -97,7 +97,7 @@ module _ (script : Script) (st : Standing) (place : ℕ) (works : WorksFields)
   module _ (within : place < 8) (ran : old.halted ≡ false) (runs : new.halted ≡ false)
       (same : AreSame old.site.node new.site.node)
       (entries : new.site.entries ≡ old.site.entries) (passes : new.passes ≡ old.passes)
-      (less : IsUnfailingNode new → IsUnfailingNode old) where
+      (less : HasTellingDisk new → HasTellingDisk old) where
     awake : has_number st.halted (place + 1) ≡ false
     awake =
         sym (keeps.whole.network.stands.nodes (place + 1) (omega arith) (omega (arith, within)))

@@ -27,7 +27,7 @@ use Rattle.cam_cluster.specs.declared.works.Put.TheVariants as puts
 use Rattle.cam_cluster.specs.declared.works.undecided.OpenHalt.{OpenHalt}
 use Rattle.cam_cluster.specs.Puts.{HasPut, KeepsAsBefore, letter_of}
 use Rattle.cam_cluster.specs.Works.{NodeFields, WorksFields, KeepsRun, MayReadAt}
-use Rattle.cam_cluster.specs.Works.{IsUnfailingNode}
+use Rattle.cam_cluster.specs.Works.{HasTellingDisk}
 use Rattle.cam_cluster.proofs.PlacedNodes.{taken_there, seen_there, reads_elsewhere, reads_there}
 use Rattle.cam_cluster.proofs.PutKeeps.{keeps_as_before, keeps_as_put, keeps_failing}
 use Rattle.cam_cluster.proofs.PutEnds.{put_stood, put_halted}
@@ -109,7 +109,7 @@ module _ {N : Type 0} (part : N → NodeFields) (tells : N → Bool) (may : N �
         → AreSame (part old).site.node (part new).site.node
         → (part new).site.entries ≡ (part old).site.entries
         → (part new).passes ≡ (part old).passes
-        → (IsUnfailingNode (part new) → IsUnfailingNode (part old))
+        → (HasTellingDisk (part new) → HasTellingDisk (part old))
         → KeepsAsBefore (seen nodes o h v u e m) (MayReadAt tells may nodes) (seen now o h v u e m)
         (MayReadAt tells may now)
     as_before_in ran runs same entries passes less script st is keeps =
@@ -125,7 +125,7 @@ module _ {N : Type 0} (part : N → NodeFields) (tells : N → Bool) (may : N �
         (part new).site.node (part new).site.entries (input_of (part old).site.node.number input)
         (mail_of input) (load_of input) event
         → letters ≡ letters_of (part new).site.node event.sent
-        → (IsUnfailingNode (part new) → IsUnfailingNode (part old))
+        → (HasTellingDisk (part new) → HasTellingDisk (part old))
         → HasAppended (part old).objects (part old).site.node
         (input_of (part old).site.node.number input) (mail_of input) (load_of input) event
         (part old).site.entries (part new).site.entries (part old).passes (part new).passes
@@ -148,7 +148,7 @@ module _ {N : Type 0} (part : N → NodeFields) (tells : N → Bool) (may : N �
         (input_of (part old).site.node.number input) (mail_of input) (load_of input)
         (part new).site.node (part new).halted_at
         → (w : Failed) → (w ≡ Nothing → v ≡ Nothing)
-        → (IsUnfailingNode (part new) → IsUnfailingNode (part old))
+        → (HasTellingDisk (part new) → HasTellingDisk (part old))
         → (w ≡ Nothing → (part new).tells ≡ true
         → IsCutOff 4 (part old).passes (part new).passes (λ calls. OpensAfter calls
         (part old).objects (part old).site.node (part old).site.entries

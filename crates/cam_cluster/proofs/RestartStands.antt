@@ -33,7 +33,7 @@ use Rattle.cam_cluster.specs.Restarts.{with_restart}
 use Rattle.cam_cluster.specs.Works.{NodeFields, WorksFields, IsSentBefore, KeepsRun, open_halt}
 use Rattle.cam_cluster.specs.Works.{sites_of}
 use Rattle.cam_cluster.specs.Stopping.{IsAsStopped, ends_by, stopped_at, too_few}
-use Rattle.cam_cluster.specs.Works.{AreStopped, AreStoppedBut, IsUnfailing, IsUnfailingNode}
+use Rattle.cam_cluster.specs.Works.{AreStopped, AreStoppedBut, HasTellingDisk, IsUnfailing}
 use Rattle.cam_cluster.proofs.StopTurns.{ended_as, other_calls, other_stopped, own_calls, stood_as}
 use Rattle.cam_cluster.proofs.StoppedWorks.{nodes_stopped, unfailing_before}
 use Rattle.cam_cluster.proofs.HaltsKept.{all_sent_still, open_without, others_all, others_open}
@@ -107,7 +107,7 @@ module _ (script : Script) (st : Standing) (place : ℕ) (works : WorksFields)
     (history_of script.objects st.running.trace (place + 1)) read)
     (restart : IsRestart script.objects (place + 1) read new.site.node new.site.entries event)
     (sent : letters ≡ letters_of new.site.node event.sent) (passes : new.passes ≡ None)
-    (less : IsUnfailingNode new → IsUnfailingNode old) where
+    (less : HasTellingDisk new → HasTellingDisk old) where
   abbrev c : Setting
   c = held_setting script.objects halts line restarted
 

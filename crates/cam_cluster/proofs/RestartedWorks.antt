@@ -26,7 +26,7 @@ use Rattle.cam_cluster.specs.declared.works.restart.Restart.TheVariants as ends
 use Rattle.cam_cluster.specs.declared.works.undecided.OpenHalt.{OpenHalt}
 use Rattle.cam_cluster.specs.OpenHalts.{events_found, halts_found, marks_found, open_halt_of}
 use Rattle.cam_cluster.specs.Restarts.{HasRestartedAs}
-use Rattle.cam_cluster.specs.Works.{IsUnfailingNode}
+use Rattle.cam_cluster.specs.Works.{HasTellingDisk}
 use Rattle.cam_cluster.specs.Works.{NodeFields, WorksFields, KeepsRun, MayReadAt, sites_of}
 use Rattle.cam_cluster.proofs.PlacedNodes.{reads_elsewhere, seen_there, taken_there}
 use Rattle.cam_cluster.proofs.PutWorks.{seen}
@@ -135,7 +135,7 @@ module _ {N : Type 0} (part : N → NodeFields) (tells : N → Bool) (may : N �
       (has : HasRestarted (part old).objects (part old).site.node.number (tells old) (may old)
       (part old).site.node (part old).halted_at (part new).site.node (part new).site.entries r)
       (no_letters : r.stepped.letters ≡ []) (passes : (part new).passes ≡ None)
-      (less : IsUnfailingNode (part new) → IsUnfailingNode (part old)) where
+      (less : HasTellingDisk (part new) → HasTellingDisk (part old)) where
     abbrev logged : Logged
     logged = logged_of has.left.recovered
 

@@ -7,39 +7,30 @@ use Rattle.cam_cluster.specs.declared.fault.RunFault.{RunFault}
 use Rattle.cam_cluster.specs.declared.fault.RunFault.TheVariants as faults
 use Rattle.cam_cluster.specs.declared.works.failing.Failed.{Failed}
 use Rattle.cam_cluster.specs.declared.works.failing.Failed.TheVariants as failed
-use Rattle.cam_cluster.specs.Failing.{GoOn, IsKnownToFail, IsOfKnown, told}
-use Rattle.cam_cluster.specs.HandedBack.{AreHandedBack, AreLater, HasCause, HasFailed}
-use Rattle.cam_cluster.specs.Works.{IsUnfailing, IsUnfailingNode, NodeFields}
+use Rattle.cam_cluster.specs.Failing.{GoOn, IsKnownToFail, IsOfKnown, failure}
+use Rattle.cam_cluster.specs.HandedBack.{AreHandedBack, AreLater, HasFailed, NamesFailed}
+use Rattle.cam_cluster.specs.Works.{HasTellingDisk, IsUnfailing, NodeFields}
 use Rattle.cam_cluster.proofs.DisksGoOn.{some_is_not}
 use Rattle.cam_cluster.proofs.HandedBack.{failed_between, then_later}
 
 -- where each disk tells what it holds
 pub all_tell : {N : Type 0} (part : N → NodeFields) → ((node : N) → (part node).tells ≡ true)
-    → (nodes : List N) → AllByRecursion IsUnfailingNode (map part nodes)
+    → (nodes : List N) → AllByRecursion HasTellingDisk (map part nodes)
 all_tell part each [] = tt
 all_tell part each (node ∷ nodes) = (each node, all_tell part each nodes)
 
 -- what is told of what failed
 pub told_none : (known : Failed) (nodes : List NodeFields) (result : Result (Unit {0}) RunFault)
-    → result ≡ told known → AllByRecursion IsUnfailingNode nodes
+    → OnOk result (known ≡ failed.Nothing) → AllByRecursion HasTellingDisk nodes
     → OnOk result (IsUnfailing known nodes)
-told_none known nodes result is all =
-    subst (λ (r : Result (Unit {0}) RunFault). OnOk r (IsUnfailing known nodes)) (sym is) (by known)
-  where
-    by : (f : Failed) → OnOk (told f) (IsUnfailing f nodes)
-    by failed.Nothing = (refl, all)
-    by (failed.Disk s) = tt
-    by failed.Memory = tt
+told_none known nodes (Ok done) none all = (none, all)
+told_none known nodes (Err fault) none all = tt
 
-pub told_cause : (known : Failed) (result : Result (Unit {0}) RunFault) → result ≡ told known
-    → IfErr result (IsOfKnown known)
-told_cause known result is =
-    subst (λ (r : Result (Unit {0}) RunFault). IfErr r (IsOfKnown known)) (sym is) (by known)
-  where
-    by : (f : Failed) → IfErr (told f) (IsOfKnown f)
-    by failed.Nothing = tt
-    by (failed.Disk s) = refl
-    by failed.Memory = tt
+pub told_cause : (known : Failed) (result : Result (Unit {0}) RunFault)
+    → IfErr result (λ (fault : RunFault). known ≡ failure fault) → IfErr result (IsOfKnown known)
+told_cause known (Ok done) is = tt
+told_cause known (Err (faults.DiskFault s)) is = is
+told_cause known (Err faults.NoMemory) is = tt
 
 module _ {D : Type 0} (tells : D → Bool) (faults_of : D → ℕ) (before after : List D)
     (first last : List NodeFields)
@@ -61,7 +52,8 @@ module _ {D : Type 0} (tells : D → Bool) (faults_of : D → ℕ) (before after
 
   -- And a disk that the fault of the run names failed by itself.
   pub run_cause : (start known : Failed) (fault : RunFault) → start ≡ failed.Nothing
-      → GoOn first start last known → IsOfKnown known fault → HasCause faults_of before after fault
+      → GoOn first start last known → IsOfKnown known fault
+      → NamesFailed faults_of before after fault
   run_cause start known (faults.DiskFault s) none on is =
       by (subst (λ (f : Failed). IsKnownToFail start first f last) is on.known)
     where

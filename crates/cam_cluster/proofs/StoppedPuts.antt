@@ -27,7 +27,7 @@ use Rattle.cam_cluster.specs.Puts.{IsPutAt}
 use Rattle.cam_cluster.specs.Stopped.{IsHaltByStop}
 use Rattle.cam_cluster.specs.Stopping.{IsAsStopped, ends_by}
 use Rattle.cam_cluster.specs.Works.{NodeFields, WorksFields, KeepsRun, AreStopped, IsUnfailing}
-use Rattle.cam_cluster.specs.Works.{IsUnfailingNode, no_node}
+use Rattle.cam_cluster.specs.Works.{HasTellingDisk, no_node}
 use Rattle.cam_cluster.proofs.PutNode.{site_is, node_keeps, may_then}
 use Rattle.cam_cluster.proofs.StopTurns.{halted_as, other_calls, other_stopped, stood_as}
 use Rattle.cam_cluster.proofs.StoppedSteps.{ends_there, halted_by_stop, stood_as_stopped}
@@ -38,7 +38,7 @@ module _ (script : Script) (st : Standing) (place : ℕ) (input : NodeInput) (ma
     (keeps : KeepsRun script st works might) (put_so : IsPutAt script st place input mail load)
     (there : slice_get works.nodes place ≡ Some old) (new : NodeFields) (nodes : List NodeFields)
     (are : nodes ≡ set works.nodes place new) (line : ℕ) (again : Bool)
-    (less : IsUnfailingNode new → IsUnfailingNode old) where
+    (less : HasTellingDisk new → HasTellingDisk old) where
   abbrev t : List Event
   t = st.running.trace
 
@@ -114,7 +114,7 @@ module _ (script : Script) (st : Standing) (place : ℕ) (input : NodeInput) (ma
       → (failed ≡ Nothing → new.tells ≡ true
       → IsCutOff 4 old.passes new.passes (λ calls. OpensAfter calls script.objects old.site.node
       old.site.entries input mail load new.reads))
-      → (IsUnfailing failed nodes → IsUnfailingNode new)
+      → (IsUnfailing failed nodes → HasTellingDisk new)
       → IsUnfailing failed nodes
       → AreStopped script.objects t (r ∷ st.halted) turns_now nodes
   halted_stops failed fed goes_on halts cause here all =

@@ -15,7 +15,7 @@ use Rattle.cam_histories.specs.Laws.{history_of}
 use Rattle.cam_cluster.specs.declared.works.failing.Failed.{Failed}
 use Rattle.cam_cluster.specs.Stopped.{IsStoppedAs}
 use Rattle.cam_cluster.specs.Stopping.{stopped_at, IsAsStopped}
-use Rattle.cam_cluster.specs.Works.{NodeFields, AreStopped, AreStoppedBut, IsUnfailing, IsUnfailingNode}
+use Rattle.cam_cluster.specs.Works.{HasTellingDisk, NodeFields, AreStopped, AreStoppedBut, IsUnfailing}
 use Rattle.cam_cluster.proofs.HaltsByStop.{halt_alike}
 use Rattle.cam_cluster.proofs.WorksNodes.{set_tells}
 
@@ -31,26 +31,26 @@ all_before P (x ∷ xs) (suc place) old new there back all =
 
 pub unfailing_before : (failed : Failed) (nodes now : List NodeFields) (place : ℕ)
     (old new : NodeFields) → slice_get nodes place ≡ Some old → now ≡ set nodes place new
-    → (IsUnfailingNode new → IsUnfailingNode old) → IsUnfailing failed now
+    → (HasTellingDisk new → HasTellingDisk old) → IsUnfailing failed now
     → IsUnfailing failed nodes
 unfailing_before failed nodes now place old new there are back all = (
   all.0,
-  all_before IsUnfailingNode nodes place old new there back
-      (subst (AllByRecursion IsUnfailingNode) are all.1),
+  all_before HasTellingDisk nodes place old new there back
+      (subst (AllByRecursion HasTellingDisk) are all.1),
 )
 
 pub unfailing_there : (failed : Failed) (nodes : List NodeFields) (place : ℕ) (node : NodeFields)
-    → slice_get nodes place ≡ Some node → IsUnfailing failed nodes → IsUnfailingNode node
+    → slice_get nodes place ≡ Some node → IsUnfailing failed nodes → HasTellingDisk node
 unfailing_there failed nodes place node at all = one nodes place at all.1
   where
     one : (xs : List NodeFields) (k : ℕ) → slice_get xs k ≡ Some node
-        → AllByRecursion IsUnfailingNode xs → IsUnfailingNode node
+        → AllByRecursion HasTellingDisk xs → HasTellingDisk node
     one [] k at each = absurd (none-some node at)
-    one (x ∷ xs) zero at each = subst IsUnfailingNode (same_Some x node at) each.0
+    one (x ∷ xs) zero at each = subst HasTellingDisk (same_Some x node at) each.0
     one (x ∷ xs) (suc k) at each = one xs k at each.1
 
 pub unfailing_less : (old new : NodeFields) → new.tells ≡ old.tells
-    → IsUnfailingNode new → IsUnfailingNode old
+    → HasTellingDisk new → HasTellingDisk old
 unfailing_less old new told all = sym told ∙ all
 
 -- how a step failed

@@ -1,6 +1,6 @@
 -- What has failed by itself in a cluster: the disk of a node, whose count of faults rose, or memory,
 -- which ran out in a node that is halted since. What is known of it after each call.
-use Rattle.std.specs.Prelude.{◌≡◌, ◌⊎◌, ℕ, List, map, Result, Ok, Err}
+use Rattle.std.specs.Prelude.{◌≡◌, ◌⊎◌, ℕ, List, map}
 use Rattle.cam_base.specs.Causes.{Rose}
 use Rattle.cam_node.specs.declared.fault.NodeFault.{NodeFault}
 use Rattle.cam_node.specs.declared.fault.NodeFault.TheVariants as faults
@@ -11,30 +11,26 @@ use Rattle.cam_cluster.specs.declared.works.failing.Failed.TheVariants as failed
 use Rattle.cam_cluster.specs.HandedBack.{AreHandedBack, HasFailed}
 use Rattle.cam_cluster.specs.Works.{NodeFields, WorksFields}
 
--- A call of a node, by the count of its disk before and after it: the disk is named just where the
--- count rose, unless something is known to have failed before.
-abbrev pub IsAfterCall : ℕ → ℕ → ℕ → Failed → Failed → Type 0
-IsAfterCall s before count old failed.Nothing =
-    (old ≡ failed.Nothing) × (Rose before count → ⊥)
-IsAfterCall s before count old (failed.Disk n) =
-    (old ≡ failed.Disk n) ⊎ ((n ≡ s) × Rose before count)
-IsAfterCall s before count old failed.Memory = old ≡ failed.Memory
+-- What is known to have failed, where this has failed now: the first that failed stays known.
+abbrev pub KnownFirst : Failed → Failed → Failed → Type 0
+KnownFirst failed.Nothing this new = new ≡ this
+KnownFirst old this new = new ≡ old
 
--- A node halted in its step: memory is named where it ran out.
+-- A call of a node, by the count of its disk before and after it: that its disk failed is known just
+-- where the count rose.
+pub record IsAfterCall (s before count : ℕ) (old new : Failed) : Type 0 where
+  pub rose : Rose before count → KnownFirst old (failed.Disk s) new
+  pub still : (Rose before count → ⊥) → new ≡ old
+
+-- A node halted in its step: that memory ran out is known where it did.
 abbrev pub IsAfterHalt : NodeFault → Failed → Failed → Type 0
-IsAfterHalt faults.NoMemory old new = new ≡ failed.Memory
+IsAfterHalt faults.NoMemory old new = KnownFirst old failed.Memory new
 IsAfterHalt faults.DiskFault old new = new ≡ old
 
--- A restart failed: something is named.
-abbrev pub IsAfterRestart : Failed → Failed → Type 0
-IsAfterRestart failed.Nothing new = new ≡ failed.Memory
-IsAfterRestart old new = new ≡ old
-
--- why the run ends, where something has failed
-abbrev pub told : Failed → Result (Unit {0}) RunFault
-told failed.Nothing = Ok tt
-told (failed.Disk s) = Err (run_faults.DiskFault s)
-told failed.Memory = Err run_faults.NoMemory
+-- what has failed, where the run ends by this fault
+abbrev pub failure : RunFault → Failed
+failure (run_faults.DiskFault s) = failed.Disk s
+failure run_faults.NoMemory = failed.Memory
 
 -- A fault that names a disk names the one that is known to have failed.
 abbrev pub IsOfKnown : Failed → RunFault → Type 0

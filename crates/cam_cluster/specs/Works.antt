@@ -91,13 +91,14 @@ pub record IsHaltOf (objects : List ObjectDecl) (trace : List Event) (undecided 
   pub newest : undecided_of s undecided ≡ Some halt
   pub alike : nameless (taken whole) ≡ nameless (received_at objects trace halt)
 
--- Nothing has failed by itself, and the disks tell what they hold.
-abbrev pub IsUnfailingNode : NodeFields → Type 0
-IsUnfailingNode node = node.tells ≡ true
+-- the node's disk tells what it holds
+abbrev pub HasTellingDisk : NodeFields → Type 0
+HasTellingDisk node = node.tells ≡ true
 
+-- Nothing has failed by itself, and the disks tell what they hold.
 abbrev pub IsUnfailing : Failed → List NodeFields → Type 0
 IsUnfailing known nodes =
-    (known ≡ failed.Nothing) × AllByRecursion IsUnfailingNode nodes
+    (known ≡ failed.Nothing) × AllByRecursion HasTellingDisk nodes
 
 -- Each node, but for some, is by the lines that stop its disk.
 pub record AreStoppedBut (but : ℕ → Bool) (objects : List ObjectDecl) (trace : List Event)

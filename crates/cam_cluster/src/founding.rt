@@ -1,12 +1,13 @@
 //! The nodes of a cluster before its first line, each formatted over the disk at its place.
-ghost use Rattle.std.specs.Prelude.{◌≡◌, ◌+◌, ◌≤◌, ◌<◌, ◌++◌, ◌∷◌, [], IfErr, IfOk, OnErr, OnOk, length, map, vec_capacity, vec_len};
+ghost use Rattle.std.specs.Prelude.{◌≡◌, ◌+◌, ◌≤◌, [], IfErr, IfOk, OnErr, OnOk, length, map, vec_capacity, vec_len};
 ghost use Rattle.cam_node.specs.Opened.{MayRead};
 ghost use Rattle.cam_base.specs.Causes.{Rose};
 ghost use Rattle.cam_node.specs.declared.fault.NodeFault.TheVariants.{DiskFault};
 ghost use Rattle.cam_cluster.specs.Founding.{AreNewNodes, AreTakenOut, IsNewNode, fault_at};
-ghost use Rattle.cam_cluster.specs.HandedBack.{AreHandedBack, AreLater, HasCause, IsLater};
+ghost use Rattle.cam_cluster.specs.HandedBack.{AreHandedBack, AreLater, IsLater, NamesFailed};
 
 use crate::fault::RunFault;
+use crate::room::push_owned;
 use cam_base::NoMemory;
 use cam_ckpt::{CheckpointLog, Ckpt};
 use cam_disk::{Disk, StopDisk};
@@ -35,19 +36,6 @@ impl<L: CheckpointLog> AsPart for Node<L> {
       tells = L.tells node.log.log;
       failures = L.faults_within node.log.log;
     } };
-}
-
-/// Adds a value for which there is room.
-fn push_owned<T: Drop>(list: &mut Vec<T>, value: T)
-    requires { vec_len list.old < vec_capacity list.old }
-    ensures items { list.new.items ≡ list.old.items ++ value ∷ [] }
-    ensures capacity { vec_capacity list.old ≤ vec_capacity list.new }
-{
-    match list.push(value) {
-        Ok(()) => {}
-        // there is room
-        Err(_) => unreachable!(),
-    }
 }
 
 /// Why no cluster was made, where the node of this number was refused.
@@ -126,7 +114,7 @@ pub(crate) fn found<D: Disk>(
     ensures empty { OnOk result (disks.new.items ≡ []) }
     ensures back { OnErr result
         (AreHandedBack D.tells D.faults disks.old.items disks.new.items) }
-    ensures cause { IfErr result (HasCause D.faults disks.old.items disks.new.items) }
+    ensures cause { IfErr result (NamesFailed D.faults disks.old.items disks.new.items) }
     ensures none { OnErr result (nodes.new.items ≡ []) }
     ensures capacity { (vec_capacity disks.old ≤ vec_capacity disks.new)
         × (vec_capacity nodes.old ≤ vec_capacity nodes.new) }

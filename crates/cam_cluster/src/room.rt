@@ -1,5 +1,5 @@
 //! Room that is made in a list before it is used.
-ghost use Rattle.std.specs.Prelude.{◌≡◌, ◌<◌, ◌++◌, ◌∷◌, [], OnOk, vec_len, vec_capacity};
+ghost use Rattle.std.specs.Prelude.{◌≡◌, ◌<◌, ◌≤◌, ◌++◌, ◌∷◌, [], OnOk, vec_len, vec_capacity};
 
 use cam_base::NoMemory;
 
@@ -18,6 +18,19 @@ pub(crate) fn push_reserved<T: Copy>(list: &mut Vec<T>, value: &T)
     ensures { list.new.items ≡ list.old.items ++ value.now ∷ [] }
 {
     match list.push(*value) {
+        Ok(()) => {}
+        // there is room
+        Err(_) => unreachable!(),
+    }
+}
+
+/// Adds a value to a list that has room for it. It takes no memory.
+pub fn push_owned<T: Drop>(list: &mut Vec<T>, value: T)
+    requires { vec_len list.old < vec_capacity list.old }
+    ensures items { list.new.items ≡ list.old.items ++ value ∷ [] }
+    ensures capacity { vec_capacity list.old ≤ vec_capacity list.new }
+{
+    match list.push(value) {
         Ok(()) => {}
         // there is room
         Err(_) => unreachable!(),

@@ -4,7 +4,7 @@ ghost use Rattle.std.specs.List.{AllByRecursion};
 ghost use Rattle.cam_script.specs.declared.Script.{Script as ScriptFields};
 ghost use Rattle.cam_script.specs.Law.{IsScript};
 ghost use Rattle.cam_cluster.specs.Disks.{AreLogs, MayReadDisk};
-ghost use Rattle.cam_cluster.specs.HandedBack.{AreHandedBack, AreLater, HasCause};
+ghost use Rattle.cam_cluster.specs.HandedBack.{AreHandedBack, AreLater, FindsFailed, NamesFailed, disk_named};
 ghost use Rattle.cam_cluster.specs.Servers.{AreServers};
 ghost use Rattle.cam_cluster.specs.Courses.{KeepsCourse};
 ghost use Rattle.cam_cluster.specs.declared.works.failing.Failed.TheVariants.{Nothing};
@@ -18,6 +18,7 @@ use crate::course::{Course, CourseFault};
 use crate::fault::RunFault;
 use crate::founding::take_out;
 use crate::lines::{AsLines, Lines};
+use crate::rising::FaultCounts;
 use crate::servers::Servers;
 use crate::telling::TellingLog;
 use crate::workers::Workers;
@@ -66,7 +67,7 @@ impl<D: TellingDisk> Run<Ckpt<StopDisk<D>>> {
         ensures nothing { IfOk result (λ run. run.course.lines.works.failed ≡ Nothing) }
         ensures back { OnErr result
             (AreHandedBack D.tells D.faults disks.old.items disks.new.items) }
-        ensures cause { IfErr result (HasCause D.faults disks.old.items disks.new.items) }
+        ensures cause { IfErr result (NamesFailed D.faults disks.old.items disks.new.items) }
         ensures capacity { vec_capacity disks.old ≤ vec_capacity disks.new }
     {
         let lines = Lines::new(alloc, script, disks)?;
@@ -78,8 +79,7 @@ impl<D: TellingDisk> Run<Ckpt<StopDisk<D>>> {
         })
     }
 
-    /// The record of the lines so far; the disks are back in their list, each at its place. It takes
-    /// no memory.
+    /// The record of the lines so far; as many disks are back in their list. It takes no memory.
     fn end(self, disks: &mut Vec<D>) -> RunRecord
         requires none { disks.old.items ≡ [] }
         requires room { vec_len self.course.lines.works.nodes ≤ vec_capacity disks.old }
@@ -111,7 +111,7 @@ impl<L: TellingLog> Run<L> {
             (⟦<Lines<L> as AsLines>⟧.fields self.now.course.lines).works.nodes) }
         ensures cause { IfErr result (IsOfKnown self.now.course.lines.works.failed) }
     {
-        self.course.lines.works.failed.told()
+        self.course.lines.works.failed.unfailing()
     }
 
     /// Takes the next line of the script, which may be refused. It fails where something failed by
@@ -197,16 +197,46 @@ impl<L: TellingLog> Run<L> {
     }
 }
 
+/// Runs a whole script over the disks. A fault names a disk only where that one failed by itself.
+fn run_over<D: TellingDisk, R: DataType, Q: DataType, C: DataType>(
+    alloc: Global,
+    script: &Script,
+    disks: &mut Vec<D>,
+    servers: &mut Servers<R, Q, C>,
+) -> Result<RunRecord, RunFault>
+    requires script { IsScript script.now }
+    requires one_each { length disks.old.items ≡ script.now.nodes }
+    requires servers { AreServers R.kind Q.kind C.kind
+        servers.old.register servers.old.queue servers.old.counter }
+    ensures run { IfOk result (IsRunWithLogs script.now
+        (MayReadDisk D.tells D.moment D.left_since disks.new.items)) }
+    ensures disks { AreHandedBack D.tells D.faults disks.old.items disks.new.items }
+    ensures logs { OnOk result (AreLogs D.tells D.moment D.left_since disks.new.items) }
+    ensures cause { IfErr result (NamesFailed D.faults disks.old.items disks.new.items) }
+    ensures capacity { vec_capacity disks.old ≤ vec_capacity disks.new }
+    ensures servers { AreServers R.kind Q.kind C.kind
+        servers.new.register servers.new.queue servers.new.counter }
+{
+    let mut run = Run::new(alloc, script, disks)?;
+    let taken = run.take_all(script, servers);
+    let record = run.end(disks);
+    match taken {
+        Ok(()) => Ok(record),
+        Err(fault) => Err(fault),
+    }
+}
+
 /// Runs a whole script, each node over the disk at its place, which is formatted, whatever it held.
 /// A line that is refused leaves its mark, and the run goes on; so it does where a node halts since
 /// a line has stopped its disk. What it gives is the record of the one run of the script: a node
-/// halts just where such a line cuts its append off. However the run ends, the disks are back in
-/// their list, each at its place.
+/// halts just where such a line cuts its append off. However the run ends, as many disks are back in
+/// their list.
 ///
-/// The servers do the operations of its objects. The run ends by `DiskFault` where the disk of a
-/// node fails by itself, in a call that it does: while it is formatted, in a line, or while its node
-/// restarts. That disk's count of faults rose then; how often it had failed before does not matter.
-/// It ends by `NoMemory` where memory runs out.
+/// The servers do the operations of its objects. The run ends by `DiskFault` just where the disk of a
+/// node failed by itself in it, in a call that it does: while it is formatted, in a line, or while its
+/// node restarts. That disk's count of faults rose then; of several disks that failed it names the
+/// first, in order of their nodes. How often a disk had failed before does not matter, but at the end
+/// of the count's type. It ends by `NoMemory` where memory ran out, and no disk failed.
 pub fn run_script<D: TellingDisk, R: DataType, Q: DataType, C: DataType>(
     alloc: Global,
     script: &Script,
@@ -221,18 +251,18 @@ pub fn run_script<D: TellingDisk, R: DataType, Q: DataType, C: DataType>(
         (MayReadDisk D.tells D.moment D.left_since disks.new.items)) }
     ensures disks { AreHandedBack D.tells D.faults disks.old.items disks.new.items }
     ensures logs { OnOk result (AreLogs D.tells D.moment D.left_since disks.new.items) }
-    // A disk is named only where it failed by itself in the run.
-    ensures cause { IfErr result (HasCause D.faults disks.old.items disks.new.items) }
+    // A disk is named just where one failed by itself in the run: the first that did.
+    ensures failed { FindsFailed D.faults D.faults disks.old.items disks.new.items
+        (disk_named result) }
     // The list keeps its room.
     ensures capacity { vec_capacity disks.old ≤ vec_capacity disks.new }
     ensures servers { AreServers R.kind Q.kind C.kind
         servers.new.register servers.new.queue servers.new.counter }
 {
-    let mut run = Run::new(alloc, script, disks)?;
-    let taken = run.take_all(script, servers);
-    let record = run.end(disks);
-    match taken {
-        Ok(()) => Ok(record),
-        Err(fault) => Err(fault),
+    let before = FaultCounts::of(disks.as_slice());
+    let run = run_over(alloc, script, disks, servers);
+    match before.first_failed(disks.as_slice()) {
+        Some(node) => Err(RunFault::DiskFault(node)),
+        None => run,
     }
 }

@@ -107,7 +107,7 @@ pub record HasHaltedRun (script : Script) (halts : Halting) : Type 0 where
       → knows_commit (known_by script.objects (halted_events script halts) s) a ≡ true
       → knows_abort (known_by script.objects (halted_events script halts) r) a ≡ false
   -- A log that keeps a node's history gives what the node keeps over a restart.
-  pub recovered :
+  pub restarts :
       (s : ℕ) (logged : Logged)
       → KeepsLog script.objects s (node_history script.objects (halted_events script halts) s) logged
       → IsKept script.objects (halted_events script halts) s logged.count logged.know logged.held

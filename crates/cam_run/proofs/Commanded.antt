@@ -108,7 +108,7 @@ script_has_status : (question : Question) (read : Result Script ScriptFault) (fa
 script_has_status question (Ok script) failed status text (inl of_disk) none =
     absurd (none of_disk.one)
 script_has_status question (Ok script) failed status text (inr told) none =
-    told_has_status question script status text told
+    told_has_status question script status text told.1
 script_has_status question (Err fault) failed status text told none =
     refused_has_status fault status text told
 
@@ -158,9 +158,18 @@ of_disk question script failed node (Err e) cause status text = tt
 of_disk question script failed node (Ok a) cause status text =
     inl (record {
       one = record { node = node; high = cause.0; did = cause.1 };
+      first = cause.2;
       is = ap number status;
       names = text;
     })
+
+-- the answer where none failed
+pub of_told : {E : Type 0} (question : Question) (script : Script) (failed : ℕ → Type 0)
+    (r : Result Answer E)
+    → (OneFailed script.nodes failed → ⊥)
+    → IfOk r (λ a. IsTold question script (number a.status) a.text.items)
+    → IfOk r (λ a. IsOfRun question script failed (number a.status) a.text.items)
+of_told question script failed r none told = IfOk-weaker r _ _ (λ a is. inr (none, is)) told
 
 -- what is said of the command that was read is said of each command of which the words are the form
 pub of_words : (words : List (List ℕ)) (command : Command) (P : Command → List ℕ → Type 0)
@@ -261,7 +270,7 @@ seed_is_done seed size failed r few told =
         → IsOfScript (Summary size) read failed status text
         → (status ≡ 0) ⊎ (status ≡ 6)
     by status text (Ok script) ok (inl of_disk) = inr of_disk.is
-    by status text (Ok script) ok (inr told) = inl told.0
+    by status text (Ok script) ok (inr told) = inl told.1.0
     by status text (Err fault) ok told = absurd cc
 
 -- words that are the form of `gen` are those of the command that was read

@@ -1,12 +1,11 @@
 -- A run over the first disks of a list, and what it says of the whole list, of which the rest stays.
-use Rattle.std.proofs.Common.{◌≡◌, ◌≤◌, ◌<◌, ◌+◌, ◌-◌, ℕ, zero, suc, Bool, List, [], ◌∷◌, ◌++◌, length, take, drop, Some, Result, refl, sym, ap, ◌∙◌, subst, arith}
-use Rattle.std.specs.Prelude.{reverse, slice_get, IfErr}
+use Rattle.std.proofs.Common.{◌≡◌, ◌≤◌, ◌<◌, ◌+◌, ◌-◌, ℕ, zero, suc, Bool, List, [], ◌∷◌, ◌++◌, length, take, drop, Some, Result, Ok, Err, refl, sym, ap, ◌∙◌, subst, arith}
+use Rattle.std.specs.Prelude.{reverse, slice_get, IfErr, OnOk}
 use Rattle.std.proofs.lemmas.List.{drop_at, take-append-drop, length-take-le}
-use Rattle.std.proofs.lemmas.Result.{IfErr-weaker}
 use Rattle.cam_cluster.specs.declared.fault.RunFault.{RunFault}
 use Rattle.cam_cluster.specs.declared.fault.RunFault.TheVariants.{DiskFault, NoMemory}
-use Rattle.cam_cluster.specs.HandedBack.{IsLater, AreHandedBack, HasFailed, HasCause}
-use Rattle.cam_run.specs.Disks.{FailedAt, IsCaused}
+use Rattle.cam_cluster.specs.HandedBack.{AreHandedBack, FindsFailed, HasFailed, IsLater, disk_named}
+use Rattle.cam_run.specs.Disks.{FailedAt, IsCaused, OneFailed}
 
 -- disks that nothing happened to are handed back
 pub as_they_were : {D : Type 0} (tells : D → Bool) (faults_of : D → ℕ) (disks : List D)
@@ -88,31 +87,80 @@ rest_stays tells faults_of n disks later whole is =
     ap (λ (xs : List _). drop n xs) is.all
     ∙ drop_at later (drop n disks) n (first_length tells faults_of n disks later is.enough is.back)
 
--- and a fault of the run is that of a disk of the whole list.
-fault_caused : {D : Type 0} (faults_of : D → ℕ) (n : ℕ) (disks later : List D) → n ≤ length disks
-    → (fault : RunFault) → HasCause faults_of (take n disks) later fault
-    → IsCaused n (FailedAt faults_of disks (later ++ drop n disks)) fault
-fault_caused faults_of n disks later enough (DiskFault s) failed = (
-  omega (arith, failed.high, length-take-le n disks enough),
-  record {
-    low = failed.low;
-    high = omega (arith, failed.high, length-take-le n disks enough, enough);
-    old = failed.old;
-    new = failed.new;
-    was =
-        ap (λ (xs : List _). slice_get xs (s - 1)) (sym (take-append-drop n disks))
-        ∙ of_whole (take n disks) (drop n disks) (s - 1) failed.old failed.was;
-    is = of_whole later (drop n disks) (s - 1) failed.new failed.is;
-    rose = failed.rose;
-  },
-)
-fault_caused faults_of n disks later enough NoMemory cause = tt
+-- What a run says of its disks is so of the whole list: which of them failed,
+failed_of_whole : {D : Type 0} (faults_of : D → ℕ) (n : ℕ) (disks later : List D)
+    → n ≤ length disks → (s : ℕ) → HasFailed faults_of faults_of s (take n disks) later
+    → FailedAt faults_of disks (later ++ drop n disks) s
+failed_of_whole faults_of n disks later enough s failed = record {
+  low = failed.low;
+  high = omega (arith, failed.high, length-take-le n disks enough, enough);
+  old = failed.old;
+  new = failed.new;
+  was =
+      ap (λ (xs : List _). slice_get xs (s - 1)) (sym (take-append-drop n disks))
+      ∙ of_whole (take n disks) (drop n disks) (s - 1) failed.old failed.was;
+  is = of_whole later (drop n disks) (s - 1) failed.new failed.is;
+  rose = failed.rose;
+}
 
-pub run_caused : {D T : Type 0} (tells : D → Bool) (faults_of : D → ℕ) (n : ℕ)
+-- and which of the whole list did, of so many.
+failed_of_first : {D : Type 0} (faults_of : D → ℕ) (n : ℕ) (disks later : List D)
+    → n ≤ length disks → length later ≡ n → (s : ℕ) → s ≤ n
+    → FailedAt faults_of disks (later ++ drop n disks) s
+    → HasFailed faults_of faults_of s (take n disks) later
+failed_of_first faults_of n disks later enough many s within failed = record {
+  low = failed.low;
+  high = omega (arith, within, length-take-le n disks enough);
+  old = failed.old;
+  new = failed.new;
+  was =
+      of_first (take n disks) (drop n disks) (s - 1) failed.old
+      (let low = failed.low in omega (arith, low, within, length-take-le n disks enough))
+      (ap (λ (xs : List _). slice_get xs (s - 1)) (take-append-drop n disks) ∙ failed.was);
+  is =
+      of_first later (drop n disks) (s - 1) failed.new
+      (let low = failed.low in omega (arith, low, within, many)) failed.is;
+  rose = failed.rose;
+}
+
+-- So how the run ended says which of the first disks of the whole list failed.
+pub record EndedBy {T : Type 0} (n : ℕ) (failed : ℕ → Type 0) (r : Result T RunFault) : Type 0 where
+  pub steady : OnOk r (OneFailed n failed → ⊥)
+  pub cause : IfErr r (IsCaused n failed)
+
+ended_by : {D T : Type 0} (faults_of : D → ℕ) (n : ℕ) (disks later : List D) (r : Result T RunFault)
+    → n ≤ length disks → length later ≡ n
+    → FindsFailed faults_of faults_of (take n disks) later (disk_named r)
+    → EndedBy n (FailedAt faults_of disks (later ++ drop n disks)) r
+ended_by faults_of n disks later (Ok run) enough many none = record {
+  steady = λ one.
+      none one.node
+      (failed_of_first faults_of n disks later enough many one.node one.high one.did);
+  cause = tt;
+}
+ended_by faults_of n disks later (Err (DiskFault s)) enough many is =
+    let within : s ≤ n =
+    let high = is.failed.high in omega (arith, high, length-take-le n disks enough) in
+    record {
+      steady = tt;
+      cause = (
+        within,
+        failed_of_whole faults_of n disks later enough s is.failed,
+        λ k less failed.
+            is.first k less
+            (failed_of_first faults_of n disks later enough many k (omega (arith, less, within))
+            failed),
+      );
+    }
+ended_by faults_of n disks later (Err NoMemory) enough many none = record { steady = tt; cause = tt }
+
+pub run_ended : {D T : Type 0} (tells : D → Bool) (faults_of : D → ℕ) (n : ℕ)
     (disks first later whole : List D) (r : Result T RunFault)
     → IsOverFirst tells faults_of n disks later whole → first ≡ take n disks
-    → IfErr r (HasCause faults_of first later) → IfErr r (IsCaused n (FailedAt faults_of disks whole))
-run_caused tells faults_of n disks first later whole r is front cause =
-    subst (λ (xs : List _). IfErr r (IsCaused n (FailedAt faults_of disks xs))) (sym is.all)
-    (IfErr-weaker r _ _ (fault_caused faults_of n disks later is.enough)
-    (subst (λ (xs : List _). IfErr r (HasCause faults_of xs later)) front cause))
+    → FindsFailed faults_of faults_of first later (disk_named r)
+    → EndedBy n (FailedAt faults_of disks whole) r
+run_ended tells faults_of n disks first later whole r is front found =
+    subst (λ (xs : List _). EndedBy n (FailedAt faults_of disks xs) r) (sym is.all)
+    (ended_by faults_of n disks later r is.enough
+    (first_length tells faults_of n disks later is.enough is.back)
+    (subst (λ (xs : List _). FindsFailed faults_of faults_of xs later (disk_named r)) front found))

@@ -36,7 +36,7 @@ leaves_disks tells moment left_since script run first rest many one is logs = re
       subst (λ (disks : List _). AreLogs tells moment left_since disks)
       (sym (take_at first rest script.nodes many)) logs;
   kept = λ s logged low high awake reads.
-      one.recovered s logged
+      one.restarts s logged
       (keep s logged low high awake
       (record {
         disk = reads.disk;

@@ -5,3 +5,4 @@ pub mod WorkedAnswers
 pub mod Imaged
 pub mod FirstDisks
 pub mod LeftDisks
+pub mod Failing

@@ -131,9 +131,9 @@ unknown_told = refl
 pub are_worked : AreWorked
 are_worked =
     record {
-      open_call_is_shown = answers open_call (Ok (script 0 open_steps)) 0 open_call_report open_spelled (inr (refl, sym open_reported));
-      refused_call_is_marked = answers refused_call (Ok (script 0 refused_steps)) 0 refused_call_report refused_spelled (inr (refl, sym refused_reported));
-      repeated_letter_is_performed_once = answers repeated_letter (Ok (script 7 repeated_steps)) 0 repeated_letter_report repeated_spelled (inr (refl, sym repeated_reported));
-      stopped_commit_is_taken = answers stopped_commit (Ok stopped_script) 0 stopped_commit_report stopped_spelled (inr (refl, sym stopped_reported));
+      open_call_is_shown = answers open_call (Ok (script 0 open_steps)) 0 open_call_report open_spelled (inr (λ one. one.did, (refl, sym open_reported)));
+      refused_call_is_marked = answers refused_call (Ok (script 0 refused_steps)) 0 refused_call_report refused_spelled (inr (λ one. one.did, (refl, sym refused_reported)));
+      repeated_letter_is_performed_once = answers repeated_letter (Ok (script 7 repeated_steps)) 0 repeated_letter_report repeated_spelled (inr (λ one. one.did, (refl, sym repeated_reported)));
+      stopped_commit_is_taken = answers stopped_commit (Ok stopped_script) 0 stopped_commit_report stopped_spelled (inr (λ one. one.did, (refl, sym stopped_reported)));
       unknown_line_is_refused = answers unknown_line (Err (Bad 3 1 causes.UnknownWord)) 3 unknown_line_text unknown_read (refl, sym unknown_told);
     }

@@ -22,7 +22,7 @@ use Rattle.cam_run.specs.declared.question.Question.{Question}
 use Rattle.cam_run.specs.Texts.{usage_text, read_fault_text, disk_fault_text, refused_text}
 use Rattle.cam_run.specs.Commands.{Asked, IsForm, IsFormFor, asked_by, bytes_for}
 use Rattle.cam_run.specs.Commands.{by_time, nothing, of_image, of_run, reads}
-use Rattle.cam_run.specs.Disks.{OneFailed}
+use Rattle.cam_run.specs.Disks.{NoneBefore, OneFailed}
 use Rattle.cam_run.specs.Image.{IsOfImage, image_status, made}
 use Rattle.cam_run.specs.Told.{IsTold, told_status}
 
@@ -37,17 +37,19 @@ IsRefused (Bad line column cause) status text =
     (status ≡ 3) × (text ≡ refused_text line column (cause_number cause))
 IsRefused NoMemory status text = ⊥
 
--- the answer where the disk of a node of the script failed
+-- the answer where the disk of a node of the script failed: it names the first of them
 pub record IsOfDisk (script : Script) (failed : ℕ → Type 0) (status : ℕ) (text : List ℕ) : Type 0
   where
     pub one : OneFailed script.nodes failed
+    pub first : NoneBefore failed one.node
     pub is : status ≡ 6
     pub names : text ≡ disk_fault_text one.node
 
--- the answer to a question about a script: what is told of its run, unless a disk failed in it
+-- the answer to a question about a script: what is told of its run just where no disk failed in it
 abbrev pub IsOfRun : Question → Script → (ℕ → Type 0) → ℕ → List ℕ → Type 0
 IsOfRun question script failed status text =
-    IsOfDisk script failed status text ⊎ IsTold question script status text
+    IsOfDisk script failed status text
+    ⊎ ((OneFailed script.nodes failed → ⊥) × IsTold question script status text)
 
 -- the answer to a question, by what the bytes spell: a script, or a refusal
 abbrev pub IsOfScript : Question → Result Script ScriptFault → (ℕ → Type 0) → ℕ → List ℕ → Type 0

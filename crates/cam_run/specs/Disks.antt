@@ -1,6 +1,6 @@
 -- The disks of a call: which of them failed in it, and what the run of a script leaves of those of
 -- its nodes.
-use Rattle.std.specs.Prelude.{ℕ, ◌≤◌, Bool, List, take}
+use Rattle.std.specs.Prelude.{ℕ, ◌<◌, ◌≤◌, Bool, List, take}
 use Rattle.cam_cluster.specs.declared.fault.RunFault.{RunFault}
 use Rattle.cam_cluster.specs.declared.fault.RunFault.TheVariants.{DiskFault, NoMemory}
 use Rattle.cam_cluster.specs.Disks.{AreLogs, MayReadDisk}
@@ -18,9 +18,14 @@ pub record OneFailed (nodes : ℕ) (failed : ℕ → Type 0) : Type 0 where
   pub high : node ≤ nodes
   pub did : failed node
 
--- the cause of a fault of a run: the disk that it names is that of one of so many nodes, and failed
+-- that of no node before this one failed, in order of their numbers
+abbrev pub NoneBefore : (ℕ → Type 0) → ℕ → Type 0
+NoneBefore failed s = (k : ℕ) → k < s → failed k → ⊥
+
+-- the cause of a fault of a run: the disk that it names is that of one of so many nodes, and the
+-- first that failed
 abbrev pub IsCaused : ℕ → (ℕ → Type 0) → RunFault → Type 0
-IsCaused nodes failed (DiskFault s) = (s ≤ nodes) × failed s
+IsCaused nodes failed (DiskFault s) = (s ≤ nodes) × failed s × NoneBefore failed s
 IsCaused nodes failed NoMemory = Unit {0}
 
 -- What the run of a script leaves on the disks of its nodes: whatever a crash now leaves of one is

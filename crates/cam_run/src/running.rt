@@ -1,14 +1,14 @@
 //! The run of a script over the first of the disks that are handed in, one for each of its nodes.
-ghost use Rattle.std.specs.Prelude.{◌≡◌, ◌≤◌, ◌<◌, ◌+◌, ◌++◌, ◌∷◌, [], IfErr, IfOk, OnErr, OnOk, drop, length, reverse, take, vec_capacity, vec_len};
+ghost use Rattle.std.specs.Prelude.{◌≡◌, ◌≤◌, ◌+◌, ◌++◌, IfErr, IfOk, OnErr, OnOk, drop, length, reverse, take, vec_capacity, vec_len};
 ghost use Rattle.cam_cluster.specs.HandedBack.{AreHandedBack};
 ghost use Rattle.cam_cluster.specs.Servers.{AreServers};
 ghost use Rattle.cam_headline.specs.Headline.{HasOneRun};
 ghost use Rattle.cam_script.specs.Law.{IsScript};
-ghost use Rattle.cam_run.specs.Disks.{FailedAt, IsCaused, LeavesDisks};
+ghost use Rattle.cam_run.specs.Disks.{FailedAt, IsCaused, LeavesDisks, OneFailed};
 ghost use Rattle.cam_run.specs.Told.{IsOneRun};
 
 use cam_base::NoMemory;
-use cam_cluster::{RunFault, Servers, run_script};
+use cam_cluster::{RunFault, Servers, push_owned, run_script};
 use cam_disk::TellingDisk;
 use cam_event::RunRecord;
 use cam_script::Script;
@@ -30,6 +30,8 @@ pub(crate) fn run<D: TellingDisk, R: DataType, Q: DataType, C: DataType>(
     ensures one { IfOk result (IsOneRun script.now) }
     ensures cause { IfErr result (IsCaused script.now.nodes
         (FailedAt D.faults disks.old.items disks.new.items)) }
+    ensures steady { OnOk result (¬ (OneFailed script.now.nodes
+        (FailedAt D.faults disks.old.items disks.new.items))) }
     ensures back { AreHandedBack D.tells D.faults disks.old.items disks.new.items }
     ensures others { drop script.now.nodes disks.new.items
         ≡ drop script.now.nodes disks.old.items }
@@ -42,19 +44,6 @@ pub(crate) fn run<D: TellingDisk, R: DataType, Q: DataType, C: DataType>(
     let run = run_script(alloc, script, disks, servers);
     put_back(disks, &mut further);
     run
-}
-
-/// Adds a value for which there is room.
-fn push_owned<T: Drop>(list: &mut Vec<T>, value: T)
-    requires { vec_len list.old < vec_capacity list.old }
-    ensures items { list.new.items ≡ list.old.items ++ value ∷ [] }
-    ensures capacity { vec_capacity list.old ≤ vec_capacity list.new }
-{
-    match list.push(value) {
-        Ok(()) => {}
-        // there is room
-        Err(_) => unreachable!(),
-    }
 }
 
 /// Takes all but the first so many disks off their list, the last first. Where memory runs out they stay.

@@ -82,6 +82,12 @@ pub fn camelot<S: Source, K: Sink, D: TellingDisk, R: DataType, Q: DataType, C: 
         → ¬ (OneFailed (nodes_for command input)
         (FailedAt D.faults disks.old.items disks.new.items))
         → (result ≡ command_status command input) ⊎ (result ≡ 7)) }
+    // A disk that failed by itself keeps the text of the run from being written.
+    ensures failed { IfTold (S.left source.old) (S.left source.new) (λ input _.
+        (command : Commands) → IsFormFor (map string_bytes words.now) command
+        → OneFailed (nodes_for command input)
+        (FailedAt D.faults disks.old.items disks.new.items)
+        → (result ≡ 4) ⊎ ((result ≡ 5) ⊎ ((result ≡ 6) ⊎ (result ≡ 7)))) }
     // The script that is made from a seed is never refused.
     ensures generated { (seed size : ℕ) → IsFormFor (map string_bytes words.now) (Gen seed size)
         → (result ≡ 0) ⊎ ((result ≡ 5) ⊎ ((result ≡ 6) ⊎ (result ≡ 7))) }
@@ -95,6 +101,14 @@ pub fn camelot<S: Source, K: Sink, D: TellingDisk, R: DataType, Q: DataType, C: 
     ensures recovered { IfTold (S.left source.old) (S.left source.new) (λ input _.
         (command : Commands) → IsFormFor (map string_bytes words.now) command
         → (result ≡ 0) ⊎ (result ≡ 8) → IfRuns command input (λ script.
+        LeavesDisks D.tells D.moment D.left_since script disks.new.items)) }
+    // So it is where the sink alone failed, since the text is made before the first write.
+    ensures recovered_unwritten { IfTold (S.left source.old) (S.left source.new) (λ input _.
+        (command : Commands) → IsFormFor (map string_bytes words.now) command → result ≡ 5
+        → ¬ (Rose (S.faults source.old) (S.faults source.new))
+        → ¬ (OneFailed (nodes_for command input)
+        (FailedAt D.faults disks.old.items disks.new.items))
+        → IfRuns command input (λ script.
         LeavesDisks D.tells D.moment D.left_since script disks.new.items)) }
 
     // Of every script by time that is accepted: its run keeps the rules of runs by time; each action in it, whatever became of its
@@ -155,6 +169,11 @@ fn answer_to<S: Source, D: TellingDisk, R: DataType, Q: DataType, C: DataType>(
         → ¬ (OneFailed (nodes_for command input)
         (FailedAt D.faults disks.old.items disks.new.items))
         → number a.status ≡ command_status command input)) }
+    ensures failed { IfTold (S.left source.old) (S.left source.new) (λ input _.
+        (command : Commands) → IsFormFor (map string_bytes words.now) command
+        → IfOk result (λ a. OneFailed (nodes_for command input)
+        (FailedAt D.faults disks.old.items disks.new.items)
+        → (number a.status ≡ 4) ⊎ (number a.status ≡ 6))) }
     ensures generated { (seed size : ℕ) → IsFormFor (map string_bytes words.now) (Gen seed size)
         → IfOk result (λ a. (number a.status ≡ 0) ⊎ (number a.status ≡ 6)) }
     ensures statuses { IfOk result (λ a. MayAnswer a.status) }

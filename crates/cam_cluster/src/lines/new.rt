@@ -4,7 +4,7 @@ ghost use Rattle.cam_script.specs.Law.{IsScript};
 ghost use Rattle.cam_cluster.specs.Between.{KeepsBetween};
 ghost use Rattle.cam_cluster.specs.declared.works.failing.Failed.TheVariants.{Nothing};
 ghost use Rattle.cam_cluster.specs.Founding.{before_first};
-ghost use Rattle.cam_cluster.specs.HandedBack.{AreHandedBack, AreLater, HasCause};
+ghost use Rattle.cam_cluster.specs.HandedBack.{AreHandedBack, AreLater, NamesFailed};
 
 use super::{AsLines, Lines};
 use crate::fault::RunFault;
@@ -18,7 +18,7 @@ use std::alloc::Global;
 impl<D: Disk> Lines<Ckpt<StopDisk<D>>> {
     /// The lines of a script before its first, over a disk for each node, which is formatted,
     /// whatever it held. The disks are taken from their list, which keeps its room; where a disk
-    /// fails or memory runs out all are back in it, each at its place.
+    /// fails or memory runs out as many are back in it.
     pub(crate) fn new(
         alloc: Global,
         script: &Script,
@@ -39,7 +39,7 @@ impl<D: Disk> Lines<Ckpt<StopDisk<D>>> {
         ensures empty { OnOk result (disks.new.items ≡ []) }
         ensures back { OnErr result
             (AreHandedBack D.tells D.faults disks.old.items disks.new.items) }
-        ensures cause { IfErr result (HasCause D.faults disks.old.items disks.new.items) }
+        ensures cause { IfErr result (NamesFailed D.faults disks.old.items disks.new.items) }
         ensures capacity { vec_capacity disks.old ≤ vec_capacity disks.new }
     {
         let mut nodes = match Vec::with_capacity(alloc, disks.len()) {

@@ -1,6 +1,7 @@
 //! What has failed by itself in the works, and not by a line that stops a disk.
-ghost use Rattle.std.specs.Prelude.{◌≡◌, ◌+◌, ◌<◌, IfSome, length, slice_get};
-ghost use Rattle.cam_cluster.specs.Failing.{IsAfterCall, IsAfterHalt, IsAfterRestart, told};
+ghost use Rattle.std.specs.Prelude.{◌≡◌, ◌+◌, ◌<◌, IfErr, IfSome, OnOk, length, slice_get};
+ghost use Rattle.cam_cluster.specs.Failing.{IsAfterCall, IsAfterHalt, KnownFirst, failure};
+ghost use Rattle.cam_cluster.specs.declared.works.failing.Failed.TheVariants.{Nothing};
 
 use super::Works;
 use crate::fault::RunFault;
@@ -22,15 +23,27 @@ impl Failed {
     fn after_call(self, node: u8, before: u64, count: u64) -> Failed
         ensures { IsAfterCall node before count self result }
     {
-        match self {
-            Failed::Nothing if count >= before.saturating_add(1) => Failed::Disk(node),
-            _ => self,
+        if count >= before.saturating_add(1) {
+            self.then(Failed::Disk(node))
+        } else {
+            self
         }
     }
 
-    /// Why the run ends, where something has failed.
-    pub(crate) fn told(self) -> Result<(), RunFault>
-        ensures { result ≡ told self }
+    /// What has failed where this has failed now: what failed first.
+    pub(super) fn then(self, now: Failed) -> Failed
+        ensures { KnownFirst self now result }
+    {
+        match self {
+            Failed::Nothing => now,
+            Failed::Disk(_) | Failed::Memory => self,
+        }
+    }
+
+    /// Fails where something has failed: by that the run ends.
+    pub(crate) fn unfailing(self) -> Result<(), RunFault>
+        ensures nothing { OnOk result (self ≡ Nothing) }
+        ensures something { IfErr result (λ fault. self ≡ failure fault) }
     {
         match self {
             Failed::Nothing => Ok(()),
@@ -44,19 +57,8 @@ impl Failed {
         ensures { IsAfterHalt fault self result }
     {
         match fault {
-            NodeFault::NoMemory => Failed::Memory,
+            NodeFault::NoMemory => self.then(Failed::Memory),
             NodeFault::DiskFault => self,
-        }
-    }
-
-    /// What has failed where a restart did. Its disk does all calls: where none of them failed,
-    /// memory ran out.
-    pub(super) fn after_restart(self) -> Failed
-        ensures { IsAfterRestart self result }
-    {
-        match self {
-            Failed::Nothing => Failed::Memory,
-            _ => self,
         }
     }
 }

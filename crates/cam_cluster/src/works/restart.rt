@@ -10,6 +10,7 @@ ghost use Rattle.cam_cluster.specs.Failing.{DisksGoOn};
 ghost use Rattle.cam_cluster.specs.Puts.{KeepsAsBefore};
 ghost use Rattle.cam_cluster.specs.Restarts.{HasFoundByStop, HasRestartedAs};
 
+use super::failing::Failed;
 use super::found::mark_taken;
 use super::undecided::{close, newest_of, take_found};
 use super::{AsWorks, Works, is_halted};
@@ -106,7 +107,8 @@ impl<L: TellingLog> Works<L> {
             }
             Err(_) => {
                 self.failed = self.failed_since(place, before);
-                self.failed = self.failed.after_restart();
+                // its disk does all calls: where none of them failed, memory ran out
+                self.failed = self.failed.then(Failed::Memory);
                 self.halted[place] = true;
                 Ok(Restart::Failed)
             }

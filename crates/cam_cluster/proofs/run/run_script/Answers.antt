@@ -1,23 +1,32 @@
--- The run of a whole script.
-use Rattle.cam_cluster.proofs.RunDisks.{run_back, run_cause}
+-- The disks that failed decide what is given.
+use Rattle.std.proofs.Common.{◌≡◌, ◌∙◌, None, Some, ap, arith, length}
+use Rattle.cam_cluster.proofs.FirstFailed.{found_since, none_named}
+use Rattle.cam_cluster.proofs.HandedBack.{as_many}
 use Rattle.cam_cluster.proofs.run.run_script.Goals as goal
 
-pub returns-in-Ok-clause-run : goal.returns-in-Ok-clause-run
-returns-in-Ok-clause-run g c =
-    c.end-record.ensures.record c.args.script.now c.in-Ok.ensures.all
+pub first_failed-requires : goal.first_failed-requires
+first_failed-requires g c =
+    let many =
+    as_many g.D.Disk.tells g.D.Disk.faults g.D.Disk.tells g.D.Disk.faults c.args.disks.now.items
+    c.run_over-run.new.disks.items c.run_over-run.ensures.disks in
+    let same = ap length c.as_slice-2.ensures.value in
+    let each = c.requires.one_each in
+    let eight = c.requires.script.eight_nodes in
+    omega (arith, many, same, each, eight)
 
-pub returns-in-Ok-clause-disks : goal.returns-in-Ok-clause-disks
-returns-in-Ok-clause-disks g c =
-    run_back g.D.Disk.tells g.D.Disk.faults c.args.disks.now.items c.end-record.new.disks.items _ _
-    c.in_ok-run.ensures.later c.end-record.ensures.later c.take_all-taken.ensures.disks.later
+pub returns-in-Some-clause-failed : goal.returns-in-Some-clause-failed
+returns-in-Some-clause-failed g c =
+    found_since g.D.Disk.tells g.D.Disk.faults c.args.disks.now.items
+    c.run_over-run.new.disks.items c.as_slice.result.now c.as_slice-2.result.now
+    c.of-before.result.counts (Some c.in-Some.node) c.as_slice.ensures.value
+    c.as_slice-2.ensures.value c.of-before.ensures c.run_over-run.ensures.disks c.in-Some.ensures
 
-pub returns-in-Err-clause-disks : goal.returns-in-Err-clause-disks
-returns-in-Err-clause-disks g c =
-    run_back g.D.Disk.tells g.D.Disk.faults c.args.disks.now.items c.end-record.new.disks.items _ _
-    c.in_ok-run.ensures.later c.end-record.ensures.later c.take_all-taken.ensures.disks.later
-
-pub returns-in-Err-clause-cause : goal.returns-in-Err-clause-cause
-returns-in-Err-clause-cause g c =
-    run_cause g.D.Disk.tells g.D.Disk.faults c.args.disks.now.items c.end-record.new.disks.items _ _
-    c.in_ok-run.ensures.later c.end-record.ensures.later _ _ c.in-Err.fault
-    c.in_ok-run.ensures.nothing c.take_all-taken.ensures.disks c.in-Err.ensures.cause
+pub returns-in-None-clause-failed : goal.returns-in-None-clause-failed
+returns-in-None-clause-failed g c =
+    none_named g.D.Disk.faults c.args.disks.now.items c.run_over-run.new.disks.items
+    c.run_over-run.result
+    (found_since g.D.Disk.tells g.D.Disk.faults c.args.disks.now.items
+    c.run_over-run.new.disks.items c.as_slice.result.now c.as_slice-2.result.now
+    c.of-before.result.counts None c.as_slice.ensures.value
+    c.as_slice-2.ensures.value c.of-before.ensures c.run_over-run.ensures.disks c.in-None.ensures)
+    c.run_over-run.ensures.cause

@@ -3,7 +3,7 @@ use Rattle.std.proofs.Common.{◌≡◌, ◌≤◌, ℕ, List, sym, subst, arith
 use Rattle.std.proofs.lemmas.Grind.{common_steps}
 use Rattle.std.proofs.lemmas.Result.{IfOk-weaker}
 use Rattle.cam_cluster.specs.HandedBack.{AreHandedBack}
-use Rattle.cam_run.proofs.FirstDisks.{all_back, as_they_were, first_length, is_over_first, rest_stays, run_caused}
+use Rattle.cam_run.proofs.FirstDisks.{all_back, as_they_were, first_length, is_over_first, rest_stays, run_ended}
 use Rattle.cam_run.proofs.LeftDisks.{run_leaves}
 use Rattle.cam_run.proofs.Recorded.{is_one_run}
 use Rattle.cam_run.proofs.running.run.Goals as goal
@@ -30,14 +30,25 @@ returns-clause-one g c =
 
 pub returns-clause-cause : goal.returns-clause-cause
 returns-clause-cause g c =
-    run_caused g.D.Disk.tells g.D.Disk.faults c.args.script.now.nodes c.args.disks.now.items
+    (run_ended g.D.Disk.tells g.D.Disk.faults c.args.script.now.nodes c.args.disks.now.items
     c.set_aside.new.disks.items c.run_script-run.new.disks.items c.put_back.new.disks.items
     c.run_script-run.result
     (is_over_first g.D.Disk.tells g.D.Disk.faults c.args.script.now.nodes c.args.disks.now.items
     c.set_aside.new.disks.items c.run_script-run.new.disks.items c.in_ok-further.further.items
     c.put_back.new.disks.items c.requires.enough c.in_ok-further.ensures.first
     c.run_script-run.ensures.disks c.in_ok-further.ensures.further c.put_back.ensures)
-    c.in_ok-further.ensures.first c.run_script-run.ensures.cause
+    c.in_ok-further.ensures.first c.run_script-run.ensures.failed).cause
+
+pub returns-clause-steady : goal.returns-clause-steady
+returns-clause-steady g c =
+    (run_ended g.D.Disk.tells g.D.Disk.faults c.args.script.now.nodes c.args.disks.now.items
+    c.set_aside.new.disks.items c.run_script-run.new.disks.items c.put_back.new.disks.items
+    c.run_script-run.result
+    (is_over_first g.D.Disk.tells g.D.Disk.faults c.args.script.now.nodes c.args.disks.now.items
+    c.set_aside.new.disks.items c.run_script-run.new.disks.items c.in_ok-further.further.items
+    c.put_back.new.disks.items c.requires.enough c.in_ok-further.ensures.first
+    c.run_script-run.ensures.disks c.in_ok-further.ensures.further c.put_back.ensures)
+    c.in_ok-further.ensures.first c.run_script-run.ensures.failed).steady
 
 pub returns-clause-back : goal.returns-clause-back
 returns-clause-back g c =

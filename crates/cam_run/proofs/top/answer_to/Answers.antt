@@ -1,5 +1,5 @@
 -- The answer to the words is that to their command.
-use Rattle.std.proofs.Common.{rules, ◌≡◌, ◌↔◌, List, ℕ, Result, Err, IfOk, map, refl, string_bytes, subst}
+use Rattle.std.proofs.Common.{rules, ◌≡◌, ◌↔◌, List, ℕ, Result, Err, IfOk, arith, map, refl, string_bytes, subst}
 use Rattle.cam_args.specs.declared.Command.{Command}
 use Rattle.cam_args.specs.declared.ArgsFault.{ArgsFault}
 use Rattle.cam_args.specs.declared.ArgsFault.TheVariants.{Usage}
@@ -11,6 +11,7 @@ use Rattle.cam_run.specs.Told.{IsTelling}
 use Rattle.cam_run.specs.Disks.{FailedAt, LeavesDisks}
 use Rattle.cam_run.specs.Answer.{IfRuns}
 use Rattle.cam_run.proofs.Commanded.{answers_words, built_is_form, completes_words, of_words}
+use Rattle.cam_run.proofs.Failing.{fails_words}
 use Rattle.cam_run.proofs.top.answer_to.Goals as goal
 
 pub returns-in-Ok-clause-answer : goal.returns-in-Ok-clause-answer
@@ -32,6 +33,16 @@ returns-in-Ok-clause-complete g c =
     })
     (g.S.Source.left c.args.source.now) (g.S.Source.left c.obey.new.source) c.obey.result
     c.in-Ok.ensures.each c.obey.ensures.answer
+
+pub returns-in-Ok-clause-failed : goal.returns-in-Ok-clause-failed
+returns-in-Ok-clause-failed g c =
+    fails_words _ c.in-Ok.command
+    (record {
+      source = Rose (g.S.Source.faults c.args.source.now) (g.S.Source.faults c.obey.new.source);
+      disk = FailedAt g.D.Disk.faults c.args.disks.now.items c.obey.new.disks.items;
+    })
+    (g.S.Source.left c.args.source.now) (g.S.Source.left c.obey.new.source) c.obey.result
+    (λ none. omega (arith, none.low)) c.in-Ok.ensures.each c.obey.ensures.answer
 
 pub returns-in-Ok-clause-recovered : goal.returns-in-Ok-clause-recovered
 returns-in-Ok-clause-recovered g c =

@@ -1,10 +1,11 @@
 -- What the sink took is the answer's text, or a prefix of it.
-use Rattle.std.proofs.Common.{◌≡◌, ◌⊎◌, inl, ◌∙◌, ℕ, map, string_bytes, subst, arith}
+use Rattle.std.proofs.Common.{◌≡◌, ◌⊎◌, inl, ◌∙◌, ℕ, map, string_bytes, subst, sym, arith}
 use Rattle.cam_base.proofs.Told.{if_told_weaker}
 use Rattle.cam_base.specs.Causes.{Rose}
 use Rattle.cam_run.specs.Status.{number}
 use Rattle.cam_run.specs.Disks.{FailedAt}
 use Rattle.cam_run.specs.Answer.{Failing}
+use Rattle.cam_run.proofs.Failing.{is_fault, runs_by_status, told_both}
 use Rattle.cam_run.proofs.Written.{is_telling, not_telling, own_status, writes_front, writes_whole}
 use Rattle.cam_run.proofs.top.camelot.Goals as goal
 
@@ -41,6 +42,32 @@ returns-in-Ok-write_all-clause-complete g c =
     (λ input rest said command form read took none.
     inl (c.number-in-Ok-write_all.ensures ∙ said command form read none))
     c.in-Ok.ensures.complete
+
+pub returns-in-Ok-write_all-clause-failed : goal.returns-in-Ok-write_all-clause-failed
+returns-in-Ok-write_all-clause-failed g c =
+    if_told_weaker (g.S.Source.left c.args.source.now) (g.S.Source.left c.answer_to.new.source)
+    (λ input rest said command form one.
+    subst (λ (n : ℕ). (n ≡ 4) ⊎ ((n ≡ 5) ⊎ ((n ≡ 6) ⊎ (n ≡ 7))))
+    (sym c.number-in-Ok-write_all.ensures) (is_fault _ (said command form one)))
+    c.in-Ok.ensures.failed
+
+pub returns-in-Ok-write_all-clause-recovered_unwritten :
+    goal.returns-in-Ok-write_all-clause-recovered_unwritten
+returns-in-Ok-write_all-clause-recovered_unwritten g c =
+    if_told_weaker (g.S.Source.left c.args.source.now) (g.S.Source.left c.answer_to.new.source)
+    (λ input rest said command form five.
+    absurd
+    ((own_status c.in-Ok.answer.status c.in-Ok.ensures.statuses).0
+    (sym c.number-in-Ok-write_all.ensures ∙ five)))
+    c.in-Ok.ensures.recovered
+
+pub returns-clause-recovered_unwritten : goal.returns-clause-recovered_unwritten
+returns-clause-recovered_unwritten g c =
+    told_both (g.S.Source.left c.args.source.now) (g.S.Source.left c.answer_to.new.source)
+    (λ input rest complete recovered command form five read none.
+    runs_by_status command input c.in-Ok.answer.status _ (complete command form read none)
+    (recovered command form))
+    c.in-Ok.ensures.complete c.in-Ok.ensures.recovered
 
 pub returns-in-Ok-write_all-clause-recovered : goal.returns-in-Ok-write_all-clause-recovered
 returns-in-Ok-write_all-clause-recovered g c =

@@ -5,11 +5,12 @@ use Rattle.std.specs.Prelude.{map, slice_get, vec_len}
 use Rattle.std.proofs.lemmas.Grind.{common_steps}
 use Rattle.std.proofs.lemmas.List.{length-map, length-set}
 use Rattle.cam_net.specs.Waiting.{is_halted}
+use Rattle.cam_cluster.specs.declared.works.failing.Failed.TheVariants as failed
 use Rattle.cam_cluster.specs.declared.works.restart.Restart.TheVariants as ends
 use Rattle.cam_cluster.specs.Restarts.{HasRestartedAs}
 use Rattle.cam_cluster.proofs.AsSeen.{part, reads_at, reads_of, tells_of, works_of}
 use Rattle.cam_cluster.proofs.DisksGoOn.{goes_on_in, goes_on_same, memory_too, nothing_before}
-use Rattle.cam_cluster.proofs.DisksGoOn.{restart_is, restart_known, watched_there}
+use Rattle.cam_cluster.proofs.DisksGoOn.{memory_known, some_known, watched_there}
 use Rattle.cam_cluster.proofs.PlacedNodes.{after_is, on_err, taken_there}
 use Rattle.cam_cluster.proofs.PutWorks.{failed_as, room_made, seen}
 use Rattle.cam_cluster.proofs.HaltsKept.{open_without}
@@ -223,8 +224,8 @@ returns-in-Err-clause-restarted g c =
     some_there _ c.args.self.now.nodes.items c.args.place old
     (subst (λ ns. slice_get ns c.args.place ≡ Some old) same
     (taken_there mid.nodes.items c.args.place old there c.index_mut.ensures.value))
-    (λ told. restart_known c.failed_since-self-in-Err.result c.after_restart-self.result
-    c.after_restart-self.ensures)
+    (λ told. some_known c.failed_since-self-in-Err.result failed.Memory
+    c.then-self.result refl c.then-self.ensures)
 
 pub returns-in-Some-clause-by_stop : goal.returns-in-Some-clause-by_stop
 returns-in-Some-clause-by_stop g c =
@@ -327,8 +328,8 @@ returns-in-Err-clause-disks g c =
     c.index.result.now old new c.failures-before.result mid.failed known there
     c.index.ensures c.index_mut.ensures.value
     (c.failures-before.ensures ∙ ap g.L.EntryLog.faults_within c.log.ensures) c.failed_since-self-in-Err.ensures in
-    memory_too _ _ _ known c.after_restart-self.result
-    (restart_is known c.after_restart-self.result c.after_restart-self.ensures)
+    memory_too _ _ _ known c.then-self.result
+    (memory_known known c.then-self.result c.then-self.ensures)
     (goes_on_in (part g.L.CheckpointLog g.L.EntryLog) c.args.self.now.nodes.items mid.nodes.items
     _ c.args.self.now.failed mid.failed known c.args.place old new
     (ap (λ v. v.items) c.make_room.ensures.nodes) c.make_room.ensures.failed there

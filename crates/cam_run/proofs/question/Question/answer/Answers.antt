@@ -1,9 +1,9 @@
--- The answer where the disk of a node failed.
+-- The answer where the disk of a node failed, and where none did.
 use Rattle.std.proofs.Common.{◌≡◌, subst}
 use Rattle.cam_cluster.specs.declared.fault.RunFault.{RunFault}
 use Rattle.cam_cluster.specs.declared.fault.RunFault.TheVariants.{DiskFault}
 use Rattle.cam_run.specs.Disks.{FailedAt, IsCaused}
-use Rattle.cam_run.proofs.Commanded.{of_disk}
+use Rattle.cam_run.proofs.Commanded.{of_disk, of_told}
 use Rattle.cam_run.proofs.question.Question.answer.Goals as goal
 
 pub returns-in-Err-DiskFault-clause-answer : goal.returns-in-Err-DiskFault-clause-answer
@@ -18,3 +18,9 @@ returns-in-Err-DiskFault-clause-answer g c =
     (FailedAt g.D.Disk.faults c.args.disks.now.items c.run.new.disks.items) fault)
     is c.in-Err-DiskFault.ensures.cause)
     c.disk_fault.ensures.status c.disk_fault.ensures.text
+
+pub returns-in-Ok-clause-answer : goal.returns-in-Ok-clause-answer
+returns-in-Ok-clause-answer g c =
+    of_told c.args.self.now c.args.script.now
+    (FailedAt g.D.Disk.faults c.args.disks.now.items c.run.new.disks.items) c.tell.result
+    c.in-Ok.ensures.steady c.tell.ensures.told

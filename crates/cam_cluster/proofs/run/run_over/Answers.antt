@@ -1,0 +1,23 @@
+-- A whole script is run over the disks.
+use Rattle.cam_cluster.proofs.RunDisks.{run_back, run_cause}
+use Rattle.cam_cluster.proofs.run.run_over.Goals as goal
+
+pub returns-in-Ok-clause-run : goal.returns-in-Ok-clause-run
+returns-in-Ok-clause-run g c =
+    c.end-record.ensures.record c.args.script.now c.in-Ok.ensures.all
+
+pub returns-in-Ok-clause-disks : goal.returns-in-Ok-clause-disks
+returns-in-Ok-clause-disks g c =
+    run_back g.D.Disk.tells g.D.Disk.faults c.args.disks.now.items c.end-record.new.disks.items _ _
+    c.in_ok-run.ensures.later c.end-record.ensures.later c.take_all-taken.ensures.disks.later
+
+pub returns-in-Err-clause-disks : goal.returns-in-Err-clause-disks
+returns-in-Err-clause-disks g c =
+    run_back g.D.Disk.tells g.D.Disk.faults c.args.disks.now.items c.end-record.new.disks.items _ _
+    c.in_ok-run.ensures.later c.end-record.ensures.later c.take_all-taken.ensures.disks.later
+
+pub returns-in-Err-clause-cause : goal.returns-in-Err-clause-cause
+returns-in-Err-clause-cause g c =
+    run_cause g.D.Disk.tells g.D.Disk.faults c.args.disks.now.items c.end-record.new.disks.items _ _
+    c.in_ok-run.ensures.later c.end-record.ensures.later _ _ c.in-Err.fault
+    c.in_ok-run.ensures.nothing c.take_all-taken.ensures.disks c.in-Err.ensures.cause
