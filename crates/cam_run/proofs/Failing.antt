@@ -28,18 +28,18 @@ use Rattle.cam_run.proofs.Written.{is_telling}
 
 -- none of no disks failed
 none_of_none : (failed : ℕ → Type 0) → (failed 0 → ⊥) → OneFailed 0 failed → ⊥
-none_of_none failed no one =
+none_of_none failed never one =
     let none : one.node ≡ 0 = let high = one.high in omega (arith, high) in
-    no (subst failed none one.did)
+    never (subst failed none one.did)
 
 script_fails : (question : Question) (read : Result Script ScriptFault) (failed : ℕ → Type 0)
     (status : ℕ) (text : List ℕ)
     → (failed 0 → ⊥) → IsOfScript question read failed status text
     → OneFailed (nodes_of read) failed → status ≡ 6
-script_fails question (Ok script) failed status text no (inl of_disk) one = of_disk.is
-script_fails question (Ok script) failed status text no (inr told) one = absurd (told.0 one)
-script_fails question (Err fault) failed status text no told one =
-    absurd (none_of_none failed no one)
+script_fails question (Ok script) failed status text never (inl of_disk) one = of_disk.is
+script_fails question (Ok script) failed status text never (inr told) one = absurd (told.0 one)
+script_fails question (Err fault) failed status text never told one =
+    absurd (none_of_none failed never one)
 
 -- the status of the answer to a command, where the disk of a node of its script failed
 command_fails : (command : Command) (failing : Failing) (input : List ℕ) (status : ℕ)
@@ -47,7 +47,7 @@ command_fails : (command : Command) (failing : Failing) (input : List ℕ) (stat
     → (failing.disk 0 → ⊥) → IsOfCommand command failing input status text
     → OneFailed (nodes_for command input) failing.disk
     → (status ≡ 4) ⊎ (status ≡ 6)
-command_fails command failing input status text no told one = by (asked_by command) told one
+command_fails command failing input status text never told one = by (asked_by command) told one
   where
     by : (asked : Asked) → IsAsked asked command failing input status text
         → OneFailed (asked_nodes asked command input) failing.disk
@@ -55,8 +55,8 @@ command_fails command failing input status text no told one = by (asked_by comma
     by (of_run question) (inl (reading, failed, told)) one = inl told.0
     by (of_run question) (inr answer) one =
         inr (script_fails question (read_script (bytes_for command input)) failing.disk status text
-        no answer one)
-    by _ answer one = absurd (none_of_none failing.disk no one)
+        never answer one)
+    by _ answer one = absurd (none_of_none failing.disk never one)
 
 -- so it is of the words
 pub fails_words : {E : Type 0} (words : List (List ℕ)) (command : Command) (failing : Failing)
@@ -69,7 +69,7 @@ pub fails_words : {E : Type 0} (words : List (List ℕ)) (command : Command) (fa
     → IfOk r
     (λ a. OneFailed (nodes_for other input) failing.disk
     → (number a.status ≡ 4) ⊎ (number a.status ≡ 6)))
-fails_words words command failing old new r no finds told =
+fails_words words command failing old new r never finds told =
     of_words words command
     (λ (c : Command) (input : List ℕ).
     IfOk r
@@ -79,7 +79,7 @@ fails_words words command failing old new r no finds told =
     (if_told_weaker old new
     (λ input rest said.
     IfOk-weaker r _ _
-    (λ a is. command_fails command failing input (number a.status) a.text.items no is)
+    (λ a is. command_fails command failing input (number a.status) a.text.items never is)
     said)
     told)
 

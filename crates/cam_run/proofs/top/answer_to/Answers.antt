@@ -1,5 +1,5 @@
 -- The answer to the words is that to their command.
-use Rattle.std.proofs.Common.{rules, ◌≡◌, ◌↔◌, List, ℕ, Result, Err, IfOk, arith, map, refl, string_bytes, subst}
+use Rattle.std.proofs.Common.{rules, ◌≡◌, ◌↔◌, List, ℕ, Result, Err, IfOk, arith, drop, map, refl, string_bytes, subst}
 use Rattle.cam_args.specs.declared.Command.{Command}
 use Rattle.cam_args.specs.declared.ArgsFault.{ArgsFault}
 use Rattle.cam_args.specs.declared.ArgsFault.TheVariants.{Usage}
@@ -9,7 +9,7 @@ use Rattle.cam_base.specs.Causes.{Rose}
 use Rattle.cam_args.specs.declared.Command.TheVariants.{Gen}
 use Rattle.cam_run.specs.Told.{IsTelling}
 use Rattle.cam_run.specs.Disks.{FailedAt, LeavesDisks}
-use Rattle.cam_run.specs.Answer.{IfRuns}
+use Rattle.cam_run.specs.Answer.{IfRuns, nodes_for}
 use Rattle.cam_run.proofs.Commanded.{answers_words, built_is_form, completes_words, of_words}
 use Rattle.cam_run.proofs.Failing.{fails_words}
 use Rattle.cam_run.proofs.top.answer_to.Goals as goal
@@ -69,3 +69,12 @@ returns-in-Err-Usage-clause-generated g c = λ seed size form.
     let Told : ArgsFault → Type 0 = λ fault. UnlessNoMemory (Err fault) (◌≡◌ {A = Result Command ArgsFault} (Err fault) (Err Usage) ↔ IsNoForm words) in
     let told : Told Usage = subst Told is c.in-Err-Usage.ensures.usage in
     absurd (told.0 refl (Gen seed size) form.form)
+
+pub returns-in-Ok-clause-others : goal.returns-in-Ok-clause-others
+returns-in-Ok-clause-others g c =
+    of_words _ c.in-Ok.command
+    (λ (command : Command) (input : List ℕ).
+    drop (nodes_for command input) c.obey.new.disks.items
+    ≡ drop (nodes_for command input) c.args.disks.now.items)
+    (g.S.Source.left c.args.source.now) (g.S.Source.left c.obey.new.source)
+    c.in-Ok.ensures.each c.obey.ensures.others
