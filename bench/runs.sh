@@ -2,9 +2,10 @@
 # How long whole runs of scripts take for each of their events, and how long the report of such a run takes for each of them, and how often
 # that is the time of the first size. A figure is such a ratio, or a share of the whole: the nanoseconds are those of one machine on one day.
 # Each time is the least of several rounds. A script costs 512 at most, so that the longest have some thousand events.
-# Six families of scripts, over eight nodes whose disks are in memory, each a block that stands so many times:
+# Seven families of scripts, over eight nodes whose disks are in memory, each a block that stands so many times:
 #   calls               an action that calls a counter of each node, with tries to spare, and commits; each in a play of its own
 #   calls in one play   the same actions, and one play of them all
+#   short actions       an action that only commits; each in a play of its own
 #   children            an action with a child at each node, which all commit; each in a play of its own
 #   restarts            an action that calls two counters and commits, in a play of its own, and a restart of its node
 #   bare restarts       the begin of an action, and a restart of its node
@@ -41,6 +42,7 @@ const NODES: u32 = 8;
 enum Family {
     Calls,
     CallsAtOnce,
+    ShortActions,
     Children,
     Restarts,
     BareRestarts,
@@ -52,6 +54,7 @@ impl Family {
         match self {
             Family::Calls => "calls",
             Family::CallsAtOnce => "calls in one play",
+            Family::ShortActions => "short actions",
             Family::Children => "children",
             Family::Restarts => "restarts",
             Family::BareRestarts => "bare restarts",
@@ -63,6 +66,7 @@ impl Family {
     fn sizes(self) -> [u32; 4] {
         match self {
             Family::Calls | Family::CallsAtOnce => [3, 6, 12, 25],
+            Family::ShortActions => [20, 40, 80, 170],
             Family::Children => [3, 6, 12, 26],
             Family::Restarts => [8, 16, 32, 63],
             Family::BareRestarts => [32, 64, 128, 255],
@@ -84,6 +88,7 @@ impl Family {
         let blocks = blocks as usize;
         match self {
             Family::Calls | Family::CallsAtOnce => blocks.saturating_mul(50),
+            Family::ShortActions => blocks.saturating_mul(5),
             Family::Children => blocks.saturating_mul(58),
             Family::Restarts => blocks.saturating_mul(18).saturating_sub(21),
             Family::BareRestarts => blocks.saturating_mul(2),
@@ -153,6 +158,7 @@ fn write_block(text: &mut String, family: Family, block: u32) -> Result<(), Erro
     match family {
         Family::Calls => write!(text, "start A{block} {at} calls\nplay\n")?,
         Family::CallsAtOnce => write!(text, "start A{block} {at} calls\n")?,
+        Family::ShortActions => write!(text, "start A{block} {at} leaf\nplay\n")?,
         Family::Children => write!(text, "start A{block} {at} children\nplay\n")?,
         Family::Restarts => write!(text, "start A{block} {at} pair{at}\nplay\nrestart {at}\n")?,
         Family::BareRestarts => write!(text, "begin A{block} {at}\nrestart {at}\n")?,
@@ -303,6 +309,7 @@ fn main(rt: HostRuntime) -> Result<(), Error> {
     for family in [
         Family::Calls,
         Family::CallsAtOnce,
+        Family::ShortActions,
         Family::Children,
         Family::Restarts,
         Family::BareRestarts,
@@ -316,7 +323,7 @@ PROGRAM
 if [ "${1-}" = --quick ]; then
     # That build checks each step as it runs, and is some hundred times slower: it takes short scripts.
     sed -i 's/ROUNDS: u32 = 8/ROUNDS: u32 = 1/; s/, 12, 25\]/, 9, 12]/; s/, 12, 26\]/, 9, 12]/; s/, 32, 63\]/, 24, 28]/' src/main.rt
-    sed -i 's/\[32, 64, 128, 255\]/[16, 24, 32, 64]/' src/main.rt
+    sed -i 's/\[32, 64, 128, 255\]/[16, 24, 32, 64]/; s/, 80, 170\]/, 60, 80]/' src/main.rt
     rt try --steps 1
 else
     rt run
