@@ -5,7 +5,7 @@
 # letters come back to the node at once; those of node 2 are made here, and acknowledge what it was told. The disk is in memory, and
 # two of the eleven steps of a round force an entry.
 # The script fails where a round does not end in the commit.
-# A figure is such a ratio: the rounds a second are those of one machine on one day. Each time is the least of several builds and turns.
+# A figure is such a ratio: the rounds a second are those of one machine on one day. Each time is the least of forty turns of five rounds.
 # bench/node.sh           proves the crates and the program, and runs it
 # bench/node.sh --quick   runs a build of the same sources that nothing has proved
 . "$(dirname "$0")/common.sh"
@@ -16,17 +16,18 @@ cat > src/main.rt <<'PROGRAM'
 
 mod alone;
 
-use alone::Alone;
+use alone::{Alone, filled};
 use anyhow::{Error, ensure};
+use cam_ckpt::CheckpointLog;
 use std::time::Instant;
 
-const BUILDS: u32 = 5;
-const TURNS: u32 = 5;
-const ROUNDS: u32 = 20;
+/// So many turns are timed for each figure, of so many rounds.
+const TURNS: u32 = 40;
+const ROUNDS: u32 = 5;
 const OUTCOMES: u32 = 1_000;
 
 /// The nanoseconds of some rounds.
-fn time_once(rt: &HostRuntime, node: &mut Alone) -> Result<u128, Error> {
+fn time_once<L: CheckpointLog>(rt: &HostRuntime, node: &mut Alone<L>) -> Result<u128, Error> {
     let start = Instant::now(rt)?;
     let mut right = true;
     for _ in 0..ROUNDS {
@@ -37,12 +38,14 @@ fn time_once(rt: &HostRuntime, node: &mut Alone) -> Result<u128, Error> {
     Ok(nanos)
 }
 
-/// The least time of some rounds where so many are behind, and so many outcomes of other nodes are known.
+/// The least time of some rounds where so many are behind, and so many outcomes of other nodes are known. The turns of one node make few
+/// rounds beside those that are behind, so that there are several nodes where few are.
 fn measure(rt: &HostRuntime, behind: u32, outcomes: u32) -> Result<u128, Error> {
+    let turns = (behind / ROUNDS).clamp(2, TURNS);
     let mut least = u128::MAX;
-    for _ in 0..BUILDS {
-        let mut node = Alone::filled(rt.alloc(), behind, outcomes)?;
-        for _ in 0..TURNS {
+    for _ in 0..TURNS / turns {
+        let mut node = filled(rt.alloc(), behind, outcomes)?;
+        for _ in 0..turns {
             least = least.min(time_once(rt, &mut node)?);
         }
     }
@@ -74,7 +77,7 @@ cat > src/alone.rt <<'PROGRAM'
 //! Node 1, alone: it gets its own letters back, and what node 2 would send is made here.
 use anyhow::{Error, bail};
 use cam_base::NoMemory;
-use cam_ckpt::Ckpt;
+use cam_ckpt::{CheckpointLog, Ckpt};
 use cam_disk::MemoryDisk;
 use cam_event::{Body, Deed, Letter, LetterId, Reply, Request, Want};
 use cam_know::{Know, Outcome};
@@ -85,9 +88,9 @@ use std::alloc::Global;
 
 /// The node, of which one object stands elsewhere: a counter at node 2.
 #[derive(Drop)]
-pub struct Alone {
+pub struct Alone<L: CheckpointLog> {
     alloc: Global,
-    node: Node<Ckpt<MemoryDisk>>,
+    node: Node<L>,
     /// How many outcomes node 2 was told.
     told: u64,
 }
@@ -126,26 +129,40 @@ fn vote(family: &Name) -> Body {
     }
 }
 
-impl Alone {
-    /// With so many rounds behind, and so many aborts known of actions of node 3.
-    pub fn filled(alloc: Global, behind: u32, outcomes: u32) -> Result<Alone, Error> {
-        let disk = MemoryDisk::new(alloc);
-        let node = match Node::format(alloc, 1, one_counter(alloc)?, disk) {
-            Ok(node) => node,
-            Err(refused) => return Err(refused.fault.into()),
-        };
-        let mut alone = Alone {
-            alloc,
-            node,
-            told: 0,
-        };
-        alone.learn(outcomes)?;
+/// A node over a new disk in memory.
+fn formatted(alloc: Global) -> Result<Node<Ckpt<MemoryDisk>>, Error> {
+    let objects = one_counter(alloc)?;
+    match Node::format(alloc, 1, objects, MemoryDisk::new(alloc)) {
+        Ok(node) => Ok(node),
+        Err(refused) => Err(refused.fault.into()),
+    }
+}
+
+/// A node with so many rounds behind, and so many aborts known of actions of node 3.
+pub fn filled(
+    alloc: Global,
+    behind: u32,
+    outcomes: u32,
+) -> Result<Alone<Ckpt<MemoryDisk>>, Error> {
+    let mut alone = Alone {
+        alloc,
+        node: formatted(alloc)?,
+        told: 0,
+    };
+    alone.fill(behind, outcomes)?;
+    Ok(alone)
+}
+
+impl<L: CheckpointLog> Alone<L> {
+    /// So many aborts come to be known of actions of node 3, and then so many rounds are made.
+    fn fill(&mut self, behind: u32, outcomes: u32) -> Result<(), Error> {
+        self.learn(outcomes)?;
         for _ in 0..behind {
-            if !alone.round()? {
+            if !self.round()? {
                 bail!("a round has ended otherwise");
             }
         }
-        Ok(alone)
+        Ok(())
     }
 
     /// A letter of node 2 brings the aborts of so many top actions of node 3.
@@ -245,9 +262,9 @@ impl Alone {
 }
 PROGRAM
 if [ "${1-}" = --quick ]; then
-    # That build checks each step as it runs, and is some hundred times slower.
-    sed -i 's/BUILDS: u32 = 5;/BUILDS: u32 = 1;/; s/TURNS: u32 = 5;/TURNS: u32 = 1;/; s/ROUNDS: u32 = 20;/ROUNDS: u32 = 5;/' src/main.rt
-    sed -i 's/(1_000, 0), (10_000, 0)/(40, 0)/; s/OUTCOMES: u32 = 1_000;/OUTCOMES: u32 = 100;/' src/main.rt
+    # That build checks each step as it runs, is some hundred times slower, and is given a minute.
+    sed -i 's/TURNS: u32 = 40;/TURNS: u32 = 10;/; s/OUTCOMES: u32 = 1_000;/OUTCOMES: u32 = 100;/' src/main.rt
+    sed -i 's/(1_000, 0), (10_000, 0)/(100, 0), (400, 0)/' src/main.rt
     rt try --steps 1
 else
     rt run
