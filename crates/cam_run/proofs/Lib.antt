@@ -1,5 +1,6 @@
 pub mod Recorded
 pub mod Commanded
+pub mod WordsForRuns
 pub mod Written
 pub mod WorkedAnswers
 pub mod Imaged

@@ -8,6 +8,7 @@ use std::alloc::Global;
 
 /// Whether the words are the form of a command that runs a script, which goes over disks. It fails
 /// only where memory runs out.
+#[tactic(auto, using(crate::proofs::WordsForRuns::asks_by, crate::proofs::WordsForRuns::asks_nothing))]
 pub fn runs_script(alloc: Global, words: &[String]) -> Result<bool, NoMemory>
     ensures { IfOk result (λ runs. (runs ≡ true) ↔ Runs (map string_bytes words.now)) }
 {
