@@ -187,7 +187,7 @@ fn words_that_are_no_form(rt: HostRuntime) -> Result<(), Fail> {
         "gen 7 401",
         "storm 7 1 1 calm",
         "inspect run",
-        "timed",
+        "timed 7",
         "Run",
         "run ",
     ] {

@@ -120,6 +120,49 @@ report fbd1dba5a1c76dff62b9904d12168377531aa129842baa96a20afcf137d148fc
 ",
 };
 
+/// A child is given up at its quiesce moment and not before, and gets no answer from then on.
+const BY_TIME: Row = Row {
+    command: "timed",
+    input: "nodes 2
+object x 2 register 1
+begin P 1 100
+ask P C 2 50
+drain
+call C x write 4
+drain
+giveup P C
+tick 1 50
+giveup P C
+call C x read
+tell 1 2
+drain
+abort C
+",
+    status: 0,
+    text: "action 1.1.1 open
+  created
+  asked 1.1.1/2.1.1
+  child 1.1.1/2.1.1 aborted
+action 1.1.1/2.1.1 aborted
+  created
+  called 1 x write 4
+  got 1 ok
+  called 2 x read
+quiet 12 1.1.1/2.1.1 50 50
+refused 8 L11 0 50
+refused 14 L10 50 50
+value x 1
+",
+};
+
+/// A script without time is none by time.
+const NOT_BY_TIME: Row = Row {
+    command: "timed",
+    input: GIVEN_UP,
+    status: 3,
+    text: "refused 3 10 S4\n",
+};
+
 const REFUSED: Row = Row {
     command: "witness 1.1.1",
     input: "nodes 1\n\nfoo\n",
@@ -203,7 +246,7 @@ const NOT_UPGRADED: Row = Row {
     text: "refused log 3\n",
 };
 
-const ROWS: [Row; 15] = [
+const ROWS: [Row; 17] = [
     TRACE,
     WITNESS,
     NO_ACTION,
@@ -211,6 +254,8 @@ const ROWS: [Row; 15] = [
     NO_STOP,
     NO_EVENT,
     GENERATED,
+    BY_TIME,
+    NOT_BY_TIME,
     REFUSED,
     INSPECTED,
     EMPTY,
