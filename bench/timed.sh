@@ -2,7 +2,8 @@
 # How long the report and a witness of a run by time of 1,000, 10,000 and 50,000 events take, for each event, and how long the report of the
 # same events without moments takes, which has neither pauses nor quiesce moments. And how long scripts by time of 512 steps take to be
 # read, against scripts without time that have the same lines but for their moments. And how long the runs of scripts of up to 512 steps
-# take to be made, for each event: of families one after another, and side by side. The largest of these scripts have 494 and 509 steps.
+# take to be made, for each event: of families one after another, side by side, and on one object. The
+# largest of these scripts have 494, 509 and 500 steps.
 # A figure is a ratio: the nanoseconds are those of one machine on one day. Each time is the least of several rounds.
 # bench/timed.sh           proves the crates and the program, and runs it
 # bench/timed.sh --quick   runs a build of the same sources that nothing has proved
@@ -228,6 +229,17 @@ fn together(rt: &HostRuntime, count: u32) -> Result<String, Error> {
     Ok(text)
 }
 
+/// A script of so many families, one after another, each of which adds to one and the same object.
+fn on_one(rt: &HostRuntime, count: u32) -> Result<String, Error> {
+    let mut text = String::from_str(rt.alloc(), "nodes 2\nobject x 2 counter 0\n")?;
+    for number in 0..count {
+        let line = format!(in rt.alloc();
+            "begin A{number} 1 1000000\ncall A{number} x add 1\ndrain\ncommit A{number} 0\ndrain\n")?;
+        text.push_str(line.as_str())?;
+    }
+    Ok(text)
+}
+
 /// The events of a script's run, and the least time of some rounds for each.
 fn running(rt: &HostRuntime, text: &String) -> Result<(usize, u128), Error> {
     let script = parse_timed(rt.alloc(), text.as_bytes())?;
@@ -249,6 +261,19 @@ fn show(rt: &HostRuntime, what: &str, time: u128, than: &str, other: u128) -> Re
     Ok(())
 }
 
+/// What the run of so many families took, against that of one.
+fn show_run(
+    rt: &HostRuntime,
+    families: u32,
+    how: &str,
+    run: (usize, u128),
+    few: (usize, u128),
+) -> Result<(), Error> {
+    let (events, time) = run;
+    println!(rt; "{families} families {how}, {events} events")?;
+    show(rt, "making one", time, "the first", few.1)
+}
+
 fn main(rt: HostRuntime) -> Result<(), Error> {
     let first = measure(&rt, 1_000)?;
     for events in [1_000, 10_000, 50_000] {
@@ -258,17 +283,20 @@ fn main(rt: HostRuntime) -> Result<(), Error> {
         show(&rt, "the report", times.report, "that without moments", times.untimed)?;
         show(&rt, "a witness", times.witness, "the first", first.witness)?;
     }
-    let (_, few) = running(&rt, &in_turn(&rt, 1)?)?;
-    for families in [1, 5, 13, 26] {
-        let (events, time) = running(&rt, &in_turn(&rt, families)?)?;
-        println!(rt; "{families} families in turn, {events} events")?;
-        show(&rt, "making one", time, "the first", few)?;
+    let few = running(&rt, &in_turn(&rt, 1)?)?;
+    show_run(&rt, 1, "in turn", few, few)?;
+    for families in [5, 13, 26] {
+        show_run(&rt, families, "in turn", running(&rt, &in_turn(&rt, families)?)?, few)?;
     }
-    let (_, few) = running(&rt, &together(&rt, 1)?)?;
-    for families in [1, 5, 25, 50] {
-        let (events, time) = running(&rt, &together(&rt, families)?)?;
-        println!(rt; "{families} families side by side, {events} events")?;
-        show(&rt, "making one", time, "the first", few)?;
+    let few = running(&rt, &together(&rt, 1)?)?;
+    show_run(&rt, 1, "side by side", few, few)?;
+    for families in [5, 25, 50] {
+        show_run(&rt, families, "side by side", running(&rt, &together(&rt, families)?)?, few)?;
+    }
+    let few = running(&rt, &on_one(&rt, 1)?)?;
+    show_run(&rt, 1, "on one object", few, few)?;
+    for families in [10, 100] {
+        show_run(&rt, families, "on one object", running(&rt, &on_one(&rt, families)?)?, few)?;
     }
     let (by_time, without) = reading(&rt)?;
     println!(rt; "512 steps")?;

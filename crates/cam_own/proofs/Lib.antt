@@ -8,3 +8,4 @@ mod Asking
 mod Searching
 mod Sites
 mod Living
+mod NoneBelow

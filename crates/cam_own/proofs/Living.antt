@@ -16,7 +16,7 @@ use Rattle.cam_event.specs.History.{Addressed, call_of, informed}
 use Rattle.cam_event.specs.Live.{is_dropped, live, live_on, of_call, site_of}
 use Rattle.cam_event.proofs.LiveLaws.{is_below, live_abort, live_perform}
 use Rattle.cam_event.proofs.Snoc.{filter_filter, filter_same}
-use Rattle.cam_own.specs.Live.{KeepsLive, Puts, left_at, operations_in, without_below}
+use Rattle.cam_own.specs.Live.{KeepsLive, Puts, operations_in, without_below}
 use Rattle.cam_own.specs.Replies.{IsNoCrash}
 use Rattle.cam_own.proofs.Sites.{is_declared}
 
@@ -91,7 +91,11 @@ performed_live objects L a n answer call old new called stays put keeps x here =
         keeps x here ∙ sym (append-nil (live_on objects L x))
         ∙ sym (ap (λ (c : Bool). live_on objects L x ++ (if c then o ∷ [] else [])) other)
 
--- What an abort leaves at an object.
+-- What is left at an object when a site is informed of an abort.
+abbrev pub left_at : List ObjectDecl → ℕ → Name → ℕ → List Operation → List Operation
+left_at objects s a x operations =
+    if eqb (site_of objects x) s then without_below a operations else operations
+
 pub left_live :
     (objects : List ObjectDecl) (L : List Deed) (s : ℕ) (a : Name) (x : ℕ)
     → live_on objects (Inform s a false ∷ L) x ≡ left_at objects s a x (live_on objects L x)

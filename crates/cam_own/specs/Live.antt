@@ -26,8 +26,3 @@ Puts x operations old new =
 -- the operations but for those of an action and of all below it
 abbrev pub without_below : Name → List Operation → List Operation
 without_below a operations = filter (λ o. not (is_ancestor a o.action)) operations
-
--- what is left at an object when a site is informed of an abort
-abbrev pub left_at : List ObjectDecl → ℕ → Name → ℕ → List Operation → List Operation
-left_at objects s a x operations =
-    if eqb (site_of objects x) s then without_below a operations else operations

@@ -106,11 +106,38 @@ fn without_below(
     Ok(left)
 }
 
-/// Drops the operations of an action and of all below it at an object.
+/// Whether one of the operations is of the action or of one below it.
+fn any_below(operations: &Operations, name: &Name) -> bool
+    ensures { result ≡ list_any (λ o. names.is_ancestor name.now o.action) operations.now }
+{
+    for operation in operations.as_slice() {
+        if name.is_ancestor(&operation.action) {
+            return true;
+        }
+    }
+    false
+}
+
+/// Whether an operation of the action or of one below it is live at an object.
+fn has_below(live: &Live, object: usize, name: &Name) -> bool
+    ensures { result ≡ list_any (λ o. names.is_ancestor name.now o.action)
+        (operations_in live.now object) }
+{
+    match live.get(&object) {
+        Some(operations) => any_below(operations, name),
+        None => false,
+    }
+}
+
+/// Drops the operations of an action and of all below it at an object: where there is none the
+/// table stays.
 fn drop_at(live: &mut Live, alloc: Global, object: usize, name: &Name) -> Result<(), NoMemory>
     ensures { OnOk result (Puts object
         (without_below name.now (operations_in live.old object)) live.old live.new) }
 {
+    if !has_below(live, object, name) {
+        return Ok(());
+    }
     let operations = take_out(live, alloc, object);
     let left = without_below(alloc, &operations, name)?;
     live.insert(object, left)?;

@@ -17,7 +17,7 @@ use Rattle.cam_timed.proofs.Brought.{firsts_same, none_first}
 use Rattle.cam_timed.proofs.Deciding.{turn_id, turn_letter}
 use Rattle.cam_timed.specs.Turns.{IsLetterOf}
 use Rattle.cam_timed.proofs.Machines.{node_there}
-use Rattle.cam_timed.proofs.Reaching.{left_new}
+use Rattle.cam_timed.proofs.LeftNew.{left_new}
 use Rattle.cam_timed.proofs.WereTold.{were_told}
 use Rattle.cam_timed.proofs.machine.Machine.first_informs.Goals as goal
 
