@@ -59,3 +59,16 @@ fn letters_are_lost_and_delivered_again(rt: HostRuntime) -> Result<(), Fail> {
     );
     Ok(())
 }
+
+/// A top action expires whose add stands beside that of another on the same counter: its add is
+/// dropped, and the other's stays, as one who reads then sees.
+#[test]
+fn an_abort_leaves_the_operations_of_others(rt: HostRuntime) -> Result<(), Fail> {
+    let script =
+        "nodes 2\nobject x 2 counter 0\nbegin A 1 5\nbegin B 1 100\nbegin C 1 100\ncall A x add 1\ndrain\ncall B x add 2\ndrain\ncommit B 0\ndrain\ntick 1 5\nexpire A\ndrain\ncall C x read\ndrain\n";
+    assert_eq!(rt;
+        report(rt.alloc(), script)?.as_str(),
+        "action 1.1.1 aborted\n  created\n  called 1 x add 1\n  got 1 ok\naction 1.1.2 committed\n  created\n  called 1 x add 2\n  got 1 ok\n  commit 0\naction 1.1.3 open\n  created\n  called 1 x read\n  got 1 value 2\nvalue x 2\n"
+    );
+    Ok(())
+}
