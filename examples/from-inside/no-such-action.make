@@ -1,0 +1,2 @@
+# A name that no action has: the status is 8.
+cat "$(dirname "$0")/../orphans/caught.cam"
