@@ -54,6 +54,8 @@ pub(crate) fn of_source<S: Source, D: TellingDisk, R: DataType, Q: DataType, C: 
     ensures read { IfTold (S.left source.old) (S.left source.new)
         (λ _ rest. IfOk result (λ a. IsTelling a.status → rest ≡ [])) }
     ensures back { AreHandedBack D.tells D.faults disks.old.items disks.new.items }
+    ensures untouched { IfOk result (λ a. (a.status ≡ statuses.Refused)
+        ⊎ (a.status ≡ statuses.ReadFault) → disks.new ≡ disks.old) }
     ensures others { IfTold (S.left source.old) (S.left source.new) (λ input _.
         drop (nodes_of (read_script input)) disks.new.items
         ≡ drop (nodes_of (read_script input)) disks.old.items) }
@@ -93,6 +95,8 @@ pub(crate) fn of_seed<D: TellingDisk, R: DataType, Q: DataType, C: DataType>(
     ensures disk_fault { IfOk result (λ a. a.status ≡ statuses.DiskFault
         → OneFailed 8 (FailedAt D.faults disks.old.items disks.new.items)) }
     ensures back { AreHandedBack D.tells D.faults disks.old.items disks.new.items }
+    ensures untouched { IfOk result
+        (λ a. a.status ≡ statuses.Refused → disks.new ≡ disks.old) }
     ensures others { drop (nodes_of (read_script (generated seed size))) disks.new.items
         ≡ drop (nodes_of (read_script (generated seed size))) disks.old.items }
     ensures recovered { IfOk result (λ a. IsTelling a.status
@@ -131,6 +135,8 @@ fn of_bytes<D: TellingDisk, R: DataType, Q: DataType, C: DataType>(
     ensures disk_fault { IfOk result (λ a. a.status ≡ statuses.DiskFault
         → OneFailed 8 (FailedAt D.faults disks.old.items disks.new.items)) }
     ensures back { AreHandedBack D.tells D.faults disks.old.items disks.new.items }
+    ensures untouched { IfOk result
+        (λ a. a.status ≡ statuses.Refused → disks.new ≡ disks.old) }
     ensures others { drop (nodes_of (read_script bytes.now)) disks.new.items
         ≡ drop (nodes_of (read_script bytes.now)) disks.old.items }
     ensures recovered { IfOk result (λ a. IsTelling a.status

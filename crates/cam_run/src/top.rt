@@ -126,13 +126,14 @@ pub fn camelot<S: Source, K: Sink, D: TellingDisk, R: DataType, Q: DataType, C: 
     ensures unread { ¬ (Reads (map string_bytes words.now)) → source.new ≡ source.old }
 
     // The disks: each is back at its place, and has not failed less often; those that serve no node of the script are as they were, and
-    // so are all where the words run no script.
+    // so are all where the words run no script, or the script is refused or the source failed.
     ensures back { AreHandedBack D.tells D.faults disks.old.items disks.new.items }
     ensures others { IfTold (S.left source.old) (S.left source.new) (λ input _.
         (command : Commands) → IsFormFor (map string_bytes words.now) command
         → drop (nodes_for command input) disks.new.items
         ≡ drop (nodes_for command input) disks.old.items) }
     ensures idle { ¬ (Runs (map string_bytes words.now)) → disks.new ≡ disks.old }
+    ensures untouched { (result ≡ 3) ⊎ (result ≡ 4) → disks.new ≡ disks.old }
     ensures servers { AreServers R.kind Q.kind C.kind
         servers.new.register servers.new.queue servers.new.counter }
 {
@@ -197,6 +198,8 @@ fn answer_to<S: Source, D: TellingDisk, R: DataType, Q: DataType, C: DataType>(
         → drop (nodes_for command input) disks.new.items
         ≡ drop (nodes_for command input) disks.old.items) }
     ensures idle { ¬ (Runs (map string_bytes words.now)) → disks.new ≡ disks.old }
+    ensures untouched { IfOk result (λ a. (a.status ≡ statuses.Refused)
+        ⊎ (a.status ≡ statuses.ReadFault) → disks.new ≡ disks.old) }
     ensures servers { AreServers R.kind Q.kind C.kind
         servers.new.register servers.new.queue servers.new.counter }
 {
@@ -246,6 +249,8 @@ fn obey<S: Source, D: TellingDisk, R: DataType, Q: DataType, C: DataType>(
         drop (nodes_for command.now input) disks.new.items
         ≡ drop (nodes_for command.now input) disks.old.items) }
     ensures idle { runs command.now ≡ false → disks.new ≡ disks.old }
+    ensures untouched { IfOk result (λ a. (a.status ≡ statuses.Refused)
+        ⊎ (a.status ≡ statuses.ReadFault) → disks.new ≡ disks.old) }
     ensures servers { AreServers R.kind Q.kind C.kind
         servers.new.register servers.new.queue servers.new.counter }
 {
