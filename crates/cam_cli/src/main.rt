@@ -37,22 +37,19 @@ enum Place {
     Files,
 }
 
-/// Takes the word `files` off, where it stands after the others.
-fn take_files(words: &mut Vec<String>) -> bool {
-    let is_files = match words.last() {
-        Some(word) => word.as_str() == "files",
-        None => false,
-    };
-    if is_files {
-        words.pop();
+/// Whether the word `files` stands after words that run a script.
+fn asks_for_files(rt: &HostRuntime, words: &[String]) -> Result<bool, NoMemory> {
+    match words.split_last() {
+        Some((last, before)) if last.as_str() == "files" => runs_script(rt.alloc(), before),
+        _ => Ok(false),
     }
-    is_files
 }
 
-/// Where the disks are to be: in files where the word `files` stands after words that run a script, and
-/// in memory else. That word is taken off.
+/// Where the disks are to be: in files where the word `files` stands after words that run a script,
+/// where it is taken off, and in memory else. After other words it stays, and they are no form.
 fn take_place(rt: &HostRuntime, words: &mut Vec<String>) -> Result<Place, NoMemory> {
-    if take_files(words) && runs_script(rt.alloc(), words)? {
+    if asks_for_files(rt, words)? {
+        words.pop();
         Ok(Place::Files)
     } else {
         Ok(Place::Memory)
