@@ -11,10 +11,11 @@ use cam_cluster::Servers;
 use cam_io::{Failed, MemorySink, MemorySource, Sink, Source};
 use cam_run::{camelot, worked_answers};
 use cam_type::{CounterServer, QueueServer, RegisterServer};
-use rows::ROWS;
+use rows::{REFUSED, ROWS};
 use std::alloc::Global;
 use std::test::Fail;
 
+/// A write, and a read of another action that is told who holds the register.
 const FIRST_PATH: &str = "nodes 1
 object x 1 register 0
 begin A 1
@@ -38,56 +39,6 @@ action 1.1.2 open
   called 1 x read
   got 1 busy 1.1.1
 value x 0
-";
-
-const REFUSED_CALL: &str = "nodes 1
-object x 1 register 0
-begin A 1
-begin B 1
-call A x write 5
-deliver 1
-deliver 2
-call B x read
-deliver 3
-deliver 4
-call B x read
-call B x read
-";
-
-const REFUSED_REPORT: &str = "action 1.1.1 open
-  created
-  called 1 x write 5
-  got 1 ok
-action 1.1.2 open
-  created
-  called 1 x read
-  got 1 busy 1.1.1
-  called 2 x read
-refused 12 L5
-value x 0
-";
-
-/// A letter that is delivered twice, the second reply before the first.
-const REPEATED: &str = "nodes 1
-object x 1 register 7
-begin A 1
-call A x swap 5
-deliver 1
-deliver 1
-deliver 3
-deliver 2
-call A x read
-deliver 4
-deliver 5
-";
-
-const REPEATED_REPORT: &str = "action 1.1.1 open
-  created
-  called 1 x swap 5
-  got 1 value 7
-  called 2 x read
-  got 2 value 5
-value x 7
 ";
 
 const USAGE: &str =
@@ -122,57 +73,40 @@ fn answered<S: Source, K: Sink>(
     Ok(camelot(alloc, words, source, sink, &mut disks, &mut servers))
 }
 
+/// The status of the answer to a command on its input, and the text that it writes.
+fn status_and_text(alloc: Global, command: &str, input: &str) -> Result<(u8, Vec<u8>), Fail> {
+    let words = words(alloc, command)?;
+    let mut source = source(alloc, input, &[])?;
+    let mut sink = MemorySink::new(alloc, Vec::new(alloc));
+    let status = answered(alloc, &words, &mut source, &mut sink)?;
+    Ok((status, sink.text().to_vec(alloc)?))
+}
+
+/// Lines of every kind, by the reports of their runs.
 #[test]
-fn a_script_has_its_answer(rt: HostRuntime) -> Result<(), Fail> {
+fn worked_runs_have_their_reports(rt: HostRuntime) -> Result<(), Fail> {
     worked_answers();
-    let alloc = rt.alloc();
-    let run = words(alloc, "run")?;
-    for (input, status, text) in [
-        ("nodes 1\n", 0, ""),
-        (FIRST_PATH, 0, FIRST_REPORT),
-        (REFUSED_CALL, 0, REFUSED_REPORT),
-        (REPEATED, 0, REPEATED_REPORT),
-        ("nodes 1\n\nfoo\n", 3, "refused 3 1 S3\n"),
-        ("nodes 1\nbegin A 2\n", 3, "refused 2 9 S11\n"),
-        (
-            "nodes 1\nobject x 1 register 0\n# a comment\nbegin A 1\ncall A y read\nfoo\n",
-            3,
-            "refused 5 8 S9\n",
-        ),
-        ("", 3, "refused 1 1 S10\n"),
-    ] {
-        let mut source = source(alloc, input, &[])?;
-        let mut sink = MemorySink::new(alloc, Vec::new(alloc));
-        assert_eq!(rt;
-            answered(alloc, &run, &mut source, &mut sink)?,
-            status,
-            "{input}"
-        );
-        assert_eq!(rt; sink.text(), text.as_bytes(), "{input}");
+    for row in ROWS {
+        let (status, text) = status_and_text(rt.alloc(), "run", row.script)?;
+        assert_eq!(rt; status, 0, "{}", row.script);
+        assert_eq!(rt; text.as_slice(), row.report.as_bytes(), "{}", row.script);
     }
+    Ok(())
+}
+
+#[test]
+fn refused_scripts_have_their_faults(rt: HostRuntime) -> Result<(), Fail> {
+    let alloc = rt.alloc();
+    for (script, fault) in REFUSED {
+        let (status, text) = status_and_text(alloc, "run", script)?;
+        assert_eq!(rt; status, 3, "{script}");
+        assert_eq!(rt; text.as_slice(), fault.as_bytes(), "{script}");
+    }
+    let run = words(alloc, "run")?;
     let mut long = MemorySource::new(vec![in alloc; 10; 262_145]?, Vec::new(alloc));
     let mut sink = MemorySink::new(alloc, Vec::new(alloc));
     assert_eq!(rt; answered(alloc, &run, &mut long, &mut sink)?, 3);
     assert_eq!(rt; sink.text(), b"refused 1 1 S1\n".as_slice());
-    Ok(())
-}
-
-/// Lines of every kind but `stop`, by the reports of their runs.
-#[test]
-fn worked_runs_have_their_reports(rt: HostRuntime) -> Result<(), Fail> {
-    let alloc = rt.alloc();
-    let run = words(alloc, "run")?;
-    for row in ROWS {
-        let mut source = source(alloc, row.script, &[])?;
-        let mut sink = MemorySink::new(alloc, Vec::new(alloc));
-        assert_eq!(rt;
-            answered(alloc, &run, &mut source, &mut sink)?,
-            0,
-            "{}",
-            row.script
-        );
-        assert_eq!(rt; sink.text(), row.report.as_bytes(), "{}", row.script);
-    }
     Ok(())
 }
 

@@ -1,8 +1,6 @@
 //! The commands beside `run`: what each tells of a run or of the image of a log, and where there is nothing to tell.
 
-use super::{FIRST_PATH, answered, source, words};
-use cam_io::MemorySink;
-use std::alloc::Global;
+use super::{FIRST_PATH, status_and_text};
 use std::test::Fail;
 
 /// A command, its input, and its answer.
@@ -266,20 +264,12 @@ const ROWS: [Row; 17] = [
     NOT_UPGRADED,
 ];
 
-/// Whether a command has its status and its text.
-fn is_answered(alloc: Global, row: &Row) -> Result<bool, Fail> {
-    let words = words(alloc, row.command)?;
-    let mut source = source(alloc, row.input, &[])?;
-    let mut sink = MemorySink::new(alloc, Vec::new(alloc));
-    let status = answered(alloc, &words, &mut source, &mut sink)?;
-    Ok(status == row.status && sink.text() == row.text.as_bytes())
-}
-
 #[test]
 fn each_command_has_its_answer(rt: HostRuntime) -> Result<(), Fail> {
     for row in ROWS {
-        let is_answered = is_answered(rt.alloc(), &row)?;
-        assert!(rt; is_answered, "{}", row.command);
+        let (status, text) = status_and_text(rt.alloc(), row.command, row.input)?;
+        assert_eq!(rt; status, row.status, "{}", row.command);
+        assert_eq!(rt; text.as_slice(), row.text.as_bytes(), "{}", row.command);
     }
     Ok(())
 }

@@ -1,0 +1,24 @@
+//! Scripts that are refused.
+
+/// Scripts, each with the line that tells the place and the cause of its first fault.
+pub(crate) const REFUSED: [(&str, &str); 8] = [
+    // no line at all
+    ("", "refused 1 1 S10\n"),
+    // more than eight nodes
+    ("nodes 9", "refused 1 7 S6\n"),
+    // a word behind the end of a line
+    ("nodes 2 3", "refused 1 9 S5\n"),
+    // a line that there is not, behind an empty one
+    ("nodes 1\n\nfoo\n", "refused 3 1 S3\n"),
+    // a word is missing
+    ("nodes 1\nbegin A", "refused 2 8 S4\n"),
+    // a node that there is not
+    ("nodes 1\nbegin A 2", "refused 2 9 S11\n"),
+    // an action that no line has begun
+    ("nodes 1\ncall A x read", "refused 2 6 S9\n"),
+    // an object that no line has declared: the fault of the later line does not count
+    (
+        "nodes 1\nobject x 1 register 0\n# a comment\nbegin A 1\ncall A y read\nfoo\n",
+        "refused 5 8 S9\n",
+    ),
+];
