@@ -11,7 +11,7 @@ use cam_cluster::Servers;
 use cam_io::{Failed, MemorySink, MemorySource, Sink, Source};
 use cam_run::{camelot, worked_answers};
 use cam_type::{CounterServer, QueueServer, RegisterServer};
-use rows::{REFUSED, ROWS};
+use rows::{COUNT, REFUSED, ROWS};
 use std::alloc::Global;
 use std::test::Fail;
 
@@ -86,18 +86,25 @@ fn status_and_text(alloc: Global, command: &str, input: &str) -> Result<(u8, Vec
 #[test]
 fn worked_runs_have_their_reports(rt: HostRuntime) -> Result<(), Fail> {
     worked_answers();
-    for row in ROWS {
-        let (status, text) = status_and_text(rt.alloc(), "run", row.script)?;
-        assert_eq!(rt; status, 0, "{}", row.script);
-        assert_eq!(rt; text.as_slice(), row.report.as_bytes(), "{}", row.script);
+    let mut count = 0usize;
+    for topic in ROWS {
+        for row in topic.split("== ").skip(1) {
+            let (title, run) = row.split_once('\n').ok_or("a row has no script")?;
+            let (script, report) = run.split_once("--\n").ok_or("a row has no report")?;
+            let (status, text) = status_and_text(rt.alloc(), "run", script)?;
+            assert_eq!(rt; status, 0, "{title}");
+            assert_eq!(rt; text.as_slice(), report.as_bytes(), "{title}");
+            count = count.wrapping_add(1);
+        }
     }
+    assert_eq!(rt; count, COUNT);
     Ok(())
 }
 
 #[test]
 fn refused_scripts_have_their_faults(rt: HostRuntime) -> Result<(), Fail> {
     let alloc = rt.alloc();
-    for (script, fault) in REFUSED {
+    for &(script, fault) in REFUSED {
         let (status, text) = status_and_text(alloc, "run", script)?;
         assert_eq!(rt; status, 3, "{script}");
         assert_eq!(rt; text.as_slice(), fault.as_bytes(), "{script}");

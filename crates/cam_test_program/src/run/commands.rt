@@ -244,7 +244,7 @@ const NOT_UPGRADED: Row = Row {
     text: "refused log 3\n",
 };
 
-const ROWS: [Row; 17] = [
+const ROWS: &[Row] = &[
     TRACE,
     WITNESS,
     NO_ACTION,

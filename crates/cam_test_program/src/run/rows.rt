@@ -1,100 +1,58 @@
-//! Worked runs: scripts with their reports, a module for each topic, and scripts that are refused.
+//! Worked runs by topic, and scripts that are refused.
+//!
+//! A topic is one text. Behind `==` stands in a line what a run shows, then come the lines of its script, and behind `--` those of its report.
 
 mod actions;
 mod bodies;
 mod commits;
 mod crash_orphans;
 mod cuts;
-mod halts;
+mod disks;
 mod late;
 mod locks;
 mod objects;
 mod orphans;
-mod refused;
 mod repeats;
 mod restarts;
-mod stops;
 
-pub(super) use refused::REFUSED;
+/// The topics.
+pub(super) const ROWS: &[&str] = &[
+    actions::ROWS,
+    locks::ROWS,
+    objects::ROWS,
+    orphans::ROWS,
+    crash_orphans::ROWS,
+    repeats::ROWS,
+    late::ROWS,
+    cuts::ROWS,
+    commits::ROWS,
+    restarts::ROWS,
+    disks::ROWS,
+    bodies::ROWS,
+];
 
-/// A script and its report.
-#[derive(Clone, Copy, Debug)]
-pub(super) struct Row {
-    pub(super) script: &'static str,
-    pub(super) report: &'static str,
-}
+/// How many runs stand there.
+pub(super) const COUNT: usize = 70;
 
-/// The rows, topic by topic.
-pub(super) const ROWS: [Row; 71] = [
-    actions::NOTHING,
-    actions::HANDED_ON,
-    actions::INFORMED,
-    actions::TOLD_AT_ONCE,
-    actions::OPEN_CHILD,
-    actions::TOO_DEEP,
-    locks::TOLD_BUSY,
-    locks::OPEN_CALL,
-    locks::BUSY_AGAIN,
-    objects::QUEUE,
-    objects::ADDERS,
-    objects::WRAPPED,
-    objects::ENDS,
-    orphans::ABORTED,
-    orphans::UNHEARD,
-    orphans::BOTH_NODES,
-    orphans::ASKS_NO_MORE,
-    orphans::NEVER_CREATED,
-    orphans::SHORTEST,
-    orphans::ORPHAN_PARENT,
-    orphans::ORPHAN_QUIT,
-    crash_orphans::CRASHED,
-    crash_orphans::SIBLING,
-    crash_orphans::CHILD_HOME,
-    crash_orphans::TOP,
-    repeats::THRICE,
-    repeats::SWAPPED,
-    repeats::START,
-    repeats::ENDED_CALL,
-    repeats::ORPHAN_CALL,
-    repeats::FINISH,
-    repeats::TOP_FINISH,
-    repeats::QUIT,
-    repeats::PREPARE,
-    repeats::VOTE,
-    late::CALL,
-    late::ENDED_ANSWER,
-    late::FORGOTTEN_ANSWER,
-    late::ENDED_PARENT,
-    late::FORGOTTEN_PARENT,
-    late::FORGOTTEN_TOP,
-    late::QUERY,
-    cuts::SHORT,
-    cuts::ONE_BYTE_LESS,
-    cuts::WHOLE,
-    cuts::ACKNOWLEDGED,
-    cuts::ACKNOWLEDGED_WHOLE,
-    cuts::FORGOTTEN,
-    cuts::OWN,
-    cuts::GREATEST,
-    commits::COMMITTED,
-    commits::NO_VOTE,
-    commits::SECURED,
-    commits::VOTE_LOST,
-    commits::UNDECIDED,
-    restarts::UNSECURED,
-    restarts::OLD_ANSWER,
-    restarts::OLD_COUNT,
-    stops::AFTER_NONE,
-    stops::AFTER_ONE,
-    stops::AFTER_TWO,
-    stops::AFTER_THREE,
-    stops::AFTER_FOUR,
-    halts::SECOND_ENTRY,
-    halts::SECOND_LOST,
-    halts::ANEW,
-    halts::RESTARTED,
-    halts::IN_A_DRAIN,
-    halts::ASKED_TWICE,
-    bodies::TRANSFER,
-    bodies::STOPPED,
+/// Scripts, each with the line that tells the place and the cause of its first fault.
+pub(super) const REFUSED: &[(&str, &str)] = &[
+    // no line at all
+    ("", "refused 1 1 S10\n"),
+    // more than eight nodes
+    ("nodes 9", "refused 1 7 S6\n"),
+    // a word behind the end of a line
+    ("nodes 2 3", "refused 1 9 S5\n"),
+    // a line that there is not, behind an empty one
+    ("nodes 1\n\nfoo\n", "refused 3 1 S3\n"),
+    // a word is missing
+    ("nodes 1\nbegin A", "refused 2 8 S4\n"),
+    // a node that there is not
+    ("nodes 1\nbegin A 2", "refused 2 9 S11\n"),
+    // an action that no line has begun
+    ("nodes 1\ncall A x read", "refused 2 6 S9\n"),
+    // an object that no line has declared: the fault of the later line does not count
+    (
+        "nodes 1\nobject x 1 register 0\n# a comment\nbegin A 1\ncall A y read\nfoo\n",
+        "refused 5 8 S9\n",
+    ),
 ];

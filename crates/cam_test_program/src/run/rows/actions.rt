@@ -1,17 +1,11 @@
 //! Actions and their children.
 
-use super::Row;
-
-/// Where nothing was done the report is empty.
-pub(super) const NOTHING: Row = Row {
-    script: "nodes 1
-",
-    report: "",
-};
-
-/// A child's lock goes to its parent as it commits; a sibling reads once the object's node knows.
-pub(super) const HANDED_ON: Row = Row {
-    script: "nodes 3
+pub(super) const ROWS: &str = "
+== Where nothing was done the report is empty.
+nodes 1
+--
+== A child's lock goes to its parent as it commits; a sibling reads once the object's node knows.
+nodes 3
 object x 3 register 0
 begin L 1
 ask L A 1
@@ -27,8 +21,8 @@ tell 1 2
 drain
 call B x read
 drain
-",
-    report: "action 1.1.1 open
+--
+action 1.1.1 open
   created
   asked 1.1.1/1.1.1
   asked 1.1.1/2.1.2
@@ -45,12 +39,8 @@ action 1.1.1/2.1.2 open
   called 2 x read
   got 2 value 4
 value x 0
-",
-};
-
-/// A sibling's call brings the news of the commit itself, so its read is not told busy.
-pub(super) const INFORMED: Row = Row {
-    script: "nodes 2
+== A sibling's call brings the news of the commit itself, so its read is not told busy.
+nodes 2
 object x 2 register 0
 begin P 1
 ask P A 1
@@ -62,8 +52,8 @@ commit A 0
 drain
 call B x read
 drain
-",
-    report: "action 1.1.1 open
+--
+action 1.1.1 open
   created
   asked 1.1.1/1.1.1
   asked 1.1.1/1.1.2
@@ -78,12 +68,8 @@ action 1.1.1/1.1.2 open
   called 1 x read
   got 1 value 4
 value x 0
-",
-};
-
-/// One letter tells of a child that committed and of one that was given up.
-pub(super) const TOLD_AT_ONCE: Row = Row {
-    script: "nodes 2
+== One letter tells of a child that committed and of one that was given up.
+nodes 2
 begin P 1
 ask P A 1
 ask P B 1
@@ -93,8 +79,8 @@ drain
 giveup P B
 tell 1 2
 drain
-",
-    report: "action 1.1.1 open
+--
+action 1.1.1 open
   created
   asked 1.1.1/1.1.1
   asked 1.1.1/1.1.2
@@ -105,26 +91,18 @@ action 1.1.1/1.1.1 committed
   commit 0
 action 1.1.1/1.1.2 aborted
   created
-",
-};
-
-/// An action with a child that is not decided may not ask to commit.
-pub(super) const OPEN_CHILD: Row = Row {
-    script: "nodes 1
+== An action with a child that is not decided may not ask to commit.
+nodes 1
 begin P 1
 ask P B 1
 commit P 0
-",
-    report: "action 1.1.1 open
+--
+action 1.1.1 open
   created
   asked 1.1.1/1.1.1
 refused 4 L6
-",
-};
-
-/// An action whose name has eight parts asks for no child.
-pub(super) const TOO_DEEP: Row = Row {
-    script: "nodes 1
+== An action whose name has eight parts asks for no child.
+nodes 1
 begin A1 1
 ask A1 A2 1
 drain
@@ -141,8 +119,8 @@ drain
 ask A7 A8 1
 drain
 ask A8 A9 1
-",
-    report: "action 1.1.1 open
+--
+action 1.1.1 open
   created
   asked 1.1.1/1.1.1
 action 1.1.1/1.1.1 open
@@ -166,5 +144,4 @@ action 1.1.1/1.1.1/1.1.1/1.1.1/1.1.1/1.1.1/1.1.1 open
 action 1.1.1/1.1.1/1.1.1/1.1.1/1.1.1/1.1.1/1.1.1/1.1.1 open
   created
 refused 17 L8
-",
-};
+";

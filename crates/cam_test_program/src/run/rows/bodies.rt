@@ -1,10 +1,8 @@
 //! Actions that work at bodies.
 
-use super::Row;
-
-/// A crash aborts a child, and the parent asks for it a second time.
-pub(super) const TRANSFER: Row = Row {
-    script: "nodes 2
+pub(super) const ROWS: &str = "
+== A crash aborts a child, and the parent asks for it a second time.
+nodes 2
 object a 1 register 100
 object b 2 register 50
 body debit
@@ -25,8 +23,8 @@ end
 start T 1 transfer
 restart 2
 play
-",
-    report: "action 1.1.1 committed
+--
+action 1.1.1 committed
   created
   asked 1.1.1/1.1.1
   child 1.1.1/1.1.1 committed 100
@@ -51,12 +49,8 @@ action 1.1.1/2.2.3 committed
   commit 0
 value a 70
 value b 80
-",
-};
-
-/// An action that was stopped at its home makes no further request.
-pub(super) const STOPPED: Row = Row {
-    script: "nodes 3
+== An action that was stopped at its home makes no further request.
+nodes 3
 object x 3 register 0
 body b
 call 1 x read
@@ -70,12 +64,11 @@ restart 3
 tell 3 2
 drain
 play
-",
-    report: "action 2.1.1 open
+--
+action 2.1.1 open
   created
   called 1 x read
   got 1 value 0
 stop 7 2.1.1 crash 3 1 2
 value x 0
-",
-};
+";

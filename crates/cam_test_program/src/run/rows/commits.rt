@@ -1,10 +1,8 @@
 //! Commits in two phases.
 
-use super::Row;
-
-/// An action writes, reads what it wrote, and commits.
-pub(super) const COMMITTED: Row = Row {
-    script: "nodes 2
+pub(super) const ROWS: &str = "
+== An action writes, reads what it wrote, and commits.
+nodes 2
 object x 2 register 0
 begin A 1
 call A x write 5
@@ -13,8 +11,8 @@ call A x read
 drain
 commit A 0
 drain
-",
-    report: "action 1.1.1 committed
+--
+action 1.1.1 committed
   created
   called 1 x write 5
   got 1 ok
@@ -22,12 +20,8 @@ drain
   got 2 value 5
   commit 0
 value x 5
-",
-};
-
-/// A node that has crashed since the write votes no, and the action aborts.
-pub(super) const NO_VOTE: Row = Row {
-    script: "nodes 2
+== A node that has crashed since the write votes no, and the action aborts.
+nodes 2
 object x 2 register 0
 begin A 1
 call A x write 5
@@ -35,19 +29,15 @@ drain
 restart 2
 commit A 0
 drain
-",
-    report: "action 1.1.1 aborted
+--
+action 1.1.1 aborted
   created
   called 1 x write 5
   got 1 ok
   commit 0
 value x 0
-",
-};
-
-/// A node that voted yes keeps the lock through its crash, until the outcome comes.
-pub(super) const SECURED: Row = Row {
-    script: "nodes 2
+== A node that voted yes keeps the lock through its crash, until the outcome comes.
+nodes 2
 object x 2 register 0
 begin A 1
 begin B 1
@@ -66,8 +56,8 @@ deliver 10
 drain
 call B x write 8
 drain
-",
-    report: "action 1.1.1 committed
+--
+action 1.1.1 committed
   created
   called 1 x read
   got 1 value 0
@@ -81,12 +71,8 @@ action 1.1.2 open
   called 3 x write 8
   got 3 ok
 value x 0
-",
-};
-
-/// The vote is lost and its node crashes: asked again, it votes yes again.
-pub(super) const VOTE_LOST: Row = Row {
-    script: "nodes 2
+== The vote is lost and its node crashes: asked again, it votes yes again.
+nodes 2
 object x 2 register 0
 begin A 1
 call A x write 5
@@ -98,19 +84,15 @@ lose 6
 restart 2
 deliver 5
 drain
-",
-    report: "action 1.1.1 committed
+--
+action 1.1.1 committed
   created
   called 1 x write 5
   got 1 ok
   commit 0
 value x 5
-",
-};
-
-/// A home that crashes before it decides aborts when a node asks it.
-pub(super) const UNDECIDED: Row = Row {
-    script: "nodes 2
+== A home that crashes before it decides aborts when a node asks it.
+nodes 2
 object x 2 register 0
 begin A 1
 call A x write 5
@@ -124,13 +106,12 @@ deliver 7
 query 2 A
 drain
 query 2 A
-",
-    report: "action 1.1.1 aborted
+--
+action 1.1.1 aborted
   created
   called 1 x write 5
   got 1 ok
   commit 0
 refused 14 L9
 value x 0
-",
-};
+";

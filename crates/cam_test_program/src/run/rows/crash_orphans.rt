@@ -1,10 +1,8 @@
 //! Orphans by crashes: what they did, or a sibling did for them, was lost.
 
-use super::Row;
-
-/// A crash took what an action wrote; it is stopped as a node that has crashed too brings the news.
-pub(super) const CRASHED: Row = Row {
-    script: "nodes 3
+pub(super) const ROWS: &str = "
+== A crash took what an action wrote; it is stopped as a node that has crashed too brings the news.
+nodes 3
 object x 2 register 0
 object y 3 register 0
 begin A 1
@@ -16,8 +14,8 @@ drain
 restart 3
 call A y read
 drain
-",
-    report: "action 1.1.1 open
+--
+action 1.1.1 open
   created
   called 1 x write 1
   got 1 ok
@@ -25,12 +23,8 @@ drain
 stop 10 1.1.1 crash 2 1 2
 value x 0
 value y 0
-",
-};
-
-/// A crash took what a sibling wrote and handed on: the action is an orphan with it.
-pub(super) const SIBLING: Row = Row {
-    script: "nodes 4
+== A crash took what a sibling wrote and handed on: the action is an orphan with it.
+nodes 4
 object x 2 register 0
 begin L 1
 ask L A 4
@@ -46,8 +40,8 @@ tell 1 2
 drain
 call A x read
 drain
-",
-    report: "action 1.1.1 open
+--
+action 1.1.1 open
   created
   asked 1.1.1/4.1.1
   asked 1.1.1/1.1.2
@@ -63,12 +57,8 @@ action 1.1.1/4.1.1 open
 stop 16 1.1.1/4.1.1 crash 2 1 2
 stop 17 1.1.1/4.1.1 crash 2 1 2
 value x 0
-",
-};
-
-/// A child has finished, but its home has crashed since: it is aborted.
-pub(super) const CHILD_HOME: Row = Row {
-    script: "nodes 2
+== A child has finished, but its home has crashed since: it is aborted.
+nodes 2
 begin P 1
 ask P B 2
 drain
@@ -77,8 +67,8 @@ restart 2
 tell 2 1
 deliver 3
 deliver 2
-",
-    report: "action 1.1.1 open
+--
+action 1.1.1 open
   created
   asked 1.1.1/2.1.1
   child 1.1.1/2.1.1 aborted
@@ -86,12 +76,8 @@ action 1.1.1/2.1.1 aborted
   created
   commit 0
 stop 7 1.1.1/2.1.1 crash 2 1 2
-",
-};
-
-/// A top action finishes, but a node where it wrote has crashed: it is aborted.
-pub(super) const TOP: Row = Row {
-    script: "nodes 2
+== A top action finishes, but a node where it wrote has crashed: it is aborted.
+nodes 2
 object x 2 register 0
 begin A 1
 call A x write 1
@@ -102,13 +88,12 @@ tell 2 1
 deliver 4
 deliver 3
 drain
-",
-    report: "action 1.1.1 aborted
+--
+action 1.1.1 aborted
   created
   called 1 x write 1
   got 1 ok
   commit 0
 stop 8 1.1.1 crash 2 1 2
 value x 0
-",
-};
+";

@@ -1,39 +1,25 @@
 //! Letters that are cut short, and how long letters are.
 
-use super::Row;
-
-/// A letter of which some bytes are cut off makes a mark and does not arrive.
-pub(super) const SHORT: Row = Row {
-    script: "nodes 2
+pub(super) const ROWS: &str = "
+== A letter of which some bytes are cut off makes a mark and does not arrive.
+nodes 2
 tell 1 2
 cut 1 16
-",
-    report: "cut 3 1 short 16
-",
-};
-
-/// Nor does it where one byte is cut off.
-pub(super) const ONE_BYTE_LESS: Row = Row {
-    script: "nodes 2
+--
+cut 3 1 short 16
+== Nor does it where one byte is cut off.
+nodes 2
 tell 1 2
 cut 1 32
-",
-    report: "cut 3 1 short 32
-",
-};
-
-/// A letter that is cut behind its last byte arrives.
-pub(super) const WHOLE: Row = Row {
-    script: "nodes 2
+--
+cut 3 1 short 32
+== A letter that is cut behind its last byte arrives.
+nodes 2
 tell 1 2
 cut 1 33
-",
-    report: "",
-};
-
-/// A letter tells no outcome that its receiver has acknowledged: cut to 32 bytes it is too short.
-pub(super) const ACKNOWLEDGED: Row = Row {
-    script: "nodes 2
+--
+== A letter tells no outcome that its receiver has acknowledged: cut to 32 bytes it is too short.
+nodes 2
 begin P 1
 ask P C 1
 giveup P C
@@ -43,18 +29,14 @@ tell 2 1
 deliver 3
 tell 1 2
 cut 4 32
-",
-    report: "action 1.1.1 open
+--
+action 1.1.1 open
   created
   asked 1.1.1/1.1.1
   child 1.1.1/1.1.1 aborted
 cut 10 4 short 32
-",
-};
-
-/// The same letter is whole in 40 bytes, which would not hold the outcome too.
-pub(super) const ACKNOWLEDGED_WHOLE: Row = Row {
-    script: "nodes 2
+== The same letter is whole in 40 bytes, which would not hold the outcome too.
+nodes 2
 begin P 1
 ask P C 1
 giveup P C
@@ -64,17 +46,13 @@ tell 2 1
 deliver 3
 tell 1 2
 cut 4 40
-",
-    report: "action 1.1.1 open
+--
+action 1.1.1 open
   created
   asked 1.1.1/1.1.1
   child 1.1.1/1.1.1 aborted
-",
-};
-
-/// A node that has crashed counts nothing as acknowledged: the letter tells the outcome in 57 bytes.
-pub(super) const FORGOTTEN: Row = Row {
-    script: "nodes 2
+== A node that has crashed counts nothing as acknowledged: the letter tells the outcome in 57 bytes.
+nodes 2
 begin P 1
 ask P C 1
 giveup P C
@@ -86,37 +64,29 @@ restart 1
 tell 1 2
 cut 4 56
 cut 4 57
-",
-    report: "action 1.1.1 open
+--
+action 1.1.1 open
   created
   asked 1.1.1/1.1.1
   child 1.1.1/1.1.1 aborted
 cut 11 4 short 56
-",
-};
-
-/// A node tells itself no outcomes: the letter in which its own top action quits has 43 bytes.
-pub(super) const OWN: Row = Row {
-    script: "nodes 1
+== A node tells itself no outcomes: the letter in which its own top action quits has 43 bytes.
+nodes 1
 begin P 1
 ask P C 1
 giveup P C
 abort P
 cut 2 42
 cut 2 43
-",
-    report: "action 1.1.1 aborted
+--
+action 1.1.1 aborted
   created
   asked 1.1.1/1.1.1
   child 1.1.1/1.1.1 aborted
   abort
 cut 6 2 short 42
-",
-};
-
-/// Two letters come in the wrong order: what the one with more outcomes told is acknowledged.
-pub(super) const GREATEST: Row = Row {
-    script: "nodes 2
+== Two letters come in the wrong order: what the one with more outcomes told is acknowledged.
+nodes 2
 begin P 1
 ask P A 1
 ask P B 1
@@ -131,13 +101,12 @@ deliver 5
 tell 1 2
 cut 6 32
 cut 6 33
-",
-    report: "action 1.1.1 open
+--
+action 1.1.1 open
   created
   asked 1.1.1/1.1.1
   asked 1.1.1/1.1.2
   child 1.1.1/1.1.1 aborted
   child 1.1.1/1.1.2 aborted
 cut 14 6 short 32
-",
-};
+";

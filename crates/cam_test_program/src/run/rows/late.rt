@@ -1,10 +1,8 @@
 //! Letters that come too late to change anything.
 
-use super::Row;
-
-/// The call of a child that was given up comes when the parent has committed: it is not performed.
-pub(super) const CALL: Row = Row {
-    script: "nodes 2
+pub(super) const ROWS: &str = "
+== The call of a child that was given up comes when the parent has committed: it is not performed.
+nodes 2
 object x 2 register 0
 begin P 1
 ask P C 1
@@ -22,8 +20,8 @@ deliver 8
 deliver 9
 deliver 10
 deliver 2
-",
-    report: "action 1.1.1 committed
+--
+action 1.1.1 committed
   created
   asked 1.1.1/1.1.1
   child 1.1.1/1.1.1 aborted
@@ -34,100 +32,76 @@ action 1.1.1/1.1.1 aborted
   created
   called 1 x write 5
 value x 6
-",
-};
-
-/// An answer comes when its action has asked to abort.
-pub(super) const ENDED_ANSWER: Row = Row {
-    script: "nodes 2
+== An answer comes when its action has asked to abort.
+nodes 2
 object x 2 register 0
 begin A 1
 call A x read
 abort A
 deliver 1
 deliver 3
-",
-    report: "action 1.1.1 open
+--
+action 1.1.1 open
   created
   called 1 x read
   abort
 value x 0
-",
-};
-
-/// An answer comes when its action's home has crashed.
-pub(super) const FORGOTTEN_ANSWER: Row = Row {
-    script: "nodes 2
+== An answer comes when its action's home has crashed.
+nodes 2
 object x 2 register 0
 begin A 1
 call A x read
 deliver 1
 restart 1
 deliver 2
-",
-    report: "action 1.1.1 open
+--
+action 1.1.1 open
   created
   called 1 x read
 value x 0
-",
-};
-
-/// A child finishes when its parent has asked to abort.
-pub(super) const ENDED_PARENT: Row = Row {
-    script: "nodes 2
+== A child finishes when its parent has asked to abort.
+nodes 2
 begin P 1
 ask P B 2
 drain
 commit B 0
 abort P
 deliver 2
-",
-    report: "action 1.1.1 open
+--
+action 1.1.1 open
   created
   asked 1.1.1/2.1.1
   abort
 action 1.1.1/2.1.1 open
   created
   commit 0
-",
-};
-
-/// A child finishes when its parent's home has crashed.
-pub(super) const FORGOTTEN_PARENT: Row = Row {
-    script: "nodes 2
+== A child finishes when its parent's home has crashed.
+nodes 2
 begin P 1
 ask P B 2
 drain
 commit B 0
 restart 1
 drain
-",
-    report: "action 1.1.1 open
+--
+action 1.1.1 open
   created
   asked 1.1.1/2.1.1
 action 1.1.1/2.1.1 open
   created
   commit 0
-",
-};
-
-/// A top action finishes when its home has crashed.
-pub(super) const FORGOTTEN_TOP: Row = Row {
-    script: "nodes 1
+== A top action finishes when its home has crashed.
+nodes 1
 begin A 1
 commit A 0
 restart 1
 drain
-",
-    report: "action 1.1.1 open
+--
+action 1.1.1 open
   created
   commit 0
-",
-};
-
-/// A query comes before the action has asked to commit: it has no answer.
-pub(super) const QUERY: Row = Row {
-    script: "nodes 2
+== A query comes before the action has asked to commit: it has no answer.
+nodes 2
 object x 2 register 0
 begin A 1
 call A x write 1
@@ -136,12 +110,11 @@ query 2 A
 drain
 commit A 0
 drain
-",
-    report: "action 1.1.1 committed
+--
+action 1.1.1 committed
   created
   called 1 x write 1
   got 1 ok
   commit 0
 value x 1
-",
-};
+";

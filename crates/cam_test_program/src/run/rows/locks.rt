@@ -1,17 +1,8 @@
-//! Locks: who may read and write, and who is told busy.
+//! Locks, and calls that are not answered yet.
 
-use super::Row;
-use crate::run::{FIRST_PATH, FIRST_REPORT};
-
-/// A write, and a read of another action that is told who holds the register.
-pub(super) const TOLD_BUSY: Row = Row {
-    script: FIRST_PATH,
-    report: FIRST_REPORT,
-};
-
-/// An action whose call is not answered makes no other one.
-pub(super) const OPEN_CALL: Row = Row {
-    script: "nodes 1
+pub(super) const ROWS: &str = "
+== An action whose call is not answered makes no other one.
+nodes 1
 object x 1 register 0
 begin A 1
 begin B 1
@@ -23,8 +14,8 @@ deliver 3
 deliver 4
 call B x read
 call B x read
-",
-    report: "action 1.1.1 open
+--
+action 1.1.1 open
   created
   called 1 x write 5
   got 1 ok
@@ -35,12 +26,8 @@ action 1.1.2 open
   called 2 x read
 refused 12 L5
 value x 0
-",
-};
-
-/// A call that comes again has its old answer again, though the lock is free; a new call reads.
-pub(super) const BUSY_AGAIN: Row = Row {
-    script: "nodes 1
+== A call that comes again has its old answer again, though the lock is free; a new call reads.
+nodes 1
 object x 1 register 0
 begin A 1
 begin B 1
@@ -53,8 +40,8 @@ drain
 deliver 3
 call B x read
 drain
-",
-    report: "action 1.1.1 committed
+--
+action 1.1.1 committed
   created
   called 1 x write 7
   got 1 ok
@@ -66,5 +53,4 @@ action 1.1.2 open
   called 2 x read
   got 2 value 7
 value x 7
-",
-};
+";

@@ -1,10 +1,8 @@
 //! Queues, counters, and the ends of the numbers.
 
-use super::Row;
-
-/// A child's put is seen by its sibling once the queue's node has heard of its commit.
-pub(super) const QUEUE: Row = Row {
-    script: "nodes 3
+pub(super) const ROWS: &str = "
+== A child's put is seen by its sibling once the queue's node has heard of its commit.
+nodes 3
 object x 3 queue
 begin L 1
 ask L A 1
@@ -20,8 +18,8 @@ tell 1 2
 drain
 call B x size
 drain
-",
-    report: "action 1.1.1 open
+--
+action 1.1.1 open
   created
   asked 1.1.1/1.1.1
   asked 1.1.1/2.1.2
@@ -38,12 +36,8 @@ action 1.1.1/2.1.2 open
   called 2 x size
   got 2 value 1
 value x []
-",
-};
-
-/// Two actions add to a counter side by side; one that reads must wait for the other.
-pub(super) const ADDERS: Row = Row {
-    script: "nodes 1
+== Two actions add to a counter side by side; one that reads must wait for the other.
+nodes 1
 object c 1 counter 10
 begin A 1
 begin B 1
@@ -56,8 +50,8 @@ commit B 0
 drain
 call A c read
 drain
-",
-    report: "action 1.1.1 open
+--
+action 1.1.1 open
   created
   called 1 c add 5
   got 1 ok
@@ -71,32 +65,24 @@ action 1.1.2 committed
   got 1 ok
   commit 0
 value c 17
-",
-};
-
-/// One more than the greatest number is the least number.
-pub(super) const WRAPPED: Row = Row {
-    script: "nodes 1
+== One more than the greatest number is the least number.
+nodes 1
 object c 1 counter 9223372036854775807
 begin A 1
 call A c add 1
 drain
 call A c read
 drain
-",
-    report: "action 1.1.1 open
+--
+action 1.1.1 open
   created
   called 1 c add 1
   got 1 ok
   called 2 c read
   got 2 value -9223372036854775808
 value c 9223372036854775807
-",
-};
-
-/// A register holds the least number, then the greatest; there is nothing to take from an empty queue.
-pub(super) const ENDS: Row = Row {
-    script: "nodes 1
+== A register holds the least number, then the greatest; there is nothing to take from an empty queue.
+nodes 1
 object r 1 register -9223372036854775808
 object q 1 queue
 begin A 1
@@ -104,8 +90,8 @@ call A r swap 9223372036854775807
 drain
 call A q take
 drain
-",
-    report: "action 1.1.1 open
+--
+action 1.1.1 open
   created
   called 1 r swap 9223372036854775807
   got 1 value -9223372036854775808
@@ -113,5 +99,4 @@ drain
   got 2 empty
 value r -9223372036854775808
 value q []
-",
-};
+";

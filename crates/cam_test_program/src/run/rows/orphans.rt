@@ -1,10 +1,8 @@
 //! Orphans by aborts: children that were given up, and where they are stopped.
 
-use super::Row;
-
-/// An orphan is stopped before it sees one write of an action and not the other.
-pub(super) const ABORTED: Row = Row {
-    script: "nodes 4
+pub(super) const ROWS: &str = "
+== An orphan is stopped before it sees one write of an action and not the other.
+nodes 4
 object x 2 register 1
 object y 3 register 1
 begin P 1
@@ -22,8 +20,8 @@ commit D 0
 drain
 call C y read
 drain
-",
-    report: "action 1.1.1 open
+--
+action 1.1.1 open
   created
   asked 1.1.1/4.1.1
   child 1.1.1/4.1.1 aborted
@@ -43,12 +41,8 @@ stop 25 1.1.1/4.1.1 abort 1.1.1/4.1.1
 stop 26 1.1.1/4.1.1 abort 1.1.1/4.1.1
 value x 2
 value y 2
-",
-};
-
-/// Where no letter tells of it, a child that was given up reads on, and nothing that it sees contradicts.
-pub(super) const UNHEARD: Row = Row {
-    script: "nodes 4
+== Where no letter tells of it, a child that was given up reads on, and nothing that it sees contradicts.
+nodes 4
 object x 2 register 1
 object y 3 register 1
 begin P 1
@@ -64,8 +58,8 @@ commit D 0
 drain
 call C y read
 drain
-",
-    report: "action 1.1.1 open
+--
+action 1.1.1 open
   created
   asked 1.1.1/4.1.1
   child 1.1.1/4.1.1 aborted
@@ -82,12 +76,8 @@ action 1.1.2 committed
   commit 0
 value x 2
 value y 1
-",
-};
-
-/// The call of an orphan is stopped at its site, and the orphan at its home as the answer comes.
-pub(super) const BOTH_NODES: Row = Row {
-    script: "nodes 3
+== The call of an orphan is stopped at its site, and the orphan at its home as the answer comes.
+nodes 3
 object x 2 register 0
 begin P 1
 ask P C 3
@@ -97,8 +87,8 @@ tell 1 2
 drain
 call C x read
 drain
-",
-    report: "action 1.1.1 open
+--
+action 1.1.1 open
   created
   asked 1.1.1/3.1.1
   child 1.1.1/3.1.1 aborted
@@ -108,12 +98,8 @@ action 1.1.1/3.1.1 aborted
 stop 7 1.1.1/3.1.1 abort 1.1.1/3.1.1
 stop 8 1.1.1/3.1.1 abort 1.1.1/3.1.1
 value x 0
-",
-};
-
-/// An orphan that asks for a child is stopped, and the line of that child is refused.
-pub(super) const ASKS_NO_MORE: Row = Row {
-    script: "nodes 2
+== An orphan that asks for a child is stopped, and the line of that child is refused.
+nodes 2
 begin P 1
 ask P C 2
 drain
@@ -123,8 +109,8 @@ drain
 ask C D 1
 drain
 commit D 0
-",
-    report: "action 1.1.1 open
+--
+action 1.1.1 open
   created
   asked 1.1.1/2.1.1
   child 1.1.1/2.1.1 aborted
@@ -132,12 +118,8 @@ action 1.1.1/2.1.1 aborted
   created
 stop 6 1.1.1/2.1.1 abort 1.1.1/2.1.1
 refused 10 L1
-",
-};
-
-/// A child that was given up before its start came is not created.
-pub(super) const NEVER_CREATED: Row = Row {
-    script: "nodes 2
+== A child that was given up before its start came is not created.
+nodes 2
 begin A 1
 ask A B 2
 giveup A B
@@ -145,18 +127,14 @@ tell 1 2
 deliver 2
 deliver 1
 drain
-",
-    report: "action 1.1.1 open
+--
+action 1.1.1 open
   created
   asked 1.1.1/2.1.1
   child 1.1.1/2.1.1 aborted
 stop 5 1.1.1/2.1.1 abort 1.1.1/2.1.1
-",
-};
-
-/// Where two ancestors are known to be aborted, the stop names the one with the shorter name.
-pub(super) const SHORTEST: Row = Row {
-    script: "nodes 3
+== Where two ancestors are known to be aborted, the stop names the one with the shorter name.
+nodes 3
 begin T 1
 ask T P 2
 drain
@@ -168,8 +146,8 @@ giveup T P
 tell 1 3
 drain
 ask C D 1
-",
-    report: "action 1.1.1 open
+--
+action 1.1.1 open
   created
   asked 1.1.1/2.1.1
   child 1.1.1/2.1.1 aborted
@@ -180,12 +158,8 @@ action 1.1.1/2.1.1 aborted
 action 1.1.1/2.1.1/3.1.1 aborted
   created
 stop 11 1.1.1/2.1.1/3.1.1 abort 1.1.1/2.1.1
-",
-};
-
-/// A child finishes at a parent that is an orphan: the parent is stopped, and the child stays open.
-pub(super) const ORPHAN_PARENT: Row = Row {
-    script: "nodes 3
+== A child finishes at a parent that is an orphan: the parent is stopped, and the child stays open.
+nodes 3
 begin T 1
 ask T P 2
 drain
@@ -196,8 +170,8 @@ giveup T P
 tell 1 2
 deliver 4
 deliver 3
-",
-    report: "action 1.1.1 open
+--
+action 1.1.1 open
   created
   asked 1.1.1/2.1.1
   child 1.1.1/2.1.1 aborted
@@ -208,12 +182,8 @@ action 1.1.1/2.1.1/3.1.1 open
   created
   commit 0
 stop 9 1.1.1/2.1.1 abort 1.1.1/2.1.1
-",
-};
-
-/// A child that aborts at a parent that is an orphan stays open too.
-pub(super) const ORPHAN_QUIT: Row = Row {
-    script: "nodes 3
+== A child that aborts at a parent that is an orphan stays open too.
+nodes 3
 begin T 1
 ask T P 2
 drain
@@ -224,8 +194,8 @@ giveup T P
 tell 1 2
 deliver 4
 deliver 3
-",
-    report: "action 1.1.1 open
+--
+action 1.1.1 open
   created
   asked 1.1.1/2.1.1
   child 1.1.1/2.1.1 aborted
@@ -236,5 +206,4 @@ action 1.1.1/2.1.1/3.1.1 open
   created
   abort
 stop 9 1.1.1/2.1.1 abort 1.1.1/2.1.1
-",
-};
+";

@@ -1,10 +1,8 @@
 //! Nodes that crash and restart.
 
-use super::Row;
-
-/// A crash drops a write that was not secured, and its lock.
-pub(super) const UNSECURED: Row = Row {
-    script: "nodes 2
+pub(super) const ROWS: &str = "
+== A crash drops a write that was not secured, and its lock.
+nodes 2
 object x 2 register 0
 begin A 1
 call A x write 5
@@ -15,8 +13,8 @@ call B x read
 drain
 call B x read
 drain
-",
-    report: "action 1.1.1 open
+--
+action 1.1.1 open
   created
   called 1 x write 5
   got 1 ok
@@ -27,12 +25,8 @@ action 1.1.2 open
   called 2 x read
   got 2 value 0
 value x 0
-",
-};
-
-/// An answer is worth nothing where its node is known to have crashed since: the call is gone.
-pub(super) const OLD_ANSWER: Row = Row {
-    script: "nodes 2
+== An answer is worth nothing where its node is known to have crashed since: the call is gone.
+nodes 2
 object x 2 register 0
 begin A 1
 call A x read
@@ -41,30 +35,25 @@ restart 2
 tell 2 1
 deliver 3
 deliver 2
-",
-    report: "action 1.1.1 open
+--
+action 1.1.1 open
   created
   called 1 x read
   got 1 gone
 value x 0
-",
-};
-
-/// A child is asked for at a node that has crashed before, unheard: it is not created.
-pub(super) const OLD_COUNT: Row = Row {
-    script: "nodes 2
+== A child is asked for at a node that has crashed before, unheard: it is not created.
+nodes 2
 restart 2
 begin P 1
 ask P B 2
 commit B 0
 drain
 commit B 0
-",
-    report: "action 1.1.1 open
+--
+action 1.1.1 open
   created
   asked 1.1.1/2.1.1
   child 1.1.1/2.1.1 aborted
 refused 5 L4
 refused 7 L4
-",
-};
+";
