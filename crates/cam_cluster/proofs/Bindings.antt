@@ -1,8 +1,7 @@
 -- The home of the action to which a line binds its variable: the node that the line names.
-use Rattle.std.proofs.Common.{◌≡◌, ℕ, suc, Bool, true, false, if◌then◌else◌, List, [], ◌∷◌, ◌++◌}
-use Rattle.std.proofs.Common.{filter, length, Option, Some, None, refl, sym, ap, ◌∙◌, arith}
-use Rattle.std.specs.Prelude.{map, nat_lt}
-use Rattle.std.proofs.lemmas.Bool.{lt-ltb, le-ltb}
+use Rattle.std.proofs.Common.{◌≡◌, ℕ, Bool, true, false, List, [], ◌∷◌, ◌++◌, filter, length}
+use Rattle.std.proofs.Common.{Option, Some, None, refl, sym, ap, ◌∙◌}
+use Rattle.std.specs.Prelude.{map}
 use Rattle.std.proofs.lemmas.Option.{same_Some}
 use Rattle.cam_names.specs.declared.name.Name.{Name}
 use Rattle.cam_names.specs.Names.{home_node, last_part}
@@ -31,6 +30,7 @@ use Rattle.cam_runs.specs.Standing.{Standing, Setting, after_input, made, put}
 use Rattle.cam_runs.proofs.HaltedPuts.{helds, pasts}
 use Rattle.cam_runs.proofs.OneEvent.{first_none}
 use Rattle.cam_script.specs.declared.Script.{Script}
+use Rattle.cam_cluster.proofs.Led.{as_long, longer}
 
 -- What is entered of an event creates no action and asks for none.
 entered_only : (ds : List Deed)
@@ -46,12 +46,6 @@ entered_only (_ ∷ ds) = entered_only ds
 none_bound : {X : Type 0} (o : Option Name) (b : Name) → o ≡ None → o ≡ Some b → X
 none_bound None b none some = cc
 none_bound (Some a) b none some = cc
-
-longer : (n : ℕ) (x y : List Deed) → (if nat_lt n (suc n) then x else y) ≡ x
-longer n x y = ap (λ (b : Bool). if b then x else y) (lt-ltb n (suc n) (omega arith))
-
-as_long : (n : ℕ) (x y : List Deed) → (if nat_lt n n then x else y) ≡ y
-as_long n x y = ap (λ (b : Bool). if b then x else y) (le-ltb n n (omega arith))
 
 -- what was bound by an input, its whole event did
 bound_whole : (in_deeds : List Deed → Option Name) → in_deeds [] ≡ None

@@ -1,6 +1,7 @@
 -- Works of which a disk is stopped, and nothing of what may be read of it changes.
-use Rattle.std.proofs.Common.{◌≡◌, ◌⊎◌, inl, inr, ℕ, ◌+◌, ◌≤◌, ◌<◌, Bool, true, false, List, ◌∷◌, length, eqb, ◌-◌}
-use Rattle.std.proofs.Common.{get_or, set, Ok, Option, Some, refl, sym, ap, ◌∙◌, subst, arith}
+use Rattle.std.proofs.Common.{◌≡◌, ◌⊎◌, inl, inr, ℕ, ◌+◌, ◌≤◌, ◌<◌, Bool, true, false, List, ◌∷◌}
+use Rattle.std.proofs.Common.{length, eqb, ◌-◌, get_or, set, Option, Some, refl, sym, ap, ◌∙◌}
+use Rattle.std.proofs.Common.{subst, arith}
 use Rattle.std.specs.Prelude.{map, slice_get}
 use Rattle.std.proofs.lemmas.Bool.{eq-eqb, ne_eqb}
 use Rattle.std.proofs.lemmas.List.{length-set, map-set}
@@ -9,10 +10,8 @@ use Rattle.std.proofs.lemmas.Bool.Decides.{eqb_tells}
 use Rattle.std.proofs.Math.Seq.{map-set_same}
 use Rattle.cam_event.specs.declared.Event.{Event}
 use Rattle.cam_event.specs.declared.Mark.{Mark}
-use Rattle.cam_log.specs.Moments.{Opened, Stays}
 use Rattle.cam_net.specs.Outbox.{OutboxFields}
 use Rattle.cam_node.specs.Log.{Logged}
-use Rattle.cam_node.specs.Opened.{MayRead}
 use Rattle.cam_runs.specs.Halts.{Stop}
 use Rattle.cam_runs.specs.Running.{has_number}
 use Rattle.cam_runs.specs.Standing.{Standing}
@@ -32,43 +31,6 @@ use Rattle.cam_cluster.proofs.PutWorks.{seen}
 use Rattle.cam_cluster.proofs.HaltsByStop.{halt_alike}
 use Rattle.cam_cluster.proofs.StoppedWorks.{nodes_stopped, unfailing_before}
 use Rattle.cam_cluster.proofs.WorksNodes.{set_tells}
-
--- less may be read
-pub reads_less : (script : Script) (st : Standing) (works : WorksFields)
-    (might may : ℕ → Logged → Type 0)
-    → ((s : ℕ) (logged : Logged) → 1 ≤ s → may s logged → might s logged)
-    → KeepsRun script st works might → KeepsRun script st works may
-reads_less script st works might may less keeps = record {
-  under = keeps.under;
-  one_each = keeps.one_each;
-  eight = keeps.eight;
-  nodes = keeps.nodes;
-  whole = keeps.whole;
-  halts = λ place node at said.
-      halt_read script.objects st.running.trace st.undecided (place + 1) node (might (place + 1))
-      (may (place + 1)) (λ logged read. less (place + 1) logged (omega arith) read)
-      (keeps.halts place node at said);
-  undecided = keeps.undecided;
-  sent = keeps.sent;
-  events = keeps.events;
-  all_marks = keeps.all_marks;
-  few = keeps.few;
-  stops = keeps.stops;
-}
-
--- a disk that stays may be read as before
-pub stays_reads : (before now : ℕ) (past since : ℕ → Opened → Type 0) (was is : List ℕ)
-    (failed fails : ℕ) (logged : Logged) → Stays before now past since was is failed fails
-    → MayRead since now logged → MayRead past before logged
-stays_reads before now past since was is failed fails logged stays read = record {
-  entries = read.entries;
-  opens =
-      subst (λ (t : ℕ). past t (Ok read.entries)) stays.untouched.moment
-      ((stays.untouched.outcomes now (Ok read.entries)).1 read.opens);
-  recovered = read.recovered;
-  recovers = read.recovers;
-  is = read.is;
-}
 
 -- The disk of a node does so many calls more.
 abbrev pub with_passes : Option ℕ → NodeFields → NodeFields

@@ -19,7 +19,8 @@ use Rattle.cam_cluster.specs.Taking.{HasDrainedPart, IsStepTaken}
 use Rattle.cam_cluster.proofs.Drains.{drain_is}
 use Rattle.cam_cluster.proofs.EndsSaid.{deliveries_said, from_high, from_lost, from_low, from_newest}
 use Rattle.cam_cluster.proofs.EndsSaid.{given_said, handed_over}
-use Rattle.cam_cluster.proofs.GoesOn.{goes_on, held_is}
+use Rattle.cam_cluster.proofs.GoesOn.{goes_on}
+use Rattle.cam_cluster.proofs.NextLine.{held_is}
 
 module _ (line : ℕ) (old new : LinesFields) (might may : ℕ → Logged → Type 0) where
   abbrev step : Step

@@ -17,7 +17,8 @@ use Rattle.cam_cluster.specs.Drains.{AreDue, AreSaid, IsSaid}
 use Rattle.cam_cluster.specs.FoundHalts.{AreNewestFirst}
 use Rattle.cam_cluster.specs.Making.{AreSaidFrom}
 use Rattle.cam_cluster.specs.Puts.{as_halt}
-use Rattle.cam_cluster.proofs.GoesOn.{all_behind, all_so, newest_behind, unsaid}
+use Rattle.cam_cluster.proofs.GoesOn.{all_behind, all_so, newest_behind}
+use Rattle.cam_cluster.proofs.NextLine.{unsaid}
 use Rattle.cam_cluster.proofs.LaterHalts.{later_says}
 
 -- The halts are at inputs from this number on,

@@ -30,8 +30,8 @@ use Rattle.cam_cluster.specs.SoFar.{IsLed, LinesFields}
 use Rattle.cam_cluster.specs.Workers.{AreWorkers}
 use Rattle.cam_cluster.proofs.Counted.{go_counts}
 use Rattle.cam_cluster.proofs.CourseTaken.{variables_placed}
-use Rattle.cam_cluster.proofs.GoesOn.{done_goes, done_halts, ends_are_said, held_is, led_goes}
-use Rattle.cam_cluster.proofs.GoesOn.{led_halts, refused_goes, wanting_goes}
+use Rattle.cam_cluster.proofs.NextLine.{done_goes, done_halts, ends_are_said, held_is, led_goes}
+use Rattle.cam_cluster.proofs.NextLine.{led_halts, refused_goes, wanting_goes}
 use Rattle.cam_cluster.proofs.WorkersOn.{refused_is}
 
 -- It tells of no letter.

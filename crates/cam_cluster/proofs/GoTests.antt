@@ -1,7 +1,7 @@
 -- The tests of the line `go`, in their order: the variable, the halted home, and what the home
 -- says.
-use Rattle.std.proofs.Common.{◌≡◌, ◌≤◌, ℤ, ℕ, ◌+◌, ◌<◌, Bool, true, false, List, [], length}
-use Rattle.std.proofs.Common.{Option, Err, Some, None, refl, sym, ap, ◌∙◌, subst, arith}
+use Rattle.std.proofs.Common.{◌≡◌, ◌≤◌, ℤ, ℕ, ◌+◌, ◌<◌, Bool, true, false, List, length, Option}
+use Rattle.std.proofs.Common.{Err, Some, None, sym, ap, ◌∙◌, arith}
 use Rattle.std.specs.Prelude.{slice_get}
 use Rattle.cam_names.specs.declared.name.Name.{Name}
 use Rattle.cam_names.specs.Names.{home_node}
@@ -14,13 +14,12 @@ use Rattle.cam_net.specs.Waiting.{is_halted}
 use Rattle.cam_node.specs.declared.Input.TheVariants as inputs
 use Rattle.cam_node.specs.Log.{Logged}
 use Rattle.cam_runs.specs.Halts.{Halting}
-use Rattle.cam_runs.specs.HaltedLines.{Led, Passed, Refused, act, after_line, halted_or}
-use Rattle.cam_runs.specs.HaltedLines.{of_variable, setting, unless}
+use Rattle.cam_runs.specs.HaltedLines.{Led, act, halted_or, of_variable, setting, unless}
 use Rattle.cam_runs.specs.HaltedPlaying.{go}
 use Rattle.cam_runs.specs.Playing.{go_refusal}
 use Rattle.cam_runs.specs.Requests.{home_sight, variable}
 use Rattle.cam_runs.specs.Running.{has_number}
-use Rattle.cam_runs.specs.Standing.{Setting, Standing}
+use Rattle.cam_runs.specs.Standing.{Standing}
 use Rattle.cam_script.specs.declared.Act.TheVariants as acts
 use Rattle.cam_script.specs.declared.Script.{Script}
 use Rattle.cam_script.specs.declared.Statement.{Statement}
@@ -28,60 +27,27 @@ use Rattle.cam_script.specs.declared.Step.{Step}
 use Rattle.cam_script.specs.Law.{IsScript}
 use Rattle.cam_histories.specs.Lines.{line_refusal, test_variable}
 use Rattle.cam_cluster.specs.declared.LineFault.{LineFault}
-use Rattle.cam_cluster.specs.declared.LineFault.TheVariants as line_faults
 use Rattle.cam_cluster.specs.declared.workers.Workers.{Workers}
 use Rattle.cam_cluster.specs.GoLines.{IsGoOfSome, IsLineOfGo, KeepsLinesAtWork}
 use Rattle.cam_cluster.specs.InputLines.{IsRefusedAs}
-use Rattle.cam_cluster.specs.SoFar.{IsRefused, LinesFields}
+use Rattle.cam_cluster.specs.SoFar.{LinesFields}
 use Rattle.cam_cluster.specs.VariableLines.{AreAtNodes, action_of}
-use Rattle.cam_cluster.specs.Workers.{AreWorkers}
 use Rattle.cam_cluster.specs.Works.{NodeFields}
 use Rattle.cam_cluster.proofs.BegunLine.{told_halted}
 use Rattle.cam_cluster.proofs.TriedEnds.{IsSaid}
-use Rattle.cam_cluster.proofs.TriedLine.{refused_line}
 use Rattle.cam_cluster.proofs.TriedNode.{refuses}
 use Rattle.cam_cluster.proofs.VariableEnds.{placed_in_each, stands_for}
-use Rattle.cam_cluster.proofs.WorkersStand.{workers_stay}
+use Rattle.cam_cluster.proofs.GoRefused.{refused_so}
 
 -- the run of a script with these bodies, whose next line it is
 module _ (line v : ℕ) (bodies : List (List Statement)) (old new : LinesFields)
     (might may : ℕ → Logged → Type 0) (before : Workers)
     (some : IsGoOfSome line v bodies old might before) where
-  abbrev leads : Standing → Setting → Name → Passed
-  leads st c a = Led (go c bodies st a) None
-
-  still_at_work : (st : Standing) (why : LineRefusal) → AreWorkers st before
-      → AreWorkers (after_line st line (Refused why)) before
-  still_at_work st why are = workers_stay st _ before [] refl refl are
-
-  -- a line that is refused
-  refused_so : (why : LineRefusal) (fault : LineFault)
-      → ((script : Script) (st : Standing) → IsScript script
-      → KeepsLinesAtWork script st old might before
-      → (line_refusal (by_knowledge script.objects) st (acts.Go v) ≡ Some why)
-      × ((halts : Halting) (later : List Step) → act (setting (by_knowledge script.objects) halts
-      (record { line = line; act = acts.Go v }) later) script.bodies st (acts.Go v) ≡ Refused
-      why))
-      → IsRefusedAs line why old might new may fault
-      → IsLineOfGo line v bodies old might before new may before (Err fault)
-  refused_so why line_faults.NoMemory tests has script st halts later is bodies_are keeps next =
-      record { lines = has script st is keeps.lines; workers = keeps.workers }
-  refused_so why (line_faults.Refused told) tests has script st halts later is bodies_are keeps
-      next =
-      let test = tests script st is keeps in record {
-        refused =
-            subst (λ (r : LineRefusal). IsRefused script st line (acts.Go v) r new may) (sym has.0)
-            (refused_line script st halts later line (acts.Go v) why old new might may is
-            keeps.lines
-            next test.0 (test.1 halts later) has.1);
-        workers = still_at_work st told keeps.workers;
-      }
-
   pub go_unbound : action_of old.bound v ≡ None → (fault : LineFault)
       → IsRefusedAs line refusals.Unbound old might new may fault
       → IsLineOfGo line v bodies old might before new may before (Err fault)
   go_unbound none fault has =
-      refused_so refusals.Unbound fault (λ script st is keeps.
+      refused_so line v bodies old new might may before refusals.Unbound fault (λ script st is keeps.
       let at = stands_for script st old might v None keeps.lines none in (
         ap (λ o. test_variable o (λ a. halted_or st (home_node a) (go_refusal (home_sight
             (by_knowledge script.objects) st.running a) a))) at,
@@ -178,7 +144,7 @@ module _ (line v : ℕ) (bodies : List (List Statement)) (old new : LinesFields)
           → IsRefusedAs line refusals.Halted old might new may fault
           → IsLineOfGo line v bodies old might before new may before (Err fault)
       go_halted stops fault has =
-          refused_so refusals.Halted fault (λ script st is keeps.
+          refused_so line v bodies old new might may before refusals.Halted fault (λ script st is keeps.
           let said = says_by script st true is keeps stops in (
             tested script st (Some refusals.Halted) keeps said,
             taken script st (Some
@@ -211,6 +177,6 @@ module _ (line v : ℕ) (bodies : List (List Statement)) (old new : LinesFields)
             → IsRefusedAs line why old might new may fault
             → IsLineOfGo line v bodies old might before new may before (Err fault)
         go_refused why is_why fault has =
-            refused_so why fault (λ script st is keeps.
+            refused_so line v bodies old new might may before why fault (λ script st is keeps.
             let said = says_node script st is keeps ∙ is_why in
             (tested script st (Some why) keeps said, taken script st (Some why) keeps said)) has

@@ -1,21 +1,18 @@
 -- The halt of a node is over once the node has had another input.
-use Rattle.std.proofs.Common.{◌≡◌, ℕ, ◌<◌, Bool, true}
-use Rattle.std.proofs.Common.{if◌then◌else◌, List, [], ◌∷◌, Some, refl, ap}
-use Rattle.std.proofs.Common.{◌∙◌, arith, eqb-true}
+use Rattle.std.proofs.Common.{◌≡◌, ℕ, ◌<◌, Bool, true, if◌then◌else◌, List, [], ◌∷◌, Some, refl, ap}
+use Rattle.std.proofs.Common.{◌∙◌, arith}
 use Rattle.std.proofs.lemmas.Bool.{eq-eqb}
 use Rattle.cam_event.specs.Inputs.{Restarts}
 use Rattle.cam_event.specs.Readings.{by_pasts}
-use Rattle.cam_script.specs.declared.Act.{Act}
-use Rattle.cam_script.specs.declared.Act.TheVariants as acts
 use Rattle.cam_script.specs.declared.Script.{Script}
 use Rattle.cam_script.specs.declared.Step.{Step}
 use Rattle.cam_runs.specs.Halts.{Turn, Input, Restart, accepted, Halting, appends}
 use Rattle.cam_runs.specs.Standing.{Standing, Setting, ended_halt}
-use Rattle.cam_runs.specs.HaltedLines.{act, after_line, setting}
-use Rattle.cam_runs.specs.HaltedLines.{is_restart_act}
+use Rattle.cam_runs.specs.HaltedLines.{act, after_line, setting, is_restart_act}
 use Rattle.cam_runs.proofs.HaltGrows.{Grows, after_turns}
 use Rattle.cam_histories.specs.Found.{last_input, HasBeyond, after_step}
 use Rattle.cam_cluster.specs.FoundHalts.{input_node}
+use Rattle.cam_runs.proofs.LinesAdded.{restart_is}
 use Rattle.cam_cluster.proofs.LastInputs.{last_node, node_stays, last_grows, accepted_more}
 
 -- The node of the input has had another since: its halt is over.
@@ -47,25 +44,6 @@ over_stays k old new grows over =
     }
 
 -- what a restart of the node leaves
-restart_is : (s : ℕ) (does : Act) → is_restart_act s does ≡ true → does ≡ acts.Restart s
-restart_is s (acts.Restart m) h = ap acts.Restart (eqb-true m s h)
-restart_is s (acts.Begin m) h = cc
-restart_is s (acts.Start m body) h = cc
-restart_is s (acts.Ask p m) h = cc
-restart_is s (acts.Call v x op) h = cc
-restart_is s (acts.Commit v value) h = cc
-restart_is s (acts.Abort v) h = cc
-restart_is s (acts.GiveUp v w) h = cc
-restart_is s (acts.Go v) h = cc
-restart_is s (acts.Deliver n) h = cc
-restart_is s (acts.Cut n bytes) h = cc
-restart_is s (acts.Lose n) h = cc
-restart_is s acts.Drain h = cc
-restart_is s acts.Play h = cc
-restart_is s (acts.Tell m to) h = cc
-restart_is s (acts.Query m v) h = cc
-restart_is s (acts.Stop m calls) h = cc
-
 pub restart_over : (script : Script) (k : ℕ) (halts : Halting) (lost found : Standing) (step : Step)
     (later : List Step) → (b : HasBeyond script.objects k lost found)
     → is_restart_act b.node step.act ≡ true → IsOver k (after_step halts later script lost step)

@@ -1,102 +1,30 @@
--- Inputs extend what stands: one, letters that are handed over, and requests by bodies.
-use Rattle.std.proofs.Common.{◌≡◌, inl, inr, ℕ, zero, suc, Bool, true, false, not}
-use Rattle.std.proofs.Common.{if◌then◌else◌, List, [], ◌∷◌, Option, Some, None, refl, sym, ap, ◌∙◌}
-use Rattle.std.proofs.Common.{arith, true≢false}
+-- Inputs extend what stands: letters that are handed over, and requests by bodies.
+use Rattle.std.proofs.Common.{◌≡◌, ℕ, zero, suc, Bool, true, false, not, if◌then◌else◌, List, []}
+use Rattle.std.proofs.Common.{◌∷◌, Option, Some, None, refl, ap}
 use Rattle.std.specs.Prelude.{nat_lt}
-use Rattle.std.proofs.lemmas.Bool.{and_parts, ne_eqb}
-use Rattle.std.proofs.lemmas.Bool.Decides.{eqb_tells}
+use Rattle.std.proofs.lemmas.Bool.{and_parts}
 use Rattle.cam_names.specs.declared.name.Name.{Name}
 use Rattle.cam_names.specs.Names.{home_node}
-use Rattle.cam_event.specs.declared.Event.{Event}
 use Rattle.cam_event.specs.declared.LetterId.{LetterId}
 use Rattle.cam_event.specs.Inputs.{Input as Coming, Receives, Requests, node_of}
 use Rattle.cam_event.specs.Pasts.{plain_all}
-use Rattle.cam_event.specs.Taken.{taken_of}
 use Rattle.cam_event.specs.Views.{view}
 use Rattle.cam_body.specs.declared.Next.{Next}
 use Rattle.cam_body.specs.declared.Next.TheVariants as nexts
 use Rattle.cam_body.specs.Work.{child_body, next}
-use Rattle.cam_runs.specs.Halts.{Halt, Halting, Input, Turn, accepted, appends, given, halt_at}
+use Rattle.cam_runs.specs.Halts.{Halt, Halting, accepted, appends, given}
 use Rattle.cam_runs.specs.HaltedPlaying.{given_body, go, go_in_round, make_request, may_go_on}
 use Rattle.cam_runs.specs.HaltedPlaying.{requested, round, rounds}
 use Rattle.cam_runs.specs.Playing.{body_of, in_order, may_go}
 use Rattle.cam_runs.specs.Requests.{asked_in, home_sight}
 use Rattle.cam_runs.specs.Running.{has_number, letters, waiting_weight}
-use Rattle.cam_runs.specs.Standing.{Setting, Standing, addressee, after_input, deliver}
-use Rattle.cam_runs.specs.Standing.{deliver_waiting, deliveries, drain, made, put, waiting}
-use Rattle.cam_runs.specs.Stops.{Agrees}
+use Rattle.cam_runs.specs.Standing.{Setting, Standing, addressee, deliver, deliver_waiting}
+use Rattle.cam_runs.specs.Standing.{deliveries, drain, made, put, waiting}
 use Rattle.cam_histories.proofs.NextLetter.{waits_there}
 use Rattle.cam_script.specs.declared.Statement.{Statement}
-use Rattle.cam_cluster.specs.FoundHalts.{AreLostSoFar, IsLostSoFar}
-use Rattle.cam_cluster.specs.Stopping.{AreAsStopped}
-use Rattle.cam_cluster.proofs.Extends.{Extends, NoneTaken, extends_on, same_extends}
-use Rattle.cam_cluster.proofs.InputAgrees.{put_agrees, was_stopped}
-
--- an input,
-module _ (halts : List Halt) (line : ℕ) (again : Bool) (st : Standing) (s : ℕ) (e : Event)
-    (w : Bool) (awake : has_number st.halted s ≡ false) where
-  abbrev now : List Turn
-  now = Input s line w again ∷ st.turns
-
-  -- another node's last input stays,
-  other_lost : (m : ℕ) → (s ≡ m → ⊥) → IsLostSoFar st.turns halts m → IsLostSoFar now halts m
-  other_lost m away was = record {
-    number = was.number;
-    last = rw (ne_eqb s m away) was.last;
-    lost = was.lost;
-  }
-
-  -- and none of a halted node was put.
-  still_lost : AreLostSoFar st halts → (m : ℕ) → has_number st.halted m ≡ true
-      → IsLostSoFar now halts m
-  still_lost lost m is =
-      other_lost m (λ same. true≢false (sym is ∙ ap (has_number st.halted) (sym same) ∙ awake))
-      (lost m is)
-
-  newly_lost : halt_at halts (accepted st.turns) ≡ Some false → AreLostSoFar st halts → (m : ℕ)
-      → has_number (s ∷ st.halted) m ≡ true → IsLostSoFar now halts m
-  newly_lost here lost m is = elim (eqb_tells s m) [
-    | inl same ↦
-        record { number = accepted st.turns; last = rw same.0 refl; lost = here }
-    | inr away ↦
-        let was : has_number (s ∷ st.halted) m ≡ has_number st.halted m = rw away.0 refl in
-        other_lost m away.1 (lost m (sym was ∙ is))
-  ]
-
-  abbrev after : Option Bool → Standing
-  after o = after_input line again st s e w o
-
-  after_extends : (o : Option Bool) → o ≡ halt_at halts (accepted st.turns)
-      → (NoneTaken halts (accepted st.turns) → AreAsStopped (after o).halted (after o).turns
-      → Agrees (given halts) st → Agrees (given halts) (after o))
-      → Extends halts st (after o)
-  after_extends None is agrees = record {
-    events = e ∷ [];
-    trace = refl;
-    more = Input s line w again ∷ [];
-    turns = refl;
-    lost = λ none lost. still_lost lost;
-    stopped = was_stopped line again st s e w awake None;
-    agrees = agrees;
-  }
-  after_extends (Some true) is agrees = record {
-    events = taken_of e ∷ [];
-    trace = refl;
-    more = Input s line w again ∷ [];
-    turns = refl;
-    lost = λ none lost. absurd (none (accepted st.turns) (omega arith) (sym is));
-    stopped = was_stopped line again st s e w awake (Some true);
-    agrees = agrees;
-  }
-  after_extends (Some false) is agrees = record {
-    events = [];
-    trace = refl;
-    more = Input s line w again ∷ [];
-    turns = refl;
-    lost = λ none lost. newly_lost (sym is) lost;
-    stopped = was_stopped line again st s e w awake (Some false);
-    agrees = agrees;
-  }
+use Rattle.cam_cluster.proofs.Extends.{Extends, extends_on, same_extends}
+use Rattle.cam_cluster.proofs.InputAgrees.{put_agrees}
+use Rattle.cam_cluster.proofs.OneExtends.{after_extends}
 
 not_so : (b : Bool) → not b ≡ true → b ≡ false
 not_so true h = cc

@@ -67,10 +67,10 @@ keeps_others script old new works ms may same halted undecided turns marked unde
 }
 
 -- what an input made, by whether it is a halt
-longer : (n : ℕ) (x y : List Deed) → (if nat_lt n (suc n) then x else y) ≡ x
+pub longer : (n : ℕ) (x y : List Deed) → (if nat_lt n (suc n) then x else y) ≡ x
 longer n x y = ap (λ (b : Bool). if b then x else y) (lt-ltb n (suc n) (omega arith))
 
-as_long : (n : ℕ) (x y : List Deed) → (if nat_lt n n then x else y) ≡ y
+pub as_long : (n : ℕ) (x y : List Deed) → (if nat_lt n n then x else y) ≡ y
 as_long n x y = ap (λ (b : Bool). if b then x else y) (le-ltb n n (omega arith))
 
 module _ (c : Setting) (st : Standing) (input : Input) where

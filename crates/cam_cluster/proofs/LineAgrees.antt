@@ -12,7 +12,7 @@ use Rattle.cam_cluster.specs.Between.{AreHaltsOfLine, after_step}
 use Rattle.cam_cluster.specs.Seen.{Seen}
 use Rattle.cam_cluster.specs.Stopping.{AreAsStopped}
 use Rattle.cam_cluster.proofs.Extends.{NoneTaken}
-use Rattle.cam_cluster.proofs.LineExtends.{begun}
+use Rattle.cam_cluster.proofs.Begun.{begun}
 use Rattle.cam_cluster.proofs.LostLines.{begun_accepts, none_taken, step_extends}
 
 -- A line that stops a disk is no input.

@@ -1,8 +1,7 @@
 -- A line extends what stands behind its stop or restart, whatever it comes to.
 use Rattle.std.proofs.Common.{◌≡◌, ℕ, Bool, true, false, if◌then◌else◌, List, [], ◌∷◌, length}
-use Rattle.std.proofs.Common.{Option, Some, None, refl, ap, ◌∙◌}
+use Rattle.std.proofs.Common.{Option, Some, None, refl}
 use Rattle.std.specs.Prelude.{nat_lt}
-use Rattle.std.proofs.lemmas.Bool.{eq-eqb}
 use Rattle.cam_names.specs.declared.name.Name.{Name}
 use Rattle.cam_names.specs.Names.{family, home_node}
 use Rattle.cam_event.specs.declared.LetterFault.TheVariants.{Short}
@@ -13,7 +12,7 @@ use Rattle.cam_event.specs.declared.Mark.TheVariants as marks
 use Rattle.cam_event.specs.declared.Want.{Want}
 use Rattle.cam_event.specs.declared.Want.TheVariants as wants
 use Rattle.cam_event.specs.Inputs.{Begins, Queries, Requests, Restarts, Tells}
-use Rattle.cam_event.specs.Refusals.{first_of_two, query_refusal, refusal, tell_refusal, where_so}
+use Rattle.cam_event.specs.Refusals.{query_refusal, refusal, tell_refusal, where_so}
 use Rattle.cam_runs.specs.Halts.{Halt, Stop, given}
 use Rattle.cam_runs.specs.HaltedLines.{Led, Passed, Refused, act, after_line, cut, halted_or}
 use Rattle.cam_runs.specs.HaltedLines.{is_halted, led_asking, led_creating, lose, of_letter}
@@ -29,27 +28,10 @@ use Rattle.cam_script.specs.declared.Act.{Act}
 use Rattle.cam_script.specs.declared.Act.TheVariants as acts
 use Rattle.cam_script.specs.declared.Statement.{Statement}
 use Rattle.cam_wire.specs.OfTrace.{spelling_of}
-use Rattle.cam_histories.proofs.HaltedLists.{without}
 use Rattle.cam_cluster.proofs.Extends.{Extends, extends_on, same_extends}
 use Rattle.cam_cluster.proofs.InputsExtend.{deliver_extends, drain_extends, given_extends}
 use Rattle.cam_cluster.proofs.InputsExtend.{go_extends, put_extends, rounds_extend}
-
--- what stands once a line has ended a halt, or stopped a disk
-abbrev pub begun : Standing → Act → Standing
-begun st (acts.Restart s) = ended_halt st s
-begun st (acts.Stop s calls) =
-    if has_number st.halted s then st else record st { turns = Stop s calls ∷ st.turns }
-begun st _ = st
-
-first_none : (o p : Option LineRefusal) → first_of_two o p ≡ None → o ≡ None
-first_none None p none = refl
-first_none (Some refusal) p none = none
-
--- behind a restart's first step its node is not halted
-pub ended_awake : (st : Standing) (s : ℕ) → has_number (ended_halt st s).halted s ≡ false
-ended_awake st s =
-    without st.halted s s
-    ∙ ap (λ (b : Bool). if b then false else has_number st.halted s) (eq-eqb s s refl)
+use Rattle.cam_cluster.proofs.Begun.{begun, first_none, ended_awake}
 
 module _ (c : Setting) (halts : List Halt) (known : c.halts ≡ given halts)
     (bodies : List (List Statement)) (st : Standing) (line : ℕ) where

@@ -20,7 +20,8 @@ use Rattle.cam_cluster.proofs.Extends.{Extends, NoneTaken}
 use Rattle.cam_cluster.proofs.HaltsDiffer.{none_again}
 use Rattle.cam_cluster.proofs.LastInputs.{last_below}
 use Rattle.cam_cluster.proofs.LaterHalts.{later_says}
-use Rattle.cam_cluster.proofs.LineExtends.{act_extends, begun}
+use Rattle.cam_cluster.proofs.LineExtends.{act_extends}
+use Rattle.cam_cluster.proofs.Begun.{begun}
 
 -- Halts at inputs before say nothing of this one.
 pub newest_say : (more halts : List Halt) (n k : ℕ)

@@ -1,7 +1,6 @@
 -- A list of nodes of which one has changed, and what may be read from their disks.
-use Rattle.std.proofs.Common.{None, refl}
-use Rattle.std.proofs.Common.{◌≡◌, ℕ, suc, ◌+◌, ◌-◌, ◌≤◌, ◌<◌, Bool, true, List, length, get_or, set}
-use Rattle.std.proofs.Common.{Option, Some, sym, ap, ◌∙◌, subst, arith}
+use Rattle.std.proofs.Common.{None, refl, ◌≡◌, ℕ, suc, ◌+◌, ◌-◌, ◌≤◌, ◌<◌, Bool, true, List, length}
+use Rattle.std.proofs.Common.{get_or, set, Option, Some, sym, ap, ◌∙◌, subst, arith}
 use Rattle.std.specs.Prelude.{map, slice_get, option_map, IfSome, OnErr, Result, Ok, Err}
 use Rattle.std.proofs.lemmas.List.{get_or-set_same, length-map}
 use Rattle.std.proofs.lemmas.Option.{same_Some, slice_get-map, slice_get-get_or}
@@ -34,6 +33,11 @@ asked_there {N} P nodes now place node same within is holds =
     holds_there P nodes place node
     (taken_there nodes place node within
     (is ∙ ap (λ (ns : List N). get_or ns place node) same)) holds
+
+-- what holds of the node that stands at a place
+pub one_there : {N : Type 0} (P : N → Type 0) (nodes : List N) (place : ℕ) (node : N)
+    → slice_get nodes place ≡ Some node → P node → IfSome (slice_get nodes place) P
+one_there P nodes place node at holds = subst (λ (o : Option _). IfSome o P) (sym at) holds
 
 -- what holds of the node that stands at a place, whichever it is
 pub each_there : {N : Type 0} (P : N → Type 0) (nodes : List N) (place : ℕ)

@@ -28,7 +28,7 @@ use Rattle.cam_cluster.specs.Plays.{HasPlayedPart, IsLineOfPlay, IsPartOfPlay, p
 use Rattle.cam_cluster.specs.Plays.{play_step, rounds_whole}
 use Rattle.cam_cluster.specs.Works.{WorksFields}
 use Rattle.cam_cluster.proofs.BegunLine.{next_leads}
-use Rattle.cam_cluster.proofs.Drains.{bound_deliveries}
+use Rattle.cam_cluster.proofs.DrainLines.{bound_deliveries}
 use Rattle.cam_cluster.proofs.GoLine.{bound_made}
 use Rattle.cam_cluster.proofs.Led.{keeps_others}
 use Rattle.cam_cluster.proofs.Made.{none_made}

@@ -25,7 +25,8 @@ use Rattle.cam_cluster.specs.Workers.{AreWorkers}
 use Rattle.cam_cluster.proofs.BodiesAtNodes.{runs_have_bodies_at_nodes}
 use Rattle.cam_cluster.proofs.Counts.{counted_as}
 use Rattle.cam_cluster.proofs.EndsSaid.{from_high, from_lost, from_low, from_newest, given_said}
-use Rattle.cam_cluster.proofs.GoesOn.{goes_on, held_is}
+use Rattle.cam_cluster.proofs.GoesOn.{goes_on}
+use Rattle.cam_cluster.proofs.NextLine.{held_is}
 
 -- The line led on, with the halts of these ends, and the workers are those behind it.
 pub record HasTakenPlay (seen : Seen) (step : Step) (ends : List Put) (new : LinesFields)

@@ -1,12 +1,10 @@
 -- A node halts in its step, and the works keep the run with the halt.
-use Rattle.std.proofs.Common.{◌≡◌, inl, inr, ℕ, ◌+◌, ◌-◌, ◌≤◌, ◌<◌, eqb, Bool, true, false}
-use Rattle.std.proofs.Common.{◌||◌, if◌then◌else◌, List, [], ◌∷◌, ◌++◌, length, set, Some, Option}
-use Rattle.std.proofs.Common.{refl, sym, ap, ◌∙◌, subst, arith}
-use Rattle.std.specs.Prelude.{map, slice_get}
-use Rattle.std.proofs.lemmas.Bool.{true≢false, ne_eqb, eq-eqb}
-use Rattle.std.proofs.lemmas.List.{length-set, length-reverse}
-use Rattle.std.proofs.lemmas.Option.{slice_get_within}
-use Rattle.cam_event.specs.declared.Event.{Event}
+use Rattle.std.proofs.Common.{◌≡◌, ℕ, ◌+◌, ◌-◌, ◌≤◌, ◌<◌, eqb, Bool, true, false, if◌then◌else◌}
+use Rattle.std.proofs.Common.{List, [], ◌∷◌, ◌++◌, length, set, Some, Option, sym, ap, ◌∙◌, subst}
+use Rattle.std.proofs.Common.{arith}
+use Rattle.std.specs.Prelude.{slice_get}
+use Rattle.std.proofs.lemmas.Bool.{ne_eqb, eq-eqb}
+use Rattle.std.proofs.lemmas.List.{length-set}
 use Rattle.cam_event.specs.declared.Letter.{Letter}
 use Rattle.cam_event.specs.declared.LetterId.{LetterId}
 use Rattle.cam_event.specs.declared.Mark.{Mark}
@@ -16,34 +14,25 @@ use Rattle.cam_event.specs.Loads.{Load}
 use Rattle.cam_event.specs.Runs.{IsNode}
 use Rattle.cam_net.specs.Waiting.{is_halted}
 use Rattle.cam_node.specs.Found.{HaltsAt}
-use Rattle.cam_node.specs.Keeping.{IsHalt, KeepsNode}
+use Rattle.cam_node.specs.Keeping.{IsHalt}
 use Rattle.cam_node.specs.Log.{Logged}
-use Rattle.cam_runs.specs.Halts.{Halting, appends}
-use Rattle.cam_runs.specs.Halts.{Input as InputTurn}
-use Rattle.cam_runs.specs.Running.{has_number}
-use Rattle.cam_runs.specs.Standing.{Standing, Setting, Undecided, after_input, put}
+use Rattle.cam_runs.specs.Halts.{Halting, appends, Input as InputTurn}
+use Rattle.cam_runs.specs.Standing.{Standing, Setting, after_input, put}
 use Rattle.cam_runs.specs.UnderHalts.{IsUnderHalts}
 use Rattle.cam_script.specs.declared.Script.{Script}
 use Rattle.cam_histories.specs.InputLaws.{held_setting, halt_of, with_site}
-use Rattle.cam_histories.specs.Laws.{history_of}
-use Rattle.cam_histories.specs.Undecided.{undecided_in}
 use Rattle.cam_histories.specs.Whole.{Site, IsWhole}
 use Rattle.cam_histories.proofs.HaltedLists.{halted_now}
 use Rattle.cam_histories.proofs.Halting.{lost_halts_stand}
 use Rattle.cam_histories.proofs.OneInput.{inputs_lead_on}
-use Rattle.cam_histories.proofs.UndecidedBeside.{newest_other}
 use Rattle.cam_cluster.specs.declared.works.failing.Failed.{Failed}
 use Rattle.cam_cluster.specs.Puts.{IsPutAt}
-use Rattle.cam_cluster.specs.declared.works.undecided.OpenHalt.{OpenHalt}
-use Rattle.cam_cluster.specs.Works.{NodeFields, WorksFields, IsHaltOf, KeepsRun}
-use Rattle.cam_cluster.specs.Works.{AreStopped, IsUnfailing}
-use Rattle.cam_cluster.specs.Works.{open_halt, sites_of}
-use Rattle.cam_cluster.proofs.HaltsKept.{halt_stays, undecided_on}
-use Rattle.cam_cluster.proofs.NodeChanged.{KeepsNodes, kept_nodes, as_many, nodes_are}
-use Rattle.cam_cluster.proofs.NodeChanged.{sites_are}
-use Rattle.cam_cluster.proofs.PutNode.{site_is, node_keeps, may_then}
-use Rattle.cam_cluster.proofs.RunHalts.{halt_of_run, sent_in}
-use Rattle.cam_cluster.proofs.WorksNodes.{set_tells}
+use Rattle.cam_cluster.specs.Works.{NodeFields, WorksFields, KeepsRun, AreStopped, IsUnfailing}
+use Rattle.cam_cluster.specs.Works.{sites_of}
+use Rattle.cam_cluster.proofs.NodeChanged.{KeepsNodes, kept_nodes, as_many, nodes_are, sites_are}
+use Rattle.cam_cluster.proofs.PutNode.{site_is}
+use Rattle.cam_cluster.proofs.RunHalts.{sent_in}
+use Rattle.cam_cluster.proofs.OwnHalts.{halts_now, opened}
 
 -- the same with the node behind the step
 module _ (script : Script) (st : Standing) (place : ℕ) (input : Input) (mail : Option Mail)
@@ -71,15 +60,6 @@ module _ (script : Script) (st : Standing) (place : ℕ) (input : Input) (mail :
   sites_now =
       ap (λ (i : ℕ). set (sites_of works.nodes) i new.site) place_is
       ∙ sites_are script st place works might old kept there new may nodes are objects others
-
-  -- a halted node is another one
-  off : (m : ℕ) → has_number st.halted m ≡ true → (m ≡ place + 1 → ⊥)
-  off m said e =
-      true≢false (sym said ∙ ap (has_number st.halted) (e ∙ sym put_so.at) ∙ put_so.coming.awake)
-
-  mine : KeepsNode script.objects (history_of script.objects st.running.trace r) old.site.node
-      old.site.entries
-  mine = node_keeps script st place input mail load works might old keeps put_so there
 
   -- the node halted
   module _ (none_left : works.outbox.unput ≡ []) (stops : new.halted ≡ true)
@@ -113,103 +93,65 @@ module _ (script : Script) (st : Standing) (place : ℕ) (input : Input) (mail :
           ap (λ (i : ℕ). is_halted (set works.halted i true) m) (sym place_is)
           ∙ halted_now works.halted r m true keeps.eight node low
 
-      whole : IsWhole script.objects behind (sites_of nodes) works.outbox.net works.outbox.unput now_halted
+      whole :
+          IsWhole script.objects behind (sites_of nodes) works.outbox.net works.outbox.unput now_halted
       whole =
-          subst (λ (u : List Letter). IsWhole script.objects behind (sites_of nodes) works.outbox.net u now_halted) (sym none_left)
-          (subst (λ (i : ℕ). IsWhole script.objects behind (sites_of nodes) works.outbox.net [] (set works.halted i true)) place_is
-          (subst (λ (z : Standing). IsWhole script.objects z (sites_of nodes) works.outbox.net [] (set works.halted (r - 1) true)) is
-          (subst (λ (sites : List Site). IsWhole script.objects (put c st input) sites works.outbox.net [] (set works.halted (r - 1) true)) sites_now
+          subst (λ (u : List Letter). IsWhole script.objects behind (sites_of nodes) works.outbox.net
+          u now_halted) (sym none_left)
+          (subst (λ (i : ℕ). IsWhole script.objects behind (sites_of nodes) works.outbox.net []
+          (set works.halted i true)) place_is
+          (subst (λ (z : Standing). IsWhole script.objects z (sites_of nodes) works.outbox.net []
+          (set works.halted (r - 1) true)) is
+          (subst (λ (sites : List Site). IsWhole script.objects (put c st input) sites
+          works.outbox.net [] (set works.halted (r - 1) true)) sites_now
           (lost_halts_stand script halts line restarted st input (sites_of works.nodes) works.outbox.net
           works.halted new.site lost node keeps.eight
-          (same_number ∙ (site_is script st place input mail load works might old keeps put_so there).number)
+          (same_number
+          ∙ (site_is script st place input mail load works might old keeps put_so there).number)
           (subst (λ (u : List Letter). IsWhole script.objects st (sites_of works.nodes)
           works.outbox.net u works.halted) none_left keeps.whole)))))
 
-      -- what its disk has of the event, and what the node keeps of it
-      abbrev undecided : Undecided
-      undecided = undecided_in script.objects st.running.trace input
+      abbrev now : Option LetterId → WorksFields
+      now got = record {
+        nodes = nodes;
+        outbox = works.outbox;
+        halted = now_halted;
+        failed = failed;
+        undecided = record {
+          node = place + 1;
+          before = length works.events;
+          got = got;
+        } ∷ works.undecided;
+        events = works.events;
+        marks = works.marks ++ marks.Halted line (place + 1) false ∷ [];
+      }
 
-      own_halt : IsHaltOf script.objects st.running.trace (undecided ∷ st.undecided) r new (may r)
-      own_halt =
-          halt_of_run script.objects (has_number st.taken) st.running.trace input mail load
-          st.undecided old.site.node new (may r) keeps.under.run put_so.coming.may put_so.is_put
-          own_number (same_number ∙ own_number) old.site.entries mine
-          (may_then script st place input mail load works might old keeps put_so there)
-          (record {
-            either = λ h logged kept may_be read.
-                halt.either h logged kept may_be (subst (λ (s : ℕ). may s logged) put_so.at read);
-          })
-          halts_at
-        where
-          own_number : old.site.node.number ≡ r
-          own_number = (site_is script st place input mail load works might old keeps put_so there).number
-
-      halts_now : (q : ℕ) (n : NodeFields) → slice_get nodes q ≡ Some n
-          → has_number behind.halted (q + 1) ≡ true
-          → IsHaltOf script.objects behind.running.trace behind.undecided (q + 1) n (may (q + 1))
-      halts_now q n at said =
-          elim (set_tells works.nodes place q new n (slice_get_within works.nodes place old there)
-          (ap (λ (ns : List NodeFields). slice_get ns q) (sym are) ∙ at)) [
-            | inl y ↦
-                subst (λ (z : ℕ × NodeFields). IsHaltOf script.objects st.running.trace
-                (undecided ∷ st.undecided) z.0 z.1 (may z.0))
-                (λ i. ((put_so.at ∙ ap (λ (p : ℕ). p + 1) (sym y.0)) i, y.1 i)) own_halt
-            | inr other ↦
-                let away : q + 1 ≡ place + 1 → ⊥ =
-                λ e. other.0 (let is : q ≡ place = omega (arith, e) in is) in
-                let off : r ≡ q + 1 → ⊥ = λ e. away (sym e ∙ put_so.at) in
-                halt_stays script.objects st behind (q + 1) n (might (q + 1)) (may (q + 1)) refl
-                (undecided_on script.objects st behind (q + 1) [] refl
-                (newest_other (q + 1) undecided st.undecided off) keeps.under.placed)
-                (λ logged read. others (q + 1) logged (omega arith) away read)
-                (keeps.halts q n other.1
-                (ap (λ (b : Bool). b || has_number st.halted (q + 1)) (sym (ne_eqb r (q + 1) off))
-                ∙ said))
-          ]
-
-      opened : (got : Option LetterId) → got_of input ≡ got
-          → record { node = place + 1; before = length works.events; got = got } ∷ works.undecided
-          ≡ map open_halt behind.undecided
-      opened got is_got =
-          ap (λ (hs : List OpenHalt). record {
-            node = place + 1;
-            before = length works.events;
-            got = got;
-          } ∷ hs) keeps.undecided
-          ∙ (λ i. record {
-            node = sym put_so.at i;
-            before = (ap (λ (es : List Event). length es) keeps.events
-                ∙ length-reverse st.running.trace) i;
-            got = sym is_got i;
-          } ∷ map open_halt st.undecided)
-
-      halted_at : (got : Option LetterId) → got_of input ≡ got → KeepsRun script behind
-          (record {
-            nodes = nodes;
-            outbox = works.outbox;
-            halted = now_halted;
-            failed = failed;
-            undecided = record {
-              node = place + 1;
-              before = length works.events;
-              got = got;
-            } ∷ works.undecided;
-            events = works.events;
-            marks = works.marks ++ marks.Halted line (place + 1) false ∷ [];
-          }) may
+      halted_at : (got : Option LetterId) → got_of input ≡ got
+          → KeepsRun script behind (now got) may
       halted_at got is_got = record {
         under =
             subst (IsUnderHalts script) is
             (inputs_lead_on script halts line restarted st input keeps.under put_so.coming);
-        one_each = as_many script st place works might old kept there new may nodes are objects others;
+        one_each =
+            as_many script st place works might old kept there new may nodes are objects others;
         eight = length-set works.halted place true ∙ keeps.eight;
         nodes =
-            nodes_are script st place works might old kept there new may nodes are objects others now_halted
-            (stops ∙ sym (halted_is (place + 1) (omega arith) ∙ ap (λ (b : Bool). if b then true else is_halted works.halted (place + 1)) (eq-eqb r (place + 1) put_so.at)))
-            (λ m low away. sym (halted_is m low ∙ ap (λ (b : Bool). if b then true else is_halted works.halted m) (ne_eqb r m (λ e. away (sym e ∙ put_so.at)))));
+            nodes_are script st place works might old kept there new may nodes are objects others
+            now_halted
+            (stops
+            ∙ sym (halted_is (place + 1) (omega arith)
+            ∙ ap (λ (b : Bool). if b then true else is_halted works.halted (place + 1))
+            (eq-eqb r (place + 1) put_so.at)))
+            (λ m low away. sym (halted_is m low
+            ∙ ap (λ (b : Bool). if b then true else is_halted works.halted m)
+            (ne_eqb r m (λ e. away (sym e ∙ put_so.at)))));
         whole = whole;
-        halts = halts_now;
-        undecided = opened got is_got;
+        halts =
+            halts_now script st place input mail load works might keeps put_so halts line restarted
+            old there new may nodes are others same_number halt halts_at;
+        undecided =
+            opened script st place input mail load works might keeps put_so halts line restarted got
+            is_got;
         sent = (sent_in script.objects st.running.trace input put_so.coming.may, keeps.sent);
         events = keeps.events;
         all_marks =
@@ -235,17 +177,4 @@ module _ (script : Script) (st : Standing) (place : ℕ) (input : Input) (mail :
             marks = works.marks ++ marks.Halted line (place + 1) false ∷ [];
           }) may
       halted got is_got =
-          subst (λ (z : Standing). KeepsRun script z
-          (record {
-            nodes = nodes;
-            outbox = works.outbox;
-            halted = set works.halted place true;
-            failed = failed;
-            undecided = record {
-              node = place + 1;
-              before = length works.events;
-              got = got;
-            } ∷ works.undecided;
-            events = works.events;
-            marks = works.marks ++ marks.Halted line (place + 1) false ∷ [];
-          }) may) (sym is) (halted_at got is_got)
+          subst (λ (z : Standing). KeepsRun script z (now got) may) (sym is) (halted_at got is_got)

@@ -36,7 +36,7 @@ use Rattle.cam_cluster.proofs.NodeChanged.{sites_are}
 use Rattle.cam_cluster.proofs.HaltsKept.{all_sent_still, undecided_on}
 use Rattle.cam_cluster.proofs.PutNode.{site_is, node_keeps, may_then}
 
-one_longer : (t : List Event) (e : Event) → reverse t ++ e ∷ [] ≡ reverse (e ∷ t)
+pub one_longer : (t : List Event) (e : Event) → reverse t ++ e ∷ [] ≡ reverse (e ∷ t)
 one_longer t e = sym (reverse-append (e ∷ []) t)
 
 -- the same with the node behind the step

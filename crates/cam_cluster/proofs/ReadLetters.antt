@@ -29,7 +29,8 @@ use Rattle.cam_cluster.specs.declared.works.letters.Coming.{Coming}
 use Rattle.cam_cluster.specs.Coming.{AreWorksOfSome, HasArrived, HasFound, HasRead, IsArrived}
 use Rattle.cam_cluster.specs.Coming.{IsReadOf}
 use Rattle.cam_cluster.specs.Works.{WorksFields, KeepsRun}
-use Rattle.cam_cluster.proofs.ComingLetters.{IsSpelledSo, network_is, no_some, spelled_so}
+use Rattle.cam_cluster.proofs.ComingLetters.{network_is, no_some}
+use Rattle.cam_cluster.proofs.SpelledLetters.{IsSpelledSo, spelled_so}
 
 module _ (script : Script) (st : Standing) (works : WorksFields) (may : ℕ → Logged → Type 0)
     (keeps : KeepsRun script st works may) (none_left : works.outbox.unput ≡ []) (number : ℕ)

@@ -37,7 +37,7 @@ use Rattle.cam_cluster.proofs.FoundSeen.{stands}
 use Rattle.cam_cluster.proofs.HaltsByStop.{stopped_said}
 use Rattle.cam_cluster.proofs.HaltsDiffer.{found_halts_differ}
 use Rattle.cam_cluster.proofs.LineAgrees.{stop_agrees}
-use Rattle.cam_cluster.proofs.LineExtends.{begun}
+use Rattle.cam_cluster.proofs.Begun.{begun}
 
 -- The first lines of a script tell which nodes those behind them restart.
 first_tell : (reading : Reading) (halts : Halting) (bodies : List (List Statement)) (n : ℕ)

@@ -1,8 +1,7 @@
 -- What a restart found and left, and works before and behind it.
-use Rattle.std.proofs.Common.{◌≡◌, ℕ, zero, Bool, true, false, List, []}
-use Rattle.std.proofs.Common.{Option, Some, None, refl, sym, ap}
-use Rattle.std.proofs.Common.{◌∙◌, subst}
-use Rattle.std.specs.Prelude.{IfSome, if◌then◌else◌, slice_get}
+use Rattle.std.proofs.Common.{◌≡◌, ℕ, zero, Bool, true, false, List, [], Option, Some, None, refl}
+use Rattle.std.proofs.Common.{sym, ap, ◌∙◌, subst}
+use Rattle.std.specs.Prelude.{if◌then◌else◌}
 use Rattle.std.proofs.lemmas.Bool.{true≢false}
 use Rattle.cam_type.specs.declared.ObjectDecl.{ObjectDecl}
 use Rattle.cam_event.specs.declared.Event.{Event}
@@ -51,10 +50,6 @@ some_if false o e is = absurd (some_is_not is)
   where
     some_is_not : Some e ≡ None → ⊥
     some_is_not same = cc
-
-pub some_there : {N : Type 0} (P : N → Type 0) (nodes : List N) (place : ℕ) (node : N)
-    → slice_get nodes place ≡ Some node → P node → IfSome (slice_get nodes place) P
-some_there P nodes place node at holds = subst (λ (o : Option _). IfSome o P) (sym at) holds
 
 -- before it letters were put
 pub after_room : (place : ℕ) (old mid new : WorksFields) (might mays may : ℕ → Logged → Type 0)

@@ -6,7 +6,7 @@ use Rattle.std.specs.Prelude.{map, reverse, slice_get}
 use Rattle.std.specs.List.{AllByRecursion}
 use Rattle.std.proofs.lemmas.Bool.{true≢false, ne_eqb, eq-eqb}
 use Rattle.std.proofs.lemmas.Bool.Decides.{eqb_tells}
-use Rattle.std.proofs.lemmas.List.{length-set, reverse-append}
+use Rattle.std.proofs.lemmas.List.{length-set}
 use Rattle.cam_event.specs.declared.Event.{Event}
 use Rattle.cam_event.specs.declared.Letter.{Letter}
 use Rattle.cam_event.specs.Inputs.{Restarts}
@@ -15,10 +15,9 @@ use Rattle.cam_net.specs.Waiting.{is_halted}
 use Rattle.cam_node.specs.Calls.{letters_of}
 use Rattle.cam_node.specs.Keeping.{IsLogOf, IsRestart}
 use Rattle.cam_node.specs.Log.{Logged}
-use Rattle.cam_runs.specs.Halts.{Halting, Restart, after_append, appends, calls_left}
+use Rattle.cam_runs.specs.Halts.{Halting}
 use Rattle.cam_runs.specs.Running.{has_number}
 use Rattle.cam_runs.specs.Standing.{Standing, Setting, Undecided, ended_halt, put, undecided_of}
-use Rattle.cam_runs.specs.UnderHalts.{IsUnderHalts}
 use Rattle.cam_runs.proofs.Undecided.{others_without, without_node}
 use Rattle.cam_script.specs.declared.Script.{Script}
 use Rattle.cam_histories.specs.InputLaws.{held_setting, halt_of}
@@ -31,65 +30,12 @@ use Rattle.cam_histories.proofs.OneInput.{plain_put, put_plain}
 use Rattle.cam_histories.proofs.RestartedRun.{restarts_stand}
 use Rattle.cam_cluster.specs.Restarts.{with_restart}
 use Rattle.cam_cluster.specs.Works.{NodeFields, WorksFields, IsSentBefore, KeepsRun, open_halt}
-use Rattle.cam_cluster.specs.Works.{sites_of}
-use Rattle.cam_cluster.specs.Stopping.{IsAsStopped, ends_by, stopped_at, too_few}
-use Rattle.cam_cluster.specs.Works.{AreStopped, AreStoppedBut, HasTellingDisk, IsUnfailing}
-use Rattle.cam_cluster.proofs.StopTurns.{ended_as, other_calls, other_stopped, own_calls, stood_as}
-use Rattle.cam_cluster.proofs.StoppedWorks.{nodes_stopped, unfailing_before}
-use Rattle.cam_cluster.proofs.HaltsKept.{all_sent_still, open_without, others_all, others_open}
-use Rattle.cam_cluster.proofs.HaltsKept.{undecided_on}
-use Rattle.cam_cluster.proofs.NodeChanged.{KeepsNodes, kept_nodes, as_many, halts_are, nodes_are}
-use Rattle.cam_cluster.proofs.NodeChanged.{sites_are}
-
-one_longer : (t : List Event) (e : Event) → reverse t ++ e ∷ [] ≡ reverse (e ∷ t)
-one_longer t e = sym (reverse-append (e ∷ []) t)
-
--- What is kept of a run, but for the node at a place: it restarts.
-pub record KeepsBut (script : Script) (st : Standing) (place : ℕ) (works : WorksFields)
-    (might : ℕ → Logged → Type 0) : Type 0 where
-  pub under : IsUnderHalts script st
-  pub kept : KeepsNodes script st place works might
-  pub eight : length works.halted ≡ 8
-  pub whole :
-      IsWhole script.objects st (sites_of works.nodes) works.outbox.net works.outbox.unput
-      works.halted
-  pub undecided :
-      open_without (place + 1) works.undecided
-      ≡ map open_halt (without_node (place + 1) st.undecided)
-  pub sent :
-      AllByRecursion (λ (u : Undecided). IsSentBefore (length st.running.trace) u.event.got)
-      (without_node (place + 1) st.undecided)
-  pub events : works.events ≡ reverse st.running.trace
-  pub all_marks : works.marks ≡ st.running.marks
-  pub few : length works.events + 1 < 1000000000
-  pub stops :
-      IsUnfailing works.failed works.nodes
-      → AreStoppedBut (eqb (place + 1)) script.objects st.running.trace st.halted st.turns
-      works.nodes
-
--- the run in which the halt is lost, or there was none
-pub keeps_but : (script : Script) (st : Standing) (place : ℕ) (works : WorksFields)
-    (might : ℕ → Logged → Type 0) → length works.events + 1 < 1000000000
-    → KeepsRun script st works might → KeepsBut script st place works might
-keeps_but script st place works might few keeps = record {
-  under = keeps.under;
-  kept = kept_nodes script st place works might keeps;
-  eight = keeps.eight;
-  whole = keeps.whole;
-  undecided =
-      ap (open_without (place + 1)) keeps.undecided ∙ sym (others_open (place + 1) st.undecided);
-  sent =
-      others_all (λ (u : Undecided). IsSentBefore (length st.running.trace) u.event.got) (place + 1)
-      st.undecided keeps.sent;
-  events = keeps.events;
-  all_marks = keeps.all_marks;
-  few = few;
-  stops = λ all.
-      let before = keeps.stops all in record {
-        said = λ s away. before.said s refl;
-        each = λ q n at away. before.each q n at refl;
-      };
-}
+use Rattle.cam_cluster.specs.Works.{sites_of, HasTellingDisk}
+use Rattle.cam_cluster.proofs.HaltsKept.{all_sent_still, open_without, undecided_on}
+use Rattle.cam_cluster.proofs.NodeChanged.{as_many, halts_are, nodes_are, sites_are}
+use Rattle.cam_cluster.proofs.PutStands.{one_longer}
+use Rattle.cam_cluster.proofs.KeptButOne.{KeepsBut}
+use Rattle.cam_cluster.proofs.RestartStops.{restart_stops}
 
 module _ (script : Script) (st : Standing) (place : ℕ) (works : WorksFields)
     (might : ℕ → Logged → Type 0) (old : NodeFields) (keeps : KeepsBut script st place works might)
@@ -222,81 +168,7 @@ module _ (script : Script) (st : Standing) (place : ℕ) (works : WorksFields)
     few =
         let few = keeps.few in
         let more = length-append works.events (event ∷ []) in omega (arith, few, more);
-    stops = λ all.
-        let before = keeps.stops
-        (unfailing_before works.failed works.nodes nodes place old new there are less all) in
-        subst (λ (z : Standing). AreStopped script.objects z.running.trace z.halted z.turns nodes)
-        (sym is)
-        (nodes_stopped script.objects st.running.trace ended.running.trace st.halted ended.halted
-        st.turns ended.turns place works.nodes nodes old new there are
-        (λ m away. ap (λ h. map nameless h)
-        (sym (ap (λ (z : Standing). history_of script.objects z.running.trace m) (sym is)
-        ∙ ap (λ (t : List Event). history_of script.objects t m) has.trace
-        ∙ has.stepped.others m (λ e. away (sym e ∙ has.stepped.node)))))
-        (λ m away. without st.halted (place + 1) m
-        ∙ ap (λ (b : Bool). if b then false else has_number st.halted m) (apart m away))
-        (λ m away. other_calls (Restart (place + 1) ∷ st.turns) (place + 1) line w
-        (restarted (place + 1)) m (λ e. away (sym e)) ∙ ended_calls m (apart m away))
-        (λ m away. other_stopped (Restart (place + 1) ∷ st.turns) (place + 1) line w
-        (restarted (place + 1)) m (λ e. away (sym e)) ∙ ended_stopped m (apart m away))
-        (eqb (place + 1)) (λ m away. apart m away)
-        (stood_as (Restart (place + 1) ∷ st.turns) (place + 1) line w (restarted (place + 1))
-        (has_number ended.halted) awake_now
-        (ended_as st.turns (has_number ended.halted) (place + 1)
-        (λ m away. subst (λ (b : Bool). IsAsStopped b st.turns m)
-        (sym (without st.halted (place + 1) m
-        ∙ ap (λ (b : Bool). if b then false else has_number st.halted m)
-        (ne_eqb (place + 1) m away)))
-        (before.said m (ne_eqb (place + 1) m away))) awake_now)
-        (none_ends (sym own_none)))
-        (record {
-          awake = λ runs. passes ∙ sym none_left_now;
-          by_stop = λ said. absurd (true≢false (sym said ∙ awake_now));
-        })
-        before);
+    stops =
+        restart_stops script st place works might old keeps there halts line restarted new nodes are
+        event none has passes less;
   }
-    where
-      w : Bool
-      w = appends c.reading st.running.trace (Restarts (place + 1))
-
-      ended : Standing
-      ended = plain_put script c (ended_halt st (place + 1)) (Restarts (place + 1))
-
-      apart : (m : ℕ) → (m ≡ place + 1 → ⊥) → eqb (place + 1) m ≡ false
-      apart m away = ne_eqb (place + 1) m (λ e. away (sym e))
-
-      ended_calls : (m : ℕ) → eqb (place + 1) m ≡ false
-          → calls_left (Restart (place + 1) ∷ st.turns) m ≡ calls_left st.turns m
-      ended_calls m off = rw off refl
-
-      ended_stopped : (m : ℕ) → eqb (place + 1) m ≡ false
-          → stopped_at (Restart (place + 1) ∷ st.turns) m ≡ stopped_at st.turns m
-      ended_stopped m off = rw off refl
-
-      own_none : None ≡ calls_left (Restart (place + 1) ∷ st.turns) (place + 1)
-      own_none = sym (rw (eq-eqb (place + 1) (place + 1) refl) refl)
-
-      awake_now : has_number ended.halted (place + 1) ≡ false
-      awake_now =
-          without st.halted (place + 1) (place + 1)
-          ∙ ap (λ (b : Bool). if b then false else has_number st.halted (place + 1))
-          (eq-eqb (place + 1) (place + 1) refl)
-
-      none_ends : calls_left (Restart (place + 1) ∷ st.turns) (place + 1) ≡ None
-          → ends_by (Restart (place + 1) ∷ st.turns) (place + 1) w ≡ None
-      none_ends none = by w
-        where
-          by : (b : Bool) → ends_by (Restart (place + 1) ∷ st.turns) (place + 1) b ≡ None
-          by true = ap too_few none
-          by false = refl
-
-      none_left_now : calls_left ended.turns (place + 1) ≡ None
-      none_left_now =
-          own_calls (Restart (place + 1) ∷ st.turns) (place + 1) line w (restarted (place + 1))
-          ∙ by w
-        where
-          by : (b : Bool)
-              → (if b then after_append (calls_left (Restart (place + 1) ∷ st.turns) (place + 1))
-              else calls_left (Restart (place + 1) ∷ st.turns) (place + 1)) ≡ None
-          by true = ap after_append (sym own_none)
-          by false = sym own_none

@@ -24,7 +24,8 @@ use Rattle.cam_cluster.specs.VariableLines.{IsNextOfSome}
 use Rattle.cam_cluster.specs.Workers.{AreWorkers, IsGiven}
 use Rattle.cam_cluster.proofs.FoundSeen.{beyond, bodies_stay_found, found_lost, found_next}
 use Rattle.cam_cluster.proofs.FoundSeen.{found_so_far}
-use Rattle.cam_cluster.proofs.GoesOn.{done_goes, run_goes_on, unsaid, wanting_goes}
+use Rattle.cam_cluster.proofs.GoesOn.{run_goes_on}
+use Rattle.cam_cluster.proofs.NextLine.{done_goes, unsaid, wanting_goes}
 use Rattle.cam_cluster.proofs.RestartAgrees.{has_found, has_stood}
 use Rattle.cam_cluster.proofs.StepHolds.{next_holds, node_within}
 use Rattle.cam_cluster.proofs.WorkersOn.{bodies_same, workers_on}

@@ -31,10 +31,12 @@ use Rattle.cam_cluster.specs.Works.{NodeFields, WorksFields, KeepsRun, MayReadAt
 use Rattle.cam_cluster.proofs.PlacedNodes.{reads_elsewhere, seen_there, taken_there}
 use Rattle.cam_cluster.proofs.PutWorks.{seen}
 use Rattle.cam_cluster.proofs.RestartEnds.{found_none, nothing_sent}
-use Rattle.cam_cluster.proofs.HaltFound.{found_kept, log_is}
+use Rattle.cam_cluster.proofs.FoundEvents.{log_is}
+use Rattle.cam_cluster.proofs.HaltFound.{found_kept}
 use Rattle.cam_cluster.proofs.HaltsKept.{open_without}
 use Rattle.cam_cluster.proofs.RestartReads.{IsReadOf, read_is}
-use Rattle.cam_cluster.proofs.RestartStands.{keeps_but, restart_stands}
+use Rattle.cam_cluster.proofs.RestartStands.{restart_stands}
+use Rattle.cam_cluster.proofs.KeptButOne.{keeps_but}
 use Rattle.cam_cluster.proofs.WorksNodes.{site_there}
 
 -- the node at the place
@@ -186,7 +188,7 @@ module _ {N : Type 0} (part : N → NodeFields) (tells : N → Bool) (may : N �
           (part old) at logged r.found event read says which few) at within halts line restarted
           (part new) (MayReadAt tells may now) (map part now) are objects others logged
           r.stepped.event r.stepped.letters none_left runs stands
-          (log_is script st found place k before taken works might keeps under beyond (part old) at
+          (log_is script st found place k before taken works might keeps beyond (part old) at
           logged r.found event read says which)
           (by_place script st keeps (λ xs s. IsRestart xs s logged (part new).site.node
           (part new).site.entries r.stepped.event) has.restart)

@@ -10,7 +10,7 @@ use Rattle.cam_cluster.specs.declared.works.failing.Failed.TheVariants as failed
 use Rattle.cam_cluster.specs.Failing.{GoOn, IsKnownToFail, IsOfKnown, failure}
 use Rattle.cam_cluster.specs.HandedBack.{AreHandedBack, AreLater, HasFailed, NamesFailed}
 use Rattle.cam_cluster.specs.Works.{HasTellingDisk, IsUnfailing, NodeFields}
-use Rattle.cam_cluster.proofs.DisksGoOn.{some_is_not}
+use Rattle.cam_cluster.proofs.KnownFailures.{some_is_not}
 use Rattle.cam_cluster.proofs.HandedBack.{failed_between, then_later}
 
 -- where each disk tells what it holds

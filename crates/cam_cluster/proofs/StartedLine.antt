@@ -1,11 +1,9 @@
 -- The line `start`, at the node of a place: as `begin`, and the action has a body then.
-use Rattle.std.proofs.Common.{◌≡◌, inl, inr, ℕ, ◌+◌, ◌<◌, Bool, true, false, not, List}
-use Rattle.std.proofs.Common.{length, Option, Some, None, Ok, Err, refl, sym, ap, ◌∙◌}
-use Rattle.std.proofs.Common.{subst, arith}
+use Rattle.std.proofs.Common.{◌≡◌, inl, inr, ℕ, ◌+◌, ◌<◌, Bool, true, false, not, List, length}
+use Rattle.std.proofs.Common.{Option, Some, None, refl, sym, ap, ◌∙◌, subst, arith}
 use Rattle.std.specs.List.{list_any}
 use Rattle.std.proofs.lemmas.Bool.{true≢false}
 use Rattle.cam_names.specs.declared.name.Name.{Name}
-use Rattle.cam_event.specs.declared.LineRefusal.{LineRefusal}
 use Rattle.cam_event.specs.declared.LineRefusal.TheVariants as refusals
 use Rattle.cam_event.specs.Inputs.{Begins}
 use Rattle.cam_event.specs.Readings.{by_knowledge}
@@ -31,17 +29,13 @@ use Rattle.cam_script.specs.Law.{IsScript}
 use Rattle.cam_histories.specs.InputLaws.{halt_of}
 use Rattle.cam_histories.proofs.OneInput.{inputs_lead_on}
 use Rattle.cam_histories.proofs.Stepping.{own_inputs_are_put}
-use Rattle.cam_cluster.specs.declared.LineFault.{LineFault}
-use Rattle.cam_cluster.specs.declared.LineFault.TheVariants as line_faults
 use Rattle.cam_cluster.specs.declared.works.Put.{Put}
-use Rattle.cam_cluster.specs.InputLines.{IsRefusedAs}
 use Rattle.cam_cluster.specs.Puts.{as_halt}
-use Rattle.cam_cluster.specs.SoFar.{HasLed, HasRefused, IsLed, IsLineOfInput, IsRefused}
-use Rattle.cam_cluster.specs.SoFar.{KeepsLines, KeepsLinesAsBefore, LinesFields, after_put}
+use Rattle.cam_cluster.specs.SoFar.{HasLed, HasRefused, IsLed, IsRefused, KeepsLines, LinesFields}
+use Rattle.cam_cluster.specs.SoFar.{after_put}
 use Rattle.cam_cluster.proofs.BegunLine.{next_leads, told_halted, within}
 use Rattle.cam_cluster.proofs.Led.{bound_stays, keeps_others}
 use Rattle.cam_cluster.proofs.TriedLine.{refused_line}
-use Rattle.std.specs.Prelude.{Result}
 
 -- what stands with a binding, and with a body besides
 abbrev bound_to : Option Name → Standing → Standing
@@ -82,7 +76,7 @@ module _ (script : Script) (st : Standing) (halts : Halting) (later : List Step)
       → has_number st.halted (place + 1) ≡ b
   halted_is b said = sym (told_halted script st old.works might is keeps.runs place there) ∙ said
 
-  node : IsNode (place + 1)
+  pub node : IsNode (place + 1)
   node =
       let few = within script st old.works might is keeps.runs place there in
       (omega arith, omega (arith, few))
@@ -164,39 +158,3 @@ module _ (script : Script) (st : Standing) (halts : Halting) (later : List Step)
       might may is keeps next
       (ap (λ (b : Bool). where_so b refusals.Halted) (halted_is true stops))
       (ap (λ (b : Bool). unless (where_so b refusals.Halted) leads) (halted_is true stops)) has
-
--- how the line ends, whichever body it names, at the node of this number
-abbrev pub IsStart : ℕ → ℕ → LinesFields → (ℕ → Logged → Type 0) → LinesFields
-    → (ℕ → Logged → Type 0) → Result Put LineFault → Type 0
-IsStart line node old might new may result =
-    (body : ℕ) → IsLineOfInput line (acts.Start node body) (Begins node) old might new may result
-
-module _ (line place node : ℕ) (back : place + 1 ≡ node) (old new : LinesFields)
-    (might may : ℕ → Logged → Type 0) where
-  pub start_led : (done : Put) → place < length old.works.nodes
-      → is_halted old.works.halted (place + 1) ≡ false
-      → HasLed line place inputs.Begin old might done new may
-      → IsStart line node old might new may (Ok done)
-  start_led done there runs has =
-      subst (λ (n : ℕ). IsStart line n old might new may (Ok done)) back
-      (λ body script st halts later is keeps next.
-      started script st halts later line place body old might is keeps there next done new may runs
-      has)
-
-  pub start_halted : place < length old.works.nodes
-      → is_halted old.works.halted (place + 1) ≡ true → (fault : LineFault)
-      → IsRefusedAs line refusals.Halted old might new may fault
-      → IsStart line node old might new may (Err fault)
-  start_halted there stops line_faults.NoMemory before =
-      λ body script st halts later is keeps next. before script st is keeps
-  start_halted there stops (line_faults.Refused told) has =
-      subst (λ (n : ℕ). IsStart line n old might new may (Err (line_faults.Refused told))) back
-      (λ body script st halts later is keeps next.
-      subst (λ (r : LineRefusal). IsRefused script st line (acts.Start (place + 1) body) r new may)
-      (sym has.0)
-      (start_refused script st halts later line place body old might is keeps there next new may
-      stops has.1))
-
-  pub start_wanting : KeepsLinesAsBefore old might new may
-      → IsStart line node old might new may (Err line_faults.NoMemory)
-  start_wanting before body script st halts later is keeps next = before script st is keeps

@@ -20,7 +20,7 @@ use Rattle.cam_cluster.specs.Seen.{later_steps}
 use Rattle.cam_cluster.specs.SoFar.{LinesFields}
 use Rattle.cam_cluster.specs.Stops.{IsStop}
 use Rattle.cam_cluster.specs.VariableLines.{IsNextOfSome}
-use Rattle.cam_cluster.proofs.GoesOn.{done_goes, refused_goes, wanting_goes}
+use Rattle.cam_cluster.proofs.NextLine.{done_goes, refused_goes, wanting_goes}
 use Rattle.cam_cluster.proofs.StepHolds.{next_holds, node_within}
 use Rattle.cam_cluster.proofs.WorkersOn.{refused_on, workers_on}
 

@@ -23,7 +23,7 @@ use Rattle.cam_cluster.specs.Seen.{Seen, later_steps, setting_in}
 use Rattle.cam_cluster.specs.SoFar.{LinesFields}
 use Rattle.cam_cluster.specs.Taking.{IsTakenAlone, IsInputLine, IsStepTaken, IsWanting, PutsInput}
 use Rattle.cam_cluster.proofs.Counted.{cut_counts}
-use Rattle.cam_cluster.proofs.GoesOn.{done_goes, led_goes, refused_goes, wanting_goes}
+use Rattle.cam_cluster.proofs.NextLine.{done_goes, led_goes, refused_goes, wanting_goes}
 
 module _ (line : ℕ) (old new : LinesFields) (might may : ℕ → Logged → Type 0) where
   abbrev at : Act → Step

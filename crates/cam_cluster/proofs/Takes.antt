@@ -22,7 +22,7 @@ use Rattle.cam_cluster.specs.SoFar.{AreLinesOfSome, IsLed, IsLineOfInput, LinesF
 use Rattle.cam_cluster.specs.Taking.{IsInputLine, PutsInput}
 use Rattle.cam_cluster.specs.VariableLines.{IsVariableLine, IsNextOfSome}
 use Rattle.cam_cluster.proofs.Counted.{input_counts}
-use Rattle.cam_cluster.proofs.GoesOn.{led_goes, one_input_goes, refused_goes, wanting_goes}
+use Rattle.cam_cluster.proofs.NextLine.{led_goes, one_input_goes, refused_goes, wanting_goes}
 use Rattle.cam_cluster.proofs.StepHolds.{next_holds, node_within}
 
 -- The other lines put no input, or many.

@@ -1,7 +1,7 @@
 -- How a line ends that puts an input unless it is refused, at the node of a place.
-use Rattle.std.proofs.Common.{◌≡◌, ℕ, ◌+◌, ◌<◌, true, false, List, length}
-use Rattle.std.proofs.Common.{Option, Ok, Err, Some, None, sym, subst, arith}
-use Rattle.std.specs.Prelude.{IfSome, map, slice_get}
+use Rattle.std.proofs.Common.{◌≡◌, ℕ, ◌+◌, ◌<◌, true, false, List, length, Option, Ok, Err, Some}
+use Rattle.std.proofs.Common.{None, sym, subst, arith}
+use Rattle.std.specs.Prelude.{map, slice_get}
 use Rattle.std.proofs.lemmas.List.{length-map}
 use Rattle.cam_type.specs.declared.ObjectDecl.{ObjectDecl}
 use Rattle.cam_event.specs.declared.LineRefusal.{LineRefusal}
@@ -15,8 +15,8 @@ use Rattle.cam_cluster.specs.declared.LineFault.{LineFault}
 use Rattle.cam_cluster.specs.declared.LineFault.TheVariants as line_faults
 use Rattle.cam_cluster.specs.declared.works.Put.{Put}
 use Rattle.cam_cluster.specs.InputLines.{IsLineToSome, IsRefusedAs, IsTriedLine}
-use Rattle.cam_cluster.specs.SoFar.{AreLinesOfSome, HasLed, IsRefused}
-use Rattle.cam_cluster.specs.SoFar.{KeepsLinesAsBefore, LinesFields}
+use Rattle.cam_cluster.specs.SoFar.{AreLinesOfSome, HasLed, IsRefused, KeepsLinesAsBefore}
+use Rattle.cam_cluster.specs.SoFar.{LinesFields}
 use Rattle.cam_cluster.specs.Works.{NodeFields}
 use Rattle.cam_cluster.proofs.TriedLine.{halted_refuses, leads_on, node_refuses}
 use Rattle.cam_cluster.proofs.TriedNode.{numbers_left, refuses}
@@ -99,8 +99,3 @@ tried_there place input lines may some =
 pub place_of : {N F : Type 0} (f : N → F) (nodes : List N) (place : ℕ)
     → place < length (map f nodes) → place < length nodes
 place_of f nodes place there = subst (λ (n : ℕ). place < n) (length-map nodes f) there
-
--- what holds of the node that stands there
-pub one_there : {N : Type 0} (P : N → Type 0) (nodes : List N) (place : ℕ) (node : N)
-    → slice_get nodes place ≡ Some node → P node → IfSome (slice_get nodes place) P
-one_there P nodes place node at holds = subst (λ (o : Option _). IfSome o P) (sym at) holds

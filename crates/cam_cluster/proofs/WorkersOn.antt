@@ -14,7 +14,7 @@ use Rattle.cam_cluster.specs.Between.{after_step}
 use Rattle.cam_cluster.specs.Seen.{Seen, setting_in}
 use Rattle.cam_cluster.specs.Workers.{AreWorkers}
 use Rattle.cam_cluster.proofs.BodiesStay.{GivesNone, bodies_stay}
-use Rattle.cam_cluster.proofs.GoesOn.{by_refusal}
+use Rattle.cam_cluster.proofs.LinesRefused.{by_refusal}
 use Rattle.cam_cluster.proofs.LostLines.{begun_running, step_extends}
 use Rattle.cam_cluster.proofs.WorkersStand.{workers_stay}
 

@@ -2,7 +2,8 @@
 use Rattle.std.proofs.Common.{◌++◌, ◌∷◌, [], None, ap, ◌∙◌, rules}
 use Rattle.cam_cluster.proofs.AsSeen.{lines_of, reads_of, works_of}
 use Rattle.cam_cluster.proofs.DisksGoOn.{goes_on_still}
-use Rattle.cam_cluster.proofs.Drains.{drain_line, drain_part, none_so_far}
+use Rattle.cam_cluster.proofs.Drains.{none_so_far}
+use Rattle.cam_cluster.proofs.DrainLines.{drain_line, drain_part}
 use Rattle.cam_cluster.proofs.LineEnds.{works_of_lines}
 use Rattle.cam_cluster.proofs.PlacedNodes.{on_err}
 use Rattle.cam_cluster.proofs.lines.Lines.drain.Goals as goal

@@ -9,7 +9,7 @@ use Rattle.cam_cluster.proofs.AsSeen.{lines_of, part, reads_at, reads_of, tells_
 use Rattle.cam_cluster.proofs.DisksGoOn.{goes_on_then}
 use Rattle.cam_cluster.proofs.HandedOver.{works_may_be_written}
 use Rattle.cam_cluster.proofs.Led.{unchanged_lines}
-use Rattle.cam_cluster.proofs.LetterLines.{loss_ends, loss_refused}
+use Rattle.cam_cluster.proofs.LossEnds.{loss_ends, loss_refused}
 use Rattle.cam_cluster.proofs.LineEnds.{both_before, wanting_ends, works_of_lines}
 use Rattle.cam_cluster.proofs.PutWorks.{seen}
 use Rattle.cam_cluster.proofs.lines.Lines.lose.Goals as goal

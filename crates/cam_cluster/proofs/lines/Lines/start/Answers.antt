@@ -6,7 +6,7 @@ use Rattle.cam_cluster.proofs.AsSeen.{lines_of, part, reads_of}
 use Rattle.cam_cluster.proofs.BeginEnds.{begin_may, begin_within}
 use Rattle.cam_cluster.proofs.BegunLine.{unput_may_be_written}
 use Rattle.cam_cluster.proofs.PlacedNodes.{after_is, each_there, seen_there, sees}
-use Rattle.cam_cluster.proofs.StartedLine.{IsStart, start_halted, start_led, start_wanting}
+use Rattle.cam_cluster.proofs.StartEnds.{IsStart, start_halted, start_led, start_wanting}
 use Rattle.cam_cluster.proofs.lines.Lines.start.Goals as goal
 
 pub overflow_cast-place : goal.overflow_cast-place

@@ -7,9 +7,9 @@ use Rattle.cam_cluster.specs.InputLines.{IsTriedLine}
 use Rattle.cam_cluster.proofs.AsSeen.{lines_of, part, reads_of}
 use Rattle.cam_cluster.proofs.BeginEnds.{begin_may, begin_within}
 use Rattle.cam_cluster.proofs.BegunLine.{unput_may_be_written}
-use Rattle.cam_cluster.proofs.PlacedNodes.{after_is, seen_there, taken_there}
-use Rattle.cam_cluster.proofs.TriedEnds.{one_there, place_of, tried_halted, tried_led, tried_lines}
-use Rattle.cam_cluster.proofs.TriedEnds.{tried_may, tried_refused, tried_there, tried_wanting}
+use Rattle.cam_cluster.proofs.PlacedNodes.{after_is, seen_there, taken_there, one_there}
+use Rattle.cam_cluster.proofs.TriedEnds.{place_of, tried_halted, tried_led, tried_lines, tried_may}
+use Rattle.cam_cluster.proofs.TriedEnds.{tried_refused, tried_there, tried_wanting}
 use Rattle.cam_cluster.proofs.lines.Lines.try_lead.Goals as goal
 
 pub returns-then-is_halted-clause-disks : goal.returns-then-is_halted-clause-disks

@@ -17,70 +17,94 @@ pub catch_up-requires : goal.catch_up-requires
 catch_up-requires g c =
     let goes = c.requires.goes in
     let fits = goes.are_workers.within in
-    let many = as_many c.args.self.now.events.events.items goes.standing.running.trace goes.keeps.events in
+    let many =
+    as_many c.args.self.now.events.events.items goes.standing.running.trace goes.keeps.events in
     subst (λ es. c.args.workers.now.events ≤ length es) (sym c.as_slice.ensures.value)
     (omega (arith, fits, many))
 
-pub returns-in_err-catch_up-clause-disks : goal.returns-in_err-catch_up-clause-disks
-returns-in_err-catch_up-clause-disks g c =
-    goes_on_still
+pub returns-in_err-catch_up : goal.returns-in_err-catch_up
+returns-in_err-catch_up g c = record {
+  disks = goes_on_still;
+  gone = search rules;
+  as_before = on_err c.from_residual.result _ (λ script st is keeps. keeps);
+  workers_as_before =
+      on_err c.from_residual.result _ (λ script st keeps are.
+      c.catch_up.ensures.stay st (c.as_slice.ensures.value ∙ keeps.events) are);
+  servers = c.requires.servers;
+}
 
-pub returns-in_err-catch_up-clause-gone : goal.returns-in_err-catch_up-clause-gone
-returns-in_err-catch_up-clause-gone g c =
-    search rules
-
-pub returns-in_err-catch_up-clause-as_before : goal.returns-in_err-catch_up-clause-as_before
-returns-in_err-catch_up-clause-as_before g c =
-    on_err c.from_residual.result _ (λ script st is keeps. keeps)
-
-pub returns-in_err-catch_up-clause-workers_as_before :
-    goal.returns-in_err-catch_up-clause-workers_as_before
-returns-in_err-catch_up-clause-workers_as_before g c =
-    on_err c.from_residual.result _ (λ script st keeps are.
-    c.catch_up.ensures.stay st (c.as_slice.ensures.value ∙ keeps.events) are)
-
-pub returns-in_err-catch_up-clause-servers : goal.returns-in_err-catch_up-clause-servers
-returns-in_err-catch_up-clause-servers g c =
-    c.requires.servers
-
-pub returns-in_err-reserve-clause-disks : goal.returns-in_err-reserve-clause-disks
-returns-in_err-reserve-clause-disks g c =
-    goes_on_still
-
-pub returns-in_err-reserve-clause-gone : goal.returns-in_err-reserve-clause-gone
-returns-in_err-reserve-clause-gone g c =
-    search rules
-
-pub returns-in_err-reserve-clause-as_before : goal.returns-in_err-reserve-clause-as_before
-returns-in_err-reserve-clause-as_before g c =
-    on_err c.from_residual-in_err-reserve.result _ (λ script st is keeps. keeps)
-
-pub returns-in_err-reserve-clause-workers_as_before :
-    goal.returns-in_err-reserve-clause-workers_as_before
-returns-in_err-reserve-clause-workers_as_before g c =
-    on_err c.from_residual-in_err-reserve.result _ (λ script st keeps are.
-    c.reserve.ensures.stay st
-    (c.catch_up.ensures.stay st (c.as_slice.ensures.value ∙ keeps.events) are))
-
-pub returns-in_err-reserve-clause-servers : goal.returns-in_err-reserve-clause-servers
-returns-in_err-reserve-clause-servers g c =
-    c.requires.servers
+pub returns-in_err-reserve : goal.returns-in_err-reserve
+returns-in_err-reserve g c = record {
+  disks = goes_on_still;
+  gone = search rules;
+  as_before = on_err c.from_residual-in_err-reserve.result _ (λ script st is keeps. keeps);
+  workers_as_before =
+      on_err c.from_residual-in_err-reserve.result _ (λ script st keeps are.
+      c.reserve.ensures.stay st
+      (c.catch_up.ensures.stay st (c.as_slice.ensures.value ∙ keeps.events) are));
+  servers = c.requires.servers;
+}
 
 pub overflow_cast-place : goal.overflow_cast-place
 overflow_cast-place g c =
     search rules
 
-pub put-requires-clause-servers : goal.put-requires-clause-servers
-put-requires-clause-servers g c =
-    c.requires.servers
+pub put-requires : goal.put-requires
+put-requires g c =
+    let works = works_of g.L.CheckpointLog g.L.EntryLog c.args.self.now in
+    let reads = reads_of g.L.CheckpointLog g.L.EntryLog c.args.self.now in
+    let goes = c.requires.goes in
+    let home = sym (home_place c.home.result _ _ c.home.ensures goes.may.low) in
+    record {
+      servers = c.requires.servers;
+      place =
+          home_within c.args.name.now c.args.bodies.now works reads c.args.workers.now goes
+          (c.home.result.0 - 1) home;
+      there =
+          place_of (part g.L.CheckpointLog g.L.EntryLog) c.args.self.now.nodes.items
+          (c.home.result.0 - 1) (home_there c.args.name.now c.args.bodies.now works reads
+          c.args.workers.now goes (c.home.result.0 - 1) home);
+      may =
+          let caught : CatchesUp c.args.self.now.events.events.items c.args.workers.now
+          c.reserve.new.self =
+          λ st is are. (
+            c.reserve.ensures.stay st
+                (c.catch_up.ensures.stay st (c.as_slice.ensures.value ∙ is) are),
+            c.reserve.ensures.caught_up st
+                (c.in_ok-catch_up.ensures.caught_up st (c.as_slice.ensures.value ∙ is) are),
+          ) in
+          let asks =
+          is_next c.args.bodies.now c.args.name.now works c.args.workers.now c.reserve.new.self
+          c.intention-next.result caught c.intention-next.ensures goes.script goes.standing
+          goes.bodies_are goes.keeps.events goes.are_workers ∙ c.in-Request.is in
+          each_there _ c.args.self.now.nodes.items (c.home.result.0 - 1) (λ node at.
+          let seen =
+          seen_there (part g.L.CheckpointLog g.L.EntryLog) c.args.self.now.nodes.items
+          (c.home.result.0 - 1) node at in (
+            home_runs c.args.name.now c.args.bodies.now works reads c.args.workers.now goes
+                (c.home.result.0 - 1) home _ seen,
+            home_is_free c.args.name.now c.args.bodies.now works reads c.args.workers.now goes
+                (c.home.result.0 - 1) home c.in-Request.want asks _ seen,
+            home_has_numbers c.args.name.now c.args.bodies.now works reads c.args.workers.now goes
+                (c.home.result.0 - 1) home c.in-Request.want asks _ seen,
+          ));
+      writable =
+          goes_writably c.args.name.now c.args.bodies.now works reads c.args.workers.now goes;
+    }
 
-pub returns-in_err-done-in-Request-clause-disks : goal.returns-in_err-done-in-Request-clause-disks
-returns-in_err-done-in-Request-clause-disks g c =
-    c.put.ensures.disks
-
-pub returns-in_err-done-in-Request-clause-gone : goal.returns-in_err-done-in-Request-clause-gone
-returns-in_err-done-in-Request-clause-gone g c =
-    search rules
+pub returns-in_err-done-in-Request : goal.returns-in_err-done-in-Request
+returns-in_err-done-in-Request g c = record {
+  disks = c.put.ensures.disks;
+  gone = search rules;
+  as_before =
+      on_err c.from_residual-in_err-done-in-Request.result _
+      c.in_err-done-in-Request.ensures.as_before;
+  workers_as_before =
+      on_err c.from_residual-in_err-done-in-Request.result _ (λ script st keeps are.
+      c.reserve.ensures.stay st
+      (c.catch_up.ensures.stay st (c.as_slice.ensures.value ∙ keeps.events) are));
+  servers = c.put.ensures.servers;
+}
 
 pub overflow_sub-place : goal.overflow_sub-place
 overflow_sub-place g c =
@@ -88,120 +112,48 @@ overflow_sub-place g c =
     let low = goes.may.low in
     subst (λ (p : ℕ × ℕ). 1 ≤ p.0) (sym c.home.ensures) low
 
-pub put-requires-clause-place : goal.put-requires-clause-place
-put-requires-clause-place g c =
-    let works = works_of g.L.CheckpointLog g.L.EntryLog c.args.self.now in
-    let reads = reads_of g.L.CheckpointLog g.L.EntryLog c.args.self.now in
-    let goes = c.requires.goes in
-    let home = sym (home_place c.home.result _ _ c.home.ensures goes.may.low) in
-    home_within c.args.name.now c.args.bodies.now works reads c.args.workers.now goes
-    (c.home.result.0 - 1) home
-
-pub put-requires-clause-there : goal.put-requires-clause-there
-put-requires-clause-there g c =
-    let works = works_of g.L.CheckpointLog g.L.EntryLog c.args.self.now in
-    let reads = reads_of g.L.CheckpointLog g.L.EntryLog c.args.self.now in
-    let goes = c.requires.goes in
-    let home = sym (home_place c.home.result _ _ c.home.ensures goes.may.low) in
-    place_of (part g.L.CheckpointLog g.L.EntryLog) c.args.self.now.nodes.items
-    (c.home.result.0 - 1) (home_there c.args.name.now c.args.bodies.now works reads
-    c.args.workers.now goes (c.home.result.0 - 1) home)
-
-pub put-requires-clause-may : goal.put-requires-clause-may
-put-requires-clause-may g c =
-    let works = works_of g.L.CheckpointLog g.L.EntryLog c.args.self.now in
-    let reads = reads_of g.L.CheckpointLog g.L.EntryLog c.args.self.now in
-    let goes = c.requires.goes in
-    let home = sym (home_place c.home.result _ _ c.home.ensures goes.may.low) in
-    let caught : CatchesUp c.args.self.now.events.events.items c.args.workers.now c.reserve.new.self =
-    λ st is are. (
-      c.reserve.ensures.stay st
-          (c.catch_up.ensures.stay st (c.as_slice.ensures.value ∙ is) are),
-      c.reserve.ensures.caught_up st
-          (c.in_ok-catch_up.ensures.caught_up st (c.as_slice.ensures.value ∙ is) are),
-    ) in
-    let asks =
-    is_next c.args.bodies.now c.args.name.now works c.args.workers.now c.reserve.new.self
-    c.intention-next.result caught c.intention-next.ensures goes.script goes.standing
-    goes.bodies_are goes.keeps.events goes.are_workers ∙ c.in-Request.is in
-    each_there _ c.args.self.now.nodes.items (c.home.result.0 - 1) (λ node at.
-    let seen =
-    seen_there (part g.L.CheckpointLog g.L.EntryLog) c.args.self.now.nodes.items
-    (c.home.result.0 - 1) node at in (
-      home_runs c.args.name.now c.args.bodies.now works reads c.args.workers.now goes
-          (c.home.result.0 - 1) home _ seen,
-      home_is_free c.args.name.now c.args.bodies.now works reads c.args.workers.now goes
-          (c.home.result.0 - 1) home c.in-Request.want asks _ seen,
-      home_has_numbers c.args.name.now c.args.bodies.now works reads c.args.workers.now goes
-          (c.home.result.0 - 1) home c.in-Request.want asks _ seen,
-    ))
-
-pub put-requires-clause-writable : goal.put-requires-clause-writable
-put-requires-clause-writable g c =
-    goes_writably c.args.name.now c.args.bodies.now
-    (works_of g.L.CheckpointLog g.L.EntryLog c.args.self.now)
-    (reads_of g.L.CheckpointLog g.L.EntryLog c.args.self.now) c.args.workers.now
-    c.requires.goes
-
-pub returns-in_err-done-in-Request-clause-as_before :
-    goal.returns-in_err-done-in-Request-clause-as_before
-returns-in_err-done-in-Request-clause-as_before g c =
-    on_err c.from_residual-in_err-done-in-Request.result _
-    c.in_err-done-in-Request.ensures.as_before
-
-pub returns-in_err-done-in-Request-clause-workers_as_before :
-    goal.returns-in_err-done-in-Request-clause-workers_as_before
-returns-in_err-done-in-Request-clause-workers_as_before g c =
-    on_err c.from_residual-in_err-done-in-Request.result _ (λ script st keeps are.
-    c.reserve.ensures.stay st
-    (c.catch_up.ensures.stay st (c.as_slice.ensures.value ∙ keeps.events) are))
-
-pub returns-in_err-done-in-Request-clause-servers :
-    goal.returns-in_err-done-in-Request-clause-servers
-returns-in_err-done-in-Request-clause-servers g c =
-    c.put.ensures.servers
-
 pub give_body-requires : goal.give_body-requires
 give_body-requires g c = c.in_ok-reserve.ensures.room
 
-pub returns-in_ok-done-in-Request-clause-disks : goal.returns-in_ok-done-in-Request-clause-disks
-returns-in_ok-done-in-Request-clause-disks g c =
-    c.put.ensures.disks
-
-pub returns-in_ok-done-in-Request-clause-servers : goal.returns-in_ok-done-in-Request-clause-servers
-returns-in_ok-done-in-Request-clause-servers g c = c.put.ensures.servers
-
-pub returns-in_ok-done-in-Request-clause-gone : goal.returns-in_ok-done-in-Request-clause-gone
-returns-in_ok-done-in-Request-clause-gone g c =
-    let works = works_of g.L.CheckpointLog g.L.EntryLog c.args.self.now in
-    let reads = reads_of g.L.CheckpointLog g.L.EntryLog c.args.self.now in
-    let goes = c.requires.goes in
-    let home = sym (home_place c.home.result _ _ c.home.ensures goes.may.low) in
-    let caught : CatchesUp c.args.self.now.events.events.items c.args.workers.now c.reserve.new.self =
-    λ st is are. (
-      c.reserve.ensures.stay st
-          (c.catch_up.ensures.stay st (c.as_slice.ensures.value ∙ is) are),
-      c.reserve.ensures.caught_up st
-          (c.in_ok-catch_up.ensures.caught_up st (c.as_slice.ensures.value ∙ is) are),
-    ) in
-    request_gone c.args.line c.args.bodies.now c.args.name.now works reads c.args.workers.now
-    c.reserve.new.self c.intention-next.result caught c.intention-next.ensures c.in-Request.want
-    (c.home.result.0 - 1) c.in_ok-done-in-Request.done
-    (works_of g.L.CheckpointLog g.L.EntryLog c.put.new.self)
-    (reads_of g.L.CheckpointLog g.L.EntryLog c.put.new.self) c.bound_after-asked.result
-    c.give_body.new.workers c.in-Request.is home c.in_ok-done-in-Request.ensures.put
-    (subst (λ es. IsBinding (inputs.Request (record {
-      action = c.args.name.now;
-      want = c.in-Request.want;
-    })) es c.in_ok-done-in-Request.done c.bound_after-asked.result)
-    c.as_slice-in-Request.ensures.value c.bound_after-asked.ensures)
-    c.give_body.ensures
+pub returns-in_ok-done-in-Request : goal.returns-in_ok-done-in-Request
+returns-in_ok-done-in-Request g c = record {
+  disks = c.put.ensures.disks;
+  servers = c.put.ensures.servers;
+  gone =
+      let works = works_of g.L.CheckpointLog g.L.EntryLog c.args.self.now in
+      let reads = reads_of g.L.CheckpointLog g.L.EntryLog c.args.self.now in
+      let goes = c.requires.goes in
+      let home = sym (home_place c.home.result _ _ c.home.ensures goes.may.low) in
+      let caught : CatchesUp c.args.self.now.events.events.items c.args.workers.now
+      c.reserve.new.self =
+      λ st is are. (
+        c.reserve.ensures.stay st
+            (c.catch_up.ensures.stay st (c.as_slice.ensures.value ∙ is) are),
+        c.reserve.ensures.caught_up st
+            (c.in_ok-catch_up.ensures.caught_up st (c.as_slice.ensures.value ∙ is) are),
+      ) in
+      request_gone c.args.line c.args.bodies.now c.args.name.now works reads c.args.workers.now
+      c.reserve.new.self c.intention-next.result caught c.intention-next.ensures c.in-Request.want
+      (c.home.result.0 - 1) c.in_ok-done-in-Request.done
+      (works_of g.L.CheckpointLog g.L.EntryLog c.put.new.self)
+      (reads_of g.L.CheckpointLog g.L.EntryLog c.put.new.self) c.bound_after-asked.result
+      c.give_body.new.workers c.in-Request.is home c.in_ok-done-in-Request.ensures.put
+      (subst (λ es. IsBinding (inputs.Request (record {
+        action = c.args.name.now;
+        want = c.in-Request.want;
+      })) es c.in_ok-done-in-Request.done c.bound_after-asked.result)
+      c.as_slice-in-Request.ensures.value c.bound_after-asked.ensures)
+      c.give_body.ensures;
+  as_before = tt;
+  workers_as_before = tt;
+}
 
 pub returns-in-Wait : goal.returns-in-Wait
 returns-in-Wait g c =
     let works = works_of g.L.CheckpointLog g.L.EntryLog c.args.self.now in
     let reads = reads_of g.L.CheckpointLog g.L.EntryLog c.args.self.now in
-    let caught : CatchesUp c.args.self.now.events.events.items c.args.workers.now c.reserve.new.self =
+    let caught : CatchesUp c.args.self.now.events.events.items c.args.workers.now
+    c.reserve.new.self =
     λ st is are. (
       c.reserve.ensures.stay st
           (c.catch_up.ensures.stay st (c.as_slice.ensures.value ∙ is) are),

@@ -3,8 +3,9 @@ use Rattle.std.proofs.Common.{refl, arith, rules}
 use Rattle.std.proofs.lemmas.Grind.{common_steps}
 use Rattle.cam_node.specs.Calls.{answers}
 use Rattle.cam_cluster.proofs.AsSeen.{part, reads_at, tells_of}
-use Rattle.cam_cluster.proofs.DiskChanges.{stays_reads, stopped_in}
-use Rattle.cam_cluster.proofs.DisksGoOn.{stays_at}
+use Rattle.cam_cluster.proofs.DiskChanges.{stopped_in}
+use Rattle.cam_cluster.proofs.LessRead.{stays_reads}
+use Rattle.cam_cluster.proofs.OneDiskCalled.{stays_at}
 use Rattle.cam_cluster.proofs.works.Works.stop_after.Goals as goal
 
 pub index_mut-requires : goal.index_mut-requires

@@ -1,7 +1,7 @@
 -- A node is restarted.
 use Rattle.std.proofs.Common.{ap, ◌∙◌, ◌≤◌, subst}
 use Rattle.cam_node.specs.Calls.{answers}
-use Rattle.cam_cluster.proofs.DiskChanges.{stays_reads}
+use Rattle.cam_cluster.proofs.LessRead.{stays_reads}
 use Rattle.cam_cluster.proofs.RestartReads.{found_was, ok_so, restarted_was}
 use Rattle.cam_cluster.proofs.works.restart.restart_cleared.Goals as goal
 

@@ -1,0 +1,61 @@
+-- What is kept of a run, but for the node at a place: it restarts.
+use Rattle.std.proofs.Common.{◌≡◌, ℕ, ◌+◌, ◌<◌, eqb, length, refl, sym, ap, ◌∙◌}
+use Rattle.std.specs.Prelude.{map, reverse}
+use Rattle.std.specs.List.{AllByRecursion}
+use Rattle.cam_node.specs.Log.{Logged}
+use Rattle.cam_runs.specs.Standing.{Standing, Undecided}
+use Rattle.cam_runs.specs.UnderHalts.{IsUnderHalts}
+use Rattle.cam_runs.proofs.Undecided.{without_node}
+use Rattle.cam_script.specs.declared.Script.{Script}
+use Rattle.cam_histories.specs.Whole.{IsWhole}
+use Rattle.cam_cluster.specs.Works.{WorksFields, IsSentBefore, KeepsRun, open_halt, sites_of}
+use Rattle.cam_cluster.specs.Works.{AreStoppedBut, IsUnfailing}
+use Rattle.cam_cluster.proofs.HaltsKept.{open_without, others_all, others_open}
+use Rattle.cam_cluster.proofs.NodeChanged.{KeepsNodes, kept_nodes}
+
+-- What is kept of a run, but for the node at a place: it restarts.
+pub record KeepsBut (script : Script) (st : Standing) (place : ℕ) (works : WorksFields)
+    (might : ℕ → Logged → Type 0) : Type 0 where
+  pub under : IsUnderHalts script st
+  pub kept : KeepsNodes script st place works might
+  pub eight : length works.halted ≡ 8
+  pub whole :
+      IsWhole script.objects st (sites_of works.nodes) works.outbox.net works.outbox.unput
+      works.halted
+  pub undecided :
+      open_without (place + 1) works.undecided
+      ≡ map open_halt (without_node (place + 1) st.undecided)
+  pub sent :
+      AllByRecursion (λ (u : Undecided). IsSentBefore (length st.running.trace) u.event.got)
+      (without_node (place + 1) st.undecided)
+  pub events : works.events ≡ reverse st.running.trace
+  pub all_marks : works.marks ≡ st.running.marks
+  pub few : length works.events + 1 < 1000000000
+  pub stops :
+      IsUnfailing works.failed works.nodes
+      → AreStoppedBut (eqb (place + 1)) script.objects st.running.trace st.halted st.turns
+      works.nodes
+
+-- the run in which the halt is lost, or there was none
+pub keeps_but : (script : Script) (st : Standing) (place : ℕ) (works : WorksFields)
+    (might : ℕ → Logged → Type 0) → length works.events + 1 < 1000000000
+    → KeepsRun script st works might → KeepsBut script st place works might
+keeps_but script st place works might few keeps = record {
+  under = keeps.under;
+  kept = kept_nodes script st place works might keeps;
+  eight = keeps.eight;
+  whole = keeps.whole;
+  undecided =
+      ap (open_without (place + 1)) keeps.undecided ∙ sym (others_open (place + 1) st.undecided);
+  sent =
+      others_all (λ (u : Undecided). IsSentBefore (length st.running.trace) u.event.got) (place + 1)
+      st.undecided keeps.sent;
+  events = keeps.events;
+  all_marks = keeps.all_marks;
+  few = few;
+  stops = λ all.
+      let before = keeps.stops all in record {
+        said = λ s away. before.said s refl;
+        each = λ q n at away. before.each q n at refl;
+      };
+}
