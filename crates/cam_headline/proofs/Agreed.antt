@@ -23,11 +23,12 @@ use Rattle.cam_plain.proofs.Histories.{legal_before}
 use Rattle.cam_plain.proofs.Deciding.{one_outcome}
 use Rattle.cam_cut.proofs.Holds.{every_closed}
 use Rattle.cam_cut.proofs.Laws.{closed_sets_are_legal}
+use Rattle.cam_serial.proofs.Depended.{commit_needs, commit_secured}
 use Rattle.cam_delta.proofs.Addressed.{runs_are_addressed}
 use Rattle.cam_delta.proofs.SameKnown.{nodes_know_the_same}
 use Rattle.cam_delta.specs.Laws.{known_by}
 use Rattle.cam_headline.specs.Outcomes.{EachIsDecidedOnce, NoTwoEventsDiffer, HeldWasDecided, NoTwoNodesDiffer, CommittedIsSecured, CommitNeedsSecured}
-use Rattle.cam_headline.proofs.Decided.{decided_once, commit_needs, commit_secured}
+use Rattle.cam_headline.proofs.Decided.{decided_once}
 
 -- the whole of a run reads as a legal history
 pub whole_legal : (objects : List ObjectDecl) (t : List Event) → IsRun objects t → Legal objects (plain_all t)

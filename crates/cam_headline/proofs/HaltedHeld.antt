@@ -15,15 +15,16 @@ use Rattle.cam_event.proofs.RunLaws.{taking_are_sent, taking_crash_alone}
 use Rattle.cam_event.proofs.SameOutcomes.{held_and_brought, tells_aborts, tells_commits}
 use Rattle.cam_plain.proofs.Deciding.{one_outcome}
 use Rattle.cam_cut.proofs.Halts.{run_taking_holds}
+use Rattle.cam_serial.proofs.Covering.{committed_covers}
+use Rattle.cam_serial.proofs.Depended.{commit_secured}
 use Rattle.cam_delta.proofs.Addressed.{halted_runs_are_addressed}
 use Rattle.cam_delta.proofs.SameKnown.{nodes_know_the_same}
 use Rattle.cam_delta.specs.Laws.{known_by}
 use Rattle.cam_headline.specs.HaltedHeld.{HaltedHeldIsThePast, HaltedHeldWasDecided, HaltedNodesAgree, HaltedCommittedIsSecured, HaltedCrashKeepsSecured, HaltedCrashKeepsOthers, HaltedNoneIsAborted, HaltedSecuredStays, HaltedCommittedIsCovered}
 use Rattle.cam_headline.proofs.Agreed.{own_in_whole}
-use Rattle.cam_headline.proofs.Decided.{commit_secured}
 use Rattle.cam_headline.proofs.HaltedRuns.{halted_legal}
 use Rattle.cam_headline.proofs.Secure.{secured_in}
-use Rattle.cam_headline.proofs.Recovered.{covered_in, keeps_secured, keeps_others, informed_by, none_by}
+use Rattle.cam_headline.proofs.Recovered.{keeps_secured, keeps_others, informed_by, none_by}
 
 -- where letters carry all, and so by what is not acknowledged
 pub whole_aborts : (objects : List ObjectDecl) (taken : ℕ → Bool) (t : List Event) (s : ℕ) (a : Name) → IsRunTaking objects taken t → knows_abort (held objects (of_node (carried_of objects t) s)) a ≡ aborted (own_past t s) a
@@ -73,4 +74,4 @@ pub halted_secured_stays : HaltedSecuredStays
 halted_secured_stays objects taken later t s a n answer run there secure none = secured_in objects later t s a n answer (halted_legal objects taken (later ++ t) run) there secure none
 
 pub halted_committed_is_covered : HaltedCommittedIsCovered
-halted_committed_is_covered objects taken t a run all = covered_in objects (plain_all t) a (halted_legal objects taken t run) all
+halted_committed_is_covered objects taken t a run all = committed_covers objects (plain_all t) a (halted_legal objects taken t run) all

@@ -3,7 +3,6 @@ pub mod Agreed
 pub mod PlainFor
 pub mod SceneRun
 pub mod CountersRun
-pub mod Stays
 pub mod Secure
 pub mod Recovered
 pub mod HaltedRuns

@@ -1,4 +1,4 @@
--- The serial list for an action that is no orphan covers it.
+-- The serial list for an action that is no orphan covers it, and that for no action each that has committed with all its ancestors.
 use Rattle.std.proofs.Common.{◌≡◌, inl, inr, eqb, Bool, true, false, ◌&&◌, List, [], ◌∷◌, Some, None, refl, sym, ap, ◌∙◌, subst, arith, ℕ, ◌++◌, filter, if◌then◌else◌, ◌||◌, Option, find}
 use Rattle.std.proofs.lemmas.Bool.{and_parts, and_from, true≢false, eq-eqb, or_left, or_right, eqb-true, lt-ltb}
 use Rattle.std.proofs.lemmas.Option.{same_Some}
@@ -24,8 +24,9 @@ use Rattle.cam_plain.proofs.Answered.{is_got, visits, got_done}
 use Rattle.cam_names.proofs.Any.{any_right, any_weaker, none_found, any_every, any_filter, any_flat, filter_none}
 use Rattle.cam_plain.proofs.Decided.{ancestors_committed}
 use Rattle.cam_plain.proofs.Fates.{is_answer, Fate, performed_fate}
-use Rattle.cam_plain.proofs.Performed.{created_named}
+use Rattle.cam_plain.proofs.Performed.{created_named, called_created}
 use Rattle.cam_type.proofs.SameAnswers.{answer_eq_refl}
+use Rattle.cam_serial.proofs.Stays.{answer_stays}
 use Rattle.cam_serial.proofs.Tops.{tops_have, family_top}
 use Rattle.cam_serial.specs.Serial.{committed_tops, all_committed, group, serial_committed, committed_up_to, seen_by, serial_for, Covers}
 
@@ -122,3 +123,13 @@ covers_each os (_ ∷ L) a each = covers_each os L a each
 pub serial_for_covers : (objects : List ObjectDecl) (L : List Deed) (a : Name) → Legal objects L → created L a ≡ true → orphan objects L a ≡ None → Covers (serial_for objects L a) L a
 serial_for_covers objects L a legal there none =
     covers_each (serial_for objects L a) L a (λ n answer h. answer_serial objects L a n answer legal there none (answer_live objects L a n answer legal there none h))
+
+-- The list for no action covers each action that has committed with all its ancestors.
+pub committed_covers : (objects : List ObjectDecl) (L : List Deed) (a : Name) → Legal objects L → all_committed L a ≡ true → Covers (serial_committed objects L) L a
+committed_covers objects L a legal all = covers_each (serial_committed objects L) L a each
+  where
+    each : (n : ℕ) (answer : Answer) → list_any (is_got a n answer) L ≡ true → list_any (is_answer a n answer) (serial_committed objects L) ≡ true
+    each n answer h =
+        let got = got_done objects L a n answer legal h in
+        let named : is_ancestor a a ≡ true = created_named objects L a legal (called_created objects L a n got.1.0 legal got.1.1) in
+        answer_committed objects L a n answer named all (answer_stays objects L a n answer legal h (every_ancestor (committed L) a all))

@@ -5,6 +5,8 @@ pub mod Tops
 pub mod CommitOrder
 pub mod OwnGroups
 pub mod Replaying
+pub mod Depended
+pub mod Stays
 pub mod Covering
 pub mod Laws
 pub mod Gathering

@@ -7,9 +7,10 @@ use Rattle.cam_event.specs.declared.Deed.{Deed}
 use Rattle.cam_event.specs.declared.Operation.{Operation}
 use Rattle.cam_event.specs.History.{created}
 use Rattle.cam_event.specs.Orphans.{orphan}
-use Rattle.cam_serial.specs.Serial.{Covers}
+use Rattle.cam_serial.specs.Serial.{all_committed, Covers}
 
--- The list for an action that was created and is no orphan covers it.
+-- The list for no action covers each action that has committed with all its ancestors, and the list for an action that was
+-- created and is no orphan covers it.
 abbrev pub ViewIsCovered : List ObjectDecl → List Deed → Option Name → List Operation → Type 0
-ViewIsCovered objects L None os = Unit {0}
+ViewIsCovered objects L None os = (a : Name) → all_committed L a ≡ true → Covers os L a
 ViewIsCovered objects L (Some a) os = created L a ≡ true → orphan objects L a ≡ None → Covers os L a

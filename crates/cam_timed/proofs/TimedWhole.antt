@@ -5,7 +5,7 @@ use Rattle.cam_event.specs.declared.Event.{Event}
 use Rattle.cam_event.specs.Pasts.{plain_all, every}
 use Rattle.cam_type.specs.declared.ObjectDecl.{ObjectDecl}
 use Rattle.cam_plain.specs.Legal.{Legal}
-use Rattle.cam_serial.proofs.Laws.{replay}
+use Rattle.cam_serial.proofs.Laws.{replay, view_is_covered}
 use Rattle.cam_cut.proofs.Holds.{every_closed}
 use Rattle.cam_words.specs.declared.fault.ScriptFault.{ScriptFault}
 use Rattle.cam_words.specs.declared.fault.ScriptFault.TheVariants.{Bad}
@@ -28,6 +28,7 @@ has_timed_run script range = record {
   is_run = run;
   legal = legal;
   committed = replay objects (plain_all t) None legal;
+  kept = view_is_covered objects (plain_all t) None legal;
   views = each_script_view script range;
 }
   where

@@ -2,11 +2,12 @@
 --
 -- For all bytes that spell a script by time its run is a run by time; each action in it, whatever
 -- became of its ancestors, has its view in a legal history in which it is no orphan; and committed
--- top actions replay serially in order of their commits.
-use Rattle.std.specs.Prelude.{ℕ, List, None, IfOk}
+-- top actions replay serially in order of their commits, in a list that has what each got.
+use Rattle.std.specs.Prelude.{◌≡◌, ℕ, true, List, None, IfOk}
+use Rattle.cam_names.specs.declared.name.Name.{Name}
 use Rattle.cam_event.specs.Pasts.{plain_all}
 use Rattle.cam_plain.specs.Legal.{Legal}
-use Rattle.cam_serial.specs.Serial.{serial, Replays}
+use Rattle.cam_serial.specs.Serial.{serial, all_committed, Replays, Covers}
 use Rattle.cam_timed.specs.declared.TimedScript.{TimedScript}
 use Rattle.cam_timed.specs.Moments.{events}
 use Rattle.cam_timed.specs.TimedRuns.{IsTimedRun}
@@ -24,6 +25,13 @@ pub record HasTimedRun (script : TimedScript) : Type 0 where
   pub committed :
       Replays script.script.objects
       (serial script.script.objects (plain_all (events (timed_run script).trace)) None)
+  -- Each answer that an action got which has committed with all its ancestors is that of its
+  -- operation in this list.
+  pub kept :
+      (a : Name) → all_committed (plain_all (events (timed_run script).trace)) a ≡ true
+      → Covers
+      (serial script.script.objects (plain_all (events (timed_run script).trace)) None)
+      (plain_all (events (timed_run script).trace)) a
   -- Each action that was created in it has its view in a legal history in which it is no orphan,
   -- and whose serial list for it replays and has each answer that it got.
   pub views : ViewsAreSound script

@@ -30,7 +30,7 @@ use Rattle.cam_plain.proofs.Fates.{is_answer, performed_fate}
 use Rattle.cam_plain.proofs.Answered.{is_got, visits, got_done}
 use Rattle.cam_cut.proofs.DepsFacts.{deps_final}
 use Rattle.cam_serial.proofs.Tops.{family_top}
-use Rattle.cam_headline.proofs.Decided.{commit_secured}
+use Rattle.cam_serial.proofs.Depended.{commit_secured}
 
 -- An operation stays live behind a deed that does not take it away.
 pub stays_by : {X : Type 0} (test keep : X → Bool) (Fact : X → Type 0) (xs : List X) → Every Fact xs → ((x : X) → test x ≡ true → Fact x → keep x ≡ true) → list_any test xs ≡ true → list_any test (filter keep xs) ≡ true
