@@ -1,7 +1,6 @@
 -- Up to where nodes have heard of one another, after an event and after the arrival of a letter.
-use Rattle.std.proofs.Common.{◌≡◌, ◌≤◌, ◌<◌, ◌⊎◌, inl, inr, if◌then◌else◌, ℕ, eqb, leb, max, min, Bool, true, false, not, ◌&&◌, ◌||◌, List, [], ◌∷◌, ◌++◌, length, filter, take, drop, Option, Some, None, refl, sym, ap, ◌∙◌, subst, arith}
+use Rattle.std.proofs.Common.{◌≡◌, ◌≤◌, ◌<◌, ◌⊎◌, inl, inr, ℕ, leb, max, Bool, true, false, List, ◌∷◌, ◌++◌, length, take, Some, sym, ap, ◌∙◌, subst, arith}
 use Rattle.std.specs.List.{list_any}
-use Rattle.std.specs.HashMap.{HashMap}
 use Rattle.std.proofs.lemmas.Bool.{or_right}
 use Rattle.std.proofs.lemmas.Bool.Decides.{leb_tells}
 use Rattle.std.proofs.lemmas.List.{length-append, take-append-le}
@@ -13,25 +12,18 @@ use Rattle.cam_event.specs.declared.Deed.{Deed}
 use Rattle.cam_event.specs.History.{after, committed, aborted, is_commit, is_abort, informed, is_inform}
 use Rattle.cam_event.specs.ByPast.{own_past}
 use Rattle.cam_event.specs.Pasts.{last_of, sender_of, holds, in_past}
-use Rattle.cam_event.specs.Rules.{Did}
 use Rattle.cam_event.proofs.Agree.{any_after}
 use Rattle.cam_event.proofs.SameOutcomes.{plain_or}
 use Rattle.cam_own.specs.Told.{commits_of, aborts_of}
 use Rattle.cam_timed.specs.declared.TimedEvent.{TimedEvent}
 use Rattle.cam_timed.specs.declared.machine.Letter.{Letter}
 use Rattle.cam_timed.specs.declared.machine.hearing.Reach.{Reach}
-use Rattle.cam_timed.specs.declared.machine.hearing.Road.{Road}
-use Rattle.cam_timed.specs.declared.ruled.Put.{Put}
-use Rattle.cam_timed.specs.Here.{input_of}
 use Rattle.cam_timed.specs.Machine.{deeds_of, KeepsLetter}
-use Rattle.cam_timed.specs.Moments.{events, moment_now, until_of}
-use Rattle.cam_timed.specs.Reaches.{HasHeard, Hears, IsReach, KeepsHeard, nowhere, raised, reach_in}
-use Rattle.cam_timed.specs.TimedRules.{moment_by, pause_by, paused, timed_did, timed_got_of, timed_next, timed_node_of}
+use Rattle.cam_timed.specs.Moments.{events}
+use Rattle.cam_timed.specs.Reaches.{HasHeard, IsReach}
 use Rattle.cam_timed.specs.TimedRuns.{IsTimedRun}
 use Rattle.cam_timed.specs.Travelling.{carrier, abort_paths, timed_informs}
-use Rattle.cam_timed.specs.Turns.{IsTurn}
 use Rattle.cam_timed.proofs.Brought.{brought_aborts, brought_commits, letter_brings}
-use Rattle.cam_timed.proofs.Deciding.{turn_letter}
 use Rattle.cam_timed.proofs.Holding.{TimedHolds}
 use Rattle.cam_timed.proofs.RuleHolds.{timed_holds}
 use Rattle.cam_timed.proofs.TakenOver.{deeds_mine}

@@ -1,84 +1,36 @@
 -- Whatever the grammar of scripts by time accepts is a script by time.
-use Rattle.std.proofs.Common.{◌≡◌, ◌≤◌, ◌+◌, ◌⊎◌, inl, inr, ℕ, zero, suc, Bool, true, false, not, List, [], ◌∷◌, ◌++◌, Option, Some, None, length, if◌then◌else◌, refl, ap, subst, ◌∙◌, arith}
-use Rattle.std.specs.Prelude.{◌==◌, nat_le, slice_get, Result, Ok, Err, IfOk}
-use Rattle.std.specs.Option.{option_map_or}
+use Rattle.std.proofs.Common.{◌≡◌, ◌+◌, ℕ, Bool, true, false, not, List, [], ◌∷◌, ◌++◌, Option, Some, None, length, if◌then◌else◌, refl, ap, subst, arith}
+use Rattle.std.specs.Prelude.{◌==◌, nat_le, Result, Ok, Err, IfOk}
 use Rattle.cam_type.specs.declared.ObjectDecl.{ObjectDecl}
 use Rattle.cam_words.specs.declared.fault.ScriptFault.{ScriptFault}
 use Rattle.cam_words.specs.declared.cause.Cause.TheVariants as causes
 use Rattle.cam_words.specs.declared.word.Word.{Word}
 use Rattle.cam_words.specs.Lines.{bad_byte}
 use Rattle.cam_words.specs.Words.{◌>>=◌, refuse, or_refuse, refuse_if, next_word, text_of, is_missing, looked_up}
-use Rattle.cam_script.specs.declared.Binding.{Binding}
 use Rattle.cam_script.specs.declared.Binding.TheVariants as bindings
 use Rattle.cam_script.specs.declared.Form.TheVariants as lines
 use Rattle.cam_script.specs.declared.Section.TheVariants as sections
 use Rattle.cam_script.specs.declared.Step.{Step}
-use Rattle.cam_script.specs.SoFar.{SoFar, Variable, Writing}
+use Rattle.cam_script.specs.SoFar.{Writing}
 use Rattle.cam_script.specs.Declarations.{nodes_line, object_line}
 use Rattle.cam_script.specs.Order.{section_by, section_outside, is_full_script, is_too_many_by}
 use Rattle.cam_script.specs.Grammar.{outside, begins_with_hash, all_allowed, script_by}
 use Rattle.cam_script.specs.Law.{IsScript}
-use Rattle.cam_script.specs.Parse.{IsWithin, Gives}
+use Rattle.cam_script.specs.Parse.{Gives}
 use Rattle.cam_script.proofs.Holds.{Holds, then_holds, then_any, not_refused}
 use Rattle.cam_script.proofs.StatementLines.{nodes_hold, object_holds}
-use Rattle.cam_script.proofs.Appended.{one_longer, get_last, get_either}
-use Rattle.cam_script.proofs.Stands.{Stands, stands_nothing, after_nodes, after_object}
-use Rattle.cam_script.proofs.Within.{stands_within}
+use Rattle.cam_script.proofs.Stands.{after_nodes, after_object}
 use Rattle.cam_script.proofs.Accepts.{lines_hold}
-use Rattle.cam_timed.specs.declared.TimedAct.{TimedAct}
-use Rattle.cam_timed.specs.declared.TimedAct.TheVariants as acts
 use Rattle.cam_timed.specs.declared.TimedStep.{TimedStep}
 use Rattle.cam_timed.specs.declared.TimedScript.{TimedScript}
 use Rattle.cam_timed.specs.declared.forms.TimedForm.{TimedForm}
 use Rattle.cam_timed.specs.declared.forms.TimedForm.TheVariants as forms
 use Rattle.cam_timed.specs.declared.reading.TimedSoFar.{TimedSoFar}
-use Rattle.cam_timed.specs.TimedRange.{is_begin, begins_at, ActInRange, EachInRange, IsTimedScript}
+use Rattle.cam_timed.specs.TimedRange.{EachInRange, IsTimedScript}
 use Rattle.cam_timed.specs.TimedLines.{begin_by_time, ask_by_time, timed_act_line}
-use Rattle.cam_timed.specs.TimedGrammar.{timed_forms, timed_nothing, behind, timed_section, timed_may_stand, is_timed_full, declares, with_bound, with_timed, timed_step, timed_bound, read_form, with_first_word, read_timed_line, with_declarations, read_timed_lines}
-use Rattle.cam_timed.proofs.TimedRanges.{AreBegun, IsPlaced, begin_in_range, ask_in_range, act_in_range}
-
--- what is declared, but the variables
-abbrev pub without_variables : SoFar → SoFar
-without_variables d = record d { variables = [] }
-
--- what holds after some lines
-pub record TimedStands (d : TimedSoFar) : Type 0 where
-  pub declared : Stands (without_variables d.declared)
-  pub no_untimed : d.declared.script.steps ≡ []
-  pub outside : d.declared.writing ≡ None
-  pub begun : AreBegun d.declared.variables d.steps
-  pub range : EachInRange d.declared.script.objects d.steps d.steps
-  pub room : length d.steps ≤ 512
-
--- what is declared is within the limits of a script
-pub timed_within : (d : TimedSoFar) → TimedStands d → IsWithin d.declared
-timed_within d s =
-    let w = stands_within (without_variables d.declared) s.declared in
-    record {
-      labels = w.labels;
-      steps = w.steps;
-      spent = w.spent;
-      bodies = w.bodies;
-      names = w.names;
-      statements = w.statements;
-    }
-
-placed : (d : TimedSoFar) → TimedStands d → IsPlaced d.declared
-placed d s = record { eight = s.declared.eight; placed = s.declared.placed; labels = s.declared.labels }
-
-no_variables : (steps : List TimedStep) → AreBegun [] steps
-no_variables steps i v e = absurd (grind (arith, e))
-
-pub timed_nothing_stands : TimedStands timed_nothing
-timed_nothing_stands =
-    record {
-      declared = stands_nothing;
-      no_untimed = refl;
-      outside = refl;
-      begun = no_variables [];
-      range = tt;
-      room = omega arith;
-    }
+use Rattle.cam_timed.specs.TimedGrammar.{timed_forms, timed_nothing, behind, timed_section, timed_may_stand, is_timed_full, declares, timed_step, timed_bound, read_form, with_first_word, read_timed_line, with_declarations, read_timed_lines}
+use Rattle.cam_timed.proofs.TimedRanges.{begin_in_range, ask_in_range, act_in_range}
+use Rattle.cam_timed.proofs.TimedStands.{without_variables, TimedStands, placed, timed_nothing_stands, after_timed, after_bound}
 
 -- What the place of a line says of what stands before it.
 nodes_first : (b : Bool) (untimed : List Step) (steps : List TimedStep) → timed_may_stand (behind (if b then sections.AtNodes else section_outside untimed) steps) forms.Nodes ≡ true → b ≡ true
@@ -133,67 +85,6 @@ object_stand d number at line s stand room =
       room = s.room;
     }))
     (λ declared h. h)
-
--- One step more.
-begins_more : (steps : List TimedStep) (step : TimedStep) (v : ℕ) → begins_at steps v ≡ true → begins_at (steps ++ step ∷ []) v ≡ true
-begins_more [] step v h = absurd (grind (arith, h))
-begins_more (s ∷ steps) step zero h = h
-begins_more (s ∷ steps) step (suc v) h = begins_more steps step v h
-
-act_more : (objects : List ObjectDecl) (all : List TimedStep) (step : TimedStep) (act : TimedAct) → ActInRange objects all act → ActInRange objects (all ++ step ∷ []) act
-act_more objects all step (acts.Begin s until) h = h
-act_more objects all step (acts.Ask p m until) h = h
-act_more objects all step (acts.Call v x op) h = h
-act_more objects all step (acts.Commit v value) h = h
-act_more objects all step (acts.Abort v) h = h
-act_more objects all step (acts.GiveUp v w) h = h
-act_more objects all step (acts.Deliver k) h = h
-act_more objects all step (acts.Lose k) h = h
-act_more objects all step acts.Drain h = h
-act_more objects all step (acts.Tell s to) h = h
-act_more objects all step (acts.Query s v) h = h
-act_more objects all step (acts.Tick s moment) h = h
-act_more objects all step (acts.Expire v) h = begins_more all step v h
-
-each_more : (objects : List ObjectDecl) (all steps : List TimedStep) (step : TimedStep) → EachInRange objects all steps → ActInRange objects all step.act → EachInRange objects (all ++ step ∷ []) (steps ++ step ∷ [])
-each_more objects all [] step h k = (act_more objects all step step.act k, tt)
-each_more objects all (s ∷ steps) step h k = (act_more objects all step s.act h.0, each_more objects all steps step h.1 k)
-
-below_512 : (n : ℕ) → nat_le 512 n ≡ false → n + 1 ≤ 512
-below_512 n h = grind (arith, h)
-
--- whatever the variables are, where they are begun
-step_stands : (d : TimedSoFar) (variables : List Variable) (number : ℕ) (act : TimedAct) → TimedStands d → nat_le 512 (length d.steps) ≡ false → ActInRange d.declared.script.objects d.steps act → AreBegun variables (d.steps ++ record { line = number; act = act } ∷ []) → TimedStands (with_timed (record d { declared = record d.declared { variables = variables } }) number act)
-step_stands d variables number act s room fits begun =
-    let step : TimedStep = record { line = number; act = act } in
-    let longer = one_longer d.steps step in
-    let below = below_512 (length d.steps) room in
-    record {
-      declared = s.declared;
-      no_untimed = s.no_untimed;
-      outside = s.outside;
-      begun = begun;
-      range = each_more d.declared.script.objects d.steps d.steps step s.range fits;
-      room = omega (arith, longer, below);
-    }
-
-after_timed : (d : TimedSoFar) (number : ℕ) (act : TimedAct) → TimedStands d → nat_le 512 (length d.steps) ≡ false → ActInRange d.declared.script.objects d.steps act → TimedStands (with_timed d number act)
-after_timed d number act s room fits =
-    step_stands d d.declared.variables number act s room fits
-    (λ i v e b. begins_more d.steps (record { line = number; act = act }) v.step (s.begun i v e b))
-
-begun_one : (d : TimedSoFar) (name : List ℕ) (number : ℕ) (binding : Binding) (act : TimedAct) → AreBegun d.declared.variables d.steps → (binding ≡ bindings.Begin → is_begin act ≡ true) → (i : ℕ) (v : Variable) → (slice_get d.declared.variables i ≡ Some v) ⊎ (record { name = name; step = length d.steps; binding = binding } ≡ v) → v.binding ≡ bindings.Begin → begins_at (d.steps ++ record { line = number; act = act } ∷ []) v.step ≡ true
-begun_one d name number binding act begun begins i v (inl e) b = begins_more d.steps (record { line = number; act = act }) v.step (begun i v e b)
-begun_one d name number binding act begun begins i v (inr e) b =
-    let step : TimedStep = record { line = number; act = act } in
-    subst (λ (v : Variable). v.binding ≡ bindings.Begin → begins_at (d.steps ++ step ∷ []) v.step ≡ true) e
-    (λ c. ap (λ o. option_map_or (λ (s : TimedStep). is_begin s.act) o false) (get_last d.steps step) ∙ begins c) b
-
-after_bound : (d : TimedSoFar) (number : ℕ) (name : List ℕ) (binding : Binding) (act : TimedAct) → TimedStands d → nat_le 512 (length d.steps) ≡ false → ActInRange d.declared.script.objects d.steps act → (binding ≡ bindings.Begin → is_begin act ≡ true) → TimedStands (with_bound d number name binding act)
-after_bound d number name binding act s room fits begins =
-    let one : Variable = record { name = name; step = length d.steps; binding = binding } in
-    step_stands d (d.declared.variables ++ one ∷ []) number act s room fits
-    (λ i v e b. begun_one d name number binding act s.begun begins i v (get_either d.declared.variables one i v e) b)
 
 -- A line by its form.
 step_form_stands : (d : TimedSoFar) (form : TimedForm) (number at : ℕ) (line : List ℕ) → TimedStands d → nat_le 512 (length d.steps) ≡ false → Holds TimedStands (timed_act_line d.declared form number at line >>= timed_step d number)

@@ -1,7 +1,7 @@
 use Rattle.std.proofs.Common.{◌≡◌, ◌≤◌, ◌+◌, length}
 use Rattle.cam_words.specs.Lines.{lines_of}
 use Rattle.cam_timed.specs.TimedGrammar.{timed_nothing, read_timed_lines}
-use Rattle.cam_timed.proofs.TimedAccepts.{TimedStands}
+use Rattle.cam_timed.proofs.TimedStands.{TimedStands}
 use Rattle.cam_timed.proofs.parser.read_lines.Given as goal
 
 abbrev pub invariant-loop-rest : goal.invariant-loop-rest
