@@ -1,10 +1,13 @@
 -- The headline of runs by time, put together.
 use Rattle.std.proofs.Common.{◌≡◌, ℕ, Bool, true, false, List, None, length, if◌then◌else◌, refl}
 use Rattle.std.specs.Prelude.{nat_le, Result, Ok, Err, IfOk}
+use Rattle.std.proofs.lemmas.Bool.{false_from_ne_true}
 use Rattle.cam_event.specs.declared.Event.{Event}
+use Rattle.cam_event.specs.History.{informed}
 use Rattle.cam_event.specs.Pasts.{plain_all, every}
 use Rattle.cam_type.specs.declared.ObjectDecl.{ObjectDecl}
 use Rattle.cam_plain.specs.Legal.{Legal}
+use Rattle.cam_plain.proofs.Deciding.{one_outcome, informed_committed, informed_aborted}
 use Rattle.cam_serial.proofs.Laws.{replay, view_is_covered}
 use Rattle.cam_cut.proofs.Holds.{every_closed}
 use Rattle.cam_words.specs.declared.fault.ScriptFault.{ScriptFault}
@@ -30,6 +33,11 @@ has_timed_run script range = record {
   committed = replay objects (plain_all t) None legal;
   kept = view_is_covered objects (plain_all t) None legal;
   views = each_script_view script range;
+  agree = λ s r a commits.
+      false_from_ne_true (informed (plain_all t) r a false) (λ aborts.
+      one_outcome objects (plain_all t) a legal
+      (informed_committed objects (plain_all t) s a legal commits)
+      (informed_aborted objects (plain_all t) r a legal aborts));
 }
   where
     objects : List ObjectDecl

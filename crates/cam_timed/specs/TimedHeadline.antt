@@ -1,10 +1,12 @@
 -- The headline of runs by time, from the bytes of a script to the views of its actions.
 --
 -- For all bytes that spell a script by time its run is a run by time; each action in it, whatever
--- became of its ancestors, has its view in a legal history in which it is no orphan; and committed
--- top actions replay serially in order of their commits, in a list that has what each got.
-use Rattle.std.specs.Prelude.{◌≡◌, ℕ, true, List, None, IfOk}
+-- became of its ancestors, has its view in a legal history in which it is no orphan; committed top
+-- actions replay serially in order of their commits, in a list that has what each got; and no two
+-- nodes were informed of different outcomes.
+use Rattle.std.specs.Prelude.{◌≡◌, ℕ, true, false, List, None, IfOk}
 use Rattle.cam_names.specs.declared.name.Name.{Name}
+use Rattle.cam_event.specs.History.{informed}
 use Rattle.cam_event.specs.Pasts.{plain_all}
 use Rattle.cam_plain.specs.Legal.{Legal}
 use Rattle.cam_serial.specs.Serial.{serial, all_committed, Replays, Covers}
@@ -35,6 +37,11 @@ pub record HasTimedRun (script : TimedScript) : Type 0 where
   -- Each action that was created in it has its view in a legal history in which it is no orphan,
   -- and whose serial list for it replays and has each answer that it got.
   pub views : ViewsAreSound script
+  -- No two nodes were informed of different outcomes of an action.
+  pub agree :
+      (s r : ℕ) (a : Name)
+      → informed (plain_all (events (timed_run script).trace)) s a true ≡ true
+      → informed (plain_all (events (timed_run script).trace)) r a false ≡ false
 
 -- So it is of all bytes that the grammar accepts.
 abbrev pub TimedHeadline : Type 0
