@@ -93,6 +93,11 @@ module _ {N D : Type 0} (tells_node : N → Bool) (node_reads : N → Logged →
     recorded = is.recorded;
     logs = λ s logged low high awake read. is.logs s logged low high awake
         (reads_less nodes disks s logged out read);
+    halted = λ s low high on.
+        let of = is.halted s low high on in record {
+          taken = of.taken;
+          either = λ logged read. of.either logged (reads_less nodes disks s logged out read);
+        };
   }
 
   pub disks_are_logs : (nodes : List N) (disks : List D)

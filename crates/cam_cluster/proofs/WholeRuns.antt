@@ -6,8 +6,8 @@ use Rattle.cam_event.specs.declared.Event.{Event}
 use Rattle.cam_event.specs.declared.Mark.{Mark}
 use Rattle.cam_event.specs.Readings.{by_pasts}
 use Rattle.cam_node.specs.Log.{Logged}
-use Rattle.cam_runs.specs.Halts.{given}
-use Rattle.cam_runs.specs.HaltedLines.{run_with}
+use Rattle.cam_runs.specs.Halts.{by_stops, given}
+use Rattle.cam_runs.specs.HaltedLines.{run_halting, run_with}
 use Rattle.cam_runs.specs.Standing.{Standing, start}
 use Rattle.cam_runs.specs.Stops.{Agrees}
 use Rattle.cam_runs.proofs.StopsEnd.{agreeing_runs_are_by_stops}
@@ -18,12 +18,14 @@ use Rattle.cam_cluster.specs.Between.{KeepsBetween}
 use Rattle.cam_cluster.specs.Courses.{IsNextOfCourse}
 use Rattle.cam_cluster.specs.Disks.{KeepsLogs}
 use Rattle.cam_cluster.specs.Founding.{before_first}
+use Rattle.cam_cluster.specs.HaltedLogs.{KeepsHaltedLogs}
 use Rattle.cam_cluster.specs.Seen.{IsNextStep, Seen}
 use Rattle.cam_cluster.specs.SoFar.{LinesFields}
 use Rattle.cam_cluster.specs.WholeRuns.{HasTakenLines, IsNextOfRun, IsRunWithLogs}
 use Rattle.cam_cluster.specs.Workers.{AreWorkers}
 use Rattle.cam_cluster.specs.Works.{IsUnfailing}
 use Rattle.cam_cluster.proofs.AllLines.{all_lines_are_the_run}
+use Rattle.cam_cluster.proofs.HaltedLogs.{halted_logs}
 
 module _ (script : Script) (many : ℕ) (step : Step) (lines : LinesFields)
     (may_read : ℕ → Logged → Type 0) (at_work : Workers)
@@ -77,20 +79,28 @@ all_taken script lines may_read at_work trace marks taken events all_marks logs 
           all_marks ∙ taken.keeps.between.keeps.runs.all_marks
           ∙ ap (λ (st : Standing). st.running.marks) stands;
     };
-    one =
-        agreeing_runs_are_by_stops by_pasts script (given taken.seen.halts)
-        (subst (Agrees (given taken.seen.halts)) stands taken.agrees);
+    one = one;
   };
   logs =
       subst (λ (x : Seen). KeepsLogs x may_read)
       (λ i. record { script = taken.of_script i; standing = stands i; halts = taken.seen.halts })
       logs;
+  halted =
+      subst (λ (x : Script). KeepsHaltedLogs x may_read) taken.of_script
+      (halted_logs taken.seen lines may_read taken.keeps.between
+      (taken.taken ∙ ap (λ (x : Script). length x.steps) (sym taken.of_script))
+      (stands ∙ one ∙ ap (run_halting by_pasts by_stops) (sym taken.of_script)));
 }
   where
     stands : taken.seen.standing ≡ run_with by_pasts script taken.seen.halts
     stands =
         (all_lines_are_the_run script taken.seen taken.of_script taken.taken
         taken.keeps.between.between).standing
+
+    one : run_with by_pasts script taken.seen.halts ≡ run_halting by_pasts by_stops script
+    one =
+        agreeing_runs_are_by_stops by_pasts script (given taken.seen.halts)
+        (subst (Agrees (given taken.seen.halts)) stands taken.agrees)
 
 -- the step at a place of a loop over them
 pub step_at : (script : Script) (steps : List Step) (at : ℕ) (other : Step)

@@ -32,6 +32,7 @@ pub mod Restarts
 pub mod Taking
 pub mod Courses
 pub mod Founding
+pub mod HaltedLogs
 pub mod WholeRuns
 pub mod Stopping
 pub mod Stopped

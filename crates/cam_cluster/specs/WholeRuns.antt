@@ -11,6 +11,7 @@ use Rattle.cam_script.specs.declared.Step.{Step}
 use Rattle.cam_cluster.specs.declared.workers.Workers.{Workers}
 use Rattle.cam_cluster.specs.Courses.{KeepsCourse}
 use Rattle.cam_cluster.specs.Disks.{KeepsLogs}
+use Rattle.cam_cluster.specs.HaltedLogs.{KeepsHaltedLogs}
 use Rattle.cam_cluster.specs.Seen.{IsRunRecord, Seen, lines_taken}
 use Rattle.cam_cluster.specs.SoFar.{LinesFields}
 use Rattle.cam_cluster.specs.Works.{IsUnfailing}
@@ -28,11 +29,13 @@ pub record IsRecordOf (script : Script) (result : RunRecord) : Type 0 where
   pub one : run_with by_pasts script halts ≡ run_halting by_pasts by_stops script
 
 -- The same, and what may be read from the disk of a node that is not halted at the end keeps the
--- node's history of that run.
+-- node's history of that run; of one that is halted that history, or with the event at which it
+-- halted besides.
 pub record IsRunWithLogs (script : Script) (may_read : ℕ → Logged → Type 0)
     (result : RunRecord) : Type 0 where
   pub recorded : IsRecordOf script result
   pub logs : KeepsLogs (after_all script recorded.halts) may_read
+  pub halted : KeepsHaltedLogs script may_read
 
 -- So many lines of a script were taken, and nothing has failed by itself. The halts agree with the
 -- lines that stop a node's disk.

@@ -1,0 +1,42 @@
+-- What the log of a node keeps that is halted at the end of the one run of a script: what it kept
+-- before the event at which the node halted, or with what was taken of that event besides.
+use Rattle.std.specs.Prelude.{◌≡◌, ◌≤◌, ◌⊎◌, ℕ, true, List}
+use Rattle.cam_event.specs.Readings.{by_pasts}
+use Rattle.cam_node.specs.Log.{Logged, KeepsLog}
+use Rattle.cam_runs.specs.Halts.{Halt, by_stops}
+use Rattle.cam_runs.specs.HaltedLines.{run_halting, run_with}
+use Rattle.cam_runs.specs.Running.{has_number}
+use Rattle.cam_runs.specs.Standing.{Standing}
+use Rattle.cam_script.specs.declared.Script.{Script}
+use Rattle.cam_histories.specs.Laws.{history_of}
+use Rattle.cam_cluster.specs.FoundHalts.{IsPutIn}
+
+-- The run in which the log took the event at which the node halted, by its halts. It is the one run
+-- with that event put in at its place: that of the node's last input, which has this number.
+pub record TakenRun (script : Script) (s : ℕ) : Type 0 where
+  pub halts : List Halt
+  pub number : ℕ
+  pub put_in :
+      IsPutIn script.objects number s (run_halting by_pasts by_stops script)
+      (run_with by_pasts script halts)
+
+-- the log keeps the node's history of this run
+abbrev pub KeepsHistoryOf : Script → ℕ → Standing → Logged → Type 0
+KeepsHistoryOf script s st logged =
+    KeepsLog script.objects s (history_of script.objects st.running.trace s) logged
+
+-- Whatever may be read of the log keeps the node's history of the one run, or of the run in which
+-- the log took the event.
+pub record KeepsEither (script : Script) (s : ℕ) (may_read : Logged → Type 0) : Type 0 where
+  pub taken : TakenRun script s
+  pub either :
+      (logged : Logged) → may_read logged
+      → KeepsHistoryOf script s (run_halting by_pasts by_stops script) logged
+      ⊎ KeepsHistoryOf script s (run_with by_pasts script taken.halts) logged
+
+-- So it is of each node that is halted at the end.
+abbrev pub KeepsHaltedLogs : Script → (ℕ → Logged → Type 0) → Type 0
+KeepsHaltedLogs script may_read =
+    (s : ℕ) → 1 ≤ s → s ≤ script.nodes
+    → has_number (run_halting by_pasts by_stops script).halted s ≡ true
+    → KeepsEither script s (may_read s)
