@@ -1,5 +1,5 @@
 // What callers see of a log whose list of entries can be replaced.
-ghost use Rattle.std.specs.Prelude.{◌≡◌, ◌≤◌, ◌+◌, ◌^◌, List, ℕ, Bool, IsTrue, IsFalse, OnOk, OnErr, IsErrOf, Ok as Opens, Err as NoLog, Some, None};
+ghost use Rattle.std.specs.Prelude.{◌≡◌, ◌≤◌, ◌+◌, ◌^◌, List, ℕ, Bool, IsTrue, IsFalse, OnOk, OnErr, IsErrOf, Ok as Opens, Err as NoLog, Option, Some, None};
 ghost use Rattle.cam_base.specs.Causes.{Rose};
 ghost use Rattle.cam_disk.specs.Stop.{Untouched};
 ghost use Rattle.cam_log.specs.declared.fault.LogFault.TheVariants.{DiskFault, NotALog};
@@ -20,6 +20,9 @@ pub trait CheckpointLog: EntryLog {
     /// Whether a replacement of a log's list by this one made it this other log with just the bytes that the
     /// log's format has for it.
     ghost is_rewritten: { Self → List (List ℕ) → Self → Type 0 };
+
+    /// The number of the list that opening its disk gives now.
+    ghost numbered: { Self → Option ℕ };
 
     /// Whether the list can be replaced: the log is not broken, and its generation is not the last.
     fn can_replace(&self) -> bool
@@ -77,6 +80,12 @@ pub trait CheckpointLog: EntryLog {
         ensures refused_now { IsTrue (Self.tells self.old) → (at : ℕ)
             → IsErrOf result (NotALog at) → Self.reads self.old ≡ NoLog (NotALog at) }
         ensures reads { IsTrue (Self.tells self.old) → Self.reads self.new ≡ Self.reads self.old }
+        // Its list has the number that the disk gives it, and the same as before where the log was
+        // not broken.
+        ensures numbered { IsTrue (Self.tells self.old)
+            → OnOk result (Self.numbered self.old ≡ Some (Self.generation self.new)) }
+        ensures generation { IsTrue (Self.tells self.old) → IsFalse (Self.broken self.old)
+            → OnOk result (Self.generation self.new ≡ Self.generation self.old) }
         ensures whole { OnOk result (IsFalse (Self.broken self.new)) }
         ensures not_read { OnErr result (IsTrue (Self.broken self.new)) }
         ensures any_moment { IsTrue (Self.tells self.old)

@@ -146,6 +146,8 @@ impl<D: Disk> Ckpt<D> {
         ensures moment { D.moment result ≡ ⟦<Ckpt<D> as EntryLog>⟧.moment self }
         ensures seen { D.seen result ≡ ⟦<Ckpt<D> as EntryLog>⟧.seen self }
         ensures reads { read_ckpt (D.seen result) ≡ ⟦<Ckpt<D> as EntryLog>⟧.reads self }
+        ensures numbered { generation_of (D.seen result)
+            ≡ ⟦<Ckpt<D> as CheckpointLog>⟧.numbered self }
         ensures passes { D.passes result ≡ ⟦<Ckpt<D> as EntryLog>⟧.passes self }
         ensures faults { D.faults result ≡ ⟦<Ckpt<D> as EntryLog>⟧.faults self }
         ensures faults_within { D.faults_within result
@@ -222,6 +224,8 @@ impl<D: Disk> CheckpointLog for Ckpt<D> {
     ghost is_rewritten = { λ old entries new. IsReplaced (other_slot old.state.place)
         (closing_by old.state.is_other_open) new.state.start (segment entries)
         (numbers new.state.generation new.state.start) (D.seen old.disk) (D.seen new.disk) };
+
+    ghost numbered = { λ log. generation_of (D.seen log.disk) };
 
     fn can_replace(&self) -> bool {
         !self.broken && self.state.generation < u64::MAX

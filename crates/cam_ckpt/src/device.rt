@@ -18,7 +18,7 @@ ghost use Rattle.cam_ckpt.specs.Moments.{IsAtRest, IsOldOrNew, WrittenTwice};
 use cam_disk::{Disk, DiskError};
 use cam_log::{CLOSED, OPEN, force};
 
-/// The four device calls of an append: the entry goes behind its closed gate, and then the gate is opened.
+/// The four device calls of an append: the entry goes after its closed gate, and then the gate is opened.
 #[tactic(auto, using(cam_log::specs::Spent::spent_then, cam_log::specs::Spent::none_spent))]
 pub fn write_entry<D: Disk>(disk: &mut D, gate: u64, behind: &[u8]) -> Result<(), DiskError>
     requires within { gate < 2 ^ 63 }
@@ -113,7 +113,7 @@ fn close_other<D: Disk>(disk: &mut D, other: u64, is_open: bool) -> Result<(), D
 }
 
 /// The seven device calls of a replacement. The other slot's gate is closed; the new segment is written, and
-/// what the other slot has behind its gate; then that gate is opened.
+/// what the other slot has after its gate; then that gate is opened.
 #[tactic(auto, using(cam_log::specs::Spent::spent_then, cam_log::specs::Spent::none_spent))]
 pub fn write_list<D: Disk>(
     disk: &mut D,
