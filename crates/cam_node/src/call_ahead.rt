@@ -1,7 +1,7 @@
 //! A call that goes ahead of the news that came with it. Where these speak of no family with live
 //! operations at the site, the site itself does with the call what it answers, before it is
 //! informed of them: all is as if it had been informed first, and no copy is made. Where memory
-//! runs out behind it, or the event's entry is not taken, what was done with the call is taken
+//! runs out after it, or the event's entry is not taken, what was done with the call is taken
 //! back.
 ghost use Rattle.std.specs.Prelude.{◌≡◌, IfOk, OnErr};
 ghost use Rattle.cam_comman.specs.Letters.{IsWithin};

@@ -83,6 +83,7 @@ impl<L: CheckpointLog> Node<L> {
             (L.opens_since self.old.log.log) (L.opens_since self.new.log.log)
             (L.seen self.old.log.log) (L.seen self.new.log.log) }
         ensures number { self.new.core.number ≡ self.old.core.number }
+        ensures generation { L.generation self.new.log.log ≡ L.generation self.old.log.log }
         ensures runs { OnOk result (IsFalse self.new.log.halted) }
         ensures same { (before : Parts) → CanForget before (answers self.old.core) ahead.now
             → OnErr result (IsFalse self.new.log.halted

@@ -1,4 +1,4 @@
-//! What an event has behind its first Informs, and what it does to the parts of the node.
+//! What an event has after its first Informs, and what it does to the parts of the node.
 ghost use Rattle.std.specs.Prelude.{◌≡◌, [], IfOk};
 ghost use Rattle.cam_event.specs.Rules.{answers, did, nothing_but, send, one as single};
 ghost use Rattle.cam_node.specs.Plans.{just};
@@ -11,7 +11,7 @@ use cam_recman::Record;
 use std::alloc::Global;
 use std::marker::Model;
 
-/// What an event has behind its first Informs: deeds, letters and a note.
+/// What an event has after its first Informs: deeds, letters and a note.
 #[derive(Drop)]
 pub(crate) struct Did {
     pub(crate) deeds: Deeds,

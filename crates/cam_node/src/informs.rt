@@ -54,7 +54,7 @@ fn new_commits(alloc: Global, known: &Know, told: &[Outcome]) -> Result<Vec<Name
     Ok(names)
 }
 
-/// Puts the name of an outcome among those behind it that are told as aborted, where it is a new abort.
+/// Puts the name of an outcome among those after it that are told as aborted, where it is a new abort.
 #[tactic(auto, using(crate::proofs::Told::new_abort, crate::proofs::Told::known_abort))]
 fn note_abort(names: &mut Vec<Name>, known: &Know, outcome: &Outcome) -> Result<(), NoMemory>
     ensures { (behind : List OutcomeValue) → reverse names.old.items ≡ aborts_from known.now behind
@@ -68,7 +68,7 @@ fn note_abort(names: &mut Vec<Name>, known: &Know, outcome: &Outcome) -> Result<
     Ok(())
 }
 
-/// Puts the name of an outcome among those behind it that are told as committed, where it is a new commit.
+/// Puts the name of an outcome among those after it that are told as committed, where it is a new commit.
 fn note_commit(names: &mut Vec<Name>, known: &Know, outcome: &Outcome) -> Result<(), NoMemory>
     ensures { (behind : List OutcomeValue) → reverse names.old.items ≡ commits_from known.now behind
         → OnOk result (reverse names.new.items ≡ commits_from known.now (outcome.now ∷ behind)) }

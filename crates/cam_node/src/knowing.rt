@@ -1,8 +1,8 @@
 //! What a node knows and has noted.
 //!
 //! A step learns first, and its tests go by what is known then. So that it leaves the node as it was where it finds no memory later, a mark
-//! says how much stands meanwhile; it is taken away when the event stands. What stands behind a mark that was left is forgotten when the next
-//! event begins: only a step behind one that failed costs what is known.
+//! says how much stands meanwhile; it is taken away when the event stands. What stands after a mark that was left is forgotten when the next
+//! event begins: only a step after one that failed costs what is known.
 ghost use Rattle.std.specs.Prelude.{◌≡◌, ◌≤◌, true, Some, length, take, IfOk, OnOk};
 ghost use Rattle.std.specs.List.{list_any};
 ghost use Rattle.cam_names.specs.Dependencies.{AreCounts};

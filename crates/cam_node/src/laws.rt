@@ -13,7 +13,7 @@ pub fn logs_keep_histories()
     ensures own { StepsAreOwn }
 {}
 
-/// What a restart leaves in the log keeps the history with the restart: the entry of all that is kept, alone, or the raised count behind the
+/// What a restart leaves in the log keeps the history with the restart: the entry of all that is kept, alone, or the raised count after the
 /// rest; and the node knows then what is recovered with the raised count.
 pub fn restarts_keep_histories()
     ensures keeps { RestartKeeps }

@@ -6,7 +6,7 @@ ghost use Rattle.cam_log.specs.CutOff.{IsCutOff};
 ghost use Rattle.cam_log.specs.Spent.{Spent};
 ghost use Rattle.cam_log.specs.Moments.{Opened, Grows, Stays};
 ghost use Rattle.cam_ckpt.specs.Moments.{IsOldOrNew};
-ghost use Rattle.cam_ckpt.specs.Reading.{read_ckpt};
+ghost use Rattle.cam_ckpt.specs.Reading.{generation_of, read_ckpt};
 ghost use Rattle.cam_recman.specs.declared.Recovered.{Recovered as Recovery};
 ghost use Rattle.cam_recman.specs.Ranges.{AreRecords};
 ghost use Rattle.cam_recman.specs.Recovery.{with_records};
@@ -50,6 +50,7 @@ fn append_version<L: EntryLog>(alloc: Global, log: &mut L) -> Result<(), NodeFau
     ensures tells { L.tells log.new ≡ L.tells log.old }
     ensures later { L.faults log.old ≤ L.faults log.new }
     ensures disk_fault { IsErrOf result DiskFault → Rose (L.faults log.old) (L.faults log.new) }
+    ensures generation { L.generation log.new ≡ L.generation log.old }
     ensures within_later { L.faults_within log.old ≤ L.faults_within log.new }
     ensures failed_within { L.passes log.old ≡ None → IsErrOf result DiskFault
         → Rose (L.faults_within log.old) (L.faults_within log.new) }
@@ -66,6 +67,8 @@ impl<D: Disk> NodeLog<Ckpt<D>> {
     pub(crate) fn format(alloc: Global, disk: D) -> Result<NodeLog<Ckpt<D>>, FormatRefused<D>>
         ensures entries { IfOk result
             (λ node. ⟦<Ckpt<D> as EntryLog>⟧.listed node.log ≡ version_entry ∷ []) }
+        ensures generation { IfOk result
+            (λ node. ⟦<Ckpt<D> as EntryLog>⟧.generation node.log ≡ 1) }
         ensures running { IfOk result (λ node. IsFalse node.halted) }
         // It takes seven calls of the disk.
         ensures spent { IfOk result
@@ -117,6 +120,8 @@ impl<D: Disk> NodeLog<Ckpt<D>> {
         ensures moment { D.moment result ≡ ⟦<Ckpt<D> as EntryLog>⟧.moment self.log }
         ensures seen { D.seen result ≡ ⟦<Ckpt<D> as EntryLog>⟧.seen self.log }
         ensures reads { read_ckpt (D.seen result) ≡ ⟦<Ckpt<D> as EntryLog>⟧.reads self.log }
+        ensures numbered { generation_of (D.seen result)
+            ≡ ⟦<Ckpt<D> as CheckpointLog>⟧.numbered self.log }
         ensures passes { D.passes result ≡ ⟦<Ckpt<D> as EntryLog>⟧.passes self.log }
         ensures faults { D.faults result ≡ ⟦<Ckpt<D> as EntryLog>⟧.faults self.log }
         ensures faults_within { D.faults_within result
@@ -195,6 +200,7 @@ impl<L: CheckpointLog> NodeLog<L> {
             (L.opens_since self.old.log) (L.opens_since self.new.log)
             (L.seen self.old.log) (L.seen self.new.log) }
         ensures not_listed { OnErr result (L.listed self.new.log ≡ L.listed self.old.log) }
+        ensures generation { L.generation self.new.log ≡ L.generation self.old.log }
         ensures unchanged { OnErr result (IsFalse self.new.halted
             → Stays (L.moment self.old.log) (L.moment self.new.log)
             (L.opens_since self.old.log) (L.opens_since self.new.log)
@@ -227,6 +233,7 @@ impl<L: CheckpointLog + StopLog> NodeLog<L> {
         ensures reads { L.reads self.new.log ≡ L.reads self.old.log }
         ensures faults_within { L.faults_within self.new.log ≡ L.faults_within self.old.log }
         ensures listed { L.listed self.new.log ≡ L.listed self.old.log }
+        ensures generation { L.generation self.new.log ≡ L.generation self.old.log }
         ensures halted { self.new.halted ≡ self.old.halted }
         ensures tells { L.tells self.new.log ≡ L.tells self.old.log }
         ensures stays { Stays (L.moment self.old.log) (L.moment self.new.log)
@@ -243,6 +250,7 @@ impl<L: CheckpointLog + StopLog> NodeLog<L> {
         ensures reads { L.reads self.new.log ≡ L.reads self.old.log }
         ensures faults_within { L.faults_within self.new.log ≡ L.faults_within self.old.log }
         ensures listed { L.listed self.new.log ≡ L.listed self.old.log }
+        ensures generation { L.generation self.new.log ≡ L.generation self.old.log }
         ensures halted { self.new.halted ≡ self.old.halted }
         ensures tells { L.tells self.new.log ≡ L.tells self.old.log }
         ensures stays { Stays (L.moment self.old.log) (L.moment self.new.log)

@@ -1,7 +1,7 @@
 //! One node: its parts, and its log.
 ghost use Rattle.std.specs.Prelude.{◌≡◌, ◌≤◌, ℕ, List, [], ◌∷◌, IsTrue, IsFalse, IfOk, IfErr, Ok as Opens, Some, None};
 ghost use Rattle.cam_base.specs.Causes.{Rose};
-ghost use Rattle.cam_ckpt.specs.Reading.{read_ckpt};
+ghost use Rattle.cam_ckpt.specs.Reading.{generation_of, read_ckpt};
 ghost use Rattle.cam_event.specs.ByDeltas.{Received};
 ghost use Rattle.cam_locks.specs.Moss.{settled};
 ghost use Rattle.cam_locks.specs.Site.{is_here};
@@ -54,6 +54,8 @@ impl<D: Disk> Node<Ckpt<D>> {
         // Its one entry is the Version record alone.
         ensures entries { IfOk result
             (λ node. ⟦<Ckpt<D> as EntryLog>⟧.listed node.log.log ≡ version_entry ∷ []) }
+        ensures generation { IfOk result
+            (λ node. ⟦<Ckpt<D> as EntryLog>⟧.generation node.log.log ≡ 1) }
         ensures number { IfOk result (λ node. node.core.number ≡ number) }
         ensures objects { IfOk result (λ node. node.objects ≡ objects) }
         ensures running { IfOk result (λ node. IsFalse node.log.halted) }
@@ -112,6 +114,8 @@ impl<D: Disk> Node<Ckpt<D>> {
         ensures moment { D.moment result ≡ ⟦<Ckpt<D> as EntryLog>⟧.moment self.log.log }
         ensures seen { D.seen result ≡ ⟦<Ckpt<D> as EntryLog>⟧.seen self.log.log }
         ensures reads { read_ckpt (D.seen result) ≡ ⟦<Ckpt<D> as EntryLog>⟧.reads self.log.log }
+        ensures numbered { generation_of (D.seen result)
+            ≡ ⟦<Ckpt<D> as CheckpointLog>⟧.numbered self.log.log }
         ensures passes { D.passes result ≡ ⟦<Ckpt<D> as EntryLog>⟧.passes self.log.log }
         ensures faults { D.faults result ≡ ⟦<Ckpt<D> as EntryLog>⟧.faults self.log.log }
         ensures faults_within { D.faults_within result
@@ -171,6 +175,7 @@ impl<L: CheckpointLog + StopLog> Node<L> {
         ensures objects { self.new.objects ≡ self.old.objects }
         ensures halted_at { self.new.halted_at ≡ self.old.halted_at }
         ensures listed { L.listed self.new.log.log ≡ L.listed self.old.log.log }
+        ensures generation { L.generation self.new.log.log ≡ L.generation self.old.log.log }
         ensures halted { self.new.log.halted ≡ self.old.log.halted }
         ensures tells { L.tells self.new.log.log ≡ L.tells self.old.log.log }
         ensures stays { Stays (L.moment self.old.log.log) (L.moment self.new.log.log)
@@ -190,6 +195,7 @@ impl<L: CheckpointLog + StopLog> Node<L> {
         ensures objects { self.new.objects ≡ self.old.objects }
         ensures halted_at { self.new.halted_at ≡ self.old.halted_at }
         ensures listed { L.listed self.new.log.log ≡ L.listed self.old.log.log }
+        ensures generation { L.generation self.new.log.log ≡ L.generation self.old.log.log }
         ensures halted { self.new.log.halted ≡ self.old.log.halted }
         ensures tells { L.tells self.new.log.log ≡ L.tells self.old.log.log }
         ensures stays { Stays (L.moment self.old.log.log) (L.moment self.new.log.log)

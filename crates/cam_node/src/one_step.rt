@@ -179,6 +179,7 @@ impl<L: CheckpointLog> Node<L> {
             (L.opens_since self.old.log.log) (L.opens_since self.new.log.log)
             (L.seen self.old.log.log) (L.seen self.new.log.log) }
         ensures number { self.new.core.number ≡ self.old.core.number }
+        ensures generation { L.generation self.new.log.log ≡ L.generation self.old.log.log }
         ensures disk_fault { IsErrOf result DiskFault
             → Rose (L.faults self.old.log.log) (L.faults self.new.log.log)
             × IsTrue self.new.log.halted }
@@ -252,6 +253,7 @@ impl<L: CheckpointLog> Node<L> {
             (L.opens_since self.old.log.log) (L.opens_since self.new.log.log)
             (L.seen self.old.log.log) (L.seen self.new.log.log) }
         ensures number { self.new.core.number ≡ self.old.core.number }
+        ensures generation { L.generation self.new.log.log ≡ L.generation self.old.log.log }
         ensures halted_version { IsTrue self.new.log.halted → AreOf 2 (planned_records (answers
             self.old.core).know.counts plan) }
         ensures any_moment { IsTrue (L.tells self.old.log.log)

@@ -3,7 +3,7 @@ ghost use Rattle.cam_node.specs.OrderLaws.{NothingIsInOrder, DroppingKeepsOrder,
 ghost use Rattle.cam_node.specs.OrderLaws.{CallsKeepOrder, RestartKeepsOrder};
 ghost use Rattle.cam_node.specs.PlanOrder.{PlansKeepOrder};
 
-/// What a node's log holds is in the order in which it was performed, and so is what is live behind
+/// What a node's log holds is in the order in which it was performed, and so is what is live after
 /// it: at first; after an event that performs and secures nothing; after one that secures a family,
 /// of which the log holds what is live; after that of a call that came; and after a restart. The
 /// next index of the table is at most the number of the operations that the node has performed.

@@ -28,7 +28,7 @@ impl Core {
         Ok(learnt)
     }
 
-    /// The plan of a letter whose rule makes this behind the first Informs.
+    /// The plan of a letter whose rule makes this after the first Informs.
     pub(crate) fn planned(
         &self,
         id: &LetterId,

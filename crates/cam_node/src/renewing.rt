@@ -1,6 +1,7 @@
 //! The restart of a node: it reads its log again, and goes on from what that keeps.
 ghost use Rattle.std.specs.Prelude.{◌≡◌, ◌≤◌, [], None, IsTrue, IsFalse, IfOk, OnOk, OnErr, IsErrOf};
 ghost use Rattle.cam_base.specs.Causes.{Rose};
+ghost use Rattle.cam_ckpt.specs.Opening.{HasNextNumber, next_number};
 ghost use Rattle.cam_locks.specs.Restored.{CanRestore};
 ghost use Rattle.cam_log.specs.Moments.{Grows};
 ghost use Rattle.cam_node.specs.declared.fault.NodeFault.TheVariants.{DiskFault};
@@ -135,6 +136,13 @@ impl<L: CheckpointLog> Node<L> {
         // The log lists one entry then, unless the number of its list is the last.
         ensures one_entry { OnOk result
             (HasOneEntry (L.generation self.new.log.log) (L.listed self.new.log.log)) }
+        // Of a disk that tells its list has the number after that of the list which was read, and
+        // so after the present one where the node was not halted.
+        ensures numbered { IsTrue (L.tells self.old.log.log) → OnOk result
+            (HasNextNumber (L.numbered self.old.log.log) (L.generation self.new.log.log)) }
+        ensures generation { IsTrue (L.tells self.old.log.log) → IsFalse self.old.log.halted
+            → OnOk result (L.generation self.new.log.log
+            ≡ next_number (L.generation self.old.log.log)) }
         ensures runs { OnOk result (IsFalse self.new.log.halted) }
         ensures goes_on { OnOk result (self.new.halted_at ≡ None) }
         ensures halted { OnErr result (IsTrue self.new.log.halted) }

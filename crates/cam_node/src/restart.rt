@@ -1,10 +1,10 @@
 // What a restart reads of a node's log, and what it puts in its place.
-ghost use Rattle.std.specs.Prelude.{◌≡◌, ◌≤◌, ◌<◌, true, [], ◌∷◌, IsTrue, IsFalse, OnOk, OnErr, IfOk, IsErrOf, Ok as Opens, None};
+ghost use Rattle.std.specs.Prelude.{◌≡◌, ◌≤◌, ◌<◌, true, [], ◌∷◌, IsTrue, IsFalse, OnOk, OnErr, IfOk, IsErrOf, Ok as Opens, Some, None};
 ghost use Rattle.std.specs.List.{AllByRecursion};
 ghost use Rattle.cam_base.specs.Causes.{Rose};
 ghost use Rattle.cam_bytes.specs.Ranges.{IsFrom};
 ghost use Rattle.cam_log.specs.Moments.{Opened, Grows, AddsNothing};
-ghost use Rattle.cam_ckpt.specs.Opening.{can_follow};
+ghost use Rattle.cam_ckpt.specs.Opening.{can_follow, HasNextNumber, next_number};
 ghost use Rattle.cam_recman.specs.declared.Recovered.{Recovered as Recovery};
 ghost use Rattle.cam_recman.specs.declared.Record.TheVariants.{Count};
 ghost use Rattle.cam_recman.specs.Ranges.{IsHeld};
@@ -52,6 +52,10 @@ fn read_again<L: CheckpointLog>(alloc: Global, log: &mut L) -> Result<Recovered,
         (L.opens_since log.old (L.moment log.old) (Opens (L.listed log.new))) }
     ensures read_now { IsTrue (L.tells log.old)
         → OnOk result (Opens (L.listed log.new) ≡ L.reads log.old) }
+    ensures numbered { IsTrue (L.tells log.old)
+        → OnOk result (L.numbered log.old ≡ Some (L.generation log.new)) }
+    ensures generation { IsTrue (L.tells log.old) → IsFalse (L.broken log.old)
+        → OnOk result (L.generation log.new ≡ L.generation log.old) }
     ensures whole { OnOk result (IsFalse (L.broken log.new)) }
     ensures any_moment { IsTrue (L.tells log.old)
         → AddsNothing (L.moment log.old) (L.moment log.new)
@@ -107,7 +111,7 @@ fn entry_of_count(alloc: Global, count: u32) -> Result<Vec<u8>, NoMemory>
 }
 
 /// Puts the one entry that keeps all of this in place of a log's entries. Where the log's list cannot be replaced, as the number of its
-/// generation is the last, the raised count goes behind them.
+/// generation is the last, the raised count goes after them.
 fn keep<L: CheckpointLog>(alloc: Global, log: &mut L, kept: &Recovered) -> Result<(), NodeFault>
     requires whole { IsFalse (L.broken log.old) }
     requires count { IsFrom 2 1000000000 kept.now.count }
@@ -118,6 +122,7 @@ fn keep<L: CheckpointLog>(alloc: Global, log: &mut L, kept: &Recovered) -> Resul
     ensures replaced { OnOk result (IsReplaced (L.generation log.new) kept.now (L.listed log.new)) }
     ensures says { (r : Recovery) → Says (L.listed log.old) r → OnOk result (Says (L.listed log.new)
         (kept_by (can_follow (L.broken log.old) (L.generation log.old)) r kept.now)) }
+    ensures generation { OnOk result (L.generation log.new ≡ next_number (L.generation log.old)) }
     ensures whole { OnOk result (IsFalse (L.broken log.new)) }
     ensures any_moment { (r : Recovery) → IsTrue (L.tells log.old) → Says (L.listed log.old) r
         → Grows (L.moment log.old) (L.moment log.new) (L.opens_since log.old) (L.opens_since log.new)
@@ -160,7 +165,7 @@ pub(crate) struct Reread {
 
 impl<L: CheckpointLog> NodeLog<L> {
     /// Restarts the node's log: reads the disk again, and puts one entry of all that is kept then, with the count that is one more, in place
-    /// of what it read. Where the log's list cannot be replaced, as the number of its generation is the last, the raised count goes behind
+    /// of what it read. Where the log's list cannot be replaced, as the number of its generation is the last, the raised count goes after
     /// the entries. It answers what is kept.
     ///
     /// At any moment of the call a crash leaves a log as it could leave it before, or as the restart of one of those. `DiskFault` comes where
@@ -180,6 +185,10 @@ impl<L: CheckpointLog> NodeLog<L> {
         // Unless the log's list has the last number, what is kept is the one entry that it lists.
         ensures replaced { IfOk result (λ reread.
             IsReplaced (L.generation self.new.log) reread.kept (L.listed self.new.log)) }
+        ensures numbered { IsTrue (L.tells self.old.log) → OnOk result
+            (HasNextNumber (L.numbered self.old.log) (L.generation self.new.log)) }
+        ensures generation { IsTrue (L.tells self.old.log) → IsFalse self.old.halted
+            → OnOk result (L.generation self.new.log ≡ next_number (L.generation self.old.log)) }
         ensures runs { OnOk result (IsFalse self.new.halted) }
         ensures halted { OnErr result (IsTrue self.new.halted) }
         ensures unbounded { L.passes self.old.log ≡ None → L.passes self.new.log ≡ None }

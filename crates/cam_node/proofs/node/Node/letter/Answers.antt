@@ -127,6 +127,7 @@ returns-in_ok-plan-in_default g c =
       broken = then.broken;
       stopped = then.stopped;
       number = then.number ∙ c.comes.ensures.same.number;
+      generation = then.generation;
       runs = then.runs;
       same = then.same old (λ new stays. subst (AreSame old) (sym stays) c.comes.ensures.same);
       halt = λ tells halted. then.halt tells halted _ _ _ old may;
