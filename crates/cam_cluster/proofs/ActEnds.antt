@@ -50,7 +50,8 @@ module _ (line v : ℕ) (want : Want) (act_is : Act) (old new : LinesFields)
 
   pub makes_line : (result : Result Put LineFault)
       → IsRequestLine line v want old might new may result
-      → IsVariableLine line act_is (request_of (action_of old.bound v) want) old might new may result
+      → IsVariableLine line act_is (request_of (action_of old.bound v) want) old might new may
+      result
   makes_line result has input its script st halts later is keeps next =
       has script st halts act_is later is keeps next (makes script st is keeps next) input its
 
@@ -118,7 +119,8 @@ module _ (line s v : ℕ) (old new : LinesFields) (might may : ℕ → Logged �
 
   pub query_line : (a : Name) → action_of old.bound v ≡ Some a → (result : Result Put LineFault)
       → IsTriedLine line s (inputs.Query (family a)) old might new may result
-      → IsVariableLine line (acts.Query s v) (query_of s (action_of old.bound v)) old might new may result
+      → IsVariableLine line (acts.Query s v) (query_of s (action_of old.bound v)) old might new may
+      result
   query_line a at result has input its script st halts later is keeps next =
       subst (λ (i : Input). IsEnded script st
       (setting (by_knowledge script.objects) halts

@@ -62,7 +62,8 @@ module _ (line : ℕ) (bodies : List (List Statement)) (old : WorksFields)
             keeps = some.keeps.runs;
             are_workers = up.0;
             placed =
-                subst (AllByRecursion (IsAtNode some.script.nodes)) (sym (are_names some.standing up.1))
+                subst (AllByRecursion (IsAtNode some.script.nodes))
+                (sym (are_names some.standing up.1))
                 (kept_all (IsAtNode some.script.nodes) (plays_on caught)
                 (in_order some.standing.running.bodies)
                 (in_order_placed some.script.nodes some.standing.running.bodies some.placed));

@@ -1,7 +1,7 @@
 -- A cluster before its first line: its nodes are new, and the disks are back where none is made.
-use Rattle.std.proofs.Common.{◌≡◌, ◌∙◌, ◌≤◌, ◌<◌, ◌+◌, ℕ, zero, suc, Bool, true, false, List, [], ◌∷◌}
-use Rattle.std.proofs.Common.{◌++◌, length, map, Ok, Err, refl, sym, ap, subst, arith}
-use Rattle.std.proofs.Common.{true≢false, Option, Some, None, ◌-◌}
+use Rattle.std.proofs.Common.{◌≡◌, ◌∙◌, ◌+◌, ℕ, zero, suc, Bool, true, false, List, [], ◌∷◌, ◌++◌}
+use Rattle.std.proofs.Common.{length, map, Ok, Err, refl, sym, ap, subst, arith, true≢false, Option}
+use Rattle.std.proofs.Common.{Some, None, ◌-◌}
 use Rattle.std.proofs.lemmas.List.{length-map}
 use Rattle.std.proofs.lemmas.Option.{same_Some, slice_get_past}
 use Rattle.std.specs.Option.{unwrap_or}
@@ -71,11 +71,13 @@ new_last part objects s nodes all node place is new last =
     subst (AreNewNodes part objects 1) (sym is)
     (new_behind part objects 1 s nodes node (omega (arith, place)) new last)
 
-awake : (s : ℕ) → is_halted (false ∷ false ∷ false ∷ false ∷ false ∷ false ∷ false ∷ false ∷ []) s ≡ false
+awake : (s : ℕ) → is_halted (false ∷ false ∷ false ∷ false ∷ false ∷ false ∷ false ∷ false ∷ []) s
+    ≡ false
 awake s = by (s - 1)
   where
     by : (k : ℕ)
-        → unwrap_or (slice_get (false ∷ false ∷ false ∷ false ∷ false ∷ false ∷ false ∷ false ∷ []) k) false
+        → unwrap_or (slice_get (false ∷ false ∷ false ∷ false ∷ false ∷ false ∷ false ∷ false ∷ [])
+        k) false
         ≡ false
     by zero = refl
     by (suc zero) = refl
@@ -106,7 +108,8 @@ module _ {N : Type 0} (part : N → NodeFields) (objects : List ObjectDecl) wher
   node_over : (s : ℕ) (nodes : List N) (place : ℕ) (node : NodeFields)
       → AreNewNodes part objects s nodes → slice_get (map part nodes) place ≡ Some node
       → IsNodeOf objects (new_works []).halted (place + 1) node
-  node_over s [] place node new at = absurd (none_is_not node (sym (slice_get_past [] place (omega arith)) ∙ at))
+  node_over s [] place node new at =
+      absurd (none_is_not node (sym (slice_get_past [] place (omega arith)) ∙ at))
   node_over s (n ∷ nodes) zero node new at =
       subst (IsNodeOf objects (new_works []).halted 1) (same_Some (part n) node at)
       (record { over = new.0.over; is_halted = new.0.running ∙ sym (awake 1) })

@@ -24,8 +24,8 @@ module _ (line place node : ℕ) (back : place + 1 ≡ node) (old new : LinesFie
       → HasLed line place inputs.Begin old might done new may
       → IsLineOfInput line (acts.Begin node) (Begins node) old might new may (Ok done)
   begin_led done there runs has =
-      subst (λ (n : ℕ). IsLineOfInput line (acts.Begin n) (Begins n) old might new may (Ok done)) back
-      (λ script st halts later is keeps next.
+      subst (λ (n : ℕ). IsLineOfInput line (acts.Begin n) (Begins n) old might new may (Ok done))
+      back (λ script st halts later is keeps next.
       begun script st halts later line place old might is keeps there next done new may runs has)
 
   pub begin_refused : place < length old.works.nodes
@@ -37,7 +37,8 @@ module _ (line place node : ℕ) (back : place + 1 ≡ node) (old new : LinesFie
       subst (λ (n : ℕ). IsLineOfInput line (acts.Begin n) (Begins n) old might new may
       (Err (line_faults.Refused refusals.Halted))) back
       (λ script st halts later is keeps next.
-      begun_refused script st halts later line place old might is keeps there next new may stops has)
+      begun_refused script st halts later line place old might is keeps there next new may stops
+      has)
 
   pub begin_wanting : KeepsLinesAsBefore old might new may
       → IsLineOfInput line (acts.Begin node) (Begins node) old might new may

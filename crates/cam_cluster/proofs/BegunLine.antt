@@ -132,7 +132,11 @@ module _ (script : Script) (st : Standing) (halts : Halting) (later : List Step)
       awake = sym (told_halted script st old.works might is keeps.runs place there) ∙ runs
 
       node : IsNode (place + 1)
-      node = (omega arith, let few = within script st old.works might is keeps.runs place there in omega (arith, few))
+      node = (
+        omega arith,
+        let few = within script st old.works might is keeps.runs place there in
+            omega (arith, few),
+      )
 
       passes : act c script.bodies st (acts.Begin (place + 1)) ≡ leads
       passes = ap (λ (b : Bool). unless (where_so b refusals.Halted) leads) awake

@@ -39,7 +39,8 @@ pub given_keeps : (script : Script) (body : Option ℕ) (b : Option Name) (st : 
     → KeepsRun script st works may → KeepsRun script (given_body body b st) works may
 given_keeps script (Some n) (Some b) st works may under keeps =
     keeps_others script st (given_body (Some n) (Some b) st) works works.marks may
-    (record { trace = refl; lost = refl; delivered = refl }) refl refl refl keeps.all_marks under keeps
+    (record { trace = refl; lost = refl; delivered = refl }) refl refl refl keeps.all_marks under
+    keeps
 given_keeps script (Some n) None st works may under keeps = keeps
 given_keeps script None b st works may under keeps = keeps
 

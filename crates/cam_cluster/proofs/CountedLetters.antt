@@ -1,6 +1,8 @@
 -- The letter of a number, found by how many letters were sent until each event.
-use Rattle.std.proofs.Common.{◌≡◌, ℕ, zero, suc, ◌+◌, ◌-◌, ◌^◌, ◌≤◌, ◌<◌, List, [], ◌∷◌, get_or, length}
-use Rattle.std.proofs.Common.{if◌then◌else◌, inl, inr, Some, None, sym, ap, ◌∙◌, subst, true, false, arith}
+use Rattle.std.proofs.Common.{◌≡◌, ℕ, zero, suc, ◌+◌, ◌-◌, ◌^◌, ◌≤◌, ◌<◌, List, [], ◌∷◌, get_or}
+use Rattle.std.proofs.Common.{length}
+use Rattle.std.proofs.Common.{if◌then◌else◌, inl, inr, Some, None, sym, ap, ◌∙◌, subst, true, false}
+use Rattle.std.proofs.Common.{arith}
 use Rattle.std.specs.Prelude.{min, ltb, reverse, slice_get}
 use Rattle.std.specs.List.Sorted.{IsNonDecreasingBy, IsPartitionPoint, IsPartitionedBy}
 use Rattle.std.proofs.lemmas.Bool.{ne_eqb, true≢false}
@@ -16,19 +18,22 @@ use Rattle.cam_cluster.specs.LetterCounts.{count_before, letter_counts, most_let
 use Rattle.cam_cluster.proofs.Letters.{behind_front, in_front}
 use Rattle.cam_cluster.proofs.NumberedLetters.{id_there}
 use Rattle.cam_cluster.proofs.LetterCounts.{last_count, one_more, before_stays, count_stays}
-use Rattle.cam_cluster.proofs.LetterCounts.{as_many, newest_count, min_low, min_is, counts_low, counts_rise}
+use Rattle.cam_cluster.proofs.LetterCounts.{as_many, newest_count, min_low, min_is, counts_low}
+use Rattle.cam_cluster.proofs.LetterCounts.{counts_rise}
 
 abbrev id_at : ℕ → ℕ → LetterId
 id_at event place = record { event = event; place = place }
 
--- The letter at a place among all is in the first event until which more were sent than lie before it.
+-- The letter at a place among all is in the first event until which more were sent than lie before
+-- it.
 pub there : (t : List Event) (k p : ℕ) → k < most_letters → p < length t
     → k < get_or (letter_counts t) p 0 → count_before (letter_counts t) p ≤ k
     → slice_get (letters t) k
     ≡ Some (record { event = p; place = k - count_before (letter_counts t) p })
 there [] k p few low less more = absurd (omega (arith, low))
 there (e ∷ t) k p few low less more =
-    elim (leb_tells (length t) p) [ inl at ↦ newest (at_end at.1) | inr at ↦ older at.1 (there t k p few at.1) ]
+    elim (leb_tells (length t) p)
+    [ inl at ↦ newest (at_end at.1) | inr at ↦ older at.1 (there t k p few at.1) ]
   where
     c : ℕ
     c = min most_letters (length (letters (e ∷ t)))

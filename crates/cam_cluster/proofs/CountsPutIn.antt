@@ -146,7 +146,8 @@ counts_inserted place p e events now counts are mute low is =
         ap (λ es. reverse es) is
         ∙ reverse-append (take p events) (e ∷ map f (drop p events))
         ∙ ap (λ us. us ++ before)
-        (newest e (map f (drop p events)) ∙ ap (λ us. us ++ e ∷ []) (reversed_map f (drop p events)))
+        (newest e (map f (drop p events))
+        ∙ ap (λ us. us ++ e ∷ []) (reversed_map f (drop p events)))
         ∙ assoc (map f behind) (e ∷ []) before
 
 -- The event is put in behind those that stay.

@@ -113,5 +113,5 @@ taken_at_work step bodies old new might may at_work (Ok bad) alone none taken se
     }
 taken_at_work step bodies old new might may at_work (Err fault) alone none taken seen keeps next
     same =
-    fault_at_work step bodies old new might may at_work at_work fault alone (λ st are. are) taken seen
-    keeps next same
+    fault_at_work step bodies old new might may at_work at_work fault alone (λ st are. are) taken
+    seen keeps next same

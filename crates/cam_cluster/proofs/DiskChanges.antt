@@ -78,7 +78,8 @@ stop_keeps script st works might may place calls old nodes less there are keeps 
       → IsHaltOf script.objects st.running.trace st.undecided (q + 1) n (may (q + 1)))
       (λ said. with_node (halt_read script.objects st.running.trace st.undecided (place + 1) old
       (might (place + 1)) (may (place + 1))
-      (λ logged read. less (place + 1) logged (omega arith) read) (keeps.halts place old there said)))
+      (λ logged read. less (place + 1) logged (omega arith) read)
+      (keeps.halts place old there said)))
       (λ at said. halt_read script.objects st.running.trace st.undecided (q + 1) n
       (might (q + 1)) (may (q + 1)) (λ logged read. less (q + 1) logged (omega arith) read)
       (keeps.halts q n at said))

@@ -53,15 +53,15 @@ module _ (line : ℕ) (old new : WorksFields) (might may : ℕ → Logged → Ty
     drained = λ script st halts later is keeps next said.
         let c = setting (by_knowledge script.objects) halts
         (record { line = line; act = acts.Drain }) later in
-        let so = has.drained script st halts (λ s. list_any (is_restart s) later) is keeps.runs said in
-        record {
+        let so = has.drained script st halts (λ s. list_any (is_restart s) later) is keeps.runs
+        said in record {
           due = so.due;
           over = so.over;
           stands = record {
             runs =
                 keeps_others script (drain c st) (after_line st line (Led (drain c st) None)) new
-                new.marks may (record { trace = refl; lost = refl; delivered = refl }) refl refl refl
-                so.stands.all_marks
+                new.marks may (record { trace = refl; lost = refl; delivered = refl }) refl refl
+                refl so.stands.all_marks
                 (next_leads script st (record { line = line; act = acts.Drain }) halts later is
                 keeps.runs.under next) so.stands;
             variables =

@@ -17,7 +17,8 @@ use Rattle.cam_cluster.specs.Seen.{IsNextStep, Seen, later_steps, setting_in}
 use Rattle.cam_cluster.specs.SoFar.{LinesFields}
 use Rattle.cam_cluster.specs.Taking.{HasDrainedPart, IsStepTaken}
 use Rattle.cam_cluster.proofs.Drains.{drain_is}
-use Rattle.cam_cluster.proofs.EndsSaid.{deliveries_said, from_high, from_lost, from_low, from_newest}
+use Rattle.cam_cluster.proofs.EndsSaid.{deliveries_said, from_high, from_lost, from_low}
+use Rattle.cam_cluster.proofs.EndsSaid.{from_newest}
 use Rattle.cam_cluster.proofs.EndsSaid.{given_said, handed_over}
 use Rattle.cam_cluster.proofs.GoesOn.{goes_on}
 use Rattle.cam_cluster.proofs.NextLine.{held_is}
@@ -48,7 +49,8 @@ module _ (line : ℕ) (old new : LinesFields) (might may : ℕ → Logged → Ty
       of_line = of_line;
       passed = refl;
       stands =
-          goes_on seen step (more seen has.ends) old new might may keeps next of_line drained.stands;
+          goes_on seen step (more seen has.ends) old new might may keeps next of_line
+          drained.stands;
     },
     refl,
   )

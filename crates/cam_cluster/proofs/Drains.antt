@@ -80,7 +80,8 @@ and_next line old mid new might mays may done some has = record {
   ends = some.ends ++ done ∷ [];
   delivered = λ script st halts restarted is keeps said.
       let c = held_setting script.objects halts line restarted in
-      let so = some.delivered script st halts restarted is keeps (said_front c done some.ends st said) in
+      let so = some.delivered script st halts restarted is keeps
+      (said_front c done some.ends st said) in
       let at = deliveries c (length some.ends) st in
       let next = has script at halts restarted is so.stands in
       record {

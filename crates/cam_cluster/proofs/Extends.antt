@@ -23,7 +23,8 @@ pub record Extends (halts : List Halt) (old new : Standing) : Type 0 where
   pub turns : new.turns ≡ more ++ old.turns
   pub lost :
       NoneTaken halts (accepted old.turns) → AreLostSoFar old halts → AreLostSoFar new halts
-  -- where the nodes that are halted are by the stops, they were, and halts that agree with the stops
+  -- where the nodes that are halted are by the stops, they were, and halts that agree with the
+  -- stops
   -- go on agreeing
   pub stopped : AreAsStopped new.halted new.turns → AreAsStopped old.halted old.turns
   pub agrees :

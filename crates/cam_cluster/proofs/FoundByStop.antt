@@ -84,8 +84,8 @@ module _ {N : Type 0} (part : N → NodeFields) (tells : N → Bool) (may : N �
       ends.Stood
   none_by_stop none script st is keeps sound said =
       none_found script st place (seen part tells may nodes o h v u e m)
-      (MayReadAt tells may nodes) (part old) keeps (seen_there part nodes place old there) sound said
-      found finds
+      (MayReadAt tells may nodes) (part old) keeps (seen_there part nodes place old there) sound
+      said found finds
       (none (keeps.whole.network.stands.nodes (place + 1) (omega arith) (omega (arith, within))
       ∙ said))
 
@@ -94,5 +94,5 @@ module _ {N : Type 0} (part : N → NodeFields) (tells : N → Bool) (may : N �
       ends.Found
   some_by_stop event some script st is keeps sound said =
       some_found script st place (seen part tells may nodes o h v u e m)
-      (MayReadAt tells may nodes) (part old) keeps (seen_there part nodes place old there) sound said
-      found finds event some
+      (MayReadAt tells may nodes) (part old) keeps (seen_there part nodes place old there) sound
+      said found finds event some

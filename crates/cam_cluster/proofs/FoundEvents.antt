@@ -64,7 +64,8 @@ module _ (script : Script) (st found : Standing) (place : ℕ) (k : ℕ) (before
       pub event_is : taken_with e.got event ≡ e
       event_is =
           taken_is event halt.whole (received_at script.objects st.running.trace u) told.0
-          (halt.alike ∙ ap (λ v. nameless (received_at script.objects st.running.trace v)) same_halt)
+          (halt.alike ∙ ap (λ v. nameless (received_at script.objects st.running.trace v))
+          same_halt)
 
       pub log_is : IsLogOf script.objects s (history_of script.objects found.running.trace s) logged
       log_is =

@@ -51,7 +51,8 @@ module _ (turns : List Turn) (s : ℕ) where
       by false rest = (all_taken (λ (n : ℕ). n < h.input) hs newest.0, rest)
 
 module _ (seen : Seen) (lines : LinesFields) (may : ℕ → Logged → Type 0)
-    (keeps : KeepsBetween seen lines may) (s : ℕ) (halted : has_number seen.standing.halted s ≡ true)
+    (keeps : KeepsBetween seen lines may) (s : ℕ)
+    (halted : has_number seen.standing.halted s ≡ true)
   where
     abbrev pub from : Seen
     from = seen_found seen s
@@ -97,8 +98,8 @@ module _ (seen : Seen) (lines : LinesFields) (may : ℕ → Logged → Type 0)
       newest = newest_taken seen.standing.turns s seen.halts keeps.newest;
       past =
           all_taken seen.standing.turns s (λ (n : ℕ). n < accepted from.standing.turns) seen.halts
-          (subst (λ (ts : List Turn). AllByRecursion (λ (h : Halt). h.input < accepted ts) seen.halts)
-          (sym turns_same) keeps.past);
+          (subst (λ (ts : List Turn). AllByRecursion (λ (h : Halt). h.input < accepted ts)
+          seen.halts) (sym turns_same) keeps.past);
     }
 
     pub found_next : (step : Step) → IsNextStep seen step → IsNextStep from step

@@ -98,8 +98,8 @@ module _ (line v : ℕ) (bodies : List (List Statement)) (old new : LinesFields)
       led = led_goes seen step old new might may keeps.between next (Begins 1) done led counts;
       workers =
           subst (λ (m : List Halt). AreWorkers (after_step seen step m).standing behind)
-          (sym (led_halts seen step old new might may keeps.between next (Begins 1) done led counts))
-          (workers_held more gone_so.workers);
+          (sym (led_halts seen step old new might may keeps.between next (Begins 1) done led
+          counts)) (workers_held more gone_so.workers);
       fault = refl;
     }
       where

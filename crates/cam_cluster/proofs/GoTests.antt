@@ -47,7 +47,8 @@ module _ (line v : ℕ) (bodies : List (List Statement)) (old new : LinesFields)
       → IsRefusedAs line refusals.Unbound old might new may fault
       → IsLineOfGo line v bodies old might before new may before (Err fault)
   go_unbound none fault has =
-      refused_so line v bodies old new might may before refusals.Unbound fault (λ script st is keeps.
+      refused_so line v bodies old new might may before refusals.Unbound fault
+      (λ script st is keeps.
       let at = stands_for script st old might v None keeps.lines none in (
         ap (λ o. test_variable o (λ a. halted_or st (home_node a) (go_refusal (home_sight
             (by_knowledge script.objects) st.running a) a))) at,
@@ -144,7 +145,8 @@ module _ (line v : ℕ) (bodies : List (List Statement)) (old new : LinesFields)
           → IsRefusedAs line refusals.Halted old might new may fault
           → IsLineOfGo line v bodies old might before new may before (Err fault)
       go_halted stops fault has =
-          refused_so line v bodies old new might may before refusals.Halted fault (λ script st is keeps.
+          refused_so line v bodies old new might may before refusals.Halted fault
+          (λ script st is keeps.
           let said = says_by script st true is keeps stops in (
             tested script st (Some refusals.Halted) keeps said,
             taken script st (Some

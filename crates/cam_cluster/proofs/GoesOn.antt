@@ -132,14 +132,15 @@ module _ (seen : Seen) (step : Step) (more : List Halt) (new : LinesFields)
   run_goes_on made = record {
     is_script = keeps.is_script;
     keeps =
-        subst (λ (p : Passed). KeepsLines seen.script (after_line st step.line p) new may) agree made;
+        subst (λ (p : Passed). KeepsLines seen.script (after_line st step.line p) new may) agree
+        made;
     between = stands;
     newest =
         newest_behind (accepted st.turns) more seen.halts halts.newest keeps.newest halts.low
         keeps.past;
     past =
-        all_behind (λ (h : Halt). h.input < accepted (after_step seen step more).standing.turns) more
-        seen.halts halts.high
+        all_behind (λ (h : Halt). h.input < accepted (after_step seen step more).standing.turns)
+        more seen.halts halts.high
         (all_so (λ (h : Halt). h.input < accepted st.turns)
         (λ (h : Halt). h.input < accepted (after_step seen step more).standing.turns) seen.halts
         (λ h less. let so = grown in omega (arith, less, so)) keeps.past);

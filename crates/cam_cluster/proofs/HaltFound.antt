@@ -80,7 +80,8 @@ module _ (script : Script) (st found : Standing) (place : ℕ) (k : ℕ) (before
       ∙ longer beyond.stands.behind
       ∙ ap (λ (t : List Event). length t + 1) (sym beyond.stands.was)
     where
-      longer : (behind : List Event) → length (put_in behind e before) ≡ length (behind ++ before) + 1
+      longer : (behind : List Event) → length (put_in behind e before)
+          ≡ length (behind ++ before) + 1
       longer behind = put_in_length before e behind
 
   -- the event stands at its place
@@ -135,7 +136,8 @@ module _ (script : Script) (st found : Standing) (place : ℕ) (k : ℕ) (before
           ∙ ap (λ (hs : List OpenHalt). open_without s (open_beside s p hs)) keeps.undecided
           ∙ ap (open_without s)
           (beside_open s p (length st.running.trace) (length st.running.trace) st.undecided
-          keeps.sent keeps.under.placed (let low : length st.running.trace ≤ length st.running.trace = omega arith in low) few)
+          keeps.sent keeps.under.placed
+          (let low : length st.running.trace ≤ length st.running.trace = omega arith in low) few)
           ∙ sym (others_open s (undecided_beside s p st.undecided))
           ∙ ap (λ (us : List Undecided). map open_halt (without_node s us)) (sym undecided_are);
       sent =

@@ -41,7 +41,8 @@ undecided_on objects old new s more trace same placed u is = record {
 pub halt_stays : (objects : List ObjectDecl) (old new : Standing) (s : ℕ) (node : NodeFields)
     (might may : Logged → Type 0)
     → AreAlike (history_of objects old.running.trace s) (history_of objects new.running.trace s)
-    → ((u : Undecided) → undecided_of s old.undecided ≡ Some u → IsUndecidedAlike objects s u old new)
+    → ((u : Undecided) → undecided_of s old.undecided ≡ Some u
+    → IsUndecidedAlike objects s u old new)
     → ((logged : Logged) → may logged → might logged)
     → IsHaltOf objects old.running.trace old.undecided s node might
     → IsHaltOf objects new.running.trace new.undecided s node may

@@ -1,6 +1,6 @@
 -- Disks that are handed over and back: one after another, and one of them changed.
-use Rattle.std.proofs.Common.{◌≡◌, ◌≤◌, ℕ, zero, suc, ◌+◌, ◌-◌, Bool, List, [], ◌∷◌, length, set}
-use Rattle.std.proofs.Common.{Some, refl, sym, ap, ◌∙◌, subst, arith}
+use Rattle.std.proofs.Common.{◌≡◌, ◌≤◌, ℕ, zero, suc, ◌-◌, Bool, List, [], ◌∷◌, length, set, Some}
+use Rattle.std.proofs.Common.{refl, sym, ap, ◌∙◌, subst, arith}
 use Rattle.std.specs.Prelude.{map, slice_get}
 use Rattle.std.proofs.lemmas.Option.{none-some, same_Some}
 use Rattle.cam_base.specs.Causes.{Rose}
@@ -23,8 +23,11 @@ one_later tells faults_of (disk ∷ disks) zero old new at is = (
   subst (λ d. IsLater tells faults_of tells faults_of d new) (sym (same_Some disk old at)) is,
   all_same tells faults_of disks,
 )
-one_later tells faults_of (disk ∷ disks) (suc place) old new at is =
-    (record { told = refl; later = omega arith }, one_later tells faults_of disks place old new at is)
+one_later tells faults_of (disk ∷ disks) (suc place) old new at is = (
+  record { told = refl; later = omega arith },
+  one_later tells faults_of disks place old new at
+      is,
+)
 
 -- a count that did not change, of one of them
 pub counts_same : {D : Type 0} (faults_of : D → ℕ) (disks : List D) (place : ℕ) (old new : D)
@@ -127,8 +130,8 @@ module _ {A B C D : Type 0} (told_first : A → Bool) (faults_first : A → ℕ)
   failed_between s first next now last one failed two =
       let was = was_at told_first faults_first told_next faults_next first next (s - 1) failed.old
       one failed.was in
-      let is = is_at told_now faults_now tells faults_of now last (s - 1) failed.new two failed.is in
-      record {
+      let is = is_at told_now faults_now tells faults_of now last (s - 1) failed.new two
+      failed.is in record {
         low = failed.low;
         high =
             let high = failed.high in

@@ -1,9 +1,10 @@
--- A letter is handed over to its node: what the node wants for the step, and what the works keep then.
-use Rattle.std.proofs.Common.{◌≡◌, ℕ, suc, ◌+◌, ◌≤◌, ◌<◌, Bool, true, false, List, [], ◌∷◌}
-use Rattle.std.proofs.Common.{get_or, true≢false, length, Option, Some, None, is_some, refl, sym, ap, ◌∙◌, subst, arith}
-use Rattle.std.specs.Prelude.{nat_lt, slice_get, IfSome, MatchOption}
+-- A letter is handed over to its node: what the node wants for the step, and what the works keep
+-- then.
+use Rattle.std.proofs.Common.{◌≡◌, ℕ, suc, ◌+◌, ◌≤◌, ◌<◌, false, List, [], ◌∷◌, length, Some}
+use Rattle.std.proofs.Common.{is_some, refl, sym, ap, ◌∙◌, subst, arith}
+use Rattle.std.specs.Prelude.{slice_get}
 use Rattle.std.specs.List.{AllByRecursion}
-use Rattle.std.proofs.lemmas.Option.{same_Some, slice_get_past, slice_get_within}
+use Rattle.std.proofs.lemmas.Option.{same_Some}
 use Rattle.cam_type.specs.declared.ObjectDecl.{ObjectDecl}
 use Rattle.cam_event.specs.declared.Event.{Event}
 use Rattle.cam_event.specs.declared.Letter.{Letter}
@@ -35,7 +36,7 @@ use Rattle.cam_cluster.specs.Puts.{HasPut, IsPutAt, as_halt}
 use Rattle.cam_cluster.specs.Works.{NodeFields, WorksFields, KeepsRun, sites_of}
 use Rattle.cam_cluster.proofs.BegunLine.{few_events, within}
 use Rattle.cam_cluster.proofs.ComingLetters.{has_it}
-use Rattle.cam_cluster.proofs.PlacedNodes.{after_is, taken_there}
+use Rattle.cam_cluster.proofs.PlacedNodes.{after_is}
 
 -- Where neither events nor halted nodes change, the nodes stand as before.
 same_sites : (objects : List ObjectDecl) (old new : Standing) (first : ℕ) (sites : List Site)

@@ -86,7 +86,8 @@ module _ (a : Name) (bodies : List (List Statement)) (works : WorksFields)
           history = history_of goes.script.objects st.running.trace (place + 1)
 
           rep : Represents goes.script.objects history node.site.node
-          rep = stands goes.script st works may goes.is_script goes.keeps place home_there home_awake
+          rep =
+              stands goes.script st works may goes.is_script goes.keeps place home_there home_awake
               node at
 
           number : node.site.node.number ≡ place + 1
@@ -96,8 +97,8 @@ module _ (a : Name) (bodies : List (List Statement)) (works : WorksFields)
       pub home_has_numbers : (node : NodeFields) → slice_get works.nodes place ≡ Some node
           → MayStep node.site.node (inputs.Request (record { action = a; want = want }))
       home_has_numbers node at =
-          numbers_left goes.script st works may goes.is_script goes.keeps place home_there home_awake
-          node at (inputs.Request (record { action = a; want = want })) home
+          numbers_left goes.script st works may goes.is_script goes.keeps place home_there
+          home_awake node at (inputs.Request (record { action = a; want = want })) home
           (asks_by_body goes.script st a goes.is_script goes.keeps.under goes.may want asks).may.1
           free
 

@@ -32,7 +32,8 @@ first_run reading f g bodies (suc n) (step ∷ steps) st =
     (first_run reading f g bodies n steps one)
 
 -- A list has nothing to say of an input before all of its own.
-pub later_says : (more halts : List Halt) (n k : ℕ) → AllByRecursion (λ (h : Halt). n ≤ h.input) more
+pub later_says : (more halts : List Halt) (n k : ℕ)
+    → AllByRecursion (λ (h : Halt). n ≤ h.input) more
     → k < n → halt_at halts k ≡ halt_at (more ++ halts) k
 later_says [] halts n k all low = refl
 later_says (h ∷ more) halts n k all low =

@@ -38,7 +38,8 @@ use Rattle.cam_cluster.specs.Works.{AreStopped, sites_of}
 pub keeps_others : (script : Script) (old new : Standing) (works : WorksFields) (ms : List Mark)
     (may : ℕ → Logged → Type 0)
     → IsSameFlight old new → new.halted ≡ old.halted → new.undecided ≡ old.undecided
-    → new.turns ≡ old.turns → ms ≡ new.running.marks → IsUnderHalts script new → KeepsRun script old works may
+    → new.turns ≡ old.turns → ms ≡ new.running.marks → IsUnderHalts script new
+    → KeepsRun script old works may
     → KeepsRun script new (record works { marks = ms }) may
 keeps_others script old new works ms may same halted undecided turns marked under keeps = record {
   under = under;
@@ -100,7 +101,8 @@ module _ (c : Setting) (st : Standing) (input : Input) where
   pub bound_stays : (done : Put) → halt_of c st input ≡ as_halt done
       → (put c st input).running.bound ≡ st.running.bound
   bound_stays puts.Stood none = ap (λ (z : Standing). z.running.bound) (is_behind None none)
-  bound_stays puts.Halted lost = ap (λ (z : Standing). z.running.bound) (is_behind (Some false) lost)
+  bound_stays puts.Halted lost =
+      ap (λ (z : Standing). z.running.bound) (is_behind (Some false) lost)
 
 nothing_bound : (input : NodeInput) → bound_by input [] ≡ None
 nothing_bound inputs.Begin = refl
@@ -109,7 +111,8 @@ nothing_bound (inputs.Letter id letter) = refl
 nothing_bound (inputs.Tell to) = refl
 nothing_bound (inputs.Query family) = refl
 
-pub binding_is : (input : NodeInput) (c : Setting) (st : Standing) (put_as : Input) (events : List Event)
+pub binding_is : (input : NodeInput) (c : Setting) (st : Standing) (put_as : Input)
+    (events : List Event)
     (done : Put) (binds : Option Name) → halt_of c st put_as ≡ as_halt done
     → events ≡ reverse (put c st put_as).running.trace → IsBinding input events done binds
     → binds ≡ bound_by input (made st (put c st put_as))
@@ -133,8 +136,8 @@ led_by line place input old new might may bound now binds done has binding is_no
     restarted is keeps put_so halts_so under = record {
       runs =
           keeps_others script after (after_put input st after) new new.marks may
-          (record { trace = refl; lost = refl; delivered = refl }) refl refl refl runs.all_marks under
-          runs;
+          (record { trace = refl; lost = refl; delivered = refl }) refl refl refl runs.all_marks
+          under runs;
       variables =
           is_now
           ∙ ap (λ (bs : List (Option Name)). bs ++ binds ∷ [])

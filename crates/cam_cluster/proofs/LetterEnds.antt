@@ -46,7 +46,8 @@ pub halted_as : (script : Script) (st : Standing) (works : WorksFields) (may : �
     → has_number st.halted (addressee st coming.letter)
     ≡ net.is_halted works.halted (suc coming.place)
 halted_as script st works may keeps none_left number coming is to =
-    let here : IsThere st coming.letter = there script st works may keeps none_left number coming.letter is in
+    let here : IsThere st coming.letter = there script st works may keeps none_left number
+    coming.letter is in
     let high = here.travels.to.1 in
     ap (has_number st.halted) to
     ∙ sym (keeps.whole.network.stands.nodes (coming.place + 1) (omega arith)
@@ -67,8 +68,8 @@ module _ (line number : ℕ) (old mid : LinesFields) (might mays : ℕ → Logge
       let kept = before script st is keeps in
       record {
         test =
-            ap (λ (o : Option LetterId). test_letter o (λ (l : LetterId). is_halted st (addressee st l)))
-            (found script st is kept.runs);
+            ap (λ (o : Option LetterId). test_letter o
+            (λ (l : LetterId). is_halted st (addressee st l))) (found script st is kept.runs);
         stands = has script st kept;
       }
 
@@ -81,8 +82,8 @@ module _ (line number : ℕ) (old mid : LinesFields) (might mays : ℕ → Logge
       let f = found script st is kept.runs in
       record {
         test =
-            ap (λ (o : Option LetterId). test_letter o (λ (l : LetterId). is_halted st (addressee st l)))
-            f.0
+            ap (λ (o : Option LetterId). test_letter o
+            (λ (l : LetterId). is_halted st (addressee st l))) f.0
             ∙ ap (λ (b : Bool). where_so b refusals.Halted)
             (halted_as script st mid.works mays kept.runs none_left number coming f.0 f.1 ∙ stops);
         stands = has script st kept;
@@ -98,7 +99,8 @@ led_letter line number old new might may bound now done has is_now script st hal
     keeps numbered halt under = record {
       runs =
           keeps_others script after (after_line st line (Led after None)) new new.marks may
-          (record { trace = refl; lost = refl; delivered = refl }) refl refl refl runs.all_marks under runs;
+          (record { trace = refl; lost = refl; delivered = refl }) refl refl refl runs.all_marks
+          under runs;
       variables =
           is_now
           ∙ ap (λ (bs : List (Option Name)). bs ++ None ∷ [])
@@ -122,8 +124,8 @@ pub marked_cut : (line number bytes : ℕ) (works : WorksFields) (ms : List Mark
     (record { works = record works { marks = ms }; bound = now }) may
 marked_cut line number bytes works ms may bound now is_marks is_now script st keeps under = record {
   runs =
-      keeps_others script st (after_line st line (Led (with_cut line number bytes st) None)) works ms
-      may (record { trace = refl; lost = refl; delivered = refl }) refl refl refl
+      keeps_others script st (after_line st line (Led (with_cut line number bytes st) None)) works
+      ms may (record { trace = refl; lost = refl; delivered = refl }) refl refl refl
       (is_marks
       ∙ ap (λ (x : List Mark). x ++ marks.Cut line number Short bytes ∷ []) keeps.runs.all_marks)
       under keeps.runs;

@@ -75,7 +75,8 @@ module _ (line number : ℕ) (coming : Coming) (old mid new : LinesFields)
   comes_to st behind numbered runs =
       ap (λ (o : Option LetterId). of_letter o
       (λ (l : LetterId). unless (is_halted st (addressee st l)) (Led (behind l) None))) numbered
-      ∙ ap (λ (b : Bool). unless (where_so b refusals.Halted) (Led (behind coming.letter) None)) runs
+      ∙ ap (λ (b : Bool). unless (where_so b refusals.Halted) (Led (behind coming.letter) None))
+      runs
 
   pub deliver_ends : (done : Put) → HasLedLetter line number mid mays done new may
       → IsLineBy line (acts.Deliver number) (IsDelivery number) old might new may (Ok done)

@@ -19,14 +19,16 @@ use Rattle.cam_cluster.proofs.RestartedWorks.{read_awake}
 
 -- The log of a node that is not halted is at rest: what may be read of it is what its entries say,
 -- and they keep the node's history.
-pub logs_kept : {N : Type 0} (part : N → NodeFields) (tells : N → Bool) (reads : N → Logged → Type 0)
+pub logs_kept : {N : Type 0} (part : N → NodeFields) (tells : N → Bool)
+    (reads : N → Logged → Type 0)
     → ((node : N) (logged : Logged) → tells node ≡ true → (part node).halted ≡ false
     → reads node logged → IsReadOf (part node).site.entries logged)
     → (seen : Seen) (works : WorksFields) (might : ℕ → Logged → Type 0) (nodes : List N)
-    → works.nodes ≡ map part nodes → seen.script.nodes ≤ 8 → KeepsRun seen.script seen.standing works might
+    → works.nodes ≡ map part nodes → seen.script.nodes ≤ 8
+    → KeepsRun seen.script seen.standing works might
     → KeepsLogs seen (MayReadAt tells reads nodes)
-logs_kept {N} part tells reads rest seen works might nodes are eight keeps s logged low high awake read =
-    subst (λ (n : ℕ). KeepsLog seen.script.objects n
+logs_kept {N} part tells reads rest seen works might nodes are eight keeps s logged low high awake
+    read = subst (λ (n : ℕ). KeepsLog seen.script.objects n
     (history_of seen.script.objects seen.standing.running.trace n) logged) here
     (read_awake seen.script seen.standing (s - 1) works might (part read.node) keeps at logged
     (ap (has_number seen.standing.halted) here ∙ awake)
@@ -58,7 +60,8 @@ module _ {N D : Type 0} (tells_node : N → Bool) (node_reads : N → Logged →
   out_of : (nodes : List N) (disks : List D) (place : ℕ) (disk : D)
       → AreTakenOut tells_node node_reads tells moment left nodes disks
       → slice_get disks place ≡ Some disk → IsOutOf nodes place disk
-  out_of [] [] place disk out at = absurd (none-some disk (sym (slice_get_past [] place (omega arith)) ∙ at))
+  out_of [] [] place disk out at =
+      absurd (none-some disk (sym (slice_get_past [] place (omega arith)) ∙ at))
   out_of [] (d ∷ disks) place disk out at = elim out [ ]
   out_of (n ∷ nodes) [] place disk out at = elim out [ ]
   out_of (n ∷ nodes) (d ∷ disks) zero disk out at = record {

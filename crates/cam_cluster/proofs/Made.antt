@@ -20,7 +20,8 @@ use Rattle.cam_cluster.proofs.Counts.{counted_on, none_counted}
 use Rattle.cam_cluster.proofs.EndsSaid.{given_said}
 
 -- what is said of the first of these inputs, and of the others
-pub said_parts : (halts : Halting) (k : ℕ) (ends more : List Put) → AreSaidFrom halts k (ends ++ more)
+pub said_parts : (halts : Halting) (k : ℕ) (ends more : List Put)
+    → AreSaidFrom halts k (ends ++ more)
     → AreSaidFrom halts k ends × AreSaidFrom halts (k + length ends) more
 said_parts halts k [] more said =
     (tt, subst (λ n. AreSaidFrom halts n more) (let e : k ≡ k + 0 = omega arith in e) said)

@@ -73,7 +73,8 @@ next_awake works may number coming some none_left is found =
     ∙ next.next.awake
 
 -- so it is the delivery of the run's letter that waits
-pub handed_next : (line number : ℕ) (old mid new : WorksFields) (might mays may : ℕ → Logged → Type 0)
+pub handed_next : (line number : ℕ) (old mid new : WorksFields)
+    (might mays may : ℕ → Logged → Type 0)
     (done : Put) → KeepsAsBefore old might mid mays → mid.outbox.unput ≡ []
     → Some number ≡ next_of mid.halted mid.outbox.net
     → HasDelivered line number mid mays done new may
@@ -85,7 +86,8 @@ handed_next line number old mid new might mays may done before none_left is has 
     record {
       next = (number, next.id);
       waits = next.next.waits;
-      stands = λ halt. has script st halts restarted next.id is_script kept next.next.is_letter halt;
+      stands =
+          λ halt. has script st halts restarted next.id is_script kept next.next.is_letter halt;
     }
 
 pub none_next : (line : ℕ) (old mid : WorksFields) (might mays : ℕ → Logged → Type 0)
@@ -122,34 +124,35 @@ works_weigh script st works may keeps =
 
 -- Some run is kept behind the delivery too, and what waits weighs less.
 module _ (line : ℕ) (old new : WorksFields) (might may : ℕ → Logged → Type 0) (done : Put)
-    (some : AreWorksOfSome old might) (has : HasNextDelivered line old might new may (Some done)) where
-  abbrev one : IsNextDelivered some.script
-      (held_setting some.script.objects (λ turns s appends restarted. as_halt done) line (λ s. false))
-      some.standing done new may
-  one =
-      has some.script some.standing (λ turns s appends restarted. as_halt done) (λ s. false)
-      some.is_script some.keeps
+    (some : AreWorksOfSome old might) (has : HasNextDelivered line old might new may (Some done))
+  where
+    abbrev one : IsNextDelivered some.script
+        (held_setting some.script.objects (λ turns s appends restarted. as_halt done) line
+        (λ s. false)) some.standing done new may
+    one =
+        has some.script some.standing (λ turns s appends restarted. as_halt done) (λ s. false)
+        some.is_script some.keeps
 
-  abbrev after : Standing
-  after =
-      deliver
-      (held_setting some.script.objects (λ turns s appends restarted. as_halt done) line
-      (λ s. false)) some.standing one.next.0 one.next.1
+    abbrev after : Standing
+    after =
+        deliver
+        (held_setting some.script.objects (λ turns s appends restarted. as_halt done) line
+        (λ s. false)) some.standing one.next.0 one.next.1
 
-  pub some_behind : AreWorksOfSome new may
-  some_behind = record {
-    script = some.script;
-    standing = after;
-    is_script = some.is_script;
-    keeps = one.stands refl;
-  }
+    pub some_behind : AreWorksOfSome new may
+    some_behind = record {
+      script = some.script;
+      standing = after;
+      is_script = some.is_script;
+      keeps = one.stands refl;
+    }
 
-  pub weighs_less : works_weight new < works_weight old
-  weighs_less =
-      let before = works_weigh some.script some.standing old might some.keeps in
-      let behind = works_weigh some.script after new may (one.stands refl) in
-      let less =
-      (halted_deliveries_lower some.script.objects).1
-      (λ turns s appends restarted. as_halt done) line (λ s. false) some.standing one.next
-      one.waits in
-      omega (arith, before, behind, less)
+    pub weighs_less : works_weight new < works_weight old
+    weighs_less =
+        let before = works_weigh some.script some.standing old might some.keeps in
+        let behind = works_weigh some.script after new may (one.stands refl) in
+        let less =
+        (halted_deliveries_lower some.script.objects).1
+        (λ turns s appends restarted. as_halt done) line (λ s. false) some.standing one.next
+        one.waits in
+        omega (arith, before, behind, less)

@@ -129,8 +129,8 @@ module _ (seen : Seen) (step : Step) (old new : LinesFields) (might may : ℕ �
     stands =
         goes_on seen step [] old new might may keeps next
         (record { newest = tt; low = tt; high = tt; lost = tt })
-        (subst (λ (p : Passed). KeepsLines seen.script (after_line seen.standing step.line p) new may)
-        (sym (refused_step seen step refusal told.test))
+        (subst (λ (p : Passed). KeepsLines seen.script (after_line seen.standing step.line p) new
+        may) (sym (refused_step seen step refusal told.test))
         told.stands);
   }
 

@@ -42,7 +42,8 @@ kept_nodes script st place works might keeps = record {
 
 -- One node of works has changed, with its disk alone.
 module _ (script : Script) (st : Standing) (place : ℕ) (works : WorksFields)
-    (might : ℕ → Logged → Type 0) (old : NodeFields) (keeps : KeepsNodes script st place works might)
+    (might : ℕ → Logged → Type 0) (old : NodeFields)
+    (keeps : KeepsNodes script st place works might)
     (there : slice_get works.nodes place ≡ Some old) (new : NodeFields)
     (may : ℕ → Logged → Type 0) (nodes : List NodeFields) (are : nodes ≡ set works.nodes place new)
     (objects : new.objects ≡ old.objects)

@@ -13,7 +13,8 @@ use Rattle.cam_cluster.proofs.Letters.{read_letter, sent_of}
 use Rattle.cam_cluster.proofs.PlacedNodes.{taken_there}
 
 -- the letters of one event
-pub ids_many : (event place : ℕ) (sent : List Sent) → length (ids_from event place sent) ≡ length sent
+pub ids_many : (event place : ℕ) (sent : List Sent) → length (ids_from event place sent)
+    ≡ length sent
 ids_many event place [] = refl
 ids_many event place (s ∷ sent) = ap (λ (n : ℕ). suc n) (ids_many event (place + 1) sent)
 

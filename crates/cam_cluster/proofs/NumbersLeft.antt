@@ -1,5 +1,6 @@
 -- A node has numbers left for what a letter of the run asks of it.
-use Rattle.std.proofs.Common.{◌≡◌, ℕ, ◌+◌, ◌≤◌, ◌<◌, false, List, length, Some, sym, ap, ◌∙◌, subst, arith}
+use Rattle.std.proofs.Common.{◌≡◌, ℕ, ◌+◌, ◌≤◌, ◌<◌, false, List, length, Some, sym, ap, ◌∙◌, subst}
+use Rattle.std.proofs.Common.{arith}
 use Rattle.std.specs.Prelude.{slice_get}
 use Rattle.cam_type.specs.declared.ObjectDecl.{ObjectDecl}
 use Rattle.cam_event.specs.declared.Body.{Body}
@@ -90,7 +91,8 @@ module _ (script : Script) (st : Standing) (works : WorksFields) (may : ℕ → 
       → MayCome node.site.node letter
   letter_may_come id letter read =
       let range = (letters_are_in_range script.objects (has_number st.taken) st.running.trace id
-      read.mail keeps.under.run is.object_limit (few_events script st works may keeps) read.sent).0 in (
+      read.mail keeps.under.run is.object_limit (few_events script st works may keeps)
+      read.sent).0 in (
         subst IsNode (sym (ap (λ (m : Mail). m.from) read.read.is_mail)) range.from,
         has_index letter.body,
         has_few letter.body,

@@ -68,7 +68,8 @@ module _ (script : Script) (st : Standing) (place : ℕ) (input : Input) (mail :
       (are : nodes ≡ set works.nodes place new)
       (others : (s : ℕ) (logged : Logged) → 1 ≤ s → (s ≡ place + 1 → ⊥) → may s logged
       → might s logged) (same_number : new.site.node.number ≡ old.site.node.number)
-      (halt : IsHalt script.objects old.site.node old.site.entries input mail load (may (place + 1)))
+      (halt : IsHalt script.objects old.site.node old.site.entries input mail load
+      (may (place + 1)))
       (halts_at : HaltsAt script.objects old.site.node old.site.entries input mail load
       new.site.node new.halted_at) where
     own_halt : IsHaltOf script.objects st.running.trace (undecided ∷ st.undecided) r new (may r)

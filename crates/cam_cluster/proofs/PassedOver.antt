@@ -51,8 +51,8 @@ request_grows c st a child (nexts.Request want) =
     let t = st.running.trace in
     let s : ℕ = node_of t request in
     given_grows st (put c st request) child (asked_in (made st (put c st request)))
-    (input_grows c.line (c.restarted s) st s (c.reading.next t request) (appends c.reading t request)
-    (halt_of c st request))
+    (input_grows c.line (c.restarted s) st s (c.reading.next t request)
+    (appends c.reading t request) (halt_of c st request))
 request_grows c st a child nexts.Wait = record { events = []; trace = refl }
 request_grows c st a child nexts.Over = record { events = []; trace = refl }
 

@@ -94,8 +94,8 @@ led_at_work script st now line works may workers bound under keeps is_bound = re
   lines = record {
     runs =
         keeps_others script now (after_line st line (Led now None)) works works.marks may
-        (record { trace = refl; lost = refl; delivered = refl }) refl refl refl keeps.runs.all_marks under
-        keeps.runs;
+        (record { trace = refl; lost = refl; delivered = refl }) refl refl refl keeps.runs.all_marks
+        under keeps.runs;
     variables = is_bound;
   };
   workers =
@@ -103,57 +103,58 @@ led_at_work script st now line works may workers bound under keeps is_bound = re
 }
 
 module _ (line : ℕ) (bodies : List (List Statement)) (old new : WorksFields)
-    (might may : ℕ → Logged → Type 0) (before after : Workers) (bound now : List (Option Name)) where
-  pub play_line : HaveMade play line bodies old might before new may after
-      → now ≡ bound ++ None ∷ []
-      → IsLineOfPlay line bodies (record { works = old; bound = bound }) might before
-      (record { works = new; bound = now }) may after
-  play_line has is_now = record {
-    ends = has.ends;
-    played = λ script st halts later is bodies_are keeps next said.
-        let c = setting (by_knowledge script.objects) halts (play_step line) later in
-        let so =
-        has.made script st halts (λ s. list_any (is_restart s) later) is bodies_are
-        (record { runs = keeps.lines.runs; workers = keeps.workers }) said in
-        record {
-          counted = so.counted;
-          stands =
-              led_at_work script st (play c script.bodies st) line new may after now
-              (next_leads script st (play_step line) halts later is keeps.lines.runs.under next)
-              so.keeps
-              (is_now
-              ∙ ap (λ (bs : List (Option Name)). bs ++ None ∷ [])
-              (keeps.lines.variables ∙ sym (bound_rounds c script.bodies 514 st)));
-        };
-  }
-
-  -- Memory ran out in it,
-  pub play_wanting : HasPlayedPart line bodies old might before new may after → now ≡ bound
-      → IsPartOfPlay line bodies (record { works = old; bound = bound }) might before
-      (record { works = new; bound = now }) may after
-  play_wanting has is_now = record {
-    whole = has.whole;
-    requests = has.requests;
-    number = has.number;
-    ends = has.made.ends;
-    played = λ script st halts restarted is bodies_are keeps said.
-        let c = held_setting script.objects halts line restarted in
-        let so =
-        has.made.made script st halts restarted is bodies_are
-        (record { runs = keeps.lines.runs; workers = keeps.workers }) said in
-        record {
-          counted = so.counted;
-          stands = record {
-            lines = record {
-              runs = so.keeps.runs;
-              variables =
-                  is_now ∙ keeps.lines.variables
-                  ∙ sym (bound_part c script.bodies has.whole has.requests has.number st);
-            };
-            workers = so.keeps.workers;
+    (might may : ℕ → Logged → Type 0) (before after : Workers) (bound now : List (Option Name))
+  where
+    pub play_line : HaveMade play line bodies old might before new may after
+        → now ≡ bound ++ None ∷ []
+        → IsLineOfPlay line bodies (record { works = old; bound = bound }) might before
+        (record { works = new; bound = now }) may after
+    play_line has is_now = record {
+      ends = has.ends;
+      played = λ script st halts later is bodies_are keeps next said.
+          let c = setting (by_knowledge script.objects) halts (play_step line) later in
+          let so =
+          has.made script st halts (λ s. list_any (is_restart s) later) is bodies_are
+          (record { runs = keeps.lines.runs; workers = keeps.workers }) said in
+          record {
+            counted = so.counted;
+            stands =
+                led_at_work script st (play c script.bodies st) line new may after now
+                (next_leads script st (play_step line) halts later is keeps.lines.runs.under next)
+                so.keeps
+                (is_now
+                ∙ ap (λ (bs : List (Option Name)). bs ++ None ∷ [])
+                (keeps.lines.variables ∙ sym (bound_rounds c script.bodies 514 st)));
           };
-        };
-  }
+    }
+
+    -- Memory ran out in it,
+    pub play_wanting : HasPlayedPart line bodies old might before new may after → now ≡ bound
+        → IsPartOfPlay line bodies (record { works = old; bound = bound }) might before
+        (record { works = new; bound = now }) may after
+    play_wanting has is_now = record {
+      whole = has.whole;
+      requests = has.requests;
+      number = has.number;
+      ends = has.made.ends;
+      played = λ script st halts restarted is bodies_are keeps said.
+          let c = held_setting script.objects halts line restarted in
+          let so =
+          has.made.made script st halts restarted is bodies_are
+          (record { runs = keeps.lines.runs; workers = keeps.workers }) said in
+          record {
+            counted = so.counted;
+            stands = record {
+              lines = record {
+                runs = so.keeps.runs;
+                variables =
+                    is_now ∙ keeps.lines.variables
+                    ∙ sym (bound_part c script.bodies has.whole has.requests has.number st);
+              };
+              workers = so.keeps.workers;
+            };
+          };
+    }
 
 -- or before it.
 pub none_played : (line : ℕ) (bodies : List (List Statement)) (works : WorksFields)

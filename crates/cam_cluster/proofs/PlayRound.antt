@@ -1,5 +1,6 @@
 -- A round of a play: behind the turns of the actions with a body the letters are drained.
-use Rattle.std.proofs.Common.{◌≡◌, inl, inr, ℕ, zero, suc, ◌+◌, ◌≤◌, Bool, false, ◌||◌, List, length}
+use Rattle.std.proofs.Common.{◌≡◌, inl, inr, ℕ, zero, suc, ◌+◌, ◌≤◌, Bool, false, ◌||◌, List}
+use Rattle.std.proofs.Common.{length}
 use Rattle.std.proofs.Common.{refl, sym, ap, ◌∙◌, subst, arith}
 use Rattle.std.specs.Prelude.{nat_lt}
 use Rattle.std.proofs.lemmas.Bool.{cases_lt, le-ltb, lt-ltb, or_from, or_left, or_right}
@@ -59,8 +60,8 @@ drained_made line bodies old new might may workers has = record {
       let said_so = deliveries_said c (accepted st.turns) has.ends st refl said in
       let so = has.drained script st halts restarted is keeps.runs said_so in
       let drained =
-      drain_is c (λ z w waits. (halted_drains_go_on script.objects).1 halts line restarted z w waits)
-      has.ends st so.due so.over in
+      drain_is c (λ z w waits. (halted_drains_go_on script.objects).1 halts line restarted z w
+      waits) has.ends st so.due so.over in
       record {
         counted =
             subst (λ (z : Standing). AreCounted st z has.ends) (sym drained)
@@ -128,7 +129,8 @@ module _ (line : ℕ) (bodies : List (List Statement)) (old mid new : WorksField
         (let same = ap (λ given. length (in_order given)) keeps.workers.given.all in
         omega (arith, same)))))
         (made_on all_turns (λ c bs st. deliveries c (length has.ends) st) line bodies old mid new
-        might mays may before after after had (delivered_made line bodies mid new mays may after has));
+        might mays may before after after had
+        (delivered_made line bodies mid new mays may after has));
   }
 
   pub round_made : HasDrained line mid mays new may
@@ -150,9 +152,11 @@ module _ (line : ℕ) (bodies : List (List Statement)) (old mid new : WorksField
       some.is_script some.bodies_are some.keeps in
       let st = some.standing in
       let now =
-      round (held_setting some.script.objects behind.halts line (λ s. false)) some.script.bodies st in
+      round (held_setting some.script.objects behind.halts line (λ s. false)) some.script.bodies
+      st in
       let events_old : length old.events ≡ length st.running.trace =
-      ap (λ (es : List Event). length es) some.keeps.runs.events ∙ length-reverse st.running.trace in
+      ap (λ (es : List Event). length es) some.keeps.runs.events
+      ∙ length-reverse st.running.trace in
       let events_new : length new.events ≡ length now.running.trace =
       ap (λ (es : List Event). length es) behind.put.keeps.runs.events
       ∙ length-reverse now.running.trace in

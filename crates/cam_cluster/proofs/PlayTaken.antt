@@ -86,7 +86,8 @@ module _ (line : ℕ) (bodies : List (List Statement)) (old new : LinesFields)
           ≡ (after_step seen step (more seen has.ends)).standing
       same = held_is seen step old new might may keeps next (more seen has.ends)
 
-      counted : AreCounted seen.standing (after_step seen step (more seen has.ends)).standing has.ends
+      counted : AreCounted seen.standing (after_step seen step (more seen has.ends)).standing
+          has.ends
       counted =
           subst (λ (z : Standing). AreCounted seen.standing z has.ends) same
           (led_counted (play (c seen has.ends) seen.script.bodies seen.standing) played.counted)

@@ -1,4 +1,5 @@
--- Which of the actions that work at a body play on: one that comes into the table does, and who does
+-- Which of the actions that work at a body play on: one that comes into the table does, and who
+-- does
 -- not stays over.
 use Rattle.std.proofs.Common.{◌≡◌, inl, inr, ℕ, Bool, true, false, not, ◌||◌, cond, List, ◌++◌}
 use Rattle.std.proofs.Common.{Option, Some, None, refl, sym, ap, ◌∙◌, subst}

@@ -1,4 +1,5 @@
--- The names of the actions that play on are, in order, those of the actions with a body but for some
+-- The names of the actions that play on are, in order, those of the actions with a body but for
+-- some
 -- that are over.
 use Rattle.std.proofs.Common.{◌≡◌, ℕ, zero, suc, inl, inr, Bool, true, false, not, ◌&&◌, ◌||◌}
 use Rattle.std.proofs.Common.{if◌then◌else◌, cond, List, [], ◌∷◌, take, Some, refl, sym, ap, ◌∙◌}

@@ -1,8 +1,7 @@
 -- How an input ends that is put to a node, by what the node's step says.
-use Rattle.std.proofs.Common.{◌≡◌, ◌⊎◌, ℕ, ◌+◌, ◌≤◌, ◌<◌, Bool, true, false, List, [], ◌∷◌, ◌++◌, length}
+use Rattle.std.proofs.Common.{◌≡◌, ℕ, ◌+◌, ◌≤◌, ◌<◌, Bool, true, false, List, [], ◌∷◌, ◌++◌, length}
 use Rattle.std.proofs.Common.{set, Some, None, refl, ap, ◌∙◌, subst}
 use Rattle.std.proofs.lemmas.Option.{slice_get_within}
-use Rattle.cam_base.specs.Causes.{Rose}
 use Rattle.cam_commit.specs.Steps.{is_restarting}
 use Rattle.cam_event.specs.Inputs.{node_of}
 use Rattle.cam_log.specs.CutOff.{IsCutOff}
@@ -60,7 +59,8 @@ module _ (script : Script) (st : Standing) (place : ℕ) (input : NodeInput) (wo
     (objects : new.objects ≡ old.objects)
     (others : (s : ℕ) (logged : Logged) → 1 ≤ s → (s ≡ place + 1 → ⊥) → may s logged
     → might s logged) where
-  -- what is said over the node's objects and by its number is said over the script's and by its place
+  -- what is said over the node's objects and by its number is said over the script's and by its
+  -- place
   by_place : (P : List ObjectDecl → ℕ → Type 0) → P old.objects old.site.node.number
       → P script.objects (place + 1)
   by_place P is =
@@ -141,7 +141,8 @@ module _ (script : Script) (st : Standing) (place : ℕ) (input : NodeInput) (wo
         marks = works.marks ++ marks.Halted line (place + 1) false ∷ [];
       }) may
   put_halted none_left stops lost same halt at_event failed fed less cause =
-      halted script st place (input_of (place + 1) input) (mail_of input) (load_of input) works might
+      halted script st place (input_of (place + 1) input) (mail_of input) (load_of input) works
+      might
       old keeps put_so there within halts line restarted new may nodes are objects others none_left
       stops lost same
       (by_place (λ xs s. IsHalt xs old.site.node old.site.entries (input_of s input)

@@ -65,7 +65,8 @@ module _ (script : Script) (st : Standing) (place : ℕ) (input : Input) (mail :
   module _ (none_left : works.outbox.unput ≡ []) (stops : new.halted ≡ true)
       (lost : halt_of c st input ≡ Some false)
       (same_number : new.site.node.number ≡ old.site.node.number)
-      (halt : IsHalt script.objects old.site.node old.site.entries input mail load (may (place + 1)))
+      (halt : IsHalt script.objects old.site.node old.site.entries input mail load
+      (may (place + 1)))
       (halts_at : HaltsAt script.objects old.site.node old.site.entries input mail load
       new.site.node new.halted_at)
       (failed : Failed)
@@ -94,18 +95,19 @@ module _ (script : Script) (st : Standing) (place : ℕ) (input : Input) (mail :
           ∙ halted_now works.halted r m true keeps.eight node low
 
       whole :
-          IsWhole script.objects behind (sites_of nodes) works.outbox.net works.outbox.unput now_halted
+          IsWhole script.objects behind (sites_of nodes) works.outbox.net works.outbox.unput
+          now_halted
       whole =
-          subst (λ (u : List Letter). IsWhole script.objects behind (sites_of nodes) works.outbox.net
-          u now_halted) (sym none_left)
+          subst (λ (u : List Letter). IsWhole script.objects behind (sites_of nodes)
+          works.outbox.net u now_halted) (sym none_left)
           (subst (λ (i : ℕ). IsWhole script.objects behind (sites_of nodes) works.outbox.net []
           (set works.halted i true)) place_is
           (subst (λ (z : Standing). IsWhole script.objects z (sites_of nodes) works.outbox.net []
           (set works.halted (r - 1) true)) is
           (subst (λ (sites : List Site). IsWhole script.objects (put c st input) sites
           works.outbox.net [] (set works.halted (r - 1) true)) sites_now
-          (lost_halts_stand script halts line restarted st input (sites_of works.nodes) works.outbox.net
-          works.halted new.site lost node keeps.eight
+          (lost_halts_stand script halts line restarted st input (sites_of works.nodes)
+          works.outbox.net works.halted new.site lost node keeps.eight
           (same_number
           ∙ (site_is script st place input mail load works might old keeps put_so there).number)
           (subst (λ (u : List Letter). IsWhole script.objects st (sites_of works.nodes)

@@ -99,8 +99,8 @@ module _ (script : Script) (st : Standing) (place : ℕ) (input : Input) (mail :
         subst (λ (s : ℕ). KeepsInOrder script.objects s
         (record { event = event; mail = mail; load = load }
         ∷ history_of script.objects st.running.trace r) new.site)
-        (step.number ∙ (site_is script st place input mail load works might old keeps put_so there).number)
-        (record { keeps = goes_on.keeps; order = goes_on.order })
+        (step.number ∙ (site_is script st place input mail load works might old keeps put_so
+        there).number) (record { keeps = goes_on.keeps; order = goes_on.order })
       where
         goes_on : KeepsNode script.objects
             (record { event = event; mail = mail; load = load }
@@ -109,13 +109,15 @@ module _ (script : Script) (st : Standing) (place : ℕ) (input : Input) (mail :
             on (history_of script.objects st.running.trace r) mine
             (may_then script st place input mail load works might old keeps put_so there)
 
-    has : laws.HasPut script c st input (sites_of works.nodes) works.outbox.net works.halted new.site event
+    has : laws.HasPut script c st input (sites_of works.nodes) works.outbox.net works.halted
+        new.site event
     has =
         inputs_stand script halts line restarted st input (sites_of works.nodes) works.outbox.net
         works.halted old.site new.site mail load event keeps.under put_so.coming none
         (subst (λ (u : List Letter). IsWhole script.objects st (sites_of works.nodes)
         works.outbox.net u works.halted) none_left keeps.whole)
-        (ap (λ (i : ℕ). slice_get (sites_of works.nodes) i) place_is ∙ site_there works.nodes place old there)
+        (ap (λ (i : ℕ). slice_get (sites_of works.nodes) i) place_is
+        ∙ site_there works.nodes place old there)
         put_so.is_put step keeps_event
 
     stood_at : KeepsRun script behind
@@ -132,15 +134,20 @@ module _ (script : Script) (st : Standing) (place : ℕ) (input : Input) (mail :
       under =
           subst (IsUnderHalts script) is
           (inputs_lead_on script halts line restarted st input keeps.under put_so.coming);
-      one_each = as_many script st place works might old kept there new may nodes are objects others;
+      one_each =
+          as_many script st place works might old kept there new may nodes are objects others;
       eight = keeps.eight;
       nodes =
-          nodes_are script st place works might old kept there new may nodes are objects others works.halted (runs ∙ (keeps.nodes place old there).is_halted)
-          (λ m low off. refl);
+          nodes_are script st place works might old kept there new may nodes are objects others
+          works.halted (runs ∙ (keeps.nodes place old there).is_halted) (λ m low off. refl);
       whole =
-          subst (λ (z : Standing). IsWhole script.objects z (sites_of nodes) works.outbox.net letters works.halted) is
-          (subst (λ (u : List Letter). IsWhole script.objects (put c st input) (sites_of nodes) works.outbox.net u works.halted) (sym sent)
-          (subst (λ (sites : List Site). IsWhole script.objects (put c st input) sites works.outbox.net (letters_of new.site.node event.sent) works.halted) sites_now has.whole));
+          subst (λ (z : Standing). IsWhole script.objects z (sites_of nodes) works.outbox.net
+          letters works.halted) is
+          (subst (λ (u : List Letter). IsWhole script.objects (put c st input) (sites_of nodes)
+          works.outbox.net u works.halted) (sym sent)
+          (subst (λ (sites : List Site). IsWhole script.objects (put c st input) sites
+          works.outbox.net (letters_of new.site.node event.sent) works.halted) sites_now
+          has.whole));
       halts = λ q n at said.
           halts_are script st place works might old kept there new may nodes are objects others
           behind (λ m is. (off m is, is))

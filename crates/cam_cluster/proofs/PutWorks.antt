@@ -1,10 +1,8 @@
 -- What an input makes of works, by what each call of theirs leaves of their parts.
-use Rattle.std.proofs.Common.{◌≡◌, ◌⊎◌, ℕ, ◌+◌, ◌≤◌, ◌<◌, Bool, true, false, List, [], ◌∷◌, ◌++◌}
-use Rattle.std.proofs.Common.{length, length-append, get_or, set, take, Some, sym, ap, ◌∙◌, subst}
-use Rattle.std.proofs.Common.{arith}
+use Rattle.std.proofs.Common.{◌≡◌, ℕ, ◌+◌, ◌≤◌, ◌<◌, Bool, true, false, List, [], ◌∷◌, ◌++◌, length}
+use Rattle.std.proofs.Common.{length-append, get_or, set, take, Some, sym, ap, ◌∙◌, subst, arith}
 use Rattle.std.specs.Prelude.{map, slice_get}
 use Rattle.std.proofs.lemmas.List.{map-set}
-use Rattle.cam_base.specs.Causes.{Rose}
 use Rattle.cam_log.specs.CutOff.{IsCutOff}
 use Rattle.cam_event.specs.declared.Event.{Event}
 use Rattle.cam_event.specs.declared.Letter.{Letter}
@@ -26,8 +24,7 @@ use Rattle.cam_cluster.specs.declared.works.failing.Failed.TheVariants.{Nothing}
 use Rattle.cam_cluster.specs.declared.works.Put.TheVariants as puts
 use Rattle.cam_cluster.specs.declared.works.undecided.OpenHalt.{OpenHalt}
 use Rattle.cam_cluster.specs.Puts.{HasPut, KeepsAsBefore, letter_of}
-use Rattle.cam_cluster.specs.Works.{NodeFields, WorksFields, KeepsRun, MayReadAt}
-use Rattle.cam_cluster.specs.Works.{HasTellingDisk}
+use Rattle.cam_cluster.specs.Works.{NodeFields, WorksFields, KeepsRun, MayReadAt, HasTellingDisk}
 use Rattle.cam_cluster.proofs.PlacedNodes.{taken_there, seen_there, reads_elsewhere, reads_there}
 use Rattle.cam_cluster.proofs.PutKeeps.{keeps_as_before, keeps_as_put, keeps_failing}
 use Rattle.cam_cluster.proofs.PutEnds.{put_stood, put_halted}
@@ -54,7 +51,8 @@ module _ {N : Type 0} (part : N → NodeFields) (tells : N → Bool) (may : N �
 
   -- room was made: letters were put
   pub room_made : (nodes now : List N) (o later : OutboxFields) (h halted : List Bool)
-      (v failed : Failed) (u undecided : List OpenHalt) (e events : List Event) (m marks : List Mark)
+      (v failed : Failed) (u undecided : List OpenHalt) (e events : List Event)
+      (m marks : List Mark)
       → now ≡ nodes → HasPutSome o later → halted ≡ h → failed ≡ v → undecided ≡ u → events ≡ e
       → marks ≡ m
       → KeepsAsBefore (seen nodes o h v u e m) (MayReadAt tells may nodes)
@@ -89,8 +87,10 @@ module _ {N : Type 0} (part : N → NodeFields) (tells : N → Bool) (may : N �
       keeps_failing script st (seen nodes o h v u e m) w (MayReadAt tells may nodes) less keeps
 
   -- One of the nodes was asked for a step.
-  module _ (place : ℕ) (nodes : List N) (o : OutboxFields) (h : List Bool) (v : Failed) (u : List OpenHalt)
-      (e : List Event) (m : List Mark) (old new : N) (there : place < length nodes) (within : place < 8)
+  module _ (place : ℕ) (nodes : List N) (o : OutboxFields) (h : List Bool) (v : Failed)
+      (u : List OpenHalt)
+      (e : List Event) (m : List Mark) (old new : N) (there : place < length nodes)
+      (within : place < 8)
       (is_old : old ≡ get_or nodes place old) (now : List N) (set_is : now ≡ set nodes place new)
       (objects : (part new).objects ≡ (part old).objects) where
     at : slice_get (map part nodes) place ≡ Some (part old)
@@ -113,7 +113,8 @@ module _ {N : Type 0} (part : N → NodeFields) (tells : N → Bool) (may : N �
         → KeepsAsBefore (seen nodes o h v u e m) (MayReadAt tells may nodes) (seen now o h v u e m)
         (MayReadAt tells may now)
     as_before_in ran runs same entries passes less script st is keeps =
-        keeps_as_before script st place (seen nodes o h v u e m) (MayReadAt tells may nodes) (part old)
+        keeps_as_before script st place (seen nodes o h v u e m) (MayReadAt tells may nodes)
+        (part old)
         keeps at (part new) (MayReadAt tells may now) (map part now) are objects others within ran
         runs same entries passes less
 
@@ -134,8 +135,8 @@ module _ {N : Type 0} (part : N → NodeFields) (tells : N → Bool) (may : N �
         (MayReadAt tells may now)
     stood_in line input event letters none_left few runs step on sent less appended script st halts
         restarted is keeps put_so none =
-        put_stood script st place input (seen nodes o h v u e m) (MayReadAt tells may nodes) (part old)
-        keeps put_so at within halts line restarted (part new) (MayReadAt tells may now)
+        put_stood script st place input (seen nodes o h v u e m) (MayReadAt tells may nodes)
+        (part old) keeps put_so at within halts line restarted (part new) (MayReadAt tells may now)
         (map part now) are objects others event letters none_left few runs none step on sent
         less appended
 
@@ -161,10 +162,10 @@ module _ {N : Type 0} (part : N → NodeFields) (tells : N → Bool) (may : N �
           got = letter_of input;
         } ∷ u) e (m ++ marks.Halted line (place + 1) false ∷ []))
         (MayReadAt tells may now)
-    halted_in line input none_left stops same halt at_event w fed less cause script st halts restarted
-        is keeps put_so lost =
-        put_halted script st place input (seen nodes o h v u e m) (MayReadAt tells may nodes) (part old)
-        keeps put_so at within halts line restarted (part new) (MayReadAt tells may now)
+    halted_in line input none_left stops same halt at_event w fed less cause script st halts
+        restarted is keeps put_so lost =
+        put_halted script st place input (seen nodes o h v u e m) (MayReadAt tells may nodes)
+        (part old) keeps put_so at within halts line restarted (part new) (MayReadAt tells may now)
         (map part now) are objects others none_left stops lost same
         (record {
           either = λ history logged node_keeps may_then read.

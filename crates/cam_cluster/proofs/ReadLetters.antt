@@ -54,7 +54,8 @@ module _ (script : Script) (st : Standing) (works : WorksFields) (may : ℕ → 
   cut_is bytes =
       cuts_are_fronts script.objects st works.outbox.net works.halted number bytes
       (network_is script st works may keeps none_left)
-      ∙ ap (option_map (λ (i : LetterId). take bytes (spelling_of (by_knowledge script.objects) st.running.trace i))) is
+      ∙ ap (option_map (λ (i : LetterId). take bytes
+      (spelling_of (by_knowledge script.objects) st.running.trace i))) is
 
   -- the whole letter is the one that was sent
   pub read_whole : (found : Letter) → IsWholeLetter so.letter (Whole found)
@@ -70,7 +71,8 @@ module _ (script : Script) (st : Standing) (works : WorksFields) (may : ℕ → 
             so.letter found keeps.under.run sent.at so.sent whole.0 whole.1;
       }
 
-  pub all_read : (arrival : Arrival) (bytes : List ℕ) → Some bytes ≡ whole_of works.outbox.net number
+  pub all_read : (arrival : Arrival) (bytes : List ℕ) → Some bytes
+      ≡ whole_of works.outbox.net number
       → GivesWhole bytes arrival → IsWholeLetter so.letter arrival
   all_read arrival bytes are gives =
       subst (λ (bs : List ℕ). GivesWhole bs arrival)

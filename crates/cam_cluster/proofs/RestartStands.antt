@@ -123,7 +123,8 @@ module _ (script : Script) (st : Standing) (place : ℕ) (works : WorksFields)
       }) may
   restart_stands = record {
     under = has.under;
-    one_each = as_many script st place works might old keeps.kept there new may nodes are objects others;
+    one_each =
+        as_many script st place works might old keeps.kept there new may nodes are objects others;
     eight = length-set works.halted place false ∙ keeps.eight;
     nodes =
         nodes_are script st place works might old keeps.kept there new may nodes are objects others
@@ -139,7 +140,8 @@ module _ (script : Script) (st : Standing) (place : ℕ) (works : WorksFields)
         u now_halted) (sym sent)
         (subst (λ (sites : List Site). IsWhole script.objects after sites works.outbox.net
         (letters_of new.site.node event.sent) now_halted)
-        (sites_are script st place works might old keeps.kept there new may nodes are objects others)
+        (sites_are script st place works might old keeps.kept there new may nodes are objects
+        others)
         (subst (λ (i : ℕ). IsWhole script.objects after (set (sites_of works.nodes) i new.site)
         works.outbox.net (letters_of new.site.node event.sent) (set works.halted i false)) back
         has.whole));

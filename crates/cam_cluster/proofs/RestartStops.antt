@@ -31,7 +31,8 @@ module _ (script : Script) (st : Standing) (place : ℕ) (works : WorksFields)
     (none : halt_of (held_setting script.objects halts line restarted) (ended_halt st (place + 1))
     (Restarts (place + 1)) ≡ None)
     (has : HasRestarted script (held_setting script.objects halts line restarted) st (place + 1)
-    (sites_of works.nodes) works.outbox.net works.halted new.site event) (passes : new.passes ≡ None)
+    (sites_of works.nodes) works.outbox.net works.halted new.site event)
+    (passes : new.passes ≡ None)
     (less : HasTellingDisk new → HasTellingDisk old) where
   abbrev c : Setting
   c = held_setting script.objects halts line restarted

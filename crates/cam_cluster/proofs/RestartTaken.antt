@@ -15,7 +15,8 @@ use Rattle.cam_cluster.specs.declared.course.CourseFault.TheVariants as faults
 use Rattle.cam_cluster.specs.declared.LineFault.TheVariants as line_faults
 use Rattle.cam_cluster.specs.declared.workers.Workers.{Workers}
 use Rattle.cam_cluster.specs.declared.works.restart.Restart.TheVariants as ends
-use Rattle.cam_cluster.specs.Between.{AreHaltsOfLine, HasLedOn, KeepsBetween, after_step, seen_found}
+use Rattle.cam_cluster.specs.Between.{AreHaltsOfLine, HasLedOn, KeepsBetween, after_step}
+use Rattle.cam_cluster.specs.Between.{seen_found}
 use Rattle.cam_cluster.specs.Courses.{IsAtWorkLine}
 use Rattle.cam_cluster.specs.Restarts.{HasFoundByStop, IsFoundEnded, IsRestartLine}
 use Rattle.cam_cluster.specs.Seen.{IsNextStep, Seen, later_steps, setting_in}
@@ -34,7 +35,8 @@ use Rattle.cam_cluster.proofs.WorkersOn.{bodies_same, workers_on}
 pub restarts_within : (line s : ℕ) (lines : LinesFields) (may : ℕ → Logged → Type 0)
     → IsNextOfSome line (acts.Restart s) lines may → (1 ≤ s) × (s ≤ length lines.works.nodes)
 restarts_within line s lines may some =
-    let holds = next_holds some.script some.standing line (acts.Restart s) some.is_script some.next in
+    let holds = next_holds some.script some.standing line (acts.Restart s) some.is_script
+    some.next in
     let within = node_within some.script.nodes s holds.1 in
     (within.0, subst (λ (n : ℕ). s ≤ n) (sym some.keeps.runs.one_each) within.1)
 

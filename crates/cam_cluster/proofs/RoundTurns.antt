@@ -45,8 +45,8 @@ module _ (c : Setting) (bodies : List (List Statement)) (st : Standing) (a : Nam
       → IsSaidOf c st a n end → AreCounted st (make_request c st a child n) (ends_of end)
   made_counted child (nexts.Request want) (Some done) made said =
       let request : Input = Requests (record { action = a; want = want }) in
-      given_counted st (put c st request) (done ∷ []) child (asked_in (made_by st (put c st request)))
-      (put_counted c st request done said)
+      given_counted st (put c st request) (done ∷ []) child
+      (asked_in (made_by st (put c st request))) (put_counted c st request done said)
   made_counted child (nexts.Request want) None made said = absurd (true≢false (sym made))
   made_counted child nexts.Wait None made said = none_counted st
   made_counted child nexts.Wait (Some done) made said = absurd (true≢false made)

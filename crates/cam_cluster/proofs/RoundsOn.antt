@@ -45,7 +45,8 @@ module _ (c : Setting) (bodies : List (List Statement)) where
   rounds_over : (left : ℕ) (st : Standing) → puts_one st ≡ false
       → rounds c bodies (suc left) st ≡ round c bodies st
   rounds_over left st none =
-      ap (λ (b : Bool). if b then rounds c bodies left (round c bodies st) else round c bodies st) none
+      ap (λ (b : Bool). if b then rounds c bodies left (round c bodies st) else round c bodies st)
+      none
 
   pub ended_by : (n left room : ℕ) (st : Standing) → room ≡ n + suc left → EachPuts n st
       → puts_one (rounds_whole c bodies n st) ≡ false

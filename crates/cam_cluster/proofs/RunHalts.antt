@@ -7,7 +7,8 @@ use Rattle.std.proofs.lemmas.Bool.{true≢false}
 use Rattle.cam_type.specs.declared.ObjectDecl.{ObjectDecl}
 use Rattle.cam_event.specs.declared.Event.{Event}
 use Rattle.cam_event.specs.declared.LetterId.{LetterId}
-use Rattle.cam_event.specs.Inputs.{Input, Mail, Begins, Requests, Receives, Tells, Queries, Restarts}
+use Rattle.cam_event.specs.Inputs.{Input, Mail, Begins, Requests, Receives, Tells, Queries}
+use Rattle.cam_event.specs.Inputs.{Restarts}
 use Rattle.cam_event.specs.Inputs.{event_at, got_of, letter_at, mail_of, node_of}
 use Rattle.cam_event.proofs.Members.{event_below}
 use Rattle.cam_event.specs.Loads.{Load}

@@ -48,8 +48,8 @@ spelled_so script st works may keeps none_left number id is = record {
   sent = carried.1.sent;
   spells =
       subst (IsSpelled carried.1.letter)
-      (carried.1.bytes ∙ sym (ap (λ (o : Option Letter). option_map_or spelled o []) carried.1.sent))
-      carried.1.spells;
+      (carried.1.bytes ∙ sym (ap (λ (o : Option Letter). option_map_or spelled o [])
+      carried.1.sent)) carried.1.spells;
 }
   where
     carried : (kept : InFlightFields) × IsCarried script.objects st.running.trace id kept

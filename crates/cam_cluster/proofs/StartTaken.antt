@@ -68,66 +68,71 @@ led_unless (Some refusal) passed none =
 
 module _ (seen : Seen) (step : Step) (s body : ℕ) (is : step.act ≡ acts.Start s body)
     (old : LinesFields) (might : ℕ → Logged → Type 0) (keeps : KeepsBetween seen old might)
-    (next : IsNextStep seen step) (more : List Halt) (awake : is_halted seen.standing s ≡ None) where
-  abbrev c : Setting
-  c = setting_in by_pasts seen (more ++ seen.halts) step
+    (next : IsNextStep seen step) (more : List Halt) (awake : is_halted seen.standing s ≡ None)
+  where
+    abbrev c : Setting
+    c = setting_in by_pasts seen (more ++ seen.halts) step
 
-  abbrev after : Standing
-  after = put c seen.standing (Begins s)
+    abbrev after : Standing
+    after = put c seen.standing (Begins s)
 
-  abbrev binds : Option Name
-  binds = created_in (made seen.standing after)
+    abbrev binds : Option Name
+    binds = created_in (made seen.standing after)
 
-  node : IsNode s
-  node =
-      let holds =
-      next_holds seen.script seen.standing step.line (acts.Start s body) keeps.is_script
-      (subst (λ (a : Act). IsNextStep seen (record { line = step.line; act = a })) is next) in
-      let within =
-      node_within seen.script.nodes s (and_parts (is_node seen.script.nodes s) _ holds.1).0 in
-      (within.0, let most = within.1 in let eight = keeps.is_script.eight_nodes in omega (arith, most, eight))
+    node : IsNode s
+    node =
+        let holds =
+        next_holds seen.script seen.standing step.line (acts.Start s body) keeps.is_script
+        (subst (λ (a : Act). IsNextStep seen (record { line = step.line; act = a })) is next) in
+        let within =
+        node_within seen.script.nodes s (and_parts (is_node seen.script.nodes s) _ holds.1).0 in (
+          within.0,
+          let most = within.1 in let eight = keeps.is_script.eight_nodes in omega
+              (arith, most, eight),
+        )
 
-  leads : act c seen.script.bodies seen.standing step.act
-      ≡ led_creating (Some body) seen.standing after
-  leads =
-      ap (act c seen.script.bodies seen.standing) is
-      ∙ led_unless (is_halted seen.standing s) (led_creating (Some body) seen.standing after) awake
+    leads : act c seen.script.bodies seen.standing step.act
+        ≡ led_creating (Some body) seen.standing after
+    leads =
+        ap (act c seen.script.bodies seen.standing) is
+        ∙ led_unless (is_halted seen.standing s) (led_creating (Some body) seen.standing after)
+        awake
 
-  -- The action that it creates has no body yet.
-  bare : (a : Name) → binds ≡ Some a → body_number after.running.bodies a ≡ None
-  bare a creates =
-      ap (λ given. body_number given a) (put_stays c seen.standing (Begins s))
-      ∙ by (body_number seen.standing.running.bodies a) refl
-      (created_new seen.script c seen.standing s a keeps.keeps.runs.under node creates).0.fresh
-    where
-      by : (o : Option ℕ) → body_number seen.standing.running.bodies a ≡ o
-          → (Known (plain_all seen.standing.running.trace) a → ⊥)
-          → body_number seen.standing.running.bodies a ≡ None
-      by None at fresh = at
-      by (Some m) at fresh = absurd (fresh (keeps.keeps.runs.under.works a m at).known)
+    -- The action that it creates has no body yet.
+    bare : (a : Name) → binds ≡ Some a → body_number after.running.bodies a ≡ None
+    bare a creates =
+        ap (λ given. body_number given a) (put_stays c seen.standing (Begins s))
+        ∙ by (body_number seen.standing.running.bodies a) refl
+        (created_new seen.script c seen.standing s a keeps.keeps.runs.under node creates).0.fresh
+      where
+        by : (o : Option ℕ) → body_number seen.standing.running.bodies a ≡ o
+            → (Known (plain_all seen.standing.running.trace) a → ⊥)
+            → body_number seen.standing.running.bodies a ≡ None
+        by None at fresh = at
+        by (Some m) at fresh = absurd (fresh (keeps.keeps.runs.under.works a m at).known)
 
-  given_on : (new : LinesFields) (may : ℕ → Logged → Type 0) (before behind : Workers)
-      → KeepsBetween (after_step seen step more) new may → AreWorkers seen.standing before
-      → Gives (Some body) (action_of new.bound (length new.bound - 1)) before behind
-      → AreWorkers (after_step seen step more).standing behind
-  given_on new may before behind stands are gives =
-      subst (λ (p : Passed). AreWorkers (after_line seen.standing step.line p) behind) (sym leads)
-      (workers_stay (given_body (Some body) binds after)
-      (after_line seen.standing step.line (led_creating (Some body) seen.standing after)) behind []
-      refl refl
-      (subst (λ (o : Option Name). AreWorkers (given_body (Some body) o after) behind) newest
-      (gives after (λ a is_newest. bare a (sym newest ∙ is_newest))
-      (let put_on = put_extends c (more ++ seen.halts) refl seen.standing (Begins s)
-      (awake_by seen.standing s awake) in
-      workers_stay seen.standing after before put_on.events (put_stays c seen.standing (Begins s))
-      put_on.trace are))))
-    where
-      newest : action_of new.bound (length new.bound - 1) ≡ binds
-      newest =
-          ap (λ (bs : List (Option Name)). action_of bs (length bs - 1))
-          (stands.keeps.variables
-          ∙ ap (λ (p : Passed). (after_line seen.standing step.line p).running.bound) leads)
-          ∙ newest_of (given_body (Some body) binds after).running.bound binds
+    given_on : (new : LinesFields) (may : ℕ → Logged → Type 0) (before behind : Workers)
+        → KeepsBetween (after_step seen step more) new may → AreWorkers seen.standing before
+        → Gives (Some body) (action_of new.bound (length new.bound - 1)) before behind
+        → AreWorkers (after_step seen step more).standing behind
+    given_on new may before behind stands are gives =
+        subst (λ (p : Passed). AreWorkers (after_line seen.standing step.line p) behind) (sym leads)
+        (workers_stay (given_body (Some body) binds after)
+        (after_line seen.standing step.line (led_creating (Some body) seen.standing after)) behind
+        [] refl refl
+        (subst (λ (o : Option Name). AreWorkers (given_body (Some body) o after) behind) newest
+        (gives after (λ a is_newest. bare a (sym newest ∙ is_newest))
+        (let put_on = put_extends c (more ++ seen.halts) refl seen.standing (Begins s)
+        (awake_by seen.standing s awake) in
+        workers_stay seen.standing after before put_on.events (put_stays c seen.standing (Begins s))
+        put_on.trace are))))
+      where
+        newest : action_of new.bound (length new.bound - 1) ≡ binds
+        newest =
+            ap (λ (bs : List (Option Name)). action_of bs (length bs - 1))
+            (stands.keeps.variables
+            ∙ ap (λ (p : Passed). (after_line seen.standing step.line p).running.bound) leads)
+            ∙ newest_of (given_body (Some body) binds after).running.bound binds
 
 pub start_at_work : (step : Step) (s body : ℕ) (bodies : List (List Statement))
     (old new : LinesFields) (might may : ℕ → Logged → Type 0) (first before behind : Workers)
@@ -144,8 +149,8 @@ start_at_work step s body bodies old new might may first before behind bad is st
       led = so.0;
       workers =
           given_on seen step s body is old might keeps.between next so.0.more
-          (ap (line_refusal (by_pasts seen.script.objects) seen.standing) (sym is) ∙ so.0.passed) new
-          may before behind so.0.stands (stay seen.standing keeps.workers) gives;
+          (ap (line_refusal (by_pasts seen.script.objects) seen.standing) (sym is) ∙ so.0.passed)
+          new may before behind so.0.stands (stay seen.standing keeps.workers) gives;
       fault = so.1;
     }
   where
@@ -153,7 +158,8 @@ start_at_work step s body bodies old new might may first before behind bad is st
     apart m same = cc
 
 -- Memory runs out before.
-pub start_wanting : (step : Step) (s body : ℕ) (bodies : List (List Statement)) (lines : LinesFields)
+pub start_wanting : (step : Step) (s body : ℕ) (bodies : List (List Statement))
+    (lines : LinesFields)
     (may : ℕ → Logged → Type 0) (first before : Workers) → step.act ≡ acts.Start s body
     → ((st : Standing) → AreWorkers st first → AreWorkers st before)
     → IsAtWorkLine step bodies lines may first lines may before

@@ -52,8 +52,8 @@ given_keeps script body (Some a) binds after lines may keeps under = record {
   runs =
       keeps_others script (bound_to binds after)
       (bound_to binds (given_body (Some body) (Some a) after)) lines.works lines.works.marks may
-      (record { trace = refl; lost = refl; delivered = refl }) refl refl refl keeps.runs.all_marks under
-      keeps.runs;
+      (record { trace = refl; lost = refl; delivered = refl }) refl refl refl keeps.runs.all_marks
+      under keeps.runs;
   variables = keeps.variables;
 }
 

@@ -43,8 +43,8 @@ stop_told (Err fault) = Err (faults.Line fault)
 pub stop_at_work : (line s calls : ℕ) (bodies : List (List Statement)) (old new : LinesFields)
     (might may : ℕ → Logged → Type 0) (at_work : Workers) (result : Result (Unit {0}) LineFault)
     → IsLineBy line (acts.Stop s calls) (IsStop s calls) old might new may result
-    → IsAtWorkLine (record { line = line; act = acts.Stop s calls }) bodies old might at_work new may
-    at_work (stop_told result)
+    → IsAtWorkLine (record { line = line; act = acts.Stop s calls }) bodies old might at_work new
+    may at_work (stop_told result)
 stop_at_work line s calls bodies old new might may at_work (Ok done) is seen keeps next same =
     let step : Step = record { line = line; act = acts.Stop s calls } in
     let between = keeps.between in
@@ -59,8 +59,8 @@ stop_at_work line s calls bodies old new might may at_work (Ok done) is seen kee
       workers = workers_on seen step led.more at_work tt keeps.workers;
       fault = refl;
     }
-stop_at_work line s calls bodies old new might may at_work (Err (line_faults.Refused refusal)) is seen
-    keeps next same =
+stop_at_work line s calls bodies old new might may at_work (Err (line_faults.Refused refusal)) is
+    seen keeps next same =
     let step : Step = record { line = line; act = acts.Stop s calls } in
     let between = keeps.between in
     let so =

@@ -1,5 +1,6 @@
 -- What one more turn makes of the nodes at which stops end.
-use Rattle.std.proofs.Common.{◌≡◌, ◌⊎◌, inl, inr, ℕ, ◌-◌, ◌<◌, ◌≤◌, eqb, nat_lt, Bool, true, false, not, ◌&&◌}
+use Rattle.std.proofs.Common.{◌≡◌, ◌⊎◌, inl, inr, ℕ, ◌-◌, ◌<◌, ◌≤◌, eqb, nat_lt, Bool, true, false}
+use Rattle.std.proofs.Common.{not, ◌&&◌}
 use Rattle.std.proofs.Common.{if◌then◌else◌, List, [], ◌∷◌, Option, Some, None, is_some}
 use Rattle.std.proofs.Common.{refl, sym, ap, ◌∙◌, subst, arith}
 use Rattle.std.proofs.lemmas.Bool.{eq-eqb, ne_eqb}
@@ -8,7 +9,8 @@ use Rattle.cam_event.specs.History.{is_empty}
 use Rattle.cam_log.specs.Spent.{Spent}
 use Rattle.cam_recman.specs.declared.Record.{Record}
 use Rattle.cam_runs.specs.Running.{has_number}
-use Rattle.cam_runs.specs.Halts.{Turn, Input, Restart, calls_left, after_append, by_stops, stopped_append}
+use Rattle.cam_runs.specs.Halts.{Turn, Input, Restart, calls_left, after_append, by_stops}
+use Rattle.cam_runs.specs.Halts.{stopped_append}
 use Rattle.cam_node.specs.Appending.{SpentFor}
 use Rattle.cam_histories.proofs.Numbers.{lt_cases}
 use Rattle.cam_cluster.specs.Stopping.{too_few, ends_by, runs_on, stopped_at, IsAsStopped}
@@ -48,7 +50,8 @@ module _ (turns : List Turn) (s line : ℕ) (w again : Bool) where
   own_stopped calls was some =
       rw (eq-eqb s s refl) ((λ i. if was i then ends_by turns s w else None) ∙ some)
 
-  pub own_calls : calls_left now s ≡ (if w then after_append (calls_left turns s) else calls_left turns s)
+  pub own_calls : calls_left now s
+      ≡ (if w then after_append (calls_left turns s) else calls_left turns s)
   own_calls = rw (eq-eqb s s refl) refl
 
   -- so with the nodes that are halted

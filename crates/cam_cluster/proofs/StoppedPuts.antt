@@ -1,7 +1,6 @@
 -- An input put to a node of works, by the lines that stop its disk.
-use Rattle.std.proofs.Common.{◌≡◌, ◌⊎◌, inl, inr, ℕ, ◌+◌, eqb, Bool, true, false, ◌||◌}
-use Rattle.std.proofs.Common.{List, ◌∷◌, map, set, Option, Some}
-use Rattle.std.proofs.Common.{refl, sym, ap, ◌∙◌, subst, arith}
+use Rattle.std.proofs.Common.{◌≡◌, ℕ, ◌+◌, eqb, Bool, true, false, ◌||◌, List, ◌∷◌, map, set}
+use Rattle.std.proofs.Common.{Option, Some, refl, sym, ap, ◌∙◌, subst}
 use Rattle.std.specs.Prelude.{slice_get}
 use Rattle.std.proofs.lemmas.Bool.{eq-eqb, ne_eqb, or_left, true≢false}
 use Rattle.cam_event.specs.declared.Event.{Event}

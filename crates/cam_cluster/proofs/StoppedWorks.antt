@@ -1,7 +1,6 @@
 -- The nodes of works by the lines that stop their disks, where one of them steps or restarts.
-use Rattle.std.proofs.Common.{◌≡◌, inl, inr, ℕ, zero, suc, ◌+◌, ◌≤◌, Bool, false}
-use Rattle.std.proofs.Common.{◌⊎◌, List, [], ◌∷◌, set, Option, Some, Result, Err}
-use Rattle.std.proofs.Common.{sym, ap, ◌∙◌, subst, arith}
+use Rattle.std.proofs.Common.{◌≡◌, inl, inr, ℕ, zero, suc, ◌+◌, Bool, false, ◌⊎◌, List, [], ◌∷◌}
+use Rattle.std.proofs.Common.{set, Option, Some, Result, Err, sym, ap, ◌∙◌, subst, arith}
 use Rattle.std.specs.Prelude.{slice_get}
 use Rattle.std.specs.List.{AllByRecursion}
 use Rattle.std.proofs.lemmas.Option.{none-some, slice_get_within, same_Some}
@@ -15,7 +14,8 @@ use Rattle.cam_histories.specs.Laws.{history_of}
 use Rattle.cam_cluster.specs.declared.works.failing.Failed.{Failed}
 use Rattle.cam_cluster.specs.Stopped.{IsStoppedAs}
 use Rattle.cam_cluster.specs.Stopping.{stopped_at, IsAsStopped}
-use Rattle.cam_cluster.specs.Works.{HasTellingDisk, NodeFields, AreStopped, AreStoppedBut, IsUnfailing}
+use Rattle.cam_cluster.specs.Works.{HasTellingDisk, NodeFields, AreStopped, AreStoppedBut}
+use Rattle.cam_cluster.specs.Works.{IsUnfailing}
 use Rattle.cam_cluster.proofs.HaltsByStop.{halt_alike}
 use Rattle.cam_cluster.proofs.WorksNodes.{set_tells}
 

@@ -38,13 +38,13 @@ module _ (line : ℕ) (old new : LinesFields) (might may : ℕ → Logged → Ty
       → IsStepTaken (at act_is) old might new may (Err fault)
   fault_taken ends act_is (line_faults.Refused refusal) wants is seen keeps next =
       refused_goes seen (at act_is) old new might may keeps next refusal
-      (is seen.script seen.standing (given seen.halts) (later_steps seen) keeps.is_script keeps.keeps
-      next)
+      (is seen.script seen.standing (given seen.halts) (later_steps seen) keeps.is_script
+      keeps.keeps next)
   fault_taken ends act_is line_faults.NoMemory wants is seen keeps next =
       wants seen
       (wanting_goes seen (at act_is) old new might may keeps next
-      (is seen.script seen.standing (given seen.halts) (later_steps seen) keeps.is_script keeps.keeps
-      next))
+      (is seen.script seen.standing (given seen.halts) (later_steps seen) keeps.is_script
+      keeps.keeps next))
 
   -- A letter is lost.
   pub loss_taken : (k : ℕ) (done : Unit {0})
@@ -79,11 +79,12 @@ module _ (line : ℕ) (old new : LinesFields) (might may : ℕ → Logged → Ty
       let so =
       is seen.script seen.standing (given (more ++ seen.halts)) (later_steps seen) keeps.is_script
       keeps.keeps next in (
-        led_goes seen (at (acts.Cut k bytes)) old new might may keeps next (Receives so.1.letter) done
+        led_goes seen (at (acts.Cut k bytes)) old new might may keeps next (Receives so.1.letter)
+            done
             so.1.led
             (cut_counts
-            (setting_in by_knowledge seen (more ++ seen.halts) (at (acts.Cut k bytes))) seen.standing line
-            seen.script.bodies k bytes so.1.led.passed so.0),
+            (setting_in by_knowledge seen (more ++ seen.halts) (at (acts.Cut k bytes)))
+            seen.standing line seen.script.bodies k bytes so.1.led.passed so.0),
         sym so.0,
       )
 

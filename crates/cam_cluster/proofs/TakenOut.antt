@@ -37,7 +37,8 @@ module _ {N D : Type 0} {tells_node : N → Bool} {node_reads : N → Logged →
   out_behind : (nodes : List N) (disks : List D) (node : N) (disk : D)
       → AreTakenOut tells_node node_reads tells moment left nodes disks
       → IsTakenOut tells_node node_reads tells moment left node disk
-      → AreTakenOut tells_node node_reads tells moment left (nodes ++ node ∷ []) (disks ++ disk ∷ [])
+      → AreTakenOut tells_node node_reads tells moment left (nodes ++ node ∷ [])
+      (disks ++ disk ∷ [])
   out_behind [] [] node disk out last = (last, tt)
   out_behind [] (d ∷ disks) node disk out last = elim out [ ]
   out_behind (n ∷ nodes) [] node disk out last = elim out [ ]

@@ -1,7 +1,8 @@
 -- What one more deed, and one more event, adds to what is kept of views.
 use Rattle.std.proofs.Common.{◌≡◌, inl, inr, ℕ, ℤ, ◌≤◌, Bool, true, false, ◌&&◌, ◌||◌}
 use Rattle.std.proofs.Common.{if◌then◌else◌, cond, List, [], ◌∷◌, ◌++◌, length, eqb, eq-eqb}
-use Rattle.std.proofs.Common.{Option, Some, None, unwrap_or, refl, sym, ap, ◌∙◌, append-nil, append_assoc}
+use Rattle.std.proofs.Common.{Option, Some, None, unwrap_or, refl, sym, ap, ◌∙◌, append-nil}
+use Rattle.std.proofs.Common.{append_assoc}
 use Rattle.std.specs.Ordering.{is_eq}
 use Rattle.std.specs.BTreeMap.{BTreeMap, get}
 use Rattle.std.specs.List.{list_any}
@@ -12,7 +13,8 @@ use Rattle.cam_names.proofs.Children.{is_some_name, child_of}
 use Rattle.cam_names.proofs.Names.{name_eq_same, name_ties_back}
 use Rattle.cam_event.specs.declared.Deed.{Deed}
 use Rattle.cam_event.specs.declared.Deed.TheVariants.{Create, Ask, Call, Perform, Bounce, Got}
-use Rattle.cam_event.specs.declared.Deed.TheVariants.{AskCommit, AskAbort, Commit, Abort, Secure, Inform, Crash}
+use Rattle.cam_event.specs.declared.Deed.TheVariants.{AskCommit, AskAbort, Commit, Abort, Secure}
+use Rattle.cam_event.specs.declared.Deed.TheVariants.{Inform, Crash}
 use Rattle.cam_event.specs.declared.ViewStep.{ViewStep}
 use Rattle.cam_event.specs.declared.ViewStep.TheVariants as steps
 use Rattle.cam_event.specs.History.{after, commit_value}

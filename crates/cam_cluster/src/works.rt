@@ -26,6 +26,7 @@ mod round;
 mod stop;
 mod undecided;
 
+use crate::founding::AsPart;
 use crate::room::{push_reserved, reserve_one};
 use crate::servers::Servers;
 use crate::telling::TellingLog;
@@ -80,21 +81,11 @@ pub(crate) trait AsWorks {
 
 impl<L: CheckpointLog> AsWorks for Works<L> {
     ghost use Rattle.std.specs.Prelude.{map};
-    ghost use Rattle.cam_node.specs.Calls.{answers};
     ghost use Rattle.cam_node.specs.Opened.{MayRead};
     ghost use Rattle.cam_cluster.specs.Works.{MayReadAt};
 
     ghost fields = { λ works. record {
-      nodes = map (λ node. record {
-        site = record { node = answers node.core; entries = L.listed node.log.log };
-        objects = node.objects;
-        halted = node.log.halted;
-        halted_at = node.halted_at;
-        passes = L.passes node.log.log;
-        reads = L.reads node.log.log;
-        tells = L.tells node.log.log;
-        failures = L.faults_within node.log.log;
-      }) works.nodes.items;
+      nodes = map ⟦<Node<L> as AsPart>⟧.part works.nodes.items;
       outbox = works.outbox;
       halted = works.halted;
       failed = works.failed;

@@ -19,8 +19,8 @@ returns-in-Some-clause-out g t c =
           logged read;
       readable = λ image told left. c.in-Some.node.log.readable (read_ckpt image)
           (sym c.into_disk.ensures.tells ∙ told)
-          (subst (λ t. Openings (g.D.Disk.left_since c.in-Some.node.log.log.disk.inner) t (read_ckpt image))
-          c.into_disk.ensures.moment
+          (subst (λ t. Openings (g.D.Disk.left_since c.in-Some.node.log.log.disk.inner) t
+          (read_ckpt image)) c.into_disk.ensures.moment
           (c.into_disk.ensures.opens_since _ image left));
     }))
 

@@ -1,5 +1,5 @@
 -- The disks that failed decide what is given.
-use Rattle.std.proofs.Common.{◌≡◌, ◌∙◌, None, Some, ap, arith, length}
+use Rattle.std.proofs.Common.{None, Some, ap, arith, length}
 use Rattle.cam_cluster.proofs.FirstFailed.{found_since, none_named}
 use Rattle.cam_cluster.proofs.HandedBack.{as_many}
 use Rattle.cam_cluster.proofs.run.run_script.Goals as goal

@@ -1,5 +1,6 @@
 -- `restart`, in a course.
-use Rattle.std.proofs.Common.{◌≡◌, ℕ, ◌<◌, ◌≤◌, ◌-◌, length, None, Ok, Err, sym, subst, arith, rules}
+use Rattle.std.proofs.Common.{◌≡◌, ℕ, ◌<◌, ◌≤◌, ◌-◌, length, None, Ok, Err, sym, subst, arith}
+use Rattle.std.proofs.Common.{rules}
 use Rattle.std.proofs.lemmas.List.{length-map}
 use Rattle.cam_script.specs.declared.Act.TheVariants as acts
 use Rattle.cam_cluster.specs.declared.course.CourseFault.TheVariants as faults

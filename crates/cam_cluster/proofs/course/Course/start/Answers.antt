@@ -52,8 +52,8 @@ returns-in_err-bad-clause-line g c =
     let might = reads_of g.L.CheckpointLog g.L.EntryLog c.args.self.now.lines.works in
     let new = lines_of g.L.CheckpointLog g.L.EntryLog c.take.new.self in
     let may = reads_of g.L.CheckpointLog g.L.EntryLog c.take.new.self.works in
-    let is : c.from_residual-in_err-bad.result ≡ Err (faults.Line c.in_err-bad.field-0.0) = search rules in
-    λ bodies.
+    let is : c.from_residual-in_err-bad.result
+    ≡ Err (faults.Line c.in_err-bad.field-0.0) = search rules in λ bodies.
     subst (λ r. IsAtWorkLine c.args.step.now bodies old might c.args.self.now.workers new may
     c.reserve.new.self r) (sym is)
     (fault_at_work c.args.step.now bodies old new might may c.args.self.now.workers

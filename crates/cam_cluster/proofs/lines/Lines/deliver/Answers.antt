@@ -20,12 +20,16 @@ pub returns-in_err-coming-clause-line : goal.returns-in_err-coming-clause-line
 returns-in_err-coming-clause-line g c =
     let is : c.from_residual.result ≡ Err c.in_err-coming.field-0.0 = search rules in
     subst (λ r. IsLineBy c.args.line (acts.Deliver c.args.letter) (IsDelivery c.args.letter)
-    (lines_of g.L.CheckpointLog g.L.EntryLog c.args.self.now) (reads_of g.L.CheckpointLog g.L.EntryLog c.args.self.now.works)
-    (lines_of g.L.CheckpointLog g.L.EntryLog c.take_letter.new.self) (reads_of g.L.CheckpointLog g.L.EntryLog c.take_letter.new.self.works) r) (sym is)
-    (not_taken (IsDelivery c.args.letter) c.args.line c.args.letter (acts.Deliver c.args.letter)
-    (λ script st. refl) (lines_of g.L.CheckpointLog g.L.EntryLog c.args.self.now) (lines_of g.L.CheckpointLog g.L.EntryLog c.take_letter.new.self)
+    (lines_of g.L.CheckpointLog g.L.EntryLog c.args.self.now)
     (reads_of g.L.CheckpointLog g.L.EntryLog c.args.self.now.works)
-    (reads_of g.L.CheckpointLog g.L.EntryLog c.take_letter.new.self.works) c.in_err-coming.field-0.0 c.in_err-coming.ensures.taken)
+    (lines_of g.L.CheckpointLog g.L.EntryLog c.take_letter.new.self)
+    (reads_of g.L.CheckpointLog g.L.EntryLog c.take_letter.new.self.works) r) (sym is)
+    (not_taken (IsDelivery c.args.letter) c.args.line c.args.letter (acts.Deliver c.args.letter)
+    (λ script st. refl) (lines_of g.L.CheckpointLog g.L.EntryLog c.args.self.now)
+    (lines_of g.L.CheckpointLog g.L.EntryLog c.take_letter.new.self)
+    (reads_of g.L.CheckpointLog g.L.EntryLog c.args.self.now.works)
+    (reads_of g.L.CheckpointLog g.L.EntryLog c.take_letter.new.self.works) c.in_err-coming.field-0.0
+    c.in_err-coming.ensures.taken)
 
 pub returns-in_err-coming-clause-servers : goal.returns-in_err-coming-clause-servers
 returns-in_err-coming-clause-servers g c =
@@ -37,10 +41,13 @@ read-requires-clause-all g c =
 
 pub read-requires-clause-stand : goal.read-requires-clause-stand
 read-requires-clause-stand g c =
-    works_of_lines (lines_of g.L.CheckpointLog g.L.EntryLog c.take_letter.new.self) (reads_of g.L.CheckpointLog g.L.EntryLog c.take_letter.new.self.works)
-    (some_lines (lines_of g.L.CheckpointLog g.L.EntryLog c.args.self.now) (lines_of g.L.CheckpointLog g.L.EntryLog c.take_letter.new.self)
+    works_of_lines (lines_of g.L.CheckpointLog g.L.EntryLog c.take_letter.new.self)
+    (reads_of g.L.CheckpointLog g.L.EntryLog c.take_letter.new.self.works)
+    (some_lines (lines_of g.L.CheckpointLog g.L.EntryLog c.args.self.now)
+    (lines_of g.L.CheckpointLog g.L.EntryLog c.take_letter.new.self)
     (reads_of g.L.CheckpointLog g.L.EntryLog c.args.self.now.works)
-    (reads_of g.L.CheckpointLog g.L.EntryLog c.take_letter.new.self.works) c.in_ok-coming.ensures.taken.as_before c.requires.stand)
+    (reads_of g.L.CheckpointLog g.L.EntryLog c.take_letter.new.self.works)
+    c.in_ok-coming.ensures.taken.as_before c.requires.stand)
 
 pub read-requires-clause-found : goal.read-requires-clause-found
 read-requires-clause-found g c =
@@ -54,11 +61,15 @@ pub returns-in_err-whole-clause-line : goal.returns-in_err-whole-clause-line
 returns-in_err-whole-clause-line g c =
     let wants : c.from_residual-in_err-whole.result ≡ Err line_faults.NoMemory = search rules in
     subst (λ r. IsLineBy c.args.line (acts.Deliver c.args.letter) (IsDelivery c.args.letter)
-    (lines_of g.L.CheckpointLog g.L.EntryLog c.args.self.now) (reads_of g.L.CheckpointLog g.L.EntryLog c.args.self.now.works)
-    (lines_of g.L.CheckpointLog g.L.EntryLog c.take_letter.new.self) (reads_of g.L.CheckpointLog g.L.EntryLog c.take_letter.new.self.works) r) (sym wants)
+    (lines_of g.L.CheckpointLog g.L.EntryLog c.args.self.now)
+    (reads_of g.L.CheckpointLog g.L.EntryLog c.args.self.now.works)
+    (lines_of g.L.CheckpointLog g.L.EntryLog c.take_letter.new.self)
+    (reads_of g.L.CheckpointLog g.L.EntryLog c.take_letter.new.self.works) r) (sym wants)
     (wanting_ends (IsDelivery c.args.letter) c.args.line (acts.Deliver c.args.letter)
-    (lines_of g.L.CheckpointLog g.L.EntryLog c.args.self.now) (lines_of g.L.CheckpointLog g.L.EntryLog c.take_letter.new.self)
-    (reads_of g.L.CheckpointLog g.L.EntryLog c.args.self.now.works) (reads_of g.L.CheckpointLog g.L.EntryLog c.take_letter.new.self.works)
+    (lines_of g.L.CheckpointLog g.L.EntryLog c.args.self.now)
+    (lines_of g.L.CheckpointLog g.L.EntryLog c.take_letter.new.self)
+    (reads_of g.L.CheckpointLog g.L.EntryLog c.args.self.now.works)
+    (reads_of g.L.CheckpointLog g.L.EntryLog c.take_letter.new.self.works)
     c.in_ok-coming.ensures.taken.as_before)
 
 pub returns-in_err-whole-clause-servers : goal.returns-in_err-whole-clause-servers
@@ -67,9 +78,11 @@ returns-in_err-whole-clause-servers g c =
 
 pub lead_letter-requires-clause-stand : goal.lead_letter-requires-clause-stand
 lead_letter-requires-clause-stand g c =
-    (some_lines (lines_of g.L.CheckpointLog g.L.EntryLog c.args.self.now) (lines_of g.L.CheckpointLog g.L.EntryLog c.take_letter.new.self)
+    (some_lines (lines_of g.L.CheckpointLog g.L.EntryLog c.args.self.now)
+    (lines_of g.L.CheckpointLog g.L.EntryLog c.take_letter.new.self)
     (reads_of g.L.CheckpointLog g.L.EntryLog c.args.self.now.works)
-    (reads_of g.L.CheckpointLog g.L.EntryLog c.take_letter.new.self.works) c.in_ok-coming.ensures.taken.as_before c.requires.stand)
+    (reads_of g.L.CheckpointLog g.L.EntryLog c.take_letter.new.self.works)
+    c.in_ok-coming.ensures.taken.as_before c.requires.stand)
 
 pub lead_letter-requires-clause-all : goal.lead_letter-requires-clause-all
 lead_letter-requires-clause-all g c =
@@ -100,16 +113,22 @@ returns-in_err-lead_letter-clause-line g c =
     let wants : c.from_residual-in_err-lead_letter.result ≡ Err line_faults.NoMemory =
     search rules in
     subst (λ r. IsLineBy c.args.line (acts.Deliver c.args.letter) (IsDelivery c.args.letter)
-    (lines_of g.L.CheckpointLog g.L.EntryLog c.args.self.now) (reads_of g.L.CheckpointLog g.L.EntryLog c.args.self.now.works)
-    (lines_of g.L.CheckpointLog g.L.EntryLog c.lead_letter.new.self) (reads_of g.L.CheckpointLog g.L.EntryLog c.lead_letter.new.self.works) r) (sym wants)
+    (lines_of g.L.CheckpointLog g.L.EntryLog c.args.self.now)
+    (reads_of g.L.CheckpointLog g.L.EntryLog c.args.self.now.works)
+    (lines_of g.L.CheckpointLog g.L.EntryLog c.lead_letter.new.self)
+    (reads_of g.L.CheckpointLog g.L.EntryLog c.lead_letter.new.self.works) r) (sym wants)
     (wanting_ends (IsDelivery c.args.letter) c.args.line (acts.Deliver c.args.letter)
-    (lines_of g.L.CheckpointLog g.L.EntryLog c.args.self.now) (lines_of g.L.CheckpointLog g.L.EntryLog c.lead_letter.new.self)
-    (reads_of g.L.CheckpointLog g.L.EntryLog c.args.self.now.works) (reads_of g.L.CheckpointLog g.L.EntryLog c.lead_letter.new.self.works)
-    (both_before (lines_of g.L.CheckpointLog g.L.EntryLog c.args.self.now) (lines_of g.L.CheckpointLog g.L.EntryLog c.take_letter.new.self) (lines_of g.L.CheckpointLog g.L.EntryLog c.lead_letter.new.self)
+    (lines_of g.L.CheckpointLog g.L.EntryLog c.args.self.now)
+    (lines_of g.L.CheckpointLog g.L.EntryLog c.lead_letter.new.self)
+    (reads_of g.L.CheckpointLog g.L.EntryLog c.args.self.now.works)
+    (reads_of g.L.CheckpointLog g.L.EntryLog c.lead_letter.new.self.works)
+    (both_before (lines_of g.L.CheckpointLog g.L.EntryLog c.args.self.now)
+    (lines_of g.L.CheckpointLog g.L.EntryLog c.take_letter.new.self)
+    (lines_of g.L.CheckpointLog g.L.EntryLog c.lead_letter.new.self)
     (reads_of g.L.CheckpointLog g.L.EntryLog c.args.self.now.works)
     (reads_of g.L.CheckpointLog g.L.EntryLog c.take_letter.new.self.works)
-    (reads_of g.L.CheckpointLog g.L.EntryLog c.lead_letter.new.self.works) c.in_ok-coming.ensures.taken.as_before
-    c.in_err-lead_letter.ensures.as_before))
+    (reads_of g.L.CheckpointLog g.L.EntryLog c.lead_letter.new.self.works)
+    c.in_ok-coming.ensures.taken.as_before c.in_err-lead_letter.ensures.as_before))
 
 pub returns-in_err-lead_letter-clause-servers : goal.returns-in_err-lead_letter-clause-servers
 returns-in_err-lead_letter-clause-servers g c =
@@ -121,12 +140,14 @@ returns-clause-disks g c =
 
 pub returns-clause-line : goal.returns-clause-line
 returns-clause-line g c =
-    deliver_ends c.args.line c.args.letter c.in_ok-coming.coming (lines_of g.L.CheckpointLog g.L.EntryLog c.args.self.now)
-    (lines_of g.L.CheckpointLog g.L.EntryLog c.take_letter.new.self) (lines_of g.L.CheckpointLog g.L.EntryLog c.lead_letter.new.self)
+    deliver_ends c.args.line c.args.letter c.in_ok-coming.coming
+    (lines_of g.L.CheckpointLog g.L.EntryLog c.args.self.now)
+    (lines_of g.L.CheckpointLog g.L.EntryLog c.take_letter.new.self)
+    (lines_of g.L.CheckpointLog g.L.EntryLog c.lead_letter.new.self)
     (reads_of g.L.CheckpointLog g.L.EntryLog c.args.self.now.works)
     (reads_of g.L.CheckpointLog g.L.EntryLog c.take_letter.new.self.works)
-    (reads_of g.L.CheckpointLog g.L.EntryLog c.lead_letter.new.self.works) c.in_ok-coming.ensures.taken c.in_ok-lead_letter.field-0
-    c.in_ok-lead_letter.ensures.led
+    (reads_of g.L.CheckpointLog g.L.EntryLog c.lead_letter.new.self.works)
+    c.in_ok-coming.ensures.taken c.in_ok-lead_letter.field-0 c.in_ok-lead_letter.ensures.led
 
 pub returns-clause-servers : goal.returns-clause-servers
 returns-clause-servers g c =

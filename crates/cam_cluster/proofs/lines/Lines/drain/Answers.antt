@@ -19,8 +19,13 @@ returns-in_err-reserve_one-clause-line g c =
 pub returns-in_err-reserve_one-clause-part : goal.returns-in_err-reserve_one-clause-part
 returns-in_err-reserve_one-clause-part g c =
     on_err c.from_residual.result _
-    (drain_part c.args.line (works_of g.L.CheckpointLog g.L.EntryLog c.args.self.now.works) (works_of g.L.CheckpointLog g.L.EntryLog c.args.self.now.works) (reads_of g.L.CheckpointLog g.L.EntryLog c.args.self.now.works) (reads_of g.L.CheckpointLog g.L.EntryLog c.args.self.now.works) c.args.self.now.bound.items
-    c.reserve_one.new.list.items (none_so_far c.args.line (works_of g.L.CheckpointLog g.L.EntryLog c.args.self.now.works) (reads_of g.L.CheckpointLog g.L.EntryLog c.args.self.now.works)) c.reserve_one.ensures.same)
+    (drain_part c.args.line (works_of g.L.CheckpointLog g.L.EntryLog c.args.self.now.works)
+    (works_of g.L.CheckpointLog g.L.EntryLog c.args.self.now.works)
+    (reads_of g.L.CheckpointLog g.L.EntryLog c.args.self.now.works)
+    (reads_of g.L.CheckpointLog g.L.EntryLog c.args.self.now.works) c.args.self.now.bound.items
+    c.reserve_one.new.list.items (none_so_far c.args.line
+    (works_of g.L.CheckpointLog g.L.EntryLog c.args.self.now.works)
+    (reads_of g.L.CheckpointLog g.L.EntryLog c.args.self.now.works)) c.reserve_one.ensures.same)
 
 pub returns-in_err-reserve_one-clause-servers : goal.returns-in_err-reserve_one-clause-servers
 returns-in_err-reserve_one-clause-servers g c =
@@ -28,7 +33,8 @@ returns-in_err-reserve_one-clause-servers g c =
 
 pub drain-requires-clause-stand : goal.drain-requires-clause-stand
 drain-requires-clause-stand g c =
-    works_of_lines (lines_of g.L.CheckpointLog g.L.EntryLog c.args.self.now) (reads_of g.L.CheckpointLog g.L.EntryLog c.args.self.now.works) c.requires.stand
+    works_of_lines (lines_of g.L.CheckpointLog g.L.EntryLog c.args.self.now)
+    (reads_of g.L.CheckpointLog g.L.EntryLog c.args.self.now.works) c.requires.stand
 
 pub drain-requires-clause-servers : goal.drain-requires-clause-servers
 drain-requires-clause-servers g c =
@@ -45,7 +51,10 @@ returns-in_err-drain-clause-line g c =
 pub returns-in_err-drain-clause-part : goal.returns-in_err-drain-clause-part
 returns-in_err-drain-clause-part g c =
     on_err c.from_residual-in_err-drain.result _
-    (drain_part c.args.line (works_of g.L.CheckpointLog g.L.EntryLog c.args.self.now.works) (works_of g.L.CheckpointLog g.L.EntryLog c.drain.new.self) (reads_of g.L.CheckpointLog g.L.EntryLog c.args.self.now.works) (reads_of g.L.CheckpointLog g.L.EntryLog c.drain.new.self) c.args.self.now.bound.items
+    (drain_part c.args.line (works_of g.L.CheckpointLog g.L.EntryLog c.args.self.now.works)
+    (works_of g.L.CheckpointLog g.L.EntryLog c.drain.new.self)
+    (reads_of g.L.CheckpointLog g.L.EntryLog c.args.self.now.works)
+    (reads_of g.L.CheckpointLog g.L.EntryLog c.drain.new.self) c.args.self.now.bound.items
     c.reserve_one.new.list.items c.in_err-drain.ensures.part c.reserve_one.ensures.same)
 
 pub returns-in_err-drain-clause-servers : goal.returns-in_err-drain-clause-servers
@@ -62,7 +71,10 @@ returns-clause-disks g c =
 
 pub returns-clause-line : goal.returns-clause-line
 returns-clause-line g c =
-    drain_line c.args.line (works_of g.L.CheckpointLog g.L.EntryLog c.args.self.now.works) (works_of g.L.CheckpointLog g.L.EntryLog c.drain.new.self) (reads_of g.L.CheckpointLog g.L.EntryLog c.args.self.now.works) (reads_of g.L.CheckpointLog g.L.EntryLog c.drain.new.self) c.args.self.now.bound.items
+    drain_line c.args.line (works_of g.L.CheckpointLog g.L.EntryLog c.args.self.now.works)
+    (works_of g.L.CheckpointLog g.L.EntryLog c.drain.new.self)
+    (reads_of g.L.CheckpointLog g.L.EntryLog c.args.self.now.works)
+    (reads_of g.L.CheckpointLog g.L.EntryLog c.drain.new.self) c.args.self.now.bound.items
     c.push_reserved.new.list.items c.in_ok-drain.ensures.drained
     (c.push_reserved.ensures ∙ ap (λ bs. bs ++ None ∷ []) c.reserve_one.ensures.same)
 

@@ -22,8 +22,8 @@ returns-in_err-letter g c = record {
   found = λ script st is keeps.
       subst (IsFound c.args.number st) (sym c.from_residual.ensures)
       (is_numbered script st (works_of g.L.CheckpointLog g.L.EntryLog c.args.self.now)
-      (reads_of g.L.CheckpointLog g.L.EntryLog c.args.self.now) keeps c.requires.all c.args.number None
-      (has_as c.whole.result (λ b. b.now) c.args.self.now.outbox.net c.net.result.now
+      (reads_of g.L.CheckpointLog g.L.EntryLog c.args.self.now) keeps c.requires.all c.args.number
+      None (has_as c.whole.result (λ b. b.now) c.args.self.now.outbox.net c.net.result.now
       c.args.number c.whole.ensures c.net.ensures ∙ c.if-is_none.ensures)
       (sym c.in_err-letter.was ∙ c.numbered.ensures));
 }

@@ -11,7 +11,9 @@ use Rattle.cam_cluster.proofs.works.Works.deliver_next.Goals as goal
 
 pub put_letters-requires : goal.put_letters-requires
 put_letters-requires g c = record {
-  writable = works_may_be_written (works_of g.L.CheckpointLog g.L.EntryLog c.args.self.now) (reads_of g.L.CheckpointLog g.L.EntryLog c.args.self.now) c.requires.stand;
+  writable =
+      works_may_be_written (works_of g.L.CheckpointLog g.L.EntryLog c.args.self.now)
+      (reads_of g.L.CheckpointLog g.L.EntryLog c.args.self.now) c.requires.stand;
 }
 
 pub returns-in_err-put_letters-clause-disks : goal.returns-in_err-put_letters-clause-disks
@@ -36,7 +38,10 @@ returns-in_default-clause-disks g c =
 
 pub returns-in_default-clause-next : goal.returns-in_default-clause-next
 returns-in_default-clause-next g c =
-    none_next c.args.line (works_of g.L.CheckpointLog g.L.EntryLog c.args.self.now) (works_of g.L.CheckpointLog g.L.EntryLog c.put_letters.new.self) (reads_of g.L.CheckpointLog g.L.EntryLog c.args.self.now) (reads_of g.L.CheckpointLog g.L.EntryLog c.put_letters.new.self)
+    none_next c.args.line (works_of g.L.CheckpointLog g.L.EntryLog c.args.self.now)
+    (works_of g.L.CheckpointLog g.L.EntryLog c.put_letters.new.self)
+    (reads_of g.L.CheckpointLog g.L.EntryLog c.args.self.now)
+    (reads_of g.L.CheckpointLog g.L.EntryLog c.put_letters.new.self)
     c.put_letters.ensures.as_before c.in_ok-put_letters.ensures.all
     (c.in_default.ensures ∙ ap (λ n. next_of c.put_letters.new.self.halted n) c.net.ensures)
 
@@ -49,15 +54,27 @@ coming-requires g c = record { all = c.in_ok-put_letters.ensures.all }
 
 pub unreachable-requires : goal.unreachable-requires
 unreachable-requires g c =
-    next_found (works_of g.L.CheckpointLog g.L.EntryLog c.put_letters.new.self) (reads_of g.L.CheckpointLog g.L.EntryLog c.put_letters.new.self) c.in-Some.number
-    (some_works (works_of g.L.CheckpointLog g.L.EntryLog c.args.self.now) (works_of g.L.CheckpointLog g.L.EntryLog c.put_letters.new.self) (reads_of g.L.CheckpointLog g.L.EntryLog c.args.self.now) (reads_of g.L.CheckpointLog g.L.EntryLog c.put_letters.new.self) c.put_letters.ensures.as_before c.requires.stand) c.in_ok-put_letters.ensures.all
-    (c.in-Some.ensures ∙ ap (λ n. next_of c.put_letters.new.self.halted n) c.net.ensures) c.in_default-coming.ensures.found
+    next_found (works_of g.L.CheckpointLog g.L.EntryLog c.put_letters.new.self)
+    (reads_of g.L.CheckpointLog g.L.EntryLog c.put_letters.new.self) c.in-Some.number
+    (some_works (works_of g.L.CheckpointLog g.L.EntryLog c.args.self.now)
+    (works_of g.L.CheckpointLog g.L.EntryLog c.put_letters.new.self)
+    (reads_of g.L.CheckpointLog g.L.EntryLog c.args.self.now)
+    (reads_of g.L.CheckpointLog g.L.EntryLog c.put_letters.new.self) c.put_letters.ensures.as_before
+    c.requires.stand) c.in_ok-put_letters.ensures.all
+    (c.in-Some.ensures ∙ ap (λ n. next_of c.put_letters.new.self.halted n) c.net.ensures)
+    c.in_default-coming.ensures.found
 
 pub unreachable-unreachable : goal.unreachable-unreachable
 unreachable-unreachable g c =
-    next_found (works_of g.L.CheckpointLog g.L.EntryLog c.put_letters.new.self) (reads_of g.L.CheckpointLog g.L.EntryLog c.put_letters.new.self) c.in-Some.number
-    (some_works (works_of g.L.CheckpointLog g.L.EntryLog c.args.self.now) (works_of g.L.CheckpointLog g.L.EntryLog c.put_letters.new.self) (reads_of g.L.CheckpointLog g.L.EntryLog c.args.self.now) (reads_of g.L.CheckpointLog g.L.EntryLog c.put_letters.new.self) c.put_letters.ensures.as_before c.requires.stand) c.in_ok-put_letters.ensures.all
-    (c.in-Some.ensures ∙ ap (λ n. next_of c.put_letters.new.self.halted n) c.net.ensures) c.in_default-coming.ensures.found
+    next_found (works_of g.L.CheckpointLog g.L.EntryLog c.put_letters.new.self)
+    (reads_of g.L.CheckpointLog g.L.EntryLog c.put_letters.new.self) c.in-Some.number
+    (some_works (works_of g.L.CheckpointLog g.L.EntryLog c.args.self.now)
+    (works_of g.L.CheckpointLog g.L.EntryLog c.put_letters.new.self)
+    (reads_of g.L.CheckpointLog g.L.EntryLog c.args.self.now)
+    (reads_of g.L.CheckpointLog g.L.EntryLog c.put_letters.new.self) c.put_letters.ensures.as_before
+    c.requires.stand) c.in_ok-put_letters.ensures.all
+    (c.in-Some.ensures ∙ ap (λ n. next_of c.put_letters.new.self.halted n) c.net.ensures)
+    c.in_default-coming.ensures.found
 
 pub read-requires-clause-all : goal.read-requires-clause-all
 read-requires-clause-all g c =
@@ -65,7 +82,11 @@ read-requires-clause-all g c =
 
 pub read-requires-clause-stand : goal.read-requires-clause-stand
 read-requires-clause-stand g c =
-    (some_works (works_of g.L.CheckpointLog g.L.EntryLog c.args.self.now) (works_of g.L.CheckpointLog g.L.EntryLog c.put_letters.new.self) (reads_of g.L.CheckpointLog g.L.EntryLog c.args.self.now) (reads_of g.L.CheckpointLog g.L.EntryLog c.put_letters.new.self) c.put_letters.ensures.as_before c.requires.stand)
+    (some_works (works_of g.L.CheckpointLog g.L.EntryLog c.args.self.now)
+    (works_of g.L.CheckpointLog g.L.EntryLog c.put_letters.new.self)
+    (reads_of g.L.CheckpointLog g.L.EntryLog c.args.self.now)
+    (reads_of g.L.CheckpointLog g.L.EntryLog c.put_letters.new.self) c.put_letters.ensures.as_before
+    c.requires.stand)
 
 pub read-requires-clause-found : goal.read-requires-clause-found
 read-requires-clause-found g c =
@@ -93,7 +114,11 @@ hand_over-requires-clause-all g c =
 
 pub hand_over-requires-clause-stand : goal.hand_over-requires-clause-stand
 hand_over-requires-clause-stand g c =
-    (some_works (works_of g.L.CheckpointLog g.L.EntryLog c.args.self.now) (works_of g.L.CheckpointLog g.L.EntryLog c.put_letters.new.self) (reads_of g.L.CheckpointLog g.L.EntryLog c.args.self.now) (reads_of g.L.CheckpointLog g.L.EntryLog c.put_letters.new.self) c.put_letters.ensures.as_before c.requires.stand)
+    (some_works (works_of g.L.CheckpointLog g.L.EntryLog c.args.self.now)
+    (works_of g.L.CheckpointLog g.L.EntryLog c.put_letters.new.self)
+    (reads_of g.L.CheckpointLog g.L.EntryLog c.args.self.now)
+    (reads_of g.L.CheckpointLog g.L.EntryLog c.put_letters.new.self) c.put_letters.ensures.as_before
+    c.requires.stand)
 
 pub hand_over-requires-clause-found : goal.hand_over-requires-clause-found
 hand_over-requires-clause-found g c =
@@ -101,9 +126,15 @@ hand_over-requires-clause-found g c =
 
 pub hand_over-requires-clause-awake : goal.hand_over-requires-clause-awake
 hand_over-requires-clause-awake g c =
-    next_awake (works_of g.L.CheckpointLog g.L.EntryLog c.put_letters.new.self) (reads_of g.L.CheckpointLog g.L.EntryLog c.put_letters.new.self) c.in-Some.number c.in-Some-coming.coming
-    (some_works (works_of g.L.CheckpointLog g.L.EntryLog c.args.self.now) (works_of g.L.CheckpointLog g.L.EntryLog c.put_letters.new.self) (reads_of g.L.CheckpointLog g.L.EntryLog c.args.self.now) (reads_of g.L.CheckpointLog g.L.EntryLog c.put_letters.new.self) c.put_letters.ensures.as_before c.requires.stand) c.in_ok-put_letters.ensures.all
-    (c.in-Some.ensures ∙ ap (λ n. next_of c.put_letters.new.self.halted n) c.net.ensures) c.in-Some-coming.ensures.found
+    next_awake (works_of g.L.CheckpointLog g.L.EntryLog c.put_letters.new.self)
+    (reads_of g.L.CheckpointLog g.L.EntryLog c.put_letters.new.self) c.in-Some.number
+    c.in-Some-coming.coming (some_works (works_of g.L.CheckpointLog g.L.EntryLog c.args.self.now)
+    (works_of g.L.CheckpointLog g.L.EntryLog c.put_letters.new.self)
+    (reads_of g.L.CheckpointLog g.L.EntryLog c.args.self.now)
+    (reads_of g.L.CheckpointLog g.L.EntryLog c.put_letters.new.self) c.put_letters.ensures.as_before
+    c.requires.stand) c.in_ok-put_letters.ensures.all
+    (c.in-Some.ensures ∙ ap (λ n. next_of c.put_letters.new.self.halted n) c.net.ensures)
+    c.in-Some-coming.ensures.found
 
 pub hand_over-requires-clause-read : goal.hand_over-requires-clause-read
 hand_over-requires-clause-read g c =
@@ -124,7 +155,12 @@ returns-in_err-done-clause-next g c =
 pub returns-in_err-done-clause-as_before : goal.returns-in_err-done-clause-as_before
 returns-in_err-done-clause-as_before g c =
     on_err c.from_residual-in_err-done.result _
-    (then_before (works_of g.L.CheckpointLog g.L.EntryLog c.args.self.now) (works_of g.L.CheckpointLog g.L.EntryLog c.put_letters.new.self) (works_of g.L.CheckpointLog g.L.EntryLog c.hand_over.new.self) (reads_of g.L.CheckpointLog g.L.EntryLog c.args.self.now) (reads_of g.L.CheckpointLog g.L.EntryLog c.put_letters.new.self) (reads_of g.L.CheckpointLog g.L.EntryLog c.hand_over.new.self)
+    (then_before (works_of g.L.CheckpointLog g.L.EntryLog c.args.self.now)
+    (works_of g.L.CheckpointLog g.L.EntryLog c.put_letters.new.self)
+    (works_of g.L.CheckpointLog g.L.EntryLog c.hand_over.new.self)
+    (reads_of g.L.CheckpointLog g.L.EntryLog c.args.self.now)
+    (reads_of g.L.CheckpointLog g.L.EntryLog c.put_letters.new.self)
+    (reads_of g.L.CheckpointLog g.L.EntryLog c.hand_over.new.self)
     c.put_letters.ensures.as_before c.in_err-done.ensures.as_before)
 
 pub returns-in_err-done-clause-servers : goal.returns-in_err-done-clause-servers
@@ -137,9 +173,16 @@ returns-clause-disks g c =
 
 pub returns-clause-next : goal.returns-clause-next
 returns-clause-next g c =
-    handed_next c.args.line c.in-Some.number (works_of g.L.CheckpointLog g.L.EntryLog c.args.self.now) (works_of g.L.CheckpointLog g.L.EntryLog c.put_letters.new.self) (works_of g.L.CheckpointLog g.L.EntryLog c.hand_over.new.self) (reads_of g.L.CheckpointLog g.L.EntryLog c.args.self.now) (reads_of g.L.CheckpointLog g.L.EntryLog c.put_letters.new.self) (reads_of g.L.CheckpointLog g.L.EntryLog c.hand_over.new.self) c.in_ok-done.done
+    handed_next c.args.line c.in-Some.number
+    (works_of g.L.CheckpointLog g.L.EntryLog c.args.self.now)
+    (works_of g.L.CheckpointLog g.L.EntryLog c.put_letters.new.self)
+    (works_of g.L.CheckpointLog g.L.EntryLog c.hand_over.new.self)
+    (reads_of g.L.CheckpointLog g.L.EntryLog c.args.self.now)
+    (reads_of g.L.CheckpointLog g.L.EntryLog c.put_letters.new.self)
+    (reads_of g.L.CheckpointLog g.L.EntryLog c.hand_over.new.self) c.in_ok-done.done
     c.put_letters.ensures.as_before c.in_ok-put_letters.ensures.all
-    (c.in-Some.ensures ∙ ap (λ n. next_of c.put_letters.new.self.halted n) c.net.ensures) c.in_ok-done.ensures.delivered
+    (c.in-Some.ensures ∙ ap (λ n. next_of c.put_letters.new.self.halted n) c.net.ensures)
+    c.in_ok-done.ensures.delivered
 
 pub returns-clause-servers : goal.returns-clause-servers
 returns-clause-servers g c =

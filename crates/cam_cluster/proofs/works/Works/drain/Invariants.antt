@@ -9,9 +9,12 @@ use Rattle.cam_cluster.proofs.works.Works.drain.Given as goal
 abbrev pub invariant-loop : goal.invariant-loop
 invariant-loop g l = record {
   so_far :
-      HasDeliveredSome l.line (works_of g.L.CheckpointLog g.L.EntryLog l.initial.self) (reads_of g.L.CheckpointLog g.L.EntryLog l.initial.self)
-      (works_of g.L.CheckpointLog g.L.EntryLog l.self) (reads_of g.L.CheckpointLog g.L.EntryLog l.self);
-  some : AreWorksOfSome (works_of g.L.CheckpointLog g.L.EntryLog l.self) (reads_of g.L.CheckpointLog g.L.EntryLog l.self);
+      HasDeliveredSome l.line (works_of g.L.CheckpointLog g.L.EntryLog l.initial.self)
+      (reads_of g.L.CheckpointLog g.L.EntryLog l.initial.self)
+      (works_of g.L.CheckpointLog g.L.EntryLog l.self)
+      (reads_of g.L.CheckpointLog g.L.EntryLog l.self);
+  some : AreWorksOfSome (works_of g.L.CheckpointLog g.L.EntryLog l.self)
+      (reads_of g.L.CheckpointLog g.L.EntryLog l.self);
   disks :
       DisksGoOn (works_of g.L.CheckpointLog g.L.EntryLog l.initial.self)
       (works_of g.L.CheckpointLog g.L.EntryLog l.self);

@@ -62,8 +62,8 @@ loop-preserved g c =
     let may = reads_of g.L.CheckpointLog g.L.EntryLog c.play_round.new.self in
     let put : c.in_ok-puts_one.puts_one ≡ true =
     first_of (search rules, search (rules, not-false)) in
-    let one = subst (λ (b : Bool). HasPlayedRound c.args.line c.args.bodies.now mid mays c.loop.workers
-    b new may c.play_round.new.workers) put c.in_ok-puts_one.ensures.round in
+    let one = subst (λ (b : Bool). HasPlayedRound c.args.line c.args.bodies.now mid mays
+    c.loop.workers b new may c.play_round.new.workers) put c.in_ok-puts_one.ensures.round in
     record {
       so_far =
           next_round c.loop.counter c.args.line c.args.bodies.now old mid new might mays may

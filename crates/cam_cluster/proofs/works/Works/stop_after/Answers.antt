@@ -18,9 +18,10 @@ returns-clause-stopped g c =
     let old = c.index_mut.result.now in
     let new = c.stop_after.new.self in
     stopped_in (part g.L.CheckpointLog g.L.EntryLog) (tells_of g.L.CheckpointLog g.L.EntryLog)
-    (reads_at g.L.CheckpointLog g.L.EntryLog) c.args.place c.args.calls works.nodes.items _ works.outbox
-    works.halted works.failed works.undecided.items works.events.events.items works.marks.items old new c.requires c.index_mut.ensures.value
-    refl
+    (reads_at g.L.CheckpointLog g.L.EntryLog) c.args.place c.args.calls works.nodes.items _
+    works.outbox
+    works.halted works.failed works.undecided.items works.events.events.items works.marks.items old
+    new c.requires c.index_mut.ensures.value refl
     (λ i. record {
       site = record {
         node = answers (c.stop_after.ensures.core i);

@@ -35,7 +35,8 @@ returns-in_err-catch_up-clause-part g c =
     let reads = reads_of g.L.CheckpointLog g.L.EntryLog c.args.self.now in
     on_err c.from_residual.result _
     (no_turns c.args.line c.args.bodies.now works reads c.args.workers.now c.catch_up.new.self
-    (λ script st keeps are. c.catch_up.ensures.stay st (c.as_slice.ensures.value ∙ keeps.events) are))
+    (λ script st keeps are. c.catch_up.ensures.stay st (c.as_slice.ensures.value ∙ keeps.events)
+    are))
 
 pub returns-in_err-catch_up-clause-servers : goal.returns-in_err-catch_up-clause-servers
 returns-in_err-catch_up-clause-servers g c =
@@ -55,7 +56,8 @@ returns-in_err-names-clause-part g c =
     let reads = reads_of g.L.CheckpointLog g.L.EntryLog c.args.self.now in
     on_err c.from_residual-in_err-names.result _
     (no_turns c.args.line c.args.bodies.now works reads c.args.workers.now c.catch_up.new.self
-    (λ script st keeps are. c.catch_up.ensures.stay st (c.as_slice.ensures.value ∙ keeps.events) are))
+    (λ script st keeps are. c.catch_up.ensures.stay st (c.as_slice.ensures.value ∙ keeps.events)
+    are))
 
 pub returns-in_err-names-clause-servers : goal.returns-in_err-names-clause-servers
 returns-in_err-names-clause-servers g c =

@@ -15,7 +15,8 @@ pub catch_up-requires : goal.catch_up-requires
 catch_up-requires g c =
     let turn = c.requires.turn in
     let fits = turn.are_workers.within in
-    let many = as_many c.args.self.now.events.events.items turn.standing.running.trace turn.keeps.events in
+    let many = as_many c.args.self.now.events.events.items turn.standing.running.trace
+    turn.keeps.events in
     subst (λ es. c.args.workers.now.events ≤ length es) (sym c.as_slice.ensures.value)
     (omega (arith, fits, many))
 
@@ -95,7 +96,8 @@ returns-in-GoesOn-clause-turn g c =
     c.catch_up.new.self end new may c.go.new.workers)
     (λ end. HasHadTurn c.args.line c.args.name.now c.args.bodies.now works reads
     c.args.workers.now end new may c.go.new.workers)
-    (λ end has. turn_gone c.args.line c.args.name.now c.args.bodies.now works reads c.args.workers.now
+    (λ end has. turn_gone c.args.line c.args.name.now c.args.bodies.now works reads
+    c.args.workers.now
     c.catch_up.new.self c.requires.turn caught_up end new may c.go.new.workers told has)
     c.go.ensures.gone
 

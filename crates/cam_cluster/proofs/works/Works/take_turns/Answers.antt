@@ -13,7 +13,10 @@ use Rattle.cam_cluster.proofs.works.Works.take_turns.Goals as goal
 
 pub loop-name-init : goal.loop-name-init
 loop-name-init g c = record {
-  had = no_turn c.args.line c.args.bodies.now (works_of g.L.CheckpointLog g.L.EntryLog c.args.self.now) (reads_of g.L.CheckpointLog g.L.EntryLog c.args.self.now) c.args.workers.now;
+  had =
+      no_turn c.args.line c.args.bodies.now
+      (works_of g.L.CheckpointLog g.L.EntryLog c.args.self.now)
+      (reads_of g.L.CheckpointLog g.L.EntryLog c.args.self.now) c.args.workers.now;
   some = c.requires.turns;
   servers = c.requires.servers;
   disks = goes_on_still;
@@ -25,7 +28,11 @@ offset_bounds-names-name-index g c =
 
 pub take_turn-requires-clause-turn : goal.take_turn-requires-clause-turn
 take_turn-requires-clause-turn g c =
-    turn_of_some c.args.names.now c.args.line c.name-item.result c.args.bodies.now (works_of g.L.CheckpointLog g.L.EntryLog c.loop-name.self) (works_of g.L.CheckpointLog g.L.EntryLog c.loop-name.self) (reads_of g.L.CheckpointLog g.L.EntryLog c.loop-name.self) (reads_of g.L.CheckpointLog g.L.EntryLog c.loop-name.self)
+    turn_of_some c.args.names.now c.args.line c.name-item.result c.args.bodies.now
+    (works_of g.L.CheckpointLog g.L.EntryLog c.loop-name.self)
+    (works_of g.L.CheckpointLog g.L.EntryLog c.loop-name.self)
+    (reads_of g.L.CheckpointLog g.L.EntryLog c.loop-name.self)
+    (reads_of g.L.CheckpointLog g.L.EntryLog c.loop-name.self)
     c.loop-name.workers c.loop-name.workers c.loop-name.invariant.some c.loop-name.name-index
     (taken_there c.args.names.now c.loop-name.name-index c.name-item.result
     c.loop-name-test.true c.name-item.is)
@@ -45,7 +52,8 @@ pub returns-in_err-take_turn-clause-part : goal.returns-in_err-take_turn-clause-
 returns-in_err-take_turn-clause-part g c =
     on_err c.from_residual.result _ (record {
       many = c.loop-name.name-index;
-      first = turns_wanting c.args.line (take c.loop-name.name-index c.args.names.now) c.args.bodies.now
+      first =
+          turns_wanting c.args.line (take c.loop-name.name-index c.args.names.now) c.args.bodies.now
           (works_of g.L.CheckpointLog g.L.EntryLog c.args.self.now)
           (works_of g.L.CheckpointLog g.L.EntryLog c.loop-name.self)
           (works_of g.L.CheckpointLog g.L.EntryLog c.take_turn.new.self)
@@ -66,8 +74,13 @@ loop-name-preserved g c =
     ∙ ap (λ (y : Name). take c.loop-name.name-index c.args.names.now ++ y ∷ [])
     (sym c.name-item.is) in
     record {
-      had = subst (λ (ns : List Name). HaveHadTurns c.args.line ns c.args.bodies.now (works_of g.L.CheckpointLog g.L.EntryLog c.args.self.now) (reads_of g.L.CheckpointLog g.L.EntryLog c.args.self.now)
-          c.args.workers.now (works_of g.L.CheckpointLog g.L.EntryLog c.take_turn.new.self) (reads_of g.L.CheckpointLog g.L.EntryLog c.take_turn.new.self) c.take_turn.new.workers) (sym more)
+      had =
+          subst (λ (ns : List Name). HaveHadTurns c.args.line ns c.args.bodies.now
+          (works_of g.L.CheckpointLog g.L.EntryLog c.args.self.now)
+          (reads_of g.L.CheckpointLog g.L.EntryLog c.args.self.now)
+          c.args.workers.now (works_of g.L.CheckpointLog g.L.EntryLog c.take_turn.new.self)
+          (reads_of g.L.CheckpointLog g.L.EntryLog c.take_turn.new.self) c.take_turn.new.workers)
+          (sym more)
           (next_turn c.args.line (take c.loop-name.name-index c.args.names.now) c.args.bodies.now
           (works_of g.L.CheckpointLog g.L.EntryLog c.args.self.now)
           (works_of g.L.CheckpointLog g.L.EntryLog c.loop-name.self)
@@ -78,7 +91,11 @@ loop-name-preserved g c =
           c.args.workers.now c.loop-name.workers c.take_turn.new.workers c.loop-name.invariant.had
           c.name-item.result c.in_ok-take_turn.field-0 c.in_ok-take_turn.ensures.turn);
       some = some_turn_behind c.args.names.now c.args.line c.name-item.result c.args.bodies.now
-          (works_of g.L.CheckpointLog g.L.EntryLog c.loop-name.self) (works_of g.L.CheckpointLog g.L.EntryLog c.take_turn.new.self) (reads_of g.L.CheckpointLog g.L.EntryLog c.loop-name.self) (reads_of g.L.CheckpointLog g.L.EntryLog c.take_turn.new.self) c.loop-name.workers c.take_turn.new.workers c.loop-name.invariant.some
+          (works_of g.L.CheckpointLog g.L.EntryLog c.loop-name.self)
+          (works_of g.L.CheckpointLog g.L.EntryLog c.take_turn.new.self)
+          (reads_of g.L.CheckpointLog g.L.EntryLog c.loop-name.self)
+          (reads_of g.L.CheckpointLog g.L.EntryLog c.take_turn.new.self) c.loop-name.workers
+          c.take_turn.new.workers c.loop-name.invariant.some
           c.in_ok-take_turn.field-0 c.in_ok-take_turn.ensures.turn;
       servers = c.take_turn.ensures.servers;
       disks = goes_on_then c.loop-name.invariant.disks c.take_turn.ensures.disks;
@@ -90,8 +107,11 @@ returns-clause-disks g c =
 
 pub returns-clause-turns : goal.returns-clause-turns
 returns-clause-turns g c =
-    subst (λ (ns : List Name). HaveHadTurns c.args.line ns c.args.bodies.now (works_of g.L.CheckpointLog g.L.EntryLog c.args.self.now) (reads_of g.L.CheckpointLog g.L.EntryLog c.args.self.now)
-    c.args.workers.now (works_of g.L.CheckpointLog g.L.EntryLog c.loop-name.self) (reads_of g.L.CheckpointLog g.L.EntryLog c.loop-name.self) c.loop-name.workers)
+    subst (λ (ns : List Name). HaveHadTurns c.args.line ns c.args.bodies.now
+    (works_of g.L.CheckpointLog g.L.EntryLog c.args.self.now)
+    (reads_of g.L.CheckpointLog g.L.EntryLog c.args.self.now)
+    c.args.workers.now (works_of g.L.CheckpointLog g.L.EntryLog c.loop-name.self)
+    (reads_of g.L.CheckpointLog g.L.EntryLog c.loop-name.self) c.loop-name.workers)
     (take_all c.loop-name.name-index c.args.names.now c.loop-name-test.false)
     c.loop-name.invariant.had
 

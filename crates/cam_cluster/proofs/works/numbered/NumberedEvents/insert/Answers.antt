@@ -30,7 +30,8 @@ returns-clause-items c =
     c.insert_event.ensures.items
     ∙ ap (λ xs. insert xs c.min-at.result c.args.event) c.renumber_from.ensures.items
     ∙ put_behind c.min-at.result c.args.event es _ (grind (arith, common_steps, len, least))
-    ∙ put_at_last c.args.place c.min-at.result c.args.event es (grind (arith, common_steps, len, least))
+    ∙ put_at_last c.args.place c.min-at.result c.args.event es
+    (grind (arith, common_steps, len, least))
 
 pub invariant_of-self : goal.invariant_of-self
 invariant_of-self c =

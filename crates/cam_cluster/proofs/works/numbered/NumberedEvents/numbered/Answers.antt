@@ -14,8 +14,8 @@ returns-then-place-len c =
     c.ranges.number.fits c.in_ok-earlier.ensures.1 c.partition_point-place.ensures.bound
     (IsPartitionPoint-from_clause (λ (n : ℕ). ltb n c.args.number) c.as_slice.result.now
     c.partition_point-place.result c.partition_point-place.ensures.partitioned
-    (parted s.events.items c.as_slice.result.now c.args.number (c.as_slice.ensures.value ∙ s.counted))
-    (λ a r f k. search rules))
+    (parted s.events.items c.as_slice.result.now c.args.number
+    (c.as_slice.ensures.value ∙ s.counted)) (λ a r f k. search rules))
     (c.if-place-len.true ∙ c.len.ensures)
 
 pub overflow_sub-result : goal.overflow_sub-result
@@ -29,8 +29,8 @@ overflow_sub-result c =
     c.ranges.number.fits c.in_ok-earlier.ensures.1 c.partition_point-place.ensures.bound
     (IsPartitionPoint-from_clause (λ (n : ℕ). ltb n c.args.number) c.as_slice.result.now
     c.partition_point-place.result c.partition_point-place.ensures.partitioned
-    (parted s.events.items c.as_slice.result.now c.args.number (c.as_slice.ensures.value ∙ s.counted))
-    (λ a r f k. search rules)))
+    (parted s.events.items c.as_slice.result.now c.args.number
+    (c.as_slice.ensures.value ∙ s.counted)) (λ a r f k. search rules)))
 
 pub returns : goal.returns
 returns c =
@@ -40,8 +40,8 @@ returns c =
     c.ranges.number.fits c.in_ok-earlier.ensures.1 c.partition_point-place.ensures.bound
     (IsPartitionPoint-from_clause (λ (n : ℕ). ltb n c.args.number) c.as_slice.result.now
     c.partition_point-place.result c.partition_point-place.ensures.partitioned
-    (parted s.events.items c.as_slice.result.now c.args.number (c.as_slice.ensures.value ∙ s.counted))
-    (λ a r f k. search rules))
+    (parted s.events.items c.as_slice.result.now c.args.number
+    (c.as_slice.ensures.value ∙ s.counted)) (λ a r f k. search rules))
     c.sent_before.result (λ e. c.if-place-len.false (e ∙ sym c.len.ensures))
     (c.sent_before.ensures
     ∙ ap (λ xs. count_before xs c.partition_point-place.result) (sym c.as_slice.ensures.value))
