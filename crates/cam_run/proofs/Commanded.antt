@@ -1,39 +1,27 @@
 -- The answer to words, by the command of which they are the form.
-use Rattle.std.proofs.Common.{◌≡◌, ◌≤◌, ◌↔◌, ◌⊎◌, inl, inr, ℕ, Bool, true, false, if◌then◌else◌, List, Option, Some, None, Result, Ok, Err, IfOk, refl, sym, ap, ◌∙◌, subst, is_some}
-use Rattle.std.specs.Prelude.{IsOk, is_ok}
+use Rattle.std.proofs.Common.{◌≡◌, ◌↔◌, inl, inr, ℕ, List, Option, Some, None, Result, Ok, Err}
+use Rattle.std.proofs.Common.{IfOk, refl, sym, ap, ◌∙◌, subst}
 use mathlib.Core.Bool.{true≢false}
 use Rattle.std.proofs.lemmas.Result.{IfOk-weaker}
 use Rattle.cam_base.specs.Told.{IfTold}
 use Rattle.cam_base.proofs.Told.{if_told_weaker}
-use Rattle.cam_know.specs.declared.Reason.{Reason}
-use Rattle.cam_names.specs.declared.name.Name.{Name}
 use Rattle.cam_args.specs.declared.Command.{Command}
-use Rattle.cam_args.specs.declared.Command.TheVariants.{Gen}
 use Rattle.cam_args.specs.declared.ArgsFault.{ArgsFault}
-use Rattle.cam_args.specs.declared.ArgsFault.TheVariants.{Usage}
 use Rattle.cam_args.specs.Forms.{IsForm as IsFormOf, Finds}
 use Rattle.cam_script.specs.declared.Script.{Script}
-use Rattle.cam_script.specs.Grammar.{read_script}
-use Rattle.cam_words.specs.declared.fault.ScriptFault.{ScriptFault}
-use Rattle.cam_words.specs.declared.fault.ScriptFault.TheVariants.{Bad, NoMemory}
-use Rattle.cam_timed.specs.declared.TimedScript.{TimedScript}
-use Rattle.cam_timed.specs.TimedGrammar.{read_timed}
-use Rattle.cam_gen.specs.Script.{script_of as generated}
-use Rattle.cam_gen.proofs.AllAccepted.{each_is_accepted}
 use Rattle.cam_run.specs.declared.answer.Answer.{Answer}
 use Rattle.cam_run.specs.Status.{number}
 use Rattle.cam_run.specs.declared.question.Question.{Question}
-use Rattle.cam_run.specs.declared.question.Question.TheVariants.{Report, Trace, Witness, Why, Summary}
-use Rattle.cam_run.specs.Told.{IsOfAction, IsOfStop, IsTold, has_action, stop_of, told_status}
-use Rattle.cam_image.specs.declared.fault.ImageFault.{ImageFault}
-use Rattle.cam_image.specs.declared.fault.ImageFault.TheVariants.{NotALog, BadRecord, NoMemory as NoMemoryOfImage}
-use Rattle.cam_run.specs.Commands.{Asked, IsBuilt, IsForm, IsFormFor, asked_by, asks_something, by_time, bytes_for, nothing, of_image, of_run}
-use Rattle.cam_run.specs.Image.{IsOfImage, image_status, made}
+use Rattle.cam_run.specs.Told.{IsTold}
+use Rattle.cam_run.specs.Commands.{Asked, IsBuilt, IsForm, IsFormFor, asked_by, asks_something}
+use Rattle.cam_run.specs.Commands.{by_time, nothing, of_image, of_run}
 use Rattle.cam_cluster.specs.declared.fault.RunFault.TheVariants as faults
 use Rattle.cam_run.specs.declared.status.Status.TheVariants as statuses
 use Rattle.cam_run.specs.Texts.{disk_fault_text}
 use Rattle.cam_run.specs.Disks.{IsCaused, OneFailed}
-use Rattle.cam_run.specs.Answer.{Failing, IsAnswer, IsAsked, IsOfCommand, IsOfRun, IsOfScript, IsOfTimed, IsRefused, asked_nodes, asked_status, command_status, nodes_for, nodes_of, refused_status, status_of, timed_status}
+use Rattle.cam_run.specs.Answer.{Failing, IsAnswer, IsAsked, IsOfCommand, IsOfRun, command_status}
+use Rattle.cam_run.specs.Answer.{nodes_for}
+use Rattle.cam_run.proofs.CommandStatus.{command_has_status}
 
 -- the command that words are the form of is one alone
 command_of : Result Command ArgsFault → Command → Command
@@ -73,79 +61,6 @@ is_answer words command failing input status text form finds told = by (asked_by
           true≢false (sym ((built_is_form words command form finds).1 other) ∙ ap asks_something is),
       answer,
     )
-
--- the status of what is told
-action_status : (b : Bool) (script : Script) (a : Name) (status : ℕ) (text : List ℕ)
-    → IsOfAction b script a status text → status ≡ (if b then 0 else 8)
-action_status true script a status text told = told.0
-action_status false script a status text told = told.0
-
-stop_status : (o : Option Reason) (script : Script) (event status : ℕ) (text : List ℕ)
-    → IsOfStop o script event status text → status ≡ (if is_some o then 0 else 8)
-stop_status (Some reason) script event status text told = told.0
-stop_status None script event status text told = told.0
-
-told_has_status : (question : Question) (script : Script) (status : ℕ) (text : List ℕ)
-    → IsTold question script status text → status ≡ told_status question script
-told_has_status Report script status text told = told.0
-told_has_status Trace script status text told = told.0
-told_has_status (Witness a) script status text told =
-    action_status (has_action script a) script a status text told
-told_has_status (Why event) script status text told =
-    stop_status (stop_of script event) script event status text told
-told_has_status (Summary steps) script status text told = told.0
-
-refused_has_status : (fault : ScriptFault) (status : ℕ) (text : List ℕ)
-    → IsRefused fault status text → status ≡ refused_status fault
-refused_has_status (Bad line column cause) status text told = told.0
-refused_has_status NoMemory status text told = absurd told
-
--- where no disk of the script's nodes failed
-script_has_status : (question : Question) (read : Result Script ScriptFault) (failed : ℕ → Type 0)
-    (status : ℕ) (text : List ℕ)
-    → IsOfScript question read failed status text → (OneFailed (nodes_of read) failed → ⊥)
-    → status ≡ status_of question read
-script_has_status question (Ok script) failed status text (inl of_disk) none =
-    absurd (none of_disk.one)
-script_has_status question (Ok script) failed status text (inr told) none =
-    told_has_status question script status text told.1
-script_has_status question (Err fault) failed status text told none =
-    refused_has_status fault status text told
-
-timed_has_status : (read : Result TimedScript ScriptFault) (status : ℕ) (text : List ℕ)
-    → IsOfTimed read status text → status ≡ timed_status read
-timed_has_status (Ok script) status text told = told.0
-timed_has_status (Err fault) status text told = refused_has_status fault status text told
-
-image_has_status : (read : Result (List ℕ) ImageFault) (status : ℕ) (text : List ℕ)
-    → IsOfImage read status text → status ≡ image_status read
-image_has_status (Ok bytes) status text told = told.0
-image_has_status (Err (NotALog at)) status text told = told.0
-image_has_status (Err (BadRecord entry at)) status text told = told.0
-image_has_status (Err NoMemoryOfImage) status text told = absurd told
-
--- the status of the answer to a command, where neither the source nor a disk of the script's nodes
--- failed
-pub command_has_status : (command : Command) (failing : Failing) (input : List ℕ) (status : ℕ)
-    (text : List ℕ)
-    → IsOfCommand command failing input status text
-    → (failing.source → ⊥) → (OneFailed (nodes_for command input) failing.disk → ⊥)
-    → status ≡ command_status command input
-command_has_status command failing input status text told whole none =
-    by (asked_by command) told none
-  where
-    by : (asked : Asked) → IsAsked asked command failing input status text
-        → (OneFailed (asked_nodes asked command input) failing.disk → ⊥)
-        → status ≡ asked_status asked command input
-    by (of_run question) (inl (reading, failed, told)) none = absurd (whole failed)
-    by (of_run question) (inr answer) none =
-        script_has_status question (read_script (bytes_for command input)) failing.disk status text
-        answer none
-    by (of_image making) (inl (failed, told)) none = absurd (whole failed)
-    by (of_image making) (inr answer) none = image_has_status (made making input) status text answer
-    by by_time (inl (failed, told)) none = absurd (whole failed)
-    by by_time (inr answer) none = timed_has_status (read_timed input) status text answer
-    by nothing answer none = answer.0
 
 -- the answer where the disk of a node failed
 pub of_disk : {E : Type 0} (question : Question) (script : Script) (failed : ℕ → Type 0) (node : ℕ)
@@ -231,54 +146,3 @@ pub of_unread : (left : Option (List ℕ)) (P : List ℕ → Type 0) → ((input
     → IfTold left left (λ input _. P input)
 of_unread (Some input) P each = each input
 of_unread None P each = tt
-
--- `gen` answers by the script of its seed, and leaves the source as it is
-pub answers_seed : {E : Type 0} (command : Command) (seed size : ℕ) (failing : Failing)
-    (left : Option (List ℕ)) (r : Result Answer E)
-    → command ≡ Gen seed size
-    → IfOk r
-    (λ a. IsOfScript (Summary size) (read_script (generated seed size)) failing.disk
-    (number a.status) a.text.items)
-    → IfTold left left
-    (λ input _. IfOk r (λ a. IsOfCommand command failing input (number a.status) a.text.items))
-answers_seed command seed size failing left r is told =
-    subst
-    (λ (c : Command).
-    IfTold left left
-    (λ input _. IfOk r (λ a. IsOfCommand c failing input (number a.status) a.text.items)))
-    (sym is)
-    (of_unread left
-    (λ (input : List ℕ).
-    IfOk r (λ a. IsOfCommand (Gen seed size) failing input (number a.status) a.text.items))
-    (λ input. IfOk-weaker r _ _ (λ a answer. inr answer) told))
-
--- the script of a seed is accepted, so its summary is answered, or a disk failed
-pub seed_is_done : {E : Type 0} (seed size : ℕ) (failed : ℕ → Type 0) (r : Result Answer E)
-    → size ≤ 400
-    → IfOk r
-    (λ a. IsOfScript (Summary size) (read_script (generated seed size)) failed (number a.status)
-    a.text.items)
-    → IfOk r (λ a. (number a.status ≡ 0) ⊎ (number a.status ≡ 6))
-seed_is_done seed size failed r few told =
-    IfOk-weaker r _ _
-    (λ a is.
-    by (number a.status) a.text.items (read_script (generated seed size))
-    (each_is_accepted seed size few) is)
-    told
-  where
-    by : (status : ℕ) (text : List ℕ) (read : Result Script ScriptFault) → IsOk read
-        → IsOfScript (Summary size) read failed status text
-        → (status ≡ 0) ⊎ (status ≡ 6)
-    by status text (Ok script) ok (inl of_disk) = inr of_disk.is
-    by status text (Ok script) ok (inr told) = inl told.1.0
-    by status text (Err fault) ok told = absurd cc
-
--- words that are the form of `gen` are those of the command that was read
-pub generated_words : {E : Type 0} (words : List (List ℕ)) (command : Command) (r : Result Answer E)
-    → Finds words (Ok command)
-    → ((seed size : ℕ) → command ≡ Gen seed size → size ≤ 400
-    → IfOk r (λ a. (number a.status ≡ 0) ⊎ (number a.status ≡ 6)))
-    → (seed size : ℕ) → IsFormFor words (Gen seed size)
-    → IfOk r (λ a. (number a.status ≡ 0) ⊎ (number a.status ≡ 6))
-generated_words words command r finds done seed size form =
-    done seed size (same_command words command (Gen seed size) finds form) form.form.is.1.1

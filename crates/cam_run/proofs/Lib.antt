@@ -1,5 +1,7 @@
 pub mod Recorded
+pub mod CommandStatus
 pub mod Commanded
+pub mod AnswersSeed
 pub mod WordsForRuns
 pub mod Written
 pub mod WorkedAnswers

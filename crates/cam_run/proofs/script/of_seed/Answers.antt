@@ -5,7 +5,7 @@ use Rattle.cam_run.specs.Status.{number}
 use Rattle.cam_script.specs.Grammar.{read_script}
 use Rattle.cam_run.specs.Disks.{FailedAt}
 use Rattle.cam_run.specs.Answer.{IsOfScript}
-use Rattle.cam_run.proofs.Commanded.{seed_is_done}
+use Rattle.cam_run.proofs.AnswersSeed.{seed_is_done}
 use Rattle.cam_run.proofs.script.of_seed.Goals as goal
 
 pub returns-clause-accepted : goal.returns-clause-accepted

@@ -6,7 +6,8 @@ use Rattle.cam_base.specs.Causes.{Rose}
 use Rattle.cam_run.specs.Told.{IsTelling}
 use Rattle.cam_run.specs.Disks.{FailedAt, LeavesDisks}
 use Rattle.cam_run.specs.Answer.{IfRuns, nodes_for}
-use Rattle.cam_run.proofs.Commanded.{answers_seed, of_unread}
+use Rattle.cam_run.proofs.Commanded.{of_unread}
+use Rattle.cam_run.proofs.AnswersSeed.{answers_seed}
 use Rattle.cam_run.proofs.top.obey.Goals as goal
 
 pub returns-in-Gen-clause-answer : goal.returns-in-Gen-clause-answer

@@ -1,0 +1,98 @@
+-- The status of the answer to a command.
+use Rattle.std.proofs.Common.{◌≡◌, inl, inr, ℕ, Bool, true, false, if◌then◌else◌, List, Option}
+use Rattle.std.proofs.Common.{Some, None, Result, Ok, Err, is_some}
+use Rattle.cam_know.specs.declared.Reason.{Reason}
+use Rattle.cam_names.specs.declared.name.Name.{Name}
+use Rattle.cam_args.specs.declared.Command.{Command}
+use Rattle.cam_script.specs.declared.Script.{Script}
+use Rattle.cam_script.specs.Grammar.{read_script}
+use Rattle.cam_words.specs.declared.fault.ScriptFault.{ScriptFault}
+use Rattle.cam_words.specs.declared.fault.ScriptFault.TheVariants.{Bad, NoMemory}
+use Rattle.cam_timed.specs.declared.TimedScript.{TimedScript}
+use Rattle.cam_timed.specs.TimedGrammar.{read_timed}
+use Rattle.cam_run.specs.declared.question.Question.{Question}
+use Rattle.cam_run.specs.declared.question.Question.TheVariants.{Report, Trace, Witness, Why}
+use Rattle.cam_run.specs.declared.question.Question.TheVariants.{Summary}
+use Rattle.cam_run.specs.Told.{IsOfAction, IsOfStop, IsTold, has_action, stop_of, told_status}
+use Rattle.cam_image.specs.declared.fault.ImageFault.{ImageFault}
+use Rattle.cam_image.specs.declared.fault.ImageFault.TheVariants.{NotALog, BadRecord}
+use Rattle.cam_image.specs.declared.fault.ImageFault.TheVariants.{NoMemory as NoMemoryOfImage}
+use Rattle.cam_run.specs.Commands.{Asked, asked_by, by_time, bytes_for, nothing, of_image, of_run}
+use Rattle.cam_run.specs.Image.{IsOfImage, image_status, made}
+use Rattle.cam_run.specs.Disks.{OneFailed}
+use Rattle.cam_run.specs.Answer.{Failing, IsAsked, IsOfCommand, IsOfScript, IsOfTimed, IsRefused}
+use Rattle.cam_run.specs.Answer.{asked_nodes, asked_status, command_status, nodes_for, nodes_of}
+use Rattle.cam_run.specs.Answer.{refused_status, status_of, timed_status}
+
+-- the status of what is told
+action_status : (b : Bool) (script : Script) (a : Name) (status : ℕ) (text : List ℕ)
+    → IsOfAction b script a status text → status ≡ (if b then 0 else 8)
+action_status true script a status text told = told.0
+action_status false script a status text told = told.0
+
+stop_status : (o : Option Reason) (script : Script) (event status : ℕ) (text : List ℕ)
+    → IsOfStop o script event status text → status ≡ (if is_some o then 0 else 8)
+stop_status (Some reason) script event status text told = told.0
+stop_status None script event status text told = told.0
+
+told_has_status : (question : Question) (script : Script) (status : ℕ) (text : List ℕ)
+    → IsTold question script status text → status ≡ told_status question script
+told_has_status Report script status text told = told.0
+told_has_status Trace script status text told = told.0
+told_has_status (Witness a) script status text told =
+    action_status (has_action script a) script a status text told
+told_has_status (Why event) script status text told =
+    stop_status (stop_of script event) script event status text told
+told_has_status (Summary steps) script status text told = told.0
+
+refused_has_status : (fault : ScriptFault) (status : ℕ) (text : List ℕ)
+    → IsRefused fault status text → status ≡ refused_status fault
+refused_has_status (Bad line column cause) status text told = told.0
+refused_has_status NoMemory status text told = absurd told
+
+-- where no disk of the script's nodes failed
+script_has_status : (question : Question) (read : Result Script ScriptFault) (failed : ℕ → Type 0)
+    (status : ℕ) (text : List ℕ)
+    → IsOfScript question read failed status text → (OneFailed (nodes_of read) failed → ⊥)
+    → status ≡ status_of question read
+script_has_status question (Ok script) failed status text (inl of_disk) none =
+    absurd (none of_disk.one)
+script_has_status question (Ok script) failed status text (inr told) none =
+    told_has_status question script status text told.1
+script_has_status question (Err fault) failed status text told none =
+    refused_has_status fault status text told
+
+timed_has_status : (read : Result TimedScript ScriptFault) (status : ℕ) (text : List ℕ)
+    → IsOfTimed read status text → status ≡ timed_status read
+timed_has_status (Ok script) status text told = told.0
+timed_has_status (Err fault) status text told = refused_has_status fault status text told
+
+image_has_status : (read : Result (List ℕ) ImageFault) (status : ℕ) (text : List ℕ)
+    → IsOfImage read status text → status ≡ image_status read
+image_has_status (Ok bytes) status text told = told.0
+image_has_status (Err (NotALog at)) status text told = told.0
+image_has_status (Err (BadRecord entry at)) status text told = told.0
+image_has_status (Err NoMemoryOfImage) status text told = absurd told
+
+-- the status of the answer to a command, where neither the source nor a disk of the script's nodes
+-- failed
+pub command_has_status : (command : Command) (failing : Failing) (input : List ℕ) (status : ℕ)
+    (text : List ℕ)
+    → IsOfCommand command failing input status text
+    → (failing.source → ⊥) → (OneFailed (nodes_for command input) failing.disk → ⊥)
+    → status ≡ command_status command input
+command_has_status command failing input status text told whole none =
+    by (asked_by command) told none
+  where
+    by : (asked : Asked) → IsAsked asked command failing input status text
+        → (OneFailed (asked_nodes asked command input) failing.disk → ⊥)
+        → status ≡ asked_status asked command input
+    by (of_run question) (inl (reading, failed, told)) none = absurd (whole failed)
+    by (of_run question) (inr answer) none =
+        script_has_status question (read_script (bytes_for command input)) failing.disk status text
+        answer none
+    by (of_image making) (inl (failed, told)) none = absurd (whole failed)
+    by (of_image making) (inr answer) none = image_has_status (made making input) status text answer
+    by by_time (inl (failed, told)) none = absurd (whole failed)
+    by by_time (inr answer) none = timed_has_status (read_timed input) status text answer
+    by nothing answer none = answer.0
