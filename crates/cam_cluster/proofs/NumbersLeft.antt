@@ -1,4 +1,5 @@
--- A node has numbers left for what a letter of the run asks of it.
+-- A node has numbers left for what a letter of the run asks of it, and the letter may be handed to
+-- it.
 use Rattle.std.proofs.Common.{◌≡◌, ℕ, ◌+◌, ◌≤◌, ◌<◌, false, List, length, Some, sym, ap, ◌∙◌, subst}
 use Rattle.std.proofs.Common.{arith}
 use Rattle.std.specs.Prelude.{slice_get}
@@ -7,9 +8,12 @@ use Rattle.cam_event.specs.declared.Body.{Body}
 use Rattle.cam_event.specs.declared.Body.TheVariants as bodies
 use Rattle.cam_event.specs.declared.Letter.{Letter}
 use Rattle.cam_event.specs.declared.LetterId.{LetterId}
-use Rattle.cam_event.specs.Inputs.{Mail}
+use Rattle.cam_event.specs.Inputs.{Mail, Receives, node_of}
 use Rattle.cam_event.specs.Runs.{IsNode}
 use Rattle.cam_net.specs.Waiting.{is_halted}
+use Rattle.cam_node.specs.declared.Input.TheVariants as inputs
+use Rattle.cam_node.specs.Calls.{load_of, mail_on}
+use Rattle.cam_node.specs.Lawful.{IsLetter}
 use Rattle.cam_node.specs.Log.{Logged}
 use Rattle.cam_node.specs.LogOrder.{performed}
 use Rattle.cam_node.specs.Numbers.{HasFewObjects, HasIndex, MayCome}
@@ -22,6 +26,7 @@ use Rattle.cam_histories.specs.Whole.{IsSiteOf, StandsAt}
 use Rattle.cam_histories.proofs.Counted.{no_longer}
 use Rattle.cam_histories.proofs.Ranging.{performs_are_few}
 use Rattle.cam_histories.proofs.Sites.{site_at}
+use Rattle.cam_histories.proofs.Stepping.{letters_are_put}
 use Rattle.cam_histories.proofs.Writing.{letters_are_in_range}
 use Rattle.cam_cluster.specs.Coming.{IsReadOf}
 use Rattle.cam_cluster.specs.Works.{NodeFields, WorksFields, KeepsRun, sites_of}
@@ -86,14 +91,28 @@ module _ (script : Script) (st : Standing) (works : WorksFields) (may : ℕ → 
   has_few (bodies.Query f) = tt
   has_few bodies.News = tt
 
+  -- the letter may be handed to the node to which it goes
+  is_letter : (id : LetterId) (letter : Letter) → IsReadOf script st id letter
+      → node_of st.running.trace (Receives id) ≡ place + 1
+      → IsLetter node.site.node.server.table.site.objects node.site.node.number (mail_on letter)
+      (load_of (inputs.Letter id letter))
+  is_letter id letter read to =
+      subst (λ (os : List ObjectDecl). IsLetter os node.site.node.number (mail_on letter)
+      (load_of (inputs.Letter id letter))) (sym stands.represents.serves.site.objects_are)
+      (subst (λ (s : ℕ). IsLetter script.objects s (mail_on letter)
+      (load_of (inputs.Letter id letter)))
+      (to ∙ sym here.number)
+      (letters_are_put script.objects st.running.trace id read.mail letter read.sent read.read).may)
+
   -- THE LEMMA
   pub letter_may_come : (id : LetterId) (letter : Letter) → IsReadOf script st id letter
-      → MayCome node.site.node letter
-  letter_may_come id letter read =
+      → node_of st.running.trace (Receives id) ≡ place + 1 → MayCome node.site.node letter
+  letter_may_come id letter read to =
       let range = (letters_are_in_range script.objects (has_number st.taken) st.running.trace id
       read.mail keeps.under.run is.object_limit (few_events script st works may keeps)
       read.sent).0 in (
         subst IsNode (sym (ap (λ (m : Mail). m.from) read.read.is_mail)) range.from,
         has_index letter.body,
         has_few letter.body,
+        is_letter id letter read to,
       )

@@ -13,10 +13,9 @@ use Rattle.cam_event.specs.declared.Want.TheVariants as wants
 use Rattle.cam_event.specs.Inputs.{node_of}
 use Rattle.cam_event.specs.ByDeltas.{Received, as_carried}
 use Rattle.cam_event.specs.ByKnowledge.{deeds_of, held_sight}
-use Rattle.cam_event.specs.Live.{site_of}
 use Rattle.cam_event.specs.Readings.{by_knowledge}
 use Rattle.cam_event.specs.Refusals.{refusal, query_refusal, tell_refusal}
-use Rattle.cam_event.specs.Runs.{IsNode, IsWant}
+use Rattle.cam_event.specs.Runs.{IsWant}
 use Rattle.cam_event.specs.Sights.{Sight}
 use Rattle.cam_net.specs.Waiting.{is_halted}
 use Rattle.cam_node.specs.declared.Input.{Input}
@@ -24,7 +23,7 @@ use Rattle.cam_node.specs.declared.Input.TheVariants as inputs
 use Rattle.cam_node.specs.Calls.{input_of}
 use Rattle.cam_node.specs.Halting.{IsThrough}
 use Rattle.cam_node.specs.Log.{Logged}
-use Rattle.cam_node.specs.Numbers.{HasNumber, MayStep}
+use Rattle.cam_node.specs.Numbers.{HasNumber, MayAsk, MayStep}
 use Rattle.cam_node.specs.Refused.{IsRefusalOf}
 use Rattle.cam_node.specs.Represents.{Represents}
 use Rattle.cam_runs.specs.Running.{has_number}
@@ -86,10 +85,14 @@ module _ (script : Script) (st : Standing) (works : WorksFields) (may : ℕ → 
       told history through stands (home ∙ sym here.number)
       ∙ ap (λ (s : ℕ). refusal (goes_by s) request.action request.want) here.number
 
-  -- what a request makes has a number left, where it is not refused
+  -- Where it is not refused a request may be put to the node, and what it makes has a number left.
   numbers : (a : Name) (want : Want) → home_node a ≡ place + 1 → IsWant script.objects want
-      → refusal (goes_by (place + 1)) a want ≡ None → HasNumber node.site.node a want
-  numbers a want home in_range free = by want in_range
+      → refusal (goes_by (place + 1)) a want ≡ None → MayAsk node.site.node a want
+  numbers a want home in_range free = (
+    home ∙ sym here.number,
+    subst (λ (os : List ObjectDecl). IsWant os want) (sym stands.serves.site.objects_are) in_range,
+    by want,
+  )
     where
       own_deeds : MayRunHere (deeds_of (map as_carried history)) (place + 1) a
       own_deeds = asked_may_run script.objects (place + 1) history a want home free
@@ -103,18 +106,12 @@ module _ (script : Script) (st : Standing) (works : WorksFields) (may : ℕ → 
       few : length st.running.trace < 1000000000
       few = few_events script st works may keeps
 
-      by : (w : Want) → IsWant script.objects w → HasNumber node.site.node a w
-      by (wants.Ask m) ok =
-          let most = counted.children a own_deeds in (ok.0, ok.1, omega (arith, most, few))
-      by (wants.Call x op) ok =
-          let most = counted.called a own_deeds in (
-            subst (λ (os : List ObjectDecl). IsNode (site_of os x))
-                (sym stands.serves.site.objects_are) ok.1,
-            omega (arith, most, few),
-          )
-      by (wants.Commit value) ok = tt
-      by wants.Abort ok = tt
-      by (wants.GiveUp b) ok = tt
+      by : (w : Want) → HasNumber node.site.node a w
+      by (wants.Ask m) = let most = counted.children a own_deeds in omega (arith, most, few)
+      by (wants.Call x op) = let most = counted.called a own_deeds in omega (arith, most, few)
+      by (wants.Commit value) = tt
+      by wants.Abort = tt
+      by (wants.GiveUp b) = tt
 
   -- Where it is not refused the node has numbers left.
   pub numbers_left : (input : Input)

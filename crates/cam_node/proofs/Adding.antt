@@ -1,11 +1,10 @@
 -- What a plan adds to the entry may be written: nothing, or a decision.
-use Rattle.std.proofs.Common.{◌≡◌, List, Option, Some, None, sym, subst}
+use Rattle.std.proofs.Common.{List, Some, sym, subst}
 use Rattle.cam_know.specs.declared.Outcome.{Outcome}
 use Rattle.cam_know.specs.declared.Outcome.TheVariants.{Aborted, Committed}
 use Rattle.cam_event.specs.declared.LetterId.{LetterId}
 use Rattle.cam_event.specs.declared.Note.{Note}
 use Rattle.cam_event.specs.declared.Sent.{Sent}
-use Rattle.cam_recman.specs.declared.Record.{Record}
 use Rattle.cam_recman.specs.Snapshot.{outcome_record}
 use Rattle.cam_node.specs.declared.did.Doing.{Doing}
 use Rattle.cam_node.specs.declared.learning.Learnt.{Learnt}

@@ -1,6 +1,5 @@
 -- An event of a call that does not come to stand can be forgotten: the node then answers as before.
 use Rattle.std.proofs.Common.{◌≡◌, Result, Ok, Err, OnErr, inl, inr, refl, sym, ◌∙◌, subst}
-use Rattle.std.specs.Prelude.{not}
 use Rattle.cam_know.specs.Knowledge.{Knowledge}
 use Rattle.cam_event.specs.declared.LetterId.{LetterId}
 use Rattle.cam_server.specs.declared.Performed.{Performed}

@@ -1,5 +1,5 @@
 -- What a restart finds, by what the log reads.
-use Rattle.std.proofs.Common.{◌≡◌, inl, inr, ◌⊎◌, ℕ, zero, ◌+◌, ◌-◌, ◌≤◌, ◌<◌, eqb, Bool, true, false, ◌&&◌, if◌then◌else◌, IsTrue, List, ◌∷◌, Option, Some, None, Ok, refl, sym, ap, ◌∙◌, subst, arith, true≢false}
+use Rattle.std.proofs.Common.{◌≡◌, inl, inr, ℕ, ◌≤◌, ◌<◌, Bool, true, false, ◌&&◌, if◌then◌else◌, IsTrue, List, ◌∷◌, Option, Some, None, Ok, refl, sym, ap, ◌∙◌, subst, true≢false}
 use Rattle.std.proofs.lemmas.Bool.{and_parts, cases_eq}
 use Rattle.cam_type.specs.declared.ObjectDecl.{ObjectDecl}
 use Rattle.cam_know.specs.Knowledge.{Knowledge}

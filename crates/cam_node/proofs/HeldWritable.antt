@@ -1,6 +1,6 @@
 -- What is to be secured of a family may be written, where its node has at most 64 objects.
 use Rattle.std.proofs.Common.{◌≡◌, ◌≤◌, ◌<◌, ℕ, Bool, true, false, not, cond, suc, length, List, [], ◌∷◌, map, filter, Option, Some, None, refl, arith}
-use Rattle.std.specs.Prelude.{slice_get, eqb, All}
+use Rattle.std.specs.Prelude.{slice_get, eqb}
 use Rattle.std.specs.Option.{option_map_or}
 use Rattle.std.specs.List.{AllByRecursion}
 use Rattle.std.proofs.lemmas.Bool.{and_parts}

@@ -18,12 +18,11 @@ use Rattle.cam_node.specs.declared.plan.Plan.{Plan}
 use Rattle.cam_node.specs.Ahead.{IsForgotten}
 use Rattle.cam_node.specs.Found.{HaltsAt, whole_step}
 use Rattle.cam_node.specs.Halting.{IsStepThrough, IsThrough}
-use Rattle.cam_node.specs.Keeping.{KeepsNode, MayBePutThen}
 use Rattle.cam_node.specs.Lawful.{IsStepOf}
 use Rattle.cam_node.specs.Opened.{IsKnowledge}
 use Rattle.cam_node.specs.Planned.{MayBeTaken}
 use Rattle.cam_node.specs.Plans.{Stands}
-use Rattle.cam_node.specs.Represents.{Node, Represents}
+use Rattle.cam_node.specs.Represents.{Node}
 
 -- What went ahead is taken back at the server alone.
 record IsLeft (old new : Node) : Type 0 where

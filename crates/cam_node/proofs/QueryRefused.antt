@@ -1,5 +1,5 @@
 -- What stands against a query is what the node's parts answer.
-use Rattle.std.proofs.Common.{◌≡◌, ℕ, Bool, true, false, not, ◌&&◌, ◌||◌, List, [], ◌∷◌, map, refl, sym, ap, ap₂, ◌∙◌}
+use Rattle.std.proofs.Common.{◌≡◌, Bool, true, false, not, ◌&&◌, ◌||◌, List, [], ◌∷◌, map, refl, sym, ap, ap₂, ◌∙◌}
 use Rattle.std.specs.List.{list_any}
 use Rattle.std.proofs.lemmas.List.{append-nil}
 use Rattle.cam_names.specs.declared.name.Name.{Name}
@@ -9,7 +9,9 @@ use Rattle.cam_know.specs.Knowledge.{Knowledge}
 use Rattle.cam_know.specs.declared.Outcome.{Outcome}
 use Rattle.cam_know.specs.Known.{nothing, both, is_abort_of, is_commit_of}
 use Rattle.cam_event.specs.declared.Operation.{Operation}
+use Rattle.cam_event.specs.declared.LineRefusal.TheVariants as refusals
 use Rattle.cam_event.specs.History.{secured_at}
+use Rattle.cam_event.specs.Refusals.{query_refusal, where_so}
 use Rattle.cam_event.specs.Sights.{Sight, knows_outcome}
 use Rattle.cam_event.specs.ByKnowledge.{Placed, held_sight}
 use Rattle.cam_event.specs.ByDeltas.{Received, as_carried, known}
@@ -18,6 +20,7 @@ use Rattle.cam_commit.proofs.Sights.{sight_is_answered}
 use Rattle.cam_locks.specs.declared.LiveOp.{LiveOp}
 use Rattle.cam_locks.specs.Calls.{is_of, has_family}
 use Rattle.cam_server.specs.Server.{AreLiveOps}
+use Rattle.cam_node.specs.Refused.{query_refusal_by}
 use Rattle.cam_node.specs.Represents.{Node, Represents}
 
 -- what the node goes by without a letter
@@ -39,7 +42,7 @@ any_live f (k ∷ ks) (p ∷ ps) are =
     ap₂ (λ a b. a || b) (ap (λ (a : Name). name_eq f (family a)) (sym are.0.action))
     (any_live f ks ps are.1)
 
-pub query_refused : (objects : List ObjectDecl) (node : Node) (history : List Received) (f : Name)
+query_refused : (objects : List ObjectDecl) (node : Node) (history : List Received) (f : Name)
     → Represents objects history node
     → (knows_outcome (sight_now objects node history) f
     || (not (secured_at (sight_now objects node history).deeds f node.number)
@@ -81,6 +84,13 @@ query_refused objects node history f rep =
         (any_live f node.server.table.site.live _ rep.serves.site.operations)
     by true false is same = cc
     by false true is same = cc
+
+-- So what stands against a query by the rule is what stands against it by the parts.
+pub query_is_rule : (objects : List ObjectDecl) (node : Node) (history : List Received) (f : Name)
+    → Represents objects history node
+    → query_refusal (sight_now objects node history) f ≡ query_refusal_by node f
+query_is_rule objects node history f rep =
+    ap (λ (b : Bool). where_so b refusals.NothingToDo) (query_refused objects node history f rep)
 
 -- By the answers of the two tests: the outcome is told, the node has something of the family, or nothing.
 pub told : (a b r : Bool) → r ≡ a → r ≡ true → true ≡ (a || not b)

@@ -1,10 +1,10 @@
 -- After a vote the families answer as the longer history does.
 use Rattle.std.proofs.Common.{inl, inr, ◌⊎◌, ◌≡◌, ℕ, Bool, true, false, not, ◌&&◌, ◌||◌, if◌then◌else◌, List, ◌∷◌, map, Some, refl, sym, ap, ◌∙◌, subst}
 use Rattle.std.specs.List.{list_any}
-use Rattle.std.proofs.lemmas.Bool.{cases_Bool, true≢false, or_left, or_right}
+use Rattle.std.proofs.lemmas.Bool.{true≢false}
 use Rattle.std.proofs.lemmas.List.Folds.{list_any-append}
 use Rattle.cam_names.specs.declared.name.Name.{Name}
-use Rattle.cam_names.specs.Names.{is_top, home_node, name_eq}
+use Rattle.cam_names.specs.Names.{is_top, name_eq}
 use Rattle.cam_names.specs.Dependencies.{has_pair}
 use Rattle.cam_names.proofs.Names.{name_eq_refl, name_eq_same}
 use Rattle.cam_type.specs.declared.ObjectDecl.{ObjectDecl}

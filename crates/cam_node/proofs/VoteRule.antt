@@ -10,7 +10,7 @@ use Rattle.cam_event.specs.declared.Body.TheVariants as bodies
 use Rattle.cam_event.specs.declared.LetterId.{LetterId}
 use Rattle.cam_event.specs.declared.Note.TheVariants as notes
 use Rattle.cam_event.specs.Inputs.{Mail}
-use Rattle.cam_event.specs.Rules.{Did, arrives, nothing_but}
+use Rattle.cam_event.specs.Rules.{arrives, nothing_but}
 use Rattle.cam_event.specs.Sights.{Sight, is_present, knows_outcome}
 use Rattle.cam_event.specs.Loads.{Load, with_load}
 use Rattle.cam_event.specs.ByDeltas.{Received, as_carried}

@@ -1,8 +1,12 @@
 -- What stands against an input, before it is put to a node.
-use Rattle.std.specs.Prelude.{◌≡◌, List, Option, None}
+use Rattle.std.specs.Prelude.{◌≡◌, not, ◌||◌, List, Option, None}
+use Rattle.cam_names.specs.declared.name.Name.{Name}
 use Rattle.cam_type.specs.declared.ObjectDecl.{ObjectDecl}
 use Rattle.cam_event.specs.declared.LineRefusal.{LineRefusal}
-use Rattle.cam_event.specs.Refusals.{tell_refusal}
+use Rattle.cam_event.specs.declared.LineRefusal.TheVariants as refusals
+use Rattle.cam_event.specs.Refusals.{tell_refusal, where_so}
+use Rattle.cam_commit.specs.Calls.{is_decided}
+use Rattle.cam_locks.specs.Calls.{has_family}
 use Rattle.cam_tranman.specs.Calls.{IsFree}
 use Rattle.cam_node.specs.declared.Input.{Input}
 use Rattle.cam_node.specs.declared.Input.TheVariants as inputs
@@ -18,7 +22,17 @@ IsRefusalOf objects node (inputs.Tell to) result = result ≡ tell_refusal node.
 IsRefusalOf objects node (inputs.Query family) result = IsQueryRefusal objects node family result
 IsRefusalOf objects node _ result = result ≡ None
 
--- nothing stands against a request, as the node's actions answer
+-- what stands against a query, as the node's parts answer
+abbrev pub query_refusal_by : Node → Name → Option LineRefusal
+query_refusal_by node f =
+    where_so
+    (is_decided node.know f
+    || not (node.families.is_secured f || has_family node.server.table.site f))
+    refusals.NothingToDo
+
+-- nothing stands against the input, as the node's parts answer
 abbrev pub IsNotRefused : Node → Input → Type 0
 IsNotRefused node (inputs.Request request) = IsFree node.actions request.action request.want
+IsNotRefused node (inputs.Tell to) = tell_refusal node.number to ≡ None
+IsNotRefused node (inputs.Query family) = query_refusal_by node family ≡ None
 IsNotRefused node _ = Unit {0}

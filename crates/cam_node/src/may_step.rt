@@ -1,54 +1,100 @@
 //! Whether an input may be put to a node now.
 ghost use Rattle.std.specs.Prelude.{◌≡◌, ◌↔◌, IsTrue, IsFalse};
-ghost use Rattle.cam_event.specs.Runs.{IsNode};
+ghost use Rattle.cam_event.specs.Runs.{IsNode, IsWant};
 ghost use Rattle.cam_node.specs.Calls.{answers};
-ghost use Rattle.cam_node.specs.Numbers.{HasFewObjects, HasIndex, HasNumber, MayStep};
+ghost use Rattle.cam_node.specs.Numbers.{HasFewObjects, HasIndex, HasNumber, MayAsk, MayCome};
+ghost use Rattle.cam_node.specs.Numbers.{MayBePutNow, MayStep, objects_of};
+ghost use Rattle.cam_type.specs.Objects.{is_fit};
 
 use crate::Input;
+use crate::homes::home_of;
 use crate::node::Node;
 use crate::state::Core;
 use cam_ckpt::CheckpointLog;
-use cam_event::{Body, Request, Want};
+use cam_event::{Body, Letter, Request, Want};
+use cam_type::{Op, fits};
 
 impl<L: CheckpointLog> Node<L> {
     /// What [`Node::step`] wants of an input besides that nothing stands against it
-    /// ([`Node::refusal`]): that numbers are left, and for a Prepare that at most 64 objects are
-    /// declared. The node is not halted. It takes no memory. It does not say whether the op of a
-    /// call fits its object, nor whether a restart takes the index that a call gets: it takes none
-    /// above 499,999,999.
+    /// ([`Node::refusal`]): that numbers are left; of a request, that the node is the home of its
+    /// action, and that the op of a call fits its object; of a letter, that it may be handed to
+    /// this node, and of a Prepare that at most 64 objects are declared. The node is not halted. It
+    /// takes no memory. It does not say whether a restart takes the index that a call gets: it
+    /// takes none above 499,999,999.
     pub fn may_step(&self, input: &Input) -> bool
         requires running { IsFalse self.now.log.halted }
-        ensures { IsTrue result ↔ MayStep (answers self.now.core) input.now }
+        ensures may { IsTrue result ↔ MayStep (answers self.now.core) input.now }
+        // Where nothing stands against it, the clauses of a step speak of it.
+        ensures put { IsTrue result → MayBePutNow (answers self.now.core) input.now }
     {
-        match input {
-            Input::Begin => self.core.actions.tops() < 1_000_000_000,
-            Input::Request(request) => self.core.has_number(request),
-            Input::Letter(_, letter) => {
-                is_node(letter.from)
-                    && self.core.has_index(&letter.body)
-                    && self.core.has_few_objects(&letter.body)
-            }
-            Input::Tell(to) => is_node(*to),
-            Input::Query(_) => true,
-        }
+        self.core.may_step(input)
     }
 }
 
 impl Core {
-    /// Whether what a request makes has a number left, at a node from 1 to 8.
+    /// Whether an input may be put to the node in this regard.
+    fn may_step(&self, input: &Input) -> bool
+        ensures { IsTrue result ↔ MayStep (answers self.now) input.now }
+    {
+        match input {
+            Input::Begin => self.actions.tops() < 1_000_000_000,
+            Input::Request(request) => self.may_ask(request),
+            Input::Letter(_, letter) => self.may_come(letter),
+            Input::Tell(to) => is_node(*to),
+            Input::Query(_) => true,
+        }
+    }
+
+    /// Whether a request may be put to the node.
+    fn may_ask(&self, request: &Request) -> bool
+        ensures { IsTrue result ↔ MayAsk (answers self.now) request.now.action request.now.want }
+    {
+        home_of(&request.action) == self.number
+            && self.is_want(&request.want)
+            && self.has_number(request)
+    }
+
+    /// Whether a child is asked for at one of the eight nodes, and a call is on an object of one of
+    /// them, which its op fits.
+    fn is_want(&self, want: &Want) -> bool
+        ensures { IsTrue result ↔ IsWant (objects_of (answers self.now)) want.now }
+    {
+        match want {
+            Want::Ask(node) => is_node(*node),
+            Want::Call(object, op) => {
+                self.fits(*object, op) && is_node(self.server.table().site_of(*object))
+            }
+            Want::Commit(_) | Want::Abort | Want::GiveUp(_) => true,
+        }
+    }
+
+    /// Whether what a request makes has a number left.
     fn has_number(&self, request: &Request) -> bool
         ensures { IsTrue result ↔ HasNumber (answers self.now) request.now.action request.now.want }
     {
         match &request.want {
-            Want::Ask(node) => {
-                is_node(*node) && self.actions.asks(&request.action) < 1_000_000_000
-            }
-            Want::Call(object, _) => {
-                is_node(self.server.table().site_of(*object))
-                    && self.actions.calls(&request.action) < 1_000_000_000
-            }
+            Want::Ask(_) => self.actions.asks(&request.action) < 1_000_000_000,
+            Want::Call(_, _) => self.actions.calls(&request.action) < 1_000_000_000,
             Want::Commit(_) | Want::Abort | Want::GiveUp(_) => true,
         }
+    }
+
+    /// Whether an object is declared and its op fits it.
+    pub(crate) fn fits(&self, object: u8, op: &Op) -> bool
+        ensures { result ≡ is_fit (objects_of (answers self.now)) object op.now }
+    {
+        let table = self.server.table();
+        (object as usize) < table.object_count() && fits(table.kind(object), op)
+    }
+
+    /// Whether a letter may come to the node.
+    fn may_come(&self, letter: &Letter) -> bool
+        ensures { IsTrue result ↔ MayCome (answers self.now) letter.now }
+    {
+        is_node(letter.from)
+            && self.has_index(&letter.body)
+            && self.has_few_objects(&letter.body)
+            && self.is_letter(letter)
     }
 
     /// Whether a call that comes has an index left.

@@ -12,7 +12,7 @@ ghost use Rattle.cam_node.specs.Calls.{answers, input_of, letters_of, load_of, m
 ghost use Rattle.cam_node.specs.Halting.{IsStepThrough};
 ghost use Rattle.cam_node.specs.Keeping.{KeepsOn};
 ghost use Rattle.cam_node.specs.Refused.{IsNotRefused};
-ghost use Rattle.cam_node.specs.Numbers.{HasNumber, MayStep};
+ghost use Rattle.cam_node.specs.Numbers.{MayAsk, MayStep};
 ghost use Rattle.cam_node.specs.Unlogged.{gives_up, is_unlogged};
 
 use crate::fault::NodeFault;
@@ -53,7 +53,7 @@ impl Core {
     fn request(&mut self, request: &Request) -> Result<Stepped, NoMemory>
         requires unlogged { IsFalse (gives_up request.now.want) }
         requires free { IsFree (answers self.old).actions request.now.action request.now.want }
-        requires number { HasNumber (answers self.old) request.now.action request.now.want }
+        requires may { MayAsk (answers self.old) request.now.action request.now.want }
         ensures step { (objects : List ObjectDecl) → IfOk result (λ stepped. IsStepThrough objects
             (answers self.old) (answers self.new) (Requests request.now) None no_load
             stepped.event) }

@@ -8,7 +8,7 @@ ghost use Rattle.cam_locks.specs.Calls.{has_family};
 ghost use Rattle.cam_tranman.specs.Calls.{refusal_by};
 ghost use Rattle.cam_node.specs.Calls.{answers};
 ghost use Rattle.cam_node.specs.Halting.{IsQueryRefusal, IsRefusal};
-ghost use Rattle.cam_node.specs.Refused.{IsNotRefused, IsRefusalOf};
+ghost use Rattle.cam_node.specs.Refused.{IsNotRefused, IsRefusalOf, query_refusal_by};
 
 use crate::Input;
 use crate::node::Node;
@@ -42,7 +42,9 @@ impl Core {
 
     /// What stands against asking the home of a family how the family ended, if anything does. It takes no memory.
     pub(crate) fn query_refusal(&self, family: &Name) -> Option<LineRefusal>
-        ensures { (objects : List ObjectDecl) → IsQueryRefusal objects (answers self.now) family.now result }
+        ensures rule { (objects : List ObjectDecl)
+            → IsQueryRefusal objects (answers self.now) family.now result }
+        ensures value { result ≡ query_refusal_by (answers self.now) family.now }
     {
         if self.knowing.tells(family) {
             return Some(LineRefusal::NothingToDo);

@@ -84,12 +84,7 @@ fn depend_on_known(know: &Know, node: u8, count: u32) -> bool
         know.now.outcomes }
 {
     let known = known_counts(know, node, count);
-    for outcome in know.outcomes() {
-        if !is_known(&known, outcome) {
-            return false;
-        }
-    }
-    true
+    all_known(&known, know.outcomes())
 }
 
 /// The known counts of the nodes, where one of them has reached this count.
@@ -103,6 +98,19 @@ pub(crate) fn known_counts(know: &Know, node: u8, count: u32) -> [u32; 8]
     counts
 }
 
+/// Whether none of these outcomes depends on a count above the known one of its node.
+pub(crate) fn all_known(known: &[u32; 8], outcomes: &[Outcome]) -> bool
+    ensures { result ≡ list_all (is_known_outcome (record { outcomes = []; counts = known.now }))
+        outcomes.now }
+{
+    for outcome in outcomes {
+        if !is_known(known, outcome) {
+            return false;
+        }
+    }
+    true
+}
+
 /// Whether an outcome depends on no count above the known one of its node.
 fn is_known(known: &[u32; 8], outcome: &Outcome) -> bool
     ensures { result ≡ is_known_outcome (record { outcomes = []; counts = known.now }) outcome.now }
@@ -114,7 +122,7 @@ fn is_known(known: &[u32; 8], outcome: &Outcome) -> bool
 }
 
 /// Whether no count among the dependencies is above the known one of its node.
-fn are_known(known: &[u32; 8], deps: &Deps) -> bool
+pub(crate) fn are_known(known: &[u32; 8], deps: &Deps) -> bool
     ensures { result ≡ are_known (record { outcomes = []; counts = known.now }) deps.now }
 {
     let counts = deps.counts();

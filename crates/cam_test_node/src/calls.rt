@@ -29,7 +29,7 @@ from 2 call 2.1.3 1 0 read at 1 deps 2:1 | plain, bounce 2.1.3 1 2.1.2, to 2 ans
 from 2 knows 2 2 call 2.1.3 2 0 read at 1 deps 2:1 | stopped 2.1.3 crash 2 1 2, to 2 answer 2.1.3 2 refused
 restart | plain, crash 1
 from 2 call 2.1.2 1 0 read at 1 deps 2:1 | missed, to 2 answer 2.1.2 1 missed
-from 2 call 2.2.1 1 0 read at 2 deps 2:2 | plain, perform 2.2.1 1 value 5, to 2 answer 2.2.1 1 value 5";
+from 2 knows 2 2 call 2.2.1 1 0 read at 2 deps 2:2 | plain, perform 2.2.1 1 value 5, to 2 answer 2.2.1 1 value 5";
 
 #[test]
 fn a_call_tells_of_what_was_in_its_way(rt: HostRuntime) -> Result<(), Fail> {

@@ -50,7 +50,8 @@ put-requires-clause-may g c =
       letter_may_come some.script some.standing works reads some.is_script some.keeps place there
           (ap (is_halted c.args.self.now.halted) (after_is place) ∙ c.requires.awake) _ seen
           c.args.coming.now.letter c.args.letter
-          (c.requires.read some.script some.standing some.is_script some.keeps),
+          (c.requires.read some.script some.standing some.is_script some.keeps)
+          (c.requires.found some.script some.standing some.is_script some.keeps).1,
     ))
 
 pub put-requires-clause-servers : goal.put-requires-clause-servers
