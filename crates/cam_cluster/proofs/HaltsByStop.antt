@@ -22,7 +22,7 @@ use Rattle.cam_histories.specs.Alike.{AreAlike}
 use Rattle.cam_histories.specs.PutIn.{nameless}
 use Rattle.cam_histories.proofs.Alike.{logs_keep_alike}
 use Rattle.cam_histories.proofs.HaltsAlike.{halts_stand_alike}
-use Rattle.cam_histories.proofs.LogEntries.{adds_alike}
+use Rattle.cam_histories.proofs.AddsAlike.{adds_alike}
 use Rattle.cam_histories.proofs.Numbers.{lt_cases}
 use Rattle.cam_cluster.specs.Stopped.{IsHaltByStop}
 use Rattle.cam_cluster.specs.Stopping.{too_few, ends_by, runs_on, stopped_at, told_last}

@@ -25,8 +25,8 @@ use Rattle.cam_histories.specs.InputLaws.{held_setting, halt_of, with_site, Keep
 use Rattle.cam_histories.specs.Laws.{history_of}
 use Rattle.cam_histories.specs.PutIn.{nameless}
 use Rattle.cam_histories.specs.Whole.{Site, KeepsInOrder, IsWhole}
-use Rattle.cam_histories.proofs.OneInput.{inputs_lead_on, inputs_stand, plain_put, put_plain}
-use Rattle.cam_histories.proofs.OneInput.{other_history}
+use Rattle.cam_histories.proofs.OneInput.{inputs_lead_on, plain_put, put_plain, other_history}
+use Rattle.cam_histories.proofs.InputsStand.{inputs_stand}
 use Rattle.cam_cluster.specs.Puts.{IsPutAt}
 use Rattle.cam_cluster.specs.Works.{NodeFields, WorksFields, KeepsRun, AreStopped, IsUnfailing}
 use Rattle.cam_cluster.specs.Works.{sites_of}

@@ -21,10 +21,12 @@ pub mod Carried
 pub mod PutNext
 pub mod Changing
 pub mod LetterBytes
+pub mod KnownAlike
 pub mod ReadBack
 pub mod Stepping
 pub mod Sites
 pub mod OneInput
+pub mod InputsStand
 pub mod Lines
 pub mod NextLetter
 pub mod ManyLines
@@ -70,6 +72,10 @@ pub mod StepsAlike
 pub mod HaltsAlike
 pub mod NewHalts
 pub mod RecordedDeeds
+pub mod GreaterCounts
+pub mod DecidedFirst
 pub mod RunDecisions
+pub mod DeedsAdd
 pub mod EntriesAdd
 pub mod LogEntries
+pub mod AddsAlike

@@ -1,6 +1,7 @@
 -- In a run an event has a record just where it appends an entry, and what it has adds to what the
 -- log keeps.
-use Rattle.std.proofs.Common.{◌≡◌, ℕ, ◌≤◌, max, Bool, true, false, not, ◌||◌, List, [], ◌∷◌, ◌++◌, map, Option, refl, sym, ap, ◌∙◌, subst, arith}
+use Rattle.std.proofs.Common.{◌≡◌, ℕ, ◌≤◌, max, Bool, true, false, not, ◌||◌, List, [], ◌∷◌, ◌++◌}
+use Rattle.std.proofs.Common.{map, Option, refl, sym, ap, ◌∙◌, subst, arith}
 use Rattle.std.specs.List.{list_any}
 use Rattle.std.proofs.lemmas.Bool.{true≢false, false_from_ne_true}
 use Rattle.cam_names.specs.Dependencies.{greater_counts}
@@ -12,7 +13,8 @@ use Rattle.cam_event.specs.declared.Deed.{Deed}
 use Rattle.cam_event.specs.declared.Deed.TheVariants.{Commit, Abort}
 use Rattle.cam_event.specs.declared.Event.{Event}
 use Rattle.cam_event.specs.History.{count, is_crash, is_empty}
-use Rattle.cam_event.specs.Inputs.{Input, Begins, Requests, Receives, Tells, Queries, Restarts, Mail, node_of, got_of, mail_got}
+use Rattle.cam_event.specs.Inputs.{Input, Begins, Requests, Receives, Tells, Queries, Restarts}
+use Rattle.cam_event.specs.Inputs.{Mail, node_of, got_of, mail_got}
 use Rattle.cam_event.specs.Taken.{is_entered}
 use Rattle.cam_event.specs.ByPast.{next, own_past}
 use Rattle.cam_event.specs.ByKnowledge.{Carried, held, held_sight, new_informs, node_step}
@@ -31,15 +33,13 @@ use Rattle.cam_node.specs.Halting.{taken}
 use Rattle.cam_node.specs.Learning.{ruled}
 use Rattle.cam_node.specs.LogOrder.{is_any_secure}
 use Rattle.cam_runs.specs.Halts.{appends, brought_by, learns_count}
-use Rattle.cam_histories.specs.Alike.{AreAlike}
 use Rattle.cam_histories.specs.Laws.{history_of, load_of_input}
-use Rattle.cam_histories.specs.LogEntries.{next_whole, EntriesAreAppended, EntriesAdd, AddsAlike}
-use Rattle.cam_histories.specs.PutIn.{nameless}
-use Rattle.cam_histories.proofs.Nameless.{known_bare}
+use Rattle.cam_histories.specs.LogEntries.{next_whole, EntriesAreAppended, EntriesAdd}
 use Rattle.cam_histories.proofs.EntriesAdd.{AreTold, entry_is, entry_adds}
-use Rattle.cam_histories.proofs.RecordedDeeds.{any_greater}
+use Rattle.cam_histories.proofs.GreaterCounts.{any_greater}
 use Rattle.cam_histories.proofs.Replying.{rule_restarts}
-use Rattle.cam_histories.proofs.RunDecisions.{commits_unknown, aborts_unknown, tells_the_same, known_counts, own_low, brought_counts}
+use Rattle.cam_histories.proofs.RunDecisions.{commits_unknown, aborts_unknown, tells_the_same}
+use Rattle.cam_histories.proofs.RunDecisions.{known_counts, own_low, brought_counts}
 
 -- What is added does not go by the order of what a letter tells.
 pub adds_as_good : (objects : List ObjectDecl) (history : List Received) (one other : Received)
@@ -186,29 +186,3 @@ entries_add objects taken t input read brought run may put goes_on some =
       mail = got;
       brought = k;
     }
-
--- Nor does it go by the numbers of letters in the history.
-known_alike : (objects : List ObjectDecl) (one other : List Received) → AreAlike one other
-    → known objects one ≡ known objects other
-known_alike objects one other alike =
-    sym (known_bare objects one) ∙ ap (known objects) alike ∙ known_bare objects other
-
-pub adds_alike : AddsAlike
-adds_alike objects one other whole alike = by
-  where
-    before : known objects one ≡ known objects other
-    before = known_alike objects one other alike
-
-    after : known objects (whole ∷ one) ≡ known objects (whole ∷ other)
-    after = known_alike objects (whole ∷ one) (whole ∷ other) (λ i. nameless whole ∷ alike i)
-
-    by : Adds objects one whole → Adds objects other whole
-    by (Decides off) =
-        Decides (λ e. off
-        (ap (λ (k : Knowledge). k.outcomes) after ∙ e
-        ∙ sym (ap (λ (k : Knowledge). k.outcomes) before)))
-    by (Counts m low high off) =
-        Counts m low high (λ e. off
-        (ap (λ (k : Knowledge). known_count k m) after ∙ e
-        ∙ sym (ap (λ (k : Knowledge). known_count k m) before)))
-    by (Secures some) = Secures some

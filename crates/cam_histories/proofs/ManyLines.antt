@@ -23,7 +23,8 @@ use Rattle.cam_histories.specs.Laws.{history_of}
 use Rattle.cam_net.proofs.Changes.{has_within}
 use Rattle.cam_node.specs.Calls.{letters_of}
 use Rattle.cam_histories.proofs.Networks.{has_run_letters}
-use Rattle.cam_histories.proofs.OneInput.{inputs_lead_on, inputs_stand}
+use Rattle.cam_histories.proofs.OneInput.{inputs_lead_on}
+use Rattle.cam_histories.proofs.InputsStand.{inputs_stand}
 use Rattle.cam_histories.proofs.Changing.{lose_stands, delivered_stands, halts_stand}
 
 -- what changes neither events nor letters nor halted nodes

@@ -1,18 +1,11 @@
 -- A letter that was read from its bytes is as good as the one that was sent.
-use Rattle.std.proofs.Common.{◌≡◌, inl, inr, ℕ, ◌-◌, ◌≤◌, true, not, ◌&&◌, eqb, max, min, if◌then◌else◌}
-use Rattle.std.proofs.Common.{List, [], ◌∷◌, map, length, reverse, Option, Some, refl, sym, ap, ◌∙◌}
-use Rattle.std.proofs.Common.{subst}
-use Rattle.std.specs.Prelude.{slice_index, nat_le}
-use Rattle.std.specs.List.{list_all}
+use Rattle.std.proofs.Common.{◌≡◌, ℕ, ◌≤◌, not, ◌&&◌, eqb, max, min, if◌then◌else◌, List, ◌∷◌, map}
+use Rattle.std.proofs.Common.{length, reverse, Option, Some, refl, sym, ap, ◌∙◌, subst}
 use Rattle.std.proofs.lemmas.Option.{same_Some}
-use Rattle.cam_names.specs.Dependencies.{pairs_of}
 use Rattle.cam_type.specs.declared.Held.{Held}
 use Rattle.cam_type.specs.declared.ObjectDecl.{ObjectDecl}
-use Rattle.cam_know.specs.declared.Outcome.{Outcome}
-use Rattle.cam_know.specs.declared.Outcome.TheVariants.{Aborted, Committed}
-use Rattle.cam_know.specs.Knowledge.{Knowledge}
 use Rattle.cam_know.specs.Known.{both, known_count}
-use Rattle.cam_know.specs.Order.{in_order, told_in_order}
+use Rattle.cam_know.specs.Order.{told_in_order}
 use Rattle.cam_event.specs.declared.Event.{Event}
 use Rattle.cam_event.specs.declared.Letter.{Letter}
 use Rattle.cam_event.specs.History.{count as count_in, number_of}
@@ -21,20 +14,17 @@ use Rattle.cam_event.specs.ByKnowledge.{Carried, deeds_of, held, is_any_perform,
 use Rattle.cam_event.specs.Loads.{Load, each_node}
 use Rattle.cam_event.specs.ByDeltas.{Received, as_carried, known, crashed, is_from, have_of}
 use Rattle.cam_event.specs.ByDeltas.{acked_of, places_of, load_at, load_by, received_of}
-use Rattle.cam_event.proofs.Members.{In}
 use Rattle.cam_agree.proofs.Ran.{Ran}
-use Rattle.cam_cut.proofs.Lists.{in_all}
 use Rattle.cam_commit.specs.Families.{CommitsFamilies}
 use Rattle.cam_delta.proofs.Addressed.{ran_addressed}
-use Rattle.cam_delta.proofs.DeltaLists.{in_ordered, ordered_in}
 use Rattle.cam_delta.proofs.Distinctness.{Distinct, distinct_so_far}
-use Rattle.cam_delta.proofs.OneOrder.{order_rises, rising_same, none_twice}
+use Rattle.cam_delta.proofs.OneOrder.{none_twice}
 use Rattle.cam_delta.proofs.SameHistories.{Alike, same_alike}
 use Rattle.cam_server.specs.Recovered.{AreHeld, OrderIsKept, beside}
 use Rattle.cam_server.specs.Server.{ServesSite}
 use Rattle.cam_tranman.specs.Actions.{RunsActions}
 use Rattle.cam_wire.specs.OfTrace.{letter_with}
-use Rattle.cam_node.specs.Lawful.{IsLetter, are_known, body_counts, is_known_outcome}
+use Rattle.cam_node.specs.Lawful.{IsLetter, body_counts}
 use Rattle.cam_node.specs.Keeping.{IsLogOf}
 use Rattle.cam_node.specs.Log.{Logged, secure_counts}
 use Rattle.cam_node.specs.LogOrder.{IsInOrder, OrderIsKeptWith}
@@ -44,40 +34,7 @@ use Rattle.cam_histories.specs.ReadBack.{IsAsGood, LettersAreReadBack, received_
 use Rattle.cam_histories.specs.ReadBack.{NodesStandAsGood, LogsKeepAsGood}
 use Rattle.cam_histories.proofs.Sent.{ran_letters_put}
 use Rattle.cam_histories.proofs.Handing.{SentAs, sent_as}
-
--- what a load is tested for goes by its set of outcomes and its counts
-known_alike : (k l : Knowledge) (counts : List ℕ) → k.counts ≡ l.counts
-    → are_known k counts ≡ are_known l counts
-known_alike k l counts same = ap (λ (cs : List ℕ). list_all
-    (λ p. nat_le p.1 (slice_index cs (p.0 - 1))) (pairs_of counts)) same
-
-outcome_alike : (k l : Knowledge) (o : Outcome) → k.counts ≡ l.counts
-    → is_known_outcome k o ≡ is_known_outcome l o
-outcome_alike k l (Aborted a) same = refl
-outcome_alike k l (Committed a counts) same = known_alike k l counts same
-
-all_known : (k : Knowledge) (os : List Outcome)
-    → ((o : Outcome) → In o os → is_known_outcome k o ≡ true)
-    → list_all (is_known_outcome k) os ≡ true
-all_known k [] each = refl
-all_known k (o ∷ os) each = λ i. (each o (inl refl) i) && (all_known k os (λ p j. each p (inr j)) i)
-
-outcomes_alike : (k l : Knowledge) → Alike k l → list_all (is_known_outcome l) l.outcomes ≡ true
-    → list_all (is_known_outcome k) k.outcomes ≡ true
-outcomes_alike k l alike all =
-    all_known k k.outcomes (λ o i. outcome_alike k l o alike.counts ∙ in_all
-    (is_known_outcome l) l.outcomes o all (alike.to o i))
-
--- the same in order
-order_alike : (k l : Knowledge) → Alike k l → Distinct k.outcomes → Distinct l.outcomes
-    → told_in_order k ≡ told_in_order l
-order_alike k l alike one other =
-    let outcomes : in_order k.outcomes ≡ in_order l.outcomes =
-    rising_same (in_order k.outcomes) (in_order l.outcomes) (order_rises k.outcomes one)
-    (order_rises l.outcomes other)
-    (λ o i. in_ordered o l.outcomes (alike.to o (ordered_in o k.outcomes i)))
-    (λ o i. in_ordered o k.outcomes (alike.back o (ordered_in o l.outcomes i))) in
-    λ i. record { outcomes = outcomes i; counts = alike.counts i }
+use Rattle.cam_histories.proofs.KnownAlike.{known_alike, outcomes_alike, order_alike}
 
 pub letters_are_read_back : LettersAreReadBack
 letters_are_read_back objects taken t id mail letter found taking at sent same distinct = record {

@@ -1,34 +1,34 @@
 -- Which lists of an event's entry are empty: its records of deeds, the new outcomes, and the
 -- greater counts.
-use Rattle.std.proofs.Common.{◌≡◌, inl, inr, ℕ, ◌+◌, ◌<◌, ◌≤◌, max, nat_lt, Bool, true, false, not, ◌&&◌, ◌||◌, if◌then◌else◌, List, [], ◌∷◌, ◌++◌, map, Option, refl, sym, ap, ◌∙◌, arith}
+use Rattle.std.proofs.Common.{◌≡◌, inl, inr, ℕ, Bool, true, false, not, ◌&&◌, ◌||◌, if◌then◌else◌}
+use Rattle.std.proofs.Common.{List, [], ◌∷◌, ◌++◌, map, Option, refl, sym, ap, ◌∙◌}
 use Rattle.std.specs.Prelude.{filter, flat_map}
 use Rattle.std.specs.List.{list_any}
 use Rattle.std.proofs.lemmas.Bool.{cases_Bool, true≢false}
 use Rattle.std.proofs.lemmas.List.Folds.{list_any-append}
 use Rattle.cam_names.specs.declared.name.Name.{Name}
 use Rattle.cam_names.specs.Names.{name_eq, name_lt}
-use Rattle.cam_names.specs.Dependencies.{greater_counts}
 use Rattle.cam_type.specs.declared.ObjectDecl.{ObjectDecl}
 use Rattle.cam_know.specs.declared.Outcome.{Outcome}
 use Rattle.cam_know.specs.declared.Outcome.TheVariants.{Aborted, Committed}
 use Rattle.cam_know.specs.Knowledge.{Knowledge}
-use Rattle.cam_know.specs.Known.{knows, knows_abort, knows_commit, unknown, aborted_name, committed_name, is_commit_of}
+use Rattle.cam_know.specs.Known.{knows, knows_abort, knows_commit, unknown, aborted_name}
+use Rattle.cam_know.specs.Known.{committed_name, is_commit_of}
 use Rattle.cam_know.proofs.Union.{any_known}
 use Rattle.cam_names.proofs.Names.{name_eq_refl}
 use Rattle.cam_event.specs.declared.Deed.{Deed}
-use Rattle.cam_event.specs.declared.Deed.TheVariants.{Create, Ask, Call, Perform, Bounce, Got, AskCommit, AskAbort, Commit, Abort, Secure, Inform, Crash}
+use Rattle.cam_event.specs.declared.Deed.TheVariants.{Create, Ask, Call, Perform, Bounce, Got}
+use Rattle.cam_event.specs.declared.Deed.TheVariants.{AskCommit, AskAbort, Commit, Abort, Secure}
+use Rattle.cam_event.specs.declared.Deed.TheVariants.{Inform, Crash}
 use Rattle.cam_event.specs.History.{is_empty}
 use Rattle.cam_event.specs.Inputs.{Mail}
 use Rattle.cam_event.specs.Rules.{put_name, sorted_names, informs}
 use Rattle.cam_event.specs.ByKnowledge.{Carried}
 use Rattle.cam_event.specs.Taken.{is_entered}
 use Rattle.cam_event.proofs.Members.{In}
-use Rattle.cam_recman.specs.declared.Record.{Record}
-use Rattle.cam_recman.specs.declared.Record.TheVariants as records
-use Rattle.cam_node.specs.Entries.{Holding, deed_records, greater_records}
+use Rattle.cam_node.specs.Entries.{Holding, deed_records}
 use Rattle.cam_node.specs.LogOrder.{is_any_secure}
 use Rattle.cam_node.specs.Shapes.{is_mute, IsShaped, Quiet, Single, Commits, Aborts}
-use Rattle.cam_histories.proofs.Numbers.{lt_cases}
 
 pub empty_append : {X : Type 0} (xs ys : List X) → is_empty (xs ++ ys) ≡ (is_empty xs && is_empty ys)
 empty_append [] ys = refl
@@ -192,50 +192,3 @@ new_named k (Committed a counts ∷ os) same =
         → (b ≡ true → name_eq a a ≡ true → knows_commit k a ≡ true) → b ≡ false
     unheard true new h = absurd (true≢false (sym (h refl (name_eq_refl a)) ∙ new))
     unheard false new h = refl
-
--- A record of a greater count is there just where a count is greater.
-abbrev pub any_greater : List ℕ → List ℕ → Bool
-any_greater [] cs = false
-any_greater (k ∷ ks) [] = false
-any_greater (k ∷ ks) (c ∷ cs) = nat_lt k c || any_greater ks cs
-
-lt_itself : (k : ℕ) → nat_lt k k ≡ false
-lt_itself k = elim (lt_cases k k) [
-  | inl y ↦ let h = y.1 in absurd (omega (arith, h))
-  | inr n ↦ n.0
-]
-
-none_greater : (n : ℕ) (ks : List ℕ) → is_empty (greater_records n ks ks) ≡ true
-none_greater n [] = refl
-none_greater n (k ∷ ks) = rw (lt_itself k) (none_greater (n + 1) ks)
-
-lt_max : (k c : ℕ) → nat_lt k (max k c) ≡ nat_lt k c
-lt_max k c = elim (lt_cases k c) [
-  | inl y ↦ let h = y.1 in ap (nat_lt k) (greater k c h)
-  | inr n ↦ let h = n.1 in ap (nat_lt k) (lesser k c h) ∙ lt_itself k ∙ sym n.0
-]
-  where
-    greater : (k c : ℕ) → k < c → max k c ≡ c
-    greater k c h = omega (arith, h)
-
-    lesser : (k c : ℕ) → c ≤ k → max k c ≡ k
-    lesser k c h = omega (arith, h)
-
-pub greater_empty : (n : ℕ) (ks cs : List ℕ)
-    → is_empty (greater_records n ks (greater_counts ks cs)) ≡ not (any_greater ks cs)
-greater_empty n [] cs = refl
-greater_empty n (k ∷ ks) [] = none_greater n (k ∷ ks)
-greater_empty n (k ∷ ks) (c ∷ cs) =
-    let rest = greater_empty (n + 1) ks cs in
-    ap (λ b. is_empty (with_count b)) (lt_max k c) ∙ by (nat_lt k c) rest
-  where
-    more : List Record
-    more = greater_records (n + 1) ks (greater_counts ks cs)
-
-    with_count : Bool → List Record
-    with_count b = if b then records.Seen n (max k c) ∷ more else more
-
-    by : (b : Bool) → is_empty more ≡ not (any_greater ks cs)
-        → is_empty (with_count b) ≡ not (b || any_greater ks cs)
-    by true rest = refl
-    by false rest = rest

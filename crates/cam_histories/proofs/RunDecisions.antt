@@ -1,6 +1,7 @@
 -- In a run a node decides what it does not know to be decided; of a commit that it is told and
 -- knows it knows the same; and what it knows and is told of counts are eight numbers.
-use Rattle.std.proofs.Common.{◌≡◌, inl, inr, ℕ, ◌≤◌, Bool, true, false, List, [], ◌∷◌, map, Option, Some, None, refl, sym, ◌∙◌, subst, eqb, is_some}
+use Rattle.std.proofs.Common.{◌≡◌, inl, inr, ℕ, ◌≤◌, Bool, true, false, List, ◌∷◌, map, Option}
+use Rattle.std.proofs.Common.{Some, None, refl, sym, ◌∙◌, subst, eqb, is_some}
 use Rattle.std.specs.List.{list_any}
 use Rattle.std.proofs.lemmas.Bool.{cases_Bool, or_left, or_parts, true≢false, false_from_ne_true}
 use Rattle.cam_names.specs.declared.name.Name.{Name}
@@ -9,7 +10,8 @@ use Rattle.cam_type.specs.declared.ObjectDecl.{ObjectDecl}
 use Rattle.cam_know.specs.declared.Outcome.{Outcome}
 use Rattle.cam_know.specs.declared.Outcome.TheVariants.{Aborted, Committed}
 use Rattle.cam_know.specs.Knowledge.{Knowledge}
-use Rattle.cam_know.specs.Known.{knows, knows_abort, knows_commit, is_abort_of, is_commit_of, nothing}
+use Rattle.cam_know.specs.Known.{knows, knows_abort, knows_commit, is_abort_of, is_commit_of}
+use Rattle.cam_know.specs.Known.{nothing}
 use Rattle.cam_know.specs.Order.{told_in_order}
 use Rattle.cam_know.proofs.OrphanBySet.{any_same}
 use Rattle.cam_know.proofs.Union.{any_both}
@@ -17,8 +19,9 @@ use Rattle.cam_event.specs.declared.Deed.{Deed}
 use Rattle.cam_event.specs.declared.Deed.TheVariants.{Commit, Abort}
 use Rattle.cam_event.specs.declared.Event.{Event}
 use Rattle.cam_event.specs.declared.LetterId.{LetterId}
-use Rattle.cam_event.specs.History.{after, count, committed, aborted, decided, is_commit, is_abort}
-use Rattle.cam_event.specs.Inputs.{Input, Begins, Requests, Receives, Tells, Queries, Restarts, Mail, letter_at}
+use Rattle.cam_event.specs.History.{after, count, committed, aborted, is_commit, is_abort}
+use Rattle.cam_event.specs.Inputs.{Input, Begins, Requests, Receives, Tells, Queries, Restarts}
+use Rattle.cam_event.specs.Inputs.{Mail, letter_at}
 use Rattle.cam_event.specs.Pasts.{plain, plain_all, every, in_base}
 use Rattle.cam_event.specs.ByPast.{next, own_past}
 use Rattle.cam_event.specs.ByKnowledge.{carried_by, carried_of}
@@ -29,13 +32,11 @@ use Rattle.cam_event.specs.Agreement.{KnowsItsBase}
 use Rattle.cam_event.specs.Runs.{MayCome}
 use Rattle.cam_event.proofs.Members.{In, any_in, any_more, plain_more}
 use Rattle.cam_plain.specs.Legal.{Legal}
-use Rattle.cam_plain.proofs.Histories.{legal_before}
 use Rattle.cam_cut.proofs.BeginGood.{count_one}
 use Rattle.cam_cut.proofs.Holds.{every_closed}
 use Rattle.cam_cut.proofs.Step.{event_holds}
 use Rattle.cam_agree.proofs.DepsAgreed.{in_known}
 use Rattle.cam_agree.proofs.DepsKnown.{IsTold, held_tell}
-use Rattle.cam_agree.proofs.OrphanOpen.{undecided_before}
 use Rattle.cam_agree.proofs.Ran.{Ran, ran_holds, ran_knows}
 use Rattle.cam_delta.proofs.Addressed.{ran_addressed}
 use Rattle.cam_delta.proofs.DeltaLists.{ordered_in}
@@ -45,31 +46,7 @@ use Rattle.cam_delta.proofs.SameHistories.{same_alike}
 use Rattle.cam_delta.proofs.SameKnown.{same_so_far, whole}
 use Rattle.cam_histories.specs.Laws.{history_of, load_of_input}
 use Rattle.cam_histories.proofs.RecordedDeeds.{TellsTheSame}
-
--- What a legal history decides it had not decided before.
-committed_first : (objects : List ObjectDecl) (ds L : List Deed) (a : Name)
-    → Legal objects (after L ds) → In (Commit a) ds → decided L a ≡ false
-committed_first objects [] L a legal i = absurd i
-committed_first objects (d ∷ ds) L a legal (inl e) =
-    let line = legal_before objects ds (d ∷ L) legal in
-    here d e line
-  where
-    here : (d : Deed) → Commit a ≡ d → Legal objects (d ∷ L) → decided L a ≡ false
-    here d e line = (subst (λ x. Legal objects (x ∷ L)) (sym e) line).0.undecided
-committed_first objects (d ∷ ds) L a legal (inr i) =
-    undecided_before L d a (committed_first objects ds (d ∷ L) a legal i)
-
-aborted_first : (objects : List ObjectDecl) (ds L : List Deed) (a : Name)
-    → Legal objects (after L ds) → In (Abort a) ds → decided L a ≡ false
-aborted_first objects [] L a legal i = absurd i
-aborted_first objects (d ∷ ds) L a legal (inl e) =
-    let line = legal_before objects ds (d ∷ L) legal in
-    here d e line
-  where
-    here : (d : Deed) → Abort a ≡ d → Legal objects (d ∷ L) → decided L a ≡ false
-    here d e line = (subst (λ x. Legal objects (x ∷ L)) (sym e) line).0.undecided
-aborted_first objects (d ∷ ds) L a legal (inr i) =
-    undecided_before L d a (aborted_first objects ds (d ∷ L) a legal i)
+use Rattle.cam_histories.proofs.DecidedFirst.{committed_first, aborted_first}
 
 module _ (objects : List ObjectDecl) (t : List Event) (run : Ran objects t) where
   abbrev knowledge_of : ℕ → Knowledge

@@ -1,5 +1,6 @@
 -- Which events of a run have a log entry, and what it adds.
-use Rattle.cam_histories.proofs.LogEntries.{adds_alike, entries_add, entries_are_appended}
+use Rattle.cam_histories.proofs.LogEntries.{entries_add, entries_are_appended}
+use Rattle.cam_histories.proofs.AddsAlike.{adds_alike}
 use Rattle.cam_histories.proofs.steps.log_entries.Goals as goal
 
 pub returns-clause-appended : goal.returns-clause-appended
