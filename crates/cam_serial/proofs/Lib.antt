@@ -6,6 +6,7 @@ pub mod CommitOrder
 pub mod OwnGroups
 pub mod Replaying
 pub mod Depended
+pub mod SecuredLive
 pub mod Stays
 pub mod Covering
 pub mod Laws

@@ -18,12 +18,17 @@ node_in_range nodes n most h =
     (grind (arith, least), grind (arith, within, most))
 
 -- An op that fits is on a declared object, which is placed.
-pub site_in_range : (nodes : ℕ) (objects : List ObjectDecl) (x : ℕ) (op : Op) → nat_le nodes 8 ≡ true → list_all (is_placed nodes) objects ≡ true → is_fit objects x op ≡ true → IsNode (site_of objects x)
+pub site_in_range :
+    (nodes : ℕ) (objects : List ObjectDecl) (x : ℕ) (op : Op) → nat_le nodes 8 ≡ true
+    → list_all (is_placed nodes) objects ≡ true → is_fit objects x op ≡ true
+    → IsNode (site_of objects x)
 site_in_range nodes [] x op most placed fit = absurd (grind (arith, fit))
 site_in_range nodes (o ∷ os) zero op most placed fit =
-    node_in_range nodes o.node most (left (is_placed nodes o) (list_all (is_placed nodes) os) placed)
+    node_in_range nodes o.node most
+    (left (is_placed nodes o) (list_all (is_placed nodes) os) placed)
 site_in_range nodes (o ∷ os) (suc x) op most placed fit =
-    site_in_range nodes os x op most (right (is_placed nodes o) (list_all (is_placed nodes) os) placed) fit
+    site_in_range nodes os x op most
+    (right (is_placed nodes o) (list_all (is_placed nodes) os) placed) fit
 
 -- what the lines go by: at most 8 nodes, and objects on them, each with its name
 pub record IsPlaced (d : SoFar) : Type 0 where
