@@ -112,7 +112,9 @@ pub fn camelot<S: Source, K: Sink, D: TellingDisk, R: DataType, Q: DataType, C: 
         LeavesDisks D.tells D.moment D.left_since script disks.new.items)) }
 
     // Of every script by time that is accepted: its run keeps the rules of runs by time; each action in it, whatever became of its
-    // ancestors, has its view in a legal execution in which it is no orphan; and committed top actions replay serially in commit order.
+    // ancestors, has its view in a legal execution in which it is no orphan; committed top actions replay serially in commit order, in a
+    // list that has each answer of an action that has committed with all its ancestors; and no two nodes were informed of different
+    // outcomes of an action.
     ensures headline_by_time { (input : List ℕ) → IfOk (read_timed input) HasTimedRun }
 
     // Of every image that is upgraded: what is written is the migrated log, of which just that is recovered which was recovered of the
