@@ -96,8 +96,8 @@ pub fn camelot<S: Source, K: Sink, D: TellingDisk, R: DataType, Q: DataType, C: 
     // its view in a legal execution in which it is no orphan; committed top actions replay serially in commit order; no two nodes
     // hold different outcomes; and a log that keeps a node's history gives what the node keeps over a restart.
     ensures headline { (input : List ℕ) → IfOk (read_script input) HasOneRun }
-    // So the disks of its nodes: whatever a crash now leaves of one is a log, and what may be recovered of a node that is not halted at
-    // the end is what the node kept.
+    // So the disks of its nodes: whatever a crash now leaves of one is a log; what may be recovered of a node that is not halted at the
+    // end is what the node kept, and of one that is halted it is that, or what the node would have kept with the event at which it halted.
     ensures recovered { IfTold (S.left source.old) (S.left source.new) (λ input _.
         (command : Commands) → IsFormFor (map string_bytes words.now) command
         → (result ≡ 0) ⊎ (result ≡ 8) → IfRuns command input (λ script.

@@ -77,4 +77,4 @@ returns-clause-recovered g c =
     c.set_aside.new.disks.items c.run_script-run.new.disks.items c.in_ok-further.further.items
     c.put_back.new.disks.items c.requires.enough c.in_ok-further.ensures.first
     c.run_script-run.ensures.disks c.in_ok-further.ensures.further c.put_back.ensures)
-    c.requires.run c.run_script-run.ensures.run c.run_script-run.ensures.logs
+    c.requires.script c.requires.run c.run_script-run.ensures.run c.run_script-run.ensures.logs
