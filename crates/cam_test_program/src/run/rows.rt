@@ -1,6 +1,7 @@
 //! Worked runs by topic, and scripts that are refused.
 //!
-//! A topic is one text. Behind `==` stands in a line what a run shows, then come the lines of its script, and behind `--` those of its report.
+//! A topic is one text. A run begins with a line that says, after `== `, what it shows. Then come the lines of its script, and after `--` those of
+//! its report.
 
 mod actions;
 mod bodies;
@@ -40,9 +41,9 @@ pub(super) const REFUSED: &[(&str, &str)] = &[
     ("", "refused 1 1 S10\n"),
     // more than eight nodes
     ("nodes 9", "refused 1 7 S6\n"),
-    // a word behind the end of a line
+    // a word after the end of a line
     ("nodes 2 3", "refused 1 9 S5\n"),
-    // a line that there is not, behind an empty one
+    // a line that there is not, after an empty one
     ("nodes 1\n\nfoo\n", "refused 3 1 S3\n"),
     // a word is missing
     ("nodes 1\nbegin A", "refused 2 8 S4\n"),

@@ -13,7 +13,7 @@ tell 1 2
 cut 1 32
 --
 cut 3 1 short 32
-== A letter that is cut behind its last byte arrives.
+== A letter of which all 33 bytes are left arrives.
 nodes 2
 tell 1 2
 cut 1 33

@@ -100,7 +100,7 @@ drain
 action 1.1.1 open
   created
   commit 0
-== A query comes before the action has asked to commit: it has no answer.
+== A query that comes before its action has asked to commit changes nothing.
 nodes 2
 object x 2 register 0
 begin A 1

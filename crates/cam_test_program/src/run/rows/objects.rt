@@ -36,7 +36,7 @@ action 1.1.1/2.1.2 open
   called 2 x size
   got 2 value 1
 value x []
-== Two actions add to a counter side by side; one that reads must wait for the other.
+== Two actions add to a counter side by side; one that reads is told busy until the other has committed.
 nodes 1
 object c 1 counter 10
 begin A 1
