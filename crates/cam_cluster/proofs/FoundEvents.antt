@@ -1,8 +1,6 @@
 -- The event that a restart finds is the event of the halt, and the log that was read keeps it.
-use Rattle.std.proofs.Common.{◌≡◌, ℕ, zero, ◌+◌, List, ◌∷◌, length, Some, Option, sym, ap, ◌∙◌}
-use Rattle.std.proofs.Common.{subst}
-use Rattle.std.specs.Prelude.{map, slice_get}
-use Rattle.std.proofs.lemmas.Option.{same_Some}
+use Rattle.std.proofs.Common.{◌≡◌, ℕ, zero, ◌+◌, List, length, Some, Option, ap, ◌∙◌, subst}
+use Rattle.std.specs.Prelude.{slice_get}
 use Rattle.cam_event.specs.declared.Event.{Event}
 use Rattle.cam_event.specs.ByDeltas.{Received}
 use Rattle.cam_node.specs.declared.found.Found.{Found}
@@ -16,10 +14,9 @@ use Rattle.cam_histories.specs.Found.{IsBeyond}
 use Rattle.cam_histories.specs.Laws.{history_of}
 use Rattle.cam_histories.specs.PutIn.{nameless}
 use Rattle.cam_histories.specs.Undecided.{received_at}
-use Rattle.cam_histories.proofs.Alike.{logs_keep_alike}
-use Rattle.cam_histories.proofs.UndecidedEvents.{found_events_are_undecided}
 use Rattle.cam_cluster.specs.OpenHalts.{taken_with}
 use Rattle.cam_cluster.specs.Works.{IsHaltOf, KeepsRun, NodeFields, WorksFields}
+use Rattle.cam_cluster.proofs.TakenHalts.{taken_alike, taken_log}
 
 -- the event that the works put in
 taken_is : (g : Event) (c u : Received) → g ≡ (taken c).event
@@ -45,9 +42,6 @@ module _ (script : Script) (st found : Standing) (place : ℕ) (k : ℕ) (before
     abbrev halt : IsHaltOf script.objects st.running.trace st.undecided s node (might s)
     halt = keeps.halts place node there beyond.stands.halted
 
-    same_halt : halt.halt ≡ u
-    same_halt = same_Some halt.halt u (sym halt.newest ∙ beyond.undecided)
-
     -- the log that was read has it
     module _ (logged : Logged) (answer : Found) (event : Event)
         (read : might s logged) (says : answer.event ≡ Some event)
@@ -64,18 +58,7 @@ module _ (script : Script) (st found : Standing) (place : ℕ) (k : ℕ) (before
       pub event_is : taken_with e.got event ≡ e
       event_is =
           taken_is event halt.whole (received_at script.objects st.running.trace u) told.0
-          (halt.alike ∙ ap (λ v. nameless (received_at script.objects st.running.trace v))
-          same_halt)
+          (taken_alike script st found s k before e node (might s) beyond halt)
 
       pub log_is : IsLogOf script.objects s (history_of script.objects found.running.trace s) logged
-      log_is =
-          subst (λ h. IsLogOf script.objects s h logged)
-          (sym (found_events_are_undecided script.objects k s before e st found u beyond
-          beyond.undecided))
-          (logs_keep_alike script.objects s
-          (taken halt.whole ∷ history_of script.objects st.running.trace s)
-          (received_at script.objects st.running.trace u
-          ∷ history_of script.objects st.running.trace s) logged
-          (ap (λ r. r ∷ map nameless (history_of script.objects st.running.trace s))
-          (halt.alike ∙ ap (λ v. nameless (received_at script.objects st.running.trace v))
-          same_halt)) told.1)
+      log_is = taken_log script st found s k before e node (might s) beyond halt logged told.1

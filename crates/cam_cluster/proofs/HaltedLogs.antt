@@ -1,70 +1,24 @@
 -- What the logs of nodes keep that are halted at the end of a run.
-use Rattle.std.proofs.Common.{◌≡◌, ◌⊎◌, inl, inr, ℕ, ◌+◌, ◌-◌, ◌≤◌, true, List, ◌∷◌, length, Some}
-use Rattle.std.proofs.Common.{sym, ap, ◌∙◌, subst, arith}
-use Rattle.std.specs.Prelude.{map, slice_get}
-use Rattle.std.proofs.lemmas.Option.{same_Some, slice_get_cases}
-use Rattle.cam_event.specs.declared.Event.{Event}
-use Rattle.cam_event.specs.ByDeltas.{Received}
+use Rattle.std.proofs.Common.{◌≡◌, ◌⊎◌, inl, inr, ℕ, ◌+◌, ◌-◌, ◌≤◌, true, List, length, Some}
+use Rattle.std.proofs.Common.{ap, ◌∙◌, subst, arith}
+use Rattle.std.specs.Prelude.{slice_get}
+use Rattle.std.proofs.lemmas.Option.{slice_get_cases}
 use Rattle.cam_event.specs.Readings.{by_pasts}
-use Rattle.cam_node.specs.Halting.{taken}
-use Rattle.cam_node.specs.Keeping.{IsLogOf}
 use Rattle.cam_node.specs.Log.{Logged}
 use Rattle.cam_runs.specs.Halts.{Halt, by_stops}
 use Rattle.cam_runs.specs.HaltedLines.{run_halting, run_with}
 use Rattle.cam_runs.specs.Running.{has_number}
-use Rattle.cam_runs.specs.Standing.{Standing, Undecided}
-use Rattle.cam_script.specs.declared.Script.{Script}
-use Rattle.cam_histories.specs.Found.{IsBeyond}
-use Rattle.cam_histories.specs.Laws.{history_of}
-use Rattle.cam_histories.specs.PutIn.{nameless}
-use Rattle.cam_histories.specs.Undecided.{received_at}
-use Rattle.cam_histories.proofs.Alike.{logs_keep_alike}
-use Rattle.cam_histories.proofs.UndecidedEvents.{found_events_are_undecided}
+use Rattle.cam_runs.specs.Standing.{Standing}
 use Rattle.cam_cluster.specs.Between.{KeepsBetween, seen_found}
+use Rattle.cam_cluster.specs.Disks.{KeepsHistoryOf}
 use Rattle.cam_cluster.specs.FoundHalts.{IsPutIn}
-use Rattle.cam_cluster.specs.HaltedLogs.{KeepsEither, KeepsHaltedLogs, KeepsHistoryOf, TakenRun}
+use Rattle.cam_cluster.specs.HaltedLogs.{KeepsEither, KeepsHaltedLogs}
 use Rattle.cam_cluster.specs.Seen.{Seen, lines_taken, run_of_lines}
 use Rattle.cam_cluster.specs.SoFar.{LinesFields}
-use Rattle.cam_cluster.specs.Works.{IsHaltOf, NodeFields}
+use Rattle.cam_cluster.specs.Works.{IsHaltOf}
 use Rattle.cam_cluster.proofs.AllLines.{lines_make_the_run}
 use Rattle.cam_cluster.proofs.FoundSeen.{put_in}
-
--- What may be read of the log of a node that halted keeps its history of the run, or of the one in
--- which the event was taken.
-module _ (script : Script) (st found : Standing) (s k : ℕ) (before : List Event) (e : Event)
-    (node : NodeFields) (may : Logged → Type 0)
-    (beyond : IsBeyond script.objects k s before e st found)
-    (halt : IsHaltOf script.objects st.running.trace st.undecided s node may) where
-  abbrev u : Undecided
-  u = record { node = s; before = length before; event = e }
-
-  abbrev history : List Received
-  history = history_of script.objects st.running.trace s
-
-  abbrev same_halt : halt.halt ≡ u
-  same_halt = same_Some halt.halt u (sym halt.newest ∙ beyond.undecided)
-
-  taken_log : (logged : Logged) → IsLogOf script.objects s (taken halt.whole ∷ history) logged
-      → IsLogOf script.objects s (history_of script.objects found.running.trace s) logged
-  taken_log logged is =
-      subst (λ h. IsLogOf script.objects s h logged)
-      (sym (found_events_are_undecided script.objects k s before e st found u beyond
-      beyond.undecided))
-      (logs_keep_alike script.objects s (taken halt.whole ∷ history)
-      (received_at script.objects st.running.trace u ∷ history) logged
-      (ap (λ r. r ∷ map nameless history)
-      (halt.alike ∙ ap (λ v. nameless (received_at script.objects st.running.trace v)) same_halt))
-      is)
-
-  either_kept : (logged : Logged) → may logged
-      → KeepsHistoryOf script s st logged ⊎ KeepsHistoryOf script s found logged
-  either_kept logged read = by (halt.either logged read)
-    where
-      by : IsLogOf script.objects s history logged
-          ⊎ IsLogOf script.objects s (taken halt.whole ∷ history) logged
-          → KeepsHistoryOf script s st logged ⊎ KeepsHistoryOf script s found logged
-      by (inl is) = inl is.keeps
-      by (inr is) = inr (taken_log logged is).keeps
+use Rattle.cam_cluster.proofs.TakenHalts.{either_kept}
 
 -- a node of a list
 pub record IsAt {N : Type 0} (nodes : List N) (place : ℕ) : Type 0 where
@@ -78,7 +32,7 @@ within_at nodes place within = elim ((slice_get_cases nodes place).1) [
   | inr past ↦ let high = past.0 in absurd (omega (arith, within, high))
 ]
 
--- So it is at the end of the one run.
+-- What may be read at the end of the one run of the log of a node that is halted then.
 module _ (seen : Seen) (lines : LinesFields) (may : ℕ → Logged → Type 0)
     (keeps : KeepsBetween seen lines may) (all : lines_taken seen ≡ length seen.script.steps)
     (one : seen.standing ≡ run_halting by_pasts by_stops seen.script) where

@@ -2,13 +2,12 @@
 -- before the event at which the node halted, or with what was taken of that event besides.
 use Rattle.std.specs.Prelude.{◌≡◌, ◌≤◌, ◌⊎◌, ℕ, true, List}
 use Rattle.cam_event.specs.Readings.{by_pasts}
-use Rattle.cam_node.specs.Log.{Logged, KeepsLog}
+use Rattle.cam_node.specs.Log.{Logged}
 use Rattle.cam_runs.specs.Halts.{Halt, by_stops}
 use Rattle.cam_runs.specs.HaltedLines.{run_halting, run_with}
 use Rattle.cam_runs.specs.Running.{has_number}
-use Rattle.cam_runs.specs.Standing.{Standing}
 use Rattle.cam_script.specs.declared.Script.{Script}
-use Rattle.cam_histories.specs.Laws.{history_of}
+use Rattle.cam_cluster.specs.Disks.{KeepsHistoryOf}
 use Rattle.cam_cluster.specs.FoundHalts.{IsPutIn}
 
 -- The run in which the log took the event at which the node halted, by its halts. It is the one run
@@ -19,11 +18,6 @@ pub record TakenRun (script : Script) (s : ℕ) : Type 0 where
   pub put_in :
       IsPutIn script.objects number s (run_halting by_pasts by_stops script)
       (run_with by_pasts script halts)
-
--- the log keeps the node's history of this run
-abbrev pub KeepsHistoryOf : Script → ℕ → Standing → Logged → Type 0
-KeepsHistoryOf script s st logged =
-    KeepsLog script.objects s (history_of script.objects st.running.trace s) logged
 
 -- Whatever may be read of the log keeps the node's history of the one run, or of the run in which
 -- the log took the event.

@@ -21,8 +21,8 @@ abbrev pub after_all : Script → List Halt → Seen
 after_all script halts =
     record { script = script; standing = run_with by_pasts script halts; halts = halts }
 
--- THE CLAUSE of a run: the record is that of the one run of the script, in which the halts are those
--- of the lines that stop a node's disk.
+-- THE CLAUSE of a run: the record is that of the one run of the script, in which the halts are
+-- those of the lines that stop a node's disk.
 pub record IsRecordOf (script : Script) (result : RunRecord) : Type 0 where
   pub halts : List Halt
   pub is_run : IsRunRecord (after_all script halts) result

@@ -230,7 +230,8 @@ fn run_over<D: TellingDisk, R: DataType, Q: DataType, C: DataType>(
 /// A line that is refused leaves its mark, and the run goes on; so it does where a node halts since
 /// a line has stopped its disk. What it gives is the record of the one run of the script: a node
 /// halts just where such a line cuts its append off. However the run ends, as many disks are back in
-/// their list.
+/// their list. Where it gives a record, whatever a crash then leaves of a disk is a log, which keeps
+/// the node's history of the run; that of a node that is halted may have the event of the halt, too.
 ///
 /// The servers do the operations of its objects. The run ends by `DiskFault` just where the disk of a
 /// node failed by itself in it, in a call that it does: while it is formatted, in a line, or while its

@@ -17,8 +17,8 @@ use Rattle.cam_runs.proofs.HaltedWhole.{halted_runs_are_runs}
 use Rattle.cam_runs.proofs.Range.{script_in_range}
 use Rattle.cam_script.specs.declared.Script.{Script}
 use Rattle.cam_script.specs.Law.{IsScript}
-use Rattle.cam_cluster.specs.Disks.{AreLogs, MayReadDisk}
-use Rattle.cam_cluster.specs.HaltedLogs.{KeepsHaltedLogs, KeepsHistoryOf}
+use Rattle.cam_cluster.specs.Disks.{AreLogs, KeepsHistoryOf, MayReadDisk}
+use Rattle.cam_cluster.specs.HaltedLogs.{KeepsHaltedLogs}
 use Rattle.cam_cluster.specs.WholeRuns.{IsRunWithLogs}
 use Rattle.cam_headline.specs.Headline.{HasOneRun, LeavesLogs, events, halted_events, halted_run}
 use Rattle.cam_headline.proofs.KeptIndices.{logs_keep}
