@@ -1,5 +1,5 @@
 // What callers see of a log whose list of entries can be replaced.
-ghost use Rattle.std.specs.Prelude.{◌≡◌, ◌≤◌, ◌+◌, ◌^◌, List, ℕ, Bool, IsTrue, IsFalse, OnOk, OnErr, IsErrOf, Ok as Opens, Err as NoLog, Option, Some, None};
+ghost use Rattle.std.specs.Prelude.{◌≡◌, ◌≤◌, ◌+◌, ◌^◌, List, ℕ, IsTrue, IsFalse, OnOk, OnErr, IsErrOf, Ok as Opens, Err as NoLog, Option, Some, None};
 ghost use Rattle.cam_base.specs.Causes.{Rose};
 ghost use Rattle.cam_disk.specs.Stop.{Untouched};
 ghost use Rattle.cam_log.specs.declared.fault.LogFault.TheVariants.{DiskFault, NotALog};
@@ -22,7 +22,7 @@ pub trait CheckpointLog: EntryLog {
     ghost is_rewritten: { Self → List (List ℕ) → Self → Type 0 };
 
     /// The number of the list that opening its disk gives now.
-    ghost numbered: { Self → Option ℕ };
+    ghost disk_generation: { Self → Option ℕ };
 
     /// Whether the list can be replaced: the log is not broken, and its generation is not the last.
     fn can_replace(&self) -> bool
@@ -82,8 +82,8 @@ pub trait CheckpointLog: EntryLog {
         ensures reads { IsTrue (Self.tells self.old) → Self.reads self.new ≡ Self.reads self.old }
         // Its list has the number that the disk gives it, and the same as before where the log was
         // not broken.
-        ensures numbered { IsTrue (Self.tells self.old)
-            → OnOk result (Self.numbered self.old ≡ Some (Self.generation self.new)) }
+        ensures disk_generation { IsTrue (Self.tells self.old)
+            → OnOk result (Self.disk_generation self.old ≡ Some (Self.generation self.new)) }
         ensures generation { IsTrue (Self.tells self.old) → IsFalse (Self.broken self.old)
             → OnOk result (Self.generation self.new ≡ Self.generation self.old) }
         ensures whole { OnOk result (IsFalse (Self.broken self.new)) }
@@ -112,4 +112,8 @@ pub trait CheckpointLog: EntryLog {
         ensures tells { Self.tells self.new ≡ Self.tells self.old }
         ensures later { Self.faults self.old ≤ Self.faults self.new }
         ensures faults_within { Self.faults_within self.old ≤ Self.faults_within self.new };
+
+    /// The number of its list is the one that its disk gives, where it is not broken.
+    ghost generation_at_rest: { (log : Self) → IsTrue (Self.tells log) → IsFalse (Self.broken log)
+        → disk_generation log ≡ Some (Self.generation log) };
 }

@@ -146,8 +146,10 @@ impl<D: Disk> Ckpt<D> {
         ensures moment { D.moment result ≡ ⟦<Ckpt<D> as EntryLog>⟧.moment self }
         ensures seen { D.seen result ≡ ⟦<Ckpt<D> as EntryLog>⟧.seen self }
         ensures reads { read_ckpt (D.seen result) ≡ ⟦<Ckpt<D> as EntryLog>⟧.reads self }
-        ensures numbered { generation_of (D.seen result)
-            ≡ ⟦<Ckpt<D> as CheckpointLog>⟧.numbered self }
+        ensures disk_generation { generation_of (D.seen result)
+            ≡ ⟦<Ckpt<D> as CheckpointLog>⟧.disk_generation self }
+        ensures generation { IsTrue (D.tells result) → IsFalse (⟦<Ckpt<D> as EntryLog>⟧.broken self)
+            → generation_of (D.seen result) ≡ Some (⟦<Ckpt<D> as EntryLog>⟧.generation self) }
         ensures passes { D.passes result ≡ ⟦<Ckpt<D> as EntryLog>⟧.passes self }
         ensures faults { D.faults result ≡ ⟦<Ckpt<D> as EntryLog>⟧.faults self }
         ensures faults_within { D.faults_within result
@@ -217,7 +219,8 @@ impl<D: Disk> EntryLog for Ckpt<D> {
 }
 
 impl<D: Disk> CheckpointLog for Ckpt<D> {
-    ghost use Rattle.cam_ckpt.specs.Opening.{start_for};
+    ghost use Rattle.cam_ckpt.specs.Again.{generation_found, rests_of};
+    ghost use Rattle.cam_ckpt.specs.Opening.{standing_of, start_for};
 
     ghost end_of = { λ log entries. start_for log.state entries + length (segment entries) };
 
@@ -225,7 +228,11 @@ impl<D: Disk> CheckpointLog for Ckpt<D> {
         (closing_by old.state.is_other_open) new.state.start (segment entries)
         (numbers new.state.generation new.state.start) (D.seen old.disk) (D.seen new.disk) };
 
-    ghost numbered = { λ log. generation_of (D.seen log.disk) };
+    ghost disk_generation = { λ log. generation_of (D.seen log.disk) };
+
+    ghost generation_at_rest = { λ log h whole. generation_found (standing_of log.state)
+        (D.seen log.disk)
+        (rests_of (standing_of log.state) (D.seen log.disk) (log.opened h whole).rests) };
 
     fn can_replace(&self) -> bool {
         !self.broken && self.state.generation < u64::MAX

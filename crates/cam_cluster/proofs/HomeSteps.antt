@@ -17,7 +17,7 @@ use Rattle.cam_body.specs.declared.Next.TheVariants as nexts
 use Rattle.cam_net.specs.Waiting.{is_halted}
 use Rattle.cam_node.specs.declared.Input.TheVariants as inputs
 use Rattle.cam_node.specs.Log.{Logged}
-use Rattle.cam_node.specs.Numbers.{MayStep}
+use Rattle.cam_node.specs.MayStep.{MayStep}
 use Rattle.cam_node.specs.Represents.{Represents}
 use Rattle.cam_node.specs.Refused.{IsNotRefused}
 use Rattle.cam_runs.specs.Running.{has_number}

@@ -16,7 +16,7 @@ use Rattle.cam_node.specs.Calls.{load_of, mail_on}
 use Rattle.cam_node.specs.Lawful.{IsLetter}
 use Rattle.cam_node.specs.Log.{Logged}
 use Rattle.cam_node.specs.LogOrder.{performed}
-use Rattle.cam_node.specs.Numbers.{HasFewObjects, HasIndex, MayCome}
+use Rattle.cam_node.specs.MayStep.{HasFewObjects, HasIndex, MayCome}
 use Rattle.cam_runs.specs.Running.{has_number}
 use Rattle.cam_runs.specs.Standing.{Standing}
 use Rattle.cam_script.specs.declared.Script.{Script}

@@ -9,7 +9,7 @@ use Rattle.cam_event.specs.declared.LineRefusal.TheVariants as refusals
 use Rattle.cam_net.specs.Waiting.{is_halted}
 use Rattle.cam_node.specs.declared.Input.{Input}
 use Rattle.cam_node.specs.Log.{Logged}
-use Rattle.cam_node.specs.Numbers.{MayStep}
+use Rattle.cam_node.specs.MayStep.{MayStep}
 use Rattle.cam_node.specs.Refused.{IsRefusalOf}
 use Rattle.cam_cluster.specs.declared.LineFault.{LineFault}
 use Rattle.cam_cluster.specs.declared.LineFault.TheVariants as line_faults

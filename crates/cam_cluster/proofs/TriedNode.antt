@@ -23,7 +23,7 @@ use Rattle.cam_node.specs.declared.Input.TheVariants as inputs
 use Rattle.cam_node.specs.Calls.{input_of}
 use Rattle.cam_node.specs.Halting.{IsThrough}
 use Rattle.cam_node.specs.Log.{Logged}
-use Rattle.cam_node.specs.Numbers.{HasNumber, MayAsk, MayStep}
+use Rattle.cam_node.specs.MayStep.{HasNumber, MayAsk, MayStep}
 use Rattle.cam_node.specs.Refused.{IsRefusalOf}
 use Rattle.cam_node.specs.Represents.{Represents}
 use Rattle.cam_runs.specs.Running.{has_number}

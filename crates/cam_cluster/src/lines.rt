@@ -4,7 +4,7 @@ ghost use Rattle.std.specs.Prelude.{◌≡◌, ◌<◌, ◌++◌, ◌∷◌, [],
 ghost use Rattle.std.specs.List.{AllByRecursion};
 ghost use Rattle.cam_event.specs.declared.Deed.{Deed};
 ghost use Rattle.cam_runs.specs.Requests.{asked_in, created_in, newest_deeds};
-ghost use Rattle.cam_node.specs.Numbers.{MayStep};
+ghost use Rattle.cam_node.specs.MayStep.{MayStep};
 ghost use Rattle.cam_node.specs.Refused.{IsNotRefused};
 ghost use Rattle.cam_node.specs.Calls.{answers};
 ghost use Rattle.cam_wire.specs.Writable.{IsWritable};

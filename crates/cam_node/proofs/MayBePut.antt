@@ -12,7 +12,7 @@ use Rattle.cam_node.specs.declared.Input.{Input}
 use Rattle.cam_node.specs.declared.Input.TheVariants as inputs
 use Rattle.cam_node.specs.Calls.{mail_on}
 use Rattle.cam_node.specs.Lawful.{IsLetter}
-use Rattle.cam_node.specs.Numbers.{MayBePutNow, MayStep}
+use Rattle.cam_node.specs.MayStep.{MayBePutNow, MayStep}
 use Rattle.cam_node.specs.Represents.{Node}
 use Rattle.cam_node.proofs.QueryRefused.{query_is_rule}
 

@@ -3,7 +3,7 @@
 ghost use Rattle.std.specs.Prelude.{◌≤◌, List, IsFalse, IfOk};
 ghost use Rattle.cam_type.specs.declared.ObjectDecl.{ObjectDecl};
 ghost use Rattle.cam_node.specs.Calls.{answers, AreSame};
-ghost use Rattle.cam_node.specs.Numbers.{HasFewObjects};
+ghost use Rattle.cam_node.specs.MayStep.{HasFewObjects};
 ghost use Rattle.cam_node.specs.Planned.{MayBeAdded};
 ghost use Rattle.cam_node.specs.Plans.{IsPlanFor, MayStand};
 ghost use Rattle.cam_node.specs.Served.{is_call};

@@ -9,7 +9,7 @@ ghost use Rattle.cam_comman.specs.Letters.{load_on};
 ghost use Rattle.cam_names.specs.Names.{is_top};
 ghost use Rattle.cam_node.specs.Calls.{answers, mail_on};
 ghost use Rattle.cam_node.specs.Lawful.{IsForNode, IsLetter, are_known, body_counts};
-ghost use Rattle.cam_node.specs.Numbers.{objects_of};
+ghost use Rattle.cam_node.specs.MayStep.{objects_of};
 
 use crate::homes::{decider, home_of};
 use crate::restartable::{all_known, are_known};

@@ -120,8 +120,10 @@ impl<D: Disk> NodeLog<Ckpt<D>> {
         ensures moment { D.moment result ≡ ⟦<Ckpt<D> as EntryLog>⟧.moment self.log }
         ensures seen { D.seen result ≡ ⟦<Ckpt<D> as EntryLog>⟧.seen self.log }
         ensures reads { read_ckpt (D.seen result) ≡ ⟦<Ckpt<D> as EntryLog>⟧.reads self.log }
-        ensures numbered { generation_of (D.seen result)
-            ≡ ⟦<Ckpt<D> as CheckpointLog>⟧.numbered self.log }
+        ensures disk_generation { generation_of (D.seen result)
+            ≡ ⟦<Ckpt<D> as CheckpointLog>⟧.disk_generation self.log }
+        ensures generation { IsTrue (D.tells result) → IsFalse self.halted
+            → generation_of (D.seen result) ≡ Some (⟦<Ckpt<D> as EntryLog>⟧.generation self.log) }
         ensures passes { D.passes result ≡ ⟦<Ckpt<D> as EntryLog>⟧.passes self.log }
         ensures faults { D.faults result ≡ ⟦<Ckpt<D> as EntryLog>⟧.faults self.log }
         ensures faults_within { D.faults_within result

@@ -2,8 +2,8 @@
 ghost use Rattle.std.specs.Prelude.{◌≡◌, ◌↔◌, IsTrue, IsFalse};
 ghost use Rattle.cam_event.specs.Runs.{IsNode, IsWant};
 ghost use Rattle.cam_node.specs.Calls.{answers};
-ghost use Rattle.cam_node.specs.Numbers.{HasFewObjects, HasIndex, HasNumber, MayAsk, MayCome};
-ghost use Rattle.cam_node.specs.Numbers.{MayBePutNow, MayStep, objects_of};
+ghost use Rattle.cam_node.specs.MayStep.{HasFewObjects, HasIndex, HasNumber, MayAsk, MayCome};
+ghost use Rattle.cam_node.specs.MayStep.{MayBePutNow, MayStep, objects_of};
 ghost use Rattle.cam_type.specs.Objects.{is_fit};
 
 use crate::Input;

@@ -114,8 +114,11 @@ impl<D: Disk> Node<Ckpt<D>> {
         ensures moment { D.moment result ≡ ⟦<Ckpt<D> as EntryLog>⟧.moment self.log.log }
         ensures seen { D.seen result ≡ ⟦<Ckpt<D> as EntryLog>⟧.seen self.log.log }
         ensures reads { read_ckpt (D.seen result) ≡ ⟦<Ckpt<D> as EntryLog>⟧.reads self.log.log }
-        ensures numbered { generation_of (D.seen result)
-            ≡ ⟦<Ckpt<D> as CheckpointLog>⟧.numbered self.log.log }
+        ensures disk_generation { generation_of (D.seen result)
+            ≡ ⟦<Ckpt<D> as CheckpointLog>⟧.disk_generation self.log.log }
+        ensures generation { IsTrue (D.tells result) → IsFalse self.log.halted
+            → generation_of (D.seen result)
+            ≡ Some (⟦<Ckpt<D> as EntryLog>⟧.generation self.log.log) }
         ensures passes { D.passes result ≡ ⟦<Ckpt<D> as EntryLog>⟧.passes self.log.log }
         ensures faults { D.faults result ≡ ⟦<Ckpt<D> as EntryLog>⟧.faults self.log.log }
         ensures faults_within { D.faults_within result

@@ -1,6 +1,6 @@
 //! A step of a node: it learns the letter and applies the rule, makes all growth, appends the
 //! event's entry and forces it; then the event stands, and its letters are handed out.
-ghost use Rattle.std.specs.Prelude.{◌≡◌, ◌⊎◌, ◌≤◌, false, List, Some, None, IsTrue, IsFalse, OnOk, OnErr, IfOk, IsErrOf, All, ◌++◌, Ok as Opens};
+ghost use Rattle.std.specs.Prelude.{◌≡◌, ◌⊎◌, ◌≤◌, false, Some, None, IsTrue, IsFalse, OnOk, OnErr, IfOk, IsErrOf, All, ◌++◌, Ok as Opens};
 ghost use Rattle.cam_base.specs.Causes.{Rose};
 ghost use Rattle.cam_ckpt.specs.Moments.{IsOldOrNew};
 ghost use Rattle.cam_disk.specs.Stop.{Untouched};
@@ -21,7 +21,7 @@ ghost use Rattle.cam_node.specs.Calls.{answers, input_of, letters_of, load_of, m
 ghost use Rattle.cam_node.specs.Found.{HaltsAt};
 ghost use Rattle.cam_node.specs.Halting.{IsStepThrough};
 ghost use Rattle.cam_node.specs.Keeping.{IsHalt, KeepsOn};
-ghost use Rattle.cam_node.specs.Numbers.{MayStep};
+ghost use Rattle.cam_node.specs.MayStep.{MayStep};
 ghost use Rattle.cam_node.specs.Opened.{IsKnowledge, MayRead, with_entry_of};
 ghost use Rattle.cam_node.specs.Planned.{heard_records, planned_records, MayBeAdded};
 ghost use Rattle.cam_node.specs.Plans.{as_list, MayStand, Stands};
@@ -94,7 +94,7 @@ impl<L: CheckpointLog> Node<L> {
     /// A step of the node that is not halted: an input is put to it against which nothing stands.
     /// The event is that of the input's rule, and its letters are those that the rule sends.
     ///
-    /// Where memory runs out, but not on the disk itself, nothing has happened. After a fault of the
+    /// Where memory runs out and the node is not halted, nothing has happened. After a fault of the
     /// disk, and where the disk has no memory, the node is halted: its log may have the event's
     /// entry, no event is told and no letter is handed out. `DiskFault` comes only where the disk's
     /// count of faults rose.

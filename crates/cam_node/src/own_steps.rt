@@ -12,7 +12,7 @@ ghost use Rattle.cam_node.specs.Calls.{answers, input_of, letters_of, load_of, m
 ghost use Rattle.cam_node.specs.Halting.{IsStepThrough};
 ghost use Rattle.cam_node.specs.Keeping.{KeepsOn};
 ghost use Rattle.cam_node.specs.Refused.{IsNotRefused};
-ghost use Rattle.cam_node.specs.Numbers.{MayAsk, MayStep};
+ghost use Rattle.cam_node.specs.MayStep.{MayAsk, MayStep};
 ghost use Rattle.cam_node.specs.Unlogged.{gives_up, is_unlogged};
 
 use crate::fault::NodeFault;

@@ -18,7 +18,7 @@ ghost use Rattle.cam_node.specs.Found.{HaltsAt};
 ghost use Rattle.cam_node.specs.GivingUp.{giving_up};
 ghost use Rattle.cam_node.specs.Halting.{IsStepThrough};
 ghost use Rattle.cam_node.specs.Keeping.{IsHalt, KeepsOn};
-ghost use Rattle.cam_node.specs.Numbers.{MayCome};
+ghost use Rattle.cam_node.specs.MayStep.{MayCome};
 ghost use Rattle.cam_node.specs.Opened.{MayRead};
 
 use crate::Stepped;

@@ -1,9 +1,8 @@
 //! How the event of a letter is planned. First the letter is learnt; then the rule of its kind says
 //! what is done, by what is known then; then the plan is made of both.
-ghost use Rattle.std.specs.Prelude.{◌≡◌, ◌≤◌, IfOk};
+ghost use Rattle.std.specs.Prelude.{◌≤◌, IfOk};
 ghost use Rattle.cam_comman.specs.Letters.{IsWithin};
 ghost use Rattle.cam_node.specs.Calls.{answers, AreSame, AreToNodes};
-ghost use Rattle.cam_node.specs.Opened.{IsKnowledge};
 ghost use Rattle.cam_node.specs.Planning.{HasReceived, IsMade};
 
 use crate::Stepped;

@@ -110,8 +110,8 @@ impl Core {
 
 impl<L: CheckpointLog> Node<L> {
     /// Restarts the node, halted or not: it reads its log again, puts all that is kept with the
-    /// raised count in place of what it read, and goes on from that. The event is the restart; no
-    /// letter is sent. It tells what it found: whether the log has what was taken of the event at
+    /// raised count in place of what it read, and goes on from that; where the list has the last
+    /// number the raised count goes after it. The event is the restart; no letter is sent. It tells what it found: whether the log has what was taken of the event at
     /// which the node had halted, and how many restarts that failed had reached the log.
     ///
     /// `DiskFault` comes where what was read cannot be restarted: a count that is the last, an
@@ -138,8 +138,8 @@ impl<L: CheckpointLog> Node<L> {
             (HasOneEntry (L.generation self.new.log.log) (L.listed self.new.log.log)) }
         // Of a disk that tells its list has the number after that of the list which was read, and
         // so after the present one where the node was not halted.
-        ensures numbered { IsTrue (L.tells self.old.log.log) → OnOk result
-            (HasNextNumber (L.numbered self.old.log.log) (L.generation self.new.log.log)) }
+        ensures disk_generation { IsTrue (L.tells self.old.log.log) → OnOk result
+            (HasNextNumber (L.disk_generation self.old.log.log) (L.generation self.new.log.log)) }
         ensures generation { IsTrue (L.tells self.old.log.log) → IsFalse self.old.log.halted
             → OnOk result (L.generation self.new.log.log
             ≡ next_number (L.generation self.old.log.log)) }

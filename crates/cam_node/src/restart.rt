@@ -11,7 +11,7 @@ ghost use Rattle.cam_recman.specs.Ranges.{IsHeld};
 ghost use Rattle.cam_recman.specs.Records.{entry_bytes};
 ghost use Rattle.cam_recman.specs.Says.{Says};
 ghost use Rattle.cam_node.specs.declared.fault.NodeFault.TheVariants.{DiskFault};
-ghost use Rattle.cam_node.specs.Opened.{is_readable, kept_entries, kept_by, raised, IsReadOrKept, IsReplaced, CanRestart, MayRestart, OpensRestarted, Rereads};
+ghost use Rattle.cam_node.specs.Opened.{is_readable, kept_entries, kept_by, raised, IsReadOrKept, IsReplaced, MayRestart, OpensRestarted, Rereads};
 
 use crate::fault::NodeFault;
 use crate::log::NodeLog;
@@ -52,8 +52,8 @@ fn read_again<L: CheckpointLog>(alloc: Global, log: &mut L) -> Result<Recovered,
         (L.opens_since log.old (L.moment log.old) (Opens (L.listed log.new))) }
     ensures read_now { IsTrue (L.tells log.old)
         → OnOk result (Opens (L.listed log.new) ≡ L.reads log.old) }
-    ensures numbered { IsTrue (L.tells log.old)
-        → OnOk result (L.numbered log.old ≡ Some (L.generation log.new)) }
+    ensures disk_generation { IsTrue (L.tells log.old)
+        → OnOk result (L.disk_generation log.old ≡ Some (L.generation log.new)) }
     ensures generation { IsTrue (L.tells log.old) → IsFalse (L.broken log.old)
         → OnOk result (L.generation log.new ≡ L.generation log.old) }
     ensures whole { OnOk result (IsFalse (L.broken log.new)) }
@@ -185,8 +185,8 @@ impl<L: CheckpointLog> NodeLog<L> {
         // Unless the log's list has the last number, what is kept is the one entry that it lists.
         ensures replaced { IfOk result (λ reread.
             IsReplaced (L.generation self.new.log) reread.kept (L.listed self.new.log)) }
-        ensures numbered { IsTrue (L.tells self.old.log) → OnOk result
-            (HasNextNumber (L.numbered self.old.log) (L.generation self.new.log)) }
+        ensures disk_generation { IsTrue (L.tells self.old.log) → OnOk result
+            (HasNextNumber (L.disk_generation self.old.log) (L.generation self.new.log)) }
         ensures generation { IsTrue (L.tells self.old.log) → IsFalse self.old.halted
             → OnOk result (L.generation self.new.log ≡ next_number (L.generation self.old.log)) }
         ensures runs { OnOk result (IsFalse self.new.halted) }

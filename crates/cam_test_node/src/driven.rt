@@ -58,7 +58,7 @@ impl Driven {
         stepped(self.alloc, &mut self.node, input)
     }
 
-    /// Takes the rows of a table in order, and fails at the first that does not come to what stands behind its bar.
+    /// Takes the rows of a table in order, and fails at the first that does not come to what stands after its bar.
     fn check_rows(&mut self, table: &str) -> Result<(), Fail> {
         for row in table.lines() {
             let Some((line, want)) = row.split_once(" | ") else {
@@ -160,7 +160,7 @@ pub(crate) fn restarted<L: CheckpointLog>(
     }
 }
 
-/// The event of a restart, and behind it what was found: the event of the halt, as the log has it, and how many restarts that failed had
+/// The event of a restart, and after it what was found: the event of the halt, as the log has it, and how many restarts that failed had
 /// reached the log. What has nothing to tell is left out.
 fn restarted_text(alloc: Global, restarted: &Restarted) -> Result<String, Fail> {
     let mut text = stepped_text(alloc, &restarted.stepped)?;
@@ -222,7 +222,7 @@ fn are_of_event(stepped: &Stepped) -> bool {
     letters.next().is_none()
 }
 
-/// Takes the rows of a table in order, at a node to which nothing has happened. It fails at the first that does not come to what stands behind
+/// Takes the rows of a table in order, at a node to which nothing has happened. It fails at the first that does not come to what stands after
 /// its bar, and tells what it comes to.
 pub(crate) fn check_rows(alloc: Global, table: &str) -> Result<(), Fail> {
     let mut driven = Driven::new(alloc)?;

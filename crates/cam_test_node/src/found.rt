@@ -72,7 +72,7 @@ fn a_decision_is_lost(rt: HostRuntime) -> Result<(), Fail> {
 }
 
 /// Three restarts fail before one comes to its end: at their tenth call the first and the third, and these have reached the log. The event is
-/// found behind them, and once.
+/// found after them, and once.
 const FAILED: &str = "stop 3 | stopped
 from 2 aborted 2.1.1 news | disk fault, halted
 stop 9 | stopped
@@ -87,7 +87,7 @@ told 2 | to 2 count 4 have 0 place 1 aborted 2.1.1 knows 1 4 news
 restart | plain, crash 1";
 
 #[test]
-fn an_event_is_found_behind_restarts_that_failed(rt: HostRuntime) -> Result<(), Fail> {
+fn an_event_is_found_after_restarts_that_failed(rt: HostRuntime) -> Result<(), Fail> {
     check_rows(rt.alloc(), FAILED)
 }
 
@@ -106,6 +106,6 @@ told 2 | to 2 count 4 have 0 place 0 knows 1 4 news
 restart | plain, crash 1";
 
 #[test]
-fn no_event_is_found_behind_restarts_that_failed(rt: HostRuntime) -> Result<(), Fail> {
+fn no_event_is_found_after_restarts_that_failed(rt: HostRuntime) -> Result<(), Fail> {
     check_rows(rt.alloc(), LOST)
 }

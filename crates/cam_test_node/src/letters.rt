@@ -23,24 +23,3 @@ told 2 | to 2 count 2 have 0 place 1 aborted 2.1.3 knows 1 2 news";
 fn a_restart_forgets_what_is_acknowledged(rt: HostRuntime) -> Result<(), Fail> {
     check_rows(rt.alloc(), FORGOTTEN)
 }
-
-/// Letters that node 1 does not take: a call that does not fit its object, or whose object stands elsewhere; what is for another home, by its
-/// body; a start, a prepare and a query that are not of such an action; and one that speaks of a count which it does not tell.
-const FOR_OTHERS: &str = "from 2 call 2.1.1 1 0 add 3 at 1 deps 2:1 | may not be put to a node
-from 2 call 2.1.1 1 1 add 3 at 1 deps 2:1 | may not be put to a node
-from 2 call 2.1.1 1 0 read at 1 deps 2:2 | may not be put to a node
-from 2 start 1.1.1/2.1.1 deps 1:1 | may not be put to a node
-from 2 start 1.1.1 deps 1:1 | may not be put to a node
-from 2 answer 2.1.1 1 ok | may not be put to a node
-from 2 finish 2.1.1/1.1.1 9 deps 2:1 | may not be put to a node
-from 2 quit 2.1.1 | may not be put to a node
-from 2 prepare 2.1.1/1.1.1 1 | may not be put to a node
-from 2 vote 2.1.1 1 yes | may not be put to a node
-from 2 query 2.1.1 | may not be put to a node
-from 9 news | may not be put to a node
-from 2 call 2.1.1 1 0 read at 1 deps 2:1 | plain, perform 2.1.1 1 value 5, to 2 answer 2.1.1 1 value 5";
-
-#[test]
-fn a_letter_is_for_its_node(rt: HostRuntime) -> Result<(), Fail> {
-    check_rows(rt.alloc(), FOR_OTHERS)
-}

@@ -1,4 +1,4 @@
-//! Tests of `cam_node` through its public calls: one node is driven by hand, line by line, and tells in words what each line comes to. Behind
+//! Tests of `cam_node` through its public calls: one node is driven by hand, line by line, and tells in words what each line comes to. After
 //! the bar of a row stands what it has to come to, worked by hand from the rules of `docs/RULES.md`.
 #![tactic(auto)]
 
@@ -16,6 +16,8 @@ mod found;
 mod inputs;
 #[cfg(test)]
 mod letters;
+#[cfg(test)]
+mod not_taken;
 #[cfg(test)]
 mod requests;
 #[cfg(test)]

@@ -72,16 +72,3 @@ commit 1.1.1 0 | refused OpenChild";
 fn what_stands_against_an_input(rt: HostRuntime) -> Result<(), Fail> {
     check_rows(rt.alloc(), REFUSED)
 }
-
-/// Requests that no node takes: the op does not fit the object, the object is not declared, and a child at no node.
-const UNFIT: &str = "begin | plain, create 1.1.1
-call 1.1.1 0 add 3 | may not be put to a node
-call 1.1.1 1 swap 3 | may not be put to a node
-call 1.1.1 2 read | may not be put to a node
-ask 1.1.1 9 | may not be put to a node
-call 1.1.1 1 add 3 | plain, call 1.1.1 1 1 add 3 at 1, to 2 call 1.1.1 1 1 add 3 at 1 deps 1:1";
-
-#[test]
-fn a_call_fits_its_object(rt: HostRuntime) -> Result<(), Fail> {
-    check_rows(rt.alloc(), UNFIT)
-}

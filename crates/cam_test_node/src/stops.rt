@@ -44,7 +44,7 @@ fn an_append_is_lost_at_the_third_call(rt: HostRuntime) -> Result<(), Fail> {
     check_rows(rt.alloc(), THIRD)
 }
 
-/// The fourth call of an append fails, which comes behind the entry: the event was taken, and a restart finds it.
+/// The fourth call of an append fails, which comes after the entry: the event was taken, and a restart finds it.
 const FOURTH: &str = "stop 3 | stopped
 from 2 aborted 2.1.1 news | disk fault, halted
 begin | halted before

@@ -1,8 +1,7 @@
 use Rattle.std.proofs.Common.{◌≡◌, List, ℕ, Some, subst}
 use Rattle.cam_ckpt.specs.Reading.{generation_of}
 use Rattle.cam_ckpt.specs.Opening.{standing_of}
-use Rattle.cam_ckpt.specs.Again.{rests_of}
-use Rattle.cam_ckpt.proofs.Openings.{generation_found}
+use Rattle.cam_ckpt.specs.Again.{generation_found, rests_of}
 use Rattle.cam_ckpt.proofs.ckpt.Ckpt.open.Goals as goal
 
 pub returns-in-Ok-clause-generation : goal.returns-in-Ok-clause-generation

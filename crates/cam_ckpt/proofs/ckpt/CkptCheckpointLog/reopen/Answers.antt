@@ -1,9 +1,8 @@
 use Rattle.std.proofs.Common.{◌≡◌, ◌∙◌, ◌≤◌, List, ℕ, Some, arith, sym, subst}
 use Rattle.std.proofs.lemmas.Option.{same_Some}
-use Rattle.cam_ckpt.specs.Again.{rests_of}
+use Rattle.cam_ckpt.specs.Again.{generation_found, rests_of}
 use Rattle.cam_ckpt.specs.Opening.{standing_of}
 use Rattle.cam_ckpt.specs.Reading.{generation_of}
-use Rattle.cam_ckpt.proofs.Openings.{generation_found}
 use Rattle.cam_ckpt.proofs.ckpt.CkptCheckpointLog.reopen.Goals as goal
 
 -- what was read is one of the things that a crash now leaves
@@ -15,8 +14,8 @@ returns-clause-read g c = λ h.
     (seen, g.met.D.Disk.counts_now disk (g.D.Disk.moment disk) seen h now (g.met.D.Disk.kept disk h), c.in_ok-self.ensures.read h)
 
 -- the present slot has the number
-pub returns-clause-numbered : goal.returns-clause-numbered
-returns-clause-numbered g c = λ h.
+pub returns-clause-disk_generation : goal.returns-clause-disk_generation
+returns-clause-disk_generation g c = λ h.
     let s = standing_of c.in_ok-self.field-0 in
     let seen = g.D.Disk.seen c.read_in.new.disk in
     subst (λ (bytes : List ℕ). generation_of bytes ≡ Some s.generation) (c.read_in.ensures.seen h)
@@ -27,5 +26,5 @@ returns-clause-generation g c = λ h whole.
     let was = standing_of c.args.self.now.state in
     let seen = g.D.Disk.seen c.args.self.now.disk in
     same_Some _ _
-    (sym (returns-clause-numbered g c h)
+    (sym (returns-clause-disk_generation g c h)
     ∙ generation_found was seen (rests_of was seen (c.args.self.now.opened h whole).rests))

@@ -2,7 +2,7 @@
 use Rattle.std.proofs.Common.{◌↔◌, IsTrue, sym, subst}
 use Rattle.cam_node.specs.declared.Input.{Input}
 use Rattle.cam_node.specs.Calls.{answers}
-use Rattle.cam_node.specs.Numbers.{MayStep}
+use Rattle.cam_node.specs.MayStep.{MayStep}
 use Rattle.cam_node.proofs.state.Core.may_step.Goals as goal
 
 pub returns-in-Letter : goal.returns-in-Letter

@@ -22,6 +22,7 @@ use Rattle.cam_node.specs.Lawful.{IsLetter}
 use Rattle.cam_node.specs.Refused.{IsNotRefused}
 use Rattle.cam_node.specs.Represents.{Node, Represents}
 
+-- the declared objects, as the node's lock table has them
 abbrev pub objects_of : Node → List ObjectDecl
 objects_of node = node.server.table.site.objects
 
@@ -59,7 +60,7 @@ abbrev pub MayStep : Node → Input → Type 0
 MayStep node inputs.Begin = node.actions.tops < 1000000000
 MayStep node (inputs.Request request) = MayAsk node request.action request.want
 MayStep node (inputs.Letter id letter) = MayCome node letter
-MayStep node (inputs.Tell to) = (1 ≤ to) × (to ≤ 8)
+MayStep node (inputs.Tell to) = IsNode to
 MayStep node (inputs.Query family) = Unit {0}
 
 -- Where nothing stands against the input, it may be put to the node after each history through
