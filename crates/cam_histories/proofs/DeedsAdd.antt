@@ -25,7 +25,7 @@ use Rattle.cam_event.proofs.Members.{In}
 use Rattle.cam_node.specs.LogOrder.{is_any_secure}
 use Rattle.cam_node.specs.Shapes.{is_mute, IsShaped, Quiet, Single, Commits, Aborts}
 
--- a list with more behind it is another
+-- a list with more after it is another
 pub longer : {X : Type 0} (xs ys : List X) → is_empty ys ≡ false → xs ++ ys ≡ xs → ⊥
 longer xs [] some same = true≢false some
 longer xs (y ∷ ys) some same =
@@ -77,7 +77,10 @@ module _ (objects : List ObjectDecl) (h : List Carried) (mail : Option Mail) (ol
     shaped_added s own Quiet stays commits aborts = inr (inr (refl, refl))
     shaped_added s own (Single d mute) stays commits aborts = single_added d mute stays
     shaped_added s own (Commits a) stays commits aborts =
-        let one : Knowledge = record { outcomes = Committed a (commit_counts objects h mail a) ∷ []; counts = now.counts } in
+        let one : Knowledge = record {
+          outcomes = Committed a (commit_counts objects h mail a) ∷ [];
+          counts = now.counts;
+        } in
         inl (other_outcomes (is_commit_of a) (both now one).outcomes old.outcomes
         (any_both (is_commit_of a) now one
         ∙ or_right (knows_commit now a) (name_eq a a || false)

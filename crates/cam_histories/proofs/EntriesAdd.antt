@@ -103,7 +103,8 @@ module _ (objects : List ObjectDecl) (s : ℕ) (history : List Received) (input 
       ∙ (λ i. learnt i && records_empty holds objects H mail (first ++ own) i)
       ∙ (λ i. (no_aborts && no_commits && not greater)
       && not ((list_any-append is_recorded first own
-      ∙ ap (λ b. b || list_any is_recorded own) (informs_unrecorded s (new_aborts told k) (new_commits told k))
+      ∙ ap (λ b. b || list_any is_recorded own)
+      (informs_unrecorded s (new_aborts told k) (new_commits told k))
       ∙ sym (entered_recorded s own shaped)) i))
       ∙ turned no_aborts no_commits greater (list_any is_entered own)
       ∙ ap (λ b. not (b || greater))
@@ -170,7 +171,8 @@ module _ (objects : List ObjectDecl) (s : ℕ) (history : List Received) (input 
       → (list_any is_entered whole.event.deeds || greater) ≡ true → Adds objects history whole
   entry_adds stays commits aborts some =
       elim (shaped_added objects H mail k told s own shaped stays commits aborts) [
-        | inl off ↦ Decides (λ same. off (sym (ap (λ (x : Knowledge). x.outcomes) known_then) ∙ same))
+        | inl off ↦
+            Decides (λ same. off (sym (ap (λ (x : Knowledge). x.outcomes) known_then) ∙ same))
         | inr (inl secures) ↦ Secures
             (secure_kept (first ++ own) ∙ list_any-append is_any_secure first own
             ∙ or_right (list_any is_any_secure first) (list_any is_any_secure own) secures)

@@ -50,7 +50,9 @@ adds_as_good objects history one other same event (Decides off) =
 adds_as_good objects history one other same event (Counts m low high off) =
     Counts m low high (λ e. off (ap (λ (k : Knowledge). known_count k m) same ∙ e))
 adds_as_good objects history one other same event (Secures some) =
-    Secures (subst (λ e. list_any is_any_secure (taken (record one { event = e })).event.deeds ≡ true) event some)
+    Secures
+    (subst (λ e. list_any is_any_secure (taken (record one { event = e })).event.deeds ≡ true)
+    event some)
 
 -- of eight counts that are one or more the greater ones beside ones are the same
 beside_ones : (f : ℕ → ℕ) → ((m : ℕ) → 1 ≤ f m) → (ms : List ℕ)
@@ -85,7 +87,8 @@ module _ (objects : List ObjectDecl) (t : List Event) (input : Input) (run : Ran
     told = (brought_counts objects t run input may).1;
   }
 
-  brought_is : (i : Input) → brought_by (by_knowledge objects) t i ≡ (load_of_input objects t i).know
+  brought_is : (i : Input)
+      → brought_by (by_knowledge objects) t i ≡ (load_of_input objects t i).know
   brought_is (Begins m) = refl
   brought_is (Requests r) = refl
   brought_is (Receives letter) = refl
@@ -135,14 +138,15 @@ module _ (objects : List ObjectDecl) (t : List Event) (input : Input) (run : Ran
       → is_empty (entry_records holds objects history (next_whole objects t input mail load))
       ≡ not (appends (by_knowledge objects) t input)
   is_entry holds =
-      entry_is objects s history input mail load f (brought_counts objects t run input may).0 given holds
+      entry_is objects s history input mail load f (brought_counts objects t run input may).0
+      given holds
       ∙ ap not (sym appends_is)
 
   pub adds : is_restarting input ≡ false → appends (by_knowledge objects) t input ≡ true
       → Adds objects history (next_whole objects t input mail load)
   adds goes_on some =
-      entry_adds objects s history input mail load f (brought_counts objects t run input may).0 given
-      (stays goes_on)
+      entry_adds objects s history input mail load f (brought_counts objects t run input may).0
+      given (stays goes_on)
       (λ a i. commits_unknown objects t run input s a may (own_next (Commit a) i))
       (λ a i. aborts_unknown objects t run input s a may (own_next (Abort a) i))
       (sym appends_is ∙ some)
@@ -170,7 +174,9 @@ entries_add objects taken t input read brought run may put goes_on some =
     adds_as_good objects history
     (next_whole objects t input (mail_got t (got_of input)) (load_of_input objects t input))
     (next_whole objects t input read brought)
-    (λ i. held objects (step_of (sym put.is_mail i) (sym put.as_good.order i) ∷ map as_carried history))
+    (λ i.
+    held objects
+    (step_of (sym put.is_mail i) (sym put.as_good.order i) ∷ map as_carried history))
     (λ i. (step_of (sym put.is_mail i) (sym put.as_good.order i)).event)
     (adds objects t input (taken, run) may goes_on some)
   where

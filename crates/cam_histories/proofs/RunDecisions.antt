@@ -55,7 +55,8 @@ module _ (objects : List ObjectDecl) (t : List Event) (run : Ran objects t) wher
   -- what a node knows is decided in the run
   known_so : (s : ℕ) (p : Outcome → Bool) (q : Deed → Bool)
       → (KnowsItsBase objects t s None
-      → list_any p (whole objects t s).outcomes ≡ true → list_any q (plain t (in_base t s None)) ≡ true)
+      → list_any p (whole objects t s).outcomes ≡ true
+      → list_any q (plain t (in_base t s None)) ≡ true)
       → list_any p (knowledge_of s).outcomes ≡ true → list_any q (plain_all t) ≡ true
   known_so s p q told h =
       any_more q (plain t (in_base t s None)) (plain_all t)
@@ -118,7 +119,8 @@ module _ (objects : List ObjectDecl) (t : List Event) (run : Ran objects t) wher
   told_brought letter a counts there i = by (letter_at t letter) refl i
     where
       by : (o : Option Mail) → letter_at t letter ≡ o
-          → In (Committed a counts) (load_by objects (received_of objects t) (Some letter) o).know.outcomes
+          → In (Committed a counts)
+          (load_by objects (received_of objects t) (Some letter) o).know.outcomes
           → IsTold objects t a counts
       by None at i = absurd i
       by (Some mail) at i =

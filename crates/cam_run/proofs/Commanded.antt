@@ -28,22 +28,28 @@ command_of : Result Command ArgsFault → Command → Command
 command_of (Ok command) other = command
 command_of (Err fault) other = other
 
-pub same_command : (words : List (List ℕ)) (command other : Command) → Finds words (Ok command) → IsFormFor words other → command ≡ other
+pub same_command : (words : List (List ℕ)) (command other : Command)
+    → Finds words (Ok command) → IsFormFor words other → command ≡ other
 unfolding command_of
-same_command words command other finds form = ap (λ (r : Result Command ArgsFault). command_of r other) (finds other form.form)
+same_command words command other finds form =
+    ap (λ (r : Result Command ArgsFault). command_of r other) (finds other form.form)
 
 -- the words are a form just where their command is built
-pub built_is_form : (words : List (List ℕ)) (command : Command) → IsFormOf words command → Finds words (Ok command)
+pub built_is_form : (words : List (List ℕ)) (command : Command)
+    → IsFormOf words command → Finds words (Ok command)
     → IsBuilt command ↔ IsForm words
 built_is_form words command form finds = (
   λ built. (command, record { form = form; built = built }),
-  λ other. subst (λ (c : Command). IsBuilt c) (sym (same_command words command other.0 finds other.1)) other.1.built,
+  λ other.
+      subst (λ (c : Command). IsBuilt c)
+      (sym (same_command words command other.0 finds other.1)) other.1.built,
 )
 
 -- the answer to the command is that to the words
 pub is_answer : (words : List (List ℕ)) (command : Command) (failing : Failing) (input : List ℕ)
     (status : ℕ) (text : List ℕ)
-    → IsFormOf words command → Finds words (Ok command) → IsOfCommand command failing input status text
+    → IsFormOf words command → Finds words (Ok command)
+    → IsOfCommand command failing input status text
     → IsAnswer words failing input status text
 is_answer words command failing input status text form finds told = by (asked_by command) refl told
   where

@@ -1,16 +1,14 @@
 -- What a run leaves on the disks of its nodes: the log of a node gives what the node kept, or what
 -- it would have kept with the event at which it is halted at the end.
 use Rattle.std.proofs.Common.{◌≡◌, ◌⊎◌, inl, inr, ◌≤◌, ◌-◌, ℕ, Bool, false, List, ◌++◌, length}
-use Rattle.std.proofs.Common.{take, drop, Result, Ok, Err, IfOk, sym, subst, arith}
+use Rattle.std.proofs.Common.{drop, Result, Ok, Err, IfOk, sym, subst, arith}
 use Rattle.std.specs.Prelude.{OnOk}
 use Rattle.std.proofs.lemmas.List.{take_at}
-use Rattle.cam_event.specs.Readings.{by_pasts}
 use Rattle.cam_event.specs.declared.RunRecord.{RunRecord}
 use Rattle.cam_node.specs.Log.{Logged, KeepsLog}
 use Rattle.cam_histories.specs.Laws.{history_of}
 use Rattle.cam_runs.specs.Halts.{by_stops, given}
 use Rattle.cam_runs.specs.HaltedLaws.{IsHaltedRun}
-use Rattle.cam_runs.specs.HaltedLines.{run_with}
 use Rattle.cam_runs.specs.Running.{has_number}
 use Rattle.cam_runs.specs.Standing.{Standing}
 use Rattle.cam_runs.proofs.HaltedWhole.{halted_runs_are_runs}
@@ -20,7 +18,7 @@ use Rattle.cam_script.specs.Law.{IsScript}
 use Rattle.cam_cluster.specs.Disks.{AreLogs, KeepsHistoryOf, MayReadDisk}
 use Rattle.cam_cluster.specs.HaltedLogs.{KeepsHaltedLogs}
 use Rattle.cam_cluster.specs.WholeRuns.{IsRunWithLogs}
-use Rattle.cam_headline.specs.Headline.{HasOneRun, LeavesLogs, events, halted_events, halted_run}
+use Rattle.cam_headline.specs.Headline.{HasOneRun, events, halted_run}
 use Rattle.cam_headline.proofs.KeptIndices.{logs_keep}
 use Rattle.cam_run.specs.Disks.{IsKeptIn, LeavesDisks, LeavesHaltedLogs}
 use Rattle.cam_run.proofs.FirstDisks.{IsOverFirst, first_length, of_first}

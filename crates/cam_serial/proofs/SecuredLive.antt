@@ -166,8 +166,8 @@ secured_live objects (d ∷ L) a n answer call legal done called secure open_one
               (secured L (family a) (site_of objects call.object) call.count) secure) [
                 | inl new ↦
                     let at =
-                    secured_now objects L d (family a) (site_of objects call.object) call.count legal
-                    new in
+                    secured_now objects L d (family a) (site_of objects call.object) call.count
+                    legal new in
                     absurd (omega (arith, at, now))
                 | inr old ↦
                     let fate = performed_fate objects L a n answer legal.1 older in

@@ -1,5 +1,5 @@
 -- A run over the first disks, and what it says of the whole list.
-use Rattle.std.proofs.Common.{◌≡◌, ◌≤◌, ℕ, List, sym, subst, arith}
+use Rattle.std.proofs.Common.{◌≡◌, List, sym, subst, arith}
 use Rattle.std.proofs.lemmas.Grind.{common_steps}
 use Rattle.std.proofs.lemmas.Result.{IfOk-weaker}
 use Rattle.cam_cluster.specs.HandedBack.{AreHandedBack}

@@ -1,6 +1,5 @@
 -- `gen` leaves the source as it is; a command that runs no script leaves the disks as they are.
-use Rattle.std.proofs.Common.{◌≡◌, ℕ, List, IfOk, drop, refl, subst, sym}
-use Rattle.std.proofs.lemmas.Result.{IfOk-weaker}
+use Rattle.std.proofs.Common.{◌≡◌, ℕ, List, IfOk, drop, subst, sym}
 use Rattle.cam_args.specs.declared.Command.{Command}
 use Rattle.cam_base.specs.Causes.{Rose}
 use Rattle.cam_run.specs.Told.{IsTelling}
