@@ -150,7 +150,7 @@ module _ (script : Script) (is : IsScript script) (c : Setting) (st : Standing)
       unless_placed (is_halted st s)
       (Led (record st { turns = Stop s calls ∷ st.turns }) None) placed
 
-  -- and so what stands behind the line
+  -- and so what stands after the line
   pub line_placed : (line : ℕ) (p : Passed) → LeadsPlaced p
       → HasPlaced script.nodes (after_line st line p)
   line_placed line (Refused refusal) leads = placed

@@ -22,7 +22,7 @@ pub first_none : (o p : Option LineRefusal) → first_of_two o p ≡ None → o 
 first_none None p none = refl
 first_none (Some refusal) p none = none
 
--- behind a restart's first step its node is not halted
+-- after a restart's first step its node is not halted
 pub ended_awake : (st : Standing) (s : ℕ) → has_number (ended_halt st s).halted s ≡ false
 ended_awake st s =
     without st.halted s s

@@ -38,7 +38,7 @@ bodies_stay_at_nodes script st step halts later is next placed =
         × (act_holds script.nodes script.objects (length script.bodies) before step.act ≡ true)
     holds = next_holds script st step.line step.act is next
 
--- behind each line of a script
+-- after each line of a script
 lines_placed : (script : Script) → IsScript script → (halts : Halting) (n : ℕ)
     (done steps : List Step) (st : Standing) → script.steps ≡ done ++ steps
     → length st.running.bound ≡ length done → IsUnderHalts script st

@@ -24,7 +24,7 @@ use Rattle.cam_cluster.proofs.InOrder.{body_number_more, has_body, in_order_more
 use Rattle.cam_cluster.proofs.InOrder.{insert_is_put}
 use Rattle.cam_cluster.proofs.Playing.{given_playing, one_plays, same_playing}
 
--- what stands in a list with one element more behind it
+-- what stands in a list with one element more after it
 behind_last : {X : Type 0} (xs : List X) (x : X) (i : ℕ) (y : X)
     → slice_get (xs ++ x ∷ []) i ≡ Some y
     → (slice_get xs i ≡ Some y) ⊎ ((i ≡ length xs) × (x ≡ y))

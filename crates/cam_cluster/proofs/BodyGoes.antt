@@ -1,4 +1,4 @@
--- The next request of an action by its body, by cases of whether it makes one: what stands behind
+-- The next request of an action by its body, by cases of whether it makes one: what stands after
 -- it.
 use Rattle.std.proofs.Common.{◌≡◌, ℕ, Bool, true, false, [], ◌∷◌, Option, Some, None}
 use Rattle.std.proofs.Common.{refl, sym, ap, ◌∙◌, subst}

@@ -33,7 +33,7 @@ halted_more [] more = omega arith
 halted_more (puts.Stood ∷ ends) more = halted_more ends more
 halted_more (puts.Halted ∷ ends) more = let rest = halted_more ends more in omega (arith, rest)
 
--- some inputs, and others behind them
+-- some inputs, and others after them
 pub counted_on : (a b d : Standing) (ends more : List Put) → AreCounted a b ends
     → AreCounted b d more → AreCounted a d (ends ++ more)
 counted_on a b d ends more one two =

@@ -34,7 +34,7 @@ module _ (f : Event → Event) (same : (x : Event) → (f x).sent ≡ x.sent) (e
   abbrev here : ℕ
   here = min most_letters (length (letters before))
 
-  -- what the counts have behind the place
+  -- what the counts have after the place
   abbrev pub counts_behind : List Event → List ℕ
   counts_behind [] = []
   counts_behind (b ∷ behind) =
@@ -150,7 +150,7 @@ counts_inserted place p e events now counts are mute low is =
         ∙ ap (λ us. us ++ e ∷ []) (reversed_map f (drop p events)))
         ∙ assoc (map f behind) (e ∷ []) before
 
--- The event is put in behind those that stay.
+-- The event is put in after those that stay.
 pub put_behind : (p : ℕ) (e : Event) (events now : List Event) → p ≤ length events
     → insert (take p events ++ now) p e ≡ take p events ++ e ∷ now
 put_behind zero e events now low = refl
@@ -158,7 +158,7 @@ put_behind (suc p) e [] now low = absurd (omega (arith, low))
 put_behind (suc p) e (x ∷ events) now low =
     ap (λ us. x ∷ us) (put_behind p e events now (omega (arith, low)))
 
--- A place behind all events is the last.
+-- A place after all events is the last.
 pub put_at_last : (place p : ℕ) (e : Event) (events : List Event) → p ≡ min place (length events)
     → take p events ++ e ∷ map (with_letter_renumbered place) (drop p events)
     ≡ put_in_at place e events

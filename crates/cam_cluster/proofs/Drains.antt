@@ -41,7 +41,7 @@ module _ (c : Setting) (end : Put) where
   due_more (e ∷ ends) st due waits =
       (due.0, due_more ends (deliver_waiting c st (waiting st)) due.1 waits)
 
--- the drain is the deliveries, where none waits behind them
+-- the drain is the deliveries, where none waits after them
 module _ (c : Setting)
     (goes_on : (st : Standing) (w : ℕ × LetterId) → waiting st ≡ Some w
     → drain c st ≡ drain c (deliver c st w.0 w.1)) where

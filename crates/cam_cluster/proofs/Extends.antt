@@ -31,7 +31,7 @@ pub record Extends (halts : List Halt) (old new : Standing) : Type 0 where
       NoneTaken halts (accepted old.turns) → AreAsStopped new.halted new.turns
       → Agrees (given halts) old → Agrees (given halts) new
 
--- the same nodes are halted behind the same turns
+-- the same nodes are halted after the same turns
 lost_as : (old new : Standing) (halts : List Halt) (s : ℕ) → new.turns ≡ old.turns
     → new.halted ≡ old.halted
     → (has_number old.halted s ≡ true → IsLostSoFar old.turns halts s)

@@ -43,7 +43,7 @@ one_more reading halts bodies (suc n) (s ∷ steps) st step at =
     one_more reading halts bodies n steps
     (after_line st s.line (act (setting reading halts s steps) bodies st s.act)) step at
 
--- halts of one line behind those before
+-- halts of one line after those before
 pub all_behind : (P : Halt → Type 0) (more halts : List Halt) → AllByRecursion P more
     → AllByRecursion P halts → AllByRecursion P (more ++ halts)
 all_behind P [] halts all others = others

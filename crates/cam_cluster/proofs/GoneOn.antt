@@ -1,5 +1,5 @@
 -- The next request of an action by its body, put to the node of its home: what the works and the
--- workers are behind it.
+-- workers are after it.
 use Rattle.std.proofs.Common.{◌≡◌, ◌⊎◌, inl, inr, ℕ, ◌+◌, false, List, reverse, Option, Some, None}
 use Rattle.std.proofs.Common.{sym, ap, ◌∙◌, subst}
 use Rattle.cam_names.specs.declared.name.Name.{Name}

@@ -11,7 +11,7 @@ use Rattle.cam_cluster.specs.FoundHalts.{AreNewestFirst, FoundHaltsDiffer}
 use Rattle.cam_cluster.specs.FoundHalts.{input_node, is_at, with_taken}
 use Rattle.cam_cluster.proofs.LastInputs.{last_node, last_latest}
 
--- no halt behind the first is at its input
+-- no halt after the first is at its input
 pub none_again : (hs : List Halt) (n k : ℕ) → AllByRecursion (λ (g : Halt). g.input < n) hs → n ≤ k
     → halt_at hs k ≡ None
 none_again [] n k all high = refl

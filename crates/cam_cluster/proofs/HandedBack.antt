@@ -49,7 +49,7 @@ module _ {A B : Type 0} (told_before : A → Bool) (faults_before : A → ℕ) (
   as_many (old ∷ olds) [] later = elim later [ ]
   as_many (old ∷ olds) (new ∷ news) later = ap suc (as_many olds news later.1)
 
-  -- the same disk before and behind
+  -- the same disk before and after
   pub record WasAt (olds : List A) (place : ℕ) (new : B) : Type 0 where
     pub old : A
     pub at : slice_get olds place ≡ Some old

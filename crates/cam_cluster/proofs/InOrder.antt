@@ -15,7 +15,7 @@ use Rattle.cam_names.proofs.Names.{name_eq_same, name_eq_refl, name_ties}
 use Rattle.cam_names.proofs.Order.{name_lt_itself, name_lt_trans, name_three}
 use Rattle.cam_runs.specs.Playing.{body_number, in_order, put}
 
--- a name that stands before another does not stand behind it
+-- a name that stands before another does not stand after it
 not_behind : (a b : Name) → name_lt a b ≡ true → name_lt b a ≡ false
 not_behind a b before =
     elim (cases_Bool (name_lt b a)) [

@@ -1,4 +1,4 @@
--- An input of a node that is not halted, where the nodes that are halted behind it are those at
+-- An input of a node that is not halted, where the nodes that are halted after it are those at
 -- whose last input a stop ends: so it was before it, and the input is a halt, lost so far, just
 -- where a stop makes it one.
 use Rattle.std.proofs.Common.{◌≡◌, inl, inr, ℕ, eqb, Bool, true, false, not, ◌&&◌}

@@ -31,7 +31,7 @@ last_count (e ∷ t) =
     ap (λ (n : ℕ). get_or (letter_counts (e ∷ t)) n 0) (sym (one_each t))
     ∙ get_or-append_seam (letter_counts t) (min most_letters (length (letters (e ∷ t)))) [] 0
 
--- the letters of a newer event come behind
+-- the letters of a newer event come last
 pub one_more : (e : Event) (t : List Event)
     → length (letters (e ∷ t)) ≡ length (letters t) + length e.sent
 one_more e t =

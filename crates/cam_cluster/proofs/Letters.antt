@@ -23,7 +23,7 @@ if_not : {X : Type 0} (b : Bool) (x y : X) → b ≡ false → (if b then x else
 if_not true x y h = cc
 if_not false x y h = refl
 
--- a place in two lists one behind the other
+-- a place in two lists one after the other
 pub in_front : {X : Type 0} (xs ys : List X) (k : ℕ) → k < length xs → slice_get (xs ++ ys) k
     ≡ slice_get xs k
 in_front [] ys k less = absurd (omega (arith, less))
@@ -37,7 +37,7 @@ behind_front (x ∷ xs) ys zero past = absurd (omega (arith, past))
 behind_front (x ∷ xs) ys (suc k) past =
     behind_front xs ys k (omega (arith, past)) ∙ ap (slice_get ys) (omega arith)
 
--- no value behind the end
+-- no value past the end
 past : {X : Type 0} (xs : List X) (k : ℕ) → length xs ≤ k → slice_get xs k ≡ None
 past [] k less = refl
 past (x ∷ xs) zero less = absurd (omega (arith, less))

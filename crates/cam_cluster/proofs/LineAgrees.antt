@@ -1,4 +1,4 @@
--- Halts that agree with the lines that stop disks, with those of a line, go on agreeing behind it.
+-- Halts that agree with the lines that stop disks, with those of a line, go on agreeing after it.
 use Rattle.std.proofs.Common.{ℕ, ◌<◌, ◌≤◌, Bool, true, false, if◌then◌else◌}
 use Rattle.std.proofs.Common.{List, ◌∷◌, ◌++◌, sym, subst}
 use Rattle.std.specs.List.{AllByRecursion}

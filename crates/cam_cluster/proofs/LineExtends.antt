@@ -1,4 +1,4 @@
--- A line extends what stands behind its stop or restart, whatever it comes to.
+-- A line extends what stands after its stop or restart, whatever it comes to.
 use Rattle.std.proofs.Common.{◌≡◌, ℕ, Bool, true, false, if◌then◌else◌, List, [], ◌∷◌, length}
 use Rattle.std.proofs.Common.{Option, Some, None, refl}
 use Rattle.std.specs.Prelude.{nat_lt}

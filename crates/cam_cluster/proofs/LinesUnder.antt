@@ -1,4 +1,4 @@
--- What stands behind the lines of a script so far is under way, and each line takes one place among
+-- What stands after the lines of a script so far is under way, and each line takes one place among
 -- the variables.
 use Rattle.std.proofs.Common.{◌≡◌, ℕ, zero, suc, ◌+◌, Bool, true}
 use Rattle.std.proofs.Common.{not, List, [], ◌∷◌, ◌++◌, length, None, refl, sym, ap}
@@ -48,7 +48,7 @@ line_counts script halts st step later range under next =
         step_passes (λ (s : Step). is_act script s.act) script.steps (length st.running.bound) step
         range.0 next
 
--- what stands behind the lines so far is under way
+-- what stands after the lines so far is under way
 lines_under : (script : Script) → IsInRange script → (halts : Halting) (n : ℕ)
     (done steps : List Step) (st : Standing) → script.steps ≡ done ++ steps
     → length st.running.bound ≡ length done → IsUnderHalts script st

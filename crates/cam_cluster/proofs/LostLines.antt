@@ -1,4 +1,4 @@
--- Each node that is halted behind a line halted at its last input, and the event is lost so far.
+-- Each node that is halted after a line halted at its last input, and the event is lost so far.
 use Rattle.std.proofs.Common.{◌≡◌, inl, inr, ℕ, ◌<◌, ◌≤◌, Bool, true, false, if◌then◌else◌}
 use Rattle.std.proofs.Common.{List, [], ◌∷◌, ◌++◌, Option, Some, refl, sym, ap, ◌∙◌, subst}
 use Rattle.std.proofs.Common.{eqb, true≢false}

@@ -42,7 +42,7 @@ none_made line bodies works may workers = record {
   };
 }
 
--- Some were put, and others behind them.
+-- Some were put, and others after them.
 abbrev pub made_on : (one other : Making) (line : ℕ) (bodies : List (List Statement))
     (old mid new : WorksFields) (might mays may : ℕ → Logged → Type 0)
     (before during after : Workers)
@@ -119,7 +119,7 @@ made_caught_up making line bodies old new might may before caught after stay som
       (record { runs = keeps.runs; workers = stay script st keeps.runs keeps.workers }) said;
 }
 
--- What stands behind inputs, of some way in which nodes halt.
+-- What stands after inputs, of some way in which nodes halt.
 pub record StandsBehind (making : Making) (line : ℕ) (script : Script) (st : Standing)
     (ends : List Put) (new : WorksFields) (may : ℕ → Logged → Type 0) (after : Workers) :
     Type 0 where

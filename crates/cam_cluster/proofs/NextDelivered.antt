@@ -122,7 +122,7 @@ works_weigh script st works may keeps =
     ∙ weighs st 1 (letters st.running.trace) (with_put works.outbox.net works.outbox.unput)
     keeps.whole.network.stands.letters
 
--- Some run is kept behind the delivery too, and what waits weighs less.
+-- Some run is kept after the delivery too, and what waits weighs less.
 module _ (line : ℕ) (old new : WorksFields) (might may : ℕ → Logged → Type 0) (done : Put)
     (some : AreWorksOfSome old might) (has : HasNextDelivered line old might new may (Some done))
   where

@@ -62,7 +62,7 @@ module _ (script : Script) (st : Standing) (place : ℕ) (input : Input) (mail :
         got = sym is_got i;
       } ∷ map open_halt st.undecided)
 
-  -- the node behind the step, and the others
+  -- the node after the step, and the others
   module _ (old : NodeFields) (there : slice_get works.nodes place ≡ Some old) (new : NodeFields)
       (may : ℕ → Logged → Type 0) (nodes : List NodeFields)
       (are : nodes ≡ set works.nodes place new)

@@ -1,4 +1,4 @@
--- The line `play`: the rounds bind no variable, and what stands behind them is what the line comes
+-- The line `play`: the rounds bind no variable, and what stands after them is what the line comes
 -- to.
 use Rattle.std.proofs.Common.{◌≡◌, ℕ, zero, suc, Bool, true, false, if◌then◌else◌, List, [], ◌∷◌}
 use Rattle.std.proofs.Common.{◌++◌, take, Option, None, refl, sym, ap, ◌∙◌}

@@ -1,4 +1,4 @@
--- The actions that work at bodies are at nodes of the script behind a round of a play too, and the
+-- The actions that work at bodies are at nodes of the script after a round of a play too, and the
 -- workers stay while letters are handed over.
 use Rattle.std.proofs.Common.{ℕ, zero, suc, Bool, true, false, if◌then◌else◌, List, [], ◌∷◌}
 use Rattle.std.proofs.Common.{Option, Some, None, refl}
@@ -42,7 +42,7 @@ in_order_placed nodes [] placed = tt
 in_order_placed nodes (p ∷ given) placed =
     put_placed nodes p.0 (in_order given) placed.0 (in_order_placed nodes given placed.1)
 
--- So they are behind a round, by what nodes hold.
+-- So they are after a round, by what nodes hold.
 pub held_round_placed : (script : Script) (halts : Halting) (line : ℕ) (restarted : ℕ → Bool)
     (st : Standing) → IsScript script → HasPlaced script.nodes st
     → HasPlaced script.nodes

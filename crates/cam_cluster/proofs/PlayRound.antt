@@ -1,4 +1,4 @@
--- A round of a play: behind the turns of the actions with a body the letters are drained.
+-- A round of a play: after the turns of the actions with a body the letters are drained.
 use Rattle.std.proofs.Common.{◌≡◌, inl, inr, ℕ, zero, suc, ◌+◌, ◌≤◌, Bool, false, ◌||◌, List}
 use Rattle.std.proofs.Common.{length}
 use Rattle.std.proofs.Common.{refl, sym, ap, ◌∙◌, subst, arith}
@@ -93,7 +93,7 @@ more_of events marks (suc inputs) halted events_now marks_now most are_events ar
           ∙ sym (lt-ltb 0 (suc inputs) (omega arith))
     ]
 
--- The drain behind the turns of all.
+-- The drain after the turns of all.
 module _ (line : ℕ) (bodies : List (List Statement)) (old mid new : WorksFields)
     (might mays may : ℕ → Logged → Type 0) (before after : Workers)
     (some : IsPlayOfSome bodies old might before)

@@ -28,7 +28,7 @@ use Rattle.cam_cluster.proofs.EndsSaid.{from_high, from_lost, from_low, from_new
 use Rattle.cam_cluster.proofs.GoesOn.{goes_on}
 use Rattle.cam_cluster.proofs.NextLine.{held_is}
 
--- The line led on, with the halts of these ends, and the workers are those behind it.
+-- The line led on, with the halts of these ends, and the workers are those after it.
 pub record HasTakenPlay (seen : Seen) (step : Step) (ends : List Put) (new : LinesFields)
     (may : ℕ → Logged → Type 0) (after : Workers) : Type 0 where
   pub of_line :

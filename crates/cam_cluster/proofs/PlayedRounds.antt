@@ -136,7 +136,7 @@ all_rounds n line bodies old new might may before after some all = record {
       (some.made.made script st halts restarted is bodies_are keeps said);
 }
 
--- Behind a round some run is kept whose actions with a body are at nodes of the script.
+-- After a round some run is kept whose actions with a body are at nodes of the script.
 pub some_behind_round : (line : ℕ) (bodies : List (List Statement)) (old new : WorksFields)
     (might may : ℕ → Logged → Type 0) (before after : Workers)
     → IsPlayOfSome bodies old might before

@@ -34,7 +34,7 @@ use Rattle.cam_cluster.proofs.PutNode.{site_is}
 use Rattle.cam_cluster.proofs.RunHalts.{sent_in}
 use Rattle.cam_cluster.proofs.OwnHalts.{halts_now, opened}
 
--- the same with the node behind the step
+-- the same with the node after the step
 module _ (script : Script) (st : Standing) (place : ℕ) (input : Input) (mail : Option Mail)
     (load : Load) (works : WorksFields) (might : ℕ → Logged → Type 0) (old : NodeFields)
     (keeps : KeepsRun script st works might) (put_so : IsPutAt script st place input mail load)

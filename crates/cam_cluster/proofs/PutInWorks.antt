@@ -89,7 +89,7 @@ pub sent_front : (n : ℕ) (behind before : List Event) → AreSent n (behind ++
 sent_front n [] before sent = tt
 sent_front n (e ∷ behind) before sent = (sent.0, sent_front n behind before sent.1)
 
--- the events behind the place
+-- the events after the place
 events_moved : (place n : ℕ) (es : List Event) → AreSent n es → n < 1000000000
     → map (with_letter_renumbered place) es ≡ map (moved_event place) es
 events_moved place n [] sent few = refl

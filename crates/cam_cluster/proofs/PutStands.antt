@@ -39,7 +39,7 @@ use Rattle.cam_cluster.proofs.PutNode.{site_is, node_keeps, may_then}
 pub one_longer : (t : List Event) (e : Event) → reverse t ++ e ∷ [] ≡ reverse (e ∷ t)
 one_longer t e = sym (reverse-append (e ∷ []) t)
 
--- the same with the node behind the step
+-- the same with the node after the step
 module _ (script : Script) (st : Standing) (place : ℕ) (input : Input) (mail : Option Mail)
     (load : Load) (works : WorksFields) (might : ℕ → Logged → Type 0) (old : NodeFields)
     (keeps : KeepsRun script st works might) (put_so : IsPutAt script st place input mail load)

@@ -29,7 +29,7 @@ use Rattle.cam_cluster.proofs.PlacedNodes.{taken_there, seen_there, reads_elsewh
 use Rattle.cam_cluster.proofs.PutKeeps.{keeps_as_before, keeps_as_put, keeps_failing}
 use Rattle.cam_cluster.proofs.PutEnds.{put_stood, put_halted}
 
--- letters are put behind those that the network has
+-- letters are put after those that the network has
 pub net_grows : (o later : OutboxFields) → HasPutSome o later → length o.net ≤ length later.net
 net_grows o later some =
     let are = ap (λ (xs : List InFlightFields). length xs) some.net

@@ -1,4 +1,4 @@
--- Halts that agree with the lines that stop disks go on agreeing behind a restart, which finds the
+-- Halts that agree with the lines that stop disks go on agreeing after a restart, which finds the
 -- event of a halt just where the stop let it be taken.
 use Rattle.std.proofs.Common.{◌≡◌, inl, inr, ℕ, zero, suc, ◌+◌, ◌-◌, ◌≤◌, eqb, Bool, true, false}
 use Rattle.std.proofs.Common.{◌&&◌, if◌then◌else◌, List, [], ◌∷◌, drop, Option, Some, None}
@@ -39,7 +39,7 @@ use Rattle.cam_cluster.proofs.HaltsDiffer.{found_halts_differ}
 use Rattle.cam_cluster.proofs.LineAgrees.{stop_agrees}
 use Rattle.cam_cluster.proofs.Begun.{begun}
 
--- The first lines of a script tell which nodes those behind them restart.
+-- The first lines of a script tell which nodes those after them restart.
 first_tell : (reading : Reading) (halts : Halting) (bodies : List (List Statement)) (n : ℕ)
     (steps : List Step) (st : Standing) → AreTold st.turns steps
     → AreTold (run_first reading halts bodies n steps st).turns (drop n steps)

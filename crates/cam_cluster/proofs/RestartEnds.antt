@@ -1,4 +1,4 @@
--- What a restart found and left, and works before and behind it.
+-- What a restart found and left, and works before and after it.
 use Rattle.std.proofs.Common.{◌≡◌, ℕ, zero, Bool, true, false, List, [], Option, Some, None, refl}
 use Rattle.std.proofs.Common.{sym, ap, ◌∙◌, subst}
 use Rattle.std.specs.Prelude.{if◌then◌else◌}

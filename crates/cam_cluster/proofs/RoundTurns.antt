@@ -96,7 +96,7 @@ one_turn line a bodies old new might may before after end has = record {
       };
 }
 
--- behind others it is one turn more
+-- after others it is one turn more
 one_more : (c : Setting) (bodies : List (List Statement)) (a : Name) (names : List Name)
     (st : Standing)
     → go_in_round c bodies (a ∷ []) (go_in_round c bodies names st)
@@ -155,7 +155,7 @@ module _ (names : List Name) (line : ℕ) (a : Name) (bodies : List (List Statem
     placed = holds_at (IsAtNode some.script.nodes) names i a some.placed at;
   }
 
-  -- Some run is kept behind a turn.
+  -- Some run is kept after a turn.
   pub some_turn_behind : (end : Option Put)
       → HasHadTurn line a bodies old might before end new may after
       → AreTurnsOfSome names bodies new may after

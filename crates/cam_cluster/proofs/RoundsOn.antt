@@ -30,7 +30,7 @@ module _ (c : Setting) (bodies : List (List Statement)) where
   each_more zero st each last = (last, tt)
   each_more (suc n) st each last = (each.0, each_more n (round c bodies st) each.1 last)
 
-  -- The rounds go on behind those in each of which an input was put,
+  -- The rounds go on after those in each of which an input was put,
   pub rounds_on : (n left room : ℕ) (st : Standing) → room ≡ n + left → EachPuts n st
       → rounds c bodies room st ≡ rounds c bodies left (rounds_whole c bodies n st)
   rounds_on zero left room st is each =

@@ -15,7 +15,7 @@ use Rattle.cam_script.specs.declared.Script.{Script}
 use Rattle.cam_script.specs.declared.Step.{Step}
 use Rattle.cam_script.specs.Law.{IsScript, act_holds, are_steps, is_node}
 
--- a step holds behind those before it
+-- a step holds after those before it
 pub step_holds : (nodes : ℕ) (objects : List ObjectDecl) (bodies : ℕ) (earlier steps : List Step)
     (k : ℕ) (step : Step) → are_steps nodes objects bodies earlier steps ≡ true
     → slice_get steps k ≡ Some step

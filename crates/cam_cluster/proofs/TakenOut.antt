@@ -45,7 +45,7 @@ module _ {N D : Type 0} {tells_node : N → Bool} {node_reads : N → Logged →
   out_behind (n ∷ nodes) (d ∷ disks) node disk out last =
       (out.0, out_behind nodes disks node disk out.1 last)
 
-  -- the last disk is taken out behind the others
+  -- the last disk is taken out after the others
   pub out_last : (nodes all : List N) (disks now : List D) (node : N) (disk : D)
       → all ≡ nodes ++ node ∷ [] → now ≡ disks ++ disk ∷ []
       → AreTakenOut tells_node node_reads tells moment left nodes disks

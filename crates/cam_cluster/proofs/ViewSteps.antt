@@ -23,7 +23,7 @@ use Rattle.cam_event.specs.Views.{step_of, committed_child, view}
 use Rattle.cam_cluster.specs.ActionViews.{child_end, concerns, steps_for, steps_of_deeds, view_in}
 use Rattle.cam_cluster.specs.ActionViews.{OthersChangeNoView, ViewsGoOn}
 
--- a view taken out, and put back with a step behind it
+-- a view taken out, and put back with a step after it
 pub view_put : (old gone new : BTreeMap Name (List ViewStep)) (b : Name) (step : ViewStep)
     → ((q : Name) → get name_cmp gone q ≡ cond (is_eq (name_cmp b q)) None (get name_cmp old q))
     → ((q : Name) → get name_cmp new q
@@ -111,7 +111,7 @@ pub no_stop : (here before : Bool) → before ≡ ((here && false) || before)
 no_stop true before = refl
 no_stop false before = refl
 
--- the views behind some deeds more
+-- the views after some deeds more
 view_after : (L ds : List Deed) (a : Name) → view (after L ds) a ≡ view L a ++ steps_of_deeds L ds a
 view_after L [] a = sym (append-nil (view L a))
 view_after L (d ∷ ds) a =

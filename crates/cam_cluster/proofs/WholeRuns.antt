@@ -62,7 +62,7 @@ none_taken script lines may_read at_work keeps workers unfailing = record {
   agrees = tt;
 }
 
--- behind the last
+-- after the last
 pub all_taken : (script : Script) (lines : LinesFields) (may_read : ℕ → Logged → Type 0)
     (at_work : Workers) (trace : List Event) (marks : List Mark)
     → (taken : HasTakenLines script (length script.steps) lines may_read at_work)

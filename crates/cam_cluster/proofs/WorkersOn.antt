@@ -1,4 +1,4 @@
--- The actions at bodies are those behind a line that gives none a body.
+-- The actions at bodies are those after a line that gives none a body.
 use Rattle.std.proofs.Common.{◌≡◌, List, [], ◌++◌, Some, refl, sym, ap, ◌∙◌, subst}
 use Rattle.cam_event.specs.declared.LineRefusal.{LineRefusal}
 use Rattle.cam_event.specs.Readings.{by_pasts}

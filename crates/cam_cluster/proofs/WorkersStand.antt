@@ -26,7 +26,7 @@ all_first t =
     (take_all (length t) (reverse t) (let long = length-reverse t in omega (arith, long)))
     ∙ reverse-reverse t
 
--- the first events, and those behind them
+-- the first events, and those after them
 pub first_and_others : (n : ℕ) (events t : List Event) → events ≡ reverse t
     → reverse (drop n events) ++ first_events n t ≡ first_events (length events) t
 first_and_others n events t is =

@@ -32,7 +32,7 @@ steps_for a (Some given) = if name_eq a given.0 then given.1 ∷ [] else []
 abbrev pub view_in : BTreeMap Name (List ViewStep) → Name → List ViewStep
 view_in views a = unwrap_or (get name_cmp views a) []
 
--- the views behind these deeds, the newest first
+-- the views after these deeds, the newest first
 pub record HasViews (L : List Deed) (seen : ActionViews) : Type 0 where
   pub views : (a : Name) → 1 ≤ length a → view_in seen.views a ≡ view L a
   pub values : HasValues L seen.values
@@ -43,13 +43,13 @@ pub record HasSeen (t : List Event) (seen : ActionViews) : Type 0 where
   pub views : HasViews (plain_all t) seen
   pub stopped : (a : Name) → contains name_cmp seen.stopped a ≡ list_any (is_stop_of a) t
 
--- the steps that these deeds, in their order, give to the view of an action behind those before
+-- the steps that these deeds, in their order, give to the view of an action after those before
 -- them
 abbrev pub steps_of_deeds : List Deed → List Deed → Name → List ViewStep
 steps_of_deeds before [] a = []
 steps_of_deeds before (d ∷ ds) a = step_of before d a ++ steps_of_deeds (d ∷ before) ds a
 
--- The view after one more event is the view before it, with the steps of the event behind.
+-- The view after one more event is the view before it, with the steps of the event at its end.
 abbrev pub ViewsGoOn : Type 0
 ViewsGoOn =
     (t : List Event) (e : Event) (a : Name)

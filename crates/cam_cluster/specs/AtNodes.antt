@@ -20,7 +20,7 @@ LinesStayAtNodes =
     → AreAtNodes script.nodes
     (after_line st step.line (act_by by_pasts halts later script st step)).running.bound
 
--- and are so behind each number of lines, whichever inputs are halts.
+-- and are so after each number of lines, whichever inputs are halts.
 abbrev pub RunsAreAtNodes : Type 0
 RunsAreAtNodes =
     (script : Script) (halts : List Halt) (n : ℕ) → IsScript script

@@ -73,7 +73,7 @@ pub record AreHaltsOfLine (seen new : Seen) (more : List Halt) : Type 0 where
       AllByRecursion (λ (h : Halt). h.input < accepted new.standing.turns) more
   pub lost : AllByRecursion (λ (h : Halt). h.took ≡ false) more
 
--- So the lines go on: what is kept behind a line is what is kept between lines.
+-- So the lines go on: what is kept after a line is what is kept between lines.
 abbrev pub LinesGoOn : Type 1
 LinesGoOn =
     (seen : Seen) (step : Step) (more : List Halt) (old new : LinesFields)

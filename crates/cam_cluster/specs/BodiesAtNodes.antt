@@ -26,7 +26,7 @@ BodiesStayAtNodes =
     → BodiesAreAtNodes script.nodes
     (after_line st step.line (act_by by_pasts halts later script st step)).running.bodies
 
--- and are so behind each number of lines, whichever inputs are halts.
+-- and are so after each number of lines, whichever inputs are halts.
 abbrev pub RunsHaveBodiesAtNodes : Type 0
 RunsHaveBodiesAtNodes =
     (script : Script) (halts : List Halt) (n : ℕ) → IsScript script

@@ -76,7 +76,7 @@ HasRead id works may_read letter =
     → IsReadOf script st id letter
 
 -- A letter was handed over. Of each run of which the works kept it before, they keep the run with
--- the delivery behind.
+-- the delivery after it.
 abbrev pub HasDelivered : ℕ → ℕ → WorksFields → (ℕ → Logged → Type 0) → Put
     → WorksFields → (ℕ → Logged → Type 0) → Type 0
 HasDelivered line number old might_read done new may_read =

@@ -80,7 +80,7 @@ IsCourseWanting acts.Play seen step new may_read at_work =
     HasPlayedSoFar seen step new may_read at_work
 IsCourseWanting _ seen step new may_read at_work = KeepsCourse seen new may_read at_work
 
--- The lines led on, with these halts, and the workers are those behind the line. The fault of a
+-- The lines led on, with these halts, and the workers are those after the line. The fault of a
 -- letter that it cut short is told.
 pub record HasLedAtWork (old : LinesFields) (seen : Seen) (step : Step) (new : LinesFields)
     (may_read : ℕ → Logged → Type 0) (at_work : Workers) (bad : Option WireFault) : Type 0 where

@@ -50,7 +50,7 @@ IsSaidOf c st a (nexts.Request want) (Some done) =
     halt_of c st (Requests (record { action = a; want = want })) ≡ as_halt done
 IsSaidOf c st a _ _ = Unit {0}
 
--- The request was put, if the action makes one: the works and the workers are those behind it.
+-- The request was put, if the action makes one: the works and the workers are those after it.
 pub record IsGone (script : Script) (st : Standing) (c : Setting) (a : Name) (done : Option Put)
     (new : WorksFields) (may_read : ℕ → Logged → Type 0) (behind : Workers) : Type 0 where
   pub made : is_some done ≡ is_request (next_of script.bodies st a)

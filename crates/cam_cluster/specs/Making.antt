@@ -1,5 +1,5 @@
 -- Inputs that are put one after another while actions work at bodies: how each ended, by its
--- number, and what stands behind them.
+-- number, and what stands after them.
 use Rattle.std.specs.Prelude.{◌≡◌, ℕ, suc, ◌+◌, Bool, List, [], ◌∷◌, length}
 use Rattle.cam_node.specs.Log.{Logged}
 use Rattle.cam_runs.specs.Halts.{Halting, Turn, accepted}
@@ -47,7 +47,7 @@ pub record KeepsAtWork (script : Script) (st : Standing) (works : WorksFields)
   pub runs : KeepsRun script st works may_read
   pub workers : AreWorkers st at_work
 
--- Inputs were put that ended so, and what stands behind them is kept.
+-- Inputs were put that ended so, and what stands after them is kept.
 pub record HaveBeenPut (script : Script) (before after : Standing) (ends : List Put)
     (new : WorksFields) (may_read : ℕ → Logged → Type 0) (workers : Workers) : Type 0 where
   pub counted : AreCounted before after ends

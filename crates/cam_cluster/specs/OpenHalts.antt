@@ -1,5 +1,5 @@
 -- The halts of works that are undecided, and what a restart makes of events, halts and marks where
--- it finds that one was taken: its event stands at its place, and what is behind it has numbers
+-- it finds that one was taken: its event stands at its place, and what is after it has numbers
 -- greater by one. Numbers are those of 64 bits, the last of which stays.
 use Rattle.std.specs.Prelude.{ℕ, ◌+◌, ◌-◌, ◌^◌, eqb, nat_lt, min, if◌then◌else◌, List, [], ◌∷◌, ◌++◌}
 use Rattle.std.specs.Prelude.{drop, map, take, Option, Some, None, option_map}
@@ -34,7 +34,7 @@ abbrev pub open_halt_of : ℕ → List OpenHalt → Option OpenHalt
 open_halt_of s [] = None
 open_halt_of s (h ∷ hs) = if eqb h.node s then Some h else open_halt_of s hs
 
--- The halts without that one. Those that are newer stand behind its event.
+-- The halts without that one. Those that are newer stand after its event.
 abbrev pub behind_event : ℕ → OpenHalt → OpenHalt
 behind_event place h =
     record {

@@ -49,7 +49,7 @@ abbrev pub part_of_round : Setting → List (List Statement) → ℕ → ℕ →
 part_of_round c bodies requests number st =
     deliveries c number (go_in_round c bodies (take requests (in_order st.running.bodies)) st)
 
--- so many turns of a round and then so many deliveries; and these behind so many whole rounds
+-- so many turns of a round and then so many deliveries; and these after so many whole rounds
 abbrev pub round_part : ℕ → ℕ → Making
 round_part requests number c bodies st = part_of_round c bodies requests number st
 
@@ -74,7 +74,7 @@ pub record HasPlayedSome (line : ℕ) (bodies : List (List Statement)) (old : Wo
       HaveMade (round_part requests number) line bodies old might_read old_workers new may_read
       workers
 
--- Memory ran out in a round behind so many whole ones.
+-- Memory ran out in a round after so many whole ones.
 pub record HasPlayedPart (line : ℕ) (bodies : List (List Statement)) (old : WorksFields)
     (might_read : ℕ → Logged → Type 0) (old_workers : Workers) (new : WorksFields)
     (may_read : ℕ → Logged → Type 0) (workers : Workers) : Type 0 where

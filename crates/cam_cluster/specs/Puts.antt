@@ -34,7 +34,7 @@ abbrev pub as_halt : Put → Option Bool
 as_halt puts.Stood = None
 as_halt puts.Halted = Some false
 
--- Of each run of which the works keep it before, they keep the run with the input behind.
+-- Of each run of which the works keep it before, they keep the run with the input after it.
 abbrev pub HasPut : ℕ → ℕ → NodeInput → WorksFields → (ℕ → Logged → Type 0) → Put
     → WorksFields → (ℕ → Logged → Type 0) → Type 0
 HasPut line place input old might_read done new may_read =
@@ -47,7 +47,7 @@ HasPut line place input old might_read done new may_read =
     (put (held_setting script.objects halts line restarted) st (input_of (place + 1) input)) new
     may_read
 
--- A node's disk does so many calls more: they keep each run that they kept, with that behind.
+-- A node's disk does so many calls more: they keep each run that they kept, with that after it.
 abbrev pub HasStopped : ℕ → ℕ → WorksFields → (ℕ → Logged → Type 0) → WorksFields
     → (ℕ → Logged → Type 0) → Type 0
 HasStopped place calls old might_read new may_read =

@@ -23,7 +23,7 @@ use Rattle.cam_cluster.specs.SoFar.{KeepsLines, LinesFields}
 use Rattle.cam_cluster.specs.Stopping.{stopped_at}
 use Rattle.cam_cluster.specs.Works.{WorksFields, IsUnfailing, KeepsRun}
 
--- the run with the restart behind, and what is said of that as a halt
+-- the run with the restart after it, and what is said of that as a halt
 abbrev pub with_restart : Script → Halting → ℕ → (ℕ → Bool) → Standing → ℕ → Standing
 with_restart script halts line restarted st s =
     put (held_setting script.objects halts line restarted) (ended_halt st s) (Restarts s)
@@ -33,7 +33,7 @@ restart_halt script halts line restarted st s =
     halt_of (held_setting script.objects halts line restarted) (ended_halt st s) (Restarts s)
 
 -- The log has the event at which the node halted: they keep each run in which that halt was taken,
--- with the restart behind. It comes only where the node was halted.
+-- with the restart after it. It comes only where the node was halted.
 pub record HasFoundHalt (place : ℕ) (old : WorksFields) (might_read : ℕ → Logged → Type 0)
     (new : WorksFields) (may_read : ℕ → Logged → Type 0) : Type 0 where
   pub halted :
@@ -48,8 +48,8 @@ pub record HasFoundHalt (place : ℕ) (old : WorksFields) (might_read : ℕ → 
       → KeepsRun script (with_restart script halts line restarted found (place + 1)) new may_read
 
 -- Of each run that the works kept, where the restart stands: if nothing was found they keep the run
--- with the restart behind, and else the run in which the halt was taken. Where it failed it is known
--- that something has failed by itself.
+-- with the restart after it, and else the run in which the halt was taken. Where it failed it is
+-- known that something has failed by itself.
 abbrev pub HasRestartedAs : ℕ → WorksFields → (ℕ → Logged → Type 0) → Restart → WorksFields
     → (ℕ → Logged → Type 0) → Type 0
 HasRestartedAs place old might_read ends.Stood new may_read =

@@ -45,7 +45,7 @@ IsOutlook a works may_read workers outlook =
     → IsScript script → KeepsRun script st works may_read → HaveCaughtUp st workers
     → HasOutlook (held_setting script.objects halts line restarted) st a outlook
 
--- what stands behind an action of a round, and whether it makes a request
+-- what stands after an action of a round, and whether it makes a request
 abbrev pub after_name : Setting → List (List Statement) → Standing → Name → Standing
 after_name c bodies st a = if may_go_on c st a then go c bodies st a else st
 
@@ -53,7 +53,7 @@ abbrev pub makes_one : Setting → List (List Statement) → Standing → Name �
 makes_one c bodies st a = may_go_on c st a && is_request (next_of bodies st a)
 
 -- The action had its turn: its request was put, if it makes one, and the works and the workers are
--- those behind it.
+-- those after it.
 pub record HadTurn (script : Script) (st : Standing) (c : Setting) (a : Name) (done : Option Put)
     (new : WorksFields) (may_read : ℕ → Logged → Type 0) (behind : Workers) : Type 0 where
   pub made : is_some done ≡ makes_one c script.bodies st a
@@ -98,7 +98,7 @@ abbrev pub HaveHadTurns :
 HaveHadTurns line names bodies old might_read old_workers new may_read workers =
     HaveMade (turns_of names) line bodies old might_read old_workers new may_read workers
 
--- Memory ran out behind the turns of the first of them.
+-- Memory ran out after the turns of the first of them.
 pub record HaveHadSomeTurns (line : ℕ) (names : List Name) (bodies : List (List Statement))
     (old : WorksFields) (might_read : ℕ → Logged → Type 0) (old_workers : Workers)
     (new : WorksFields) (may_read : ℕ → Logged → Type 0) (workers : Workers) : Type 0 where

@@ -47,14 +47,14 @@ abbrev pub IsBetweenLines : Seen → Type 0
 IsBetweenLines cluster =
     cluster.standing ≡ run_of_lines by_pasts cluster.script cluster.halts (lines_taken cluster)
 
--- the step that is taken next, and the lines behind it
+-- the step that is taken next, and the lines after it
 abbrev pub IsNextStep : Seen → Step → Type 0
 IsNextStep cluster step = slice_get cluster.script.steps (lines_taken cluster) ≡ Some step
 
 abbrev pub later_steps : Seen → List Step
 later_steps cluster = drop (lines_taken cluster + 1) cluster.script.steps
 
--- how a line is taken by a reading, with the halts that are known behind it
+-- how a line is taken by a reading, with the halts that are known after it
 abbrev pub setting_in : (List ObjectDecl → Reading) → Seen → List Halt → Step → Setting
 setting_in reading cluster halts step =
     setting (reading cluster.script.objects) (given halts) step (later_steps cluster)

@@ -47,7 +47,7 @@ bound_by inputs.Begin deeds = created_in deeds
 bound_by (inputs.Request request) deeds = asked_in deeds
 bound_by _ deeds = None
 
--- by how the input ended, and by the events behind it, the oldest first
+-- by how the input ended, and by the events after it, the oldest first
 abbrev pub IsBinding : NodeInput → List Event → Put → Option Name → Type 0
 IsBinding input events puts.Stood binds = binds ≡ bound_by input (newest_deeds (reverse events))
 IsBinding input events puts.Halted binds = binds ≡ None

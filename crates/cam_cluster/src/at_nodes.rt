@@ -3,7 +3,7 @@ ghost use Rattle.cam_cluster.specs.AtNodes.{LinesStayAtNodes, RunsAreAtNodes};
 ghost use Rattle.cam_cluster.specs.BodiesAtNodes.{BodiesStayAtNodes, RunsHaveBodiesAtNodes};
 
 /// The variables of a script's lines stand for actions whose homes are among the script's nodes:
-/// this stays so with each line, and it is so behind each number of lines, whichever inputs are
+/// this stays so with each line, and it is so after each number of lines, whichever inputs are
 /// halts.
 pub fn variables_at_nodes()
     ensures stay { LinesStayAtNodes }
@@ -11,7 +11,7 @@ pub fn variables_at_nodes()
 {}
 
 /// The actions that work at a body have their homes among the script's nodes: this stays so with
-/// each line, and it is so behind each number of lines, whichever inputs are halts.
+/// each line, and it is so after each number of lines, whichever inputs are halts.
 pub fn bodies_at_nodes()
     ensures stay { BodiesStayAtNodes }
     ensures runs { RunsHaveBodiesAtNodes }

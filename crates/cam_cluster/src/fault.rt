@@ -1,4 +1,4 @@
-//! Why a script was not run to its end; and want of memory, as the fault of a run and of a line.
+//! Why a script was not run to its end; and running out of memory, as the fault of a run and of a line.
 ghost use Rattle.std.specs.Prelude.{◌≡◌};
 ghost use Rattle.cam_cluster.specs.declared.LineFault.TheVariants.{NoMemory as LineNoMemory};
 

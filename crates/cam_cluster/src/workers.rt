@@ -210,7 +210,7 @@ fn all_work()
     ensures { AllWork }
 {}
 
-/// What an event adds to views: its steps behind those before, and nothing to the view of an action that it does not concern.
+/// What an event adds to views: its steps after those before, and nothing to the view of an action that it does not concern.
 fn views_go_on()
     ensures steps { ViewsGoOn }
     ensures others { OthersChangeNoView }

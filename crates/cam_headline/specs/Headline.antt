@@ -70,7 +70,7 @@ pub record IsPlainFor (objects : List ObjectDecl) (t : List Event) (a : Name) (L
     pub no_orphan : orphan objects L a ≡ None
     -- It has in it the view that it has in the whole run.
     pub same_view : view L a ≡ view (plain_all t) a
-    -- The operations of committed top actions in order of their commits, and behind them those that
+    -- The operations of committed top actions in order of their commits, and after them those that
     -- the action may see of its own family, replay one after another from the start states.
     pub replays : Replays objects (serial objects L (Some a))
     -- Each answer that the action got is that of its operation in this list.

@@ -77,7 +77,7 @@ below_after line again st n ev w (Some true) below i has =
           omega (arith, h)
     ]
 
--- an input of another node, behind the one at which the runs differ
+-- an input of another node, after the one at which the runs differ
 module _ (line : ℕ) (again : Bool) (s : ℕ) (behind before : List Event) (e : Event) (st : Standing)
     (n : ℕ) (ev : Event) (w : Bool) (unseen : IsUnseen s behind e)
     (was : st.running.trace ≡ behind ++ before) (halted : has_number st.halted s ≡ true)

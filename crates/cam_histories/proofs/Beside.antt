@@ -10,7 +10,7 @@ use Rattle.cam_histories.specs.Found.{IsBeyond, IsBefore}
 use Rattle.cam_histories.proofs.Silent.{AreSilent}
 use Rattle.cam_histories.proofs.Trails.{Trail}
 
--- what stands in both runs behind the input at which they differ, and before it
+-- what stands in both runs after the input at which they differ, and before it
 pub record Beyond (objects : List ObjectDecl) (k s : ℕ) (before : List Event) (e : Event)
     (lost found : Standing) : Type 0 where
   pub is_beyond : IsBeyond objects k s before e lost found

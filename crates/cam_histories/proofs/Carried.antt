@@ -65,7 +65,7 @@ flight_stays objects t e (kept ∷ net) unput (id ∷ ids) are = (
   flight_stays objects t e net unput ids are.1,
 )
 
--- letters behind letters
+-- letters after letters
 flight_behind : (objects : List ObjectDecl) (t : List Event) (net : List InFlightFields)
     (sent : List Letter) (ids more : List LetterId)
     → AreInFlight objects t net [] ids → AreSent objects t sent more

@@ -44,7 +44,7 @@ flight_changed f objects t (kept ∷ net) unput (id ∷ ids) zero keeps are = (
 flight_changed f objects t (kept ∷ net) unput (id ∷ ids) (suc place) keeps are =
     (are.0, flight_changed f objects t net unput ids place keeps are.1)
 
--- a letter of the network stands at the same place with those behind it
+-- a letter of the network stands at the same place with those after it
 changed_behind : (f : InFlightFields → InFlightFields) (net more : List InFlightFields) (place : ℕ)
     → place < length net
     → changed_at f (net ++ more) place ≡ changed_at f net place ++ more

@@ -73,7 +73,7 @@ module _ (st new : Standing) where
             (one x y (subst (λ (n : ℕ). IsLetter st n x y) (sym next) is))) are.1,
       )
 
--- letters behind letters
+-- letters after letters
 pub letters_behind : (st : Standing) (number : ℕ) (ids more : List LetterId)
     (net others : List InFlightFields)
     → AreLetters st number ids net → AreLetters st (number + length net) more others

@@ -1,4 +1,4 @@
--- An input of another node, behind the one at which two runs differ: it leads to the same in both.
+-- An input of another node, after the one at which two runs differ: it leads to the same in both.
 use Rattle.std.proofs.Common.{◌≡◌, ℕ, ◌+◌, ◌<◌, Bool, true, false, ◌||◌}
 use Rattle.std.proofs.Common.{List, ◌++◌, length, Option, Some, None}
 use Rattle.std.proofs.Common.{refl, sym, ap, ◌∙◌, arith, if◌then◌else◌}

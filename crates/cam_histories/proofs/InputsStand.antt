@@ -1,4 +1,4 @@
--- The parts of a run stand behind an input that is no halt.
+-- The parts of a run stand after an input that is no halt.
 use Rattle.std.proofs.Common.{◌≡◌, ℕ, ◌+◌, ◌-◌, List, ◌∷◌, Option, refl, sym, ap, ◌∙◌, subst, arith}
 use Rattle.cam_type.specs.declared.ObjectDecl.{ObjectDecl}
 use Rattle.cam_event.specs.declared.Event.{Event}

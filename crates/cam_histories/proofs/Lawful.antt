@@ -52,7 +52,7 @@ histories_are_lawful objects (e ∷ t) s run = by (histories_are_lawful objects 
         (subst (IsLawful objects e.node) (sym (history_here objects e t)) (next_is_step objects t e (plain_ran objects t run.1) run.0, mine))
     by old mine (inr n) = subst (IsLawful objects s) (sym (history_there objects e t s n.0)) old
 
--- a history with a step behind it
+-- a history with a step after it
 through_step : (objects : List ObjectDecl) (s : ℕ) (h : List Received) (c : Received) → IsStepOf objects s h c → IsThrough objects s h → IsThrough objects s (c ∷ h)
 through_step objects s [] c step through = step
 through_step objects s (k ∷ h) c step through = (step, inl through)

@@ -33,7 +33,7 @@ moved_high p i h = elim (lt_cases i p) [
   | inr n ↦ rw n.0 refl
 ]
 
--- No event behind the place has the number of the place,
+-- No event after the place has the number of the place,
 pub moved_off : (p i : ℕ) → eqb (moved p i) p ≡ false
 moved_off p i = elim (lt_cases i p) [
   | inl y ↦
@@ -44,7 +44,7 @@ moved_off p i = elim (lt_cases i p) [
       ∙ ne_eqb (i + 1) p (λ e. let h = n.1 in omega (arith, e, h))
 ]
 
--- and behind it numbers are the same where they were.
+-- and after it numbers are the same where they were.
 pub number_same : (p n i : ℕ) → p ≤ n → eqb (moved p i) (n + 1) ≡ eqb i n
 number_same p n i high = elim (lt_cases i p) [
   | inl y ↦
@@ -133,7 +133,7 @@ module _ (before : List Event) (e : Event) where
   mails_moved behind None = refl
   mails_moved behind (Some letter) = letters_moved behind letter
 
--- The senders of the letters behind the place are other nodes.
+-- The senders of the letters after the place are other nodes.
 module _ (s : ℕ) (before : List Event) where
   event_other : (behind : List Event) (i : ℕ) (x : Event)
       → AllByRecursion (λ (b : Event). b.node ≡ s → ⊥) behind

@@ -1,4 +1,4 @@
--- An input that is no halt, and the parts of the run behind it.
+-- An input that is no halt, and the parts of the run after it.
 use Rattle.std.proofs.Common.{◌≡◌, ℕ, List, ◌∷◌, Some, None, sym, ap, ◌∙◌, subst}
 use Rattle.cam_names.specs.declared.name.Name.{Name}
 use Rattle.cam_event.specs.declared.Event.{Event}
@@ -40,7 +40,7 @@ inputs_lead_on script halts line restarted st input under coming =
     (ready_by script st input under coming.awake coming.may (idle_for st input coming.idle)) in
     subst (IsUnderHalts script) (sym both.same) both.under
 
--- what stands behind an input that is no halt
+-- what stands after an input that is no halt
 module _ (script : Script) (c : Setting) (st : Standing) (input : Input) where
   abbrev pub plain_put : Standing
   plain_put =

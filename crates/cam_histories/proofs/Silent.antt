@@ -89,7 +89,7 @@ pub entered_silent : (objects : List ObjectDecl) (H : List Deed) (s : ℕ) (ds :
 entered_silent objects H s ds placed d there =
     shows_nothing objects H s d (in_entered d ds there).1 (placed d there)
 
--- the events behind others are placed as all are
+-- the events after others are placed as all are
 pub placed_behind : (objects : List ObjectDecl) (H : List Deed) (more t : List Event)
     → AllPlaced objects H (more ++ t) → AllPlaced objects H t
 placed_behind objects H [] t all = all

@@ -21,7 +21,7 @@ pub newest_own : (s : ℕ) (u : Undecided) (us : List Undecided) → u.node ≡ 
 newest_own s u us is =
     ap (λ b. if b then Some u else undecided_of s us) (eq-eqb u.node s is)
 
--- the halt of another node behind it
+-- the halt of another node after it
 pub beside_other : (s place : ℕ) (u : Undecided) (us : List Undecided) → (u.node ≡ s → ⊥)
     → undecided_beside s place (u ∷ us)
     ≡ moved_undecided place u ∷ undecided_beside s place us

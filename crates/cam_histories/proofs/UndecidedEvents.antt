@@ -48,7 +48,7 @@ pub found_halts_are_decided : FoundHaltsAreDecided
 found_halts_are_decided objects s before e lost found stands =
     ap (λ (x : Standing). x.undecided) stands.is
 
--- what stood before an event behind the place, in both
+-- what stood before an event after the place, in both
 module _ (objects : List ObjectDecl) (s : ℕ) (before : List Event) (e : Event) where
   record CutAt (n : ℕ) (behind : List Event) : Type 0 where
     rest : List Event

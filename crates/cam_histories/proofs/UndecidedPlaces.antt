@@ -65,7 +65,7 @@ undecided_node m (x ∷ us) u is =
         ∙ y.1
     by (inr k) rest = rest (sym (newest_other m x us k.1) ∙ is)
 
--- Those of another node stood before it, and stay, or behind it, and move.
+-- Those of another node stood before it, and stay, or after it, and move.
 abbrev pub StaysOrMoves : ℕ → ℕ → ℕ → List Undecided → Undecided → Type 0
 StaysOrMoves s m place us u =
     ((undecided_of m (undecided_beside s place us) ≡ Some u) × (u.before ≤ place))

@@ -1,5 +1,5 @@
 -- The letters of a run in flight: those that its network has, in the bytes that spell them, and
--- behind them those that are still to be put there.
+-- after them those that are still to be put there.
 use Rattle.std.specs.Prelude.{◌≡◌, ◌<◌, ℕ, Bool, false, List, [], ◌∷◌, ◌++◌, map, length, Some}
 use Rattle.cam_type.specs.declared.ObjectDecl.{ObjectDecl}
 use Rattle.cam_event.specs.declared.LetterId.{LetterId}
@@ -33,7 +33,7 @@ pub record IsCarried (objects : List ObjectDecl) (t : List Event) (id : LetterId
   pub bytes : kept.bytes ≡ spelled letter
   pub spells : IsSpelled letter kept.bytes
 
--- These are the letters of a network, and behind them those that are still to be put.
+-- These are the letters of a network, and after them those that are still to be put.
 abbrev pub AreInFlight : List ObjectDecl → List Event → List InFlightFields → List Letter
     → List LetterId → Type 0
 AreInFlight objects t [] unput ids = AreSent objects t unput ids

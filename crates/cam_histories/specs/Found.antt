@@ -3,9 +3,9 @@
 --
 -- Two runs of the same lines, whose halts differ at one input alone: the one loses the event at
 -- which its node halts there, the other has it taken. As long as the node is not restarted they go
--- on alike. The trace of the other has the taken event besides, at its place; the events behind it
+-- on alike. The trace of the other has the taken event besides, at its place; the events after it
 -- have numbers greater by one. The mark of the halt says that it was taken, and it is no more
--- undecided; other halts behind it that are have their places moved. Nothing else differs:
+-- undecided; other halts after it that are have their places moved. Nothing else differs:
 -- variables, bodies, which letters were delivered and which were lost, which nodes are halted, what
 -- the disks went through, and what each line does and leaves.
 use Rattle.std.specs.Prelude.{◌≡◌, ◌⊎◌, ℕ, ◌+◌, ◌<◌, ◌≤◌, eqb, nat_lt, Bool, true, false, not, ◌&&◌}
@@ -50,7 +50,7 @@ with_mark_taken s (m ∷ ms) =
     if is_halt_of s m && not (list_any (is_halt_of s) ms) then as_taken m ∷ ms
     else m ∷ with_mark_taken s ms
 
--- The undecided events without the newest of the node. Those that are newer stand behind the place,
+-- The undecided events without the newest of the node. Those that are newer stand after the place,
 -- so they move; those that are older stay.
 abbrev pub moved_undecided : ℕ → Undecided → Undecided
 moved_undecided place u = record u { before = u.before + 1; event = moved_event place u.event }
@@ -72,7 +72,7 @@ with_taken_in s behind e before st =
       undecided = undecided_beside s (length before) st.undecided;
     }
 
--- What stands in the run that lost the event, and what stands in the one that has it taken behind
+-- What stands in the run that lost the event, and what stands in the one that has it taken after
 -- the events `before`. The node is halted.
 pub record IsFound (s : ℕ) (before : List Event) (e : Event) (lost found : Standing) : Type 0
   where

@@ -1,6 +1,6 @@
 -- A trace into which an event is put, at a place before its newest events.
 --
--- The events behind the place have numbers greater by one then, and so have the letters that they
+-- The events after the place have numbers greater by one then, and so have the letters that they
 -- sent. An event that received such a letter names it by its new number. Nothing else in an event
 -- is the number of an event, so all else of each event stays what it was.
 --
@@ -39,7 +39,7 @@ moved_input place (Tells s to) = Tells s to
 moved_input place (Queries s f) = Queries s f
 moved_input place (Restarts s) = Restarts s
 
--- the trace with the event put in behind the events `before`
+-- the trace with the event put in after the events `before`
 abbrev pub put_in : List Event → Event → List Event → List Event
 put_in behind e before = map (moved_event (length before)) behind ++ e ∷ before
 

@@ -39,7 +39,7 @@ pub record NodesStand (script : Script) (st : Standing) : Type 0 where
 abbrev pub BeginningsHold : Type 0
 BeginningsHold = (script : Script) (n : ℕ) → IsInRange script → NodesRun script.objects (run_of_first by_knowledge n script).trace
 
--- behind each line where nodes halt,
+-- after each line where nodes halt,
 abbrev pub StandingsHold : Type 0
 StandingsHold = (script : Script) (st : Standing) → IsUnderHalts script st → NodesStand script st
 

@@ -13,8 +13,8 @@ ghost use Rattle.cam_histories.specs.Undecided.{FoundHaltsAreDecided, NewHaltsAr
 ghost use Rattle.cam_histories.specs.Undecided.{NewHaltsKeepLogs, OthersStayUndecided};
 ghost use Rattle.cam_histories.specs.Undecided.{UndecidedAreHalts, UndecidedStay};
 
-/// An event is put into a trace, one that sent no letter and whose node did nothing behind it. The
-/// events behind it then have numbers greater by one, and so have their letters. Nothing else
+/// An event is put into a trace, one that sent no letter and whose node did nothing after it. The
+/// events after it then have numbers greater by one, and so have their letters. Nothing else
 /// differs: the letters are what they were and carry the same; each other node has the same history
 /// but for the numbers of its letters, refuses the same, and does the same at each input.
 pub fn events_put_in()

@@ -61,7 +61,7 @@ pub fn sending()
 {}
 
 /// So it is in the run of each script in the grammar's ranges by what nodes hold: after each number of its lines, and, whichever inputs are
-/// halts, behind each line and at the end; a node that is not halted has a history through halts.
+/// halts, after each line and at the end; a node that is not halted has a history through halts.
 pub fn scripts()
     ensures beginnings { BeginningsHold }
     ensures standings { StandingsHold }

@@ -50,7 +50,7 @@ short_enough image read entries e = by (nat_lt most_bytes (length image)) refl e
     by true is e1 = absurd cc
     by false is e1 = (is, log_ok read entries e1)
 
--- what was written, by the entries that were read and the version behind them
+-- what was written, by the entries that were read and the version after them
 apart : {P : Type 0} (image output : List ℕ) → upgraded image ≡ Ok output
     → ((entries : List (List ℕ)) (version : ℕ) → log_entries image ≡ Ok entries
     → migrated entries ≡ Ok (with_version version entries)

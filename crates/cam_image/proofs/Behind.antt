@@ -1,4 +1,4 @@
--- The version behind entries is the one that recovery finds there, and entries are shown just where
+-- The version after entries is the one that recovery finds there, and entries are shown just where
 -- they are recovered.
 use Rattle.std.proofs.Common.{◌≡◌, ◌↔◌, ◌≤◌, ℕ, ◌+◌, List, [], ◌∷◌, ◌++◌, length, drop, Result, Ok, Err, refl, ap, sym, ◌∙◌}
 use Rattle.std.specs.Bool.{⊤}

@@ -1,4 +1,4 @@
--- Words with a blank between them: the first ones, and each further one behind a blank.
+-- Words with a blank between them: the first ones, and each further one after a blank.
 use Rattle.std.proofs.Common.{◌≡◌, ℕ, List, [], ◌∷◌, ◌++◌, map, sym, ap, ◌∙◌, append-nil, append_assoc, codes}
 use Rattle.std.specs.List.{flat_map}
 use Rattle.cam_base.specs.Lines.{words}
@@ -9,7 +9,7 @@ use Rattle.cam_recman.specs.declared.Record.{Record}
 use Rattle.cam_recman.specs.declared.Record.TheVariants.{Commit}
 use Rattle.cam_recman.specs.Inspect.{pair_text, record_words}
 
--- pairs, each behind a blank
+-- pairs, each after a blank
 abbrev pub spaced : List (ℕ × ℕ) → List ℕ
 spaced pairs = flat_map (λ pair. 32 ∷ pair_text pair) pairs
 
@@ -23,7 +23,7 @@ words_two : (v w : List ℕ) (pairs : List (ℕ × ℕ))
 words_two v w pairs = ap (λ (r : List ℕ). v ++ 32 ∷ r) (words_one w pairs)
     ∙ sym (append_assoc v (32 ∷ w) (spaced pairs))
 
--- a name is written, and then the pairs behind it
+-- a name is written, and then the pairs after it
 pub commit_words : (one : Record) (a : List PartFields) (d : List ℕ) (old mid new : List ℕ)
     → one ≡ Commit a d
     → mid ≡ old ++ words (codes "commit" ∷ name_text a ∷ []) → new ≡ mid ++ spaced (pairs_of d)

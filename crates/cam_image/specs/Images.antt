@@ -66,7 +66,7 @@ inspected image = do
   in_records (inspect_text entries)
 
 -- The image of a log in version 2: one that is of version 2 already, up to its closed gate; and one
--- of version 1 with an entry of a Version alone behind the others, and a new closed gate.
+-- of version 1 with an entry of a Version alone after the others, and a new closed gate.
 abbrev pub in_version2 : ℕ → List (List ℕ) → List ℕ → List ℕ
 in_version2 version entries image =
     if version == 1 then log_bytes (entries ++ version_entry ∷ [])

@@ -1,4 +1,4 @@
--- What a fault says of an image, and the version behind entries.
+-- What a fault says of an image, and the version after entries.
 use Rattle.std.specs.Prelude.{◌≡◌, ℕ, ◌+◌, List, [], ◌∷◌, Result, Ok, Err}
 use Rattle.cam_bytes.specs.Reading.{◌>>=◌}
 use Rattle.cam_recman.specs.declared.RecFault.{RecFault}
@@ -13,7 +13,7 @@ Refuses (NotALog at) reading = reading ≡ Err (NotALog at)
 Refuses (BadRecord entry at) reading = reading ≡ Err (BadRecord entry at)
 Refuses NoMemory reading = Unit {0}
 
--- the version behind the entries from this number on, before which it is this one, or the first
+-- the version after the entries from this number on, before which it is this one, or the first
 -- fault
 unfoldable pub version_from : ℕ → ℕ → List (List ℕ) → Result ℕ RecFault
 version_from number version [] = Ok version

@@ -13,7 +13,7 @@ use cam_log::{Entries, EntryLog};
 use cam_recman::{RecFault, decode_entry};
 use std::alloc::Global;
 
-/// Appends the entry of this number, before which the format has this version, and makes it the version behind the entry.
+/// Appends the entry of this number, before which the format has this version, and makes it the version after the entry.
 #[tactic(auto, unfolding(cam_recman::specs::Inspect::inspect_from))]
 fn add_entry(
     alloc: Global,

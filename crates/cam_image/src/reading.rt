@@ -26,7 +26,7 @@ pub(crate) fn is_checkpointed(image: &[u8]) -> bool
     image.len() > 3 && image[3] == b'C'
 }
 
-/// The entries of a log, with the place of the closed gate behind them.
+/// The entries of a log, with the place of the closed gate after them.
 #[tactic(auto, unfolding(cam_log::specs::Reading::read_log))]
 fn found_in(alloc: Global, bytes: &[u8]) -> Result<Found, LogFault>
     ensures read { IfOk result (λ found. log_of bytes.now ≡ Reads found.entries) }
@@ -38,7 +38,7 @@ fn found_in(alloc: Global, bytes: &[u8]) -> Result<Found, LogFault>
     read_from(alloc, bytes, at)
 }
 
-/// The entries of the image of a log, with the place of the closed gate behind them.
+/// The entries of the image of a log, with the place of the closed gate after them.
 pub(crate) fn read_log(alloc: Global, image: &[u8]) -> Result<Found, ImageFault>
     ensures read { IfOk result (λ found. log_entries image.now ≡ Reads found.entries) }
     ensures refused { IfErr result (λ fault. Refuses fault (log_entries image.now)) }

@@ -22,8 +22,8 @@ fn version_entry(alloc: Global) -> Result<Vec<u8>, NoMemory>
     encode_entry(alloc, &records)
 }
 
-/// The image up to its closed gate, which stands at this place; and behind version 1 with an entry of a Version alone in place of
-/// the gate, and a new one behind it.
+/// The image up to its closed gate, which stands at this place; and after version 1 with an entry of a Version alone in place of
+/// the gate, and a new one after it.
 fn in_version2(alloc: Global, image: &[u8], gate: usize, version: u8) -> Result<Vec<u8>, NoMemory>
     requires { gate < length image.now }
     ensures { IfOk result (λ bytes. bytes.items ≡ (if version == 1

@@ -1,4 +1,4 @@
-//! Which version of the format stands behind entries.
+//! Which version of the format stands after entries.
 ghost use Rattle.std.specs.Prelude.{◌≡◌, ◌+◌, ◌∷◌, ℕ, List, Ok as Says, IfOk, IfErr, OnOk};
 ghost use Rattle.cam_recman.specs.Refuses.{Refuses};
 ghost use Rattle.cam_recman.specs.Versions.{version_behind};
@@ -11,10 +11,10 @@ use std::alloc::Global;
 /// The version that a log begins with.
 pub(crate) const FIRST_VERSION: u8 = 1;
 
-/// The version behind a Version.
+/// The version after a Version.
 const SECOND_VERSION: u8 = 2;
 
-/// The version behind records, before which the format has this one.
+/// The version after records, before which the format has this one.
 pub(crate) fn version_behind(mut version: u8, records: &[Record]) -> u8
     ensures { result ≡ version_behind version records.now }
 {
@@ -26,7 +26,7 @@ pub(crate) fn version_behind(mut version: u8, records: &[Record]) -> u8
     version
 }
 
-/// The version behind the entry of this number, before which the format has this one.
+/// The version after the entry of this number, before which the format has this one.
 #[tactic(auto, unfolding(crate::specs::Steps::version_from))]
 fn next_version(alloc: Global, number: u64, entry: &[u8], version: u8) -> Result<u8, RecFault>
     ensures next { IfOk result (λ next. (entries : List (List ℕ))
@@ -39,7 +39,7 @@ fn next_version(alloc: Global, number: u64, entry: &[u8], version: u8) -> Result
     Ok(version_behind(version, records.as_slice()))
 }
 
-/// The version behind all entries of a log.
+/// The version after all entries of a log.
 pub(crate) fn version_of(alloc: Global, entries: &Entries) -> Result<u8, RecFault>
     ensures read { IfOk result (λ version. version_from 0 1 entries.now ≡ Says version) }
     ensures refused { IfErr result (λ fault. Refuses fault (version_from 0 1 entries.now)) }

@@ -21,7 +21,7 @@ fn write_named(alloc: Global, word: &str, name: &Name, out: &mut String) -> Resu
     name.write_text(alloc, out)
 }
 
-/// Appends these counts, which are those of the nodes from this one on, each behind a blank and its node.
+/// Appends these counts, which are those of the nodes from this one on, each after a blank and its node.
 fn write_pairs(node: u8, counts: &[u32], out: &mut String) -> Result<(), NoMemory>
     requires { (1 ≤ node) × (node + length counts.now ≤ 9) }
     ensures { OnOk result (string_bytes out.new ≡ string_bytes out.old
@@ -36,7 +36,7 @@ fn write_pairs(node: u8, counts: &[u32], out: &mut String) -> Result<(), NoMemor
     write_pairs(node + 1, behind, out)
 }
 
-/// Appends dependencies, each behind a blank.
+/// Appends dependencies, each after a blank.
 fn write_deps(deps: &Deps, out: &mut String) -> Result<(), NoMemory>
     ensures { OnOk result (string_bytes out.new ≡ string_bytes out.old
         ++ flat_map (λ pair. 32 ∷ pair_text pair) (pairs_of deps.now)) }

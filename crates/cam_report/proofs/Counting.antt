@@ -8,7 +8,7 @@ use Rattle.cam_event.specs.declared.LetterId.{LetterId}
 use Rattle.cam_event.specs.declared.Event.{Event}
 use Rattle.cam_report.specs.Traces.{sent_before, letter_number}
 
--- a letter of the newest event comes behind those of all events before
+-- a letter of the newest event comes after those of all events before
 newest : (e : Event) (t : List Event) → sent_before (e ∷ t) (length (e ∷ t)) ≡ sent_before t (length (e ∷ t)) + length e.sent
 newest e t =
     ap (λ b. if b then sent_before t (length (e ∷ t)) + length e.sent else sent_before t (length (e ∷ t))) (lt-ltb (length t) (length (e ∷ t)) (omega arith))

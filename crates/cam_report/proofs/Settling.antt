@@ -53,6 +53,6 @@ values_more objects L labels i label h e =
     ∙ values_last objects L 0 (take i labels) label
     ∙ ap (λ n. values_from objects L 0 (take i labels) ++ value_text label (settled objects L n)) count
 
--- texts one behind the other
+-- texts one after the other
 pub joined : (a b c d first second third whole : List ℕ) → first ≡ a → second ≡ first ++ b → third ≡ second ++ c → whole ≡ third ++ d → whole ≡ a ++ b ++ c ++ d
 joined a b c d first second third whole e f g h = h ∙ ap (λ t. t ++ d) (g ∙ ap (λ t. t ++ c) (f ∙ ap (λ t. t ++ b) e))

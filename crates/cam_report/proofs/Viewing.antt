@@ -17,7 +17,7 @@ use Rattle.cam_report.specs.Gathered.{child_step, committed_step, step_gained, s
 use Rattle.cam_names.proofs.Names.{name_ties}
 use Rattle.cam_names.proofs.Children.{is_some_name, child_of}
 
--- a view taken out, and put back with a step behind it
+-- a view taken out, and put back with a step after it
 pub view_put : (old gone new : BTreeMap Name (List ViewStep)) (b : Name) (step : ViewStep)
     → ((q : Name) → get name_cmp gone q ≡ cond (is_eq (name_cmp b q)) None (get name_cmp old q))
     → ((q : Name) → get name_cmp new q ≡ cond (is_eq (name_cmp b q)) (Some (view_in old b ++ step ∷ [])) (get name_cmp gone q))

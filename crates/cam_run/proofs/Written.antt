@@ -7,7 +7,7 @@ use Rattle.cam_run.specs.Status.{number}
 use Rattle.cam_run.specs.Told.{IsTelling, MayAnswer}
 use Rattle.cam_run.specs.Answer.{Failing, IsAnswer, IsWritten}
 
--- a status that is answered is neither that of a sink that failed nor that of want of memory
+-- a status that is answered is neither that of a sink that failed nor that of running out of memory
 abbrev pub IsOwn : ℕ → Type 0
 IsOwn n = (n ≡ 5 → ⊥) × (n ≡ 7 → ⊥)
 

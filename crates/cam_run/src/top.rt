@@ -93,8 +93,9 @@ pub fn camelot<S: Source, K: Sink, D: TellingDisk, R: DataType, Q: DataType, C: 
         → (result ≡ 0) ⊎ ((result ≡ 5) ⊎ ((result ≡ 6) ⊎ (result ≡ 7))) }
 
     // Of every script that is accepted: the run that is told of is the one run of the step rules; each action in it, orphan or not, has
-    // its view in a legal execution in which it is no orphan; committed top actions replay serially in commit order; no two nodes
-    // hold different outcomes; and a log that keeps a node's history gives what the node keeps over a restart.
+    // its view in a legal execution in which it is no orphan; committed top actions replay serially in commit order, in a list that
+    // has each answer of an action that has committed with all its ancestors; no two nodes hold different outcomes; and a log that keeps
+    // a node's history gives what the node keeps over a restart.
     ensures headline { (input : List ℕ) → IfOk (read_script input) HasOneRun }
     // So the disks of its nodes: whatever a crash now leaves of one is a log; what may be recovered of a node that is not halted at the
     // end is what the node kept, and of one that is halted it is that, or what the node would have kept with the event at which it halted.

@@ -27,7 +27,7 @@ committed_put L b old new before put a = put a ∙ (λ i. cond (name_ties_back a
     cond_or true y = refl
     cond_or false y = refl
 
--- a group taken out, and put back with an operation behind it
+-- a group taken out, and put back with an operation after it
 pub group_put : (old gone new : BTreeMap Name (List Operation)) (b : Name) (o : Operation)
     → ((q : Name) → get name_cmp gone q ≡ cond (is_eq (name_cmp b q)) None (get name_cmp old q))
     → ((q : Name) → get name_cmp new q ≡ cond (is_eq (name_cmp b q)) (Some (group_in old b ++ o ∷ [])) (get name_cmp gone q))

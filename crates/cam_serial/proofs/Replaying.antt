@@ -68,7 +68,7 @@ committed_visible objects L legal = every_any (Chosen objects L (λ o. all_commi
       | inr n ↦ informed_committed objects L (site_of objects o.object) u legal (free u above n)
     ])
 
--- the groups of the committed families, one behind another, replay
+-- the groups of the committed families, one after another, replay
 committed_from : (objects : List ObjectDecl) (L : List Deed) → Legal objects L → ReplaysFrom (start_of objects) (serial_committed objects L)
 committed_from objects L legal =
     subst (ReplaysFrom (start_of objects)) groups
@@ -82,7 +82,7 @@ committed_from objects L legal =
         (λ f. filter_filter (in_family f) (λ o. all_committed L o.action) (live objects L)
         ∙ filter_same (λ o. all_committed L o.action && in_family f o) (λ o. in_family f o && all_committed L o.action) (live objects L) (λ o. and_comm (all_committed L o.action) (in_family f o))))
 
--- Committed top actions replay, one behind another in order of their Commits.
+-- Committed top actions replay, one after another in order of their Commits.
 pub committed_replays : (objects : List ObjectDecl) (L : List Deed) → Legal objects L → Replays objects (serial_committed objects L)
 committed_replays objects L legal = replays_after objects (serial_committed objects L) [] (committed_from objects L legal)
 
@@ -117,7 +117,7 @@ seen_visible objects L a legal = every_any (Chosen objects L (may_see L a)) (liv
       | inr own ↦ let parts = and_parts (in_family (family a) p) (committed_up_to L a p.action) own in of_own o p free parts.0 parts.1
     ]
 
--- behind the committed families an action's own, as far as it may see it
+-- after the committed families an action's own, as far as it may see it
 seen_from : (objects : List ObjectDecl) (L : List Deed) (a : Name) → Legal objects L → committed L (family a) ≡ false → ReplaysFrom (start_of objects) (serial_committed objects L ++ seen_by objects L a)
 seen_from objects L a legal open_one =
     subst (ReplaysFrom (start_of objects)) groups

@@ -73,7 +73,7 @@ second_answer objects st o p kinds h =
       | inr other ↦ rw other refl
     ]
 
--- the first of them answers the same behind the second
+-- the first of them answers the same after the second
 pub first_answer : (objects : List ObjectDecl) (st : ℕ → State) (o p : Operation) → OfKind objects st → Swaps objects o p → answer_of (step st p o.object) o.op ≡ answer_of (st o.object) o.op
 first_answer objects st o p kinds h =
     elim (cases_Bool (eqb p.object o.object)) [
@@ -83,13 +83,13 @@ first_answer objects st o p kinds h =
       | inr other ↦ rw other refl
     ]
 
--- an operation that may change places with each of a list comes behind it
+-- an operation that may change places with each of a list comes after it
 pub past : (objects : List ObjectDecl) (os : List Operation) (st : ℕ → State) (o : Operation) → OfKind objects st → Every (Swaps objects o) os → run (step st o) os ≡ step (run st os) o
 past objects [] st o kinds h = refl
 past objects (p ∷ os) st o kinds h =
     ap (λ (s : ℕ → State). run s os) (swap objects st o p kinds h.0) ∙ past objects os (step st p) o (step_kind objects st p kinds) h.1
 
--- a list goes on replaying when its first operation is moved behind operations with which it may change places
+-- a list goes on replaying when its first operation is moved after operations with which it may change places
 pub move : (objects : List ObjectDecl) (os ps : List Operation) (st : ℕ → State) (o : Operation) → OfKind objects st → Every (Swaps objects o) os → ReplaysFrom st (o ∷ os ++ ps) → ReplaysFrom st (os ++ o ∷ ps)
 move objects [] ps st o kinds h r = r
 move objects (p ∷ os) ps st o kinds h r = (

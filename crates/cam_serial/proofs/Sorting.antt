@@ -1,4 +1,4 @@
--- A list that replays goes on replaying when its operations are put in groups by family, one group behind another.
+-- A list that replays goes on replaying when its operations are put in groups by family, one group after another.
 use Rattle.std.proofs.Common.{◌≡◌, inl, inr, Bool, true, false, ◌&&◌, List, [], ◌∷◌, Some, None, refl, sym, ◌∙◌, subst, ℕ, not, ◌++◌, filter, Option, slice_get}
 use Rattle.std.proofs.lemmas.Bool.{cases_Bool, true≢false, not-true}
 use Rattle.std.specs.List.{flat_map}

@@ -141,7 +141,7 @@ perform_answers objects L choice a n answer call legal called visible shown =
     (every_both (Fits objects) (Chosen objects L choice) (live objects L) (fits objects L legal.1) visible)
     (perform_apart objects L a n answer call legal called)))
 
--- what a deed adds goes on replaying behind the chosen ones before it
+-- what a deed adds goes on replaying after the chosen ones before it
 added_replays : (objects : List ObjectDecl) (L : List Deed) (d : Deed) (choice : Operation → Bool) → Legal objects (d ∷ L) → IsVisible objects L (before_deed objects L d choice) → ReplaysFrom (start_of objects) (filter (before_deed objects L d choice) (live objects L)) → ReplaysFrom (start_of objects) (filter (before_deed objects L d choice) (live objects L) ++ filter choice (added objects L d))
 added_replays objects L (Perform a n answer) choice legal visible r =
     by (call_of L a n) refl

@@ -31,7 +31,7 @@ group_in groups f = unwrap_or (get name_cmp groups f) []
 abbrev pub TellsGroups : BTreeSet Name → List Operation → BTreeMap Name (List Operation) → Type 0
 TellsGroups names os groups = (f : Name) → group_in groups f ≡ filter (λ o. name_eq f (family o.action) && is_seen names None o.action) os
 
--- the groups of the committed top actions, one behind another
+-- the groups of the committed top actions, one after another
 abbrev pub joined : BTreeMap Name (List Operation) → List Deed → List Operation
 joined groups L = flat_map (group_in groups) (committed_tops L)
 

@@ -1,8 +1,8 @@
-//! The serial law: nested transactions look as if they had run one behind another.
+//! The serial law: nested transactions look as if they had run one after another.
 //!
 //! The serial list of a history has the operations that committed up to the top, those of one top
-//! action behind those of another, in order of their Commits ([`serial`] with no name). For an action
-//! whose top action has not committed, what the action may see of its own family comes behind
+//! action after those of another, in order of their Commits ([`serial`] with no name). For an action
+//! whose top action has not committed, what the action may see of its own family comes last
 //! (`Serial`). A list replays where applying its operations from the start states gives just its
 //! answers, which [`replays`] tells.
 //!
@@ -14,7 +14,7 @@
 //! the kind of its object. How it goes stands in `docs/SERIAL-LAW.md`.
 //!
 //! Both calls make a few passes over their list, with tables in order of names and objects, so with n
-//! deeds they take about n times the logarithm of n. Taking from a queue costs what stands behind.
+//! deeds they take about n times the logarithm of n. Taking from a queue costs what is after it.
 //!
 //! Stands on `cam_live` (live operations), `cam_plain` (legal lists and their laws), `cam_cut` (when
 //! an action gains nothing more), `cam_event`, `cam_type`, `cam_know`, `cam_names` and `cam_base`.
@@ -30,5 +30,5 @@ use cam_event::Operation;
 pub use list::serial;
 pub use replay::replays;
 
-/// Operations of committed actions, those of one top action behind those of another.
+/// Operations of committed actions, those of one top action after those of another.
 pub type SerialList = Sequence<Operation>;

@@ -49,7 +49,7 @@ fn letter_of(alloc: Global, body: Body) -> Letter
     }
 }
 
-/// These bytes, one part behind another.
+/// These bytes, one part after another.
 fn join(alloc: Global, parts: &[&[u8]]) -> Result<Vec<u8>, NoMemory> {
     let mut bytes = Vec::new(alloc);
     for part in parts {

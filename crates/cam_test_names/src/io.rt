@@ -51,7 +51,7 @@ fn each_read_may_fail(rt: HostRuntime) -> Result<(), Fail> {
     Ok(())
 }
 
-/// A sink that fails at one of its calls takes those before and those behind.
+/// A sink that fails at one of its calls takes those before and those after.
 #[test]
 fn each_write_may_fail(rt: HostRuntime) -> Result<(), Fail> {
     let alloc = rt.alloc();

@@ -16,7 +16,7 @@ use std::fmt::Write;
 use std::test::Fail;
 use words::event_text;
 
-// A table has the lines of a script. Behind the bar of a line stands what it comes to: its event, or the mark of its refusal. An event
+// A table has the lines of a script. After the bar of a line stands what it comes to: its event, or the mark of its refusal. An event
 // is told by its node, the number of the letter that it got (0 for none), its note, its deeds, and the letters that it sent.
 
 /// A write, and a read of another action that bounces off it. The holder may read. A second call while one is open is refused.

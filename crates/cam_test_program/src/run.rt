@@ -149,7 +149,7 @@ fn words_that_are_no_form(rt: HostRuntime) -> Result<(), Fail> {
     Ok(())
 }
 
-/// Each read fails in turn: of the script, and of the end behind it.
+/// Each read fails in turn: of the script, and of the end after it.
 #[test]
 fn a_source_that_fails(rt: HostRuntime) -> Result<(), Fail> {
     let alloc = rt.alloc();

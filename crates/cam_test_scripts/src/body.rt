@@ -86,7 +86,7 @@ fn body(rt: &HostRuntime, statements: &[Statement]) -> Result<BodyText, Fail> {
     Ok(body)
 }
 
-/// The first step of a view behind which the action does not do what stands beside the step.
+/// The first step of a view after which the action does not do what stands beside the step.
 fn first_wrong(
     rt: &HostRuntime,
     body: &BodyText,

@@ -11,7 +11,7 @@ fn first_draw_from_seven(rt: HostRuntime) {
     assert_eq!(rt; first, 2_118_330_556);
 }
 
-/// The first step from seed 7, behind the five declarations.
+/// The first step from seed 7, after the five declarations.
 #[test]
 fn first_step_from_seven(rt: HostRuntime) -> Result<(), Fail> {
     let script = script_of(rt.alloc(), 7, 100)?;

@@ -53,7 +53,7 @@ same_end objects (suc n) (suc m) r few more =
         (omega (arith, less, more))
         ∙ sym (ap (λ o. deliveries (by_time objects) m (deliver_waiting (by_time objects) r o)) at)
 
--- A drain goes on behind the delivery of the letter that waits,
+-- A drain goes on after the delivery of the letter that waits,
 pub drain_on : (objects : List ObjectDecl) (r : TimedRunning) (k : ℕ) (letter : LetterId)
     → waiting r ≡ Some (k, letter)
     → drain (by_time objects) r ≡ drain (by_time objects) (deliver (by_time objects) r k letter)

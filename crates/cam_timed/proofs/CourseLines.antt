@@ -141,7 +141,7 @@ module _ (objects : List ObjectDecl) (r : TimedRunning) (c : Course)
       (timed_next objects (run_of c.machine) (Puts (Queries node g) 0) ∷ run_of c.machine) machine)
       is put)))
 
--- what stands behind a line that is refused
+-- what stands after a line that is refused
 pub refused_line : (objects : List ObjectDecl) (r : TimedRunning) (line : ℕ) (taken : TimedTaken)
     (c : Course) (refusal : TimedRefusal) (left : List TimedMark) (bound : List (Option Name))
     → IsTaken objects r taken c (takens.Refused refusal)
@@ -158,7 +158,7 @@ refused_line objects r line (Refused refusal) c given left bound taken more one 
     }
 refused_line objects r line (Led running binds) c given left bound taken more one = absurd taken
 
--- and behind one that has led on
+-- and after one that has led on
 pub led_line : (objects : List ObjectDecl) (r : TimedRunning) (line : ℕ) (taken : TimedTaken)
     (c : Course) (binds : Option Name) (bound : List (Option Name))
     → IsTaken objects r taken c (takens.Led binds) → bound ≡ c.bound ++ binds ∷ []

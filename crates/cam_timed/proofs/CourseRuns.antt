@@ -91,7 +91,7 @@ bound_next steps at step bound binds here size new old v a begins h =
           a last.1
     ]
 
--- what the variables stand for behind a line
+-- what the variables stand for after a line
 tops_next : (objects : List ObjectDecl) (steps : List TimedStep) (at : ℕ) (step : TimedStep)
     (r : TimedRunning) (taken : TimedTaken) → slice_get steps at ≡ Some step
     → length r.bound ≡ at → Bound steps r.bound → IsLed objects r step.act taken

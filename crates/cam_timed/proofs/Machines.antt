@@ -1,4 +1,4 @@
--- The machine keeps the run by time behind a turn.
+-- The machine keeps the run by time after a turn.
 use Rattle.std.proofs.Common.{◌≡◌, ◌⊎◌, ◌<◌, ◌≤◌, ◌+◌, ◌-◌, get_or, inl, inr, ℕ, zero, suc, eqb, true, false, is_some, List, [], ◌∷◌, length, set, Option, Some, refl, sym, ap, ◌∙◌, subst, arith}
 use Rattle.std.specs.Prelude.{slice_get, option_map}
 use Rattle.std.specs.List.{AllByRecursion}
@@ -41,7 +41,7 @@ off_set xs i k v other = elim (leb_tells (length xs) k) [
 abbrev pub KeepsEach : List ObjectDecl → List TimedEvent → List Node → Type 0
 KeepsEach objects T nodes = (place : ℕ) (node : Node) → slice_get nodes place ≡ Some node → KeepsNode objects T (place + 1) node
 
--- so behind an event of one of them
+-- so after an event of one of them
 pub nodes_after : (objects : List ObjectDecl) (T : List TimedEvent) (e : TimedEvent) (place : ℕ) (nodes : List Node) (new : Node) → place < length nodes → e.event.node ≡ place + 1
     → KeepsNode objects (e ∷ T) (place + 1) new → KeepsEach objects T nodes → KeepsEach objects (e ∷ T) (set nodes place new)
 nodes_after objects T e place nodes new less mine keeps each k node at = by (eqb_tells k place)

@@ -94,7 +94,7 @@ pub untils_taken : (T : List TimedEvent) (e : TimedEvent) (old new : BTreeMap Na
     → ((a : Name) → until_in new a ≡ (if list_any (names_first a) e.event.deeds then e.until else until_in old a)) → TellsUntils (e ∷ T) new
 untils_taken T e old new tells more a = more a ∙ ap (λ (n : ℕ). if list_any (names_first a) e.event.deeds then e.until else n) (tells a)
 
--- One more deed of a list stands behind those before it.
+-- One more deed of a list stands after those before it.
 pub one_more : (L ds : List Deed) (i : ℕ) (d : Deed) → i < length ds → d ≡ get_or ds i d → after L (take (i + 1) ds) ≡ d ∷ after L (take i ds)
 one_more L ds i d less at =
     ap (after L) (take_more ds i d less ∙ ap (λ (x : Deed). take i ds ++ x ∷ []) (sym at)) ∙ after_append L (take i ds) (d ∷ [])

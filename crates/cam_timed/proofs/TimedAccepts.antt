@@ -148,7 +148,7 @@ pub gives_script : (lines : List (List ℕ)) (result : Result TimedScript Script
 gives_script lines (Ok script) e = subst (Holds IsTimedScript) e (lines_stand lines timed_nothing 1 timed_nothing_stands)
 gives_script lines (Err fault) e = tt
 
--- Behind a line that was read the lines go on with what stands there.
+-- After a line that was read the lines go on with what stands there.
 pub goes_on : (d next : TimedSoFar) (number : ℕ) (line : List ℕ) (lines : List (List ℕ)) → read_timed_line d number line ≡ Ok next → read_timed_lines d number (line ∷ lines) ≡ read_timed_lines next (number + 1) lines
 goes_on d next number line lines e = ap (λ r. r >>= λ n. read_timed_lines n (number + 1) lines) e
 

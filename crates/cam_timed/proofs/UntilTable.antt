@@ -1,4 +1,4 @@
--- What the table of quiesce moments has behind one more deed, and behind one more event.
+-- What the table of quiesce moments has after one more deed, and after one more event.
 use Rattle.std.proofs.Common.{◌≡◌, ℕ, ◌+◌, ◌<◌, Bool, true, false, ◌||◌, cond, if◌then◌else◌, List, [], ◌∷◌, ◌++◌, length, take, get_or, Option, Some, unwrap_or, refl, sym, ap, ◌∙◌}
 use Rattle.std.specs.List.{list_any}
 use Rattle.std.specs.Ordering.{is_eq}
@@ -42,7 +42,7 @@ named_more a ds i d below at =
     one true = refl
     one false = refl
 
--- the table behind one deed more
+-- the table after one deed more
 pub until_more : (a : Name) (ds : List Deed) (i : ℕ) (d : Deed) (until old was now : ℕ) → i < length ds → d ≡ get_or ds i d
     → was ≡ (if list_any (names_first a) (take i ds) then until else old) → now ≡ (if names_first a d then until else was)
     → now ≡ (if list_any (names_first a) (take (i + 1) ds) then until else old)

@@ -28,7 +28,7 @@ own_until [] i = []
 own_until (e ∷ before) i =
     if eqb i (length before) then own_deeds (entries (e ∷ before) e.node) else own_until before i
 
--- what a node knows at an event, behind the first Informs
+-- what a node knows at an event, after the first Informs
 pub record KnowsWhatItHolds (objects : List ObjectDecl) (t : List Event) (s : ℕ)
     (got : Option LetterId) (a : Name) : Type 0 where
   pub commits :

@@ -42,7 +42,7 @@ timed_forms =
 abbrev pub timed_nothing : TimedSoFar
 timed_nothing = record { declared = nothing; steps = [] }
 
--- Behind a step stand steps; before the first one a line stands as without time.
+-- After a step stand steps; before the first one a line stands as without time.
 abbrev pub behind : Section → List TimedStep → Section
 behind section [] = section
 behind section (step ∷ steps) = sections.AtSteps
@@ -141,7 +141,7 @@ with_declarations steps script = Ok (record { script = script; steps = steps })
 abbrev pub read_timed_end : TimedSoFar → ℕ → Result TimedScript ScriptFault
 read_timed_end d number = read_end d.declared number >>= with_declarations d.steps
 
--- the script of these lines, the first of which has this number, behind what was read so far
+-- the script of these lines, the first of which has this number, after what was read so far
 abbrev pub read_timed_lines : TimedSoFar → ℕ → List (List ℕ) → Result TimedScript ScriptFault
 read_timed_lines d number [] = read_timed_end d number
 read_timed_lines d number (line ∷ lines) =

@@ -1,4 +1,4 @@
--- The lines of a script by time that are not read as without time. Each is read behind its first word.
+-- The lines of a script by time that are not read as without time. Each is read after its first word.
 -- A line that binds a variable gives the word of its name too.
 use Rattle.std.specs.Prelude.{ℕ, List, Option, Some, None, Result, Ok}
 use Rattle.cam_words.specs.declared.fault.ScriptFault.{ScriptFault}
@@ -18,7 +18,7 @@ use Rattle.cam_timed.specs.declared.TimedAct.TheVariants as acts
 use Rattle.cam_timed.specs.declared.forms.TimedForm.{TimedForm}
 use Rattle.cam_timed.specs.declared.forms.TimedForm.TheVariants as forms
 
--- a moment, 1 to 1,000,000,000, and the place behind it
+-- a moment, 1 to 1,000,000,000, and the place after it
 abbrev pub moment_word : ℕ → ℕ → List ℕ → Result (ℕ × ℕ) ScriptFault
 moment_word number at line = number_at 1 1000000000 number at line
 

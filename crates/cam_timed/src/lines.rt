@@ -13,7 +13,7 @@ use cam_words::{Cause, Line, ScriptFault, Word};
 /// The last moment that a script names.
 const LAST_MOMENT: u32 = 1_000_000_000;
 
-/// A moment, and the place behind it.
+/// A moment, and the place after it.
 fn moment_word(line: &Line, at: usize) -> Result<(u64, usize), ScriptFault>
     requires { at ≤ length line.now.bytes.now }
     ensures value { result ≡ moment_word line.now.number at line.now.bytes.now }

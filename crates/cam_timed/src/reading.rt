@@ -122,7 +122,7 @@ impl TimedSoFar {
         self.read_form(form, line, first.end)
     }
 
-    /// Reads a line of this form, behind its first word.
+    /// Reads a line of this form, after its first word.
     fn read_form(&mut self, form: TimedForm, line: &Line, at: usize) -> Result<(), ScriptFault>
         requires within { IsWithin self.old.declared }
         requires outside { self.old.declared.writing ≡ None }

@@ -149,8 +149,8 @@ impl NumberedEvents {
         push_event(&mut self.events, event);
     }
 
-    /// Puts an event that sent no letter in at a place, where there is room for two; a place behind all events is the last. Letters
-    /// that events behind it sent are named by their new numbers.
+    /// Puts an event that sent no letter in at a place, where there is room for two; a place after all events is the last. Letters
+    /// that events after it sent are named by their new numbers.
     pub(crate) fn insert(&mut self, place: usize, event: Event)
         requires room { (vec_len self.old.events + 1 < vec_capacity self.old.events)
             × (vec_len self.old.counts + 1 < vec_capacity self.old.counts) }

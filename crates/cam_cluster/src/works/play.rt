@@ -63,7 +63,7 @@ impl<L: TellingLog> Works<L> {
     }
 
     /// One round, and whether an input was put in it: each makes an event, or leaves the mark of a halt. Where memory runs out, the
-    /// first actions had their turns, and some letters were handed over behind them.
+    /// first actions had their turns, and some letters were handed over after them.
     #[tactic(none)]
     fn play_round<R: DataType, Q: DataType, C: DataType>(
         &mut self,

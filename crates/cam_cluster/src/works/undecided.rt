@@ -14,7 +14,7 @@ pub(crate) struct OpenHalt {
     pub(crate) got: Option<LetterId>,
 }
 
-/// A letter, where an event was put in at a place: the events behind it have numbers greater by one.
+/// A letter, where an event was put in at a place: the events after it have numbers greater by one.
 pub(super) fn renumbered(place: usize, got: Option<LetterId>) -> Option<LetterId>
     ensures { result ≡ option_map (renumbered place) got }
 {
@@ -52,7 +52,7 @@ pub(super) fn newest_of(halts: &[OpenHalt], node: u8) -> Option<OpenHalt>
     None
 }
 
-/// A halt behind an event that was put in at a place.
+/// A halt after an event that was put in at a place.
 fn behind(halt: OpenHalt, place: usize) -> OpenHalt
     ensures { result ≡ behind_event place halt }
 {
@@ -63,7 +63,7 @@ fn behind(halt: OpenHalt, place: usize) -> OpenHalt
     }
 }
 
-/// Takes out the newest halt of a node, whose event was put in at a place. The newer ones are behind it.
+/// Takes out the newest halt of a node, whose event was put in at a place. The newer ones are after it.
 pub(super) fn take_found(halts: &mut Vec<OpenHalt>, node: u8, place: usize)
     ensures { halts.new.items ≡ open_beside node place halts.old.items }
 {

@@ -171,7 +171,7 @@ const REFUSED: Row = Row {
 /// The image of a log with one entry, a Count of 2.
 const IMAGE: &str = "CAMELOT\n\x01\0\0\0\0\0\0\0\x05\x01\0\0\0\x02\0";
 
-/// The same in version 2, with an entry of a Version behind it.
+/// The same in version 2, with an entry of a Version after it.
 const IMAGE_2: &str =
     "CAMELOT\n\x01\0\0\0\0\0\0\0\x05\x01\0\0\0\x02\x01\0\0\0\0\0\0\0\x02\x06\x02\0";
 
@@ -229,7 +229,7 @@ const UPGRADED: Row = Row {
     text: IMAGE_2,
 };
 
-/// What stands behind the closed gate is left out.
+/// What stands after the closed gate is left out.
 const UPGRADED_AGAIN: Row = Row {
     command: "upgrade",
     input: "CAMELOT\n\x01\0\0\0\0\0\0\0\x02\x06\x02\x07behind",

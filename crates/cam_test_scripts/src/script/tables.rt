@@ -1,4 +1,4 @@
-//! Scripts in rows, each behind its first fault.
+//! Scripts in rows, each after its first fault.
 
 /// Two nodes, a register and a queue, on three lines.
 pub const OBJECTS: &str = "nodes 2\nobject x 1 register 0\nobject q 2 queue\n";
@@ -20,7 +20,7 @@ ask A B 2
 start S 1 b
 ";
 
-/// Whole scripts behind their first fault: line, column and cause, 0 0 0 where there is none. `/` ends a line.
+/// Whole scripts after their first fault: line, column and cause, 0 0 0 where there is none. `/` ends a line.
 ///
 /// A byte that is not allowed stands before the words of its line, and its column is its place. A CR is a byte of its word, unless it
 /// stands alone just before an LF. The line after the last is one more than there are.
@@ -200,7 +200,7 @@ pub const BEHIND_STARTED: &str = "11 1 10|object y 1 queue/
 /// Whole scripts at the limits. `;` stands between pieces, and `64*` says how often a
 /// piece stands; there `@` is its number among its like from 1, `^` one less.
 ///
-/// The last `commit` or `abort` is one of the 32 statements, and behind it a statement stands where it may not. A body of cost 50 is asked
+/// The last `commit` or `abort` is one of the 32 statements, and after it a statement stands where it may not. A body of cost 50 is asked
 /// for nine times by one of cost 511, so its start is 512 steps. What the fourth word names counts before the faults of the words between.
 pub const LIMITS: &str = "0 0 0|nodes 1/;64*object x@ 1 queue/
 66 1 12|nodes 1/;65*object x@ 1 queue/
@@ -227,7 +227,7 @@ pub const LIMITS: &str = "0 0 0|nodes 1/;64*object x@ 1 queue/
 0 0 0|nodes 1/;262136*/
 1 1 1|nodes 9/;262137*/";
 
-/// A second body and steps behind `DECLARED`: each statement and each step once.
+/// A second body and steps after `DECLARED`: each statement and each step once.
 pub const FORMS: &str = "# a second body\r
 
  \t

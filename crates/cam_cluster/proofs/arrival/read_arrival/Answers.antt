@@ -10,7 +10,7 @@ use Rattle.cam_cluster.specs.declared.arrival.Arrival.TheVariants.{Cut}
 use Rattle.cam_cluster.specs.Arrivals.{GivesWhole, GivesFault}
 use Rattle.cam_cluster.proofs.arrival.read_arrival.Goals as goal
 
--- what holds of a letter that was cut, and not of want of memory
+-- what holds of a letter that was cut, and not of running out of memory
 of_cut : (P : Arrival → Type 0) (fault : WireFault) (result : Result Arrival NoMemory)
     → IfOk result (λ a. (a ≡ Cut fault) × (fault ≡ OutOfMemory → ⊥))
     → ((fault ≡ OutOfMemory → ⊥) → P (Cut fault)) → IfOk result P

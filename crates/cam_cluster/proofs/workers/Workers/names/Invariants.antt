@@ -1,4 +1,4 @@
--- The names so far, and those behind them.
+-- The names so far, and those after them.
 use Rattle.std.proofs.Common.{◌≡◌, ◌++◌}
 use Rattle.cam_cluster.proofs.workers.Workers.names.Given as goal
 

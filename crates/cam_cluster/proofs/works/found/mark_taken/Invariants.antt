@@ -1,4 +1,4 @@
--- No mark behind the place is of a halt of the node.
+-- No mark after the place is of a halt of the node.
 use Rattle.std.proofs.Common.{◌≡◌, ◌≤◌, false, drop, length}
 use Rattle.std.specs.List.{list_any}
 use Rattle.cam_histories.specs.Found.{is_halt_of}

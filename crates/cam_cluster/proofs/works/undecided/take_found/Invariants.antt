@@ -1,4 +1,4 @@
--- The halts before the place stand behind the event.
+-- The halts before the place stand after the event.
 use Rattle.std.proofs.Common.{◌≡◌, ◌++◌, drop, take, length}
 use Rattle.cam_cluster.specs.OpenHalts.{open_beside}
 use Rattle.cam_cluster.proofs.works.undecided.take_found.Given as goal
