@@ -51,7 +51,7 @@ pub record IsAdded {T E : Type 0} (old : Kept) (o : LiveOp) (answer : Result T E
   pub err_next : OnErr answer (new.live.next ≡ old.live.next)
 
 -- What a grant means. Where someone stands in the way it names him and changes nothing. Else the operation was added, and answered at the
--- value that it meets, and the server holds the state behind it. Where memory ran out the live operations are as before.
+-- value that it meets, and the server holds the state after it. Where memory ran out the live operations are as before.
 pub record IsGranted {E : Type 0} (old : Kept) (o : LiveOp) (held : State) (answer : Result Grant E)
     (new : Kept) (after : State) : Type 0 where
   pub kept : IsKept new

@@ -5,7 +5,7 @@ use Rattle.cam_type.specs.Table.{kind_of}
 use Rattle.cam_locks.specs.declared.versions.Version.{Version}
 use Rattle.cam_locks.specs.Members.{In}
 
--- the states behind writes are of the kind
+-- the states after writes are of the kind
 abbrev pub AreOfKind : Kind → List Version → Type 0
 AreOfKind k versions = (v : Version) → In v versions → kind_of v.state ≡ k
 

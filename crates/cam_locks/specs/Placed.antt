@@ -25,7 +25,7 @@ is_before p q = is_lt (placed_cmp p q)
 abbrev pub placed_of : LiveOp → Placed
 placed_of o = record { name = o.action; index = o.index }
 
--- the place right behind it
+-- the place right after it
 abbrev pub behind : LiveOp → Placed
 behind o = record { name = o.action; index = o.index + 1 }
 

@@ -1,4 +1,4 @@
--- What a server holds behind an operation that was asked of it.
+-- What a server holds after an operation that was asked of it.
 use Rattle.std.specs.Prelude.{◌≡◌, ℕ, List}
 use Rattle.cam_names.specs.declared.name.Name.{Name}
 use Rattle.cam_type.specs.declared.State.{State}
@@ -14,7 +14,7 @@ use Rattle.cam_locks.specs.Changes.{met, LastIsLive, Tidied, by_holder}
 abbrev pub served : Site → Name → ℕ → Op → State → State
 served site a x op held = by_holder (holder site a x op) held (state_after (value site x) op)
 
--- The state is that behind an operation: what need not be kept was left out, and then it was done.
+-- The state is that after an operation: what need not be kept was left out, and then it was done.
 pub record IsServed (committed : List Name) (live : List LiveOp) (o : LiveOp) (state : State)
     (old : LocksView) : Type 0 where
   pub before : LocksView

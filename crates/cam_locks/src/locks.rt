@@ -152,7 +152,7 @@ impl Locks {
         }
     }
 
-    /// The state behind the last live write that is past the top; else the start state.
+    /// The state after the last live write that is past the top; else the start state.
     pub(crate) fn settled(&self, live: &Live, committed: &Names) -> Result<State, NoMemory>
         ensures { IfOk result (λ state. state ≡ state_of self.now.start
             (last_settled committed.now.names live.now.ops self.now.versions)) }

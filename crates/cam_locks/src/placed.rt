@@ -29,7 +29,7 @@ impl Placed {
         }
     }
 
-    /// The place right behind an operation.
+    /// The place right after an operation.
     pub(crate) fn behind(operation: &LiveOp) -> Placed
         requires { operation.now.index ≤ 999999999 }
         ensures { result ≡ behind operation.now }

@@ -139,7 +139,7 @@ fn next_over(ops: &[HeldOp], first: u32) -> u32
     next
 }
 
-/// The index behind that of an operation.
+/// The index after that of an operation.
 fn after(op: &HeldOp) -> u32
     requires { op.now.index ≤ 999999999 }
     ensures value { result ≡ op.now.index + 1 }

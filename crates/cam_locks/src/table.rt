@@ -61,7 +61,7 @@ impl LockTable {
     }
 
     /// Does an operation of an action on an object, unless a live operation conflicts: then the lift of the first one is named, and
-    /// nothing changes. The handed-in server does it, at the value that it is given to hold, and holds the state behind it then; a
+    /// nothing changes. The handed-in server does it, at the value that it is given to hold, and holds the state after it then; a
     /// server that wants memory leaves the table as it was. It wants a server of the object's kind ([`LockTable::kind`]),
     /// what [`LockTable::takes`] accepts, and a next index of at most 999,999,999. The rule stands in `specs/Moss.antt`: Moss,
     /// *Nested Transactions*, 1985.

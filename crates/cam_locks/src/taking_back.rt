@@ -1,5 +1,5 @@
 //! The operation that was done last is taken back, as if it had not been done: for a step that
-//! finds no memory behind it.
+//! finds no memory after it.
 ghost use Rattle.std.specs.Prelude.{◌≡◌, ◌+◌, filter, IfSome, IfNone};
 ghost use Rattle.cam_locks.specs.declared.LiveOp.{LiveOp as LiveOpValue};
 ghost use Rattle.cam_locks.specs.Members.{In};

@@ -1,4 +1,4 @@
-//! The versions of one object: of each holder of a write lock the state behind its last write, in order.
+//! The versions of one object: of each holder of a write lock the state after its last write, in order.
 ghost use Rattle.std.specs.Prelude.{◌≡◌, true, [], ◌∷◌, ◌++◌, slice_get, option_and_then, IfOk, OnOk, OnErr, ◌≤◌, ◌<◌, vec_len};
 ghost use Rattle.std.specs.Vec.{vec_capacity};
 ghost use Rattle.cam_type.specs.declared.State.{State as StateValue};
@@ -16,7 +16,7 @@ use crate::names::Names;
 use cam_base::NoMemory;
 use cam_type::{Answer, DataType, Op, State};
 
-/// The state of an object behind a write.
+/// The state of an object after a write.
 #[derive(Drop)]
 pub(crate) struct Version {
     pub(crate) last: LiveOp,
@@ -68,7 +68,7 @@ fn last_settled(versions: &[Version], live: &Live, committed: &Names) -> Option<
     None
 }
 
-/// The state behind the last live write that is past the top, or else the start state.
+/// The state after the last live write that is past the top, or else the start state.
 pub(crate) fn settled(
     versions: &[Version],
     live: &Live,
@@ -145,7 +145,7 @@ pub(crate) fn serve<T: DataType>(
     server.apply(op)
 }
 
-/// Has a server do a write, and keeps the state behind it. Where memory is wanting the versions are as before.
+/// Has a server do a write, and keeps the state after it. Where memory is wanting the versions are as before.
 pub(crate) fn write<T: DataType>(
     versions: &mut Vec<Version>,
     start: &State,
@@ -175,7 +175,7 @@ pub(crate) fn write<T: DataType>(
     Ok(answer)
 }
 
-/// Keeps the state behind a write: in the place of the last version where that is its holder's, and else behind it.
+/// Keeps the state after a write: in the place of the last version where that is its holder's, and else after it.
 fn put(versions: &mut Vec<Version>, operation: &LiveOp, state: State, committed: &Names)
     requires { vec_len versions.old < vec_capacity versions.old }
     ensures { (start : StateValue)

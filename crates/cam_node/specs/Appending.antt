@@ -29,7 +29,7 @@ abbrev pub listed_after : ℕ → List (List ℕ) → List Record → List (List
 listed_after calls before records =
     if nat_lt calls 3 then before else with_entry_of before records
 
--- The log lists the entry of the event behind what it listed, or the same where the event has no
+-- The log lists the entry of the event after what it listed, or the same where the event has no
 -- record; and the disk did the calls for that.
 pub record HasAppended (objects : List ObjectDecl) (old : Node) (input : Input)
     (mail : Option Mail) (load : Load) (event : Event) (before now : List (List ℕ))

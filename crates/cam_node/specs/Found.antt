@@ -65,7 +65,7 @@ found_by node halted_at reread =
       restarts = reread.kept.count - 1 - node.count;
     }
 
--- WHAT IT TELLS. A history, and behind it so many restarts.
+-- WHAT IT TELLS. A history, and after it so many restarts.
 abbrev pub after_restarts : List ObjectDecl → ℕ → ℕ → List Received → List Received
 after_restarts objects s zero history = history
 after_restarts objects s (suc n) history =
@@ -86,7 +86,7 @@ pub record IsHaltedAt (objects : List ObjectDecl) (history : List Received) (who
   pub is_taken : event ≡ (taken whole).event
 
 -- The log that was read keeps this history, or that with the taken event besides, and so many
--- restarts behind.
+-- restarts after it.
 abbrev pub IsLogOfOneOf : List ObjectDecl → ℕ → List Received → Received → ℕ → Logged → Type 0
 IsLogOfOneOf objects s history whole n logged =
     IsLogOf objects s (after_restarts objects s n history) logged
@@ -106,7 +106,7 @@ pub record IsFound (objects : List ObjectDecl) (s : ℕ) (history : List Receive
   pub restarts : found.restarts ≡ n
   pub event : IsFoundEvent objects s history whole n logged found.event
 
--- A node that keeps no event found none. It tells how many restarts the log has behind the history
+-- A node that keeps no event found none. It tells how many restarts the log has after the history
 -- that the node represents.
 pub record FindsNone (objects : List ObjectDecl) (s : ℕ) (node : Node) (logged : Logged)
     (found : Found) : Type 0 where
@@ -137,7 +137,7 @@ pub data Adds (objects : List ObjectDecl) (history : List Received) (whole : Rec
   Secures : list_any is_any_secure (taken whole).event.deeds ≡ true → Adds objects history whole
 
 -- BY WHAT THE LOG READS the event is found just where that has it: where it keeps the history with
--- the taken event, restarts behind it or not. Where it keeps the history before, and the event adds
+-- the taken event, restarts after it or not. Where it keeps the history before, and the event adds
 -- to it, none is found.
 abbrev pub FindsBy : List ObjectDecl → ℕ → Node → Option Event → Opened → Found → Type 0
 FindsBy objects s node None reads found = found.event ≡ None

@@ -15,7 +15,7 @@ abbrev pub stepped : List ObjectDecl → ℕ → List Received → Input → Opt
 stepped objects s history input mail load =
     record { event = node_step objects s (map as_carried history) input mail (told_in_order load.know); mail = mail; load = load }
 
--- the deeds that its rule makes, behind the first Informs
+-- the deeds that its rule makes, after the first Informs
 abbrev pub ruled : List ObjectDecl → ℕ → List Received → Input → Option Mail → Load → List Deed
 ruled objects s history input mail load = (rule objects (held_sight objects s (map as_carried history) (told_in_order load.know)) mail input).deeds
 

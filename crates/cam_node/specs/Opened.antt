@@ -39,7 +39,7 @@ pub record IsKnowledge (k : Knowledge) : Type 0 where
   pub distinct : NoTwice k.outcomes
   pub counts : AreCounts 1 k.counts
 
--- the entries with an entry of these records behind them; an empty one is not written
+-- the entries with an entry of these records after them; an empty one is not written
 abbrev pub with_entry_of : List (List ℕ) → List Record → List (List ℕ)
 with_entry_of entries [] = entries
 with_entry_of entries (one ∷ rest) = entries ++ entry_bytes (one ∷ rest) ∷ []
@@ -49,7 +49,7 @@ abbrev pub raised : ℕ → Recovered → Recovered
 raised s r = record { count = r.count + 1; know = with_count s (r.count + 1) r.know; held = r.held }
 
 -- What a restart puts in place of the entries: one entry of all that is kept then. Where the log's list cannot be replaced, as the number
--- of its generation is the last, the raised count goes behind them.
+-- of its generation is the last, the raised count goes after them.
 abbrev pub kept_entries : Bool → List (List ℕ) → Recovered → List (List ℕ)
 kept_entries true entries kept = entry_bytes (snapshot kept) ∷ []
 kept_entries false entries kept = entries ++ entry_bytes (records.Count kept.count ∷ []) ∷ []

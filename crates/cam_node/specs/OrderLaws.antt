@@ -45,7 +45,7 @@ DroppingKeepsOrder =
     → ServesSite objects s (map as_carried (c ∷ history)) new
     → IsInOrder history logged old.table.site → IsInOrder (c ∷ history) logged new.table.site
 
--- An event that secures a family behind its first Informs. The log has the family then, as it stands in the table without what the first
+-- An event that secures a family after its first Informs. The log has the family then, as it stands in the table without what the first
 -- Informs drop; and what is held of it stands for the live operations.
 abbrev pub SecuringKeepsOrder : Type 0
 SecuringKeepsOrder =

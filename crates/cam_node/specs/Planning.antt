@@ -39,7 +39,7 @@ pub record HasReceived (letter : Letter) (old new : Core) (learnt : Learnt) : Ty
   pub within : IsWithin new.knowing.known learnt.heard.places
   pub room : HasRoom (Some learnt.heard) new.server
 
--- The plan of what a letter's rule makes, behind the first Informs, by what the node knows with the
+-- The plan of what a letter's rule makes, after the first Informs, by what the node knows with the
 -- letter.
 pub record IsMade (core : Core) (id : LetterId) (learnt : Learnt) (doing : Doing)
     (plan : Plan) : Type 0 where

@@ -111,8 +111,9 @@ impl Core {
 impl<L: CheckpointLog> Node<L> {
     /// Restarts the node, halted or not: it reads its log again, puts all that is kept with the
     /// raised count in place of what it read, and goes on from that; where the list has the last
-    /// number the raised count goes after it. The event is the restart; no letter is sent. It tells what it found: whether the log has what was taken of the event at
-    /// which the node had halted, and how many restarts that failed had reached the log.
+    /// number, the raised count goes after what it read. The event is the restart; no letter is
+    /// sent. It tells what it found: whether the log has what was taken of the event at which the
+    /// node had halted, and how many restarts that failed had reached the log.
     ///
     /// `DiskFault` comes where what was read cannot be restarted: a count that is the last, an
     /// operation that is not on an object of the node or does not fit it, an index that stands

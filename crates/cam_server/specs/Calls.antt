@@ -143,7 +143,7 @@ abbrev pub IsNoted : CallName → Option Reply → Tables → Tables → Type 0
 IsNoted noted reply old new = (c : CallName) → reply_in new c
     ≡ (if call_eq noted c then reply else reply_in old c)
 
--- what the handed-in server holds then: the state behind a call that was performed, else what it
+-- what the handed-in server holds then: the state after a call that was performed, else what it
 -- held
 abbrev pub held_after : Performed → Asked → Server → State → State
 held_after result asked old state =

@@ -84,7 +84,7 @@ OthersAreQuiet =
     → calls_or_restarts input mail ≡ false → AreQuiet s
     (node_step objects s before input mail brought).deeds
 
--- A call that comes is served behind the first Informs, as the server answers then.
+-- A call that comes is served after the first Informs, as the server answers then.
 abbrev pub called : List ObjectDecl → ℕ → List Carried → LetterId → Mail → Knowledge → Carried
 called objects s before letter mail brought =
     record {

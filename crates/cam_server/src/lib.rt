@@ -52,7 +52,7 @@ pub fn calls_are_rules()
 {}
 
 /// What the events of a node are to its site: but for a call that comes and a restart each performs
-/// and bounces nothing (`quiet`); a call is served behind the first Informs as the server answers
+/// and bounces nothing (`quiet`); a call is served after the first Informs as the server answers
 /// then (`served`).
 pub fn kinds_of_steps()
     ensures quiet { OthersAreQuiet }

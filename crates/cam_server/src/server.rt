@@ -226,7 +226,7 @@ impl Server {
     }
 
     /// A call that was not answered before comes to the lock table. Room for the reply is made
-    /// first, so that nothing fails behind a grant.
+    /// first, so that nothing fails after a grant.
     fn serve<T: DataType>(
         &mut self,
         call: &CallName,
