@@ -2,6 +2,7 @@
 use cam_base::NoMemory;
 use cam_cut::{CutFault, cut_deeds, witness};
 use cam_event::{Deed, Deeds, LetterId, Note, Trace};
+use cam_expect::{holds, same};
 use cam_names::Name;
 use cam_samples::{
     abort, ask, ask_commit, call, commit, create, event, got_done, inform, perform, secure,
@@ -110,9 +111,9 @@ fn the_witness_of_an_orphan_has_no_abort(rt: HostRuntime) -> Result<(), Fail> {
         call(c, 2, 1, Op::Read),
     ];
     let found = witness(alloc, &trace, &c)?;
-    assert_eq!(rt; found.as_slice(), expected.as_slice());
+    same("found", &found.as_slice(), &expected.as_slice())?;
     let third = witness(alloc, &trace, &Name::parse("1.1.3")?);
-    assert!(rt; matches!(third, Err(CutFault::NoSuchAction)));
+    holds("state", matches!(third, Err(CutFault::NoSuchAction)))?;
     Ok(())
 }
 
@@ -127,7 +128,7 @@ fn a_cut_keeps_the_order_of_the_trace(rt: HostRuntime) -> Result<(), Fail> {
     for number in 21..27 {
         keep[number] = number != 24;
     }
-    assert_eq!(rt; trace.len(), 27);
+    same("trace", &trace.len(), &27)?;
     let kept = cut_deeds(alloc, &trace, &keep)?;
     let expected = [
         commit(d),
@@ -137,6 +138,6 @@ fn a_cut_keeps_the_order_of_the_trace(rt: HostRuntime) -> Result<(), Fail> {
         inform(4, c, false),
         inform(4, d, true),
     ];
-    assert_eq!(rt; kept.as_slice(), expected.as_slice());
+    same("kept", &kept.as_slice(), &expected.as_slice())?;
     Ok(())
 }

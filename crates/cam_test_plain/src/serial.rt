@@ -1,6 +1,7 @@
 //! `cam_serial`: serial lists in the order of commits, and what does not replay.
 use cam_base::NoMemory;
 use cam_event::{Deed, Deeds, Operation};
+use cam_expect::{holds, same};
 use cam_names::Name;
 use cam_plain::{CheckFault, DeedKind, check};
 use cam_samples::{
@@ -131,9 +132,15 @@ fn a_read_comes_after_the_write(rt: HostRuntime) -> Result<(), Fail> {
     };
     for (left_out, legal) in [(12, Ok(())), (8, Err(early)), (6, Err(unsecured))] {
         let list = without(alloc, &deeds, left_out)?;
-        assert_eq!(rt; check(alloc, &list, &objects), legal);
-        assert!(rt; is_serial(alloc, &list, &objects, None, &calls[..1])?);
-        assert!(rt; is_serial(alloc, &list, &objects, Some(&reader), &calls)?);
+        same("check", &check(alloc, &list, &objects), &legal)?;
+        holds(
+            "is serial",
+            is_serial(alloc, &list, &objects, None, &calls[..1])?,
+        )?;
+        holds(
+            "is serial",
+            is_serial(alloc, &list, &objects, Some(&reader), &calls)?,
+        )?;
     }
     Ok(())
 }
@@ -155,9 +162,9 @@ fn top_actions_come_in_order_of_their_commits(rt: HostRuntime) -> Result<(), Fai
         (&deeds[..], [None, Some(&lost)], &whole[..2]),
     ] {
         let list = deeds_of(alloc, deeds)?;
-        assert_eq!(rt; check(alloc, &list, &objects), Ok(()));
+        same("check", &check(alloc, &list, &objects), &Ok(()))?;
         for name in names {
-            assert!(rt; is_serial(alloc, &list, &objects, name, calls)?);
+            holds("is serial", is_serial(alloc, &list, &objects, name, calls)?)?;
         }
     }
     Ok(())
@@ -171,14 +178,20 @@ fn adders_come_in_order_of_their_commits(rt: HostRuntime) -> Result<(), Fail> {
     let second = Name::parse("1.1.2")?;
     let reader = Name::parse("1.1.3")?;
     let list = deeds_of(alloc, &added_by_two(first, second, reader))?;
-    assert_eq!(rt; check(alloc, &list, &objects), Ok(()));
+    same("check", &check(alloc, &list, &objects), &Ok(()))?;
     let calls = [
         (second, Answer::Ok),
         (first, Answer::Ok),
         (reader, Answer::Value(22)),
     ];
-    assert!(rt; is_serial(alloc, &list, &objects, None, &calls[..2])?);
-    assert!(rt; is_serial(alloc, &list, &objects, Some(&reader), &calls)?);
+    holds(
+        "is serial",
+        is_serial(alloc, &list, &objects, None, &calls[..2])?,
+    )?;
+    holds(
+        "is serial",
+        is_serial(alloc, &list, &objects, Some(&reader), &calls)?,
+    )?;
     Ok(())
 }
 
@@ -199,7 +212,7 @@ fn a_wrong_answer_does_not_replay(rt: HostRuntime) -> Result<(), Fail> {
             op,
             answer,
         })?;
-        assert_eq!(rt; replays(alloc, &list, &objects)?, right);
+        same("replays", &replays(alloc, &list, &objects)?, &right)?;
     }
     Ok(())
 }
