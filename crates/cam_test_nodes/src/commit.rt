@@ -1,6 +1,7 @@
 //! Each test of each rule once: votes, prepares and queries.
 use cam_base::Sequence;
 use cam_commit::{Asked, Families, Queried, Voted};
+use cam_expect::{holds, same};
 use cam_know::{Know, Outcome};
 use cam_names::{Deps, Name};
 use cam_type::Held;
@@ -15,12 +16,16 @@ fn the_last_yes_commits_and_the_first_no_aborts(rt: HostRuntime) -> Result<(), F
     let deps = Deps::none().with(1, 2).with(3, 5);
     let mut families = Families::new(rt.alloc());
     families.reserve()?;
-    assert_eq!(rt; families.vote(&family, 1, 2, true, &deps), Voted::Late);
-    assert!(rt; !families.is_preparing(&family));
+    same(
+        "families vote",
+        &families.vote(&family, 1, 2, true, &deps),
+        &Voted::Late,
+    )?;
+    holds("families is preparing", !families.is_preparing(&family))?;
     families.reserve()?;
     families.prepare(&family);
     families.reserve()?;
-    assert!(rt; !families.is_preparing(&other));
+    holds("families is preparing", !families.is_preparing(&other))?;
     families.prepare(&other);
     for (node, count, answer) in [
         (3, 4, Voted::Some),
@@ -30,13 +35,25 @@ fn the_last_yes_commits_and_the_first_no_aborts(rt: HostRuntime) -> Result<(), F
         (3, 5, Voted::Late),
     ] {
         families.reserve()?;
-        assert_eq!(rt; families.vote(&family, node, count, true, &deps), answer);
+        same(
+            "families vote",
+            &families.vote(&family, node, count, true, &deps),
+            &answer,
+        )?;
     }
-    assert!(rt; families.is_preparing(&other));
+    holds("families is preparing", families.is_preparing(&other))?;
     families.reserve()?;
-    assert_eq!(rt; families.vote(&other, 3, 4, false, &deps), Voted::No);
+    same(
+        "families vote",
+        &families.vote(&other, 3, 4, false, &deps),
+        &Voted::No,
+    )?;
     families.reserve()?;
-    assert_eq!(rt; families.vote(&other, 3, 5, true, &deps), Voted::Late);
+    same(
+        "families vote",
+        &families.vote(&other, 3, 5, true, &deps),
+        &Voted::Late,
+    )?;
     Ok(())
 }
 
@@ -48,22 +65,50 @@ fn a_site_that_secured_votes_yes_at_an_old_count(rt: HostRuntime) -> Result<(), 
     let other = Name::parse("1.2.2")?;
     let mut know = Know::new(rt.alloc());
     let mut families = Families::new(rt.alloc());
-    assert_eq!(rt; families.asked(&family, 3, 3, &know), Asked::Secure);
-    assert_eq!(rt; families.asked(&family, 2, 3, &know), Asked::Refuse);
+    same(
+        "families asked",
+        &families.asked(&family, 3, 3, &know),
+        &Asked::Secure,
+    )?;
+    same(
+        "families asked",
+        &families.asked(&family, 2, 3, &know),
+        &Asked::Refuse,
+    )?;
     families.reserve()?;
     families.secured(&family);
-    assert_eq!(rt; families.asked(&family, 2, 3, &know), Asked::AlreadyYes);
-    assert_eq!(rt; families.asked(&other, 3, 3, &know), Asked::Secure);
+    same(
+        "families asked",
+        &families.asked(&family, 2, 3, &know),
+        &Asked::AlreadyYes,
+    )?;
+    same(
+        "families asked",
+        &families.asked(&other, 3, 3, &know),
+        &Asked::Secure,
+    )?;
     let held = [Held {
         family,
         count: 2,
         ops: Sequence::new(rt.alloc()),
     }];
     let recovered = Families::of(rt.alloc(), &held)?;
-    assert_eq!(rt; recovered.asked(&family, 2, 4, &know), Asked::AlreadyYes);
-    assert_eq!(rt; recovered.asked(&other, 2, 4, &know), Asked::Refuse);
+    same(
+        "recovered asked",
+        &recovered.asked(&family, 2, 4, &know),
+        &Asked::AlreadyYes,
+    )?;
+    same(
+        "recovered asked",
+        &recovered.asked(&other, 2, 4, &know),
+        &Asked::Refuse,
+    )?;
     know.add(&Outcome::Aborted(family))?;
-    assert_eq!(rt; families.asked(&family, 3, 3, &know), Asked::Late);
+    same(
+        "families asked",
+        &families.asked(&family, 3, 3, &know),
+        &Asked::Late,
+    )?;
     Ok(())
 }
 
@@ -73,10 +118,22 @@ fn a_query_aborts_an_open_family_of_an_older_count(rt: HostRuntime) -> Result<()
     let family = Name::parse("1.2.1")?;
     let mut know = Know::new(rt.alloc());
     let families = Families::new(rt.alloc());
-    assert_eq!(rt; families.query(&family, 2, &know), Queried::StillOpen);
-    assert_eq!(rt; families.query(&family, 3, &know), Queried::Abort);
+    same(
+        "families query",
+        &families.query(&family, 2, &know),
+        &Queried::StillOpen,
+    )?;
+    same(
+        "families query",
+        &families.query(&family, 3, &know),
+        &Queried::Abort,
+    )?;
     know.add(&Outcome::Committed(family, Deps::none().with(1, 2)))?;
-    assert_eq!(rt; families.query(&family, 3, &know), Queried::Tell);
+    same(
+        "families query",
+        &families.query(&family, 3, &know),
+        &Queried::Tell,
+    )?;
     Ok(())
 }
 
@@ -91,10 +148,26 @@ fn a_prepare_comes_late_for_a_family_that_has_committed(rt: HostRuntime) -> Resu
     families.secured(&family);
     know.add(&Outcome::Committed(family, Deps::none().with(1, 1).with(2, 1)))?;
     know.add(&Outcome::Committed(other, Deps::none().with(1, 1)))?;
-    assert_eq!(rt; families.asked(&family, 1, 1, &know), Asked::Late);
-    assert_eq!(rt; families.asked(&family, 1, 2, &know), Asked::Late);
-    assert_eq!(rt; families.asked(&other, 1, 1, &know), Asked::Late);
-    assert_eq!(rt; families.asked(&other, 1, 2, &know), Asked::Late);
+    same(
+        "families asked",
+        &families.asked(&family, 1, 1, &know),
+        &Asked::Late,
+    )?;
+    same(
+        "families asked",
+        &families.asked(&family, 1, 2, &know),
+        &Asked::Late,
+    )?;
+    same(
+        "families asked",
+        &families.asked(&other, 1, 1, &know),
+        &Asked::Late,
+    )?;
+    same(
+        "families asked",
+        &families.asked(&other, 1, 2, &know),
+        &Asked::Late,
+    )?;
     Ok(())
 }
 
@@ -105,15 +178,27 @@ fn a_site_that_restarted_votes_no(rt: HostRuntime) -> Result<(), Fail> {
     let deps = Deps::none().with(1, 1).with(2, 1);
     let know = Know::new(rt.alloc());
     let site = Families::of(rt.alloc(), &[])?;
-    assert_eq!(rt; site.asked(&family, 1, 2, &know), Asked::Refuse);
+    same(
+        "site asked",
+        &site.asked(&family, 1, 2, &know),
+        &Asked::Refuse,
+    )?;
     let mut home = Families::new(rt.alloc());
     home.reserve()?;
     home.prepare(&family);
     home.reserve()?;
-    assert_eq!(rt; home.vote(&family, 1, 1, true, &deps), Voted::Some);
+    same(
+        "home vote",
+        &home.vote(&family, 1, 1, true, &deps),
+        &Voted::Some,
+    )?;
     home.reserve()?;
-    assert_eq!(rt; home.vote(&family, 2, 1, false, &deps), Voted::No);
-    assert!(rt; !home.is_preparing(&family));
+    same(
+        "home vote",
+        &home.vote(&family, 2, 1, false, &deps),
+        &Voted::No,
+    )?;
+    holds("home is preparing", !home.is_preparing(&family))?;
     Ok(())
 }
 
@@ -125,12 +210,24 @@ fn a_query_is_told_an_abort(rt: HostRuntime) -> Result<(), Fail> {
     let deps = Deps::none().with(1, 1).with(2, 1);
     let mut know = Know::new(rt.alloc());
     let mut home = Families::of(rt.alloc(), &[])?;
-    assert_eq!(rt; home.query(&family, 1, &know), Queried::StillOpen);
-    assert_eq!(rt; home.query(&family, 2, &know), Queried::Abort);
+    same(
+        "home query",
+        &home.query(&family, 1, &know),
+        &Queried::StillOpen,
+    )?;
+    same(
+        "home query",
+        &home.query(&family, 2, &know),
+        &Queried::Abort,
+    )?;
     know.add(&Outcome::Aborted(family))?;
-    assert_eq!(rt; home.query(&family, 2, &know), Queried::Tell);
-    assert_eq!(rt; home.query(&family, 1, &know), Queried::Tell);
+    same("home query", &home.query(&family, 2, &know), &Queried::Tell)?;
+    same("home query", &home.query(&family, 1, &know), &Queried::Tell)?;
     home.reserve()?;
-    assert_eq!(rt; home.vote(&family, 2, 1, true, &deps), Voted::Late);
+    same(
+        "home vote",
+        &home.vote(&family, 2, 1, true, &deps),
+        &Voted::Late,
+    )?;
     Ok(())
 }
