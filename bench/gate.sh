@@ -1,19 +1,22 @@
 #!/usr/bin/env bash
 # What the gate takes, from nothing: gate.sh [COMMIT] runs `rt ci` in a fresh clone of COMMIT (HEAD, where none is named), and writes the
 # processor seconds (user and system) of each crate: its proof, which for a program has its two builds; the proof of its tests; its edits.
+# Where it is stopped, it writes what was measured by then. It takes one to three hours, and wants the machine for itself: beside twice as many
+# provers as processors, each takes up to twice the processor time.
 #
-# The kit's command stands there over a copy of itself that calls the prover through a small program, which notes what each call took.
-# What is left out is what `rt ci` does itself, the layout of files and the runs of tests and programs. The tries of a crate's edits are one more than
-# its edits, since the crate itself is tried after them. Where the script is stopped, it writes what was measured by then.
+# `rt` runs from a copy of the kit in which a small program stands in place of the prover: it calls the prover, and notes what the call took.
+# What `rt ci` does besides is left out: its own work, the check of layout, links, and the runs of tests and programs. Of a crate with several
+# edits the tries are one more than the edits, since the crate itself is tried after them.
 set -e
 top=$(cd "$(dirname "$0")/.." && pwd)
 commit=$(git -C "$top" rev-parse --short "${1:-HEAD}")
+command=$(command -v rt) || { echo "the command rt is not on the path" >&2; exit 1; }
+kit=$(dirname "$(dirname "$(readlink -f "$command")")")
 room=$(mktemp -d -p "${bench_folder:-${TMPDIR:-/tmp}}")
 room=$(cd "$room" && pwd)
 trap 'rm -rf "$room"' EXIT
 
 # the kit, by links, but for `rt` itself, which finds its kit beside it, and the prover
-kit=$(dirname "$(dirname "$(readlink -f "$(command -v rt)")")")
 mkdir -p "$room/kit/bin"
 for file in "$kit"/*; do
     [ "${file##*/}" = bin ] || ln -s "$file" "$room/kit/"
@@ -40,7 +43,9 @@ if "--crate-name" in given:
     with open("$room/calls", "a") as calls:
         calls.write(f"{crate} {what} {took.ru_utime:.2f} {took.ru_stime:.2f} {took.ru_maxrss} {status}\\n")
 if status < 0:
-    signal.signal(-status, signal.SIG_DFL)
+    # it ends as the prover did: rt tries again what was killed for want of memory
+    if -status != signal.SIGKILL:
+        signal.signal(-status, signal.SIG_DFL)
     os.kill(os.getpid(), -status)
 sys.exit(status)
 PROGRAM
@@ -71,10 +76,14 @@ git clone -q "$top" "$room/clone"
 git -C "$room/clone" checkout -q "$commit"
 cd "$room/clone"
 : > "$room/calls"
-: > "$room/said"
 began=$(date +%s)
-trap 'table; rm -rf "$room"' EXIT
-trap 'exit 1' INT TERM
-"$room/kit/bin/rt" ci > "$room/said" 2>&1 < /dev/null || true
+"$room/kit/bin/rt" ci > "$room/said" 2>&1 < /dev/null &
+gate=$!
+# rt ends all that it has started when it ends
+trap 'kill "$gate" 2>/dev/null || true; table; rm -rf "$room"' EXIT
+trap 'echo "commit $commit, stopped after $((($(date +%s) - began + 30) / 60)) minutes"; exit 1' INT TERM
+status=0
+wait "$gate" || status=$?
 echo "commit $commit, $(cat "$kit/KIT-ID"), $(nproc) processors: $(tail -n 1 "$room/said"), $((($(date +%s) - began + 30) / 60)) minutes"
 sed -n 's/^rt: FAILED:/failed:/p' "$room/said"
+exit "$status"

@@ -1,7 +1,6 @@
-//! What a test expects: a comparison that answers `Err` where a test has to fail, and tells what was found.
+//! How a test compares: `same` and `holds` answer `Err` where it has to fail, and tell what was found.
 //!
-//! `assert_eq!` of std writes its formatting and its end of the program into each place that has it, and each costs the proof of its test two
-//! to three seconds. A call of `same` with `?` costs half a second.
+//! A test hands their answer on by `?`. `assert_eq!` writes more into each place that has it, and a test's proof goes through all of it.
 #![tactic(auto)]
 
 ghost use Rattle.std.specs.Prelude.{IsOk, IsTrue, ◌↔◌};

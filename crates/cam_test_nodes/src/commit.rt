@@ -21,11 +21,11 @@ fn the_last_yes_commits_and_the_first_no_aborts(rt: HostRuntime) -> Result<(), F
         &families.vote(&family, 1, 2, true, &deps),
         &Voted::Late,
     )?;
-    holds("families is preparing", !families.is_preparing(&family))?;
+    holds("is not preparing", !families.is_preparing(&family))?;
     families.reserve()?;
     families.prepare(&family);
     families.reserve()?;
-    holds("families is preparing", !families.is_preparing(&other))?;
+    holds("is not preparing", !families.is_preparing(&other))?;
     families.prepare(&other);
     for (node, count, answer) in [
         (3, 4, Voted::Some),
@@ -198,7 +198,7 @@ fn a_site_that_restarted_votes_no(rt: HostRuntime) -> Result<(), Fail> {
         &home.vote(&family, 2, 1, false, &deps),
         &Voted::No,
     )?;
-    holds("home is preparing", !home.is_preparing(&family))?;
+    holds("is not preparing", !home.is_preparing(&family))?;
     Ok(())
 }
 

@@ -246,16 +246,16 @@ fn children_are_decided_once(rt: HostRuntime) -> Result<(), Fail> {
     for (child, commit, deps) in &[(first, None, home), (second, Some(more), home.with(3, 5))] {
         holds("homed decides", homed.decides(child))?;
         homed.decide(child, commit);
-        holds("homed decides", !homed.decides(child))?;
+        holds("does not decide it", !homed.decides(child))?;
         same("homed deps", &homed.deps(&top), &Some(*deps))?;
     }
     let request = Request {
         action: top,
         want: Want::GiveUp(third),
     };
-    holds("homed refusal", homed.refusal(&request).is_none())?;
+    holds("is not refused", homed.refusal(&request).is_none())?;
     homed.give_up(&top, &third);
-    holds("homed decides", !homed.decides(&third))?;
+    holds("does not decide it", !homed.decides(&third))?;
     same(
         "refusal",
         &refused(&homed, &top, &Want::GiveUp(third)),
@@ -265,7 +265,7 @@ fn children_are_decided_once(rt: HostRuntime) -> Result<(), Fail> {
         action: top,
         want: Want::Commit(9),
     };
-    holds("homed refusal", homed.refusal(&request).is_none())?;
+    holds("is not refused", homed.refusal(&request).is_none())?;
     homed.finish(&top, 9);
     same(
         "refusal",
@@ -298,8 +298,8 @@ fn a_child_is_decided_while_its_parent_goes_on(rt: HostRuntime) -> Result<(), Fa
         same("homed decides", &homed.decides(child), &decides)?;
     }
     holds("is over", quits(&mut homed, &top))?;
-    holds("homed decides", !homed.decides(&here))?;
-    holds("homed decides", !homed.decides(&there))?;
+    holds("does not decide it", !homed.decides(&here))?;
+    holds("does not decide it", !homed.decides(&there))?;
     Ok(())
 }
 
@@ -311,7 +311,7 @@ fn a_child_starts_once(rt: HostRuntime) -> Result<(), Fail> {
     let deps = Deps::none().with(1, 2).with(2, 4);
     let (node, count) = child.home();
     holds("home", node == 3 && count == 5)?;
-    holds("homed deps", homed.deps(&child).is_none())?;
+    holds("has no dependencies", homed.deps(&child).is_none())?;
     homed.reserve()?;
     same("homed start", &homed.start(&child, &deps)?, &Started::New)?;
     same(

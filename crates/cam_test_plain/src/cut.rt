@@ -113,7 +113,10 @@ fn the_witness_of_an_orphan_has_no_abort(rt: HostRuntime) -> Result<(), Fail> {
     let found = witness(alloc, &trace, &c)?;
     same("found", &found.as_slice(), &expected.as_slice())?;
     let third = witness(alloc, &trace, &Name::parse("1.1.3")?);
-    holds("state", matches!(third, Err(CutFault::NoSuchAction)))?;
+    holds(
+        "no such action",
+        matches!(third, Err(CutFault::NoSuchAction)),
+    )?;
     Ok(())
 }
 

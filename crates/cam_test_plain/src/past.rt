@@ -93,7 +93,7 @@ fn clocks_tell_the_past_that_its_definition_gives(rt: HostRuntime) -> Result<(),
     }
     same("pairs", &pairs, &3313)?;
     holds(
-        "clocks in past",
+        "no event past the end",
         !clocks.in_past(0, EVENTS) && !clocks.in_past(EVENTS, 0),
     )?;
     Ok(())

@@ -112,9 +112,9 @@ fn each_deed_needs_what_came_before(rt: HostRuntime) -> Result<(), Fail> {
         same(left_out, &found, &expected(fault))?;
     }
     let value = site_value(alloc, &whole, &objects, 0)?;
-    holds("value state register", value == State::Register(3))?;
+    holds("value of the register", value == State::Register(3))?;
     let value = site_value(alloc, &deeds_of(alloc, &deeds[..20])?, &objects, 0)?;
-    holds("value state register", value == State::Register(0))?;
+    holds("value of the register", value == State::Register(0))?;
     Ok(())
 }
 
@@ -150,7 +150,7 @@ fn adders_stand_in_the_way_of_readers_alone(rt: HostRuntime) -> Result<(), Fail>
     let whole = deeds_of(alloc, &deeds)?;
     same("check", &check(alloc, &whole, &objects), &Ok(()))?;
     holds(
-        "site value state counter",
+        "value of the counter",
         site_value(alloc, &whole, &objects, 0)? == State::Counter(17),
     )?;
     let mut early = deeds_of(alloc, &deeds[..9])?;

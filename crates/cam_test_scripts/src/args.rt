@@ -1,6 +1,7 @@
 //! `cam_args`: words that are forms, and words that are none.
 
 use cam_args::{ArgsFault, Command, read_words};
+use cam_expect::holds;
 use cam_names::Name;
 use std::alloc::Global;
 use std::test::Fail;
@@ -54,7 +55,7 @@ const FORMS: [(&str, Command); 11] = [
 #[test]
 fn forms(rt: HostRuntime) -> Result<(), Fail> {
     for (line, command) in FORMS {
-        assert!(rt; read(rt.alloc(), line)? == Ok(command), "{line}");
+        holds(line, read(rt.alloc(), line)? == Ok(command))?;
     }
     Ok(())
 }
@@ -62,7 +63,10 @@ fn forms(rt: HostRuntime) -> Result<(), Fail> {
 #[test]
 fn witness(rt: HostRuntime) -> Result<(), Fail> {
     let name = Name::parse("1.1.1/4.1.1")?;
-    assert!(rt; read(rt.alloc(), "witness 1.1.1/4.1.1")? == Ok(Command::Witness(name)));
+    holds(
+        "read",
+        read(rt.alloc(), "witness 1.1.1/4.1.1")? == Ok(Command::Witness(name)),
+    )?;
     Ok(())
 }
 
@@ -91,7 +95,7 @@ const NO_FORMS: [&str; 18] = [
 #[test]
 fn no_forms(rt: HostRuntime) -> Result<(), Fail> {
     for line in NO_FORMS {
-        assert!(rt; read(rt.alloc(), line)? == Err(ArgsFault::Usage), "{line}");
+        holds(line, read(rt.alloc(), line)? == Err(ArgsFault::Usage))?;
     }
     Ok(())
 }

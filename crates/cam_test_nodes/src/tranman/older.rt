@@ -16,15 +16,15 @@ fn a_child_of_another_count_may_not_start(rt: HostRuntime) -> Result<(), Fail> {
         homed.may_start(&Name::parse("1.2.1/3.5.1")?),
     )?;
     holds(
-        "homed may start",
+        "may not start",
         !homed.may_start(&Name::parse("1.2.1/3.4.1")?),
     )?;
     holds(
-        "homed may start",
+        "may not start",
         !homed.may_start(&Name::parse("1.2.1/3.6.1")?),
     )?;
     holds(
-        "homed may start",
+        "may not start",
         !homed.may_start(&Name::parse("1.2.1/4.5.1")?),
     )?;
     // The count of its parent is another matter.
@@ -42,7 +42,7 @@ fn a_child_that_is_there_starts_no_more(rt: HostRuntime) -> Result<(), Fail> {
     let child = Name::parse("1.2.1/3.5.1")?;
     let (node, count) = child.home();
     holds("home", node == 3 && count == 5)?;
-    holds("homed created", !homed.created(&child))?;
+    holds("was not created", !homed.created(&child))?;
     let deps = Deps::none().with(1, 2);
     same("homed start", &homed.start(&child, &deps)?, &Started::New)?;
     holds("homed created", homed.created(&child))?;
@@ -85,7 +85,7 @@ fn the_answer_to_an_action_of_an_older_count_is_late(rt: HostRuntime) -> Result<
         &homed.answer(&older, 1, &zero, 8),
         &Taken::Late,
     )?;
-    holds("homed awaits", !homed.awaits(&older, 1))?;
+    holds("awaits no answer", !homed.awaits(&older, 1))?;
     holds("homed awaits", homed.awaits(&present, 1))?;
     same(
         "homed answer",
@@ -117,7 +117,7 @@ fn the_answer_to_an_action_that_is_not_known_is_late(rt: HostRuntime) -> Result<
         &homed.answer(&unknown, 1, &Reply::Missed, 8),
         &Taken::Late,
     )?;
-    holds("homed created", !homed.created(&unknown))?;
-    holds("homed deps", homed.deps(&unknown).is_none())?;
+    holds("was not created", !homed.created(&unknown))?;
+    holds("has no dependencies", homed.deps(&unknown).is_none())?;
     Ok(())
 }
