@@ -6,6 +6,7 @@ use super::steps::Step::{Abort, Busy, Commit, Copy, Counter, Done, Register, Sec
 use super::steps::{Played, Scene, Step, play};
 use super::{COUNTER, QUEUE, REGISTER, objects};
 use cam_base::NoMemory;
+use cam_expect::{holds, same};
 use cam_know::{Know, Outcome};
 use cam_locks::{LockTable, may_restore};
 use cam_names::{Deps, Name};
@@ -148,16 +149,18 @@ fn table_of_two_writers(alloc: Global) -> Result<LockTable, Fail> {
 #[test]
 fn a_restart_keeps_what_was_secured_and_not_aborted(rt: HostRuntime) -> Result<(), Fail> {
     let mut table = table_after_a_restart(rt.alloc())?;
-    assert_eq!(rt; table.next_index(), 10);
-    assert_eq!(rt;
-        play(rt.alloc(), &mut table, Scene::Restarted)?,
-        Played::Whole(4)
-    );
+    same("table next index", &table.next_index(), &10)?;
+    same(
+        "answers",
+        &play(rt.alloc(), &mut table, Scene::Restarted)?,
+        &Played::Whole(4),
+    )?;
     let mut table = table_of_two_writers(rt.alloc())?;
-    assert_eq!(rt;
-        play(rt.alloc(), &mut table, Scene::TwoWriters)?,
-        Played::Whole(10)
-    );
+    same(
+        "answers",
+        &play(rt.alloc(), &mut table, Scene::TwoWriters)?,
+        &Played::Whole(10),
+    )?;
     Ok(())
 }
 
@@ -184,19 +187,22 @@ fn played_after(alloc: Global, held: &HeldList, scene: Scene) -> Result<Played, 
 fn what_is_secured_and_restored_answers_as_before(rt: HostRuntime) -> Result<(), Fail> {
     let objects = objects(rt.alloc())?;
     let mut table = LockTable::new(rt.alloc(), &objects, 1)?;
-    assert_eq!(rt;
-        play(rt.alloc(), &mut table, Scene::Work)?,
-        Played::Whole(4)
-    );
+    same(
+        "answers",
+        &play(rt.alloc(), &mut table, Scene::Work)?,
+        &Played::Whole(4),
+    )?;
     let held = secured(rt.alloc(), &table)?;
-    assert_eq!(rt;
-        play(rt.alloc(), &mut table, Scene::MoreWork)?,
-        Played::Whole(9)
-    );
-    assert_eq!(rt;
-        played_after(rt.alloc(), &held, Scene::MoreWork)?,
-        Played::Whole(9)
-    );
+    same(
+        "answers",
+        &play(rt.alloc(), &mut table, Scene::MoreWork)?,
+        &Played::Whole(9),
+    )?;
+    same(
+        "answers after it",
+        &played_after(rt.alloc(), &held, Scene::MoreWork)?,
+        &Played::Whole(9),
+    )?;
     Ok(())
 }
 
@@ -204,15 +210,17 @@ fn what_is_secured_and_restored_answers_as_before(rt: HostRuntime) -> Result<(),
 fn adds_that_were_secured_are_added_after_a_restart(rt: HostRuntime) -> Result<(), Fail> {
     let objects = objects(rt.alloc())?;
     let mut table = LockTable::new(rt.alloc(), &objects, 1)?;
-    assert_eq!(rt;
-        play(rt.alloc(), &mut table, Scene::Adds)?,
-        Played::Whole(4)
-    );
+    same(
+        "answers",
+        &play(rt.alloc(), &mut table, Scene::Adds)?,
+        &Played::Whole(4),
+    )?;
     let held = secured(rt.alloc(), &table)?;
-    assert_eq!(rt;
-        played_after(rt.alloc(), &held, Scene::SecuredAdds)?,
-        Played::Whole(11)
-    );
+    same(
+        "answers after it",
+        &played_after(rt.alloc(), &held, Scene::SecuredAdds)?,
+        &Played::Whole(11),
+    )?;
     Ok(())
 }
 
@@ -253,11 +261,8 @@ fn only_what_fits_under_indices_of_its_own_can_be_restored(rt: HostRuntime) -> R
         let Some((op, may)) = second(place) else {
             return Err(Fail::new("a case is missing"));
         };
-        assert_eq!(rt; may_be_restored(rt.alloc(), 1, &op)?, may, "case {place}");
-        assert!(rt;
-            !may_be_restored(rt.alloc(), 2, &op)?,
-            "case {place} at another node"
-        );
+        same(place, &may_be_restored(rt.alloc(), 1, &op)?, &may)?;
+        holds(place, !may_be_restored(rt.alloc(), 2, &op)?)?;
     }
     Ok(())
 }
