@@ -1,6 +1,5 @@
 // Logs: their bytes, where bytes are none, and appends that are stopped.
 use cam_disk::{Disk, MemoryDisk, StopDisk};
-use cam_expect::same;
 use cam_log::{EntryLog, Log, LogFault, StopLog};
 use std::test::Fail;
 
@@ -29,20 +28,20 @@ fn an_append_leaves_these_bytes(rt: HostRuntime) -> Result<(), Fail> {
     log.append(&[1, 0, 0, 0, 2])?;
     let mut disk = log.into_disk();
     let mut into = [0u8; 30];
-    same("disk read", &disk.read(0, &mut into)?, &23)?;
-    same("what was read", &&into[..23], &IMAGE.as_slice())?;
+    assert_eq!(rt; disk.read(0, &mut into)?, 23);
+    assert_eq!(rt; &into[..23], IMAGE.as_slice());
     let again = match Log::open(alloc, disk) {
         Ok(log) => log,
         Err(refused) => return Err(refused.fault.into()),
     };
-    same("again entries", &again.entries().len(), &1)?;
-    same("again is broken", &again.is_broken(), &false)?;
+    assert_eq!(rt; again.entries().len(), 1);
+    assert_eq!(rt; again.is_broken(), false);
     let mut cut = MemoryDisk::new(alloc);
     cut.write_at(0, &IMAGE[..22])?;
     match Log::open(alloc, cut) {
         Ok(_) => Err(Fail::new("a log without its last gate was opened")),
         Err(refused) => {
-            same("refused fault", &refused.fault, &LogFault::NotALog(22))?;
+            assert_eq!(rt; refused.fault, LogFault::NotALog(22));
             Ok(())
         }
     }
@@ -56,7 +55,7 @@ fn each_beginning_of_a_log_is_refused_at_its_place(rt: HostRuntime) -> Result<()
         disk.write_at(0, TWO.get(..length).unwrap_or(&TWO))?;
         match Log::open(alloc, disk) {
             Ok(_) => return Err(Fail::new("a beginning was opened")),
-            Err(refused) => same(length, &refused.fault, &LogFault::NotALog(*at))?,
+            Err(refused) => assert_eq!(rt; refused.fault, LogFault::NotALog(*at), "at {length}"),
         }
     }
     let mut disk = MemoryDisk::new(alloc);
@@ -65,7 +64,7 @@ fn each_beginning_of_a_log_is_refused_at_its_place(rt: HostRuntime) -> Result<()
         Ok(log) => log,
         Err(refused) => return Err(refused.fault.into()),
     };
-    same("log entries", &log.entries().len(), &2)?;
+    assert_eq!(rt; log.entries().len(), 2);
     Ok(())
 }
 
@@ -87,11 +86,11 @@ fn an_append_is_stopped_at_each_device_call(rt: HostRuntime) -> Result<(), Fail>
             Err(refused) => return Err(refused.fault.into()),
         };
         log.stop_after(calls);
-        same(calls, &log.append(&[1, 0, 0, 0, 2]), &answer)?;
-        same(calls, &log.is_broken(), &answer.is_err())?;
-        same(calls, &log.entries().len(), &listed)?;
+        assert_eq!(rt; log.append(&[1, 0, 0, 0, 2]), answer, "at {calls}");
+        assert_eq!(rt; log.is_broken(), answer.is_err(), "at {calls}");
+        assert_eq!(rt; log.entries().len(), listed, "at {calls}");
         match Log::open(alloc, log.into_disk().into_inner()) {
-            Ok(log) => same(calls, &log.entries().len(), &found)?,
+            Ok(log) => assert_eq!(rt; log.entries().len(), found, "at {calls}"),
             Err(refused) => return Err(refused.fault.into()),
         }
     }
@@ -108,6 +107,6 @@ fn a_log_whose_disk_was_cleared_appends(rt: HostRuntime) -> Result<(), Fail> {
     log.stop_after(0);
     log.clear();
     log.append(b"ab")?;
-    same("log entries", &log.entries().len(), &1)?;
+    assert_eq!(rt; log.entries().len(), 1);
     Ok(())
 }

@@ -1,7 +1,6 @@
 // Migration of a log to the present version, and the one entry that keeps what all entries say.
 use crate::recman::{ADDS, ALL, LATER, entries_of};
 use cam_disk::{MemoryDisk, StopDisk};
-use cam_expect::same;
 use cam_log::{EntryLog, Log, StopLog};
 use cam_recman::{MigrateFault, Migrated, encode_entry, migrate, recover, restart, snapshot};
 use std::alloc::Global;
@@ -24,25 +23,24 @@ fn a_migrated_log_recovers_the_same(rt: HostRuntime) -> Result<(), Fail> {
         };
         log.append(&ALL)?;
         log.stop_after(calls);
-        same("migrate", &migrate(alloc, &mut log), &answer)?;
+        assert_eq!(rt; migrate(alloc, &mut log), answer);
         let mut again = match Log::open(alloc, log.into_disk().into_inner()) {
             Ok(log) => log,
             Err(refused) => return Err(refused.fault.into()),
         };
-        same("again entries", &again.entries().len(), &entries)?;
+        assert_eq!(rt; again.entries().len(), entries);
         let recovered = restart(alloc, &again)?;
-        same(
-            "recovered",
-            &(recovered.count, recovered.know.len(), recovered.held.len()),
-            &(2, 2, 1),
-        )?;
+        assert_eq!(rt;
+            (recovered.count, recovered.know.len(), recovered.held.len()),
+            (2, 2, 1)
+        );
         let which = if entries == 1 {
             Migrated::Done
         } else {
             Migrated::Already
         };
-        same("migrate", &migrate(alloc, &mut again), &Ok(which))?;
-        same("again entries", &again.entries().len(), &2)?;
+        assert_eq!(rt; migrate(alloc, &mut again), Ok(which));
+        assert_eq!(rt; again.entries().len(), 2);
     }
     Ok(())
 }
@@ -80,12 +78,11 @@ fn one_entry_keeps_what_all_entries_say(rt: HostRuntime) -> Result<(), Fail> {
             wanted.extend_from_slice(piece)?;
         }
         let kept = kept_bytes(alloc, all)?;
-        same("kept", &kept.as_slice(), &wanted.as_slice())?;
-        same(
-            "kept bytes",
-            &kept_bytes(alloc, &[kept.as_slice()])?.as_slice(),
-            &wanted.as_slice(),
-        )?;
+        assert_eq!(rt; kept.as_slice(), wanted.as_slice());
+        assert_eq!(rt;
+            kept_bytes(alloc, &[kept.as_slice()])?.as_slice(),
+            wanted.as_slice()
+        );
     }
     Ok(())
 }

@@ -1,6 +1,5 @@
 // What is known, and what is answered by it.
 use cam_base::Sequence;
-use cam_expect::{holds, same};
 use cam_know::{Know, Outcome};
 use cam_names::{Deps, Name, Part};
 use std::test::Fail;
@@ -19,39 +18,32 @@ fn what_is_learnt_is_known(rt: HostRuntime) -> Result<(), Fail> {
     know.add(&older)?;
     know.raise(3, 2);
     know.raise(3, 1);
-    same("know", &know.len(), &2)?;
-    same("know", &(know.count(2), know.count(3)), &(1, 2))?;
-    holds(
-        "the lowest alone is committed",
-        know.is_committed(&low) && !know.is_committed(&middle),
-    )?;
-    same("know lift", &know.lift(&low), &Some(middle))?;
+    assert_eq!(rt; know.len(), 2);
+    assert_eq!(rt; (know.count(2), know.count(3)), (1, 2));
+    assert!(rt; know.is_committed(&low) && !know.is_committed(&middle));
+    assert_eq!(rt; know.lift(&low), Some(middle));
     let oldest = know.oldest(&middle);
-    same("oldest", &(oldest.count_of(2), oldest.count_of(3)), &(4, 1))?;
+    assert_eq!(rt; (oldest.count_of(2), oldest.count_of(3)), (4, 1));
 
-    same("know outcomes", &know.outcomes().len(), &2)?;
+    assert_eq!(rt; know.outcomes().len(), 2);
     let mut other = Know::new(rt.alloc());
     other.join(&know)?;
     other.add(&Outcome::Aborted(middle))?;
     other.add(&Outcome::Aborted(top))?;
-    same("other aborted by", &other.aborted_by(&low), &Some(top))?;
-    holds(
-        "the top is aborted in the other alone",
-        other.is_aborted(&top) && !know.is_aborted(&top),
-    )?;
-    same("know aborted by", &know.aborted_by(&low), &None)?;
+    assert_eq!(rt; other.aborted_by(&low), Some(top));
+    assert!(rt; other.is_aborted(&top) && !know.is_aborted(&top));
+    assert_eq!(rt; know.aborted_by(&low), None);
     let news = know.news_of(&other)?;
-    same(
-        "news outcomes",
-        &news.outcomes(),
-        &[Outcome::Aborted(top), Outcome::Aborted(middle)].as_slice(),
-    )?;
-    same("news counts", &news.counts(), &[1, 1, 2, 1, 1, 1, 1, 1])?;
+    assert_eq!(rt;
+        news.outcomes(),
+        [Outcome::Aborted(top), Outcome::Aborted(middle)].as_slice()
+    );
+    assert_eq!(rt; news.counts(), [1, 1, 2, 1, 1, 1, 1, 1]);
     know.join(&other)?;
-    same("know", &know.len(), &4)?;
+    assert_eq!(rt; know.len(), 4);
     know.add(&Outcome::Committed(middle, Deps::none()))?;
     know.add(&Outcome::Committed(top, Deps::none()))?;
-    same("know lift", &know.lift(&low), &None)?;
+    assert_eq!(rt; know.lift(&low), None);
     Ok(())
 }
 
@@ -72,21 +64,14 @@ fn many_outcomes_are_joined(rt: HostRuntime) -> Result<(), Fail> {
             know.add(&Outcome::Aborted(child))?;
         }
     }
-    same("know", &know.len(), &75)?;
+    assert_eq!(rt; know.len(), 75);
     let mut other = Know::new(rt.alloc());
     other.join(&know)?;
     other.join(&know)?;
-    same(
-        "other",
-        &(other.len(), know.news_of(&other)?.len()),
-        &(75, 0),
-    )?;
+    assert_eq!(rt; (other.len(), know.news_of(&other)?.len()), (75, 0));
     let (last, odd) = (Name::parse("1.1.1/2.1.50")?, Name::parse("1.1.1/2.1.49")?);
-    holds(
-        "the odd are committed, the last is aborted",
-        other.is_committed(&odd) && other.is_aborted(&last) && !other.is_aborted(&odd),
-    )?;
-    same("other oldest count of", &other.oldest(&top).count_of(2), &1)?;
+    assert!(rt; other.is_committed(&odd) && other.is_aborted(&last) && !other.is_aborted(&odd));
+    assert_eq!(rt; other.oldest(&top).count_of(2), 1);
     Ok(())
 }
 
@@ -117,8 +102,8 @@ fn what_is_told_in_any_order_is_learnt_in_one(rt: HostRuntime) -> Result<(), Fai
         told.add(&learnt[place])?;
     }
     let news = Know::new(rt.alloc()).news_of(&told)?;
-    same("news", &news.len(), &80)?;
-    same("news outcomes", &news.outcomes(), &learnt)?;
+    assert_eq!(rt; news.len(), 80);
+    assert_eq!(rt; news.outcomes(), learnt);
     Ok(())
 }
 
@@ -132,11 +117,8 @@ fn outcomes_are_known_at_once(rt: HostRuntime) -> Result<(), Fail> {
     outcomes.push_copy(&Outcome::Committed(child, Deps::none().with(2, 7)))?;
     outcomes.push_copy(&Outcome::Committed(child, Deps::none().with(2, 5)))?;
     let know = Know::of(rt.alloc(), outcomes, [1, 9, 1, 1, 1, 1, 1, 1])?;
-    same("know", &(know.len(), know.count(2)), &(3, 9))?;
-    holds(
-        "the child has both outcomes",
-        know.is_aborted(&child) && know.is_committed(&child),
-    )?;
-    same("know oldest count of", &know.oldest(&top).count_of(2), &5)?;
+    assert_eq!(rt; (know.len(), know.count(2)), (3, 9));
+    assert!(rt; know.is_aborted(&child) && know.is_committed(&child));
+    assert_eq!(rt; know.oldest(&top).count_of(2), 5);
     Ok(())
 }

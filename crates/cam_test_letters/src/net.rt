@@ -3,7 +3,6 @@ ghost use Rattle.std.specs.Prelude.{◌≤◌};
 ghost use Rattle.cam_wire.specs.Writable.{IsWritable};
 
 use cam_event::{Body, Letter};
-use cam_expect::{holds, same};
 use cam_know::Know;
 use cam_net::Net;
 use std::alloc::Global;
@@ -63,19 +62,15 @@ fn the_least_letter_that_may_go_is_next(rt: HostRuntime) -> Result<(), Fail> {
     for (line, next, next_halted) in lines {
         match line {
             Line::Put(to) => {
-                holds("an addressee", 1 <= to && to <= 8)?;
+                assert!(rt; 1 <= to && to <= 8);
                 sent = sent.wrapping_add(1);
-                same("net put", &net.put(&news(rt.alloc(), to))?, &sent)?;
+                assert_eq!(rt; net.put(&news(rt.alloc(), to))?, sent);
             }
-            Line::Lose(number, lost) => same("net lose", &net.lose(number), &lost)?,
+            Line::Lose(number, lost) => assert_eq!(rt; net.lose(number), lost),
             Line::Deliver(number) => net.delivered(number),
         }
-        same("net next", &net.next([].as_slice()), &next)?;
-        same(
-            "net next",
-            &net.next([false, true].as_slice()),
-            &next_halted,
-        )?;
+        assert_eq!(rt; net.next([].as_slice()), next);
+        assert_eq!(rt; net.next([false, true].as_slice()), next_halted);
     }
     Ok(())
 }
@@ -87,18 +82,14 @@ fn a_letter_is_handed_out_until_it_is_lost(rt: HostRuntime) -> Result<(), Fail> 
     net.put(&news(rt.alloc(), 3))?;
     net.delivered(2);
     for (asked, given) in [(0, 0), (6, 6), (32, 32), (33, 33), (34, 33)] {
-        same("net cut", &net.cut(2, asked), &NEWS.get(..given))?;
+        assert_eq!(rt; net.cut(2, asked), NEWS.get(..given));
     }
-    same("net whole", &net.whole(2), &Some(NEWS.as_slice()))?;
-    holds("net lose", net.lose(2))?;
+    assert_eq!(rt; net.whole(2), Some(NEWS.as_slice()));
+    assert!(rt; net.lose(2));
     for number in [0, 2, 3] {
-        same("net whole", &net.whole(number), &None)?;
-        same("net cut", &net.cut(number, 1), &None)?;
+        assert_eq!(rt; net.whole(number), None);
+        assert_eq!(rt; net.cut(number, 1), None);
     }
-    same(
-        "net whole map",
-        &net.whole(1).map(|all| all.len()),
-        &Some(33),
-    )?;
+    assert_eq!(rt; net.whole(1).map(|all| all.len()), Some(33));
     Ok(())
 }

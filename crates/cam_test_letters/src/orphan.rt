@@ -1,5 +1,4 @@
 // Who is an orphan, and why.
-use cam_expect::same;
 use cam_know::{Know, Outcome, Reason};
 use cam_names::{Deps, Name};
 use cam_orphan::{orphan, orphan_at_home};
@@ -19,26 +18,22 @@ fn what_a_sibling_stood_on_is_lost(rt: HostRuntime) -> Result<(), Fail> {
     });
 
     let mut know = Know::new(rt.alloc());
-    same("orphan", &orphan(&know, &child, &own), &None)?;
+    assert_eq!(rt; orphan(&know, &child, &own), None);
     know.add(&Outcome::Committed(sibling, Deps::none().with(1, 1).with(2, 1)))?;
-    same("orphan", &orphan(&know, &child, &own), &None)?;
+    assert_eq!(rt; orphan(&know, &child, &own), None);
     know.raise(2, 2);
-    same("orphan", &orphan(&know, &child, &own), &lost)?;
-    same("orphan", &orphan(&know, &top, &Deps::none()), &lost)?;
+    assert_eq!(rt; orphan(&know, &child, &own), lost);
+    assert_eq!(rt; orphan(&know, &top, &Deps::none()), lost);
     know.raise(1, 3);
     let at_home = Some(Reason::Crash {
         node: 1,
         old: 1,
         new: 3,
     });
-    same("orphan", &orphan(&know, &child, &own), &at_home)?;
+    assert_eq!(rt; orphan(&know, &child, &own), at_home);
     know.add(&Outcome::Aborted(child))?;
     know.add(&Outcome::Aborted(top))?;
-    same(
-        "orphan",
-        &orphan(&know, &child, &own),
-        &Some(Reason::Abort(top)),
-    )?;
+    assert_eq!(rt; orphan(&know, &child, &own), Some(Reason::Abort(top)));
     Ok(())
 }
 
@@ -49,37 +44,24 @@ fn a_newer_home_hides_no_older_pair(rt: HostRuntime) -> Result<(), Fail> {
     let older = Deps::none().with(1, 1).with(4, 1);
     let mut know = Know::new(rt.alloc());
     know.raise(4, 2);
-    same(
-        "orphan at home",
-        &orphan_at_home(&know, &child, &Deps::none()),
-        &None,
-    )?;
+    assert_eq!(rt; orphan_at_home(&know, &child, &Deps::none()), None);
     let lost = Some(Reason::Crash {
         node: 4,
         old: 1,
         new: 2,
     });
-    same(
-        "orphan at home",
-        &orphan_at_home(&know, &child, &older),
-        &lost,
-    )?;
+    assert_eq!(rt; orphan_at_home(&know, &child, &older), lost);
     know.raise(4, 3);
     let at_home = Some(Reason::Crash {
         node: 4,
         old: 2,
         new: 3,
     });
-    same(
-        "orphan at home",
-        &orphan_at_home(&know, &child, &Deps::none()),
-        &at_home,
-    )?;
+    assert_eq!(rt; orphan_at_home(&know, &child, &Deps::none()), at_home);
     know.add(&Outcome::Aborted(child))?;
-    same(
-        "orphan at home",
-        &orphan_at_home(&know, &child, &older),
-        &Some(Reason::Abort(child)),
-    )?;
+    assert_eq!(rt;
+        orphan_at_home(&know, &child, &older),
+        Some(Reason::Abort(child))
+    );
     Ok(())
 }

@@ -6,7 +6,6 @@ ghost use Rattle.cam_wire.specs.Writable.{IsWritable, IsWritableBody};
 
 use cam_base::NoMemory;
 use cam_event::{Body, Letter, Reply};
-use cam_expect::{holds, same};
 use cam_know::{Know, Outcome};
 use cam_names::{Deps, Name, Part};
 use cam_type::{Answer, Op};
@@ -72,17 +71,9 @@ fn letters_are_spelled_as_the_format_says(rt: HostRuntime) -> Result<(), Fail> {
         deps: Deps::none().with(1, 1),
     };
     let letter = letter_of(rt.alloc(), Body::News);
-    same(
-        "bytes",
-        &encode(rt.alloc(), &letter)?.as_slice(),
-        &NEWS.as_slice(),
-    )?;
+    assert_eq!(rt; encode(rt.alloc(), &letter)?.as_slice(), NEWS.as_slice());
     let letter = letter_of(rt.alloc(), call);
-    same(
-        "bytes",
-        &encode(rt.alloc(), &letter)?.as_slice(),
-        &CALL.as_slice(),
-    )?;
+    assert_eq!(rt; encode(rt.alloc(), &letter)?.as_slice(), CALL.as_slice());
 
     let committed = Name::parse("2.3.1")?;
     let mut know = Know::new(rt.alloc());
@@ -100,18 +91,11 @@ fn letters_are_spelled_as_the_format_says(rt: HostRuntime) -> Result<(), Fail> {
         know,
         body: Body::Quit { action: second },
     };
-    same(
-        "bytes",
-        &encode(rt.alloc(), &letter)?.as_slice(),
-        &QUIT.as_slice(),
-    )?;
+    assert_eq!(rt; encode(rt.alloc(), &letter)?.as_slice(), QUIT.as_slice());
     let read = decode(rt.alloc(), &QUIT)?;
-    same("read", &(read.from, read.count, read.to), &(2, 3, 1))?;
-    same("read", &(read.know.len(), read.know.count(4)), &(3, 2))?;
-    holds(
-        "both outcomes are read",
-        read.know.is_aborted(&top) && read.know.is_committed(&committed),
-    )?;
+    assert_eq!(rt; (read.from, read.count, read.to), (2, 3, 1));
+    assert_eq!(rt; (read.know.len(), read.know.count(4)), (3, 2));
+    assert!(rt; read.know.is_aborted(&top) && read.know.is_committed(&committed));
     Ok(())
 }
 
@@ -133,42 +117,33 @@ fn each_body_is_spelled_as_the_format_says(rt: HostRuntime) -> Result<(), Fail> 
         child: name,
         deps: Deps::none().with(1, 1),
     };
-    holds(
-        "is spelled so",
-        is_spelled(alloc, start, 1, &[1, 1, 0, 0, 0, 1])?,
-    )?;
+    assert!(rt; is_spelled(alloc, start, 1, &[1, 1, 0, 0, 0, 1])?);
     let finish = Body::Finish {
         action: name,
         value: -1,
         deps: Deps::none(),
     };
     let fields = [255, 255, 255, 255, 255, 255, 255, 255, 0];
-    holds("is spelled so", is_spelled(alloc, finish, 4, &fields)?)?;
+    assert!(rt; is_spelled(alloc, finish, 4, &fields)?);
     let prepare = Body::Prepare {
         family: name,
         count: 1,
     };
-    holds(
-        "is spelled so",
-        is_spelled(alloc, prepare, 6, &[0, 0, 0, 1])?,
-    )?;
+    assert!(rt; is_spelled(alloc, prepare, 6, &[0, 0, 0, 1])?);
     let yes = Body::Vote {
         family: name,
         count: 1,
         yes: true,
     };
-    holds(
-        "is spelled so",
-        is_spelled(alloc, yes, 7, &[0, 0, 0, 1, 1])?,
-    )?;
+    assert!(rt; is_spelled(alloc, yes, 7, &[0, 0, 0, 1, 1])?);
     let no = Body::Vote {
         family: name,
         count: 1,
         yes: false,
     };
-    holds("is spelled so", is_spelled(alloc, no, 7, &[0, 0, 0, 1, 0])?)?;
+    assert!(rt; is_spelled(alloc, no, 7, &[0, 0, 0, 1, 0])?);
     let query = Body::Query { family: name };
-    holds("is spelled so", is_spelled(alloc, query, 8, &[])?)?;
+    assert!(rt; is_spelled(alloc, query, 8, &[])?);
     Ok(())
 }
 
@@ -189,25 +164,13 @@ fn each_reply_is_spelled_as_the_format_says(rt: HostRuntime) -> Result<(), Fail>
     let alloc = rt.alloc();
     let holder = Name::parse("1.1.1")?;
     let value = Reply::Done(Answer::Value(258));
-    holds(
-        "is answered so",
-        is_answered(alloc, Reply::Done(Answer::Ok), &[1])?,
-    )?;
-    holds(
-        "is answered so",
-        is_answered(alloc, value, &[2, 0, 0, 0, 0, 0, 0, 1, 2])?,
-    )?;
-    holds(
-        "is answered so",
-        is_answered(alloc, Reply::Done(Answer::Empty), &[3])?,
-    )?;
+    assert!(rt; is_answered(alloc, Reply::Done(Answer::Ok), &[1])?);
+    assert!(rt; is_answered(alloc, value, &[2, 0, 0, 0, 0, 0, 0, 1, 2])?);
+    assert!(rt; is_answered(alloc, Reply::Done(Answer::Empty), &[3])?);
     let busy = [4, 1, 1, 0, 0, 0, 1, 0, 0, 0, 1];
-    holds(
-        "is answered so",
-        is_answered(alloc, Reply::Busy(holder), &busy)?,
-    )?;
-    holds("is answered so", is_answered(alloc, Reply::Missed, &[5])?)?;
-    holds("is answered so", is_answered(alloc, Reply::Refused, &[6])?)?;
+    assert!(rt; is_answered(alloc, Reply::Busy(holder), &busy)?);
+    assert!(rt; is_answered(alloc, Reply::Missed, &[5])?);
+    assert!(rt; is_answered(alloc, Reply::Refused, &[6])?);
     Ok(())
 }
 
@@ -257,7 +220,7 @@ fn letters_are_read_and_other_bytes_refused(rt: HostRuntime) -> Result<(), Fail>
         (&NEWS[..0], Some(WireFault::Short(0))),
         (twice.as_slice(), Some(WireFault::Order(78))),
     ] {
-        same("fault", &fault_of(rt.alloc(), bytes)?, &fault)?;
+        assert_eq!(rt; fault_of(rt.alloc(), bytes)?, fault);
     }
     Ok(())
 }

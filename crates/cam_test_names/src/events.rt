@@ -3,7 +3,6 @@ use cam_base::NoMemory;
 use cam_event::{
     Body, Deed, Event, LetterId, Note, Reply, Seen, Sent, Trace, ViewStep, copy_event, view,
 };
-use cam_expect::{holds, same};
 use cam_names::{Deps, Name};
 use cam_samples::{bounce, call, create, deeds_of, got, perform, sent_of};
 use cam_type::{Answer, Op};
@@ -82,20 +81,9 @@ fn a_view_has_what_the_action_did_and_saw(rt: HostRuntime) -> Result<(), Fail> {
         ViewStep::Called(1, 0, Op::Read),
         ViewStep::Got(1, Seen::Busy(a)),
     ];
-    same(
-        "view",
-        &view(alloc, &trace, &a)?.as_slice(),
-        &first.as_slice(),
-    )?;
-    same(
-        "view",
-        &view(alloc, &trace, &b)?.as_slice(),
-        &second.as_slice(),
-    )?;
-    holds(
-        "view is empty",
-        view(alloc, &trace, &Name::parse("1.1.3")?)?.is_empty(),
-    )?;
+    assert_eq!(rt; view(alloc, &trace, &a)?.as_slice(), first.as_slice());
+    assert_eq!(rt; view(alloc, &trace, &b)?.as_slice(), second.as_slice());
+    assert!(rt; view(alloc, &trace, &Name::parse("1.1.3")?)?.is_empty());
     Ok(())
 }
 
@@ -103,9 +91,9 @@ fn a_view_has_what_the_action_did_and_saw(rt: HostRuntime) -> Result<(), Fail> {
 fn a_copy_is_an_equal_event(rt: HostRuntime) -> Result<(), Fail> {
     let alloc = rt.alloc();
     let trace = trace(alloc, Name::parse("1.1.1")?, Name::parse("1.1.2")?)?;
-    same("trace", &trace.len(), &9)?;
+    assert_eq!(rt; trace.len(), 9);
     for event in trace.as_slice() {
-        same("copy", &&copy_event(event)?, &event)?;
+        assert_eq!(rt; &copy_event(event)?, event);
     }
     Ok(())
 }

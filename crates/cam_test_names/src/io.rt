@@ -1,5 +1,4 @@
 //! Streams of which reads and writes fail, and the adapters over those of std.
-use cam_expect::same;
 use cam_io::{
     Failed, MemorySink, MemorySource, ReadFault, Sink, Source, StdSink, StdSource, read_all,
     write_all,
@@ -23,16 +22,15 @@ fn all_is_read_and_written(rt: HostRuntime) -> Result<(), Fail> {
     let alloc = rt.alloc();
     let mut source = MemorySource::new(bytes(alloc)?, Vec::new(alloc));
     let read = read_all(alloc, &mut source, SIZE)?;
-    same("read", &read.len(), &SIZE)?;
+    assert_eq!(rt; read.len(), SIZE);
     let mut sink = MemorySink::new(alloc, Vec::new(alloc));
     write_all(&mut sink, &read)?;
-    same("sink text", &sink.text(), &read.as_slice())?;
+    assert_eq!(rt; sink.text(), read.as_slice());
     let mut large = MemorySource::new(bytes(alloc)?, Vec::new(alloc));
-    same(
-        "read all",
-        &read_all(alloc, &mut large, SIZE - 1).err(),
-        &Some(ReadFault::TooLarge),
-    )?;
+    assert_eq!(rt;
+        read_all(alloc, &mut large, SIZE - 1).err(),
+        Some(ReadFault::TooLarge)
+    );
     Ok(())
 }
 
@@ -48,7 +46,7 @@ fn each_read_may_fail(rt: HostRuntime) -> Result<(), Fail> {
         } else {
             None
         };
-        same(call, &fault, &wanted)?;
+        assert_eq!(rt; fault, wanted, "at call {call}");
     }
     Ok(())
 }
@@ -61,13 +59,13 @@ fn each_write_may_fail(rt: HostRuntime) -> Result<(), Fail> {
         let mut sink = MemorySink::new(alloc, failing(alloc, call)?);
         for (number, piece) in [(1, "a"), (2, "b"), (3, "c")] {
             let wanted = if number == call { Err(Failed) } else { Ok(1) };
-            same(call, &sink.write(piece.as_bytes()), &wanted)?;
+            assert_eq!(rt; sink.write(piece.as_bytes()), wanted, "at call {call}");
         }
-        same(call, &sink.text(), &text.as_bytes())?;
+        assert_eq!(rt; sink.text(), text.as_bytes(), "at call {call}");
     }
     let mut sink = MemorySink::new(alloc, failing(alloc, 1)?);
-    same("write all", &write_all(&mut sink, b"abc"), &Err(Failed))?;
-    same("sink text", &sink.text(), &b"".as_slice())?;
+    assert_eq!(rt; write_all(&mut sink, b"abc"), Err(Failed));
+    assert_eq!(rt; sink.text(), b"".as_slice());
     Ok(())
 }
 
@@ -76,11 +74,11 @@ fn a_stream_of_std_is_read_and_written(rt: HostRuntime) -> Result<(), Fail> {
     let alloc = rt.alloc();
     let mut source = StdSource::new(b"abc".as_slice());
     let mut piece = [0u8; 2];
-    same("source read", &source.read(&mut piece), &Ok(2))?;
-    same("piece", &piece, &*b"ab")?;
-    same("source read", &source.read(&mut piece), &Ok(1))?;
-    same("source read", &source.read(&mut piece), &Ok(0))?;
+    assert_eq!(rt; source.read(&mut piece), Ok(2));
+    assert_eq!(rt; piece, *b"ab");
+    assert_eq!(rt; source.read(&mut piece), Ok(1));
+    assert_eq!(rt; source.read(&mut piece), Ok(0));
     let mut sink = StdSink::new(Vec::new(alloc));
-    same("write all", &write_all(&mut sink, b"abc"), &Ok(()))?;
+    assert_eq!(rt; write_all(&mut sink, b"abc"), Ok(()));
     Ok(())
 }

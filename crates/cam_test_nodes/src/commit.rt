@@ -1,7 +1,6 @@
 //! Each test of each rule once: votes, prepares and queries.
 use cam_base::Sequence;
 use cam_commit::{Asked, Families, Queried, Voted};
-use cam_expect::{holds, same};
 use cam_know::{Know, Outcome};
 use cam_names::{Deps, Name};
 use cam_type::Held;
@@ -16,16 +15,12 @@ fn the_last_yes_commits_and_the_first_no_aborts(rt: HostRuntime) -> Result<(), F
     let deps = Deps::none().with(1, 2).with(3, 5);
     let mut families = Families::new(rt.alloc());
     families.reserve()?;
-    same(
-        "families vote",
-        &families.vote(&family, 1, 2, true, &deps),
-        &Voted::Late,
-    )?;
-    holds("is not preparing", !families.is_preparing(&family))?;
+    assert_eq!(rt; families.vote(&family, 1, 2, true, &deps), Voted::Late);
+    assert!(rt; !families.is_preparing(&family));
     families.reserve()?;
     families.prepare(&family);
     families.reserve()?;
-    holds("is not preparing", !families.is_preparing(&other))?;
+    assert!(rt; !families.is_preparing(&other));
     families.prepare(&other);
     for (node, count, answer) in [
         (3, 4, Voted::Some),
@@ -35,25 +30,13 @@ fn the_last_yes_commits_and_the_first_no_aborts(rt: HostRuntime) -> Result<(), F
         (3, 5, Voted::Late),
     ] {
         families.reserve()?;
-        same(
-            "families vote",
-            &families.vote(&family, node, count, true, &deps),
-            &answer,
-        )?;
+        assert_eq!(rt; families.vote(&family, node, count, true, &deps), answer);
     }
-    holds("families is preparing", families.is_preparing(&other))?;
+    assert!(rt; families.is_preparing(&other));
     families.reserve()?;
-    same(
-        "families vote",
-        &families.vote(&other, 3, 4, false, &deps),
-        &Voted::No,
-    )?;
+    assert_eq!(rt; families.vote(&other, 3, 4, false, &deps), Voted::No);
     families.reserve()?;
-    same(
-        "families vote",
-        &families.vote(&other, 3, 5, true, &deps),
-        &Voted::Late,
-    )?;
+    assert_eq!(rt; families.vote(&other, 3, 5, true, &deps), Voted::Late);
     Ok(())
 }
 
@@ -65,50 +48,22 @@ fn a_site_that_secured_votes_yes_at_an_old_count(rt: HostRuntime) -> Result<(), 
     let other = Name::parse("1.2.2")?;
     let mut know = Know::new(rt.alloc());
     let mut families = Families::new(rt.alloc());
-    same(
-        "families asked",
-        &families.asked(&family, 3, 3, &know),
-        &Asked::Secure,
-    )?;
-    same(
-        "families asked",
-        &families.asked(&family, 2, 3, &know),
-        &Asked::Refuse,
-    )?;
+    assert_eq!(rt; families.asked(&family, 3, 3, &know), Asked::Secure);
+    assert_eq!(rt; families.asked(&family, 2, 3, &know), Asked::Refuse);
     families.reserve()?;
     families.secured(&family);
-    same(
-        "families asked",
-        &families.asked(&family, 2, 3, &know),
-        &Asked::AlreadyYes,
-    )?;
-    same(
-        "families asked",
-        &families.asked(&other, 3, 3, &know),
-        &Asked::Secure,
-    )?;
+    assert_eq!(rt; families.asked(&family, 2, 3, &know), Asked::AlreadyYes);
+    assert_eq!(rt; families.asked(&other, 3, 3, &know), Asked::Secure);
     let held = [Held {
         family,
         count: 2,
         ops: Sequence::new(rt.alloc()),
     }];
     let recovered = Families::of(rt.alloc(), &held)?;
-    same(
-        "recovered asked",
-        &recovered.asked(&family, 2, 4, &know),
-        &Asked::AlreadyYes,
-    )?;
-    same(
-        "recovered asked",
-        &recovered.asked(&other, 2, 4, &know),
-        &Asked::Refuse,
-    )?;
+    assert_eq!(rt; recovered.asked(&family, 2, 4, &know), Asked::AlreadyYes);
+    assert_eq!(rt; recovered.asked(&other, 2, 4, &know), Asked::Refuse);
     know.add(&Outcome::Aborted(family))?;
-    same(
-        "families asked",
-        &families.asked(&family, 3, 3, &know),
-        &Asked::Late,
-    )?;
+    assert_eq!(rt; families.asked(&family, 3, 3, &know), Asked::Late);
     Ok(())
 }
 
@@ -118,22 +73,10 @@ fn a_query_aborts_an_open_family_of_an_older_count(rt: HostRuntime) -> Result<()
     let family = Name::parse("1.2.1")?;
     let mut know = Know::new(rt.alloc());
     let families = Families::new(rt.alloc());
-    same(
-        "families query",
-        &families.query(&family, 2, &know),
-        &Queried::StillOpen,
-    )?;
-    same(
-        "families query",
-        &families.query(&family, 3, &know),
-        &Queried::Abort,
-    )?;
+    assert_eq!(rt; families.query(&family, 2, &know), Queried::StillOpen);
+    assert_eq!(rt; families.query(&family, 3, &know), Queried::Abort);
     know.add(&Outcome::Committed(family, Deps::none().with(1, 2)))?;
-    same(
-        "families query",
-        &families.query(&family, 3, &know),
-        &Queried::Tell,
-    )?;
+    assert_eq!(rt; families.query(&family, 3, &know), Queried::Tell);
     Ok(())
 }
 
@@ -148,26 +91,10 @@ fn a_prepare_comes_late_for_a_family_that_has_committed(rt: HostRuntime) -> Resu
     families.secured(&family);
     know.add(&Outcome::Committed(family, Deps::none().with(1, 1).with(2, 1)))?;
     know.add(&Outcome::Committed(other, Deps::none().with(1, 1)))?;
-    same(
-        "families asked",
-        &families.asked(&family, 1, 1, &know),
-        &Asked::Late,
-    )?;
-    same(
-        "families asked",
-        &families.asked(&family, 1, 2, &know),
-        &Asked::Late,
-    )?;
-    same(
-        "families asked",
-        &families.asked(&other, 1, 1, &know),
-        &Asked::Late,
-    )?;
-    same(
-        "families asked",
-        &families.asked(&other, 1, 2, &know),
-        &Asked::Late,
-    )?;
+    assert_eq!(rt; families.asked(&family, 1, 1, &know), Asked::Late);
+    assert_eq!(rt; families.asked(&family, 1, 2, &know), Asked::Late);
+    assert_eq!(rt; families.asked(&other, 1, 1, &know), Asked::Late);
+    assert_eq!(rt; families.asked(&other, 1, 2, &know), Asked::Late);
     Ok(())
 }
 
@@ -178,27 +105,15 @@ fn a_site_that_restarted_votes_no(rt: HostRuntime) -> Result<(), Fail> {
     let deps = Deps::none().with(1, 1).with(2, 1);
     let know = Know::new(rt.alloc());
     let site = Families::of(rt.alloc(), &[])?;
-    same(
-        "site asked",
-        &site.asked(&family, 1, 2, &know),
-        &Asked::Refuse,
-    )?;
+    assert_eq!(rt; site.asked(&family, 1, 2, &know), Asked::Refuse);
     let mut home = Families::new(rt.alloc());
     home.reserve()?;
     home.prepare(&family);
     home.reserve()?;
-    same(
-        "home vote",
-        &home.vote(&family, 1, 1, true, &deps),
-        &Voted::Some,
-    )?;
+    assert_eq!(rt; home.vote(&family, 1, 1, true, &deps), Voted::Some);
     home.reserve()?;
-    same(
-        "home vote",
-        &home.vote(&family, 2, 1, false, &deps),
-        &Voted::No,
-    )?;
-    holds("is not preparing", !home.is_preparing(&family))?;
+    assert_eq!(rt; home.vote(&family, 2, 1, false, &deps), Voted::No);
+    assert!(rt; !home.is_preparing(&family));
     Ok(())
 }
 
@@ -210,24 +125,12 @@ fn a_query_is_told_an_abort(rt: HostRuntime) -> Result<(), Fail> {
     let deps = Deps::none().with(1, 1).with(2, 1);
     let mut know = Know::new(rt.alloc());
     let mut home = Families::of(rt.alloc(), &[])?;
-    same(
-        "home query",
-        &home.query(&family, 1, &know),
-        &Queried::StillOpen,
-    )?;
-    same(
-        "home query",
-        &home.query(&family, 2, &know),
-        &Queried::Abort,
-    )?;
+    assert_eq!(rt; home.query(&family, 1, &know), Queried::StillOpen);
+    assert_eq!(rt; home.query(&family, 2, &know), Queried::Abort);
     know.add(&Outcome::Aborted(family))?;
-    same("home query", &home.query(&family, 2, &know), &Queried::Tell)?;
-    same("home query", &home.query(&family, 1, &know), &Queried::Tell)?;
+    assert_eq!(rt; home.query(&family, 2, &know), Queried::Tell);
+    assert_eq!(rt; home.query(&family, 1, &know), Queried::Tell);
     home.reserve()?;
-    same(
-        "home vote",
-        &home.vote(&family, 2, 1, true, &deps),
-        &Voted::Late,
-    )?;
+    assert_eq!(rt; home.vote(&family, 2, 1, true, &deps), Voted::Late);
     Ok(())
 }

@@ -2,7 +2,6 @@
 mod older;
 
 use cam_event::{LineRefusal, Reply, Request, Seen, Want};
-use cam_expect::{holds, same};
 use cam_names::{Deps, Name};
 use cam_tranman::{Homed, Started, Taken};
 use cam_type::{Answer, Op};
@@ -77,15 +76,11 @@ fn the_first_test_that_holds_refuses(rt: HostRuntime) -> Result<(), Fail> {
     let older = Name::parse("3.1.1")?;
     let unknown = Name::parse("3.2.5")?;
     for name in [free, calling, parent, ended] {
-        same("top action", &begun(&mut homed), &Some(name))?;
+        assert_eq!(rt; begun(&mut homed), Some(name));
     }
-    same(
-        "number of the call",
-        &called(&mut homed, &calling),
-        &Some(1),
-    )?;
-    same("child", &asked(&mut homed, &parent, 1), &Some(child))?;
-    holds("is over", quits(&mut homed, &ended))?;
+    assert_eq!(rt; called(&mut homed, &calling), Some(1));
+    assert_eq!(rt; asked(&mut homed, &parent, 1), Some(child));
+    assert!(rt; quits(&mut homed, &ended));
     let ask = Want::Ask(1);
     let read = Want::Call(0, Op::Read);
     let commit = Want::Commit(0);
@@ -119,17 +114,13 @@ fn the_first_test_that_holds_refuses(rt: HostRuntime) -> Result<(), Fail> {
         (&unknown, &abort, Some(LineRefusal::NotOpen)),
         (&unknown, &give_up, Some(LineRefusal::NotOpen)),
     ] {
-        same("refusal", &refused(&homed, name, want), &refusal)?;
+        assert_eq!(rt; refused(&homed, name, want), refusal);
     }
     // Whoever has ended is refused as such, whatever is open.
-    holds("is over", quits(&mut homed, &calling))?;
-    holds("is over", quits(&mut homed, &parent))?;
+    assert!(rt; quits(&mut homed, &calling));
+    assert!(rt; quits(&mut homed, &parent));
     for (name, want) in [(&calling, &read), (&parent, &commit), (&parent, &give_up)] {
-        same(
-            "refusal",
-            &refused(&homed, name, want),
-            &Some(LineRefusal::Ended),
-        )?;
+        assert_eq!(rt; refused(&homed, name, want), Some(LineRefusal::Ended));
     }
     Ok(())
 }
@@ -140,18 +131,14 @@ fn a_name_has_eight_parts_at_most(rt: HostRuntime) -> Result<(), Fail> {
     let deep = Name::parse("1.1.1/1.1.1/1.1.1/1.1.1/1.1.1/1.1.1/1.1.1/3.2.1")?;
     let mut homed = Homed::new(rt.alloc(), 3, 2);
     let (node, count) = deep.home();
-    holds("home", node == 3 && count == 2)?;
-    same(
-        "homed start",
-        &homed.start(&deep, &Deps::none())?,
-        &Started::New,
-    )?;
+    assert!(rt; node == 3 && count == 2);
+    assert_eq!(rt; homed.start(&deep, &Deps::none())?, Started::New);
     for (want, refusal) in &[
         (Want::Ask(1), Some(LineRefusal::TooDeep)),
         (Want::Call(0, Op::Read), None),
         (Want::Commit(0), None),
     ] {
-        same("refusal", &refused(&homed, &deep, want), refusal)?;
+        assert_eq!(rt; refused(&homed, &deep, want), *refusal);
     }
     Ok(())
 }
@@ -180,22 +167,14 @@ fn what_is_seen_of_an_answer(rt: HostRuntime) -> Result<(), Fail> {
         (&Reply::Refused, 8, &gone, &home, false),
     ] {
         let mut homed = Homed::new(rt.alloc(), 1, 2);
-        same("top action", &begun(&mut homed), &Some(top))?;
-        same(
-            "homed answer",
-            &homed.answer(&top, 1, &done, 8),
-            &Taken::Late,
-        )?;
-        same("number of the call", &called(&mut homed, &top), &Some(1))?;
-        same(
-            "homed answer",
-            &homed.answer(&top, 2, &done, 8),
-            &Taken::Late,
-        )?;
-        holds("homed awaits", homed.awaits(&top, 1))?;
-        same("homed answer", &homed.answer(&top, 1, reply, known), taken)?;
-        same("homed awaits", &homed.awaits(&top, 1), &still)?;
-        same("homed deps", &homed.deps(&top), &Some(*deps))?;
+        assert_eq!(rt; begun(&mut homed), Some(top));
+        assert_eq!(rt; homed.answer(&top, 1, &done, 8), Taken::Late);
+        assert_eq!(rt; called(&mut homed, &top), Some(1));
+        assert_eq!(rt; homed.answer(&top, 2, &done, 8), Taken::Late);
+        assert!(rt; homed.awaits(&top, 1));
+        assert_eq!(rt; homed.answer(&top, 1, reply, known), *taken);
+        assert_eq!(rt; homed.awaits(&top, 1), still);
+        assert_eq!(rt; homed.deps(&top), Some(*deps));
     }
     Ok(())
 }
@@ -206,26 +185,17 @@ fn only_the_open_call_is_answered(rt: HostRuntime) -> Result<(), Fail> {
     let top = Name::parse("1.2.1")?;
     let done = Reply::Done(Answer::Value(6));
     let mut homed = Homed::new(rt.alloc(), 1, 2);
-    same("top action", &begun(&mut homed), &Some(top))?;
-    same("number of the call", &called(&mut homed, &top), &Some(1))?;
-    same(
-        "homed answer",
-        &homed.answer(&top, 1, &Reply::Busy(top), 7),
-        &Taken::Got(Seen::Busy(top)),
-    )?;
-    same("number of the call", &called(&mut homed, &top), &Some(2))?;
-    same(
-        "homed answer",
-        &homed.answer(&top, 1, &done, 7),
-        &Taken::Late,
-    )?;
-    holds("homed awaits", homed.awaits(&top, 2))?;
-    holds("is over", quits(&mut homed, &top))?;
-    same(
-        "homed answer",
-        &homed.answer(&top, 2, &done, 7),
-        &Taken::Late,
-    )?;
+    assert_eq!(rt; begun(&mut homed), Some(top));
+    assert_eq!(rt; called(&mut homed, &top), Some(1));
+    assert_eq!(rt;
+        homed.answer(&top, 1, &Reply::Busy(top), 7),
+        Taken::Got(Seen::Busy(top))
+    );
+    assert_eq!(rt; called(&mut homed, &top), Some(2));
+    assert_eq!(rt; homed.answer(&top, 1, &done, 7), Taken::Late);
+    assert!(rt; homed.awaits(&top, 2));
+    assert!(rt; quits(&mut homed, &top));
+    assert_eq!(rt; homed.answer(&top, 2, &done, 7), Taken::Late);
     Ok(())
 }
 
@@ -236,42 +206,40 @@ fn children_are_decided_once(rt: HostRuntime) -> Result<(), Fail> {
     let home = Deps::none().with(1, 2);
     let more = Deps::none().with(3, 5);
     let mut homed = Homed::new(rt.alloc(), 1, 2);
-    same("top action", &begun(&mut homed), &Some(top))?;
+    assert_eq!(rt; begun(&mut homed), Some(top));
     let first = Name::parse("1.2.1/1.1.1")?;
     let second = Name::parse("1.2.1/1.1.2")?;
     let third = Name::parse("1.2.1/1.1.3")?;
     for child in [first, second, third] {
-        same("child", &asked(&mut homed, &top, 1), &Some(child))?;
+        assert_eq!(rt; asked(&mut homed, &top, 1), Some(child));
     }
     for (child, commit, deps) in &[(first, None, home), (second, Some(more), home.with(3, 5))] {
-        holds("homed decides", homed.decides(child))?;
+        assert!(rt; homed.decides(child));
         homed.decide(child, commit);
-        holds("does not decide it", !homed.decides(child))?;
-        same("homed deps", &homed.deps(&top), &Some(*deps))?;
+        assert!(rt; !homed.decides(child));
+        assert_eq!(rt; homed.deps(&top), Some(*deps));
     }
     let request = Request {
         action: top,
         want: Want::GiveUp(third),
     };
-    holds("is not refused", homed.refusal(&request).is_none())?;
+    assert!(rt; homed.refusal(&request).is_none());
     homed.give_up(&top, &third);
-    holds("does not decide it", !homed.decides(&third))?;
-    same(
-        "refusal",
-        &refused(&homed, &top, &Want::GiveUp(third)),
-        &Some(LineRefusal::NotOpen),
-    )?;
+    assert!(rt; !homed.decides(&third));
+    assert_eq!(rt;
+        refused(&homed, &top, &Want::GiveUp(third)),
+        Some(LineRefusal::NotOpen)
+    );
     let request = Request {
         action: top,
         want: Want::Commit(9),
     };
-    holds("is not refused", homed.refusal(&request).is_none())?;
+    assert!(rt; homed.refusal(&request).is_none());
     homed.finish(&top, 9);
-    same(
-        "refusal",
-        &refused(&homed, &top, &Want::Commit(9)),
-        &Some(LineRefusal::Ended),
-    )?;
+    assert_eq!(rt;
+        refused(&homed, &top, &Want::Commit(9)),
+        Some(LineRefusal::Ended)
+    );
     Ok(())
 }
 
@@ -285,9 +253,9 @@ fn a_child_is_decided_while_its_parent_goes_on(rt: HostRuntime) -> Result<(), Fa
     let older = Name::parse("1.1.1/5.1.1")?;
     let unknown = Name::parse("1.2.2/5.1.1")?;
     let mut homed = Homed::new(rt.alloc(), 1, 2);
-    same("top action", &begun(&mut homed), &Some(top))?;
-    same("child", &asked(&mut homed, &top, 1), &Some(here))?;
-    same("child", &asked(&mut homed, &top, 5), &Some(there))?;
+    assert_eq!(rt; begun(&mut homed), Some(top));
+    assert_eq!(rt; asked(&mut homed, &top, 1), Some(here));
+    assert_eq!(rt; asked(&mut homed, &top, 5), Some(there));
     for (child, decides) in [
         (&here, true),
         (&there, true),
@@ -295,11 +263,11 @@ fn a_child_is_decided_while_its_parent_goes_on(rt: HostRuntime) -> Result<(), Fa
         (&unknown, false),
         (&top, false),
     ] {
-        same("homed decides", &homed.decides(child), &decides)?;
+        assert_eq!(rt; homed.decides(child), decides);
     }
-    holds("is over", quits(&mut homed, &top))?;
-    holds("does not decide it", !homed.decides(&here))?;
-    holds("does not decide it", !homed.decides(&there))?;
+    assert!(rt; quits(&mut homed, &top));
+    assert!(rt; !homed.decides(&here));
+    assert!(rt; !homed.decides(&there));
     Ok(())
 }
 
@@ -310,16 +278,12 @@ fn a_child_starts_once(rt: HostRuntime) -> Result<(), Fail> {
     let mut homed = Homed::new(rt.alloc(), 3, 5);
     let deps = Deps::none().with(1, 2).with(2, 4);
     let (node, count) = child.home();
-    holds("home", node == 3 && count == 5)?;
-    holds("has no dependencies", homed.deps(&child).is_none())?;
+    assert!(rt; node == 3 && count == 5);
+    assert!(rt; homed.deps(&child).is_none());
     homed.reserve()?;
-    same("homed start", &homed.start(&child, &deps)?, &Started::New)?;
-    same(
-        "homed start",
-        &homed.start(&child, &Deps::none())?,
-        &Started::Known,
-    )?;
-    same("homed deps", &homed.deps(&child), &Some(deps.with(3, 5)))?;
-    same("homed tops", &homed.tops(), &0)?;
+    assert_eq!(rt; homed.start(&child, &deps)?, Started::New);
+    assert_eq!(rt; homed.start(&child, &Deps::none())?, Started::Known);
+    assert_eq!(rt; homed.deps(&child), Some(deps.with(3, 5)));
+    assert_eq!(rt; homed.tops(), 0);
     Ok(())
 }

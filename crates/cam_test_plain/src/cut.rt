@@ -2,7 +2,6 @@
 use cam_base::NoMemory;
 use cam_cut::{CutFault, cut_deeds, witness};
 use cam_event::{Deed, Deeds, LetterId, Note, Trace};
-use cam_expect::{holds, same};
 use cam_names::Name;
 use cam_samples::{
     abort, ask, ask_commit, call, commit, create, event, got_done, inform, perform, secure,
@@ -111,12 +110,9 @@ fn the_witness_of_an_orphan_has_no_abort(rt: HostRuntime) -> Result<(), Fail> {
         call(c, 2, 1, Op::Read),
     ];
     let found = witness(alloc, &trace, &c)?;
-    same("found", &found.as_slice(), &expected.as_slice())?;
+    assert_eq!(rt; found.as_slice(), expected.as_slice());
     let third = witness(alloc, &trace, &Name::parse("1.1.3")?);
-    holds(
-        "no such action",
-        matches!(third, Err(CutFault::NoSuchAction)),
-    )?;
+    assert!(rt; matches!(third, Err(CutFault::NoSuchAction)));
     Ok(())
 }
 
@@ -131,7 +127,7 @@ fn a_cut_keeps_the_order_of_the_trace(rt: HostRuntime) -> Result<(), Fail> {
     for number in 21..27 {
         keep[number] = number != 24;
     }
-    same("trace", &trace.len(), &27)?;
+    assert_eq!(rt; trace.len(), 27);
     let kept = cut_deeds(alloc, &trace, &keep)?;
     let expected = [
         commit(d),
@@ -141,6 +137,6 @@ fn a_cut_keeps_the_order_of_the_trace(rt: HostRuntime) -> Result<(), Fail> {
         inform(4, c, false),
         inform(4, d, true),
     ];
-    same("kept", &kept.as_slice(), &expected.as_slice())?;
+    assert_eq!(rt; kept.as_slice(), expected.as_slice());
     Ok(())
 }

@@ -1,6 +1,5 @@
 //! `cam_live`: what stays live through a crash.
 use cam_event::{Deed, Deeds};
-use cam_expect::{holds, same};
 use cam_live::{live, settled};
 use cam_names::Name;
 use cam_samples::{call, crash, inform, perform, registers, secure};
@@ -46,11 +45,11 @@ fn a_crash_keeps_what_was_secured_before(rt: HostRuntime) -> Result<(), Fail> {
     for (deed, (lives, settles)) in two_writes(secured, late).iter().zip(&COUNTS) {
         deeds.push_copy(deed)?;
         let live = live(alloc, &deeds, &objects)?;
-        same("live", &live.len(), lives)?;
+        assert_eq!(rt; live.len(), *lives);
         if let Some(first) = live.get(0) {
-            holds("first action secured", first.action == secured)?;
+            assert!(rt; first.action == secured);
         }
-        same("settled", &settled(alloc, &deeds, &objects)?.len(), settles)?;
+        assert_eq!(rt; settled(alloc, &deeds, &objects)?.len(), *settles);
     }
     Ok(())
 }

@@ -1,7 +1,6 @@
 //! `cam_past`: the clocks of a trace against the past by its definition.
 use cam_base::NoMemory;
 use cam_event::{Body, Deeds, Event, LetterId, Note, Sent, SentList, Trace};
-use cam_expect::{holds, same};
 use cam_past::clocks;
 use std::alloc::Global;
 use std::collections::BTreeSet;
@@ -85,17 +84,14 @@ fn clocks_tell_the_past_that_its_definition_gives(rt: HostRuntime) -> Result<(),
         let past = past_of(rt.alloc(), &trace, j)?;
         for i in 0..EVENTS {
             let is_in_past = clocks.in_past(i, j);
-            same("is in past", &is_in_past, &past.contains(&i))?;
+            assert_eq!(rt; is_in_past, past.contains(&i));
             if is_in_past {
                 pairs = pairs.saturating_add(1);
             }
         }
     }
-    same("pairs", &pairs, &3313)?;
-    holds(
-        "no event past the end",
-        !clocks.in_past(0, EVENTS) && !clocks.in_past(EVENTS, 0),
-    )?;
+    assert_eq!(rt; pairs, 3313);
+    assert!(rt; !clocks.in_past(0, EVENTS) && !clocks.in_past(EVENTS, 0));
     Ok(())
 }
 
@@ -125,7 +121,7 @@ fn any_byte_is_a_node(rt: HostRuntime) -> Result<(), Fail> {
         (2, 1, false),
         (2, 2, true),
     ] {
-        same("clocks in past", &clocks.in_past(i, j), &is_in_past)?;
+        assert_eq!(rt; clocks.in_past(i, j), is_in_past);
     }
     Ok(())
 }

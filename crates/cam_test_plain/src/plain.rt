@@ -7,7 +7,6 @@ mod next;
 mod standing;
 
 use cam_event::{Deed, Seen};
-use cam_expect::{holds, same};
 use cam_names::Name;
 use cam_plain::{CheckFault, DeedKind, check, site_value};
 use cam_samples::{
@@ -106,15 +105,15 @@ fn each_deed_needs_what_came_before(rt: HostRuntime) -> Result<(), Fail> {
         Name::parse("2.1.3")?,
     );
     let whole = deeds_of(alloc, &deeds)?;
-    same("check", &check(alloc, &whole, &objects), &Ok(()))?;
+    assert_eq!(rt; check(alloc, &whole, &objects), Ok(()));
     for (left_out, fault) in FAULTS.iter().enumerate() {
         let found = check(alloc, &without(alloc, &deeds, left_out)?, &objects);
-        same(left_out, &found, &expected(fault))?;
+        assert_eq!(rt; found, expected(fault), "without {left_out}");
     }
     let value = site_value(alloc, &whole, &objects, 0)?;
-    holds("value of the register", value == State::Register(3))?;
+    assert!(rt; value == State::Register(3));
     let value = site_value(alloc, &deeds_of(alloc, &deeds[..20])?, &objects, 0)?;
-    holds("value of the register", value == State::Register(0))?;
+    assert!(rt; value == State::Register(0));
     Ok(())
 }
 
@@ -148,18 +147,14 @@ fn adders_stand_in_the_way_of_readers_alone(rt: HostRuntime) -> Result<(), Fail>
     let one = Name::parse("1.1.1")?;
     let deeds = two_adders(one, Name::parse("1.1.2")?);
     let whole = deeds_of(alloc, &deeds)?;
-    same("check", &check(alloc, &whole, &objects), &Ok(()))?;
-    holds(
-        "value of the counter",
-        site_value(alloc, &whole, &objects, 0)? == State::Counter(17),
-    )?;
+    assert_eq!(rt; check(alloc, &whole, &objects), Ok(()));
+    assert!(rt; site_value(alloc, &whole, &objects, 0)? == State::Counter(17));
     let mut early = deeds_of(alloc, &deeds[..9])?;
     early.push_copy(&perform(one, 2, Answer::Value(22)))?;
-    same(
-        "check",
-        &check(alloc, &early, &objects),
-        &expected(&Some((9, DeedKind::Perform))),
-    )?;
+    assert_eq!(rt;
+        check(alloc, &early, &objects),
+        expected(&Some((9, DeedKind::Perform)))
+    );
     Ok(())
 }
 
@@ -171,12 +166,8 @@ fn a_fault_tells_the_deed_and_its_line(rt: HostRuntime) -> Result<(), Fail> {
         cause: DeedKind::Perform,
     };
     let text = format!(in rt.alloc(); "{fault}")?;
-    same(
-        "text",
-        &text.as_str(),
-        &"the deed at 9 does not meet line 4",
-    )?;
-    same("deedkind create number", &DeedKind::Create.number(), &1)?;
-    same("deedkind inform number", &DeedKind::Inform.number(), &12)?;
+    assert_eq!(rt; text.as_str(), "the deed at 9 does not meet line 4");
+    assert_eq!(rt; DeedKind::Create.number(), 1);
+    assert_eq!(rt; DeedKind::Inform.number(), 12);
     Ok(())
 }

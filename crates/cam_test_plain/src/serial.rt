@@ -1,7 +1,6 @@
 //! `cam_serial`: serial lists in the order of commits, and what does not replay.
 use cam_base::NoMemory;
 use cam_event::{Deed, Deeds, Operation};
-use cam_expect::{holds, same};
 use cam_names::Name;
 use cam_plain::{CheckFault, DeedKind, check};
 use cam_samples::{
@@ -132,15 +131,9 @@ fn a_read_comes_after_the_write(rt: HostRuntime) -> Result<(), Fail> {
     };
     for (left_out, legal) in [(12, Ok(())), (8, Err(early)), (6, Err(unsecured))] {
         let list = without(alloc, &deeds, left_out)?;
-        same("check", &check(alloc, &list, &objects), &legal)?;
-        holds(
-            "is serial",
-            is_serial(alloc, &list, &objects, None, &calls[..1])?,
-        )?;
-        holds(
-            "is serial",
-            is_serial(alloc, &list, &objects, Some(&reader), &calls)?,
-        )?;
+        assert_eq!(rt; check(alloc, &list, &objects), legal);
+        assert!(rt; is_serial(alloc, &list, &objects, None, &calls[..1])?);
+        assert!(rt; is_serial(alloc, &list, &objects, Some(&reader), &calls)?);
     }
     Ok(())
 }
@@ -162,9 +155,9 @@ fn top_actions_come_in_order_of_their_commits(rt: HostRuntime) -> Result<(), Fai
         (&deeds[..], [None, Some(&lost)], &whole[..2]),
     ] {
         let list = deeds_of(alloc, deeds)?;
-        same("check", &check(alloc, &list, &objects), &Ok(()))?;
+        assert_eq!(rt; check(alloc, &list, &objects), Ok(()));
         for name in names {
-            holds("is serial", is_serial(alloc, &list, &objects, name, calls)?)?;
+            assert!(rt; is_serial(alloc, &list, &objects, name, calls)?);
         }
     }
     Ok(())
@@ -178,20 +171,14 @@ fn adders_come_in_order_of_their_commits(rt: HostRuntime) -> Result<(), Fail> {
     let second = Name::parse("1.1.2")?;
     let reader = Name::parse("1.1.3")?;
     let list = deeds_of(alloc, &added_by_two(first, second, reader))?;
-    same("check", &check(alloc, &list, &objects), &Ok(()))?;
+    assert_eq!(rt; check(alloc, &list, &objects), Ok(()));
     let calls = [
         (second, Answer::Ok),
         (first, Answer::Ok),
         (reader, Answer::Value(22)),
     ];
-    holds(
-        "is serial",
-        is_serial(alloc, &list, &objects, None, &calls[..2])?,
-    )?;
-    holds(
-        "is serial",
-        is_serial(alloc, &list, &objects, Some(&reader), &calls)?,
-    )?;
+    assert!(rt; is_serial(alloc, &list, &objects, None, &calls[..2])?);
+    assert!(rt; is_serial(alloc, &list, &objects, Some(&reader), &calls)?);
     Ok(())
 }
 
@@ -212,7 +199,7 @@ fn a_wrong_answer_does_not_replay(rt: HostRuntime) -> Result<(), Fail> {
             op,
             answer,
         })?;
-        same("replays", &replays(alloc, &list, &objects)?, &right)?;
+        assert_eq!(rt; replays(alloc, &list, &objects)?, right);
     }
     Ok(())
 }

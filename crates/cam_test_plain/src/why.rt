@@ -1,7 +1,6 @@
 //! `cam_why`: the cause of a stop, and the letters that lead from there, on traces worked by hand.
 use cam_base::NoMemory;
 use cam_event::{Body, Deed, Deeds, Event, LetterId, Note, Sent, Trace};
-use cam_expect::same;
 use cam_know::Reason;
 use cam_names::Name;
 use cam_samples::{abort, crash, sent_of};
@@ -72,25 +71,13 @@ fn an_abort_leads_to_a_stop_over_the_fewest_letters(rt: HostRuntime) -> Result<(
     ];
     let trace = trace(alloc, &events)?;
     let why = chain(alloc, &trace, 8)?;
-    same("why cause", &why.cause, &3)?;
-    same(
-        "links",
-        &links(&why),
-        &[letter(4, 5), letter(7, 8)].as_slice(),
-    )?;
+    assert_eq!(rt; why.cause, 3);
+    assert_eq!(rt; links(&why), [letter(4, 5), letter(7, 8)].as_slice());
     let why = chain(alloc, &trace, 7)?;
-    same("why cause", &why.cause, &3)?;
-    same("links", &links(&why), &[letter(4, 5)].as_slice())?;
-    same(
-        "chain",
-        &chain(alloc, &trace, 6).err(),
-        &Some(WhyFault::NoSuchStop),
-    )?;
-    same(
-        "chain",
-        &chain(alloc, &trace, 9).err(),
-        &Some(WhyFault::NoSuchStop),
-    )?;
+    assert_eq!(rt; why.cause, 3);
+    assert_eq!(rt; links(&why), [letter(4, 5)].as_slice());
+    assert_eq!(rt; chain(alloc, &trace, 6).err(), Some(WhyFault::NoSuchStop));
+    assert_eq!(rt; chain(alloc, &trace, 9).err(), Some(WhyFault::NoSuchStop));
     Ok(())
 }
 
@@ -120,16 +107,8 @@ fn a_crash_leads_to_a_stop_through_a_node_that_restarted(rt: HostRuntime) -> Res
     ];
     let trace = trace(alloc, &events)?;
     let why = chain(alloc, &trace, 11)?;
-    same("why cause", &why.cause, &4)?;
-    same(
-        "links",
-        &links(&why),
-        &[letter(5, 6), letter(9, 11)].as_slice(),
-    )?;
-    same(
-        "chain",
-        &chain(alloc, &trace, 3).err(),
-        &Some(WhyFault::NoSuchStop),
-    )?;
+    assert_eq!(rt; why.cause, 4);
+    assert_eq!(rt; links(&why), [letter(5, 6), letter(9, 11)].as_slice());
+    assert_eq!(rt; chain(alloc, &trace, 3).err(), Some(WhyFault::NoSuchStop));
     Ok(())
 }

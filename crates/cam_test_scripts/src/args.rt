@@ -1,7 +1,6 @@
 //! `cam_args`: words that are forms, and words that are none.
 
 use cam_args::{ArgsFault, Command, read_words};
-use cam_expect::holds;
 use cam_names::Name;
 use std::alloc::Global;
 use std::test::Fail;
@@ -55,7 +54,7 @@ const FORMS: [(&str, Command); 11] = [
 #[test]
 fn forms(rt: HostRuntime) -> Result<(), Fail> {
     for (line, command) in FORMS {
-        holds(line, read(rt.alloc(), line)? == Ok(command))?;
+        assert!(rt; read(rt.alloc(), line)? == Ok(command), "{line}");
     }
     Ok(())
 }
@@ -63,10 +62,7 @@ fn forms(rt: HostRuntime) -> Result<(), Fail> {
 #[test]
 fn witness(rt: HostRuntime) -> Result<(), Fail> {
     let name = Name::parse("1.1.1/4.1.1")?;
-    holds(
-        "read",
-        read(rt.alloc(), "witness 1.1.1/4.1.1")? == Ok(Command::Witness(name)),
-    )?;
+    assert!(rt; read(rt.alloc(), "witness 1.1.1/4.1.1")? == Ok(Command::Witness(name)));
     Ok(())
 }
 
@@ -95,7 +91,7 @@ const NO_FORMS: [&str; 18] = [
 #[test]
 fn no_forms(rt: HostRuntime) -> Result<(), Fail> {
     for line in NO_FORMS {
-        holds(line, read(rt.alloc(), line)? == Err(ArgsFault::Usage))?;
+        assert!(rt; read(rt.alloc(), line)? == Err(ArgsFault::Usage), "{line}");
     }
     Ok(())
 }

@@ -2,7 +2,6 @@
 
 use cam_body::{child_body, next_request};
 use cam_event::{Seen, View, ViewStep};
-use cam_expect::same;
 use cam_names::{Name, Part};
 use cam_script::{BodyOp, BodyText, Expr, Statement};
 use cam_type::{Answer, Op};
@@ -119,22 +118,14 @@ fn statements_are_tried_again_and_leave_their_values(rt: HostRuntime) -> Result<
         (Told::Child(Some(4)), "Request(Commit(10))"),
         (Told::CommitAsked, "Over"),
     ];
-    same(
-        "first wrong",
-        &first_wrong(&rt, &transfer, &retried)?,
-        &None,
-    )?;
+    assert_eq!(rt; first_wrong(&rt, &transfer, &retried)?, None);
     let of_nothing = [
         (Told::Called, "Wait"),
         (Told::Empty, "Request(Ask(2))"),
         (Told::Asked, "Wait"),
         (Told::Child(Some(4)), "Request(Commit(3))"),
     ];
-    same(
-        "first wrong",
-        &first_wrong(&rt, &transfer, &of_nothing)?,
-        &None,
-    )?;
+    assert_eq!(rt; first_wrong(&rt, &transfer, &of_nothing)?, None);
     let given_up = [
         (Told::Called, "Wait"),
         (Told::Gone, "Request(Call(0, Read))"),
@@ -142,11 +133,7 @@ fn statements_are_tried_again_and_leave_their_values(rt: HostRuntime) -> Result<
         (Told::Busy, "Request(Abort)"),
         (Told::AbortAsked, "Over"),
     ];
-    same(
-        "first wrong",
-        &first_wrong(&rt, &transfer, &given_up)?,
-        &None,
-    )?;
+    assert_eq!(rt; first_wrong(&rt, &transfer, &given_up)?, None);
     Ok(())
 }
 
@@ -162,11 +149,7 @@ fn sums_wrap_and_ok_leaves_nothing(rt: HostRuntime) -> Result<(), Fail> {
             "Request(Commit(-9223372036854775808))",
         ),
     ];
-    same(
-        "first wrong",
-        &first_wrong(&rt, &body(&rt, &SUMS)?, &sums)?,
-        &None,
-    )?;
+    assert_eq!(rt; first_wrong(&rt, &body(&rt, &SUMS)?, &sums)?, None);
     Ok(())
 }
 
@@ -174,9 +157,9 @@ fn sums_wrap_and_ok_leaves_nothing(rt: HostRuntime) -> Result<(), Fail> {
 fn a_child_has_the_body_of_its_statement(rt: HostRuntime) -> Result<(), Fail> {
     let transfer = body(&rt, &TRANSFER)?;
     let mut view = View::new(rt.alloc());
-    same("child body", &child_body(&transfer, &view), &None)?;
+    assert_eq!(rt; child_body(&transfer, &view), None);
     push(&mut view, Told::Called)?;
     push(&mut view, Told::Value(7))?;
-    same("child body", &child_body(&transfer, &view), &Some(5))?;
+    assert_eq!(rt; child_body(&transfer, &view), Some(5));
     Ok(())
 }

@@ -1,27 +1,21 @@
 //! `cam_gen`: the generator against numbers and texts that two other programs gave.
 
-use cam_expect::same;
 use cam_gen::{Draws, digest_text, script_of};
 use std::test::Fail;
 
 /// The first draw from seed 7.
 #[test]
-fn first_draw_from_seven() -> Result<(), Fail> {
+fn first_draw_from_seven(rt: HostRuntime) {
     let mut draws = Draws::new(7);
     let first = draws.draw();
-    same("first", &first, &2_118_330_556)?;
-    Ok(())
+    assert_eq!(rt; first, 2_118_330_556);
 }
 
 /// The first step from seed 7, after the five declarations.
 #[test]
 fn first_step_from_seven(rt: HostRuntime) -> Result<(), Fail> {
     let script = script_of(rt.alloc(), 7, 100)?;
-    same(
-        "script lines nth",
-        &script.lines().nth(5),
-        &Some("begin A1 2"),
-    )?;
+    assert_eq!(rt; script.lines().nth(5), Some("begin A1 2"));
     Ok(())
 }
 
@@ -29,11 +23,10 @@ fn first_step_from_seven(rt: HostRuntime) -> Result<(), Fail> {
 #[test]
 fn digest_of_abc(rt: HostRuntime) -> Result<(), Fail> {
     let digest = digest_text(rt.alloc(), b"abc".as_slice())?;
-    same(
-        "digest",
-        &digest.as_str(),
-        &"ba7816bf8f01cfea414140de5dae2223b00361a396177a9cb410ff61f20015ad",
-    )?;
+    assert_eq!(rt;
+        digest.as_str(),
+        "ba7816bf8f01cfea414140de5dae2223b00361a396177a9cb410ff61f20015ad"
+    );
     Ok(())
 }
 
@@ -69,12 +62,11 @@ const SCRIPTS: [(u64, u32, usize, &str); 4] = [
 fn whole_scripts(rt: HostRuntime) -> Result<(), Fail> {
     for (seed, size, length, digest) in SCRIPTS {
         let script = script_of(rt.alloc(), seed, size)?;
-        same("script", &script.len(), &length)?;
-        same(
-            "digest text",
-            &digest_text(rt.alloc(), script.as_bytes())?.as_str(),
-            &digest,
-        )?;
+        assert_eq!(rt; script.len(), length);
+        assert_eq!(rt;
+            digest_text(rt.alloc(), script.as_bytes())?.as_str(),
+            digest
+        );
     }
     Ok(())
 }

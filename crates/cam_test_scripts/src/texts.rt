@@ -4,7 +4,6 @@ use crate::report::{declared, each_kind};
 use crate::traces::{first_path, given_up};
 use cam_cut::CutFault;
 use cam_event::{Body, Event, LetterId, Marks, Note, RunRecord, Sent, Trace};
-use cam_expect::same;
 use cam_names::{Deps, Name};
 use cam_report::{summary_text, trace_text, why_text, witness_text};
 use cam_samples::{deeds_of, event, sent_of};
@@ -41,11 +40,7 @@ event 8 node 1 letter 0 note plain
 fn the_first_path_is_traced(rt: HostRuntime) -> Result<(), Fail> {
     let script = declared(rt.alloc())?;
     let run = first_path(rt.alloc())?;
-    same(
-        "trace text",
-        &trace_text(rt.alloc(), &script, &run)?.as_str(),
-        &FIRST_PATH,
-    )?;
+    assert_eq!(rt; trace_text(rt.alloc(), &script, &run)?.as_str(), FIRST_PATH);
     Ok(())
 }
 
@@ -66,18 +61,13 @@ fn the_deeds_that_an_action_saw_are_its_witness(rt: HostRuntime) -> Result<(), F
     let script = declared(alloc)?;
     let run = first_path(alloc)?;
     let reader = Name::parse("1.1.2")?;
-    same(
-        "witness text",
-        &witness_text(alloc, &script, &run, &reader)?.as_str(),
-        &WITNESS,
-    )?;
+    assert_eq!(rt;
+        witness_text(alloc, &script, &run, &reader)?.as_str(),
+        WITNESS
+    );
     let nobody = Name::parse("1.1.3")?;
     let none = witness_text(alloc, &script, &run, &nobody).err();
-    same(
-        "fault of an unknown action",
-        &none,
-        &Some(CutFault::NoSuchAction),
-    )?;
+    assert_eq!(rt; none, Some(CutFault::NoSuchAction));
     Ok(())
 }
 
@@ -144,11 +134,10 @@ event 4 node 2 letter 4 note late
 fn each_letter_and_each_note_is_traced(rt: HostRuntime) -> Result<(), Fail> {
     let script = declared(rt.alloc())?;
     let run = each_letter_and_note(rt.alloc())?;
-    same(
-        "trace text",
-        &trace_text(rt.alloc(), &script, &run)?.as_str(),
-        &EACH_LETTER_AND_NOTE,
-    )?;
+    assert_eq!(rt;
+        trace_text(rt.alloc(), &script, &run)?.as_str(),
+        EACH_LETTER_AND_NOTE
+    );
     Ok(())
 }
 
@@ -206,11 +195,7 @@ halted 6 1 lost
 fn each_deed_and_each_mark_is_traced(rt: HostRuntime) -> Result<(), Fail> {
     let script = declared(rt.alloc())?;
     let run = each_kind(rt.alloc())?;
-    same(
-        "trace text",
-        &trace_text(rt.alloc(), &script, &run)?.as_str(),
-        &EACH_DEED,
-    )?;
+    assert_eq!(rt; trace_text(rt.alloc(), &script, &run)?.as_str(), EACH_DEED);
     Ok(())
 }
 
@@ -223,12 +208,11 @@ letter 4 from 7 to 8
 #[test]
 fn a_stop_is_told_with_the_letters_that_led_there(rt: HostRuntime) -> Result<(), Fail> {
     let run = given_up(rt.alloc())?;
-    same("why text", &why_text(rt.alloc(), &run, 8)?.as_str(), &WHY)?;
-    same(
-        "why text",
-        &why_text(rt.alloc(), &run, 3).err(),
-        &Some(WhyFault::NoSuchStop),
-    )?;
+    assert_eq!(rt; why_text(rt.alloc(), &run, 8)?.as_str(), WHY);
+    assert_eq!(rt;
+        why_text(rt.alloc(), &run, 3).err(),
+        Some(WhyFault::NoSuchStop)
+    );
     Ok(())
 }
 
@@ -247,11 +231,10 @@ report ba7816bf8f01cfea414140de5dae2223b00361a396177a9cb410ff61f20015ad
 #[test]
 fn the_first_path_is_summed_up(rt: HostRuntime) -> Result<(), Fail> {
     let run = first_path(rt.alloc())?;
-    same(
-        "summary text",
-        &summary_text(rt.alloc(), &run, 9, DIGEST)?.as_str(),
-        &SUMMARY,
-    )?;
+    assert_eq!(rt;
+        summary_text(rt.alloc(), &run, 9, DIGEST)?.as_str(),
+        SUMMARY
+    );
     Ok(())
 }
 
@@ -268,10 +251,9 @@ report ba7816bf8f01cfea414140de5dae2223b00361a396177a9cb410ff61f20015ad
 #[test]
 fn commits_and_stops_are_summed_up(rt: HostRuntime) -> Result<(), Fail> {
     let run = each_kind(rt.alloc())?;
-    same(
-        "summary text",
-        &summary_text(rt.alloc(), &run, 40, DIGEST)?.as_str(),
-        &SUMMARY_OF_EACH,
-    )?;
+    assert_eq!(rt;
+        summary_text(rt.alloc(), &run, 40, DIGEST)?.as_str(),
+        SUMMARY_OF_EACH
+    );
     Ok(())
 }

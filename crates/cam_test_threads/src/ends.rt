@@ -7,7 +7,6 @@ ghost use Rattle.cam_test_threads.specs.Speaking.{sends, HasRemark};
 
 use crate::ring::last_cell;
 use crate::speaker::{Remark, Speaker, Speech};
-use cam_expect::same;
 use cam_hall::{Ended, Hall, HallFault, Names, Turned, TurnedOf};
 use cam_journal::{CoreFault, Journal, NodeSeat, Seats};
 use std::alloc::Global;
@@ -121,34 +120,28 @@ fn nodes_of_what_is_left_go_on_by_themselves_and_with_letters(rt: HostRuntime) -
         notes: 0,
         short: false,
     };
-    same("remark to", &remark_to(&ended, 2), &None)?;
-    same("turn", &turn(&mut ended, 1, None), &did(0))?;
-    same("turn", &turn(&mut ended, 1, None), &Seen::Nothing)?;
+    assert_eq!(rt; remark_to(&ended, 2), None);
+    assert_eq!(rt; turn(&mut ended, 1, None), did(0));
+    assert_eq!(rt; turn(&mut ended, 1, None), Seen::Nothing);
     let Some(number) = remark_to(&ended, 2) else {
         return Err(Fail::new("no remark to node 2"));
     };
-    same("number", &number, &0)?;
-    same("turn", &turn(&mut ended, 2, Some((number, 0))), &did(1))?;
+    assert_eq!(rt; number, 0);
+    assert_eq!(rt; turn(&mut ended, 2, Some((number, 0))), did(1));
     let Some(number) = remark_to(&ended, 2) else {
         return Err(Fail::new("no remark to node 2"));
     };
-    same(
-        "turn",
-        &turn(&mut ended, 2, Some((number, 0))),
-        &Seen::Nothing,
-    )?;
-    same(
-        "turn",
-        &turn(&mut ended, 3, None),
-        &Seen::Failed(HallFault::DiskFault),
-    )?;
-    same("turn", &turn(&mut ended, 3, None), &did(2))?;
-    same(
-        "turn",
-        &turn(&mut ended, 4, None),
-        &Seen::Failed(HallFault::NoMemory),
-    )?;
-    same("turn", &turn(&mut ended, 4, None), &did(3))?;
+    assert_eq!(rt; turn(&mut ended, 2, Some((number, 0))), Seen::Nothing);
+    assert_eq!(rt;
+        turn(&mut ended, 3, None),
+        Seen::Failed(HallFault::DiskFault)
+    );
+    assert_eq!(rt; turn(&mut ended, 3, None), did(2));
+    assert_eq!(rt;
+        turn(&mut ended, 4, None),
+        Seen::Failed(HallFault::NoMemory)
+    );
+    assert_eq!(rt; turn(&mut ended, 4, None), did(3));
     let (journal, _, seats) = ended.into_parts();
     let mut gathered = journal.gather(seats);
     let spoken = |number, to| {
@@ -169,8 +162,8 @@ fn nodes_of_what_is_left_go_on_by_themselves_and_with_letters(rt: HostRuntime) -
         (2, spoken(9, 4)),
         (3, spoken(10, 1)),
     ] {
-        same("gathered take", &gathered.take(), &Some(want))?;
+        assert_eq!(rt; gathered.take(), Some(want));
     }
-    same("gathered take", &gathered.take(), &None)?;
+    assert_eq!(rt; gathered.take(), None);
     Ok(())
 }

@@ -5,7 +5,6 @@ ghost use Rattle.cam_journal.specs.Seats.{AreNew};
 use crate::ring::ring;
 use crate::speaker::Speaker;
 use crate::workers::{Talk, talk};
-use cam_expect::same;
 use cam_hall::{End, Gate, Names, OpenGate, Served, serve};
 use cam_journal::{Journal, Seats};
 use std::alloc::Global;
@@ -94,17 +93,13 @@ fn four_workers_are_before_their_first_turns_at_once(rt: HostRuntime) -> Result<
         10,
         &meeting,
     )?;
-    same(
-        "each call saw all four workers",
-        &meeting.alone.load(Ordering::SeqCst),
-        &0,
-    )?;
-    same("talked steps", &talked.steps, &80)?;
-    same(
-        "meeting steps load",
-        &meeting.steps.load(Ordering::SeqCst),
-        &80,
-    )?;
+    assert_eq!(rt;
+        meeting.alone.load(Ordering::SeqCst),
+        0,
+        "each call saw all four workers"
+    );
+    assert_eq!(rt; talked.steps, 80);
+    assert_eq!(rt; meeting.steps.load(Ordering::SeqCst), 80);
     Ok(())
 }
 
@@ -155,7 +150,7 @@ fn a_worker_takes_no_turn_that_its_gate_holds(rt: HostRuntime) -> Result<(), Fai
         steps: 2,
         end: End::Turns,
     };
-    same("served", &served, &held)?;
+    assert_eq!(rt; served, held);
     Ok(())
 }
 
@@ -176,7 +171,7 @@ fn a_worker_ends_behind_so_many_empty_turns(rt: HostRuntime) -> Result<(), Fail>
             &OpenGate,
             turns,
         )?;
-        same("served", &served, &Served { steps: 3, end })?;
+        assert_eq!(rt; served, Served { steps: 3, end });
     }
     Ok(())
 }

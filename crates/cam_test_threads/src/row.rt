@@ -4,7 +4,6 @@ ghost use Rattle.cam_journal.specs.Seats.{AreNew};
 
 use crate::ring::ring;
 use crate::speaker::{Remark, Speaker, Speech};
-use cam_expect::same;
 use cam_hall::{End, Handled, ItemOf, Names, OpenGate, Served, serve};
 use cam_journal::{Gathered, Journal, Seats};
 use std::alloc::Global;
@@ -55,23 +54,15 @@ fn speak<R: Wait, J: Names>(
 fn events_and_letters_of_two_cells_come_in_one_order(rt: HostRuntime) -> Result<(), Fail> {
     let (journal, seats) = Journal::<Row>::open(rt.alloc(), 4)?;
     let seen = speak::<HostRuntime, Brand>(&rt, rt.alloc(), journal, seats)?;
-    same(
-        "seen first",
-        &seen.first,
-        &Handled::Did { number: 0, sent: 2 },
-    )?;
+    assert_eq!(rt; seen.first, Handled::Did { number: 0, sent: 2 });
     // The second copy comes to a node that has answered the first one. Were it not there, all turns
     // but the first would be empty, and the worker quiet.
     let one_step = Served {
         steps: 1,
         end: End::Turns,
     };
-    same("seen between", &seen.between, &one_step)?;
-    same(
-        "seen last",
-        &seen.last,
-        &Handled::Did { number: 2, sent: 2 },
-    )?;
+    assert_eq!(rt; seen.between, one_step);
+    assert_eq!(rt; seen.last, Handled::Did { number: 2, sent: 2 });
     let mut gathered = seen.gathered;
     let said = |number| {
         Speech::Spoken(Remark {
@@ -86,8 +77,8 @@ fn events_and_letters_of_two_cells_come_in_one_order(rt: HostRuntime) -> Result<
         place: 0,
     };
     for want in [(0, said(7)), (1, answer), (2, said(9))] {
-        same("gathered take", &gathered.take(), &Some(want))?;
+        assert_eq!(rt; gathered.take(), Some(want));
     }
-    same("gathered take", &gathered.take(), &None)?;
+    assert_eq!(rt; gathered.take(), None);
     Ok(())
 }

@@ -4,7 +4,6 @@ ghost use Rattle.cam_journal.specs.Seats.{AreNew};
 
 use crate::ring::ring;
 use crate::speaker::{Speaker, Speech};
-use cam_expect::{holds, same};
 use cam_hall::{Gate, Hall, HallFault, Names, OpenGate, Served, serve};
 use cam_journal::{Gathered, Journal, Seats};
 use std::alloc::Global;
@@ -102,20 +101,20 @@ fn events_of_four_workers_are_gathered_once_each(rt: HostRuntime) -> Result<(), 
         SHARE,
         &OpenGate,
     )?;
-    same("talked steps", &talked.steps, &10_000)?;
+    assert_eq!(rt; talked.steps, 10_000);
     // Which numbers were said: the nodes say those from 1 on, each its own.
     let mut heard = vec![in rt.alloc(); false; 10_000]?;
     for number in 0..EVENTS {
         let (at, speech) = talked.gathered.take().ok_or("an event is left")?;
-        same("at", &at, &number)?;
+        assert_eq!(rt; at, number);
         if let Speech::Answer { event, .. } = speech {
-            holds("the answer comes after the letter", event < at)?;
+            assert!(rt; event < at, "the answer comes behind the letter");
         }
         let place = speech.number().wrapping_sub(1) as usize;
         let said = heard.get_mut(place).ok_or("a number of the nodes")?;
-        holds("no number is said twice", !*said)?;
+        assert!(rt; !*said, "no number is said twice");
         *said = true;
     }
-    same("talked gathered take", &talked.gathered.take(), &None)?;
+    assert_eq!(rt; talked.gathered.take(), None);
     Ok(())
 }

@@ -1,5 +1,4 @@
 //! `parse_timed`: what each form says, and first faults.
-use cam_expect::{holds, same};
 use cam_script::{Cause, ScriptFault};
 use cam_timed::{TimedScript, parse_timed};
 use std::alloc::Global;
@@ -30,11 +29,10 @@ fn read(alloc: Global, text: &str) -> Result<String, Fail> {
 fn each_form_is_read(rt: HostRuntime) -> Result<(), Fail> {
     let text =
         "nodes 2\n\nobject x 2 counter -3\nbegin P 1 100\nask P C 2 1000000000\n# moments\ntick 1 50\nexpire P\ncall C x add 4\ncommit C 7\nabort C\ngiveup P C\ndeliver 3\nlose 4\ndrain\ntell 1 2\nquery 2 P\n";
-    same(
-        "read",
-        &read(rt.alloc(), text)?.as_str(),
-        &"2 1 [TimedStep { line: 4, act: Begin { node: 1, until: 100 } }, TimedStep { line: 5, act: Ask { parent: 0, node: 2, until: 1000000000 } }, TimedStep { line: 7, act: Tick { node: 1, moment: 50 } }, TimedStep { line: 8, act: Expire { action: 0 } }, TimedStep { line: 9, act: Call { action: 1, object: 0, op: Add(4) } }, TimedStep { line: 10, act: Commit { action: 1, value: 7 } }, TimedStep { line: 11, act: Abort { action: 1 } }, TimedStep { line: 12, act: GiveUp { action: 0, child: 1 } }, TimedStep { line: 13, act: Deliver { letter: 3 } }, TimedStep { line: 14, act: Lose { letter: 4 } }, TimedStep { line: 15, act: Drain }, TimedStep { line: 16, act: Tell { node: 1, to: 2 } }, TimedStep { line: 17, act: Query { node: 2, action: 0 } }]",
-    )?;
+    assert_eq!(rt;
+        read(rt.alloc(), text)?.as_str(),
+        "2 1 [TimedStep { line: 4, act: Begin { node: 1, until: 100 } }, TimedStep { line: 5, act: Ask { parent: 0, node: 2, until: 1000000000 } }, TimedStep { line: 7, act: Tick { node: 1, moment: 50 } }, TimedStep { line: 8, act: Expire { action: 0 } }, TimedStep { line: 9, act: Call { action: 1, object: 0, op: Add(4) } }, TimedStep { line: 10, act: Commit { action: 1, value: 7 } }, TimedStep { line: 11, act: Abort { action: 1 } }, TimedStep { line: 12, act: GiveUp { action: 0, child: 1 } }, TimedStep { line: 13, act: Deliver { letter: 3 } }, TimedStep { line: 14, act: Lose { letter: 4 } }, TimedStep { line: 15, act: Drain }, TimedStep { line: 16, act: Tell { node: 1, to: 2 } }, TimedStep { line: 17, act: Query { node: 2, action: 0 } }]"
+    );
     Ok(())
 }
 
@@ -72,7 +70,10 @@ fn faults_are_told(rt: HostRuntime) -> Result<(), Fail> {
     for (line, column, cause) in FOURTH_LINES {
         let text = format!(in alloc; "nodes 1\nbegin P 1 9\nask P C 1 9\n{line}\n")?;
         let told = format!(in alloc; "4 {column} {cause:?}")?;
-        holds(line, read(alloc, text.as_str())?.as_str() == told.as_str())?;
+        assert!(rt;
+            read(alloc, text.as_str())?.as_str() == told.as_str(),
+            "{line}"
+        );
     }
     Ok(())
 }
@@ -86,22 +87,10 @@ fn steps_are_counted(rt: HostRuntime) -> Result<(), Fail> {
         text.push_str("tick 1 5\n")?;
     }
     let whole = parse_timed(alloc, text.as_bytes())?;
-    same("whole steps", &whole.steps.len(), &512)?;
+    assert_eq!(rt; whole.steps.len(), 512);
     text.push_str("tick 1 5\n")?;
-    same(
-        "read",
-        &read(alloc, text.as_str())?.as_str(),
-        &"514 1 TooMany",
-    )?;
-    same(
-        "read",
-        &read(alloc, "tick 1 5\n")?.as_str(),
-        &"1 1 Misplaced",
-    )?;
-    same(
-        "read",
-        &read(alloc, "# no line\n")?.as_str(),
-        &"2 1 Misplaced",
-    )?;
+    assert_eq!(rt; read(alloc, text.as_str())?.as_str(), "514 1 TooMany");
+    assert_eq!(rt; read(alloc, "tick 1 5\n")?.as_str(), "1 1 Misplaced");
+    assert_eq!(rt; read(alloc, "# no line\n")?.as_str(), "2 1 Misplaced");
     Ok(())
 }

@@ -2,7 +2,6 @@
 use cam_base::NoMemory;
 use cam_cut::CutFault;
 use cam_event::{Deed, Event, LetterId, LineRefusal, Note};
-use cam_expect::{holds, same};
 use cam_names::Name;
 use cam_samples::{abort, ask, call, create, event, got_done, inform, perform};
 use cam_script::{Bodies, Label, Labels, Script, Steps};
@@ -118,11 +117,10 @@ fn a_quiet_answer_is_shown(rt: HostRuntime) -> Result<(), Fail> {
         marks,
     };
     let text = timed_text(alloc, &declared(alloc)?, &run)?;
-    same(
-        "text",
-        &text.as_str(),
-        &"action 1.1.1 open\n  created\n  asked 1.1.1/2.1.1\n  child 1.1.1/2.1.1 aborted\naction 1.1.1/2.1.1 aborted\n  created\n  called 1 x write 4\n  got 1 ok\n  called 2 x read\nquiet 12 1.1.1/2.1.1 50 50\nrefused 8 L11 0 50\nrefused 14 L10 50 50\nvalue x 1\n",
-    )?;
+    assert_eq!(rt;
+        text.as_str(),
+        "action 1.1.1 open\n  created\n  asked 1.1.1/2.1.1\n  child 1.1.1/2.1.1 aborted\naction 1.1.1/2.1.1 aborted\n  created\n  called 1 x write 4\n  got 1 ok\n  called 2 x read\nquiet 12 1.1.1/2.1.1 50 50\nrefused 8 L11 0 50\nrefused 14 L10 50 50\nvalue x 1\n"
+    );
     Ok(())
 }
 
@@ -146,19 +144,17 @@ fn the_witness_has_no_abort(rt: HostRuntime) -> Result<(), Fail> {
         call(child, 2, 0, Op::Read),
     ];
     let witness = timed_witness(alloc, &run, &child)?;
-    same(
-        "deeds of the witness",
-        &format!(in alloc; "{:?}", witness.as_slice())?.as_str(),
-        &format!(in alloc; "{:?}", deeds.as_slice())?.as_str(),
-    )?;
+    assert_eq!(rt;
+        format!(in alloc; "{:?}", witness.as_slice())?.as_str(),
+        format!(in alloc; "{:?}", deeds.as_slice())?.as_str()
+    );
     let other = Name::parse("1.1.2")?;
-    holds(
-        "state",
+    assert!(rt;
         matches!(
             timed_witness(alloc, &run, &other),
             Err(CutFault::NoSuchAction)
-        ),
-    )?;
+        )
+    );
     Ok(())
 }
 
@@ -204,10 +200,9 @@ fn an_expiry_is_shown(rt: HostRuntime) -> Result<(), Fail> {
         steps: TimedSteps::new(alloc),
     };
     let text = timed_text(alloc, &script, &run)?;
-    same(
-        "text",
-        &text.as_str(),
-        &"action 1.1.1 aborted\n  created\nrefused 5 L9\nrefused 6 L9\n",
-    )?;
+    assert_eq!(rt;
+        text.as_str(),
+        "action 1.1.1 aborted\n  created\nrefused 5 L9\nrefused 6 L9\n"
+    );
     Ok(())
 }

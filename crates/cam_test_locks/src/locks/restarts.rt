@@ -6,7 +6,6 @@ use super::steps::Step::{Abort, Busy, Commit, Copy, Counter, Done, Register, Sec
 use super::steps::{Played, Scene, Step, play};
 use super::{COUNTER, QUEUE, REGISTER, objects};
 use cam_base::NoMemory;
-use cam_expect::{holds, same};
 use cam_know::{Know, Outcome};
 use cam_locks::{LockTable, may_restore};
 use cam_names::{Deps, Name};
@@ -149,18 +148,16 @@ fn table_of_two_writers(alloc: Global) -> Result<LockTable, Fail> {
 #[test]
 fn a_restart_keeps_what_was_secured_and_not_aborted(rt: HostRuntime) -> Result<(), Fail> {
     let mut table = table_after_a_restart(rt.alloc())?;
-    same("table next index", &table.next_index(), &10)?;
-    same(
-        "answers",
-        &play(rt.alloc(), &mut table, Scene::Restarted)?,
-        &Played::Whole(4),
-    )?;
+    assert_eq!(rt; table.next_index(), 10);
+    assert_eq!(rt;
+        play(rt.alloc(), &mut table, Scene::Restarted)?,
+        Played::Whole(4)
+    );
     let mut table = table_of_two_writers(rt.alloc())?;
-    same(
-        "answers",
-        &play(rt.alloc(), &mut table, Scene::TwoWriters)?,
-        &Played::Whole(10),
-    )?;
+    assert_eq!(rt;
+        play(rt.alloc(), &mut table, Scene::TwoWriters)?,
+        Played::Whole(10)
+    );
     Ok(())
 }
 
@@ -187,22 +184,19 @@ fn played_after(alloc: Global, held: &HeldList, scene: Scene) -> Result<Played, 
 fn what_is_secured_and_restored_answers_as_before(rt: HostRuntime) -> Result<(), Fail> {
     let objects = objects(rt.alloc())?;
     let mut table = LockTable::new(rt.alloc(), &objects, 1)?;
-    same(
-        "answers",
-        &play(rt.alloc(), &mut table, Scene::Work)?,
-        &Played::Whole(4),
-    )?;
+    assert_eq!(rt;
+        play(rt.alloc(), &mut table, Scene::Work)?,
+        Played::Whole(4)
+    );
     let held = secured(rt.alloc(), &table)?;
-    same(
-        "answers",
-        &play(rt.alloc(), &mut table, Scene::MoreWork)?,
-        &Played::Whole(9),
-    )?;
-    same(
-        "answers after it",
-        &played_after(rt.alloc(), &held, Scene::MoreWork)?,
-        &Played::Whole(9),
-    )?;
+    assert_eq!(rt;
+        play(rt.alloc(), &mut table, Scene::MoreWork)?,
+        Played::Whole(9)
+    );
+    assert_eq!(rt;
+        played_after(rt.alloc(), &held, Scene::MoreWork)?,
+        Played::Whole(9)
+    );
     Ok(())
 }
 
@@ -210,17 +204,15 @@ fn what_is_secured_and_restored_answers_as_before(rt: HostRuntime) -> Result<(),
 fn adds_that_were_secured_are_added_after_a_restart(rt: HostRuntime) -> Result<(), Fail> {
     let objects = objects(rt.alloc())?;
     let mut table = LockTable::new(rt.alloc(), &objects, 1)?;
-    same(
-        "answers",
-        &play(rt.alloc(), &mut table, Scene::Adds)?,
-        &Played::Whole(4),
-    )?;
+    assert_eq!(rt;
+        play(rt.alloc(), &mut table, Scene::Adds)?,
+        Played::Whole(4)
+    );
     let held = secured(rt.alloc(), &table)?;
-    same(
-        "answers after it",
-        &played_after(rt.alloc(), &held, Scene::SecuredAdds)?,
-        &Played::Whole(11),
-    )?;
+    assert_eq!(rt;
+        played_after(rt.alloc(), &held, Scene::SecuredAdds)?,
+        Played::Whole(11)
+    );
     Ok(())
 }
 
@@ -261,8 +253,11 @@ fn only_what_fits_under_indices_of_its_own_can_be_restored(rt: HostRuntime) -> R
         let Some((op, may)) = second(place) else {
             return Err(Fail::new("a case is missing"));
         };
-        same(place, &may_be_restored(rt.alloc(), 1, &op)?, &may)?;
-        holds(place, !may_be_restored(rt.alloc(), 2, &op)?)?;
+        assert_eq!(rt; may_be_restored(rt.alloc(), 1, &op)?, may, "case {place}");
+        assert!(rt;
+            !may_be_restored(rt.alloc(), 2, &op)?,
+            "case {place} at another node"
+        );
     }
     Ok(())
 }

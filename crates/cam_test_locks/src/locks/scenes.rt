@@ -3,7 +3,6 @@
 use super::steps::Step::{Abort, Asked, Busy, Commit, Copy, Counter, Done, Register, Secured};
 use super::steps::{Played, Scene, Step, play};
 use super::{COUNTER, QUEUE, REGISTER, objects};
-use cam_expect::same;
 use cam_locks::LockTable;
 use cam_type::{Answer, Op};
 use std::alloc::Global;
@@ -247,75 +246,31 @@ fn played(alloc: Global, scene: Scene) -> Result<Played, Fail> {
 
 #[test]
 fn holders_stand_in_the_way_and_commits_hand_up(rt: HostRuntime) -> Result<(), Fail> {
-    same(
-        "answers",
-        &played(rt.alloc(), Scene::HandUp)?,
-        &Played::Whole(19),
-    )?;
-    same(
-        "answers",
-        &played(rt.alloc(), Scene::OneLevel)?,
-        &Played::Whole(9),
-    )?;
-    same(
-        "answers",
-        &played(rt.alloc(), Scene::Writer)?,
-        &Played::Whole(10),
-    )?;
+    assert_eq!(rt; played(rt.alloc(), Scene::HandUp)?, Played::Whole(19));
+    assert_eq!(rt; played(rt.alloc(), Scene::OneLevel)?, Played::Whole(9));
+    assert_eq!(rt; played(rt.alloc(), Scene::Writer)?, Played::Whole(10));
     Ok(())
 }
 
 #[test]
 fn outcomes_of_parents_and_children_come_in_any_order(rt: HostRuntime) -> Result<(), Fail> {
-    same(
-        "answers",
-        &played(rt.alloc(), Scene::ChildFirst)?,
-        &Played::Whole(11),
-    )?;
-    same(
-        "answers",
-        &played(rt.alloc(), Scene::ParentFirst)?,
-        &Played::Whole(8),
-    )?;
-    same(
-        "answers",
-        &played(rt.alloc(), Scene::Aborts)?,
-        &Played::Whole(13),
-    )?;
-    same(
-        "answers",
-        &played(rt.alloc(), Scene::BothOutcomes)?,
-        &Played::Whole(12),
-    )?;
+    assert_eq!(rt; played(rt.alloc(), Scene::ChildFirst)?, Played::Whole(11));
+    assert_eq!(rt; played(rt.alloc(), Scene::ParentFirst)?, Played::Whole(8));
+    assert_eq!(rt; played(rt.alloc(), Scene::Aborts)?, Played::Whole(13));
+    assert_eq!(rt; played(rt.alloc(), Scene::BothOutcomes)?, Played::Whole(12));
     Ok(())
 }
 
 #[test]
 fn adders_stand_in_the_way_of_readers_alone(rt: HostRuntime) -> Result<(), Fail> {
-    same(
-        "answers",
-        &played(rt.alloc(), Scene::Adders)?,
-        &Played::Whole(19),
-    )?;
-    same(
-        "answers",
-        &played(rt.alloc(), Scene::Siblings)?,
-        &Played::Whole(14),
-    )?;
-    same(
-        "answers",
-        &played(rt.alloc(), Scene::TakenBack)?,
-        &Played::Whole(15),
-    )?;
+    assert_eq!(rt; played(rt.alloc(), Scene::Adders)?, Played::Whole(19));
+    assert_eq!(rt; played(rt.alloc(), Scene::Siblings)?, Played::Whole(14));
+    assert_eq!(rt; played(rt.alloc(), Scene::TakenBack)?, Played::Whole(15));
     Ok(())
 }
 
 #[test]
 fn only_what_is_granted_is_asked_of_a_server(rt: HostRuntime) -> Result<(), Fail> {
-    same(
-        "answers",
-        &played(rt.alloc(), Scene::AskedOnce)?,
-        &Played::Whole(17),
-    )?;
+    assert_eq!(rt; played(rt.alloc(), Scene::AskedOnce)?, Played::Whole(17));
     Ok(())
 }

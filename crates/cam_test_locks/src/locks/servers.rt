@@ -4,7 +4,6 @@ use super::both::{ask_with, value_of};
 use super::plain_table::Told;
 use super::{REGISTER, objects};
 use cam_base::NoMemory;
-use cam_expect::{holds, same};
 use cam_locks::LockTable;
 use cam_names::Name;
 use cam_type::{Answer, CounterServer, DataType, Kind, Op, QueueServer, RegisterServer, State};
@@ -91,19 +90,12 @@ fn a_server_that_wants_memory_leaves_the_table(rt: HostRuntime) -> Result<(), Fa
     let one = Name::parse("1.1.1")?;
     let other = Name::parse("1.1.2")?;
     server.wants_memory = true;
-    holds(
-        "a server that fails is told",
-        ask_with(&mut table, &one, REGISTER, &Op::Write(5), &mut server).is_err(),
-    )?;
-    same("table next index", &table.next_index(), &0)?;
+    assert!(rt; ask_with(&mut table, &one, REGISTER, &Op::Write(5), &mut server).is_err());
+    assert_eq!(rt; table.next_index(), 0);
     server.wants_memory = false;
     let told = ask_with(&mut table, &other, REGISTER, &Op::Swap(6), &mut server)?;
-    same("told", &told, &Told::Done(Answer::Value(0)))?;
-    same(
-        "value of",
-        &value_of(&table, REGISTER)?,
-        &Some(State::Register(0)),
-    )?;
-    same("server asked", &server.asked, &2)?;
+    assert_eq!(rt; told, Told::Done(Answer::Value(0)));
+    assert_eq!(rt; value_of(&table, REGISTER)?, Some(State::Register(0)));
+    assert_eq!(rt; server.asked, 2);
     Ok(())
 }

@@ -1,7 +1,6 @@
 //! What comes to a home for actions that it does not run: of an older count of its own, of another node, or not known.
 use super::{begun, called};
 use cam_event::{Reply, Seen};
-use cam_expect::{holds, same};
 use cam_names::{Deps, Name};
 use cam_tranman::{Homed, Started, Taken};
 use cam_type::Answer;
@@ -11,27 +10,12 @@ use std::test::Fail;
 #[test]
 fn a_child_of_another_count_may_not_start(rt: HostRuntime) -> Result<(), Fail> {
     let homed = Homed::new(rt.alloc(), 3, 5);
-    holds(
-        "homed may start",
-        homed.may_start(&Name::parse("1.2.1/3.5.1")?),
-    )?;
-    holds(
-        "may not start",
-        !homed.may_start(&Name::parse("1.2.1/3.4.1")?),
-    )?;
-    holds(
-        "may not start",
-        !homed.may_start(&Name::parse("1.2.1/3.6.1")?),
-    )?;
-    holds(
-        "may not start",
-        !homed.may_start(&Name::parse("1.2.1/4.5.1")?),
-    )?;
+    assert!(rt; homed.may_start(&Name::parse("1.2.1/3.5.1")?));
+    assert!(rt; !homed.may_start(&Name::parse("1.2.1/3.4.1")?));
+    assert!(rt; !homed.may_start(&Name::parse("1.2.1/3.6.1")?));
+    assert!(rt; !homed.may_start(&Name::parse("1.2.1/4.5.1")?));
     // The count of its parent is another matter.
-    holds(
-        "homed may start",
-        homed.may_start(&Name::parse("3.4.1/3.5.1")?),
-    )?;
+    assert!(rt; homed.may_start(&Name::parse("3.4.1/3.5.1")?));
     Ok(())
 }
 
@@ -41,18 +25,14 @@ fn a_child_that_is_there_starts_no_more(rt: HostRuntime) -> Result<(), Fail> {
     let mut homed = Homed::new(rt.alloc(), 3, 5);
     let child = Name::parse("1.2.1/3.5.1")?;
     let (node, count) = child.home();
-    holds("home", node == 3 && count == 5)?;
-    holds("was not created", !homed.created(&child))?;
+    assert!(rt; node == 3 && count == 5);
+    assert!(rt; !homed.created(&child));
     let deps = Deps::none().with(1, 2);
-    same("homed start", &homed.start(&child, &deps)?, &Started::New)?;
-    holds("homed created", homed.created(&child))?;
-    holds("homed may start", homed.may_start(&child))?;
-    same(
-        "homed start",
-        &homed.start(&child, &deps.with(2, 4))?,
-        &Started::Known,
-    )?;
-    same("homed deps", &homed.deps(&child), &Some(deps.with(3, 5)))?;
+    assert_eq!(rt; homed.start(&child, &deps)?, Started::New);
+    assert!(rt; homed.created(&child));
+    assert!(rt; homed.may_start(&child));
+    assert_eq!(rt; homed.start(&child, &deps.with(2, 4))?, Started::Known);
+    assert_eq!(rt; homed.deps(&child), Some(deps.with(3, 5)));
     Ok(())
 }
 
@@ -64,34 +44,17 @@ fn the_answer_to_an_action_of_an_older_count_is_late(rt: HostRuntime) -> Result<
     let present = Name::parse("1.2.1")?;
     let zero = Reply::Done(Answer::Value(0));
     let mut homed = Homed::new(rt.alloc(), 1, 2);
-    same("top action", &begun(&mut homed), &Some(present))?;
-    same(
-        "number of the call",
-        &called(&mut homed, &present),
-        &Some(1),
-    )?;
-    same(
-        "homed taken",
-        &homed.taken(&older, 1, &zero, 7),
-        &Taken::Late,
-    )?;
-    same(
-        "homed answer",
-        &homed.answer(&older, 1, &zero, 7),
-        &Taken::Late,
-    )?;
-    same(
-        "homed answer",
-        &homed.answer(&older, 1, &zero, 8),
-        &Taken::Late,
-    )?;
-    holds("awaits no answer", !homed.awaits(&older, 1))?;
-    holds("homed awaits", homed.awaits(&present, 1))?;
-    same(
-        "homed answer",
-        &homed.answer(&present, 1, &zero, 7),
-        &Taken::Got(Seen::Done(Answer::Value(0))),
-    )?;
+    assert_eq!(rt; begun(&mut homed), Some(present));
+    assert_eq!(rt; called(&mut homed, &present), Some(1));
+    assert_eq!(rt; homed.taken(&older, 1, &zero, 7), Taken::Late);
+    assert_eq!(rt; homed.answer(&older, 1, &zero, 7), Taken::Late);
+    assert_eq!(rt; homed.answer(&older, 1, &zero, 8), Taken::Late);
+    assert!(rt; !homed.awaits(&older, 1));
+    assert!(rt; homed.awaits(&present, 1));
+    assert_eq!(rt;
+        homed.answer(&present, 1, &zero, 7),
+        Taken::Got(Seen::Done(Answer::Value(0)))
+    );
     Ok(())
 }
 
@@ -101,23 +64,11 @@ fn the_answer_to_an_action_that_is_not_known_is_late(rt: HostRuntime) -> Result<
     let unknown = Name::parse("1.2.2")?;
     let zero = Reply::Done(Answer::Value(0));
     let mut homed = Homed::new(rt.alloc(), 1, 2);
-    same(
-        "homed answer",
-        &homed.answer(&unknown, 1, &zero, 7),
-        &Taken::Late,
-    )?;
-    holds("top action", begun(&mut homed).is_some())?;
-    same(
-        "homed answer",
-        &homed.answer(&unknown, 1, &zero, 7),
-        &Taken::Late,
-    )?;
-    same(
-        "homed answer",
-        &homed.answer(&unknown, 1, &Reply::Missed, 8),
-        &Taken::Late,
-    )?;
-    holds("was not created", !homed.created(&unknown))?;
-    holds("has no dependencies", homed.deps(&unknown).is_none())?;
+    assert_eq!(rt; homed.answer(&unknown, 1, &zero, 7), Taken::Late);
+    assert!(rt; begun(&mut homed).is_some());
+    assert_eq!(rt; homed.answer(&unknown, 1, &zero, 7), Taken::Late);
+    assert_eq!(rt; homed.answer(&unknown, 1, &Reply::Missed, 8), Taken::Late);
+    assert!(rt; !homed.created(&unknown));
+    assert!(rt; homed.deps(&unknown).is_none());
     Ok(())
 }

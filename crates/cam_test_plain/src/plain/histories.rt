@@ -5,7 +5,6 @@ use super::lines;
 use super::next::Next;
 use cam_base::NoMemory;
 use cam_event::{Deed, Deeds};
-use cam_expect::{holds, same};
 use cam_names::Name;
 use cam_plain::{CheckFault, DeedKind, check};
 use cam_samples::{Draw, deeds_of, without};
@@ -157,18 +156,18 @@ fn the_check_and_the_definition_answer_alike(rt: HostRuntime) -> Result<(), Fail
     for seed in 0..HISTORIES {
         let mut history = History::new(alloc, seed)?;
         let unlike = history.first_unlike(alloc)?;
-        same(seed, &unlike, &None)?;
+        assert_eq!(rt; unlike, None, "history {seed}");
         let unlike = history.first_unlike_without(alloc)?;
-        same(seed, &unlike, &None)?;
+        assert_eq!(rt; unlike, None, "history {seed}");
         add(&mut legal, &history.legal);
         add(&mut refused, &history.refused);
     }
     // Each kind was met, legal and, but for crashes, illegal.
     for (kind, number) in legal.iter().enumerate().skip(1) {
-        holds(kind, *number > 4)?;
+        assert!(rt; *number > 4, "{number} legal deeds of kind {kind}");
     }
     for (kind, number) in refused[..13].iter().enumerate().skip(1) {
-        holds(kind, *number > 4)?;
+        assert!(rt; *number > 4, "{number} illegal deeds of kind {kind}");
     }
     Ok(())
 }
