@@ -1,8 +1,8 @@
 #!/usr/bin/env bash
 # What the gate takes, from nothing: gate.sh [COMMIT] runs `rt ci` in a fresh clone of COMMIT (HEAD, where none is named), and writes the
 # processor seconds (user and system) of each crate: its proof, which for a program has its two builds; the proof of its tests; its edits.
-# Where it is stopped, it writes what was measured by then. It takes one to three hours, and wants the machine for itself: beside twice as many
-# provers as processors, each takes up to twice the processor time.
+# Where it is stopped, it writes what was measured by then. It takes hours, and wants the machine for itself: beside other provers each call takes
+# more processor time.
 #
 # `rt` runs from a copy of the kit in which a small program stands in place of the prover: it calls the prover, and notes what the call took.
 # What `rt ci` does besides is left out: its own work, the check of layout, links, and the runs of tests and programs. Of a crate with several
