@@ -3,7 +3,7 @@ ghost use Rattle.std.specs.Prelude.{◌≡◌, [], ◌∷◌, IfOk};
 ghost use Rattle.cam_type.specs.declared.Op.TheVariants.{Write};
 
 use super::steps::Step::{Abort, Busy, Commit, Copy, Counter, Done, Register, Secured};
-use super::steps::{Played, Scene, Step, play};
+use super::steps::{Step, play};
 use super::{COUNTER, QUEUE, REGISTER, objects};
 use cam_base::NoMemory;
 use cam_know::{Know, Outcome};
@@ -15,88 +15,70 @@ use std::test::Fail;
 
 /// What a restart keeps of three families that wrote the register, of which the first aborted, the second is undecided, and the third
 /// committed.
-pub(super) fn restarted(place: u8) -> Option<Step<'static>> {
-    Some(match place {
-        0 => Register(3),
-        1 => Secured("1.1.1", 0),
-        2 => Busy("1.1.3", REGISTER, Op::Read, "1.1.2"),
-        3 => Done("1.1.2", REGISTER, Op::Read, Answer::Value(5)),
-        _ => return None,
-    })
-}
+const RESTARTED: &[Step<'static>] = &[
+    Register(3),
+    Secured("1.1.1", 0),
+    Busy("1.1.3", REGISTER, Op::Read, "1.1.2"),
+    Done("1.1.2", REGISTER, Op::Read, Answer::Value(5)),
+];
 
 /// Two families that both wrote the register, and of which nothing is known, stand in each other's way.
-pub(super) fn two_writers(place: u8) -> Option<Step<'static>> {
-    Some(match place {
-        0 => Busy("1.1.1", REGISTER, Op::Read, "1.1.2"),
-        1 => Busy("1.1.2", REGISTER, Op::Read, "1.1.1"),
-        2 => Busy("1.1.3", REGISTER, Op::Read, "1.1.2"),
-        3 => Copy,
-        4 => Abort("1.1.2"),
-        5 => Done("1.1.1", REGISTER, Op::Read, Answer::Value(4)),
-        6 => Register(0),
-        7 => Commit("1.1.1"),
-        8 => Register(4),
-        9 => Done("1.1.3", REGISTER, Op::Swap(6), Answer::Value(4)),
-        _ => return None,
-    })
-}
+const TWO_WRITERS: &[Step<'static>] = &[
+    Busy("1.1.1", REGISTER, Op::Read, "1.1.2"),
+    Busy("1.1.2", REGISTER, Op::Read, "1.1.1"),
+    Busy("1.1.3", REGISTER, Op::Read, "1.1.2"),
+    Copy,
+    Abort("1.1.2"),
+    Done("1.1.1", REGISTER, Op::Read, Answer::Value(4)),
+    Register(0),
+    Commit("1.1.1"),
+    Register(4),
+    Done("1.1.3", REGISTER, Op::Swap(6), Answer::Value(4)),
+];
 
 /// Two families work.
-pub(super) fn work(place: u8) -> Option<Step<'static>> {
-    Some(match place {
-        0 => Done("1.1.1", REGISTER, Op::Read, Answer::Value(0)),
-        1 => Done("1.1.2", QUEUE, Op::Put(6), Answer::Ok),
-        2 => Done("1.1.1/1.1.1", REGISTER, Op::Write(5), Answer::Ok),
-        3 => Commit("1.1.1/1.1.1"),
-        _ => return None,
-    })
-}
+const WORK: &[Step<'static>] = &[
+    Done("1.1.1", REGISTER, Op::Read, Answer::Value(0)),
+    Done("1.1.2", QUEUE, Op::Put(6), Answer::Ok),
+    Done("1.1.1/1.1.1", REGISTER, Op::Write(5), Answer::Ok),
+    Commit("1.1.1/1.1.1"),
+];
 
 /// They go on.
-pub(super) fn more_work(place: u8) -> Option<Step<'static>> {
-    Some(match place {
-        0 => Busy("1.1.2", REGISTER, Op::Read, "1.1.1"),
-        1 => Done("1.1.1", REGISTER, Op::Swap(7), Answer::Value(5)),
-        2 => Busy("1.1.1", QUEUE, Op::Take, "1.1.2"),
-        3 => Register(0),
-        4 => Secured("1.1.1", 3),
-        5 => Secured("1.1.2", 1),
-        6 => Done("1.1.2", QUEUE, Op::Take, Answer::Value(6)),
-        7 => Commit("1.1.1"),
-        8 => Register(7),
-        _ => return None,
-    })
-}
+const MORE_WORK: &[Step<'static>] = &[
+    Busy("1.1.2", REGISTER, Op::Read, "1.1.1"),
+    Done("1.1.1", REGISTER, Op::Swap(7), Answer::Value(5)),
+    Busy("1.1.1", QUEUE, Op::Take, "1.1.2"),
+    Register(0),
+    Secured("1.1.1", 3),
+    Secured("1.1.2", 1),
+    Done("1.1.2", QUEUE, Op::Take, Answer::Value(6)),
+    Commit("1.1.1"),
+    Register(7),
+];
 
 /// Three families add to the counter.
-pub(super) fn adds(place: u8) -> Option<Step<'static>> {
-    Some(match place {
-        0 => Done("1.1.1/1.1.1", COUNTER, Op::Add(5), Answer::Ok),
-        1 => Done("1.1.3", COUNTER, Op::Add(100), Answer::Ok),
-        2 => Done("1.1.2", COUNTER, Op::Add(7), Answer::Ok),
-        3 => Commit("1.1.1/1.1.1"),
-        _ => return None,
-    })
-}
+const ADDS: &[Step<'static>] = &[
+    Done("1.1.1/1.1.1", COUNTER, Op::Add(5), Answer::Ok),
+    Done("1.1.3", COUNTER, Op::Add(100), Answer::Ok),
+    Done("1.1.2", COUNTER, Op::Add(7), Answer::Ok),
+    Commit("1.1.1/1.1.1"),
+];
 
 /// The first and the second were secured, and what the third added is gone.
-pub(super) fn secured_adds(place: u8) -> Option<Step<'static>> {
-    Some(match place {
-        0 => Secured("1.1.3", 0),
-        1 => Counter(10),
-        2 => Busy("1.1.1", COUNTER, Op::Read, "1.1.2"),
-        3 => Done("1.1.1/1.1.2", COUNTER, Op::Add(1), Answer::Ok),
-        4 => Commit("1.1.2"),
-        5 => Counter(17),
-        6 => Done("1.1.1/1.1.2", COUNTER, Op::Read, Answer::Value(23)),
-        7 => Busy("1.1.3", COUNTER, Op::Read, "1.1.1"),
-        8 => Abort("1.1.1"),
-        9 => Counter(17),
-        10 => Done("1.1.3", COUNTER, Op::Read, Answer::Value(17)),
-        _ => return None,
-    })
-}
+const SECURED_ADDS: &[Step<'static>] = &[
+    Secured("1.1.3", 0),
+    Counter(10),
+    Busy("1.1.1", COUNTER, Op::Read, "1.1.2"),
+    Done("1.1.1/1.1.2", COUNTER, Op::Add(1), Answer::Ok),
+    Commit("1.1.2"),
+    Counter(17),
+    Done("1.1.1/1.1.2", COUNTER, Op::Read, Answer::Value(23)),
+    Busy("1.1.3", COUNTER, Op::Read, "1.1.1"),
+    Abort("1.1.1"),
+    Counter(17),
+    Done("1.1.3", COUNTER, Op::Read, Answer::Value(17)),
+];
 
 /// What is held of a family that wrote a value under an index.
 fn held_write(alloc: Global, family: &Name, index: u32, value: i64) -> Result<Held, NoMemory>
@@ -124,14 +106,14 @@ fn table_after_a_restart(alloc: Global) -> Result<LockTable, Fail> {
     let aborted = Name::parse("1.1.1")?;
     let undecided = Name::parse("1.1.2")?;
     let committed = Name::parse("1.1.3")?;
-    let mut know = Know::new(alloc);
-    know.add(&Outcome::Aborted(aborted))?;
-    know.add(&Outcome::Committed(committed, Deps::none()))?;
     let mut held = HeldList::new(alloc);
     held.push(held_write(alloc, &aborted, 9, 9)?)?;
     held.push(held_write(alloc, &undecided, 5, 5)?)?;
     held.push(held_write(alloc, &committed, 3, 3)?)?;
     let objects = objects(alloc)?;
+    let mut know = Know::new(alloc);
+    know.add(&Outcome::Aborted(aborted))?;
+    know.add(&Outcome::Committed(committed, Deps::none()))?;
     Ok(LockTable::restore(alloc, &objects, 1, &held, &know)?)
 }
 
@@ -140,8 +122,8 @@ fn table_of_two_writers(alloc: Global) -> Result<LockTable, Fail> {
     let mut held = HeldList::new(alloc);
     held.push(held_write(alloc, &Name::parse("1.1.1")?, 4, 4)?)?;
     held.push(held_write(alloc, &Name::parse("1.1.2")?, 2, 2)?)?;
-    let know = Know::new(alloc);
     let objects = objects(alloc)?;
+    let know = Know::new(alloc);
     Ok(LockTable::restore(alloc, &objects, 1, &held, &know)?)
 }
 
@@ -149,16 +131,23 @@ fn table_of_two_writers(alloc: Global) -> Result<LockTable, Fail> {
 fn a_restart_keeps_what_was_secured_and_not_aborted(rt: HostRuntime) -> Result<(), Fail> {
     let mut table = table_after_a_restart(rt.alloc())?;
     assert_eq!(rt; table.next_index(), 10);
-    assert_eq!(rt;
-        play(rt.alloc(), &mut table, Scene::Restarted)?,
-        Played::Whole(4)
-    );
-    let mut table = table_of_two_writers(rt.alloc())?;
-    assert_eq!(rt;
-        play(rt.alloc(), &mut table, Scene::TwoWriters)?,
-        Played::Whole(10)
-    );
-    Ok(())
+    play(rt.alloc(), &mut table, RESTARTED)
+}
+
+#[test]
+fn two_restored_writers_stand_in_each_others_way(rt: HostRuntime) -> Result<(), Fail> {
+    play(
+        rt.alloc(),
+        &mut table_of_two_writers(rt.alloc())?,
+        TWO_WRITERS,
+    )
+}
+
+/// A new table after a scene.
+fn table_after(alloc: Global, scene: &[Step<'_>]) -> Result<LockTable, Fail> {
+    let mut table = LockTable::new(alloc, &objects(alloc)?, 1)?;
+    play(alloc, &mut table, scene)?;
+    Ok(table)
 }
 
 /// What is secured of two families.
@@ -169,51 +158,32 @@ fn secured(alloc: Global, table: &LockTable) -> Result<HeldList, Fail> {
     Ok(held)
 }
 
-/// How a scene goes after a restart with these families.
-fn played_after(alloc: Global, held: &HeldList, scene: Scene) -> Result<Played, Fail> {
-    let know = Know::new(alloc);
+/// Plays a scene after a restart with these families.
+fn play_after(alloc: Global, held: &HeldList, scene: &[Step<'_>]) -> Result<(), Fail> {
     let objects = objects(alloc)?;
     if !may_restore(alloc, &objects, 1, held)? {
         return Err(Fail::new("cannot be restored"));
     }
-    let mut table = LockTable::restore(alloc, &objects, 1, held, &know)?;
-    play(alloc, &mut table, scene)
+    let know = Know::new(alloc);
+    play(
+        alloc,
+        &mut LockTable::restore(alloc, &objects, 1, held, &know)?,
+        scene,
+    )
 }
 
 #[test]
 fn what_is_secured_and_restored_answers_as_before(rt: HostRuntime) -> Result<(), Fail> {
-    let objects = objects(rt.alloc())?;
-    let mut table = LockTable::new(rt.alloc(), &objects, 1)?;
-    assert_eq!(rt;
-        play(rt.alloc(), &mut table, Scene::Work)?,
-        Played::Whole(4)
-    );
+    let mut table = table_after(rt.alloc(), WORK)?;
     let held = secured(rt.alloc(), &table)?;
-    assert_eq!(rt;
-        play(rt.alloc(), &mut table, Scene::MoreWork)?,
-        Played::Whole(9)
-    );
-    assert_eq!(rt;
-        played_after(rt.alloc(), &held, Scene::MoreWork)?,
-        Played::Whole(9)
-    );
-    Ok(())
+    play(rt.alloc(), &mut table, MORE_WORK)?;
+    play_after(rt.alloc(), &held, MORE_WORK)
 }
 
 #[test]
 fn adds_that_were_secured_are_added_after_a_restart(rt: HostRuntime) -> Result<(), Fail> {
-    let objects = objects(rt.alloc())?;
-    let mut table = LockTable::new(rt.alloc(), &objects, 1)?;
-    assert_eq!(rt;
-        play(rt.alloc(), &mut table, Scene::Adds)?,
-        Played::Whole(4)
-    );
-    let held = secured(rt.alloc(), &table)?;
-    assert_eq!(rt;
-        played_after(rt.alloc(), &held, Scene::SecuredAdds)?,
-        Played::Whole(11)
-    );
-    Ok(())
+    let held = secured(rt.alloc(), &table_after(rt.alloc(), ADDS)?)?;
+    play_after(rt.alloc(), &held, SECURED_ADDS)
 }
 
 /// Whether two families can be restored at a node: one wrote the register under the index 3, and this is what the other did.
@@ -232,32 +202,25 @@ fn may_be_restored(alloc: Global, node: u8, second: &HeldOp) -> Result<bool, Fai
 }
 
 /// What the other did, and whether both can be restored at node 1.
-fn second(place: u8) -> Option<(HeldOp, bool)> {
-    let (index, object, op, may) = match place {
-        0 => (4, REGISTER, Op::Read, true),
-        1 => (999_999_999, QUEUE, Op::Put(1), true),
-        2 => (3, QUEUE, Op::Put(1), false),
-        3 => (1_000_000_000, REGISTER, Op::Read, false),
-        4 => (4, REGISTER, Op::Put(1), false),
-        5 => (4, 3, Op::Read, false),
-        6 => (4, COUNTER, Op::Add(1), true),
-        7 => (4, COUNTER, Op::Write(1), false),
-        _ => return None,
-    };
-    Some((HeldOp { index, object, op }, may))
-}
+const SECONDS: [(u32, u8, Op, bool); 8] = [
+    (4, REGISTER, Op::Read, true),
+    (999_999_999, QUEUE, Op::Put(1), true),
+    (3, QUEUE, Op::Put(1), false),
+    (1_000_000_000, REGISTER, Op::Read, false),
+    (4, REGISTER, Op::Put(1), false),
+    (4, 3, Op::Read, false),
+    (4, COUNTER, Op::Add(1), true),
+    (4, COUNTER, Op::Write(1), false),
+];
 
 #[test]
 fn only_what_fits_under_indices_of_its_own_can_be_restored(rt: HostRuntime) -> Result<(), Fail> {
-    for place in 0..8u8 {
-        let Some((op, may)) = second(place) else {
-            return Err(Fail::new("a case is missing"));
-        };
-        assert_eq!(rt; may_be_restored(rt.alloc(), 1, &op)?, may, "case {place}");
-        assert!(rt;
-            !may_be_restored(rt.alloc(), 2, &op)?,
-            "case {place} at another node"
-        );
+    for (index, object, op, may) in SECONDS {
+        let second = HeldOp { index, object, op };
+        let told = may_be_restored(rt.alloc(), 1, &second)?;
+        assert_eq!(rt; told, may, "{op:?} at {index}");
+        let told = may_be_restored(rt.alloc(), 2, &second)?;
+        assert_eq!(rt; told, false, "{op:?} at {index}, at another node");
     }
     Ok(())
 }

@@ -82,20 +82,47 @@ impl Servers {
     }
 }
 
+/// What is told of an operation of an action on the register.
+fn told(
+    table: &mut LockTable,
+    server: &mut Counting<RegisterServer>,
+    action: &str,
+    op: &Op,
+) -> Result<Told, Fail> {
+    let action = Name::parse(action)?;
+    Ok(ask_with(table, &action, REGISTER, op, server)?)
+}
+
+/// Whether memory is what an operation of an action on the register wants.
+fn wants_memory(
+    table: &mut LockTable,
+    server: &mut Counting<RegisterServer>,
+    action: &str,
+    op: &Op,
+) -> Result<bool, Fail> {
+    let action = Name::parse(action)?;
+    Ok(ask_with(table, &action, REGISTER, op, server).is_err())
+}
+
+/// What the register holds past the top.
+fn held(table: &LockTable) -> Result<Option<i64>, Fail> {
+    match value_of(table, REGISTER)? {
+        Some(State::Register(value)) => Ok(Some(value)),
+        _ => Ok(None),
+    }
+}
+
 #[test]
 fn a_server_that_wants_memory_leaves_the_table(rt: HostRuntime) -> Result<(), Fail> {
-    let objects = objects(rt.alloc())?;
-    let mut table = LockTable::new(rt.alloc(), &objects, 1)?;
+    let mut table = LockTable::new(rt.alloc(), &objects(rt.alloc())?, 1)?;
     let mut server = Counting::new(RegisterServer::new());
-    let one = Name::parse("1.1.1")?;
-    let other = Name::parse("1.1.2")?;
     server.wants_memory = true;
-    assert!(rt; ask_with(&mut table, &one, REGISTER, &Op::Write(5), &mut server).is_err());
+    assert!(rt; wants_memory(&mut table, &mut server, "1.1.1", &Op::Write(5))?);
     assert_eq!(rt; table.next_index(), 0);
     server.wants_memory = false;
-    let told = ask_with(&mut table, &other, REGISTER, &Op::Swap(6), &mut server)?;
+    let told = told(&mut table, &mut server, "1.1.2", &Op::Swap(6))?;
     assert_eq!(rt; told, Told::Done(Answer::Value(0)));
-    assert_eq!(rt; value_of(&table, REGISTER)?, Some(State::Register(0)));
+    assert_eq!(rt; held(&table)?, Some(0));
     assert_eq!(rt; server.asked, 2);
     Ok(())
 }

@@ -3,7 +3,7 @@
 use super::both::{ask, value_of};
 use super::plain_table::Told;
 use super::servers::Servers;
-use super::{COUNTER, REGISTER, restarts, scenes};
+use super::{COUNTER, REGISTER};
 use cam_base::NoMemory;
 use cam_locks::LockTable;
 use cam_names::{Name, NameFault};
@@ -47,87 +47,32 @@ pub(super) enum Seen {
     NoName(NameFault),
 }
 
-/// How a scene went.
-#[derive(Debug, PartialEq, Drop)]
-pub(super) enum Played {
-    /// Each of its steps, so many, was answered as it has to be.
-    Whole(u8),
-    /// The first step that was not.
-    Unlike {
-        place: u8,
-        seen: Seen,
-        expected: Seen,
-    },
-}
-
-/// The scenes: each is a row of steps.
-#[derive(Clone, Copy)]
-pub(super) enum Scene {
-    HandUp,
-    OneLevel,
-    Writer,
-    ChildFirst,
-    ParentFirst,
-    Aborts,
-    BothOutcomes,
-    Adders,
-    Siblings,
-    TakenBack,
-    AskedOnce,
-    Restarted,
-    TwoWriters,
-    Work,
-    MoreWork,
-    Adds,
-    SecuredAdds,
-}
-
-impl Scene {
-    /// The step at this place, and none after the last.
-    fn step(self, place: u8) -> Option<Step<'static>> {
-        match self {
-            Scene::HandUp => scenes::hand_up(place),
-            Scene::OneLevel => scenes::one_level(place),
-            Scene::Writer => scenes::writer(place),
-            Scene::ChildFirst => scenes::child_first(place),
-            Scene::ParentFirst => scenes::parent_first(place),
-            Scene::Aborts => scenes::aborts(place),
-            Scene::BothOutcomes => scenes::both_outcomes(place),
-            Scene::Adders => scenes::adders(place),
-            Scene::Siblings => scenes::siblings(place),
-            Scene::TakenBack => scenes::taken_back(place),
-            Scene::AskedOnce => scenes::asked_once(place),
-            Scene::Restarted => restarts::restarted(place),
-            Scene::TwoWriters => restarts::two_writers(place),
-            Scene::Work => restarts::work(place),
-            Scene::MoreWork => restarts::more_work(place),
-            Scene::Adds => restarts::adds(place),
-            Scene::SecuredAdds => restarts::secured_adds(place),
-        }
-    }
-}
-
-/// Plays a scene. Where memory runs out in a step it is done once more: the table is as it was.
-pub(super) fn play(alloc: Global, table: &mut LockTable, scene: Scene) -> Result<Played, Fail> {
+/// Plays a scene, which is a row of steps with a table.
+pub(super) fn play(alloc: Global, table: &mut LockTable, scene: &[Step<'_>]) -> Result<(), Fail> {
     let mut servers = Servers::new(alloc);
-    for place in 0..=u8::MAX {
-        let Some(step) = scene.step(place) else {
-            return Ok(Played::Whole(place));
-        };
-        let expected = expected_at(&step)?;
-        let seen = match seen_at(table, &mut servers, &step) {
-            Ok(seen) => seen,
-            Err(NoMemory) => seen_at(table, &mut servers, &step)?,
-        };
-        if seen != expected {
-            return Ok(Played::Unlike {
-                place,
-                seen,
-                expected,
-            });
-        }
+    for (place, step) in scene.iter().enumerate() {
+        take(table, &mut servers, place, step)?;
     }
-    Err(Fail::new("a scene has too many steps"))
+    Ok(())
+}
+
+/// Takes the step at this place, and fails where it is not answered as it has to be. Where memory runs out it is taken once more: the table is
+/// as it was.
+fn take(
+    table: &mut LockTable,
+    servers: &mut Servers,
+    place: usize,
+    step: &Step<'_>,
+) -> Result<(), Fail> {
+    let expected = expected_at(step)?;
+    let seen = match seen_at(table, servers, step) {
+        Ok(seen) => seen,
+        Err(NoMemory) => seen_at(table, servers, step)?,
+    };
+    if seen == expected {
+        return Ok(());
+    }
+    Err(Fail::new(format_args!("step {place}: {seen:?} in place of {expected:?}")))
 }
 
 /// What the table has to answer.
