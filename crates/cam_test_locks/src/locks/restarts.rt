@@ -3,7 +3,7 @@ ghost use Rattle.std.specs.Prelude.{◌≡◌, [], ◌∷◌, IfOk};
 ghost use Rattle.cam_type.specs.declared.Op.TheVariants.{Write};
 
 use super::steps::Step::{Abort, Busy, Commit, Copy, Counter, Done, Register, Secured};
-use super::steps::{Step, play};
+use super::steps::{Step, play, table_after};
 use super::{COUNTER, QUEUE, REGISTER, objects};
 use cam_base::NoMemory;
 use cam_know::{Know, Outcome};
@@ -15,7 +15,7 @@ use std::test::Fail;
 
 /// What a restart keeps of three families that wrote the register, of which the first aborted, the second is undecided, and the third
 /// committed.
-const RESTARTED: &[Step<'static>] = &[
+const RESTARTED: [Step<'static>; 4] = [
     Register(3),
     Secured("1.1.1", 0),
     Busy("1.1.3", REGISTER, Op::Read, "1.1.2"),
@@ -23,7 +23,7 @@ const RESTARTED: &[Step<'static>] = &[
 ];
 
 /// Two families that both wrote the register, and of which nothing is known, stand in each other's way.
-const TWO_WRITERS: &[Step<'static>] = &[
+const TWO_WRITERS: [Step<'static>; 10] = [
     Busy("1.1.1", REGISTER, Op::Read, "1.1.2"),
     Busy("1.1.2", REGISTER, Op::Read, "1.1.1"),
     Busy("1.1.3", REGISTER, Op::Read, "1.1.2"),
@@ -37,7 +37,7 @@ const TWO_WRITERS: &[Step<'static>] = &[
 ];
 
 /// Two families work.
-const WORK: &[Step<'static>] = &[
+const WORK: [Step<'static>; 4] = [
     Done("1.1.1", REGISTER, Op::Read, Answer::Value(0)),
     Done("1.1.2", QUEUE, Op::Put(6), Answer::Ok),
     Done("1.1.1/1.1.1", REGISTER, Op::Write(5), Answer::Ok),
@@ -45,7 +45,7 @@ const WORK: &[Step<'static>] = &[
 ];
 
 /// They go on.
-const MORE_WORK: &[Step<'static>] = &[
+const MORE_WORK: [Step<'static>; 9] = [
     Busy("1.1.2", REGISTER, Op::Read, "1.1.1"),
     Done("1.1.1", REGISTER, Op::Swap(7), Answer::Value(5)),
     Busy("1.1.1", QUEUE, Op::Take, "1.1.2"),
@@ -58,7 +58,7 @@ const MORE_WORK: &[Step<'static>] = &[
 ];
 
 /// Three families add to the counter.
-const ADDS: &[Step<'static>] = &[
+const ADDS: [Step<'static>; 4] = [
     Done("1.1.1/1.1.1", COUNTER, Op::Add(5), Answer::Ok),
     Done("1.1.3", COUNTER, Op::Add(100), Answer::Ok),
     Done("1.1.2", COUNTER, Op::Add(7), Answer::Ok),
@@ -66,7 +66,7 @@ const ADDS: &[Step<'static>] = &[
 ];
 
 /// The first and the second were secured, and what the third added is gone.
-const SECURED_ADDS: &[Step<'static>] = &[
+const SECURED_ADDS: [Step<'static>; 11] = [
     Secured("1.1.3", 0),
     Counter(10),
     Busy("1.1.1", COUNTER, Op::Read, "1.1.2"),
@@ -131,23 +131,13 @@ fn table_of_two_writers(alloc: Global) -> Result<LockTable, Fail> {
 fn a_restart_keeps_what_was_secured_and_not_aborted(rt: HostRuntime) -> Result<(), Fail> {
     let mut table = table_after_a_restart(rt.alloc())?;
     assert_eq!(rt; table.next_index(), 10);
-    play(rt.alloc(), &mut table, RESTARTED)
+    play(rt.alloc(), &mut table, "restarted", &RESTARTED)
 }
 
 #[test]
 fn two_restored_writers_stand_in_each_others_way(rt: HostRuntime) -> Result<(), Fail> {
-    play(
-        rt.alloc(),
-        &mut table_of_two_writers(rt.alloc())?,
-        TWO_WRITERS,
-    )
-}
-
-/// A new table after a scene.
-fn table_after(alloc: Global, scene: &[Step<'_>]) -> Result<LockTable, Fail> {
-    let mut table = LockTable::new(alloc, &objects(alloc)?, 1)?;
-    play(alloc, &mut table, scene)?;
-    Ok(table)
+    let mut table = table_of_two_writers(rt.alloc())?;
+    play(rt.alloc(), &mut table, "two writers", &TWO_WRITERS)
 }
 
 /// What is secured of two families.
@@ -158,32 +148,39 @@ fn secured(alloc: Global, table: &LockTable) -> Result<HeldList, Fail> {
     Ok(held)
 }
 
-/// Plays a scene after a restart with these families.
-fn play_after(alloc: Global, held: &HeldList, scene: &[Step<'_>]) -> Result<(), Fail> {
+/// The table after a restart with these families.
+fn restored(alloc: Global, held: &HeldList) -> Result<LockTable, Fail> {
     let objects = objects(alloc)?;
     if !may_restore(alloc, &objects, 1, held)? {
         return Err(Fail::new("cannot be restored"));
     }
-    let know = Know::new(alloc);
-    play(
-        alloc,
-        &mut LockTable::restore(alloc, &objects, 1, held, &know)?,
-        scene,
-    )
+    Ok(LockTable::restore(alloc, &objects, 1, held, &Know::new(alloc))?)
+}
+
+/// Plays a scene after a restart with these families.
+fn play_restored(
+    alloc: Global,
+    held: &HeldList,
+    name: &str,
+    scene: &[Step<'_>],
+) -> Result<(), Fail> {
+    let mut table = restored(alloc, held)?;
+    play(alloc, &mut table, name, scene)
 }
 
 #[test]
 fn what_is_secured_and_restored_answers_as_before(rt: HostRuntime) -> Result<(), Fail> {
-    let mut table = table_after(rt.alloc(), WORK)?;
+    let mut table = table_after(rt.alloc(), "work", &WORK)?;
     let held = secured(rt.alloc(), &table)?;
-    play(rt.alloc(), &mut table, MORE_WORK)?;
-    play_after(rt.alloc(), &held, MORE_WORK)
+    play(rt.alloc(), &mut table, "more work", &MORE_WORK)?;
+    play_restored(rt.alloc(), &held, "more work, restored", &MORE_WORK)
 }
 
 #[test]
 fn adds_that_were_secured_are_added_after_a_restart(rt: HostRuntime) -> Result<(), Fail> {
-    let held = secured(rt.alloc(), &table_after(rt.alloc(), ADDS)?)?;
-    play_after(rt.alloc(), &held, SECURED_ADDS)
+    let table = table_after(rt.alloc(), "adds", &ADDS)?;
+    let held = secured(rt.alloc(), &table)?;
+    play_restored(rt.alloc(), &held, "secured adds", &SECURED_ADDS)
 }
 
 /// Whether two families can be restored at a node: one wrote the register under the index 3, and this is what the other did.
@@ -218,9 +215,13 @@ fn only_what_fits_under_indices_of_its_own_can_be_restored(rt: HostRuntime) -> R
     for (index, object, op, may) in SECONDS {
         let second = HeldOp { index, object, op };
         let told = may_be_restored(rt.alloc(), 1, &second)?;
-        assert_eq!(rt; told, may, "{op:?} at {index}");
+        assert_eq!(rt; told, may, "{op:?} of object {object} at {index}");
         let told = may_be_restored(rt.alloc(), 2, &second)?;
-        assert_eq!(rt; told, false, "{op:?} at {index}, at another node");
+        assert_eq!(rt;
+            told,
+            false,
+            "{op:?} of object {object} at {index}, at another node"
+        );
     }
     Ok(())
 }

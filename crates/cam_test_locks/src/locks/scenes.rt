@@ -1,15 +1,14 @@
 //! Scenes with a lock table, whose answers are worked out by hand.
 
 use super::steps::Step::{Abort, Asked, Busy, Commit, Copy, Counter, Done, Register, Secured};
-use super::steps::{Step, play};
-use super::{COUNTER, QUEUE, REGISTER, objects};
-use cam_locks::LockTable;
+use super::steps::{Step, table_after};
+use super::{COUNTER, QUEUE, REGISTER};
 use cam_type::{Answer, Op};
 use std::alloc::Global;
 use std::test::Fail;
 
 /// Holders stand in the way, commits hand up, and aborts drop.
-const HAND_UP: &[Step<'static>] = &[
+const HAND_UP: [Step<'static>; 19] = [
     Done("1.1.1", REGISTER, Op::Read, Answer::Value(0)),
     Done("1.1.2", REGISTER, Op::Read, Answer::Value(0)),
     Busy("1.1.1/1.1.1", REGISTER, Op::Write(5), "1.1.2"),
@@ -32,7 +31,7 @@ const HAND_UP: &[Step<'static>] = &[
 ];
 
 /// A commit hands locks up to the parent, and no further.
-const ONE_LEVEL: &[Step<'static>] = &[
+const ONE_LEVEL: [Step<'static>; 9] = [
     Done("1.1.1/1.1.1/1.1.1", REGISTER, Op::Write(5), Answer::Ok),
     Commit("1.1.1/1.1.1/1.1.1"),
     Busy("1.1.1/1.1.2", REGISTER, Op::Read, "1.1.1/1.1.1"),
@@ -45,7 +44,7 @@ const ONE_LEVEL: &[Step<'static>] = &[
 ];
 
 /// A writer keeps readers out until it ends.
-const WRITER: &[Step<'static>] = &[
+const WRITER: [Step<'static>; 10] = [
     Done("1.1.1", REGISTER, Op::Write(4), Answer::Ok),
     Busy("1.1.2", REGISTER, Op::Read, "1.1.1"),
     Done("1.1.1/1.1.1", REGISTER, Op::Read, Answer::Value(4)),
@@ -59,7 +58,7 @@ const WRITER: &[Step<'static>] = &[
 ];
 
 /// A child commits before its parent.
-const CHILD_FIRST: &[Step<'static>] = &[
+const CHILD_FIRST: [Step<'static>; 11] = [
     Done("1.1.1", REGISTER, Op::Write(1), Answer::Ok),
     Done("1.1.1/1.1.1", REGISTER, Op::Swap(2), Answer::Value(1)),
     Busy("1.1.1/1.1.2", REGISTER, Op::Read, "1.1.1/1.1.1"),
@@ -74,7 +73,7 @@ const CHILD_FIRST: &[Step<'static>] = &[
 ];
 
 /// A parent commits before its child.
-const PARENT_FIRST: &[Step<'static>] = &[
+const PARENT_FIRST: [Step<'static>; 8] = [
     Done("1.1.1", REGISTER, Op::Write(1), Answer::Ok),
     Done("1.1.1/1.1.1", REGISTER, Op::Swap(2), Answer::Value(1)),
     Commit("1.1.1"),
@@ -86,7 +85,7 @@ const PARENT_FIRST: &[Step<'static>] = &[
 ];
 
 /// A child aborts, and then its parent commits; a parent aborts, and then its child commits.
-const ABORTS: &[Step<'static>] = &[
+const ABORTS: [Step<'static>; 13] = [
     Done("1.1.1", REGISTER, Op::Write(1), Answer::Ok),
     Done("1.1.1/1.1.1", REGISTER, Op::Swap(2), Answer::Value(1)),
     Abort("1.1.1/1.1.1"),
@@ -103,7 +102,7 @@ const ABORTS: &[Step<'static>] = &[
 ];
 
 /// Both outcomes of an action come in, in either order.
-const BOTH_OUTCOMES: &[Step<'static>] = &[
+const BOTH_OUTCOMES: [Step<'static>; 12] = [
     Done("1.1.1", REGISTER, Op::Write(3), Answer::Ok),
     Commit("1.1.1"),
     Register(3),
@@ -119,7 +118,7 @@ const BOTH_OUTCOMES: &[Step<'static>] = &[
 ];
 
 /// Two families add to the counter, and one of them in a child that aborts; the sum wraps.
-const ADDERS: &[Step<'static>] = &[
+const ADDERS: [Step<'static>; 19] = [
     Done("1.1.1", COUNTER, Op::Add(5), Answer::Ok),
     Done("1.1.2", COUNTER, Op::Add(7), Answer::Ok),
     Busy("1.1.1", COUNTER, Op::Read, "1.1.2"),
@@ -147,7 +146,7 @@ const ADDERS: &[Step<'static>] = &[
 ];
 
 /// Siblings add side by side, and the first read that may be done meets both adds.
-const SIBLINGS: &[Step<'static>] = &[
+const SIBLINGS: [Step<'static>; 14] = [
     Done("1.1.1/1.1.1", COUNTER, Op::Add(5), Answer::Ok),
     Done("1.1.1/1.1.2", COUNTER, Op::Add(7), Answer::Ok),
     Busy("1.1.1/1.1.2", COUNTER, Op::Read, "1.1.1/1.1.1"),
@@ -165,7 +164,7 @@ const SIBLINGS: &[Step<'static>] = &[
 ];
 
 /// What a child adds is handed up twice and then taken back with the action that had it; of another action both outcomes come in.
-const TAKEN_BACK: &[Step<'static>] = &[
+const TAKEN_BACK: [Step<'static>; 15] = [
     Done("1.1.1", COUNTER, Op::Add(1), Answer::Ok),
     Done("1.1.1/1.1.1", COUNTER, Op::Add(2), Answer::Ok),
     Done("1.1.1/1.1.1/1.1.1", COUNTER, Op::Add(4), Answer::Ok),
@@ -184,7 +183,7 @@ const TAKEN_BACK: &[Step<'static>] = &[
 ];
 
 /// A refused operation is asked of no server, and one that is granted once, whatever its object's kind and however much stands before it.
-const ASKED_ONCE: &[Step<'static>] = &[
+const ASKED_ONCE: [Step<'static>; 17] = [
     Done("1.1.1", REGISTER, Op::Write(5), Answer::Ok),
     Asked(1),
     Busy("1.1.2", REGISTER, Op::Write(6), "1.1.1"),
@@ -205,37 +204,34 @@ const ASKED_ONCE: &[Step<'static>] = &[
 ];
 
 /// Plays a scene with a new table.
-fn play_anew(alloc: Global, scene: &[Step<'_>]) -> Result<(), Fail> {
-    play(
-        alloc,
-        &mut LockTable::new(alloc, &objects(alloc)?, 1)?,
-        scene,
-    )
+fn play_anew(alloc: Global, name: &str, scene: &[Step<'_>]) -> Result<(), Fail> {
+    table_after(alloc, name, scene)?;
+    Ok(())
 }
 
 #[test]
 fn holders_stand_in_the_way_and_commits_hand_up(rt: HostRuntime) -> Result<(), Fail> {
-    play_anew(rt.alloc(), HAND_UP)?;
-    play_anew(rt.alloc(), ONE_LEVEL)?;
-    play_anew(rt.alloc(), WRITER)
+    play_anew(rt.alloc(), "hand up", &HAND_UP)?;
+    play_anew(rt.alloc(), "one level", &ONE_LEVEL)?;
+    play_anew(rt.alloc(), "writer", &WRITER)
 }
 
 #[test]
 fn outcomes_of_parents_and_children_come_in_any_order(rt: HostRuntime) -> Result<(), Fail> {
-    play_anew(rt.alloc(), CHILD_FIRST)?;
-    play_anew(rt.alloc(), PARENT_FIRST)?;
-    play_anew(rt.alloc(), ABORTS)?;
-    play_anew(rt.alloc(), BOTH_OUTCOMES)
+    play_anew(rt.alloc(), "child first", &CHILD_FIRST)?;
+    play_anew(rt.alloc(), "parent first", &PARENT_FIRST)?;
+    play_anew(rt.alloc(), "aborts", &ABORTS)?;
+    play_anew(rt.alloc(), "both outcomes", &BOTH_OUTCOMES)
 }
 
 #[test]
 fn adders_stand_in_the_way_of_readers_alone(rt: HostRuntime) -> Result<(), Fail> {
-    play_anew(rt.alloc(), ADDERS)?;
-    play_anew(rt.alloc(), SIBLINGS)?;
-    play_anew(rt.alloc(), TAKEN_BACK)
+    play_anew(rt.alloc(), "adders", &ADDERS)?;
+    play_anew(rt.alloc(), "siblings", &SIBLINGS)?;
+    play_anew(rt.alloc(), "taken back", &TAKEN_BACK)
 }
 
 #[test]
 fn only_what_is_granted_is_asked_of_a_server(rt: HostRuntime) -> Result<(), Fail> {
-    play_anew(rt.alloc(), ASKED_ONCE)
+    play_anew(rt.alloc(), "asked once", &ASKED_ONCE)
 }

@@ -82,47 +82,49 @@ impl Servers {
     }
 }
 
-/// What is told of an operation of an action on the register.
-fn told(
-    table: &mut LockTable,
-    server: &mut Counting<RegisterServer>,
-    action: &str,
-    op: &Op,
-) -> Result<Told, Fail> {
-    let action = Name::parse(action)?;
-    Ok(ask_with(table, &action, REGISTER, op, server)?)
+/// What is seen of a new table at a server that wants memory, and then, once the server has it, of the table and the server.
+#[derive(Clone, Copy, Debug, PartialEq)]
+struct Seen {
+    is_refused: bool,
+    next_index: u32,
+    told: Told,
+    register: Option<i64>,
+    asked: u32,
 }
 
-/// Whether memory is what an operation of an action on the register wants.
-fn wants_memory(
-    table: &mut LockTable,
-    server: &mut Counting<RegisterServer>,
-    action: &str,
-    op: &Op,
-) -> Result<bool, Fail> {
-    let action = Name::parse(action)?;
-    Ok(ask_with(table, &action, REGISTER, op, server).is_err())
-}
-
-/// What the register holds past the top.
-fn held(table: &LockTable) -> Result<Option<i64>, Fail> {
-    match value_of(table, REGISTER)? {
-        Some(State::Register(value)) => Ok(Some(value)),
-        _ => Ok(None),
-    }
+fn try_twice(table: &mut LockTable, server: &mut Counting<RegisterServer>) -> Result<Seen, Fail> {
+    let one = Name::parse("1.1.1")?;
+    let other = Name::parse("1.1.2")?;
+    server.wants_memory = true;
+    let is_refused = ask_with(table, &one, REGISTER, &Op::Write(5), server).is_err();
+    let next_index = table.next_index();
+    server.wants_memory = false;
+    let told = ask_with(table, &other, REGISTER, &Op::Swap(6), server)?;
+    let register = match value_of(table, REGISTER)? {
+        Some(State::Register(value)) => Some(value),
+        _ => None,
+    };
+    Ok(Seen {
+        is_refused,
+        next_index,
+        told,
+        register,
+        asked: server.asked,
+    })
 }
 
 #[test]
 fn a_server_that_wants_memory_leaves_the_table(rt: HostRuntime) -> Result<(), Fail> {
     let mut table = LockTable::new(rt.alloc(), &objects(rt.alloc())?, 1)?;
     let mut server = Counting::new(RegisterServer::new());
-    server.wants_memory = true;
-    assert!(rt; wants_memory(&mut table, &mut server, "1.1.1", &Op::Write(5))?);
-    assert_eq!(rt; table.next_index(), 0);
-    server.wants_memory = false;
-    let told = told(&mut table, &mut server, "1.1.2", &Op::Swap(6))?;
-    assert_eq!(rt; told, Told::Done(Answer::Value(0)));
-    assert_eq!(rt; held(&table)?, Some(0));
-    assert_eq!(rt; server.asked, 2);
+    let seen = try_twice(&mut table, &mut server)?;
+    let expected = Seen {
+        is_refused: true,
+        next_index: 0,
+        told: Told::Done(Answer::Value(0)),
+        register: Some(0),
+        asked: 2,
+    };
+    assert_eq!(rt; seen, expected);
     Ok(())
 }

@@ -3,7 +3,7 @@
 use super::both::{ask, value_of};
 use super::plain_table::Told;
 use super::servers::Servers;
-use super::{COUNTER, REGISTER};
+use super::{COUNTER, REGISTER, objects};
 use cam_base::NoMemory;
 use cam_locks::LockTable;
 use cam_names::{Name, NameFault};
@@ -12,7 +12,6 @@ use std::alloc::Global;
 use std::test::Fail;
 
 /// One step with a table, and what it has to answer.
-#[derive(Clone, Copy)]
 pub(super) enum Step<'a> {
     /// An operation of an action is done, with this answer.
     Done(&'a str, u8, Op, Answer),
@@ -34,7 +33,7 @@ pub(super) enum Step<'a> {
 
 /// What is seen of a table at a step.
 #[derive(Debug, PartialEq, Drop)]
-pub(super) enum Seen {
+enum Seen {
     Told(Told),
     /// What an object holds past the top: none where it is not of the table's node.
     Holds(Option<State>),
@@ -47,32 +46,45 @@ pub(super) enum Seen {
     NoName(NameFault),
 }
 
-/// Plays a scene, which is a row of steps with a table.
-pub(super) fn play(alloc: Global, table: &mut LockTable, scene: &[Step<'_>]) -> Result<(), Fail> {
+/// A new table after a scene.
+pub(super) fn table_after(
+    alloc: Global,
+    name: &str,
+    scene: &[Step<'_>],
+) -> Result<LockTable, Fail> {
+    let mut table = LockTable::new(alloc, &objects(alloc)?, 1)?;
+    play(alloc, &mut table, name, scene)?;
+    Ok(table)
+}
+
+/// Plays the scene of this name, which is a row of steps with a table. It fails at the first that is not answered as it has to be, with the
+/// place of the step and what is seen there.
+pub(super) fn play(
+    alloc: Global,
+    table: &mut LockTable,
+    name: &str,
+    scene: &[Step<'_>],
+) -> Result<(), Fail> {
     let mut servers = Servers::new(alloc);
     for (place, step) in scene.iter().enumerate() {
-        take(table, &mut servers, place, step)?;
+        let seen = seen_once(table, &mut servers, step)?;
+        if seen != expected_at(step)? {
+            return Err(Fail::new(format_args!("{name}, step {place}: {seen:?}")));
+        }
     }
     Ok(())
 }
 
-/// Takes the step at this place, and fails where it is not answered as it has to be. Where memory runs out it is taken once more: the table is
-/// as it was.
-fn take(
+/// What the table answers, at a second try where memory runs out: the table is as it was then.
+fn seen_once(
     table: &mut LockTable,
     servers: &mut Servers,
-    place: usize,
     step: &Step<'_>,
-) -> Result<(), Fail> {
-    let expected = expected_at(step)?;
-    let seen = match seen_at(table, servers, step) {
-        Ok(seen) => seen,
-        Err(NoMemory) => seen_at(table, servers, step)?,
-    };
-    if seen == expected {
-        return Ok(());
+) -> Result<Seen, NoMemory> {
+    match seen_at(table, servers, step) {
+        Ok(seen) => Ok(seen),
+        Err(NoMemory) => seen_at(table, servers, step),
     }
-    Err(Fail::new(format_args!("step {place}: {seen:?} in place of {expected:?}")))
 }
 
 /// What the table has to answer.
