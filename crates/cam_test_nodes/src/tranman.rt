@@ -67,7 +67,6 @@ fn called(homed: &mut Homed, action: &Name) -> Option<u32> {
 /// The tests of a request in their order: each, for an action that calls, one with an open child, one that has ended, one of an older count, and one that was not created.
 #[test]
 fn the_first_test_that_holds_refuses(rt: HostRuntime) -> Result<(), Fail> {
-    let mut homed = Homed::new(rt.alloc(), 3, 2);
     let free = Name::parse("3.2.1")?;
     let calling = Name::parse("3.2.2")?;
     let parent = Name::parse("3.2.3")?;
@@ -75,6 +74,7 @@ fn the_first_test_that_holds_refuses(rt: HostRuntime) -> Result<(), Fail> {
     let child = Name::parse("3.2.3/1.1.1")?;
     let older = Name::parse("3.1.1")?;
     let unknown = Name::parse("3.2.5")?;
+    let mut homed = Homed::new(rt.alloc(), 3, 2);
     for name in [free, calling, parent, ended] {
         assert_eq!(rt; begun(&mut homed), Some(name));
     }
@@ -205,11 +205,11 @@ fn children_are_decided_once(rt: HostRuntime) -> Result<(), Fail> {
     let top = Name::parse("1.2.1")?;
     let home = Deps::none().with(1, 2);
     let more = Deps::none().with(3, 5);
-    let mut homed = Homed::new(rt.alloc(), 1, 2);
-    assert_eq!(rt; begun(&mut homed), Some(top));
     let first = Name::parse("1.2.1/1.1.1")?;
     let second = Name::parse("1.2.1/1.1.2")?;
     let third = Name::parse("1.2.1/1.1.3")?;
+    let mut homed = Homed::new(rt.alloc(), 1, 2);
+    assert_eq!(rt; begun(&mut homed), Some(top));
     for child in [first, second, third] {
         assert_eq!(rt; asked(&mut homed, &top, 1), Some(child));
     }

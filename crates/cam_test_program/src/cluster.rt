@@ -9,7 +9,7 @@ use cam_base::NoMemory;
 use cam_cluster::{RunFault, Servers, run_script};
 use cam_disk::MemoryDisk;
 use cam_event::RunRecord;
-use cam_script::{Script, parse};
+use cam_script::{Labels, Script, parse};
 use cam_type::{CounterServer, QueueServer, RegisterServer};
 use std::alloc::Global;
 use std::fmt::Write;
@@ -84,6 +84,12 @@ deliver 9 | Refused { line: 19, refusal: NoLetter }
 deliver 4294967295 | Refused { line: 20, refusal: NoLetter }
 deliver 8 | node 1 got 8 Plain, got 1.1.1 2 Value(5)";
 
+/// Eight nodes, an action at the last, a letter that was never sent, and a restart.
+const EIGHT_NODES: &str = "nodes 8
+begin A 8 | node 8 got 0 Plain, create 8.1.1
+deliver 1 | Refused { line: 3, refusal: NoLetter }
+restart 3 | node 3 got 0 Plain, another deed";
+
 /// The script of a table: of each row what stands before the bar.
 fn script_of(alloc: Global, table: &str) -> Result<String, NoMemory> {
     let mut text = String::new(alloc);
@@ -121,45 +127,50 @@ fn run(alloc: Global, script: &Script) -> Result<RunRecord, RunFault>
     run_script(alloc, script, &mut disks, &mut servers)
 }
 
-#[test]
-fn each_line_has_its_event_or_its_mark(rt: HostRuntime) -> Result<(), Fail> {
-    let alloc = rt.alloc();
-    for table in [CONFLICT, TWO_NODES, REPEATS] {
-        let text = script_of(alloc, table)?;
-        let script = parse(alloc, text.as_bytes())?;
-        let record = run(alloc, &script)?;
-        let mut events = 0usize;
-        let mut marks = 0usize;
-        for row in table.lines() {
-            let Some((line, want)) = row.split_once(" | ") else {
-                continue;
-            };
-            if want.starts_with("node") {
-                let told = event_text(alloc, &script.labels, &record.trace, events)?;
-                assert_eq!(rt; told.as_str(), want, "at {line}");
-                events = events.wrapping_add(1);
-            } else {
-                let mark = record.marks.get(marks).ok_or("a mark is missing")?;
-                let told = format!(in alloc; "{mark:?}")?;
-                assert_eq!(rt; told.as_str(), want, "at {line}");
-                marks = marks.wrapping_add(1);
-            }
+/// Fails at the first row of a table that the record of its run does not have, with what the record has there.
+fn check_rows(alloc: Global, table: &str, labels: &Labels, record: &RunRecord) -> Result<(), Fail> {
+    let mut events = 0usize;
+    let mut marks = 0usize;
+    for row in table.lines() {
+        let Some((line, want)) = row.split_once(" | ") else {
+            continue;
+        };
+        let told = if want.starts_with("node") {
+            events = events.wrapping_add(1);
+            event_text(alloc, labels, &record.trace, events.wrapping_sub(1))?
+        } else {
+            marks = marks.wrapping_add(1);
+            mark_text(alloc, record, marks.wrapping_sub(1))?
+        };
+        if told.as_str() != want {
+            return Err(Fail::new(format_args!("{line} | {told}")));
         }
-        assert_eq!(rt; record.trace.len(), events);
-        assert_eq!(rt; record.marks.len(), marks);
+    }
+    if record.trace.len() != events || record.marks.len() != marks {
+        return Err(Fail::new("there are more events or marks than rows"));
     }
     Ok(())
 }
 
-#[test]
-fn with_ample_memory_a_script_runs(rt: HostRuntime) -> Result<(), Fail> {
-    let alloc = rt.alloc();
-    let script = parse(alloc, b"nodes 8\nbegin A 8\ndeliver 1\nrestart 3\n")?;
+/// The mark at this place of a record.
+fn mark_text(alloc: Global, record: &RunRecord, place: usize) -> Result<String, Fail> {
+    let mark = record.marks.get(place).ok_or("a mark is missing")?;
+    Ok(format!(in alloc; "{mark:?}")?)
+}
+
+/// Runs the script of a table, and fails where its record is not what the table has.
+fn check(alloc: Global, table: &str) -> Result<(), Fail> {
+    let text = script_of(alloc, table)?;
+    let script = parse(alloc, text.as_bytes())?;
     let record = run(alloc, &script)?;
-    let told = event_text(alloc, &script.labels, &record.trace, 0)?;
-    assert_eq!(rt; told.as_str(), "node 8 got 0 Plain, create 8.1.1");
-    assert_eq!(rt; record.trace.len(), 2);
-    assert_eq!(rt; record.marks.len(), 1);
+    check_rows(alloc, table, &script.labels, &record)
+}
+
+#[test]
+fn each_line_has_its_event_or_its_mark(rt: HostRuntime) -> Result<(), Fail> {
+    for table in [CONFLICT, TWO_NODES, REPEATS, EIGHT_NODES] {
+        check(rt.alloc(), table)?;
+    }
     Ok(())
 }
 
@@ -167,49 +178,71 @@ fn with_ample_memory_a_script_runs(rt: HostRuntime) -> Result<(), Fail> {
 #[derive(Clone, Copy)]
 struct Halt {
     calls: u32,
-    taken: bool,
-    fourth_event: &'static str,
     events: usize,
+    fourth_event: &'static str,
+    mark: &'static str,
 }
 
 /// The disk does nothing more: the event is lost.
 const LOST: Halt = Halt {
     calls: 0,
-    taken: false,
-    fourth_event: "node 1 got 0 Plain, another deed",
     events: 5,
+    fourth_event: "node 1 got 0 Plain, another deed",
+    mark: "Halted { line: 5, node: 1, taken: false }",
 };
 
 /// Its entry has come to the disk: the event is taken.
 const TAKEN: Halt = Halt {
     calls: 3,
-    taken: true,
-    fourth_event: "node 1 got 2 Plain, another deed",
     events: 6,
+    fourth_event: "node 1 got 2 Plain, another deed",
+    mark: "Halted { line: 5, node: 1, taken: true }",
 };
 
-/// A node halts at a stop of its disk, as it secures a family, and goes on by its restart. The event is taken where three calls more of
-/// its disk passed: then it stands at its place, after the three before it, without its letter.
+/// What came of a halt: how many events there are, the fourth of them, the first mark, and how many there are.
+#[derive(Drop)]
+struct Halted {
+    events: usize,
+    fourth_event: String,
+    mark: String,
+    marks: usize,
+}
+
+fn told_of(alloc: Global, labels: &Labels, record: &RunRecord) -> Result<Halted, Fail> {
+    Ok(Halted {
+        events: record.trace.len(),
+        fourth_event: event_text(alloc, labels, &record.trace, 3)?,
+        mark: mark_text(alloc, record, 0)?,
+        marks: record.marks.len(),
+    })
+}
+
+/// What comes of a halt of a node at a stop of its disk after so many calls, as it secures a family. The node goes on by its restart.
+fn halted_after(alloc: Global, calls: u32) -> Result<Halted, Fail> {
+    let text = format!(in alloc;
+        "nodes 1\nbegin A 1\ncommit A 0\nstop 1 {calls}\ndrain\nbegin B 1\nrestart 1\nbegin C 1\n"
+    )?;
+    let script = parse(alloc, text.as_bytes())?;
+    let record = run(alloc, &script)?;
+    told_of(alloc, &script.labels, &record)
+}
+
+/// The event of the halt is taken where three calls more of its disk passed: then it stands at its place, after the three before it, without its
+/// letter.
 #[test]
 fn a_run_goes_on_through_a_halt(rt: HostRuntime) -> Result<(), Fail> {
-    let alloc = rt.alloc();
     for halt in [LOST, TAKEN] {
         let calls = halt.calls;
-        let text = format!(in alloc;
-            "nodes 1\nbegin A 1\ncommit A 0\nstop 1 {calls}\ndrain\nbegin B 1\nrestart 1\nbegin C 1\n"
-        )?;
-        let script = parse(alloc, text.as_bytes())?;
-        let record = run(alloc, &script)?;
-        assert_eq!(rt; record.trace.len(), halt.events, "with {calls} calls");
-        let told = event_text(alloc, &script.labels, &record.trace, 3)?;
-        assert_eq!(rt; told.as_str(), halt.fourth_event, "with {calls} calls");
-        let mark = record.marks.get(0).ok_or("a mark is missing")?;
-        let told = format!(in alloc; "{mark:?}")?;
-        let taken = halt.taken;
-        let want = format!(in alloc; "Halted {{ line: 5, node: 1, taken: {taken} }}")?;
-        assert_eq!(rt; told, want, "with {calls} calls");
+        let halted = halted_after(rt.alloc(), calls)?;
+        assert_eq!(rt; halted.events, halt.events, "with {calls} calls");
+        assert_eq!(rt;
+            halted.fourth_event.as_str(),
+            halt.fourth_event,
+            "with {calls} calls"
+        );
+        assert_eq!(rt; halted.mark.as_str(), halt.mark, "with {calls} calls");
         // the other is that of the line that the halted node refuses
-        assert_eq!(rt; record.marks.len(), 2);
+        assert_eq!(rt; halted.marks, 2, "with {calls} calls");
     }
     Ok(())
 }

@@ -152,6 +152,27 @@ impl Site {
         Ok(())
     }
 
+    /// The first of these steps, one after the other, whose call is answered otherwise.
+    fn first_other(&mut self, alloc: Global, steps: &[Step]) -> Result<Option<Other>, Fail> {
+        for (place, step) in steps.iter().enumerate() {
+            match step {
+                Step::Called(call, expected) => {
+                    let answer = self.call(call)?;
+                    if answer != Some(*expected) {
+                        return Ok(Some(Other { place, answer }));
+                    }
+                }
+                Step::Told(outcome) => self.tell(alloc, outcome)?,
+                Step::Decided(outcome) => self.decide(outcome)?,
+                Step::Copied => self.copy_server()?,
+                Step::Restarted(node, count) => self.hear_of_restart(*node, *count)?,
+                Step::Secured(family) => self.secure(family)?,
+                Step::Crashed(count) => self.crash(alloc, *count)?,
+            }
+        }
+        Ok(None)
+    }
+
     /// The outcome is learnt, and the site is informed of it.
     fn tell(&mut self, alloc: Global, outcome: &Outcome) -> Result<(), NoMemory> {
         let mut news = Know::new(alloc);
@@ -202,22 +223,5 @@ pub(super) fn first_other(
     value: i64,
     steps: &[Step],
 ) -> Result<Option<Other>, Fail> {
-    let mut site = Site::new(alloc, node, value)?;
-    for place in 0..steps.len() {
-        match &steps[place] {
-            Step::Called(call, expected) => {
-                let answer = site.call(call)?;
-                if answer != Some(*expected) {
-                    return Ok(Some(Other { place, answer }));
-                }
-            }
-            Step::Told(outcome) => site.tell(alloc, outcome)?,
-            Step::Decided(outcome) => site.decide(outcome)?,
-            Step::Copied => site.copy_server()?,
-            Step::Restarted(node, count) => site.hear_of_restart(*node, *count)?,
-            Step::Secured(family) => site.secure(family)?,
-            Step::Crashed(count) => site.crash(alloc, *count)?,
-        }
-    }
-    Ok(None)
+    Site::new(alloc, node, value)?.first_other(alloc, steps)
 }

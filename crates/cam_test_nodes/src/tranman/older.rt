@@ -22,8 +22,8 @@ fn a_child_of_another_count_may_not_start(rt: HostRuntime) -> Result<(), Fail> {
 /// *A start arrives*, test *again*: a child that is there already may start, and nothing comes of it.
 #[test]
 fn a_child_that_is_there_starts_no_more(rt: HostRuntime) -> Result<(), Fail> {
-    let mut homed = Homed::new(rt.alloc(), 3, 5);
     let child = Name::parse("1.2.1/3.5.1")?;
+    let mut homed = Homed::new(rt.alloc(), 3, 5);
     let (node, count) = child.home();
     assert!(rt; node == 3 && count == 5);
     assert!(rt; !homed.created(&child));
