@@ -84,19 +84,19 @@ impl Servers {
 
 /// What is seen of a new table at a server that wants memory, and then, once the server has it, of the table and the server.
 #[derive(Clone, Copy, Debug, PartialEq)]
-struct Seen {
-    is_refused: bool,
+struct Tried {
+    wanted_memory: bool,
     next_index: u32,
     told: Told,
     register: Option<i64>,
     asked: u32,
 }
 
-fn try_twice(table: &mut LockTable, server: &mut Counting<RegisterServer>) -> Result<Seen, Fail> {
+fn try_twice(table: &mut LockTable, server: &mut Counting<RegisterServer>) -> Result<Tried, Fail> {
     let one = Name::parse("1.1.1")?;
     let other = Name::parse("1.1.2")?;
     server.wants_memory = true;
-    let is_refused = ask_with(table, &one, REGISTER, &Op::Write(5), server).is_err();
+    let wanted_memory = ask_with(table, &one, REGISTER, &Op::Write(5), server).is_err();
     let next_index = table.next_index();
     server.wants_memory = false;
     let told = ask_with(table, &other, REGISTER, &Op::Swap(6), server)?;
@@ -104,8 +104,8 @@ fn try_twice(table: &mut LockTable, server: &mut Counting<RegisterServer>) -> Re
         Some(State::Register(value)) => Some(value),
         _ => None,
     };
-    Ok(Seen {
-        is_refused,
+    Ok(Tried {
+        wanted_memory,
         next_index,
         told,
         register,
@@ -117,14 +117,14 @@ fn try_twice(table: &mut LockTable, server: &mut Counting<RegisterServer>) -> Re
 fn a_server_that_wants_memory_leaves_the_table(rt: HostRuntime) -> Result<(), Fail> {
     let mut table = LockTable::new(rt.alloc(), &objects(rt.alloc())?, 1)?;
     let mut server = Counting::new(RegisterServer::new());
-    let seen = try_twice(&mut table, &mut server)?;
-    let expected = Seen {
-        is_refused: true,
+    let tried = try_twice(&mut table, &mut server)?;
+    let expected = Tried {
+        wanted_memory: true,
         next_index: 0,
         told: Told::Done(Answer::Value(0)),
         register: Some(0),
         asked: 2,
     };
-    assert_eq!(rt; seen, expected);
+    assert_eq!(rt; tried, expected);
     Ok(())
 }

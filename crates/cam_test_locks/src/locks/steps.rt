@@ -57,8 +57,8 @@ pub(super) fn table_after(
     Ok(table)
 }
 
-/// Plays the scene of this name, which is a row of steps with a table. It fails at the first that is not answered as it has to be, with the
-/// place of the step and what is seen there.
+/// Plays the scene of this name, which is a row of steps with a table. It fails at the first that is not answered as it has to be, with its
+/// name, the place of the step and what is seen there.
 pub(super) fn play(
     alloc: Global,
     table: &mut LockTable,
@@ -67,7 +67,7 @@ pub(super) fn play(
 ) -> Result<(), Fail> {
     let mut servers = Servers::new(alloc);
     for (place, step) in scene.iter().enumerate() {
-        let seen = seen_once(table, &mut servers, step)?;
+        let seen = seen_at_last(table, &mut servers, step)?;
         if seen != expected_at(step)? {
             return Err(Fail::new(format_args!("{name}, step {place}: {seen:?}")));
         }
@@ -76,7 +76,7 @@ pub(super) fn play(
 }
 
 /// What the table answers, at a second try where memory runs out: the table is as it was then.
-fn seen_once(
+fn seen_at_last(
     table: &mut LockTable,
     servers: &mut Servers,
     step: &Step<'_>,
