@@ -135,19 +135,25 @@ fn check_rows(alloc: Global, table: &str, labels: &Labels, record: &RunRecord) -
         let Some((line, want)) = row.split_once(" | ") else {
             continue;
         };
-        let told = if want.starts_with("node") {
-            events = events.wrapping_add(1);
-            event_text(alloc, labels, &record.trace, events.wrapping_sub(1))?
+        let is_event = want.starts_with("node");
+        let told = if is_event {
+            event_text(alloc, labels, &record.trace, events)?
         } else {
-            marks = marks.wrapping_add(1);
-            mark_text(alloc, record, marks.wrapping_sub(1))?
+            mark_text(alloc, record, marks)?
         };
         if told.as_str() != want {
-            return Err(Fail::new(format_args!("{line} | {told}")));
+            return Err(Fail::new(format_args!("{line} | {told}, in place of {want}")));
+        }
+        if is_event {
+            events = events.wrapping_add(1);
+        } else {
+            marks = marks.wrapping_add(1);
         }
     }
     if record.trace.len() != events || record.marks.len() != marks {
-        return Err(Fail::new("there are more events or marks than rows"));
+        return Err(Fail::new(format_args!(
+            "after the rows, {events} events and {marks} marks, there are more"
+        )));
     }
     Ok(())
 }
@@ -199,7 +205,7 @@ const TAKEN: Halt = Halt {
     mark: "Halted { line: 5, node: 1, taken: true }",
 };
 
-/// What came of a halt: how many events there are, the fourth of them, the first mark, and how many there are.
+/// What came of a halt: how many events there are, the fourth of them, the first mark, and how many marks there are.
 #[derive(Drop)]
 struct Halted {
     events: usize,
@@ -208,6 +214,7 @@ struct Halted {
     marks: usize,
 }
 
+/// What the record of a halt tells of it.
 fn told_of(alloc: Global, labels: &Labels, record: &RunRecord) -> Result<Halted, Fail> {
     Ok(Halted {
         events: record.trace.len(),
