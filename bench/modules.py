@@ -6,8 +6,8 @@ It reads the files that a whole check kept in crates/CRATE/out/incremental, each
 (with --test for its tests), in a checkout that is the only one of this machine with kept work of the crate: else the check begins with
 that, whose files tell older times, and the list says so. The seconds are those of the clock, from the first module on.
 
-`F.Lts` is what the function F does step by step: it grows with the values that F drops, times its exits. `F.Proof` has the answers to its
-goals, and the search for those that have none.
+`F.Lts` is what the function F does step by step: it grows with its length, and with the values that it drops at each of its exits. `F.Proof`
+has the answers to its goals, and the search for those that have none. A check that was paused counts the pause to one module.
 """
 
 import pathlib

@@ -28,10 +28,3 @@ returns-clause-own c = λ s L E keeps.
     subst (λ (ds : List DeedValue). KeepsOwn c.args.objects.now s (after L ds) E c.loop-deed.own)
     (take_all c.loop-deed.deed-index c.as_slice-deed-items.result.now (omega (arith, past)) ∙ c.as_slice-deed-items.ensures)
     (c.loop-deed.invariant.own s L E keeps)
-
-pub returns-clause-whole : goal.returns-clause-whole
-returns-clause-whole c = λ L keeps.
-    let past = c.loop-deed-test.false in
-    subst (λ (ds : List DeedValue). KeepsWhole c.args.objects.now (after L ds) c.loop-deed.whole)
-    (take_all c.loop-deed.deed-index c.as_slice-deed-items.result.now (omega (arith, past)) ∙ c.as_slice-deed-items.ensures)
-    (c.loop-deed.invariant.whole L keeps)
