@@ -35,9 +35,8 @@ fn a_stopped_disk_does_no_call(rt: HostRuntime) -> Result<(), Fail> {
     disk.stop_after(2);
     disk.write_at(0, b"d")?;
     disk.sync()?;
-    assert_eq!(rt; disk.write_at(1, b"e"), Err(DiskError::Failed));
-    assert_eq!(rt; disk.cut(0), Err(DiskError::Failed));
-    assert_eq!(rt; disk.sync(), Err(DiskError::Failed));
+    let answers = [disk.write_at(1, b"e"), disk.cut(0), disk.sync()];
+    assert_eq!(rt; answers, [Err(DiskError::Failed); 3]);
     let mut into = [0u8; 4];
     assert_eq!(rt; disk.read(0, &mut into), Err(DiskError::Failed));
     disk.clear();

@@ -1,6 +1,9 @@
 // Logs: their bytes, where bytes are none, and appends that are stopped.
+ghost use Rattle.std.specs.Prelude.{IfOk, IsFalse};
+
 use cam_disk::{Disk, MemoryDisk, StopDisk};
 use cam_log::{EntryLog, Log, LogFault, StopLog};
+use std::alloc::Global;
 use std::test::Fail;
 
 /// A log of the one entry 01 00000002.
@@ -18,52 +21,64 @@ const PLACES: [u64; 30] = [
     20, 29,
 ];
 
+/// A log without entries, over a disk that can be stopped.
+pub(super) fn formatted(alloc: Global) -> Result<Log<StopDisk<MemoryDisk>>, Fail>
+    ensures { IfOk result (λ log. IsFalse (⟦<Log<StopDisk<MemoryDisk>> as EntryLog>⟧.broken log)) }
+{
+    match Log::format(alloc, StopDisk::new(MemoryDisk::new(alloc))) {
+        Ok(log) => Ok(log),
+        Err(refused) => Err(refused.fault.into()),
+    }
+}
+
+/// The log on a disk.
+pub(super) fn opened(alloc: Global, disk: MemoryDisk) -> Result<Log<MemoryDisk>, Fail>
+    ensures { IfOk result (λ log. IsFalse (⟦<Log<MemoryDisk> as EntryLog>⟧.broken log)) }
+{
+    match Log::open(alloc, disk) {
+        Ok(log) => Ok(log),
+        Err(refused) => Err(refused.fault.into()),
+    }
+}
+
+/// A disk that holds these bytes.
+fn disk_of(alloc: Global, bytes: &[u8]) -> Result<MemoryDisk, Fail> {
+    let mut disk = MemoryDisk::new(alloc);
+    disk.write_at(0, bytes)?;
+    Ok(disk)
+}
+
+/// Why these bytes are no log. None where they are one.
+fn fault_of(alloc: Global, bytes: &[u8]) -> Result<Option<LogFault>, Fail> {
+    match Log::open(alloc, disk_of(alloc, bytes)?) {
+        Ok(_) => Ok(None),
+        Err(refused) => Ok(Some(refused.fault)),
+    }
+}
+
 #[test]
 fn an_append_leaves_these_bytes(rt: HostRuntime) -> Result<(), Fail> {
-    let alloc = rt.alloc();
-    let mut log = match Log::format(alloc, MemoryDisk::new(alloc)) {
-        Ok(log) => log,
-        Err(refused) => return Err(refused.fault.into()),
-    };
+    let mut log = formatted(rt.alloc())?;
     log.append(&[1, 0, 0, 0, 2])?;
-    let mut disk = log.into_disk();
+    let mut disk = log.into_disk().into_inner();
     let mut into = [0u8; 30];
     assert_eq!(rt; disk.read(0, &mut into)?, 23);
     assert_eq!(rt; &into[..23], IMAGE.as_slice());
-    let again = match Log::open(alloc, disk) {
-        Ok(log) => log,
-        Err(refused) => return Err(refused.fault.into()),
-    };
-    assert_eq!(rt; again.entries().len(), 1);
-    assert_eq!(rt; again.is_broken(), false);
-    let mut cut = MemoryDisk::new(alloc);
-    cut.write_at(0, &IMAGE[..22])?;
-    match Log::open(alloc, cut) {
-        Ok(_) => Err(Fail::new("a log without its last gate was opened")),
-        Err(refused) => {
-            assert_eq!(rt; refused.fault, LogFault::NotALog(22));
-            Ok(())
-        }
-    }
+    let again = opened(rt.alloc(), disk)?;
+    assert_eq!(rt; (again.entries().len(), again.is_broken()), (1, false));
+    Ok(())
 }
 
 #[test]
 fn each_beginning_of_a_log_is_refused_at_its_place(rt: HostRuntime) -> Result<(), Fail> {
     let alloc = rt.alloc();
     for (length, at) in PLACES.iter().enumerate() {
-        let mut disk = MemoryDisk::new(alloc);
-        disk.write_at(0, TWO.get(..length).unwrap_or(&TWO))?;
-        match Log::open(alloc, disk) {
-            Ok(_) => return Err(Fail::new("a beginning was opened")),
-            Err(refused) => assert_eq!(rt; refused.fault, LogFault::NotALog(*at), "at {length}"),
-        }
+        let fault = fault_of(alloc, TWO.get(..length).unwrap_or(&TWO))?;
+        assert_eq!(rt; fault, Some(LogFault::NotALog(*at)), "at {length}");
     }
-    let mut disk = MemoryDisk::new(alloc);
-    disk.write_at(0, &TWO)?;
-    let log = match Log::open(alloc, disk) {
-        Ok(log) => log,
-        Err(refused) => return Err(refused.fault.into()),
-    };
+    let fault = fault_of(alloc, &IMAGE[..22])?;
+    assert_eq!(rt; fault, Some(LogFault::NotALog(22)));
+    let log = opened(alloc, disk_of(alloc, &TWO)?)?;
     assert_eq!(rt; log.entries().len(), 2);
     Ok(())
 }
@@ -81,29 +96,20 @@ fn an_append_is_stopped_at_each_device_call(rt: HostRuntime) -> Result<(), Fail>
         (4, Ok(()), 1, 1),
     ];
     for (calls, answer, listed, found) in rows {
-        let mut log = match Log::format(alloc, StopDisk::new(MemoryDisk::new(alloc))) {
-            Ok(log) => log,
-            Err(refused) => return Err(refused.fault.into()),
-        };
+        let mut log = formatted(alloc)?;
         log.stop_after(calls);
         assert_eq!(rt; log.append(&[1, 0, 0, 0, 2]), answer, "at {calls}");
         assert_eq!(rt; log.is_broken(), answer.is_err(), "at {calls}");
         assert_eq!(rt; log.entries().len(), listed, "at {calls}");
-        match Log::open(alloc, log.into_disk().into_inner()) {
-            Ok(log) => assert_eq!(rt; log.entries().len(), found, "at {calls}"),
-            Err(refused) => return Err(refused.fault.into()),
-        }
+        let again = opened(alloc, log.into_disk().into_inner())?;
+        assert_eq!(rt; again.entries().len(), found, "at {calls}");
     }
     Ok(())
 }
 
 #[test]
 fn a_log_whose_disk_was_cleared_appends(rt: HostRuntime) -> Result<(), Fail> {
-    let alloc = rt.alloc();
-    let mut log = match Log::format(alloc, StopDisk::new(MemoryDisk::new(alloc))) {
-        Ok(log) => log,
-        Err(refused) => return Err(refused.fault.into()),
-    };
+    let mut log = formatted(rt.alloc())?;
     log.stop_after(0);
     log.clear();
     log.append(b"ab")?;

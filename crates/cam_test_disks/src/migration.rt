@@ -1,7 +1,7 @@
 // Migration of a log to the present version, and the one entry that keeps what all entries say.
+use crate::log::{formatted, opened};
 use crate::recman::{ADDS, ALL, LATER, entries_of};
-use cam_disk::{MemoryDisk, StopDisk};
-use cam_log::{EntryLog, Log, StopLog};
+use cam_log::{EntryLog, StopLog};
 use cam_recman::{MigrateFault, Migrated, encode_entry, migrate, recover, restart, snapshot};
 use std::alloc::Global;
 use std::test::Fail;
@@ -17,17 +17,11 @@ fn a_migrated_log_recovers_the_same(rt: HostRuntime) -> Result<(), Fail> {
         (4, Ok(Migrated::Done), 2),
     ];
     for (calls, answer, entries) in rows {
-        let mut log = match Log::format(alloc, StopDisk::new(MemoryDisk::new(alloc))) {
-            Ok(log) => log,
-            Err(refused) => return Err(refused.fault.into()),
-        };
+        let mut log = formatted(alloc)?;
         log.append(&ALL)?;
         log.stop_after(calls);
         assert_eq!(rt; migrate(alloc, &mut log), answer);
-        let mut again = match Log::open(alloc, log.into_disk().into_inner()) {
-            Ok(log) => log,
-            Err(refused) => return Err(refused.fault.into()),
-        };
+        let mut again = opened(alloc, log.into_disk().into_inner())?;
         assert_eq!(rt; again.entries().len(), entries);
         let recovered = restart(alloc, &again)?;
         assert_eq!(rt;

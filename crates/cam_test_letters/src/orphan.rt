@@ -16,24 +16,27 @@ fn what_a_sibling_stood_on_is_lost(rt: HostRuntime) -> Result<(), Fail> {
         old: 1,
         new: 2,
     });
-
-    let mut know = Know::new(rt.alloc());
-    assert_eq!(rt; orphan(&know, &child, &own), None);
-    know.add(&Outcome::Committed(sibling, Deps::none().with(1, 1).with(2, 1)))?;
-    assert_eq!(rt; orphan(&know, &child, &own), None);
-    know.raise(2, 2);
-    assert_eq!(rt; orphan(&know, &child, &own), lost);
-    assert_eq!(rt; orphan(&know, &top, &Deps::none()), lost);
-    know.raise(1, 3);
     let at_home = Some(Reason::Crash {
         node: 1,
         old: 1,
         new: 3,
     });
-    assert_eq!(rt; orphan(&know, &child, &own), at_home);
+
+    let mut know = Know::new(rt.alloc());
+    let at_first = orphan(&know, &child, &own);
+    know.add(&Outcome::Committed(sibling, Deps::none().with(1, 1).with(2, 1)))?;
+    assert_eq!(rt; (at_first, orphan(&know, &child, &own)), (None, None));
+    know.raise(2, 2);
+    assert_eq!(rt; orphan(&know, &child, &own), lost);
+    assert_eq!(rt; orphan(&know, &top, &Deps::none()), lost);
+    know.raise(1, 3);
+    let after_restart = orphan(&know, &child, &own);
     know.add(&Outcome::Aborted(child))?;
     know.add(&Outcome::Aborted(top))?;
-    assert_eq!(rt; orphan(&know, &child, &own), Some(Reason::Abort(top)));
+    assert_eq!(rt;
+        (after_restart, orphan(&know, &child, &own)),
+        (at_home, Some(Reason::Abort(top)))
+    );
     Ok(())
 }
 
@@ -42,26 +45,29 @@ fn what_a_sibling_stood_on_is_lost(rt: HostRuntime) -> Result<(), Fail> {
 fn a_newer_home_hides_no_older_pair(rt: HostRuntime) -> Result<(), Fail> {
     let child = Name::parse("1.1.1/4.2.1")?;
     let older = Deps::none().with(1, 1).with(4, 1);
-    let mut know = Know::new(rt.alloc());
-    know.raise(4, 2);
-    assert_eq!(rt; orphan_at_home(&know, &child, &Deps::none()), None);
     let lost = Some(Reason::Crash {
         node: 4,
         old: 1,
         new: 2,
     });
-    assert_eq!(rt; orphan_at_home(&know, &child, &older), lost);
-    know.raise(4, 3);
     let at_home = Some(Reason::Crash {
         node: 4,
         old: 2,
         new: 3,
     });
-    assert_eq!(rt; orphan_at_home(&know, &child, &Deps::none()), at_home);
+    let mut know = Know::new(rt.alloc());
+    know.raise(4, 2);
+    let by_home = orphan_at_home(&know, &child, &Deps::none());
+    assert_eq!(rt;
+        (by_home, orphan_at_home(&know, &child, &older)),
+        (None, lost)
+    );
+    know.raise(4, 3);
+    let by_home = orphan_at_home(&know, &child, &Deps::none());
     know.add(&Outcome::Aborted(child))?;
     assert_eq!(rt;
-        orphan_at_home(&know, &child, &older),
-        Some(Reason::Abort(child))
+        (by_home, orphan_at_home(&know, &child, &older)),
+        (at_home, Some(Reason::Abort(child)))
     );
     Ok(())
 }

@@ -59,22 +59,28 @@ fn join(alloc: Global, parts: &[&[u8]]) -> Result<Vec<u8>, NoMemory> {
 }
 
 #[test]
-fn letters_are_spelled_as_the_format_says(rt: HostRuntime) -> Result<(), Fail> {
-    let top = Name::parse("1.1.1")?;
-    let second = Name::parse("1.1.2")?;
+fn letters_with_nothing_known_are_spelled_as_the_format_says(rt: HostRuntime) -> Result<(), Fail> {
     let call = Body::Call {
-        action: top,
+        action: Name::parse("1.1.1")?,
         number: 1,
         object: 0,
         op: Op::Write(5),
         count: 1,
         deps: Deps::none().with(1, 1),
     };
-    let letter = letter_of(rt.alloc(), Body::News);
-    assert_eq!(rt; encode(rt.alloc(), &letter)?.as_slice(), NEWS.as_slice());
+    {
+        let letter = letter_of(rt.alloc(), Body::News);
+        assert_eq!(rt; encode(rt.alloc(), &letter)?.as_slice(), NEWS.as_slice());
+    }
     let letter = letter_of(rt.alloc(), call);
     assert_eq!(rt; encode(rt.alloc(), &letter)?.as_slice(), CALL.as_slice());
+    Ok(())
+}
 
+#[test]
+fn what_is_known_is_spelled_as_the_format_says(rt: HostRuntime) -> Result<(), Fail> {
+    let top = Name::parse("1.1.1")?;
+    let second = Name::parse("1.1.2")?;
     let committed = Name::parse("2.3.1")?;
     let mut know = Know::new(rt.alloc());
     know.add(&Outcome::Aborted(second))?;
@@ -92,6 +98,13 @@ fn letters_are_spelled_as_the_format_says(rt: HostRuntime) -> Result<(), Fail> {
         body: Body::Quit { action: second },
     };
     assert_eq!(rt; encode(rt.alloc(), &letter)?.as_slice(), QUIT.as_slice());
+    Ok(())
+}
+
+#[test]
+fn a_letter_is_read_as_the_format_says(rt: HostRuntime) -> Result<(), Fail> {
+    let top = Name::parse("1.1.1")?;
+    let committed = Name::parse("2.3.1")?;
     let read = decode(rt.alloc(), &QUIT)?;
     assert_eq!(rt; (read.from, read.count, read.to), (2, 3, 1));
     assert_eq!(rt; (read.know.len(), read.know.count(4)), (3, 2));
