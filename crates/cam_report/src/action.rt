@@ -50,11 +50,11 @@ fn write_child(
         → string_bytes out.new ≡ string_bytes out.old
         ++ words (step_words labels (Child child.now end))) }
 {
-    write!(out, "child ")?;
+    out.push_str("child ")?;
     child.write_text(alloc, out)?;
     match end {
         Some(value) => write!(out, " committed {value}")?,
-        None => write!(out, " aborted")?,
+        None => out.push_str(" aborted")?,
     }
     Ok(())
 }
@@ -71,9 +71,9 @@ fn write_step(
         ++ words (step_words labels.now step.now)) }
 {
     match step {
-        ViewStep::Created => write!(out, "created")?,
+        ViewStep::Created => out.push_str("created")?,
         ViewStep::Asked(child) => {
-            write!(out, "asked ")?;
+            out.push_str("asked ")?;
             child.write_text(alloc, out)?;
         }
         ViewStep::Called(number, object, op) => {
@@ -86,7 +86,7 @@ fn write_step(
         }
         ViewStep::Child(child, end) => write_child(alloc, child, *end, out)?,
         ViewStep::CommitAsked(value) => write!(out, "commit {value}")?,
-        ViewStep::AbortAsked => write!(out, "abort")?,
+        ViewStep::AbortAsked => out.push_str("abort")?,
     }
     Ok(())
 }
@@ -102,7 +102,7 @@ fn write_view(
         ++ flat_map (λ step. inner_line (step_words labels.now step)) view.now) }
 {
     for step in view {
-        write!(out, "  ")?;
+        out.push_str("  ")?;
         write_step(alloc, labels, step, out)?;
         writeln!(out)?;
     }
@@ -135,7 +135,7 @@ fn write_action(
 {
     let depth = action.depth();
     prove!(depth >= 1);
-    write!(out, "action ")?;
+    out.push_str("action ")?;
     action.write_text(alloc, out)?;
     writeln!(out, " {}", state_word(actions, action))?;
     write_view(alloc, labels, steps_of(&actions.views, action), out)?;

@@ -1,7 +1,7 @@
 //! Deeds in words.
-ghost use Rattle.std.specs.Prelude.{◌≡◌, ◌++◌, ◌∷◌, [], OnOk, string_bytes};
+ghost use Rattle.std.specs.Prelude.{◌≡◌, ◌++◌, ◌∷◌, [], OnOk, codes, decimal, string_bytes};
 ghost use Rattle.cam_names.specs.Text.{name_text};
-ghost use Rattle.cam_report.specs.Words.{words};
+ghost use Rattle.cam_report.specs.Words.{words, op_words};
 ghost use Rattle.cam_report.specs.DeedWords.{outcome_word, deed_words};
 
 use crate::words::{object_text, write_answer, write_op, write_seen};
@@ -9,6 +9,7 @@ use cam_base::NoMemory;
 use cam_event::Deed;
 use cam_names::Name;
 use cam_script::Labels;
+use cam_type::Op;
 use std::alloc::Global;
 use std::fmt::Write;
 
@@ -19,6 +20,31 @@ fn write_named(alloc: Global, word: &str, name: &Name, out: &mut String) -> Resu
 {
     write!(out, "{word} ")?;
     name.write_text(alloc, out)
+}
+
+/// Appends a word, an action, the number of its call, and a blank.
+fn write_call_head(
+    alloc: Global,
+    word: &str,
+    action: &Name,
+    number: u32,
+    out: &mut String,
+) -> Result<(), NoMemory>
+    ensures { OnOk result (string_bytes out.new ≡ string_bytes out.old
+        ++ words (word.now ∷ name_text action.now ∷ decimal number ∷ []) ++ codes " ") }
+{
+    write_named(alloc, word, action, out)?;
+    Ok(write!(out, " {number} ")?)
+}
+
+/// Appends an object's name, the operation on it, and the count of its node.
+fn write_asked(object: &str, op: &Op, count: u32, out: &mut String) -> Result<(), NoMemory>
+    ensures { OnOk result (string_bytes out.new ≡ string_bytes out.old
+        ++ words (object.now ∷ op_words op.now ++ decimal count ∷ [])) }
+{
+    write!(out, "{object} ")?;
+    write_op(op, out)?;
+    Ok(write!(out, " {count}")?)
 }
 
 /// The word for an outcome.
@@ -39,11 +65,11 @@ pub(crate) fn write_deed(
         ++ words (deed_words labels.now deed.now)) }
 {
     match deed {
-        Deed::Create { action } => write_named(alloc, "create", action, out)?,
+        Deed::Create { action } => write_named(alloc, "create", action, out),
         Deed::Ask { action, child } => {
             write_named(alloc, "ask", action, out)?;
-            write!(out, " ")?;
-            child.write_text(alloc, out)?;
+            out.push_str(" ")?;
+            child.write_text(alloc, out)
         }
         Deed::Call {
             action,
@@ -52,52 +78,47 @@ pub(crate) fn write_deed(
             op,
             count,
         } => {
-            write_named(alloc, "call", action, out)?;
-            write!(out, " {number} {} ", object_text(labels, *object))?;
-            write_op(op, out)?;
-            write!(out, " {count}")?;
+            write_call_head(alloc, "call", action, *number, out)?;
+            write_asked(object_text(labels, *object), op, *count, out)
         }
         Deed::Perform {
             action,
             number,
             answer,
         } => {
-            write_named(alloc, "perform", action, out)?;
-            write!(out, " {number} ")?;
-            write_answer(answer, out)?;
+            write_call_head(alloc, "perform", action, *number, out)?;
+            write_answer(answer, out)
         }
         Deed::Bounce {
             action,
             number,
             holder,
         } => {
-            write_named(alloc, "bounce", action, out)?;
-            write!(out, " {number} ")?;
-            holder.write_text(alloc, out)?;
+            write_call_head(alloc, "bounce", action, *number, out)?;
+            holder.write_text(alloc, out)
         }
         Deed::Got {
             action,
             number,
             seen,
         } => {
-            write_named(alloc, "got", action, out)?;
-            write!(out, " {number} ")?;
-            write_seen(alloc, seen, out)?;
+            write_call_head(alloc, "got", action, *number, out)?;
+            write_seen(alloc, seen, out)
         }
         Deed::AskCommit { action, value } => {
             write_named(alloc, "askcommit", action, out)?;
-            write!(out, " {value}")?;
+            Ok(write!(out, " {value}")?)
         }
-        Deed::AskAbort { action } => write_named(alloc, "askabort", action, out)?,
-        Deed::Commit { action } => write_named(alloc, "commit", action, out)?,
-        Deed::Abort { action } => write_named(alloc, "abort", action, out)?,
+        Deed::AskAbort { action } => write_named(alloc, "askabort", action, out),
+        Deed::Commit { action } => write_named(alloc, "commit", action, out),
+        Deed::Abort { action } => write_named(alloc, "abort", action, out),
         Deed::Secure {
             family,
             site,
             count,
         } => {
             write_named(alloc, "secure", family, out)?;
-            write!(out, " {site} {count}")?;
+            Ok(write!(out, " {site} {count}")?)
         }
         Deed::Inform {
             site,
@@ -105,9 +126,8 @@ pub(crate) fn write_deed(
             committed,
         } => {
             write!(out, "inform {site} ")?;
-            write_named(alloc, outcome_word(*committed), name, out)?;
+            write_named(alloc, outcome_word(*committed), name, out)
         }
-        Deed::Crash { site } => write!(out, "crash {site}")?,
+        Deed::Crash { site } => Ok(write!(out, "crash {site}")?),
     }
-    Ok(())
 }

@@ -22,7 +22,7 @@ pub(crate) fn write_stop(
     if let Note::Stopped(action, reason) = note {
         write!(out, "stop {number} ")?;
         action.write_text(alloc, out)?;
-        write!(out, " ")?;
+        out.push_str(" ")?;
         write_reason(alloc, reason, out)?;
         writeln!(out)?;
     }

@@ -61,7 +61,7 @@ fn write_deeds(
         ++ flat_map (λ d. inner_line (deed_words labels.now d)) deeds.now) }
 {
     for deed in deeds {
-        write!(out, "  ")?;
+        out.push_str("  ")?;
         write_deed(alloc, labels, deed, out)?;
         writeln!(out)?;
     }
