@@ -4,6 +4,7 @@ mod changes;
 ghost use Rattle.std.specs.Prelude.{◌<◌};
 ghost use Rattle.cam_wire.specs.Writable.{IsWritable, IsWritableBody};
 
+use crate::check::{holds, same};
 use cam_base::NoMemory;
 use cam_event::{Body, Letter, Reply};
 use cam_know::{Know, Outcome};
@@ -58,8 +59,17 @@ fn join(alloc: Global, parts: &[&[u8]]) -> Result<Vec<u8>, NoMemory> {
     Ok(bytes)
 }
 
+/// The bytes of a letter of node 1 at count 1 to node 2 with this body, and with nothing known.
+fn bytes_of(alloc: Global, body: Body) -> Result<Vec<u8>, NoMemory>
+    requires { IsWritableBody body }
+{
+    let letter = letter_of(alloc, body);
+    encode(alloc, &letter)
+}
+
 #[test]
 fn letters_with_nothing_known_are_spelled_as_the_format_says(rt: HostRuntime) -> Result<(), Fail> {
+    let alloc = rt.alloc();
     let call = Body::Call {
         action: Name::parse("1.1.1")?,
         number: 1,
@@ -68,36 +78,50 @@ fn letters_with_nothing_known_are_spelled_as_the_format_says(rt: HostRuntime) ->
         count: 1,
         deps: Deps::none().with(1, 1),
     };
-    {
-        let letter = letter_of(rt.alloc(), Body::News);
-        assert_eq!(rt; encode(rt.alloc(), &letter)?.as_slice(), NEWS.as_slice());
-    }
-    let letter = letter_of(rt.alloc(), call);
-    assert_eq!(rt; encode(rt.alloc(), &letter)?.as_slice(), CALL.as_slice());
+    same(
+        &rt,
+        bytes_of(alloc, Body::News)?.as_slice(),
+        NEWS.as_slice(),
+    );
+    same(&rt, bytes_of(alloc, call)?.as_slice(), CALL.as_slice());
     Ok(())
+}
+
+/// What is known in `QUIT`, learnt in another order.
+fn known_in_quit(alloc: Global) -> Result<Know, Fail> {
+    let top = Name::parse("1.1.1")?;
+    let second = Name::parse("1.1.2")?;
+    let committed = Name::parse("2.3.1")?;
+    let mut know = Know::new(alloc);
+    for outcome in [
+        Outcome::Aborted(second),
+        Outcome::Committed(committed, Deps::none().with(2, 3)),
+        Outcome::Aborted(top),
+    ] {
+        know.add(&outcome)?;
+    }
+    know.raise(2, 3);
+    know.raise(4, 2);
+    Ok(know)
 }
 
 #[test]
 fn what_is_known_is_spelled_as_the_format_says(rt: HostRuntime) -> Result<(), Fail> {
-    let top = Name::parse("1.1.1")?;
-    let second = Name::parse("1.1.2")?;
-    let committed = Name::parse("2.3.1")?;
-    let mut know = Know::new(rt.alloc());
-    know.add(&Outcome::Aborted(second))?;
-    know.add(&Outcome::Committed(committed, Deps::none().with(2, 3)))?;
-    know.add(&Outcome::Aborted(top))?;
-    know.raise(2, 3);
-    know.raise(4, 2);
+    let action = Name::parse("1.1.2")?;
     let letter = Letter {
         from: 2,
         count: 3,
         to: 1,
         have: 3,
         place: 4,
-        know,
-        body: Body::Quit { action: second },
+        know: known_in_quit(rt.alloc())?,
+        body: Body::Quit { action },
     };
-    assert_eq!(rt; encode(rt.alloc(), &letter)?.as_slice(), QUIT.as_slice());
+    same(
+        &rt,
+        encode(rt.alloc(), &letter)?.as_slice(),
+        QUIT.as_slice(),
+    );
     Ok(())
 }
 
@@ -106,9 +130,12 @@ fn a_letter_is_read_as_the_format_says(rt: HostRuntime) -> Result<(), Fail> {
     let top = Name::parse("1.1.1")?;
     let committed = Name::parse("2.3.1")?;
     let read = decode(rt.alloc(), &QUIT)?;
-    assert_eq!(rt; (read.from, read.count, read.to), (2, 3, 1));
-    assert_eq!(rt; (read.know.len(), read.know.count(4)), (3, 2));
-    assert!(rt; read.know.is_aborted(&top) && read.know.is_committed(&committed));
+    same(&rt, (read.from, read.count, read.to), (2, 3, 1));
+    same(&rt, (read.know.len(), read.know.count(4)), (3, 2));
+    holds(
+        &rt,
+        read.know.is_aborted(&top) && read.know.is_committed(&committed),
+    );
     Ok(())
 }
 
@@ -118,8 +145,7 @@ fn is_spelled(alloc: Global, body: Body, tag: u8, fields: &[u8]) -> Result<bool,
 {
     let name = [1, 1, 0, 0, 0, 1, 0, 0, 0, 1];
     let bytes = join(alloc, &[&NEWS[..32], &[tag], &name, fields])?;
-    let letter = letter_of(alloc, body);
-    Ok(encode(alloc, &letter)?.as_slice() == bytes.as_slice())
+    Ok(bytes_of(alloc, body)?.as_slice() == bytes.as_slice())
 }
 
 #[test]
@@ -130,33 +156,33 @@ fn each_body_is_spelled_as_the_format_says(rt: HostRuntime) -> Result<(), Fail> 
         child: name,
         deps: Deps::none().with(1, 1),
     };
-    assert!(rt; is_spelled(alloc, start, 1, &[1, 1, 0, 0, 0, 1])?);
+    holds(&rt, is_spelled(alloc, start, 1, &[1, 1, 0, 0, 0, 1])?);
     let finish = Body::Finish {
         action: name,
         value: -1,
         deps: Deps::none(),
     };
     let fields = [255, 255, 255, 255, 255, 255, 255, 255, 0];
-    assert!(rt; is_spelled(alloc, finish, 4, &fields)?);
+    holds(&rt, is_spelled(alloc, finish, 4, &fields)?);
     let prepare = Body::Prepare {
         family: name,
         count: 1,
     };
-    assert!(rt; is_spelled(alloc, prepare, 6, &[0, 0, 0, 1])?);
+    holds(&rt, is_spelled(alloc, prepare, 6, &[0, 0, 0, 1])?);
     let yes = Body::Vote {
         family: name,
         count: 1,
         yes: true,
     };
-    assert!(rt; is_spelled(alloc, yes, 7, &[0, 0, 0, 1, 1])?);
+    holds(&rt, is_spelled(alloc, yes, 7, &[0, 0, 0, 1, 1])?);
     let no = Body::Vote {
         family: name,
         count: 1,
         yes: false,
     };
-    assert!(rt; is_spelled(alloc, no, 7, &[0, 0, 0, 1, 0])?);
+    holds(&rt, is_spelled(alloc, no, 7, &[0, 0, 0, 1, 0])?);
     let query = Body::Query { family: name };
-    assert!(rt; is_spelled(alloc, query, 8, &[])?);
+    holds(&rt, is_spelled(alloc, query, 8, &[])?);
     Ok(())
 }
 
@@ -174,30 +200,43 @@ fn is_answered(alloc: Global, reply: Reply, fields: &[u8]) -> Result<bool, Fail>
 
 #[test]
 fn each_reply_is_spelled_as_the_format_says(rt: HostRuntime) -> Result<(), Fail> {
-    let alloc = rt.alloc();
     let holder = Name::parse("1.1.1")?;
-    let value = Reply::Done(Answer::Value(258));
-    assert!(rt; is_answered(alloc, Reply::Done(Answer::Ok), &[1])?);
-    assert!(rt; is_answered(alloc, value, &[2, 0, 0, 0, 0, 0, 0, 1, 2])?);
-    assert!(rt; is_answered(alloc, Reply::Done(Answer::Empty), &[3])?);
-    let busy = [4, 1, 1, 0, 0, 0, 1, 0, 0, 0, 1];
-    assert!(rt; is_answered(alloc, Reply::Busy(holder), &busy)?);
-    assert!(rt; is_answered(alloc, Reply::Missed, &[5])?);
-    assert!(rt; is_answered(alloc, Reply::Refused, &[6])?);
+    for (reply, fields) in [
+        (Reply::Done(Answer::Ok), [1].as_slice()),
+        (
+            Reply::Done(Answer::Value(258)),
+            [2, 0, 0, 0, 0, 0, 0, 1, 2].as_slice(),
+        ),
+        (Reply::Done(Answer::Empty), [3].as_slice()),
+        (
+            Reply::Busy(holder),
+            [4, 1, 1, 0, 0, 0, 1, 0, 0, 0, 1].as_slice(),
+        ),
+        (Reply::Missed, [5].as_slice()),
+        (Reply::Refused, [6].as_slice()),
+    ] {
+        let answered = is_answered(rt.alloc(), reply, fields)?;
+        same(&rt, (fields, answered), (fields, true));
+    }
     Ok(())
+}
+
+/// The letter that these bytes are read as, which is spelled again as they are, or the fault that is answered.
+fn read(alloc: Global, bytes: &[u8]) -> Result<Result<Letter, WireFault>, Fail> {
+    let letter = match decode(alloc, bytes) {
+        Ok(letter) => letter,
+        Err(fault) => return Ok(Err(fault)),
+    };
+    if encode(alloc, &letter)?.as_slice() == bytes {
+        Ok(Ok(letter))
+    } else {
+        Err("another spelling".into())
+    }
 }
 
 /// The fault that is answered. None where a letter is read, and is spelled again as these bytes.
 fn fault_of(alloc: Global, bytes: &[u8]) -> Result<Option<WireFault>, Fail> {
-    let letter = match decode(alloc, bytes) {
-        Ok(letter) => letter,
-        Err(fault) => return Ok(Some(fault)),
-    };
-    if encode(alloc, &letter)?.as_slice() == bytes {
-        Ok(None)
-    } else {
-        Err("another spelling".into())
-    }
+    Ok(read(alloc, bytes)?.err())
 }
 
 /// `NEWS` with another byte at a place.
@@ -209,19 +248,15 @@ fn news_with(place: usize, byte: u8) -> [u8; 33]
     bytes
 }
 
+/// The fault that is answered of these bytes, one part after another.
+fn fault_of_parts(alloc: Global, parts: &[&[u8]]) -> Result<Option<WireFault>, Fail> {
+    let bytes = join(alloc, parts)?;
+    fault_of(alloc, bytes.as_slice())
+}
+
 #[test]
 fn letters_are_read_and_other_bytes_refused(rt: HostRuntime) -> Result<(), Fail> {
-    let longer = join(rt.alloc(), &[&NEWS, &[0]])?;
-    // 2.3.1 is committed twice, the second time with no dependencies.
-    let twice = [
-        &QUIT[..58],
-        &[0, 0, 0, 2],
-        &QUIT[62..78],
-        &QUIT[62..72],
-        &[0],
-        &QUIT[78..],
-    ];
-    let twice = join(rt.alloc(), &twice)?;
+    let alloc = rt.alloc();
     for (bytes, fault) in [
         (NEWS.as_slice(), None),
         (CALL.as_slice(), None),
@@ -229,11 +264,27 @@ fn letters_are_read_and_other_bytes_refused(rt: HostRuntime) -> Result<(), Fail>
         (news_with(0, 1).as_slice(), Some(WireFault::BadTag(0))),
         (news_with(1, 9).as_slice(), Some(WireFault::BadNumber(1))),
         (news_with(32, 10).as_slice(), Some(WireFault::BadTag(32))),
-        (longer.as_slice(), Some(WireFault::Rest(33))),
         (&NEWS[..0], Some(WireFault::Short(0))),
-        (twice.as_slice(), Some(WireFault::Order(78))),
     ] {
-        assert_eq!(rt; fault_of(rt.alloc(), bytes)?, fault);
+        same(&rt, fault_of(alloc, bytes)?, fault);
     }
+    let rest = fault_of_parts(alloc, &[&NEWS, &[0]])?;
+    same(&rt, rest, Some(WireFault::Rest(33)));
+    Ok(())
+}
+
+/// 2.3.1 is committed twice, the second time with no dependencies.
+#[test]
+fn a_name_that_is_committed_twice_is_refused(rt: HostRuntime) -> Result<(), Fail> {
+    let parts: [&[u8]; 6] = [
+        &QUIT[..58],
+        &[0, 0, 0, 2],
+        &QUIT[62..78],
+        &QUIT[62..72],
+        &[0],
+        &QUIT[78..],
+    ];
+    let fault = fault_of_parts(rt.alloc(), &parts)?;
+    same(&rt, fault, Some(WireFault::Order(78)));
     Ok(())
 }
