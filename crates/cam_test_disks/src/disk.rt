@@ -1,16 +1,32 @@
 // Disks in memory, that stop, and of files.
+use crate::check::same;
 use cam_disk::{Disk, DiskError, FileDisk, HostDisk, MemoryDisk, StopDisk, TellingDisk};
-use std::fs;
+use std::alloc::Global;
+use std::process::Abort;
 use std::test::Fail;
+use std::{fs, io};
 
-#[test]
-fn a_read_copies_what_there_is_and_fits(rt: HostRuntime) -> Result<(), Fail> {
-    let mut disk = MemoryDisk::new(rt.alloc());
+/// A disk that holds "axyde".
+fn five_bytes(alloc: Global) -> Result<MemoryDisk, Fail> {
+    let mut disk = MemoryDisk::new(alloc);
     disk.write_at(0, b"abcd")?;
     disk.write_at(1, b"xy")?;
     disk.write_at(4, b"ef")?;
     disk.cut(5)?;
-    // The place, the room, and what is read of "axyde".
+    Ok(disk)
+}
+
+/// How many bytes are read of a disk at a place where there is room for so many, and the bytes.
+fn read_of(disk: &mut MemoryDisk, at: u64, room: usize) -> Result<(usize, [u8; 9]), DiskError> {
+    let mut into = [0u8; 9];
+    let count = disk.read(at, &mut into[..room.min(9)])?;
+    Ok((count, into))
+}
+
+#[test]
+fn a_read_copies_what_there_is_and_fits(rt: HostRuntime) -> Result<(), Fail> {
+    let mut disk = five_bytes(rt.alloc())?;
+    // The place, the room, and what is read.
     let rows: [(u64, usize, &[u8]); 6] = [
         (0, 3, b"axy"),
         (3, 3, b"de"),
@@ -20,30 +36,69 @@ fn a_read_copies_what_there_is_and_fits(rt: HostRuntime) -> Result<(), Fail> {
         (9, 3, b""),
     ];
     for (at, room, want) in rows {
-        let mut into = [0u8; 9];
-        let room = &mut into[..room.min(9)];
-        let count = disk.read(at, room)?;
-        assert_eq!(rt; &into[..count], want, "at {at}");
+        let (count, into) = read_of(&mut disk, at, room)?;
+        same(&rt, (at, into.get(..count)), (at, Some(want)));
     }
     Ok(())
 }
 
-#[test]
-fn a_stopped_disk_does_no_call(rt: HostRuntime) -> Result<(), Fail> {
-    let mut disk = StopDisk::new(MemoryDisk::new(rt.alloc()));
+/// What a call answers that changes a disk.
+type Changed = Result<(), DiskError>;
+
+/// What a disk answers to a write, a cut and a sync, which follow two calls that are passed on and leave it at "dbc".
+fn stopped_answers(disk: &mut StopDisk<MemoryDisk>) -> Result<(Changed, Changed, Changed), Fail> {
     disk.write_at(0, b"abc")?;
     disk.stop_after(2);
     disk.write_at(0, b"d")?;
     disk.sync()?;
-    let answers = [disk.write_at(1, b"e"), disk.cut(0), disk.sync()];
-    assert_eq!(rt; answers, [Err(DiskError::Failed); 3]);
+    Ok((disk.write_at(1, b"e"), disk.cut(0), disk.sync()))
+}
+
+#[test]
+fn a_stopped_disk_does_no_call(rt: HostRuntime) -> Result<(), Fail> {
+    let failed = Err(DiskError::Failed);
     let mut into = [0u8; 4];
-    assert_eq!(rt; disk.read(0, &mut into), Err(DiskError::Failed));
+    let mut disk = StopDisk::new(MemoryDisk::new(rt.alloc()));
+    same(&rt, stopped_answers(&mut disk)?, (failed, failed, failed));
+    same(&rt, disk.read(0, &mut into), Err(DiskError::Failed));
     disk.clear();
-    assert_eq!(rt; disk.read(0, &mut into)?, 3);
-    assert_eq!(rt; &into[..3], b"dbc".as_slice());
-    let mut inner = disk.into_inner();
-    assert_eq!(rt; inner.read(2, &mut into)?, 1);
+    same(&rt, disk.read(0, &mut into), Ok(3));
+    same(&rt, &into[..3], b"dbc".as_slice());
+    same(&rt, disk.into_inner().read(2, &mut into), Ok(1));
+    Ok(())
+}
+
+/// Leaves "axy" on a disk.
+fn write_three(disk: &mut HostDisk) -> Result<(), Fail> {
+    disk.cut(0)?;
+    disk.write_at(0, b"abcd")?;
+    disk.write_at(1, b"xy")?;
+    disk.cut(3)?;
+    disk.sync()?;
+    Ok(())
+}
+
+/// How many bytes are read of a disk behind its first and the first two of them, how many behind its third, and how
+/// often it has failed.
+fn read_back(disk: &mut HostDisk) -> Result<(usize, [u8; 2], usize, u64), Fail> {
+    let mut into = [0u8; 9];
+    let count = disk.read(1, &mut into)?;
+    let first = [into[0], into[1]];
+    let behind = disk.read(3, &mut into)?;
+    Ok((count, first, behind, disk.failures()))
+}
+
+/// What is read back of the disk of a file, once it was written.
+fn written_and_read(rt: &HostRuntime, path: &str) -> Result<(usize, [u8; 2], usize, u64), Fail> {
+    let mut disk = HostDisk::File(FileDisk::open(rt, rt.alloc(), path));
+    write_three(&mut disk)?;
+    read_back(&mut disk)
+}
+
+/// Fails the test where what was read of a file is not this text.
+fn is_read(rt: &impl Abort, read: io::Result<String>, text: &str) -> Result<(), Fail> {
+    let read = read?;
+    same(rt, read.as_str(), text);
     Ok(())
 }
 
@@ -51,52 +106,77 @@ fn a_stopped_disk_does_no_call(rt: HostRuntime) -> Result<(), Fail> {
 fn a_file_keeps_what_was_written(rt: HostRuntime) -> Result<(), Fail> {
     let path = "cam_disk_kept.log";
     fs::write(&rt, path, "what another run left")?;
-    let mut disk = HostDisk::File(FileDisk::open(&rt, rt.alloc(), path));
-    disk.cut(0)?;
-    disk.write_at(0, b"abcd")?;
-    disk.write_at(1, b"xy")?;
-    disk.cut(3)?;
-    disk.sync()?;
-    let mut into = [0u8; 9];
-    assert_eq!(rt; disk.read(1, &mut into)?, 2);
-    assert_eq!(rt; &into[..2], b"xy".as_slice());
-    assert_eq!(rt; disk.read(3, &mut into)?, 0);
-    assert_eq!(rt; disk.failures(), 0);
-    assert_eq!(rt; fs::read(&rt, path)?.as_slice(), b"axy".as_slice());
+    same(&rt, written_and_read(&rt, path)?, (2, *b"xy", 0, 0));
+    is_read(&rt, fs::read_to_string(&rt, path), "axy")?;
     Ok(fs::remove_file(&rt, path)?)
+}
+
+/// What a call answers, and how many failures the disk tells then.
+type Told<T> = (Result<T, DiskError>, u64);
+
+/// Leaves "abc" on a disk.
+fn write_abc(disk: &mut FileDisk) -> Result<(), Fail> {
+    disk.cut(0)?;
+    disk.write_at(0, b"abc")?;
+    Ok(())
+}
+
+/// What a disk tells of a read and of a cut.
+fn read_and_cut(disk: &mut FileDisk) -> (Told<usize>, Told<()>) {
+    let mut into = [0u8; 9];
+    let read = (disk.read(0, &mut into), disk.failures());
+    (read, (disk.cut(0), disk.failures()))
+}
+
+/// What a disk tells of a read and of a cut, once another one has made this of the "abc" in its file.
+fn read_and_cut_after(
+    rt: &HostRuntime,
+    path: &str,
+    other: &str,
+) -> Result<(Told<usize>, Told<()>), Fail> {
+    let mut disk = FileDisk::open(rt, rt.alloc(), path);
+    write_abc(&mut disk)?;
+    fs::write(rt, path, other)?;
+    Ok(read_and_cut(&mut disk))
 }
 
 #[test]
 fn a_file_that_another_one_writes_fails(rt: HostRuntime) -> Result<(), Fail> {
     let path = "cam_disk_other.log";
-    let mut into = [0u8; 9];
+    let failed = ((Err(DiskError::Failed), 1), (Err(DiskError::Failed), 2));
     // What another one makes of "abc".
     for other in ["abd", "ab", "abcd"] {
-        let mut disk = FileDisk::open(&rt, rt.alloc(), path);
-        disk.cut(0)?;
-        disk.write_at(0, b"abc")?;
-        fs::write(&rt, path, other)?;
-        assert_eq!(rt; disk.read(0, &mut into), Err(DiskError::Failed), "{other}");
-        assert_eq!(rt; disk.failures(), 1);
-        assert_eq!(rt; disk.cut(0), Err(DiskError::Failed), "{other}");
-        assert_eq!(rt; disk.failures(), 2);
-        assert_eq!(rt; fs::read_to_string(&rt, path)?.as_str(), other);
+        let seen = read_and_cut_after(&rt, path, other)?;
+        same(&rt, (other, seen), (other, failed));
+        is_read(&rt, fs::read_to_string(&rt, path), other)?;
     }
     Ok(fs::remove_file(&rt, path)?)
+}
+
+/// What the disk of a file answers to a read, where that is its first call.
+fn first_read(rt: &HostRuntime, path: &str) -> Result<usize, DiskError> {
+    let mut into = [0u8; 9];
+    FileDisk::open(rt, rt.alloc(), path).read(0, &mut into)
+}
+
+/// What the disk of a file answers to a write, where that is its first call.
+fn first_write(rt: &HostRuntime, path: &str) -> Result<(), DiskError> {
+    FileDisk::open(rt, rt.alloc(), path).write_at(0, b"d")
+}
+
+/// What the disk of a file answers to a sync, where that is its first call.
+fn first_sync(rt: &HostRuntime, path: &str) -> Result<(), DiskError> {
+    FileDisk::open(rt, rt.alloc(), path).sync()
 }
 
 #[test]
 fn a_file_of_another_run_is_no_log_of_this_one(rt: HostRuntime) -> Result<(), Fail> {
     let path = "cam_disk_before.log";
-    let mut into = [0u8; 9];
     fs::write(&rt, path, "abc")?;
-    let mut read = FileDisk::open(&rt, rt.alloc(), path);
-    assert_eq!(rt; read.read(0, &mut into), Err(DiskError::Failed));
-    let mut written = FileDisk::open(&rt, rt.alloc(), path);
-    assert_eq!(rt; written.write_at(0, b"d"), Err(DiskError::Failed));
-    let mut synced = FileDisk::open(&rt, rt.alloc(), path);
-    assert_eq!(rt; synced.sync(), Err(DiskError::Failed));
-    assert_eq!(rt; fs::read_to_string(&rt, path)?.as_str(), "abc");
+    same(&rt, first_read(&rt, path), Err(DiskError::Failed));
+    same(&rt, first_write(&rt, path), Err(DiskError::Failed));
+    same(&rt, first_sync(&rt, path), Err(DiskError::Failed));
+    is_read(&rt, fs::read_to_string(&rt, path), "abc")?;
     Ok(fs::remove_file(&rt, path)?)
 }
 
@@ -104,23 +184,29 @@ fn a_file_of_another_run_is_no_log_of_this_one(rt: HostRuntime) -> Result<(), Fa
 fn a_file_that_is_not_opened_fails_each_call(rt: HostRuntime) -> Result<(), Fail> {
     let mut into = [0u8; 9];
     let mut disk = FileDisk::open(&rt, rt.alloc(), "no such folder/file");
-    assert_eq!(rt; disk.cut(0), Err(DiskError::Failed));
-    assert_eq!(rt; disk.read(0, &mut into), Err(DiskError::Failed));
-    assert_eq!(rt; disk.sync(), Err(DiskError::Failed));
+    same(&rt, disk.cut(0), Err(DiskError::Failed));
+    same(&rt, disk.read(0, &mut into), Err(DiskError::Failed));
+    same(&rt, disk.sync(), Err(DiskError::Failed));
     disk.spoil();
-    assert_eq!(rt; disk.failures(), 3);
+    same(&rt, disk.failures(), 3);
+    Ok(())
+}
+
+/// Leaves "a" on a disk, and spoils it.
+fn write_one(disk: &mut HostDisk) -> Result<(), Fail> {
+    disk.write_at(0, b"ab")?;
+    disk.cut(1)?;
+    disk.sync()?;
+    disk.spoil();
     Ok(())
 }
 
 #[test]
 fn a_disk_of_the_machine_may_be_in_memory(rt: HostRuntime) -> Result<(), Fail> {
-    let mut disk = HostDisk::Memory(MemoryDisk::new(rt.alloc()));
-    disk.write_at(0, b"ab")?;
-    disk.cut(1)?;
-    disk.sync()?;
-    disk.spoil();
-    assert_eq!(rt; disk.failures(), 0);
     let mut into = [0u8; 4];
-    assert_eq!(rt; disk.read(0, &mut into)?, 1);
+    let mut disk = HostDisk::Memory(MemoryDisk::new(rt.alloc()));
+    write_one(&mut disk)?;
+    same(&rt, disk.failures(), 0);
+    same(&rt, disk.read(0, &mut into), Ok(1));
     Ok(())
 }

@@ -1,8 +1,11 @@
-//! Tests of `cam_bytes`, `cam_disk`, `cam_log`, `cam_ckpt` and `cam_recman` through their public calls, a module or two for each.
+//! Tests of `cam_bytes`, `cam_disk`, `cam_log`, `cam_ckpt` and `cam_recman` through their public calls, a module or
+//! more for each.
 #![tactic(auto)]
 
 #[cfg(test)]
 mod bytes;
+#[cfg(test)]
+mod check;
 #[cfg(test)]
 mod ckpt;
 #[cfg(test)]
@@ -13,3 +16,5 @@ mod log;
 mod migration;
 #[cfg(test)]
 mod recman;
+#[cfg(test)]
+mod recovery;

@@ -1,6 +1,7 @@
 // Logs: their bytes, where bytes are none, and appends that are stopped.
 ghost use Rattle.std.specs.Prelude.{IfOk, IsFalse};
 
+use crate::check::same;
 use cam_disk::{Disk, MemoryDisk, StopDisk};
 use cam_log::{EntryLog, Log, LogFault, StopLog};
 use std::alloc::Global;
@@ -56,16 +57,26 @@ fn fault_of(alloc: Global, bytes: &[u8]) -> Result<Option<LogFault>, Fail> {
     }
 }
 
+/// How many entries the log on a disk has, and whether it is broken.
+fn seen_on(alloc: Global, disk: MemoryDisk) -> Result<(usize, bool), Fail> {
+    let log = opened(alloc, disk)?;
+    Ok((log.entries().len(), log.is_broken()))
+}
+
+/// The disk of a log to which one entry was appended.
+fn disk_after_an_append(alloc: Global) -> Result<MemoryDisk, Fail> {
+    let mut log = formatted(alloc)?;
+    log.append(&[1, 0, 0, 0, 2])?;
+    Ok(log.into_disk().into_inner())
+}
+
 #[test]
 fn an_append_leaves_these_bytes(rt: HostRuntime) -> Result<(), Fail> {
-    let mut log = formatted(rt.alloc())?;
-    log.append(&[1, 0, 0, 0, 2])?;
-    let mut disk = log.into_disk().into_inner();
     let mut into = [0u8; 30];
-    assert_eq!(rt; disk.read(0, &mut into)?, 23);
-    assert_eq!(rt; &into[..23], IMAGE.as_slice());
-    let again = opened(rt.alloc(), disk)?;
-    assert_eq!(rt; (again.entries().len(), again.is_broken()), (1, false));
+    let mut disk = disk_after_an_append(rt.alloc())?;
+    same(&rt, disk.read(0, &mut into), Ok(23));
+    same(&rt, &into[..23], IMAGE.as_slice());
+    same(&rt, seen_on(rt.alloc(), disk)?, (1, false));
     Ok(())
 }
 
@@ -74,18 +85,49 @@ fn each_beginning_of_a_log_is_refused_at_its_place(rt: HostRuntime) -> Result<()
     let alloc = rt.alloc();
     for (length, at) in PLACES.iter().enumerate() {
         let fault = fault_of(alloc, TWO.get(..length).unwrap_or(&TWO))?;
-        assert_eq!(rt; fault, Some(LogFault::NotALog(*at)), "at {length}");
+        same(&rt, (length, fault), (length, Some(LogFault::NotALog(*at))));
     }
     let fault = fault_of(alloc, &IMAGE[..22])?;
-    assert_eq!(rt; fault, Some(LogFault::NotALog(22)));
-    let log = opened(alloc, disk_of(alloc, &TWO)?)?;
-    assert_eq!(rt; log.entries().len(), 2);
+    same(&rt, fault, Some(LogFault::NotALog(22)));
     Ok(())
 }
 
 #[test]
+fn the_whole_of_a_log_is_opened(rt: HostRuntime) -> Result<(), Fail> {
+    let disk = disk_of(rt.alloc(), &TWO)?;
+    let (entries, _) = seen_on(rt.alloc(), disk)?;
+    same(&rt, entries, 2);
+    Ok(())
+}
+
+/// What is seen of an append that is stopped: its answer, whether the log is broken then, and how many entries are
+/// listed and are found again.
+#[derive(Clone, Copy, Debug, PartialEq, Eq)]
+struct Stopped {
+    answer: Result<(), LogFault>,
+    is_broken: bool,
+    listed: usize,
+    found: usize,
+}
+
+/// What is seen of an append where these device calls are passed on.
+fn stopped_append(alloc: Global, calls: u32) -> Result<Stopped, Fail> {
+    let mut log = formatted(alloc)?;
+    log.stop_after(calls);
+    let answer = log.append(&[1, 0, 0, 0, 2]);
+    let is_broken = log.is_broken();
+    let listed = log.entries().len();
+    let (found, _) = seen_on(alloc, log.into_disk().into_inner())?;
+    Ok(Stopped {
+        answer,
+        is_broken,
+        listed,
+        found,
+    })
+}
+
+#[test]
 fn an_append_is_stopped_at_each_device_call(rt: HostRuntime) -> Result<(), Fail> {
-    let alloc = rt.alloc();
     let stopped = Err(LogFault::DiskFault);
     // The calls that are passed on, the answer, and the entries that are listed and that are found again.
     let rows = [
@@ -96,13 +138,14 @@ fn an_append_is_stopped_at_each_device_call(rt: HostRuntime) -> Result<(), Fail>
         (4, Ok(()), 1, 1),
     ];
     for (calls, answer, listed, found) in rows {
-        let mut log = formatted(alloc)?;
-        log.stop_after(calls);
-        assert_eq!(rt; log.append(&[1, 0, 0, 0, 2]), answer, "at {calls}");
-        assert_eq!(rt; log.is_broken(), answer.is_err(), "at {calls}");
-        assert_eq!(rt; log.entries().len(), listed, "at {calls}");
-        let again = opened(alloc, log.into_disk().into_inner())?;
-        assert_eq!(rt; again.entries().len(), found, "at {calls}");
+        let wanted = Stopped {
+            answer,
+            is_broken: answer.is_err(),
+            listed,
+            found,
+        };
+        let seen = stopped_append(rt.alloc(), calls)?;
+        same(&rt, (calls, seen), (calls, wanted));
     }
     Ok(())
 }
@@ -113,6 +156,6 @@ fn a_log_whose_disk_was_cleared_appends(rt: HostRuntime) -> Result<(), Fail> {
     log.stop_after(0);
     log.clear();
     log.append(b"ab")?;
-    assert_eq!(rt; log.entries().len(), 1);
+    same(&rt, log.entries().len(), 1);
     Ok(())
 }

@@ -1,49 +1,111 @@
 // Migration of a log to the present version, and the one entry that keeps what all entries say.
+use crate::check::same;
 use crate::log::{formatted, opened};
-use crate::recman::{ADDS, ALL, LATER, entries_of};
-use cam_log::{EntryLog, StopLog};
-use cam_recman::{MigrateFault, Migrated, encode_entry, migrate, recover, restart, snapshot};
+use crate::recman::{ADDS, ALL, LATER};
+use crate::recovery::{entries_of, recovered_by};
+use cam_disk::MemoryDisk;
+use cam_log::{Entries, EntryLog, StopLog};
+use cam_recman::{MigrateFault, Migrated, encode_entry, migrate, recover, snapshot};
 use std::alloc::Global;
+use std::process::Abort;
 use std::test::Fail;
+
+/// The answer of a migration.
+type Answer = Result<Migrated, MigrateFault>;
+
+/// What migrating a log answers that is not broken.
+fn migrate_whole<L: EntryLog>(alloc: Global, log: &mut L) -> Result<Answer, Fail> {
+    if log.is_broken() {
+        return Err(Fail::new("the log is broken"));
+    }
+    Ok(migrate(alloc, log))
+}
+
+/// What a migration answers where these device calls are passed on, and what its disk holds then.
+fn stopped_migration(alloc: Global, calls: u32) -> Result<(Answer, MemoryDisk), Fail> {
+    let mut log = formatted(alloc)?;
+    log.append(&ALL)?;
+    log.stop_after(calls);
+    let answer = migrate_whole(alloc, &mut log)?;
+    Ok((answer, log.into_disk().into_inner()))
+}
+
+/// What is seen of a log on a disk: how many entries it has, what they recover in short, what a migration answers, and
+/// how many entries it has then.
+#[derive(Clone, Copy, Debug, PartialEq, Eq)]
+struct Again {
+    entries: usize,
+    recovered: (u32, u64, usize),
+    migrated: Answer,
+    entries_then: usize,
+}
+
+/// What is seen of the log on this disk.
+fn seen_again(alloc: Global, disk: MemoryDisk) -> Result<Again, Fail> {
+    let mut log = opened(alloc, disk)?;
+    let entries = log.entries().len();
+    let recovered = recovered_by(alloc, &log)?;
+    let migrated = migrate_whole(alloc, &mut log)?;
+    Ok(Again {
+        entries,
+        recovered,
+        migrated,
+        entries_then: log.entries().len(),
+    })
+}
 
 #[test]
 fn a_migrated_log_recovers_the_same(rt: HostRuntime) -> Result<(), Fail> {
-    let alloc = rt.alloc();
-    // The device calls that are passed on, the answer, and how many entries the log opens with then.
+    // The device calls that are passed on, the answer, how many entries the log opens with then, and what a second
+    // migration does.
     let rows = [
-        (0, Err(MigrateFault::DiskFault), 1),
-        (2, Err(MigrateFault::DiskFault), 1),
-        (3, Err(MigrateFault::DiskFault), 2),
-        (4, Ok(Migrated::Done), 2),
+        (0, Err(MigrateFault::DiskFault), 1, Migrated::Done),
+        (2, Err(MigrateFault::DiskFault), 1, Migrated::Done),
+        (3, Err(MigrateFault::DiskFault), 2, Migrated::Already),
+        (4, Ok(Migrated::Done), 2, Migrated::Already),
     ];
-    for (calls, answer, entries) in rows {
-        let mut log = formatted(alloc)?;
-        log.append(&ALL)?;
-        log.stop_after(calls);
-        assert_eq!(rt; migrate(alloc, &mut log), answer);
-        let mut again = opened(alloc, log.into_disk().into_inner())?;
-        assert_eq!(rt; again.entries().len(), entries);
-        let recovered = restart(alloc, &again)?;
-        assert_eq!(rt;
-            (recovered.count, recovered.know.len(), recovered.held.len()),
-            (2, 2, 1)
-        );
-        let which = if entries == 1 {
-            Migrated::Done
-        } else {
-            Migrated::Already
+    for (calls, answer, entries, which) in rows {
+        let (answered, disk) = stopped_migration(rt.alloc(), calls)?;
+        same(&rt, (calls, answered), (calls, answer));
+        let wanted = Again {
+            entries,
+            recovered: (2, 2, 1),
+            migrated: Ok(which),
+            entries_then: 2,
         };
-        assert_eq!(rt; migrate(alloc, &mut again), Ok(which));
-        assert_eq!(rt; again.entries().len(), 2);
+        let again = seen_again(rt.alloc(), disk)?;
+        same(&rt, (calls, again), (calls, wanted));
     }
     Ok(())
 }
 
 /// The bytes of the one entry that keeps what these entries say.
-fn kept_bytes(alloc: Global, all: &[&[u8]]) -> Result<Vec<u8>, Fail> {
-    let kept = recover(alloc, &entries_of(alloc, all)?)?;
+fn kept_bytes(alloc: Global, entries: &Entries) -> Result<Vec<u8>, Fail> {
+    let kept = recover(alloc, entries)?;
     let records = snapshot(alloc, &kept)?;
     Ok(encode_entry(alloc, &records)?)
+}
+
+/// The bytes of the one entry that keeps what the entries of these bytes say.
+fn kept_of(alloc: Global, all: &[&[u8]]) -> Result<Vec<u8>, Fail> {
+    let entries = entries_of(alloc, all)?;
+    kept_bytes(alloc, &entries)
+}
+
+/// Fails the test where the one entry that keeps what these say has other bytes.
+fn is_kept_as(rt: &impl Abort, alloc: Global, all: &[&[u8]], wanted: &[u8]) -> Result<(), Fail> {
+    let kept = kept_of(alloc, all)?;
+    same(rt, kept.as_slice(), wanted);
+    Ok(())
+}
+
+/// These pieces, one behind the other.
+fn joined(alloc: Global, pieces: &[&[u8]]) -> Result<Vec<u8>, Fail> {
+    let mut bytes = Vec::new(alloc);
+    for piece in pieces {
+        bytes.extend_from_slice(piece)?;
+    }
+    Ok(bytes)
 }
 
 #[test]
@@ -67,16 +129,9 @@ fn one_entry_keeps_what_all_entries_say(rt: HostRuntime) -> Result<(), Fail> {
         ),
     ];
     for (all, pieces) in rows {
-        let mut wanted = Vec::new(alloc);
-        for piece in pieces {
-            wanted.extend_from_slice(piece)?;
-        }
-        let kept = kept_bytes(alloc, all)?;
-        assert_eq!(rt; kept.as_slice(), wanted.as_slice());
-        assert_eq!(rt;
-            kept_bytes(alloc, &[kept.as_slice()])?.as_slice(),
-            wanted.as_slice()
-        );
+        let wanted = joined(alloc, pieces)?;
+        is_kept_as(&rt, alloc, all, &wanted)?;
+        is_kept_as(&rt, alloc, &[wanted.as_slice()], &wanted)?;
     }
     Ok(())
 }
