@@ -1,4 +1,5 @@
 //! `cam_cut`: cuts and witnesses of a run in which an orphan runs on.
+use crate::check::same;
 use cam_base::NoMemory;
 use cam_cut::{CutFault, cut_deeds, witness};
 use cam_event::{Deed, Deeds, LetterId, Note, Trace};
@@ -92,14 +93,43 @@ fn trace(alloc: Global, deeds: &[(u64, Deed)]) -> Result<Trace, NoMemory> {
     Ok(trace)
 }
 
+/// The deeds of the events that are kept, where there is a flag for each event.
+fn kept_deeds(alloc: Global, trace: &Trace, keep: &[bool]) -> Result<Deeds, Fail> {
+    if keep.len() != trace.len() {
+        return Err(Fail::new("not a flag for each event"));
+    }
+    Ok(cut_deeds(alloc, trace, keep)?)
+}
+
+/// The names of P, C and D.
+#[derive(Clone, Copy)]
+struct Names {
+    p: Name,
+    c: Name,
+    d: Name,
+}
+
+impl Names {
+    fn new() -> Result<Names, Fail> {
+        Ok(Names {
+            p: Name::parse("1.1.1")?,
+            c: Name::parse("1.1.1/4.1.1")?,
+            d: Name::parse("1.1.2")?,
+        })
+    }
+
+    /// The trace of the run.
+    fn trace(&self, alloc: Global) -> Result<Trace, NoMemory> {
+        trace(alloc, &deeds(self.p, self.c, self.d))
+    }
+}
+
 /// C asks for y after D has committed. In the past of that call, the last step of C's view, stands neither the abort of C nor anything of
-/// D. No third top action was created.
+/// D.
 #[test]
 fn the_witness_of_an_orphan_has_no_abort(rt: HostRuntime) -> Result<(), Fail> {
-    let alloc = rt.alloc();
-    let p = Name::parse("1.1.1")?;
-    let c = Name::parse("1.1.1/4.1.1")?;
-    let trace = trace(alloc, &deeds(p, c, Name::parse("1.1.2")?))?;
+    let names = Names::new()?;
+    let Names { p, c, .. } = names;
     let expected = [
         create(p),
         ask(p, c),
@@ -109,26 +139,31 @@ fn the_witness_of_an_orphan_has_no_abort(rt: HostRuntime) -> Result<(), Fail> {
         got_done(c, 1, Answer::Value(1)),
         call(c, 2, 1, Op::Read),
     ];
-    let found = witness(alloc, &trace, &c)?;
-    assert_eq!(rt; found.as_slice(), expected.as_slice());
-    let third = witness(alloc, &trace, &Name::parse("1.1.3")?);
-    assert!(rt; matches!(third, Err(CutFault::NoSuchAction)));
+    let trace = names.trace(rt.alloc())?;
+    let found = witness(rt.alloc(), &trace, &c)?;
+    same(&rt, found.as_slice(), expected.as_slice());
+    Ok(())
+}
+
+/// No third top action was created.
+#[test]
+fn what_was_not_created_has_no_witness(rt: HostRuntime) -> Result<(), Fail> {
+    let third = Name::parse("1.1.3")?;
+    let trace = Names::new()?.trace(rt.alloc())?;
+    let found = witness(rt.alloc(), &trace, &third).err();
+    same(&rt, found, Some(CutFault::NoSuchAction));
     Ok(())
 }
 
 /// Of the last six events, without C's call of y: of all four nodes, and one of them has no deeds.
 #[test]
 fn a_cut_keeps_the_order_of_the_trace(rt: HostRuntime) -> Result<(), Fail> {
-    let alloc = rt.alloc();
-    let c = Name::parse("1.1.1/4.1.1")?;
-    let d = Name::parse("1.1.2")?;
-    let trace = trace(alloc, &deeds(Name::parse("1.1.1")?, c, d))?;
+    let names = Names::new()?;
+    let Names { c, d, .. } = names;
     let mut keep = [false; 27];
     for number in 21..27 {
         keep[number] = number != 24;
     }
-    assert_eq!(rt; trace.len(), 27);
-    let kept = cut_deeds(alloc, &trace, &keep)?;
     let expected = [
         commit(d),
         inform(1, d, true),
@@ -137,6 +172,9 @@ fn a_cut_keeps_the_order_of_the_trace(rt: HostRuntime) -> Result<(), Fail> {
         inform(4, c, false),
         inform(4, d, true),
     ];
-    assert_eq!(rt; kept.as_slice(), expected.as_slice());
+    let trace = names.trace(rt.alloc())?;
+    same(&rt, trace.len(), 27);
+    let kept = kept_deeds(rt.alloc(), &trace, &keep)?;
+    same(&rt, kept.as_slice(), expected.as_slice());
     Ok(())
 }

@@ -1,9 +1,12 @@
 //! `cam_live`: what stays live through a crash.
+use crate::check::same;
+use cam_base::NoMemory;
 use cam_event::{Deed, Deeds};
 use cam_live::{live, settled};
 use cam_names::Name;
 use cam_samples::{call, crash, inform, perform, registers, secure};
-use cam_type::{Answer, Op};
+use cam_type::{Answer, Objects, Op};
+use std::alloc::Global;
 use std::test::Fail;
 
 /// Two writes, of which one is secured before the crash and the other after it. The site is informed of the commit of the late one, and
@@ -35,21 +38,48 @@ const COUNTS: [(usize, usize); 9] = [
     (0, 0),
 ];
 
+/// What lives after some deeds.
+#[derive(Clone, Copy, Debug, PartialEq, Eq)]
+struct Standing {
+    /// How many deeds.
+    deeds: usize,
+    /// How many operations are live, and the action of the first.
+    lives: usize,
+    first: Option<Name>,
+    /// How many of them are settled.
+    settles: usize,
+}
+
+impl Standing {
+    fn after(alloc: Global, deeds: &Deeds, objects: &Objects) -> Result<Standing, NoMemory> {
+        let settles = settled(alloc, deeds, objects)?.len();
+        let live = live(alloc, deeds, objects)?;
+        Ok(Standing {
+            deeds: deeds.len(),
+            lives: live.len(),
+            first: live.get(0).map(|first| first.action),
+            settles,
+        })
+    }
+}
+
+/// Where any operation is live, the first is of the action whose write is secured.
 #[test]
 fn a_crash_keeps_what_was_secured_before(rt: HostRuntime) -> Result<(), Fail> {
     let alloc = rt.alloc();
-    let objects = registers(alloc, &[1, 1])?;
     let secured = Name::parse("1.1.1")?;
-    let late = Name::parse("1.1.2")?;
+    let list = two_writes(secured, Name::parse("1.1.2")?);
+    let objects = registers(alloc, &[1, 1])?;
     let mut deeds = Deeds::new(alloc);
-    for (deed, (lives, settles)) in two_writes(secured, late).iter().zip(&COUNTS) {
+    for (deed, (lives, settles)) in list.iter().zip(&COUNTS) {
         deeds.push_copy(deed)?;
-        let live = live(alloc, &deeds, &objects)?;
-        assert_eq!(rt; live.len(), *lives);
-        if let Some(first) = live.get(0) {
-            assert!(rt; first.action == secured);
-        }
-        assert_eq!(rt; settled(alloc, &deeds, &objects)?.len(), *settles);
+        let wanted = Standing {
+            deeds: deeds.len(),
+            lives: *lives,
+            first: if *lives == 0 { None } else { Some(secured) },
+            settles: *settles,
+        };
+        same(&rt, Standing::after(alloc, &deeds, &objects)?, wanted);
     }
     Ok(())
 }

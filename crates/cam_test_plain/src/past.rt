@@ -1,7 +1,8 @@
 //! `cam_past`: the clocks of a trace against the past by its definition.
+use crate::check::same;
 use cam_base::NoMemory;
 use cam_event::{Body, Deeds, Event, LetterId, Note, Sent, SentList, Trace};
-use cam_past::clocks;
+use cam_past::{Clocks, clocks};
 use std::alloc::Global;
 use std::collections::BTreeSet;
 use std::test::Fail;
@@ -75,30 +76,47 @@ fn past_of(alloc: Global, trace: &Trace, last: u64) -> Result<BTreeSet<u64>, Fai
     Ok(past)
 }
 
-#[test]
-fn clocks_tell_the_past_that_its_definition_gives(rt: HostRuntime) -> Result<(), Fail> {
-    let trace = crossing(rt.alloc())?;
-    let clocks = clocks(rt.alloc(), &trace)?;
-    let mut pairs = 0u32;
-    for j in 0..EVENTS {
-        let past = past_of(rt.alloc(), &trace, j)?;
-        for i in 0..EVENTS {
-            let is_in_past = clocks.in_past(i, j);
-            assert_eq!(rt; is_in_past, past.contains(&i));
-            if is_in_past {
-                pairs = pairs.saturating_add(1);
-            }
+/// The first event that is in a past of an event by the clocks, and not by the definition, or the other way round.
+fn first_unlike(clocks: &Clocks, past: &BTreeSet<u64>, last: u64) -> Option<u64> {
+    for event in 0..EVENTS {
+        if clocks.in_past(event, last) != past.contains(&event) {
+            return Some(event);
         }
     }
-    assert_eq!(rt; pairs, 3313);
-    assert!(rt; !clocks.in_past(0, EVENTS) && !clocks.in_past(EVENTS, 0));
+    None
+}
+
+/// How many events are in the past of an event by the clocks.
+fn count_in_past(clocks: &Clocks, last: u64) -> u32 {
+    let mut count = 0u32;
+    for event in 0..EVENTS {
+        if clocks.in_past(event, last) {
+            count = count.saturating_add(1);
+        }
+    }
+    count
+}
+
+#[test]
+fn clocks_tell_the_past_that_its_definition_gives(rt: HostRuntime) -> Result<(), Fail> {
+    let alloc = rt.alloc();
+    let trace = crossing(alloc)?;
+    let clocks = clocks(alloc, &trace)?;
+    let mut pairs = 0u32;
+    for last in 0..EVENTS {
+        let unlike = first_unlike(&clocks, &past_of(alloc, &trace, last)?, last);
+        same(&rt, (last, unlike), (last, None));
+        pairs = pairs.saturating_add(count_in_past(&clocks, last));
+    }
+    same(&rt, pairs, 3313);
+    let behind = (clocks.in_past(0, EVENTS), clocks.in_past(EVENTS, 0));
+    same(&rt, behind, (false, false));
     Ok(())
 }
 
-/// Nodes that no run has: 0 gets a letter of 9, and 255 one of 0.
-#[test]
-fn any_byte_is_a_node(rt: HostRuntime) -> Result<(), Fail> {
-    let mut trace = Trace::new(rt.alloc());
+/// Three events, of nodes that no run has: 0 gets a letter of 9, and 255 one of 0.
+fn of_any_bytes(alloc: Global) -> Result<Trace, NoMemory> {
+    let mut trace = Trace::new(alloc);
     for (number, node) in [(0, 9), (1, 0), (2, 255)] {
         let got = match number {
             0 => None,
@@ -107,8 +125,14 @@ fn any_byte_is_a_node(rt: HostRuntime) -> Result<(), Fail> {
                 place: 0,
             }),
         };
-        trace.push(event(rt.alloc(), node, got)?)?;
+        trace.push(event(alloc, node, got)?)?;
     }
+    Ok(trace)
+}
+
+#[test]
+fn any_byte_is_a_node(rt: HostRuntime) -> Result<(), Fail> {
+    let trace = of_any_bytes(rt.alloc())?;
     let clocks = clocks(rt.alloc(), &trace)?;
     for (i, j, is_in_past) in [
         (0, 0, true),
@@ -121,7 +145,7 @@ fn any_byte_is_a_node(rt: HostRuntime) -> Result<(), Fail> {
         (2, 1, false),
         (2, 2, true),
     ] {
-        assert_eq!(rt; clocks.in_past(i, j), is_in_past);
+        same(&rt, (i, j, clocks.in_past(i, j)), (i, j, is_in_past));
     }
     Ok(())
 }

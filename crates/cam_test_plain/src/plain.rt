@@ -6,6 +6,8 @@ mod lines;
 mod next;
 mod standing;
 
+use crate::check::same;
+use cam_base::NoMemory;
 use cam_event::{Deed, Seen};
 use cam_names::Name;
 use cam_plain::{CheckFault, DeedKind, check, site_value};
@@ -13,7 +15,8 @@ use cam_samples::{
     abort, ask, ask_abort, ask_commit, bounce, call, call_at_count, commit, counter, crash, create,
     deeds_of, got, got_done, inform, perform, registers, secure, without,
 };
-use cam_type::{Answer, Op, State};
+use cam_type::{Answer, Objects, Op, State};
+use std::alloc::Global;
 use std::test::Fail;
 
 /// What the child of a family wrote is secured, outlives a crash of its site, and is read once the site knows that the family committed.
@@ -93,27 +96,64 @@ fn expected(fault: &Option<(u64, DeedKind)>) -> Result<(), CheckFault> {
     }
 }
 
-#[test]
-fn each_deed_needs_what_came_before(rt: HostRuntime) -> Result<(), Fail> {
-    let alloc = rt.alloc();
-    let objects = registers(alloc, &[1])?;
-    let deeds = a_secured_write(
+/// The deeds of `a_secured_write`, of actions at node 2 and a child at node 1.
+fn secured_write() -> Result<[Deed; 25], Fail> {
+    Ok(a_secured_write(
         Name::parse("2.1.1")?,
         Name::parse("2.1.1/2.1.1")?,
         Name::parse("2.1.1/1.1.2")?,
         Name::parse("2.1.2")?,
         Name::parse("2.1.3")?,
-    );
-    let whole = deeds_of(alloc, &deeds)?;
-    assert_eq!(rt; check(alloc, &whole, &objects), Ok(()));
+    ))
+}
+
+/// Whether these deeds are legal.
+fn check_deeds(alloc: Global, deeds: &[Deed], objects: &Objects) -> Result<(), CheckFault> {
+    check(alloc, &deeds_of(alloc, deeds)?, objects)
+}
+
+/// Whether they are without the one at a place.
+fn check_without(
+    alloc: Global,
+    deeds: &[Deed],
+    left_out: usize,
+    objects: &Objects,
+) -> Result<(), CheckFault> {
+    check(alloc, &without(alloc, deeds, left_out)?, objects)
+}
+
+/// The value of the first object that is handed up past the top after these deeds.
+fn value_after(alloc: Global, deeds: &[Deed], objects: &Objects) -> Result<State, NoMemory> {
+    site_value(alloc, &deeds_of(alloc, deeds)?, objects, 0)
+}
+
+#[test]
+fn each_deed_needs_what_came_before(rt: HostRuntime) -> Result<(), Fail> {
+    let alloc = rt.alloc();
+    let deeds = secured_write()?;
+    let objects = registers(alloc, &[1])?;
+    same(&rt, check_deeds(alloc, &deeds, &objects), Ok(()));
     for (left_out, fault) in FAULTS.iter().enumerate() {
-        let found = check(alloc, &without(alloc, &deeds, left_out)?, &objects);
-        assert_eq!(rt; found, expected(fault), "without {left_out}");
+        let found = check_without(alloc, &deeds, left_out, &objects);
+        same(&rt, (left_out, found), (left_out, expected(fault)));
     }
-    let value = site_value(alloc, &whole, &objects, 0)?;
-    assert!(rt; value == State::Register(3));
-    let value = site_value(alloc, &deeds_of(alloc, &deeds[..20])?, &objects, 0)?;
-    assert!(rt; value == State::Register(0));
+    Ok(())
+}
+
+/// Before the site knows that the family committed, and after.
+#[test]
+fn a_value_is_handed_up_where_its_site_knows_of_the_commit(rt: HostRuntime) -> Result<(), Fail> {
+    let alloc = rt.alloc();
+    let deeds = secured_write()?;
+    let objects = registers(alloc, &[1])?;
+    for (deeds, value) in [(&deeds[..], 3), (&deeds[..20], 0)] {
+        let state = value_after(alloc, deeds, &objects)?;
+        same(
+            &rt,
+            (deeds.len(), &state),
+            (deeds.len(), &State::Register(value)),
+        );
+    }
     Ok(())
 }
 
@@ -143,18 +183,25 @@ fn two_adders(one: Name, other: Name) -> [Deed; 17] {
 #[test]
 fn adders_stand_in_the_way_of_readers_alone(rt: HostRuntime) -> Result<(), Fail> {
     let alloc = rt.alloc();
-    let objects = counter(alloc, 1, 10)?;
     let one = Name::parse("1.1.1")?;
     let deeds = two_adders(one, Name::parse("1.1.2")?);
-    let whole = deeds_of(alloc, &deeds)?;
-    assert_eq!(rt; check(alloc, &whole, &objects), Ok(()));
-    assert!(rt; site_value(alloc, &whole, &objects, 0)? == State::Counter(17));
+    let objects = counter(alloc, 1, 10)?;
+    same(&rt, check_deeds(alloc, &deeds, &objects), Ok(()));
+    let state = value_after(alloc, &deeds, &objects)?;
+    same(&rt, &state, &State::Counter(17));
+    Ok(())
+}
+
+#[test]
+fn a_reader_waits_for_an_adder(rt: HostRuntime) -> Result<(), Fail> {
+    let alloc = rt.alloc();
+    let one = Name::parse("1.1.1")?;
+    let deeds = two_adders(one, Name::parse("1.1.2")?);
+    let objects = counter(alloc, 1, 10)?;
     let mut early = deeds_of(alloc, &deeds[..9])?;
     early.push_copy(&perform(one, 2, Answer::Value(22)))?;
-    assert_eq!(rt;
-        check(alloc, &early, &objects),
-        expected(&Some((9, DeedKind::Perform)))
-    );
+    let found = check(alloc, &early, &objects);
+    same(&rt, found, expected(&Some((9, DeedKind::Perform))));
     Ok(())
 }
 
@@ -166,8 +213,8 @@ fn a_fault_tells_the_deed_and_its_line(rt: HostRuntime) -> Result<(), Fail> {
         cause: DeedKind::Perform,
     };
     let text = format!(in rt.alloc(); "{fault}")?;
-    assert_eq!(rt; text.as_str(), "the deed at 9 does not meet line 4");
-    assert_eq!(rt; DeedKind::Create.number(), 1);
-    assert_eq!(rt; DeedKind::Inform.number(), 12);
+    same(&rt, text.as_str(), "the deed at 9 does not meet line 4");
+    let ends = (DeedKind::Create.number(), DeedKind::Inform.number());
+    same(&rt, ends, (1, 12));
     Ok(())
 }

@@ -1,4 +1,5 @@
 //! `cam_serial`: serial lists in the order of commits, and what does not replay.
+use crate::check::same;
 use cam_base::NoMemory;
 use cam_event::{Deed, Deeds, Operation};
 use cam_names::Name;
@@ -100,40 +101,85 @@ fn has_calls(list: &SerialList, calls: &[(Name, Answer)]) -> bool {
     same
 }
 
-/// Whether the list for this name has these calls, and replays.
-fn is_serial(
-    alloc: Global,
-    deeds: &Deeds,
-    objects: &Objects,
-    name: Option<&Name>,
-    calls: &[(Name, Answer)],
-) -> Result<bool, NoMemory> {
-    let list = serial(alloc, deeds, objects, name)?;
-    Ok(has_calls(&list, calls) && replays(alloc, &list, objects)?)
+/// The serial list that a name should have: the list of the deeds as a whole where there is no name.
+#[derive(Clone, Copy)]
+struct Wanted<'a> {
+    name: Option<&'a Name>,
+    calls: &'a [(Name, Answer)],
+}
+
+impl<'a> Wanted<'a> {
+    fn new(name: Option<&'a Name>, calls: &'a [(Name, Answer)]) -> Wanted<'a> {
+        Wanted { name, calls }
+    }
+
+    /// Whether the list has these calls, and replays.
+    fn is_met(&self, alloc: Global, deeds: &Deeds, objects: &Objects) -> Result<bool, NoMemory> {
+        let list = serial(alloc, deeds, objects, self.name)?;
+        Ok(has_calls(&list, self.calls) && replays(alloc, &list, objects)?)
+    }
+}
+
+/// Whether the deeds are legal, and the place of the first of these lists that they do not give.
+#[derive(Clone, Copy, Debug, PartialEq, Eq)]
+struct Found {
+    legal: Result<(), CheckFault>,
+    unmet: Option<usize>,
+}
+
+/// What is found where the deeds are legal and give each list.
+const ALL_IS_MET: Found = Found {
+    legal: Ok(()),
+    unmet: None,
+};
+
+impl Found {
+    fn of(
+        alloc: Global,
+        deeds: &Deeds,
+        objects: &Objects,
+        lists: &[Wanted],
+    ) -> Result<Found, NoMemory> {
+        let mut unmet = None;
+        for (place, wanted) in lists.iter().enumerate() {
+            if unmet.is_none() && !wanted.is_met(alloc, deeds, objects)? {
+                unmet = Some(place);
+            }
+        }
+        let legal = check(alloc, deeds, objects);
+        Ok(Found { legal, unmet })
+    }
+}
+
+/// A list that is not legal, but gives the serial lists.
+fn illegal(at: u64, cause: DeedKind) -> Found {
+    Found {
+        legal: Err(CheckFault::Illegal { at, cause }),
+        unmet: None,
+    }
 }
 
 /// The whole list, and the same without the inform or the secure, which is not legal.
 #[test]
 fn a_read_comes_after_the_write(rt: HostRuntime) -> Result<(), Fail> {
     let alloc = rt.alloc();
-    let objects = registers(alloc, &[1])?;
     let writer = Name::parse("1.1.1")?;
     let reader = Name::parse("1.1.2")?;
     let deeds = a_read_after_a_write(writer, reader);
     let calls = [(writer, Answer::Ok), (reader, Answer::Value(5))];
-    let early = CheckFault::Illegal {
-        at: 9,
-        cause: DeedKind::Perform,
-    };
-    let unsecured = CheckFault::Illegal {
-        at: 6,
-        cause: DeedKind::Commit,
-    };
-    for (left_out, legal) in [(12, Ok(())), (8, Err(early)), (6, Err(unsecured))] {
+    let lists = [
+        Wanted::new(None, &calls[..1]),
+        Wanted::new(Some(&reader), &calls),
+    ];
+    let objects = registers(alloc, &[1])?;
+    for (left_out, expected) in [
+        (12, ALL_IS_MET),
+        (8, illegal(9, DeedKind::Perform)),
+        (6, illegal(6, DeedKind::Commit)),
+    ] {
         let list = without(alloc, &deeds, left_out)?;
-        assert_eq!(rt; check(alloc, &list, &objects), legal);
-        assert!(rt; is_serial(alloc, &list, &objects, None, &calls[..1])?);
-        assert!(rt; is_serial(alloc, &list, &objects, Some(&reader), &calls)?);
+        let found = Found::of(alloc, &list, &objects, &lists)?;
+        same(&rt, (left_out, found), (left_out, expected));
     }
     Ok(())
 }
@@ -141,24 +187,23 @@ fn a_read_comes_after_the_write(rt: HostRuntime) -> Result<(), Fail> {
 #[test]
 fn top_actions_come_in_order_of_their_commits(rt: HostRuntime) -> Result<(), Fail> {
     let alloc = rt.alloc();
-    let objects = registers(alloc, &[1, 2, 1])?;
     let first = Name::parse("1.1.1")?;
     let second = Name::parse("1.1.2")?;
     let kept = Name::parse("1.1.1/1.1.1")?;
     let lost = Name::parse("1.1.1/1.1.2")?;
     let deeds = overtaken([first, second, kept, lost]);
     let whole = [(second, Answer::Ok), (kept, Answer::Ok), (lost, Answer::Ok)];
-    for (deeds, names, calls) in [
-        (&deeds[..24], [None, Some(&second)], &whole[..1]),
-        (&deeds[..24], [Some(&first), Some(&kept)], &whole[..2]),
-        (&deeds[..24], [Some(&lost), Some(&lost)], &whole[..3]),
-        (&deeds[..], [None, Some(&lost)], &whole[..2]),
+    let objects = registers(alloc, &[1, 2, 1])?;
+    for (deeds, one, other, calls) in [
+        (&deeds[..24], None, Some(&second), &whole[..1]),
+        (&deeds[..24], Some(&first), Some(&kept), &whole[..2]),
+        (&deeds[..24], Some(&lost), Some(&lost), &whole[..3]),
+        (&deeds[..], None, Some(&lost), &whole[..2]),
     ] {
         let list = deeds_of(alloc, deeds)?;
-        assert_eq!(rt; check(alloc, &list, &objects), Ok(()));
-        for name in names {
-            assert!(rt; is_serial(alloc, &list, &objects, name, calls)?);
-        }
+        let lists = [Wanted::new(one, calls), Wanted::new(other, calls)];
+        let found = Found::of(alloc, &list, &objects, &lists)?;
+        same(&rt, (one, other, found), (one, other, ALL_IS_MET));
     }
     Ok(())
 }
@@ -166,25 +211,29 @@ fn top_actions_come_in_order_of_their_commits(rt: HostRuntime) -> Result<(), Fai
 #[test]
 fn adders_come_in_order_of_their_commits(rt: HostRuntime) -> Result<(), Fail> {
     let alloc = rt.alloc();
-    let objects = counter(alloc, 1, 10)?;
     let first = Name::parse("1.1.1")?;
     let second = Name::parse("1.1.2")?;
     let reader = Name::parse("1.1.3")?;
-    let list = deeds_of(alloc, &added_by_two(first, second, reader))?;
-    assert_eq!(rt; check(alloc, &list, &objects), Ok(()));
     let calls = [
         (second, Answer::Ok),
         (first, Answer::Ok),
         (reader, Answer::Value(22)),
     ];
-    assert!(rt; is_serial(alloc, &list, &objects, None, &calls[..2])?);
-    assert!(rt; is_serial(alloc, &list, &objects, Some(&reader), &calls)?);
+    let lists = [
+        Wanted::new(None, &calls[..2]),
+        Wanted::new(Some(&reader), &calls),
+    ];
+    let objects = counter(alloc, 1, 10)?;
+    let list = deeds_of(alloc, &added_by_two(first, second, reader))?;
+    same(&rt, Found::of(alloc, &list, &objects, &lists)?, ALL_IS_MET);
     Ok(())
 }
 
+/// Whether the list replays after each of its operations.
 #[test]
 fn a_wrong_answer_does_not_replay(rt: HostRuntime) -> Result<(), Fail> {
     let alloc = rt.alloc();
+    let action = Name::parse("1.1.1")?;
     let objects = registers(alloc, &[1])?;
     let mut list = SerialList::new(alloc);
     for (op, answer, right) in [
@@ -193,13 +242,14 @@ fn a_wrong_answer_does_not_replay(rt: HostRuntime) -> Result<(), Fail> {
         (Op::Read, Answer::Value(0), false),
     ] {
         list.push_copy(&Operation {
-            action: Name::parse("1.1.1")?,
+            action,
             number: 1,
             object: 0,
             op,
             answer,
         })?;
-        assert_eq!(rt; replays(alloc, &list, &objects)?, right);
+        let found = replays(alloc, &list, &objects)?;
+        same(&rt, (op, answer, found), (op, answer, right));
     }
     Ok(())
 }

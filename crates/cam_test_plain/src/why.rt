@@ -1,4 +1,5 @@
 //! `cam_why`: the cause of a stop, and the letters that lead from there, on traces worked by hand.
+use crate::check::same;
 use cam_base::NoMemory;
 use cam_event::{Body, Deed, Deeds, Event, LetterId, Note, Sent, Trace};
 use cam_know::Reason;
@@ -53,11 +54,8 @@ fn stopped_by_abort(name: Name) -> Note {
     Note::Stopped(name, Reason::Abort(name))
 }
 
-/// A parent at node 1 gives its child up and tells node 2 so, where the child's call then comes.
-#[test]
-fn an_abort_leads_to_a_stop_over_the_fewest_letters(rt: HostRuntime) -> Result<(), Fail> {
-    let alloc = rt.alloc();
-    let child = Name::parse("1.1.1/3.1.1")?;
+/// The parent of a child, at node 1, gives it up and tells node 2 so, where the child's call then comes.
+fn given_up(alloc: Global, child: Name) -> Result<Trace, NoMemory> {
     let events = [
         (1, None, None, Note::Plain),
         (1, None, None, Note::Plain),
@@ -69,28 +67,40 @@ fn an_abort_leads_to_a_stop_over_the_fewest_letters(rt: HostRuntime) -> Result<(
         (2, Some(6), None, stopped_by_abort(child)),
         (3, Some(7), None, stopped_by_abort(child)),
     ];
-    let trace = trace(alloc, &events)?;
-    let why = chain(alloc, &trace, 8)?;
-    assert_eq!(rt; why.cause, 3);
-    assert_eq!(rt; links(&why), [letter(4, 5), letter(7, 8)].as_slice());
-    let why = chain(alloc, &trace, 7)?;
-    assert_eq!(rt; why.cause, 3);
-    assert_eq!(rt; links(&why), [letter(4, 5)].as_slice());
-    assert_eq!(rt; chain(alloc, &trace, 6).err(), Some(WhyFault::NoSuchStop));
-    assert_eq!(rt; chain(alloc, &trace, 9).err(), Some(WhyFault::NoSuchStop));
+    trace(alloc, &events)
+}
+
+#[test]
+fn an_abort_leads_to_a_stop_over_the_fewest_letters(rt: HostRuntime) -> Result<(), Fail> {
+    let child = Name::parse("1.1.1/3.1.1")?;
+    let chained = [letter(4, 5), letter(7, 8)];
+    let trace = given_up(rt.alloc(), child)?;
+    for (event, wanted) in [(8, &chained[..]), (7, &chained[..1])] {
+        let why = chain(rt.alloc(), &trace, event)?;
+        same(&rt, (event, why.cause, links(&why)), (event, 3, wanted));
+    }
+    Ok(())
+}
+
+/// Of an event that stopped no action, and of one that there is not.
+#[test]
+fn where_nothing_was_stopped_there_is_no_chain(rt: HostRuntime) -> Result<(), Fail> {
+    let child = Name::parse("1.1.1/3.1.1")?;
+    let trace = given_up(rt.alloc(), child)?;
+    for event in [6, 9] {
+        let fault = chain(rt.alloc(), &trace, event).err();
+        same(&rt, (event, fault), (event, Some(WhyFault::NoSuchStop)));
+    }
     Ok(())
 }
 
 /// Node 2 restarts twice and tells node 3 of the first time; node 3 restarts too.
-#[test]
-fn a_crash_leads_to_a_stop_through_a_node_that_restarted(rt: HostRuntime) -> Result<(), Fail> {
-    let alloc = rt.alloc();
+fn restarted(alloc: Global, action: Name) -> Result<Trace, NoMemory> {
     let reason = Reason::Crash {
         node: 2,
         old: 1,
         new: 2,
     };
-    let stopped = Note::Stopped(Name::parse("1.1.1")?, reason);
     let events = [
         (1, None, None, Note::Plain),
         (1, None, None, Note::Plain),
@@ -103,12 +113,19 @@ fn a_crash_leads_to_a_stop_through_a_node_that_restarted(rt: HostRuntime) -> Res
         (1, None, None, Note::Plain),
         (3, Some(8), None, Note::Missed),
         (2, None, Some(crash(2)), Note::Plain),
-        (1, Some(9), None, stopped),
+        (1, Some(9), None, Note::Stopped(action, reason)),
     ];
-    let trace = trace(alloc, &events)?;
-    let why = chain(alloc, &trace, 11)?;
-    assert_eq!(rt; why.cause, 4);
-    assert_eq!(rt; links(&why), [letter(5, 6), letter(9, 11)].as_slice());
-    assert_eq!(rt; chain(alloc, &trace, 3).err(), Some(WhyFault::NoSuchStop));
+    trace(alloc, &events)
+}
+
+#[test]
+fn a_crash_leads_to_a_stop_through_a_node_that_restarted(rt: HostRuntime) -> Result<(), Fail> {
+    let action = Name::parse("1.1.1")?;
+    let chained = [letter(5, 6), letter(9, 11)];
+    let trace = restarted(rt.alloc(), action)?;
+    let why = chain(rt.alloc(), &trace, 11)?;
+    same(&rt, (why.cause, links(&why)), (4, chained.as_slice()));
+    let fault = chain(rt.alloc(), &trace, 3).err();
+    same(&rt, fault, Some(WhyFault::NoSuchStop));
     Ok(())
 }

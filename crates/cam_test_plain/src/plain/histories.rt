@@ -3,6 +3,7 @@
 use super::before::Before;
 use super::lines;
 use super::next::Next;
+use crate::check::same;
 use cam_base::NoMemory;
 use cam_event::{Deed, Deeds};
 use cam_names::Name;
@@ -148,26 +149,58 @@ fn add(sums: &mut ByKind, more: &ByKind) {
     }
 }
 
+/// What came of a history.
+#[derive(Clone, Copy)]
+struct Outcome {
+    /// The first try that was not answered alike.
+    unlike: Option<u32>,
+    /// The first place without whose deed the list was not.
+    unlike_without: Option<usize>,
+    legal: ByKind,
+    refused: ByKind,
+}
+
+impl Outcome {
+    fn of(alloc: Global, seed: u64) -> Result<Outcome, CheckFault> {
+        let mut history = History::new(alloc, seed)?;
+        let unlike = history.first_unlike(alloc)?;
+        let unlike_without = history.first_unlike_without(alloc)?;
+        Ok(Outcome {
+            unlike,
+            unlike_without,
+            legal: history.legal,
+            refused: history.refused,
+        })
+    }
+}
+
+/// The first kind of which there are not more than four deeds, and how many there are. No kind has the number 0.
+fn first_rare(by_kind: &[u32]) -> Option<(usize, u32)> {
+    for (kind, number) in by_kind.iter().enumerate().skip(1) {
+        if *number <= 4 {
+            return Some((kind, *number));
+        }
+    }
+    None
+}
+
 #[test]
 fn the_check_and_the_definition_answer_alike(rt: HostRuntime) -> Result<(), Fail> {
-    let alloc = rt.alloc();
     let mut legal = [0; 14];
     let mut refused = [0; 14];
     for seed in 0..HISTORIES {
-        let mut history = History::new(alloc, seed)?;
-        let unlike = history.first_unlike(alloc)?;
-        assert_eq!(rt; unlike, None, "history {seed}");
-        let unlike = history.first_unlike_without(alloc)?;
-        assert_eq!(rt; unlike, None, "history {seed}");
-        add(&mut legal, &history.legal);
-        add(&mut refused, &history.refused);
+        let outcome = Outcome::of(rt.alloc(), seed)?;
+        same(&rt, (seed, outcome.unlike), (seed, None));
+        same(&rt, (seed, outcome.unlike_without), (seed, None));
+        add(&mut legal, &outcome.legal);
+        add(&mut refused, &outcome.refused);
     }
     // Each kind was met, legal and, but for crashes, illegal.
-    for (kind, number) in legal.iter().enumerate().skip(1) {
-        assert!(rt; *number > 4, "{number} legal deeds of kind {kind}");
-    }
-    for (kind, number) in refused[..13].iter().enumerate().skip(1) {
-        assert!(rt; *number > 4, "{number} illegal deeds of kind {kind}");
-    }
+    same(&rt, ("legal", first_rare(&legal)), ("legal", None));
+    same(
+        &rt,
+        ("illegal", first_rare(&refused[..13])),
+        ("illegal", None),
+    );
     Ok(())
 }
