@@ -5,12 +5,14 @@ ghost use Rattle.cam_journal.specs.Seats.{AreNew};
 ghost use Rattle.cam_hall.specs.Ending.{HasLetter};
 ghost use Rattle.cam_test_threads.specs.Speaking.{sends, HasRemark};
 
-use crate::ring::last_cell;
+use crate::check::same;
+use crate::ring::{Plan, gather, ring};
 use crate::speaker::{Remark, Speaker, Speech};
-use cam_hall::{Ended, Hall, HallFault, Names, Turned, TurnedOf};
+use cam_hall::{Ended, HallFault, Names, Turned, TurnedOf};
 use cam_journal::{CoreFault, Journal, NodeSeat, Seats};
 use std::alloc::Global;
 use std::marker::Brand;
+use std::process::Abort;
 use std::test::Fail;
 
 // Node `n` says 6 + n first.
@@ -48,26 +50,32 @@ fn told(answer: Result<Turned<Row>, HallFault>) -> Seen {
     }
 }
 
-/// What a hall leaves in which no worker worked: nodes 1 and 2 are sound, node 3 has a disk that
+/// What a hall of a new journal leaves in which no worker worked: nodes 1 and 2 are sound, node 3 has a disk that
 /// fails once, and node 4 is out of memory once. Each has one remark to speak.
-fn leave<J: Names>(
+fn leave_in<J: Names>(
     alloc: Global,
     journal: Journal<Row>,
-    mut seats: Seats<Row>,
+    seats: Seats<Row>,
 ) -> Result<Ended<Row>, Fail>
     requires own { journal.id ≡ J.journal }
     requires nodes { journal.nodes ≡ 4 }
     requires seats { AreNew journal.id 4 seats.items }
     ensures { IfOk result (λ ended. ended.journal.nodes ≡ 4) }
 {
-    let short = Some(CoreFault::NoMemory);
-    let broken = Some(CoreFault::DiskFault);
-    let fourth = last_cell(alloc, &mut seats, Speaker::new(4, 1, true, short))?;
-    let third = last_cell(alloc, &mut seats, Speaker::new(3, 1, true, broken))?;
-    let second = last_cell(alloc, &mut seats, Speaker::new(2, 1, true, None))?;
-    let first = last_cell(alloc, &mut seats, Speaker::new(1, 1, true, None))?;
-    let hall = Hall::<Row, J>::new(alloc, journal, first, second, third, fourth)?;
-    Ok(hall.end())
+    let plan = Plan {
+        shares: [1; 4],
+        twice: true,
+        troubles: (Some(CoreFault::DiskFault), Some(CoreFault::NoMemory)),
+    };
+    Ok(ring::<6, 2, J>(alloc, journal, seats, plan)?.end())
+}
+
+/// What such a hall leaves.
+fn leave(alloc: Global) -> Result<Ended<Row>, Fail>
+    ensures { IfOk result (λ ended. ended.journal.nodes ≡ 4) }
+{
+    let (journal, seats) = Journal::<Row>::open(alloc, 4)?;
+    leave_in::<Brand>(alloc, journal, seats)
 }
 
 /// A turn of a node, as a test compares it.
@@ -79,6 +87,25 @@ fn turn(ended: &mut Ended<Row>, node: u8, letter: Option<(u64, u32)>) -> Seen
     ensures { ended.new.journal ≡ ended.old.journal }
 {
     told(ended.turn(node, letter))
+}
+
+/// Two turns of a node by itself.
+fn two_turns(ended: &mut Ended<Row>, node: u8) -> (Seen, Seen)
+    requires node { IsNode 4 node }
+    requires nodes { ended.old.journal.nodes ≡ 4 }
+    ensures { ended.new.journal ≡ ended.old.journal }
+{
+    let first = turn(ended, node, None);
+    (first, turn(ended, node, None))
+}
+
+/// The number of an event that spoke to node 2, and the turn of that node with its letter.
+fn hear(ended: &mut Ended<Row>) -> Option<(u64, Seen)>
+    requires { ended.old.journal.nodes ≡ 4 }
+    ensures { ended.new.journal ≡ ended.old.journal }
+{
+    let number = remark_to(ended, 2)?;
+    Some((number, turn(ended, 2, Some((number, 0)))))
 }
 
 /// The number of an event that spoke to a node.
@@ -111,59 +138,54 @@ fn remark_in(seat: &NodeSeat<Row>, node: u8) -> Option<u64>
     None
 }
 
-#[test]
-fn nodes_of_what_is_left_go_on_by_themselves_and_with_letters(rt: HostRuntime) -> Result<(), Fail> {
-    let (journal, seats) = Journal::<Row>::open(rt.alloc(), 4)?;
-    let mut ended = leave::<Brand>(rt.alloc(), journal, seats)?;
-    let did = |number| Seen::Did {
+/// A turn that makes an event of this number, and no note.
+fn did(number: u64) -> Seen {
+    Seen::Did {
         number,
         notes: 0,
         short: false,
-    };
-    assert_eq!(rt; remark_to(&ended, 2), None);
-    assert_eq!(rt; turn(&mut ended, 1, None), did(0));
-    assert_eq!(rt; turn(&mut ended, 1, None), Seen::Nothing);
-    let Some(number) = remark_to(&ended, 2) else {
-        return Err(Fail::new("no remark to node 2"));
-    };
-    assert_eq!(rt; number, 0);
-    assert_eq!(rt; turn(&mut ended, 2, Some((number, 0))), did(1));
-    let Some(number) = remark_to(&ended, 2) else {
-        return Err(Fail::new("no remark to node 2"));
-    };
-    assert_eq!(rt; turn(&mut ended, 2, Some((number, 0))), Seen::Nothing);
-    assert_eq!(rt;
-        turn(&mut ended, 3, None),
-        Seen::Failed(HallFault::DiskFault)
-    );
-    assert_eq!(rt; turn(&mut ended, 3, None), did(2));
-    assert_eq!(rt;
-        turn(&mut ended, 4, None),
-        Seen::Failed(HallFault::NoMemory)
-    );
-    assert_eq!(rt; turn(&mut ended, 4, None), did(3));
-    let (journal, _, seats) = ended.into_parts();
-    let mut gathered = journal.gather(seats);
-    let spoken = |number, to| {
-        Speech::Spoken(Remark {
-            number,
-            to,
-            twice: true,
-        })
-    };
+    }
+}
+
+/// A remark to a node, which comes twice.
+fn spoken(number: u64, to: u8) -> Speech {
+    Speech::Spoken(Remark {
+        number,
+        to,
+        twice: true,
+    })
+}
+
+/// Fails where the events of what those turns leave are not the remarks and the answer that they made.
+fn check_events(rt: &impl Abort, ended: Ended<Row>) {
     let answer = Speech::Answer {
         number: 8,
         event: 0,
         place: 0,
     };
+    let mut gathered = gather(ended);
     for want in [
         (0, spoken(7, 2)),
         (1, answer),
         (2, spoken(9, 4)),
         (3, spoken(10, 1)),
     ] {
-        assert_eq!(rt; gathered.take(), Some(want));
+        same(rt, gathered.take(), Some(want));
     }
-    assert_eq!(rt; gathered.take(), None);
+    same(rt, gathered.take(), None);
+}
+
+#[test]
+fn nodes_of_what_is_left_go_on_by_themselves_and_with_letters(rt: HostRuntime) -> Result<(), Fail> {
+    let mut ended = leave(rt.alloc())?;
+    same(&rt, remark_to(&ended, 2), None);
+    same(&rt, two_turns(&mut ended, 1), (did(0), Seen::Nothing));
+    same(&rt, hear(&mut ended), Some((0, did(1))));
+    same(&rt, hear(&mut ended), Some((0, Seen::Nothing)));
+    let broken = Seen::Failed(HallFault::DiskFault);
+    same(&rt, two_turns(&mut ended, 3), (broken, did(2)));
+    let short = Seen::Failed(HallFault::NoMemory);
+    same(&rt, two_turns(&mut ended, 4), (short, did(3)));
+    check_events(&rt, ended);
     Ok(())
 }

@@ -2,17 +2,18 @@
 ghost use Rattle.std.specs.Prelude.{◌≡◌};
 ghost use Rattle.cam_journal.specs.Seats.{AreNew};
 
-use crate::ring::ring;
+use crate::check::same;
+use crate::ring::{Plan, ring};
 use crate::speaker::Speaker;
 use crate::workers::{Talk, talk};
-use cam_hall::{End, Gate, Names, OpenGate, Served, serve};
+use cam_hall::{End, Gate, Hall, HallFault, Names, OpenGate, Served, serve};
 use cam_journal::{Journal, Seats};
 use std::alloc::Global;
 use std::marker::Brand;
 use std::sync::Wait;
 use std::sync::atomic::{AtomicU64, Ordering};
 use std::test::Fail;
-use std::thread::yield_now;
+use std::thread::{Threads, yield_now};
 
 // How often a worker looks for the others before it gives up.
 const PATIENCE: u32 = 10_000_000;
@@ -27,6 +28,13 @@ struct Meeting {
     fourth: AtomicU64,
     alone: AtomicU64,
     steps: AtomicU64,
+}
+
+/// What a meeting has counted: the calls that waited in vain, where all saw all four workers none, and the steps.
+#[derive(Clone, Copy, Debug, PartialEq, Eq)]
+struct Counted {
+    alone: u64,
+    steps: u64,
 }
 
 impl Meeting {
@@ -61,6 +69,13 @@ impl Meeting {
     fn is_given_up(&self) -> bool {
         self.alone.load(Ordering::SeqCst) != 0
     }
+
+    fn counted(&self) -> Counted {
+        Counted {
+            alone: self.alone.load(Ordering::SeqCst),
+            steps: self.steps.load(Ordering::SeqCst),
+        }
+    }
 }
 
 impl Gate for Meeting {
@@ -81,25 +96,20 @@ impl Gate for Meeting {
     }
 }
 
+/// How many steps the workers of four nodes made, each of which spoke ten times, and what their meeting counted.
+fn meet<R: Threads + Wait + Sync>(rt: &R, alloc: Global) -> Result<(u32, Counted), Fail> {
+    let meeting = Meeting::new();
+    let talked = talk(rt, alloc, 10, &meeting)?;
+    Ok((talked.steps, meeting.counted()))
+}
+
 #[test]
 fn four_workers_are_before_their_first_turns_at_once(rt: HostRuntime) -> Result<(), Fail> {
-    let (journal, seats) = Journal::<Talk>::open(rt.alloc(), 4)?;
-    let meeting = Meeting::new();
-    let talked = talk::<HostRuntime, Brand, Meeting>(
-        &rt,
-        rt.alloc(),
-        journal,
-        seats,
-        10,
-        &meeting,
-    )?;
-    assert_eq!(rt;
-        meeting.alone.load(Ordering::SeqCst),
-        0,
-        "each call saw all four workers"
-    );
-    assert_eq!(rt; talked.steps, 80);
-    assert_eq!(rt; meeting.steps.load(Ordering::SeqCst), 80);
+    let counted = Counted {
+        alone: 0,
+        steps: 80,
+    };
+    same(&rt, meet(&rt, rt.alloc())?, (80, counted));
     Ok(())
 }
 
@@ -117,8 +127,18 @@ impl Gate for Until {
     fn after(&self, _worker: u32, _step: u32) {}
 }
 
-/// What a worker of node 1 did, which may speak three times.
-fn serve_one<R: Wait, J: Names, G: Gate>(
+/// What a worker of node 1 of a hall did.
+fn serve_first<R: Wait, J: Names, G: Gate>(
+    rt: &R,
+    hall: Hall<Talk, J>,
+    gate: &G,
+    turns: u32,
+) -> Result<Served, HallFault> {
+    serve(rt, &hall, 1, 0, gate, turns)
+}
+
+/// What a worker of node 1 of a new journal did, which may speak three times.
+fn serve_in<R: Wait, J: Names, G: Gate>(
     rt: &R,
     alloc: Global,
     journal: Journal<Talk>,
@@ -130,27 +150,34 @@ fn serve_one<R: Wait, J: Names, G: Gate>(
     requires nodes { journal.nodes ≡ 4 }
     requires seats { AreNew journal.id 4 seats.items }
 {
-    let hall = ring::<0, 4, J>(alloc, journal, seats, [3, 0, 0, 0], false)?;
-    Ok(serve(rt, &hall, 1, 0, gate, turns)?)
+    let plan = Plan {
+        shares: [3, 0, 0, 0],
+        twice: false,
+        troubles: (None, None),
+    };
+    let hall = ring::<0, 4, J>(alloc, journal, seats, plan)?;
+    Ok(serve_first(rt, hall, gate, turns)?)
+}
+
+/// What a worker of a new node 1 did, which may speak three times.
+fn serve_one<R: Wait, G: Gate>(
+    rt: &R,
+    alloc: Global,
+    gate: &G,
+    turns: u32,
+) -> Result<Served, Fail> {
+    let (journal, seats) = Journal::<Talk>::open(alloc, 4)?;
+    serve_in::<R, Brand, G>(rt, alloc, journal, seats, gate, turns)
 }
 
 #[test]
 fn a_worker_takes_no_turn_that_its_gate_holds(rt: HostRuntime) -> Result<(), Fail> {
-    let (journal, seats) = Journal::<Talk>::open(rt.alloc(), 4)?;
-    let gate = Until { step: 2 };
-    let served = serve_one::<HostRuntime, Brand, Until>(
-        &rt,
-        rt.alloc(),
-        journal,
-        seats,
-        &gate,
-        10_000,
-    )?;
+    let served = serve_one(&rt, rt.alloc(), &Until { step: 2 }, 10_000)?;
     let held = Served {
         steps: 2,
         end: End::Turns,
     };
-    assert_eq!(rt; served, held);
+    same(&rt, served, held);
     Ok(())
 }
 
@@ -162,16 +189,8 @@ fn a_worker_ends_behind_so_many_empty_turns(rt: HostRuntime) -> Result<(), Fail>
         (4_099, End::Quiet),
         (10_000, End::Quiet),
     ] {
-        let (journal, seats) = Journal::<Talk>::open(rt.alloc(), 4)?;
-        let served = serve_one::<HostRuntime, Brand, OpenGate>(
-            &rt,
-            rt.alloc(),
-            journal,
-            seats,
-            &OpenGate,
-            turns,
-        )?;
-        assert_eq!(rt; served, Served { steps: 3, end });
+        let served = serve_one(&rt, rt.alloc(), &OpenGate, turns)?;
+        same(&rt, (turns, served), (turns, Served { steps: 3, end }));
     }
     Ok(())
 }

@@ -6,6 +6,8 @@ mod speaker;
 pub use speaker::{Remark, Speaker, Speech};
 
 #[cfg(test)]
+mod check;
+#[cfg(test)]
 mod ends;
 #[cfg(test)]
 mod gates;

@@ -2,9 +2,10 @@
 ghost use Rattle.std.specs.Prelude.{◌≡◌};
 ghost use Rattle.cam_journal.specs.Seats.{AreNew};
 
-use crate::ring::ring;
+use crate::check::same;
+use crate::ring::{Plan, gather, ring};
 use crate::speaker::{Remark, Speaker, Speech};
-use cam_hall::{End, Handled, ItemOf, Names, OpenGate, Served, serve};
+use cam_hall::{End, Hall, HallFault, Handled, ItemOf, Names, OpenGate, Served, serve};
 use cam_journal::{Gathered, Journal, Seats};
 use std::alloc::Global;
 use std::marker::Brand;
@@ -17,17 +18,32 @@ type Row = Speaker<6, 2>;
 // What the worker of node 2 may take: one turn more than so many empty ones as end its work.
 const TURNS: u32 = 4_097;
 
-/// What node 1 did, what the worker of node 2 did between, and the events of all.
-#[derive(Drop)]
-struct Seen {
+/// What node 1 did, and what the worker of node 2 did between.
+#[derive(Clone, Copy, Debug, PartialEq, Eq)]
+struct Done {
     first: Handled,
     between: Served,
     last: Handled,
+}
+
+/// What was done, and the events of all.
+#[derive(Drop)]
+struct Seen {
+    done: Done,
     gathered: Gathered<Row>,
 }
 
 /// Node 1 speaks, node 2 is handed both copies of the letter, and node 1 speaks again.
-fn speak<R: Wait, J: Names>(
+fn work<R: Wait, J: Names>(rt: &R, hall: &Hall<Row, J>) -> Result<Done, HallFault> {
+    Ok(Done {
+        first: hall.first().handle(rt, hall, ItemOf::Drive)?,
+        between: serve(rt, hall, 2, 0, &OpenGate, TURNS)?,
+        last: hall.first().handle(rt, hall, ItemOf::Drive)?,
+    })
+}
+
+/// What comes of that where node 1 may speak twice, each time in two copies.
+fn speak_in<R: Wait, J: Names>(
     rt: &R,
     alloc: Global,
     journal: Journal<Row>,
@@ -37,48 +53,58 @@ fn speak<R: Wait, J: Names>(
     requires nodes { journal.nodes ≡ 4 }
     requires seats { AreNew journal.id 4 seats.items }
 {
-    let hall = ring::<6, 2, J>(alloc, journal, seats, [2, 0, 0, 0], true)?;
-    let first = hall.first().handle(rt, &hall, ItemOf::Drive)?;
-    let between = serve(rt, &hall, 2, 0, &OpenGate, TURNS)?;
-    let last = hall.first().handle(rt, &hall, ItemOf::Drive)?;
-    let (journal, _, seats) = hall.end().into_parts();
+    let plan = Plan {
+        shares: [2, 0, 0, 0],
+        twice: true,
+        troubles: (None, None),
+    };
+    let hall = ring::<6, 2, J>(alloc, journal, seats, plan)?;
+    let done = work(rt, &hall);
+    let gathered = gather(hall.end());
     Ok(Seen {
-        first,
-        between,
-        last,
-        gathered: journal.gather(seats),
+        done: done?,
+        gathered,
     })
 }
 
-#[test]
-fn events_and_letters_of_two_cells_come_in_one_order(rt: HostRuntime) -> Result<(), Fail> {
-    let (journal, seats) = Journal::<Row>::open(rt.alloc(), 4)?;
-    let seen = speak::<HostRuntime, Brand>(&rt, rt.alloc(), journal, seats)?;
-    assert_eq!(rt; seen.first, Handled::Did { number: 0, sent: 2 });
+/// The same in a journal of its own.
+fn speak<R: Wait>(rt: &R, alloc: Global) -> Result<Seen, Fail> {
+    let (journal, seats) = Journal::<Row>::open(alloc, 4)?;
+    speak_in::<R, Brand>(rt, alloc, journal, seats)
+}
+
+/// A remark to node 2, which comes twice.
+fn said(number: u64) -> Speech {
+    Speech::Spoken(Remark {
+        number,
+        to: 2,
+        twice: true,
+    })
+}
+
+const DONE: Done = Done {
+    first: Handled::Did { number: 0, sent: 2 },
     // The second copy comes to a node that has answered the first one. Were it not there, all turns
     // but the first would be empty, and the worker quiet.
-    let one_step = Served {
+    between: Served {
         steps: 1,
         end: End::Turns,
-    };
-    assert_eq!(rt; seen.between, one_step);
-    assert_eq!(rt; seen.last, Handled::Did { number: 2, sent: 2 });
-    let mut gathered = seen.gathered;
-    let said = |number| {
-        Speech::Spoken(Remark {
-            number,
-            to: 2,
-            twice: true,
-        })
-    };
+    },
+    last: Handled::Did { number: 2, sent: 2 },
+};
+
+#[test]
+fn events_and_letters_of_two_cells_come_in_one_order(rt: HostRuntime) -> Result<(), Fail> {
+    let mut seen = speak(&rt, rt.alloc())?;
+    same(&rt, seen.done, DONE);
     let answer = Speech::Answer {
         number: 8,
         event: 0,
         place: 0,
     };
     for want in [(0, said(7)), (1, answer), (2, said(9))] {
-        assert_eq!(rt; gathered.take(), Some(want));
+        same(&rt, seen.gathered.take(), Some(want));
     }
-    assert_eq!(rt; gathered.take(), None);
+    same(&rt, seen.gathered.take(), None);
     Ok(())
 }

@@ -2,7 +2,8 @@
 ghost use Rattle.std.specs.Prelude.{◌≡◌};
 ghost use Rattle.cam_journal.specs.Seats.{AreNew};
 
-use crate::ring::ring;
+use crate::check::same;
+use crate::ring::{Plan, gather, ring};
 use crate::speaker::{Speaker, Speech};
 use cam_hall::{Gate, Hall, HallFault, Names, OpenGate, Served, serve};
 use cam_journal::{Gathered, Journal, Seats};
@@ -25,8 +26,8 @@ pub(crate) struct Talked {
     pub(crate) gathered: Gathered<Talk>,
 }
 
-/// Four nodes speak their shares, and answer each other, until none has anything to do.
-pub(crate) fn talk<R: Threads + Wait + Sync, J: Names + Send + Sync, G: Gate + Sync>(
+/// Four nodes of a new journal speak their shares, and answer each other, until none has anything to do.
+fn talk_in<R: Threads + Wait + Sync, J: Names + Send + Sync, G: Gate + Sync>(
     rt: &R,
     alloc: Global,
     journal: Journal<Talk>,
@@ -38,21 +39,47 @@ pub(crate) fn talk<R: Threads + Wait + Sync, J: Names + Send + Sync, G: Gate + S
     requires nodes { journal.nodes ≡ 4 }
     requires seats { AreNew journal.id 4 seats.items }
 {
-    let hall = ring::<0, 4, J>(alloc, journal, seats, [share; 4], false)?;
+    let plan = Plan {
+        shares: [share; 4],
+        twice: false,
+        troubles: (None, None),
+    };
+    let hall = ring::<0, 4, J>(alloc, journal, seats, plan)?;
+    let steps = rounds(rt, alloc, &hall, gate);
+    let gathered = gather(hall.end());
+    Ok(Talked {
+        steps: steps?,
+        gathered,
+    })
+}
+
+/// The workers work in rounds, of which each but the last makes a step. Answers how many steps they made.
+fn rounds<R: Threads + Wait + Sync, J: Names + Send + Sync, G: Gate + Sync>(
+    rt: &R,
+    alloc: Global,
+    hall: &Hall<Talk, J>,
+    gate: &G,
+) -> Result<u32, Fail> {
     let mut steps: u32 = 0;
-    // Each round but the last makes a step.
     for _ in 0..TURNS {
-        let made = round(rt, alloc, &hall, gate)?;
+        let made = round(rt, alloc, hall, gate)?;
         if made == 0 {
             break;
         }
         steps = steps.saturating_add(made);
     }
-    let (journal, _, seats) = hall.end().into_parts();
-    Ok(Talked {
-        steps,
-        gathered: journal.gather(seats),
-    })
+    Ok(steps)
+}
+
+/// What four new nodes talked, until none had anything to do.
+pub(crate) fn talk<R: Threads + Wait + Sync, G: Gate + Sync>(
+    rt: &R,
+    alloc: Global,
+    share: u32,
+    gate: &G,
+) -> Result<Talked, Fail> {
+    let (journal, seats) = Journal::<Talk>::open(alloc, 4)?;
+    talk_in::<R, Brand, G>(rt, alloc, journal, seats, share, gate)
 }
 
 /// Each worker works for its node once. Answers how many steps they made.
@@ -90,31 +117,61 @@ const SHARE: u32 = 1_250;
 
 const EVENTS: u64 = 10_000;
 
+/// Why an event is not the next one that may come.
+#[derive(Clone, Copy, Debug, PartialEq, Eq)]
+enum Fault {
+    /// It is missing.
+    NoEvent,
+    /// It has another number.
+    OtherEvent(u64),
+    /// It answers an event that does not come before it.
+    AnswerToLater(u64),
+    /// No node may say its number.
+    NoNumber(u64),
+    /// Its number was said before.
+    SaidTwice(u64),
+}
+
+/// Takes the event that is due. The nodes say the numbers from 1 on, each its own, and `heard` has whether it was said.
+fn hear(gathered: &mut Gathered<Talk>, due: u64, heard: &mut [bool]) -> Result<(), Fault> {
+    let Some((at, speech)) = gathered.take() else {
+        return Err(Fault::NoEvent);
+    };
+    if at != due {
+        return Err(Fault::OtherEvent(at));
+    }
+    if let Speech::Answer { event, .. } = speech {
+        if event >= at {
+            return Err(Fault::AnswerToLater(event));
+        }
+    }
+    let number = speech.number();
+    let Some(said) = heard.get_mut(number.wrapping_sub(1) as usize) else {
+        return Err(Fault::NoNumber(number));
+    };
+    if *said {
+        return Err(Fault::SaidTwice(number));
+    }
+    *said = true;
+    Ok(())
+}
+
+/// The first event that is not as it is to be, and why.
+fn first_fault(alloc: Global, gathered: &mut Gathered<Talk>) -> Result<Option<(u64, Fault)>, Fail> {
+    let mut heard = vec![in alloc; false; 10_000]?;
+    for due in 0..EVENTS {
+        if let Err(fault) = hear(gathered, due, &mut heard) {
+            return Ok(Some((due, fault)));
+        }
+    }
+    Ok(None)
+}
+
 #[test]
 fn events_of_four_workers_are_gathered_once_each(rt: HostRuntime) -> Result<(), Fail> {
-    let (journal, seats) = Journal::<Talk>::open(rt.alloc(), 4)?;
-    let mut talked = talk::<HostRuntime, Brand, OpenGate>(
-        &rt,
-        rt.alloc(),
-        journal,
-        seats,
-        SHARE,
-        &OpenGate,
-    )?;
-    assert_eq!(rt; talked.steps, 10_000);
-    // Which numbers were said: the nodes say those from 1 on, each its own.
-    let mut heard = vec![in rt.alloc(); false; 10_000]?;
-    for number in 0..EVENTS {
-        let (at, speech) = talked.gathered.take().ok_or("an event is left")?;
-        assert_eq!(rt; at, number);
-        if let Speech::Answer { event, .. } = speech {
-            assert!(rt; event < at, "the answer comes behind the letter");
-        }
-        let place = speech.number().wrapping_sub(1) as usize;
-        let said = heard.get_mut(place).ok_or("a number of the nodes")?;
-        assert!(rt; !*said, "no number is said twice");
-        *said = true;
-    }
-    assert_eq!(rt; talked.gathered.take(), None);
+    let mut talked = talk(&rt, rt.alloc(), SHARE, &OpenGate)?;
+    same(&rt, talked.steps, 10_000);
+    same(&rt, first_fault(rt.alloc(), &mut talked.gathered)?, None);
+    same(&rt, talked.gathered.take(), None);
     Ok(())
 }
