@@ -1,10 +1,17 @@
 //! Each test of each rule once: votes, prepares and queries.
-use cam_base::Sequence;
-use cam_commit::{Asked, Families, Queried, Voted};
-use cam_know::{Know, Outcome};
+mod node;
+
+use crate::check::same;
+use cam_commit::{Asked, Queried, Voted};
+use cam_know::Outcome;
 use cam_names::{Deps, Name};
-use cam_type::Held;
+use node::{Act, Answer, first_other};
 use std::test::Fail;
+
+/// What a family depends on: nodes 1 and 2 at their first counts.
+fn first_counts() -> Deps {
+    Deps::none().with(1, 1).with(2, 1)
+}
 
 /// *A vote arrives*, each test: a vote is late before the family prepares and after its end; a no aborts it, at whatever count; the yes with
 /// which each pair of its dependencies has voted commits it; each other yes is noted.
@@ -13,57 +20,55 @@ fn the_last_yes_commits_and_the_first_no_aborts(rt: HostRuntime) -> Result<(), F
     let family = Name::parse("1.2.1")?;
     let other = Name::parse("1.2.2")?;
     let deps = Deps::none().with(1, 2).with(3, 5);
-    let mut families = Families::new(rt.alloc());
-    families.reserve()?;
-    assert_eq!(rt; families.vote(&family, 1, 2, true, &deps), Voted::Late);
-    assert!(rt; !families.is_preparing(&family));
-    families.reserve()?;
-    families.prepare(&family);
-    families.reserve()?;
-    assert!(rt; !families.is_preparing(&other));
-    families.prepare(&other);
-    for (node, count, answer) in [
-        (3, 4, Voted::Some),
-        (1, 2, Voted::Some),
-        (1, 2, Voted::Some),
-        (3, 5, Voted::All),
-        (3, 5, Voted::Late),
-    ] {
-        families.reserve()?;
-        assert_eq!(rt; families.vote(&family, node, count, true, &deps), answer);
-    }
-    assert!(rt; families.is_preparing(&other));
-    families.reserve()?;
-    assert_eq!(rt; families.vote(&other, 3, 4, false, &deps), Voted::No);
-    families.reserve()?;
-    assert_eq!(rt; families.vote(&other, 3, 5, true, &deps), Voted::Late);
+    let steps = [
+        (Act::Yes(family, 1, 2), Answer::Voted(Voted::Late)),
+        (Act::IsPreparing(family), Answer::Is(false)),
+        (Act::Prepares(family), Answer::Done),
+        (Act::IsPreparing(other), Answer::Is(false)),
+        (Act::Prepares(other), Answer::Done),
+        (Act::Yes(family, 3, 4), Answer::Voted(Voted::Some)),
+        (Act::Yes(family, 1, 2), Answer::Voted(Voted::Some)),
+        (Act::Yes(family, 1, 2), Answer::Voted(Voted::Some)),
+        (Act::Yes(family, 3, 5), Answer::Voted(Voted::All)),
+        (Act::Yes(family, 3, 5), Answer::Voted(Voted::Late)),
+        (Act::IsPreparing(other), Answer::Is(true)),
+        (Act::No(other, 3, 4), Answer::Voted(Voted::No)),
+        (Act::Yes(other, 3, 5), Answer::Voted(Voted::Late)),
+    ];
+    same(&rt, first_other(rt.alloc(), &deps, &steps)?, None);
     Ok(())
 }
 
-/// *A prepare arrives*, each test: a site that has secured the family votes yes again, after a restart too; one that has not votes no at
-/// another count than the present one, and else secures it; after the end a prepare is late.
+/// *A prepare arrives*, each test: a site that has secured the family votes yes again; one that has not votes no at another count than the
+/// present one, and else secures it; after the end a prepare is late.
 #[test]
 fn a_site_that_secured_votes_yes_at_an_old_count(rt: HostRuntime) -> Result<(), Fail> {
     let family = Name::parse("1.2.1")?;
     let other = Name::parse("1.2.2")?;
-    let mut know = Know::new(rt.alloc());
-    let mut families = Families::new(rt.alloc());
-    assert_eq!(rt; families.asked(&family, 3, 3, &know), Asked::Secure);
-    assert_eq!(rt; families.asked(&family, 2, 3, &know), Asked::Refuse);
-    families.reserve()?;
-    families.secured(&family);
-    assert_eq!(rt; families.asked(&family, 2, 3, &know), Asked::AlreadyYes);
-    assert_eq!(rt; families.asked(&other, 3, 3, &know), Asked::Secure);
-    let held = [Held {
-        family,
-        count: 2,
-        ops: Sequence::new(rt.alloc()),
-    }];
-    let recovered = Families::of(rt.alloc(), &held)?;
-    assert_eq!(rt; recovered.asked(&family, 2, 4, &know), Asked::AlreadyYes);
-    assert_eq!(rt; recovered.asked(&other, 2, 4, &know), Asked::Refuse);
-    know.add(&Outcome::Aborted(family))?;
-    assert_eq!(rt; families.asked(&family, 3, 3, &know), Asked::Late);
+    let steps = [
+        (Act::Prepare(family, 3, 3), Answer::Asked(Asked::Secure)),
+        (Act::Prepare(family, 2, 3), Answer::Asked(Asked::Refuse)),
+        (Act::Secures(family), Answer::Done),
+        (Act::Prepare(family, 2, 3), Answer::Asked(Asked::AlreadyYes)),
+        (Act::Prepare(other, 3, 3), Answer::Asked(Asked::Secure)),
+        (Act::Learns(Outcome::Aborted(family)), Answer::Done),
+        (Act::Prepare(family, 3, 3), Answer::Asked(Asked::Late)),
+    ];
+    same(&rt, first_other(rt.alloc(), &Deps::none(), &steps)?, None);
+    Ok(())
+}
+
+/// The same after a restart: the log has the one family as secured, and not the other.
+#[test]
+fn a_site_that_secured_votes_yes_after_a_restart(rt: HostRuntime) -> Result<(), Fail> {
+    let family = Name::parse("1.2.1")?;
+    let other = Name::parse("1.2.2")?;
+    let steps = [
+        (Act::RestartsWith(family), Answer::Done),
+        (Act::Prepare(family, 2, 4), Answer::Asked(Asked::AlreadyYes)),
+        (Act::Prepare(other, 2, 4), Answer::Asked(Asked::Refuse)),
+    ];
+    same(&rt, first_other(rt.alloc(), &Deps::none(), &steps)?, None);
     Ok(())
 }
 
@@ -71,12 +76,15 @@ fn a_site_that_secured_votes_yes_at_an_old_count(rt: HostRuntime) -> Result<(), 
 #[test]
 fn a_query_aborts_an_open_family_of_an_older_count(rt: HostRuntime) -> Result<(), Fail> {
     let family = Name::parse("1.2.1")?;
-    let mut know = Know::new(rt.alloc());
-    let families = Families::new(rt.alloc());
-    assert_eq!(rt; families.query(&family, 2, &know), Queried::StillOpen);
-    assert_eq!(rt; families.query(&family, 3, &know), Queried::Abort);
-    know.add(&Outcome::Committed(family, Deps::none().with(1, 2)))?;
-    assert_eq!(rt; families.query(&family, 3, &know), Queried::Tell);
+    let deps = Deps::none().with(1, 2);
+    let committed = Outcome::Committed(family, deps);
+    let steps = [
+        (Act::Query(family, 2), Answer::Queried(Queried::StillOpen)),
+        (Act::Query(family, 3), Answer::Queried(Queried::Abort)),
+        (Act::Learns(committed), Answer::Done),
+        (Act::Query(family, 3), Answer::Queried(Queried::Tell)),
+    ];
+    same(&rt, first_other(rt.alloc(), &deps, &steps)?, None);
     Ok(())
 }
 
@@ -85,16 +93,20 @@ fn a_query_aborts_an_open_family_of_an_older_count(rt: HostRuntime) -> Result<()
 fn a_prepare_comes_late_for_a_family_that_has_committed(rt: HostRuntime) -> Result<(), Fail> {
     let family = Name::parse("1.1.1")?;
     let other = Name::parse("1.1.2")?;
-    let mut know = Know::new(rt.alloc());
-    let mut families = Families::new(rt.alloc());
-    families.reserve()?;
-    families.secured(&family);
-    know.add(&Outcome::Committed(family, Deps::none().with(1, 1).with(2, 1)))?;
-    know.add(&Outcome::Committed(other, Deps::none().with(1, 1)))?;
-    assert_eq!(rt; families.asked(&family, 1, 1, &know), Asked::Late);
-    assert_eq!(rt; families.asked(&family, 1, 2, &know), Asked::Late);
-    assert_eq!(rt; families.asked(&other, 1, 1, &know), Asked::Late);
-    assert_eq!(rt; families.asked(&other, 1, 2, &know), Asked::Late);
+    let deps = first_counts();
+    let steps = [
+        (Act::Secures(family), Answer::Done),
+        (Act::Learns(Outcome::Committed(family, deps)), Answer::Done),
+        (
+            Act::Learns(Outcome::Committed(other, Deps::none().with(1, 1))),
+            Answer::Done,
+        ),
+        (Act::Prepare(family, 1, 1), Answer::Asked(Asked::Late)),
+        (Act::Prepare(family, 1, 2), Answer::Asked(Asked::Late)),
+        (Act::Prepare(other, 1, 1), Answer::Asked(Asked::Late)),
+        (Act::Prepare(other, 1, 2), Answer::Asked(Asked::Late)),
+    ];
+    same(&rt, first_other(rt.alloc(), &deps, &steps)?, None);
     Ok(())
 }
 
@@ -102,18 +114,19 @@ fn a_prepare_comes_late_for_a_family_that_has_committed(rt: HostRuntime) -> Resu
 #[test]
 fn a_site_that_restarted_votes_no(rt: HostRuntime) -> Result<(), Fail> {
     let family = Name::parse("1.1.1")?;
-    let deps = Deps::none().with(1, 1).with(2, 1);
-    let know = Know::new(rt.alloc());
-    let site = Families::of(rt.alloc(), &[])?;
-    assert_eq!(rt; site.asked(&family, 1, 2, &know), Asked::Refuse);
-    let mut home = Families::new(rt.alloc());
-    home.reserve()?;
-    home.prepare(&family);
-    home.reserve()?;
-    assert_eq!(rt; home.vote(&family, 1, 1, true, &deps), Voted::Some);
-    home.reserve()?;
-    assert_eq!(rt; home.vote(&family, 2, 1, false, &deps), Voted::No);
-    assert!(rt; !home.is_preparing(&family));
+    let deps = first_counts();
+    let at_site = [
+        (Act::Restarts, Answer::Done),
+        (Act::Prepare(family, 1, 2), Answer::Asked(Asked::Refuse)),
+    ];
+    let at_home = [
+        (Act::Prepares(family), Answer::Done),
+        (Act::Yes(family, 1, 1), Answer::Voted(Voted::Some)),
+        (Act::No(family, 2, 1), Answer::Voted(Voted::No)),
+        (Act::IsPreparing(family), Answer::Is(false)),
+    ];
+    same(&rt, first_other(rt.alloc(), &deps, &at_site)?, None);
+    same(&rt, first_other(rt.alloc(), &deps, &at_home)?, None);
     Ok(())
 }
 
@@ -122,15 +135,16 @@ fn a_site_that_restarted_votes_no(rt: HostRuntime) -> Result<(), Fail> {
 #[test]
 fn a_query_is_told_an_abort(rt: HostRuntime) -> Result<(), Fail> {
     let family = Name::parse("1.1.1")?;
-    let deps = Deps::none().with(1, 1).with(2, 1);
-    let mut know = Know::new(rt.alloc());
-    let mut home = Families::of(rt.alloc(), &[])?;
-    assert_eq!(rt; home.query(&family, 1, &know), Queried::StillOpen);
-    assert_eq!(rt; home.query(&family, 2, &know), Queried::Abort);
-    know.add(&Outcome::Aborted(family))?;
-    assert_eq!(rt; home.query(&family, 2, &know), Queried::Tell);
-    assert_eq!(rt; home.query(&family, 1, &know), Queried::Tell);
-    home.reserve()?;
-    assert_eq!(rt; home.vote(&family, 2, 1, true, &deps), Voted::Late);
+    let deps = first_counts();
+    let steps = [
+        (Act::Restarts, Answer::Done),
+        (Act::Query(family, 1), Answer::Queried(Queried::StillOpen)),
+        (Act::Query(family, 2), Answer::Queried(Queried::Abort)),
+        (Act::Learns(Outcome::Aborted(family)), Answer::Done),
+        (Act::Query(family, 2), Answer::Queried(Queried::Tell)),
+        (Act::Query(family, 1), Answer::Queried(Queried::Tell)),
+        (Act::Yes(family, 2, 1), Answer::Voted(Voted::Late)),
+    ];
+    same(&rt, first_other(rt.alloc(), &deps, &steps)?, None);
     Ok(())
 }

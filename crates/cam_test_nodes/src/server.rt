@@ -2,6 +2,7 @@
 mod restarts;
 mod site;
 
+use crate::check::same;
 use cam_event::Reply;
 use cam_know::{Outcome, Reason};
 use cam_names::{Deps, Name};
@@ -25,7 +26,7 @@ fn a_repeat_stays_busy_after_the_holder_has_ended(rt: HostRuntime) -> Result<(),
         called(&a, 1, Op::Write(7), Performed::Ended),
         addressed(&a, 1, Op::Write(7), 2, Performed::Missed),
     ];
-    assert_eq!(rt; first_other(rt.alloc(), 1, 0, &steps)?, None);
+    same(&rt, first_other(rt.alloc(), 1, 0, &steps)?, None);
     Ok(())
 }
 
@@ -40,7 +41,7 @@ fn a_sibling_reads_once_the_site_has_heard(rt: HostRuntime) -> Result<(), Fail> 
         Step::Told(Outcome::Committed(a, Deps::none().with(1, 1).with(3, 1))),
         called(&b, 2, Op::Read, Performed::Done(Answer::Value(4))),
     ];
-    assert_eq!(rt; first_other(rt.alloc(), 3, 0, &steps)?, None);
+    same(&rt, first_other(rt.alloc(), 3, 0, &steps)?, None);
     Ok(())
 }
 
@@ -56,7 +57,7 @@ fn a_call_is_performed_once(rt: HostRuntime) -> Result<(), Fail> {
         called(&a, 1, Op::Put(9), again),
         called(&a, 2, Op::Size, Performed::Done(Answer::Value(1))),
     ];
-    assert_eq!(rt; first_other(rt.alloc(), 2, 0, &steps)?, None);
+    same(&rt, first_other(rt.alloc(), 2, 0, &steps)?, None);
     Ok(())
 }
 
@@ -71,7 +72,7 @@ fn a_late_call_of_a_committed_family_has_ended(rt: HostRuntime) -> Result<(), Fa
         Step::Told(Outcome::Committed(p, Deps::none().with(1, 1).with(2, 1))),
         called(&c, 1, Op::Write(5), Performed::Ended),
     ];
-    assert_eq!(rt; first_other(rt.alloc(), 2, 0, &steps)?, None);
+    same(&rt, first_other(rt.alloc(), 2, 0, &steps)?, None);
     Ok(())
 }
 
@@ -108,6 +109,6 @@ fn an_orphan_is_refused(rt: HostRuntime) -> Result<(), Fail> {
         called(&f, 3, Op::Read, by_crash),
         called(&d, 3, Op::Read, Performed::Done(Answer::Value(2))),
     ];
-    assert_eq!(rt; first_other(rt.alloc(), 3, 1, &steps)?, None);
+    same(&rt, first_other(rt.alloc(), 3, 1, &steps)?, None);
     Ok(())
 }

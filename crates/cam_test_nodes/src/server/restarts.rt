@@ -1,5 +1,6 @@
 //! What a site answers after a restart of its own, and after one of a node that the caller has visited.
 use super::site::{Call, Step, addressed, called, first_other};
+use crate::check::same;
 use cam_event::Reply;
 use cam_know::{Outcome, Reason};
 use cam_names::{Deps, Name};
@@ -21,7 +22,7 @@ fn kept_replies_are_gone_after_a_restart(rt: HostRuntime) -> Result<(), Fail> {
         addressed(&b, 1, Op::Read, 2, Performed::Done(Answer::Value(0))),
         addressed(&a, 1, Op::Write(5), 2, Performed::Busy(b)),
     ];
-    assert_eq!(rt; first_other(rt.alloc(), 2, 0, &steps)?, None);
+    same(&rt, first_other(rt.alloc(), 2, 0, &steps)?, None);
     Ok(())
 }
 
@@ -40,7 +41,7 @@ fn read_locks_come_back_after_a_restart(rt: HostRuntime) -> Result<(), Fail> {
         Step::Told(Outcome::Committed(a, Deps::none().with(1, 1).with(2, 1))),
         addressed(&b, 3, Op::Write(8), 2, Performed::Done(Answer::Ok)),
     ];
-    assert_eq!(rt; first_other(rt.alloc(), 2, 0, &steps)?, None);
+    same(&rt, first_other(rt.alloc(), 2, 0, &steps)?, None);
     Ok(())
 }
 
@@ -83,6 +84,6 @@ fn what_was_visited_makes_an_orphan(rt: HostRuntime) -> Result<(), Fail> {
         visiting(&a, 3, &older, second),
         visiting(&a, 3, &newer, second),
     ];
-    assert_eq!(rt; first_other(rt.alloc(), 3, 0, &steps)?, None);
+    same(&rt, first_other(rt.alloc(), 3, 0, &steps)?, None);
     Ok(())
 }

@@ -69,72 +69,58 @@ struct Site {
     held: HeldList,
     know: Know,
     server: Server,
+    holders: Holders,
+}
+
+/// What holds the state of an object while it is called.
+#[derive(Drop)]
+struct Holders {
     register: RegisterServer,
     queue: QueueServer,
 }
 
 impl Site {
-    fn new(alloc: Global, node: u8, value: i64) -> Result<Site, NoMemory> {
-        let mut objects = Objects::new(alloc);
-        objects.push(ObjectDecl {
-            node,
-            start: State::Register(value),
-        })?;
-        objects.push(ObjectDecl {
-            node,
-            start: State::Queue(Items::new(alloc)),
-        })?;
-        let table = LockTable::new(alloc, &objects, node)?;
-        Ok(Site {
-            objects,
-            node,
-            held: HeldList::new(alloc),
-            know: Know::new(alloc),
-            server: Server::new(alloc, table, 1),
-            register: RegisterServer::new(),
-            queue: QueueServer::new(alloc),
-        })
-    }
-
     /// What the call is answered. None where no call may come so.
     fn call(&mut self, call: &Call) -> Result<Option<Performed>, NoMemory> {
         match call.op {
-            Op::Put(_) | Op::Take | Op::Size => ask(
-                &mut self.server,
-                &self.know,
-                call,
-                QUEUE,
-                &mut self.queue,
-            ),
-            _ => ask(
-                &mut self.server,
-                &self.know,
-                call,
-                REGISTER,
-                &mut self.register,
-            ),
+            Op::Put(_) | Op::Take | Op::Size => {
+                let holder = &mut self.holders.queue;
+                ask(&mut self.server, &self.know, call, QUEUE, holder)
+            }
+            _ => {
+                let holder = &mut self.holders.register;
+                ask(&mut self.server, &self.know, call, REGISTER, holder)
+            }
         }
     }
 
-    fn decide(&mut self, outcome: &Outcome) -> Result<(), NoMemory> {
+    fn decide(&mut self, outcome: &Outcome) -> Result<(), Fail> {
         self.know.add(outcome)?;
         self.server.reserve(1)?;
         self.server.decided(outcome);
         Ok(())
     }
 
-    fn secure(&mut self, family: &Name) -> Result<(), NoMemory> {
-        self.held.push(self.server.table().secure(family, 1)?)
+    fn secure(&mut self, family: &Name) -> Result<(), Fail> {
+        let held = self.server.table().secure(family, 1)?;
+        self.held.push(held)?;
+        Ok(())
     }
 
     /// The node restarts, at this count: what it knows and what it has secured stay.
     fn crash(&mut self, alloc: Global, count: u32) -> Result<(), Fail> {
+        let table = self.restored(alloc)?;
+        self.server = Server::new(alloc, table, count);
+        Ok(())
+    }
+
+    /// The locks of what was secured.
+    fn restored(&self, alloc: Global) -> Result<LockTable, Fail> {
         if !may_restore(alloc, &self.objects, self.node, &self.held)? {
             return Err(Fail::new("what was secured cannot be restored"));
         }
         let table = LockTable::restore(alloc, &self.objects, self.node, &self.held, &self.know)?;
-        self.server = Server::new(alloc, table, count);
-        Ok(())
+        Ok(table)
     }
 
     /// A letter tells that this node, 1 to 8, has restarted, and its count, at most 1,000,000,000.
@@ -146,7 +132,7 @@ impl Site {
         Ok(())
     }
 
-    fn copy_server(&mut self) -> Result<(), NoMemory> {
+    fn copy_server(&mut self) -> Result<(), Fail> {
         let copy = self.server.copy()?;
         self.server = copy;
         Ok(())
@@ -155,31 +141,42 @@ impl Site {
     /// The first of these steps, one after the other, whose call is answered otherwise.
     fn first_other(&mut self, alloc: Global, steps: &[Step]) -> Result<Option<Other>, Fail> {
         for (place, step) in steps.iter().enumerate() {
-            match step {
-                Step::Called(call, expected) => {
-                    let answer = self.call(call)?;
-                    if answer != Some(*expected) {
-                        return Ok(Some(Other { place, answer }));
-                    }
+            if let Step::Called(call, expected) = step {
+                let answer = self.call(call)?;
+                if answer != Some(*expected) {
+                    return Ok(Some(Other { place, answer }));
                 }
-                Step::Told(outcome) => self.tell(alloc, outcome)?,
-                Step::Decided(outcome) => self.decide(outcome)?,
-                Step::Copied => self.copy_server()?,
-                Step::Restarted(node, count) => self.hear_of_restart(*node, *count)?,
-                Step::Secured(family) => self.secure(family)?,
-                Step::Crashed(count) => self.crash(alloc, *count)?,
+            } else {
+                self.change(alloc, step)?;
             }
         }
         Ok(None)
     }
 
+    /// What happens at the site besides calls.
+    fn change(&mut self, alloc: Global, step: &Step) -> Result<(), Fail> {
+        match step {
+            Step::Called(_, _) => Ok(()),
+            Step::Told(outcome) => self.tell(alloc, outcome),
+            Step::Decided(outcome) => self.decide(outcome),
+            Step::Copied => self.copy_server(),
+            Step::Restarted(node, count) => self.hear_of_restart(*node, *count),
+            Step::Secured(family) => self.secure(family),
+            Step::Crashed(count) => self.crash(alloc, *count),
+        }
+    }
+
     /// The outcome is learnt, and the site is informed of it.
-    fn tell(&mut self, alloc: Global, outcome: &Outcome) -> Result<(), NoMemory> {
+    fn tell(&mut self, alloc: Global, outcome: &Outcome) -> Result<(), Fail> {
         let mut news = Know::new(alloc);
         news.add(outcome)?;
-        self.know.join(&news)?;
+        self.learn(&news)
+    }
+
+    fn learn(&mut self, news: &Know) -> Result<(), Fail> {
+        self.know.join(news)?;
         self.server.reserve(news.len())?;
-        self.server.informed(&news);
+        self.server.informed(news);
         Ok(())
     }
 }
@@ -216,6 +213,26 @@ pub(super) struct Other {
     answer: Option<Performed>,
 }
 
+/// The register, which begins with this value, and the queue, which begins empty: both of this node.
+fn two_objects(alloc: Global, node: u8, value: i64) -> Result<Objects, NoMemory> {
+    let mut objects = Objects::new(alloc);
+    objects.push(ObjectDecl {
+        node,
+        start: State::Register(value),
+    })?;
+    objects.push(ObjectDecl {
+        node,
+        start: State::Queue(Items::new(alloc)),
+    })?;
+    Ok(objects)
+}
+
+/// The server of a node at its count 1, to which no call has come.
+fn new_server(alloc: Global, node: u8, objects: &Objects) -> Result<Server, NoMemory> {
+    let table = LockTable::new(alloc, objects, node)?;
+    Ok(Server::new(alloc, table, 1))
+}
+
 /// The first such step of these, one after the other at a node whose register begins with this value.
 pub(super) fn first_other(
     alloc: Global,
@@ -223,5 +240,18 @@ pub(super) fn first_other(
     value: i64,
     steps: &[Step],
 ) -> Result<Option<Other>, Fail> {
-    Site::new(alloc, node, value)?.first_other(alloc, steps)
+    let objects = two_objects(alloc, node, value)?;
+    let server = new_server(alloc, node, &objects)?;
+    let mut site = Site {
+        objects,
+        node,
+        held: HeldList::new(alloc),
+        know: Know::new(alloc),
+        server,
+        holders: Holders {
+            register: RegisterServer::new(),
+            queue: QueueServer::new(alloc),
+        },
+    };
+    site.first_other(alloc, steps)
 }

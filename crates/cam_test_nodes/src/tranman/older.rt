@@ -1,21 +1,51 @@
 //! What comes to a home for actions that it does not run: of an older count of its own, of another node, or not known.
-use super::{begun, called};
+use super::{begun, called, started};
+use crate::check::same;
 use cam_event::{Reply, Seen};
 use cam_names::{Deps, Name};
 use cam_tranman::{Homed, Started, Taken};
 use cam_type::Answer;
+use std::alloc::Global;
+use std::process::Abort;
 use std::test::Fail;
 
+/// Whether the child of this name may start at node 3 and its count 5.
+fn may_start(alloc: Global, child: &str) -> Result<bool, Fail> {
+    let child = Name::parse(child)?;
+    let homed = Homed::new(alloc, 3, 5);
+    Ok(homed.may_start(&child))
+}
+
 /// *A start arrives*, test *missed*: the last count in the child's name is not the present one, older or newer, or another node is its home.
+/// The count of its parent is another matter.
 #[test]
 fn a_child_of_another_count_may_not_start(rt: HostRuntime) -> Result<(), Fail> {
-    let homed = Homed::new(rt.alloc(), 3, 5);
-    assert!(rt; homed.may_start(&Name::parse("1.2.1/3.5.1")?));
-    assert!(rt; !homed.may_start(&Name::parse("1.2.1/3.4.1")?));
-    assert!(rt; !homed.may_start(&Name::parse("1.2.1/3.6.1")?));
-    assert!(rt; !homed.may_start(&Name::parse("1.2.1/4.5.1")?));
-    // The count of its parent is another matter.
-    assert!(rt; homed.may_start(&Name::parse("3.4.1/3.5.1")?));
+    for (child, wanted) in [
+        ("1.2.1/3.5.1", true),
+        ("1.2.1/3.4.1", false),
+        ("1.2.1/3.6.1", false),
+        ("1.2.1/4.5.1", false),
+        ("3.4.1/3.5.1", true),
+    ] {
+        let got = may_start(rt.alloc(), child)?;
+        same(&rt, (child, got), (child, wanted));
+    }
+    Ok(())
+}
+
+/// The child starts once. Then it may start, and is known.
+fn start_again(rt: &impl Abort, homed: &mut Homed, child: &Name) -> Result<(), Fail> {
+    let deps = Deps::none().with(1, 2);
+    let more = Deps::none().with(1, 2).with(2, 4);
+    let was_there = homed.created(child);
+    let first = started(homed, child, &deps)?;
+    same(rt, (was_there, first), (false, Some(Started::New)));
+    same(
+        rt,
+        (homed.created(child), homed.may_start(child)),
+        (true, true),
+    );
+    same(rt, started(homed, child, &more)?, Some(Started::Known));
     Ok(())
 }
 
@@ -23,16 +53,11 @@ fn a_child_of_another_count_may_not_start(rt: HostRuntime) -> Result<(), Fail> {
 #[test]
 fn a_child_that_is_there_starts_no_more(rt: HostRuntime) -> Result<(), Fail> {
     let child = Name::parse("1.2.1/3.5.1")?;
+    let with_home = Deps::none().with(1, 2).with(3, 5);
+    same(&rt, child.home(), (3, 5));
     let mut homed = Homed::new(rt.alloc(), 3, 5);
-    let (node, count) = child.home();
-    assert!(rt; node == 3 && count == 5);
-    assert!(rt; !homed.created(&child));
-    let deps = Deps::none().with(1, 2);
-    assert_eq!(rt; homed.start(&child, &deps)?, Started::New);
-    assert!(rt; homed.created(&child));
-    assert!(rt; homed.may_start(&child));
-    assert_eq!(rt; homed.start(&child, &deps.with(2, 4))?, Started::Known);
-    assert_eq!(rt; homed.deps(&child), Some(deps.with(3, 5)));
+    start_again(&rt, &mut homed, &child)?;
+    same(&rt, homed.deps(&child), Some(with_home));
     Ok(())
 }
 
@@ -43,18 +68,18 @@ fn the_answer_to_an_action_of_an_older_count_is_late(rt: HostRuntime) -> Result<
     let older = Name::parse("1.1.1")?;
     let present = Name::parse("1.2.1")?;
     let zero = Reply::Done(Answer::Value(0));
+    let seen = Taken::Got(Seen::Done(Answer::Value(0)));
     let mut homed = Homed::new(rt.alloc(), 1, 2);
-    assert_eq!(rt; begun(&mut homed), Some(present));
-    assert_eq!(rt; called(&mut homed, &present), Some(1));
-    assert_eq!(rt; homed.taken(&older, 1, &zero, 7), Taken::Late);
-    assert_eq!(rt; homed.answer(&older, 1, &zero, 7), Taken::Late);
-    assert_eq!(rt; homed.answer(&older, 1, &zero, 8), Taken::Late);
-    assert!(rt; !homed.awaits(&older, 1));
-    assert!(rt; homed.awaits(&present, 1));
-    assert_eq!(rt;
-        homed.answer(&present, 1, &zero, 7),
-        Taken::Got(Seen::Done(Answer::Value(0)))
-    );
+    same(&rt, begun(&mut homed), Some(present));
+    same(&rt, called(&mut homed, &present), Some(1));
+    let told = homed.taken(&older, 1, &zero, 7);
+    let at_count = homed.answer(&older, 1, &zero, 7);
+    let after_crash = homed.answer(&older, 1, &zero, 8);
+    let late = (Taken::Late, Taken::Late, Taken::Late);
+    same(&rt, (told, at_count, after_crash), late);
+    let awaited = (homed.awaits(&older, 1), homed.awaits(&present, 1));
+    same(&rt, awaited, (false, true));
+    same(&rt, homed.answer(&present, 1, &zero, 7), seen);
     Ok(())
 }
 
@@ -64,11 +89,16 @@ fn the_answer_to_an_action_that_is_not_known_is_late(rt: HostRuntime) -> Result<
     let unknown = Name::parse("1.2.2")?;
     let zero = Reply::Done(Answer::Value(0));
     let mut homed = Homed::new(rt.alloc(), 1, 2);
-    assert_eq!(rt; homed.answer(&unknown, 1, &zero, 7), Taken::Late);
-    assert!(rt; begun(&mut homed).is_some());
-    assert_eq!(rt; homed.answer(&unknown, 1, &zero, 7), Taken::Late);
-    assert_eq!(rt; homed.answer(&unknown, 1, &Reply::Missed, 8), Taken::Late);
-    assert!(rt; !homed.created(&unknown));
-    assert!(rt; homed.deps(&unknown).is_none());
+    let before = homed.answer(&unknown, 1, &zero, 7);
+    let begins = begun(&mut homed).is_some();
+    same(&rt, (before, begins), (Taken::Late, true));
+    let done = homed.answer(&unknown, 1, &zero, 7);
+    let missed = homed.answer(&unknown, 1, &Reply::Missed, 8);
+    same(&rt, (done, missed), (Taken::Late, Taken::Late));
+    same(
+        &rt,
+        (homed.created(&unknown), homed.deps(&unknown)),
+        (false, None),
+    );
     Ok(())
 }

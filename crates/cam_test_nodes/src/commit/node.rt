@@ -1,0 +1,153 @@
+//! A node that commits families, and steps that are played at it.
+use cam_base::{NoMemory, Sequence};
+use cam_commit::{Asked, Families, Queried, Voted};
+use cam_know::{Know, Outcome};
+use cam_names::{Deps, Name};
+use cam_type::Held;
+use std::alloc::Global;
+
+/// What happens at a node.
+#[derive(Clone, Copy)]
+pub(super) enum Act {
+    /// It begins to prepare a family. It may not where it is preparing it.
+    Prepares(Name),
+    /// Whether it is preparing a family.
+    IsPreparing(Name),
+    /// Another node, at a count, votes yes for a family.
+    Yes(Name, u8, u32),
+    /// Another node, at a count, votes no.
+    No(Name, u8, u32),
+    /// It is to secure a family for the first count, and is at the second.
+    Prepare(Name, u32, u32),
+    /// It has secured a family.
+    Secures(Name),
+    /// It is asked after a family, and is at this count.
+    Query(Name, u32),
+    /// It learns how a family ended.
+    Learns(Outcome),
+    /// It restarts, and its log has this family as secured.
+    RestartsWith(Name),
+    /// It restarts, and its log has no family.
+    Restarts,
+}
+
+/// What a node answers.
+#[derive(Clone, Copy, Debug, PartialEq, Eq)]
+pub(super) enum Answer {
+    Done,
+    MayNot,
+    Is(bool),
+    Voted(Voted),
+    Asked(Asked),
+    Queried(Queried),
+}
+
+/// A node: what it knows, the families that it commits, and what each of these depends on.
+#[derive(Drop)]
+struct Node {
+    know: Know,
+    families: Families,
+    deps: Deps,
+}
+
+impl Node {
+    fn new(alloc: Global, deps: &Deps) -> Node {
+        Node {
+            know: Know::new(alloc),
+            families: Families::new(alloc),
+            deps: *deps,
+        }
+    }
+
+    /// The first of these steps, one after the other, that is answered otherwise, and how.
+    fn first_other(
+        &mut self,
+        alloc: Global,
+        steps: &[(Act, Answer)],
+    ) -> Result<Option<(usize, Answer)>, NoMemory> {
+        for (place, (act, wanted)) in steps.iter().enumerate() {
+            let got = self.answer(alloc, act)?;
+            if got != *wanted {
+                return Ok(Some((place, got)));
+            }
+        }
+        Ok(None)
+    }
+
+    fn answer(&mut self, alloc: Global, act: &Act) -> Result<Answer, NoMemory> {
+        match act {
+            Act::Prepares(family) => self.prepare(family),
+            Act::IsPreparing(family) => Ok(Answer::Is(self.families.is_preparing(family))),
+            Act::Yes(family, node, count) => self.yes(family, *node, *count),
+            Act::No(family, node, count) => self.no(family, *node, *count),
+            Act::Prepare(family, count, present) => {
+                let asked = self.families.asked(family, *count, *present, &self.know);
+                Ok(Answer::Asked(asked))
+            }
+            Act::Secures(family) => self.secure(family),
+            Act::Query(family, present) => {
+                let queried = self.families.query(family, *present, &self.know);
+                Ok(Answer::Queried(queried))
+            }
+            Act::Learns(outcome) => self.learn(outcome),
+            Act::RestartsWith(family) => self.restart_with(alloc, family),
+            Act::Restarts => self.restart(alloc, &[]),
+        }
+    }
+
+    fn prepare(&mut self, family: &Name) -> Result<Answer, NoMemory> {
+        self.families.reserve()?;
+        if self.families.is_preparing(family) {
+            return Ok(Answer::MayNot);
+        }
+        self.families.prepare(family);
+        Ok(Answer::Done)
+    }
+
+    fn yes(&mut self, family: &Name, node: u8, count: u32) -> Result<Answer, NoMemory> {
+        self.families.reserve()?;
+        let voted = self.families.vote(family, node, count, true, &self.deps);
+        Ok(Answer::Voted(voted))
+    }
+
+    fn no(&mut self, family: &Name, node: u8, count: u32) -> Result<Answer, NoMemory> {
+        self.families.reserve()?;
+        let voted = self.families.vote(family, node, count, false, &self.deps);
+        Ok(Answer::Voted(voted))
+    }
+
+    fn secure(&mut self, family: &Name) -> Result<Answer, NoMemory> {
+        self.families.reserve()?;
+        self.families.secured(family);
+        Ok(Answer::Done)
+    }
+
+    fn learn(&mut self, outcome: &Outcome) -> Result<Answer, NoMemory> {
+        self.know.add(outcome)?;
+        Ok(Answer::Done)
+    }
+
+    fn restart_with(&mut self, alloc: Global, family: &Name) -> Result<Answer, NoMemory> {
+        let held = [Held {
+            family: *family,
+            count: 2,
+            ops: Sequence::new(alloc),
+        }];
+        self.restart(alloc, &held)
+    }
+
+    fn restart(&mut self, alloc: Global, held: &[Held]) -> Result<Answer, NoMemory> {
+        self.families = Families::of(alloc, held)?;
+        Ok(Answer::Done)
+    }
+}
+
+/// The first of these steps, one after the other at a node to which nothing has happened, that is answered otherwise, and how.
+pub(super) fn first_other(
+    alloc: Global,
+    deps: &Deps,
+    steps: &[(Act, Answer)],
+) -> Result<Option<(usize, Answer)>, NoMemory> {
+    let mut node = Node::new(alloc, deps);
+    node.first_other(alloc, steps)
+}
