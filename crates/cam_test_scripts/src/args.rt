@@ -1,5 +1,6 @@
 //! `cam_args`: words that are forms, and words that are none.
 
+use crate::check::same;
 use cam_args::{ArgsFault, Command, read_words};
 use cam_names::Name;
 use std::alloc::Global;
@@ -12,6 +13,16 @@ fn read(alloc: Global, line: &str) -> Result<Result<Command, ArgsFault>, Fail> {
         words.push(String::from_str(alloc, word)?)?;
     }
     Ok(read_words(alloc, words.as_slice()))
+}
+
+/// The line, where something else is read of it.
+fn if_wrong<'a>(
+    alloc: Global,
+    line: &'a str,
+    wanted: Result<Command, ArgsFault>,
+) -> Result<Option<&'a str>, Fail> {
+    let found = read(alloc, line)?;
+    Ok(if found == wanted { None } else { Some(line) })
 }
 
 /// Lines that are forms, but for names.
@@ -54,7 +65,7 @@ const FORMS: [(&str, Command); 11] = [
 #[test]
 fn forms(rt: HostRuntime) -> Result<(), Fail> {
     for (line, command) in FORMS {
-        assert!(rt; read(rt.alloc(), line)? == Ok(command), "{line}");
+        same(&rt, if_wrong(rt.alloc(), line, Ok(command))?, None);
     }
     Ok(())
 }
@@ -62,7 +73,8 @@ fn forms(rt: HostRuntime) -> Result<(), Fail> {
 #[test]
 fn witness(rt: HostRuntime) -> Result<(), Fail> {
     let name = Name::parse("1.1.1/4.1.1")?;
-    assert!(rt; read(rt.alloc(), "witness 1.1.1/4.1.1")? == Ok(Command::Witness(name)));
+    let command = read(rt.alloc(), "witness 1.1.1/4.1.1")?;
+    same(&rt, command, Ok(Command::Witness(name)));
     Ok(())
 }
 
@@ -91,7 +103,8 @@ const NO_FORMS: [&str; 18] = [
 #[test]
 fn no_forms(rt: HostRuntime) -> Result<(), Fail> {
     for line in NO_FORMS {
-        assert!(rt; read(rt.alloc(), line)? == Err(ArgsFault::Usage), "{line}");
+        let wrong = if_wrong(rt.alloc(), line, Err(ArgsFault::Usage))?;
+        same(&rt, wrong, None);
     }
     Ok(())
 }

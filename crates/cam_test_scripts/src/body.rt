@@ -1,10 +1,12 @@
 //! `cam_body`: what an action with a body does next.
 
+use crate::check::same;
 use cam_body::{child_body, next_request};
 use cam_event::{Seen, View, ViewStep};
 use cam_names::{Name, Part};
 use cam_script::{BodyOp, BodyText, Expr, Statement};
 use cam_type::{Answer, Op};
+use std::alloc::Global;
 use std::test::Fail;
 
 /// Calls object 0 up to twice, asks for a child up to twice, and commits 3 more than what the call read.
@@ -78,25 +80,31 @@ fn push(view: &mut View, told: Told) -> Result<(), Fail> {
     Ok(())
 }
 
-fn body(rt: &HostRuntime, statements: &[Statement]) -> Result<BodyText, Fail> {
-    let mut body = BodyText::new(rt.alloc());
+fn body(alloc: Global, statements: &[Statement]) -> Result<BodyText, Fail> {
+    let mut body = BodyText::new(alloc);
     for statement in statements {
         body.push_copy(statement)?;
     }
     Ok(body)
 }
 
+/// Whether the action does this next.
+fn is_next(alloc: Global, body: &BodyText, view: &View, expected: &str) -> Result<bool, Fail> {
+    let next = format!(in alloc; "{:?}", next_request(body, view))?;
+    Ok(next.as_str() == expected)
+}
+
 /// The first step of a view after which the action does not do what stands beside the step.
 fn first_wrong(
-    rt: &HostRuntime,
-    body: &BodyText,
+    alloc: Global,
+    statements: &[Statement],
     steps: &[(Told, &str)],
 ) -> Result<Option<usize>, Fail> {
-    let mut view = View::new(rt.alloc());
+    let body = body(alloc, statements)?;
+    let mut view = View::new(alloc);
     for (i, (told, expected)) in steps.iter().enumerate() {
         push(&mut view, *told)?;
-        let next = format!(in rt.alloc(); "{:?}", next_request(body, &view))?;
-        if next.as_str() != *expected {
+        if !is_next(alloc, &body, &view, expected)? {
             return Ok(Some(i));
         }
     }
@@ -105,8 +113,7 @@ fn first_wrong(
 
 #[test]
 fn statements_are_tried_again_and_leave_their_values(rt: HostRuntime) -> Result<(), Fail> {
-    let transfer = body(&rt, &TRANSFER)?;
-    let retried = [
+    let steps = [
         (Told::Created, "Request(Call(0, Read))"),
         (Told::Called, "Wait"),
         (Told::Busy, "Request(Call(0, Read))"),
@@ -118,28 +125,38 @@ fn statements_are_tried_again_and_leave_their_values(rt: HostRuntime) -> Result<
         (Told::Child(Some(4)), "Request(Commit(10))"),
         (Told::CommitAsked, "Over"),
     ];
-    assert_eq!(rt; first_wrong(&rt, &transfer, &retried)?, None);
-    let of_nothing = [
+    same(&rt, first_wrong(rt.alloc(), &TRANSFER, &steps)?, None);
+    Ok(())
+}
+
+#[test]
+fn an_empty_queue_leaves_nothing(rt: HostRuntime) -> Result<(), Fail> {
+    let steps = [
         (Told::Called, "Wait"),
         (Told::Empty, "Request(Ask(2))"),
         (Told::Asked, "Wait"),
         (Told::Child(Some(4)), "Request(Commit(3))"),
     ];
-    assert_eq!(rt; first_wrong(&rt, &transfer, &of_nothing)?, None);
-    let given_up = [
+    same(&rt, first_wrong(rt.alloc(), &TRANSFER, &steps)?, None);
+    Ok(())
+}
+
+#[test]
+fn an_action_aborts_after_its_last_try(rt: HostRuntime) -> Result<(), Fail> {
+    let steps = [
         (Told::Called, "Wait"),
         (Told::Gone, "Request(Call(0, Read))"),
         (Told::Called, "Wait"),
         (Told::Busy, "Request(Abort)"),
         (Told::AbortAsked, "Over"),
     ];
-    assert_eq!(rt; first_wrong(&rt, &transfer, &given_up)?, None);
+    same(&rt, first_wrong(rt.alloc(), &TRANSFER, &steps)?, None);
     Ok(())
 }
 
 #[test]
 fn sums_wrap_and_ok_leaves_nothing(rt: HostRuntime) -> Result<(), Fail> {
-    let sums = [
+    let steps = [
         (Told::Created, "Request(Call(4, Write(-7)))"),
         (Told::Called, "Wait"),
         (Told::Ok, "Request(Call(4, Swap(-9223372036854775808)))"),
@@ -149,17 +166,23 @@ fn sums_wrap_and_ok_leaves_nothing(rt: HostRuntime) -> Result<(), Fail> {
             "Request(Commit(-9223372036854775808))",
         ),
     ];
-    assert_eq!(rt; first_wrong(&rt, &body(&rt, &SUMS)?, &sums)?, None);
+    same(&rt, first_wrong(rt.alloc(), &SUMS, &steps)?, None);
     Ok(())
+}
+
+/// The body of the child for which `TRANSFER` asks after these steps.
+fn child_after(alloc: Global, steps: &[Told]) -> Result<Option<u8>, Fail> {
+    let mut view = View::new(alloc);
+    for told in steps {
+        push(&mut view, *told)?;
+    }
+    Ok(child_body(&body(alloc, &TRANSFER)?, &view))
 }
 
 #[test]
 fn a_child_has_the_body_of_its_statement(rt: HostRuntime) -> Result<(), Fail> {
-    let transfer = body(&rt, &TRANSFER)?;
-    let mut view = View::new(rt.alloc());
-    assert_eq!(rt; child_body(&transfer, &view), None);
-    push(&mut view, Told::Called)?;
-    push(&mut view, Told::Value(7))?;
-    assert_eq!(rt; child_body(&transfer, &view), Some(5));
+    let before = child_after(rt.alloc(), &[])?;
+    let after = child_after(rt.alloc(), &[Told::Called, Told::Value(7)])?;
+    same(&rt, (before, after), (None, Some(5)));
     Ok(())
 }

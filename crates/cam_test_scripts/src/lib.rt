@@ -7,6 +7,8 @@ mod args;
 #[cfg(test)]
 mod body;
 #[cfg(test)]
+mod check;
+#[cfg(test)]
 mod generator;
 #[cfg(test)]
 mod report;

@@ -1,12 +1,14 @@
 //! `cam_report`: traces, witnesses, chains and summaries, byte for byte.
 
+use crate::check::same;
 use crate::report::{declared, each_kind};
 use crate::traces::{first_path, given_up};
+use cam_base::NoMemory;
 use cam_cut::CutFault;
-use cam_event::{Body, Event, LetterId, Marks, Note, RunRecord, Sent, Trace};
+use cam_event::{Body, Deeds, Event, LetterId, Marks, Note, RunRecord, Sent, SentList, Trace};
 use cam_names::{Deps, Name};
 use cam_report::{summary_text, trace_text, why_text, witness_text};
-use cam_samples::{deeds_of, event, sent_of};
+use cam_samples::event;
 use cam_why::WhyFault;
 use std::alloc::Global;
 use std::test::Fail;
@@ -36,11 +38,17 @@ event 8 node 1 letter 0 note plain
   sent 5 to 1 call
 ";
 
+/// The trace of a run with the declared objects.
+fn traced(alloc: Global, run: &RunRecord) -> Result<String, Fail> {
+    let script = declared(alloc)?;
+    Ok(trace_text(alloc, &script, run)?)
+}
+
 #[test]
 fn the_first_path_is_traced(rt: HostRuntime) -> Result<(), Fail> {
-    let script = declared(rt.alloc())?;
     let run = first_path(rt.alloc())?;
-    assert_eq!(rt; trace_text(rt.alloc(), &script, &run)?.as_str(), FIRST_PATH);
+    let text = traced(rt.alloc(), &run)?;
+    same(&rt, text.as_str(), FIRST_PATH);
     Ok(())
 }
 
@@ -55,31 +63,36 @@ got 1.1.2 1 busy 1.1.1
 legal
 ";
 
-#[test]
-fn the_deeds_that_an_action_saw_are_its_witness(rt: HostRuntime) -> Result<(), Fail> {
-    let alloc = rt.alloc();
+/// The witness of an action in the first path.
+fn witnessed(alloc: Global, action: &Name) -> Result<Result<String, CutFault>, Fail> {
     let script = declared(alloc)?;
     let run = first_path(alloc)?;
+    Ok(witness_text(alloc, &script, &run, action))
+}
+
+#[test]
+fn the_deeds_that_an_action_saw_are_its_witness(rt: HostRuntime) -> Result<(), Fail> {
     let reader = Name::parse("1.1.2")?;
-    assert_eq!(rt;
-        witness_text(alloc, &script, &run, &reader)?.as_str(),
-        WITNESS
-    );
-    let nobody = Name::parse("1.1.3")?;
-    let none = witness_text(alloc, &script, &run, &nobody).err();
-    assert_eq!(rt; none, Some(CutFault::NoSuchAction));
+    let text = witnessed(rt.alloc(), &reader)??;
+    same(&rt, text.as_str(), WITNESS);
     Ok(())
 }
 
-/// An event that sends a letter of each kind, and one with each other note.
-fn each_letter_and_note(alloc: Global) -> Result<RunRecord, Fail> {
-    let family = Name::parse("1.1.1")?;
-    let deps = Deps::none();
+#[test]
+fn what_was_not_created_has_no_witness(rt: HostRuntime) -> Result<(), Fail> {
+    let nobody = Name::parse("1.1.3")?;
+    let fault = witnessed(rt.alloc(), &nobody)?.err();
+    same(&rt, fault, Some(CutFault::NoSuchAction));
+    Ok(())
+}
+
+/// A letter of each kind that the other traces do not have.
+fn each_letter(alloc: Global, family: Name) -> Result<SentList, NoMemory> {
     let bodies = [
         Body::Finish {
             action: family,
             value: 1,
-            deps,
+            deps: Deps::none(),
         },
         Body::Quit { action: family },
         Body::Prepare { family, count: 1 },
@@ -91,30 +104,37 @@ fn each_letter_and_note(alloc: Global) -> Result<RunRecord, Fail> {
         Body::Query { family },
         Body::News,
     ];
-    let mut sent = sent_of(alloc, &[])?;
+    let mut sent = SentList::new(alloc);
     for body in bodies {
         sent.push_copy(&Sent { to: 2, body })?;
     }
-    let mut trace = Trace::new(alloc);
-    trace.push(Event {
+    Ok(sent)
+}
+
+fn preparing(alloc: Global, family: Name) -> Result<Event, NoMemory> {
+    Ok(Event {
         node: 1,
         got: None,
-        deeds: deeds_of(alloc, &[])?,
-        sent,
+        deeds: Deeds::new(alloc),
+        sent: each_letter(alloc, family)?,
         note: Note::Preparing(family),
-    })?;
-    for (place, note) in [Note::Missed, Note::Again, Note::Ended, Note::Late]
-        .iter()
-        .enumerate()
-    {
-        let place = place as u32;
-        let letter = LetterId { event: 0, place };
-        trace.push(event(alloc, 2, Some(letter), &[], *note)?)?;
-    }
-    Ok(RunRecord {
-        trace,
-        marks: Marks::new(alloc),
     })
+}
+
+/// An event that sends a letter of each kind, and one with each other note.
+fn each_letter_and_note(alloc: Global, family: Name) -> Result<Trace, NoMemory> {
+    let mut trace = Trace::new(alloc);
+    trace.push(preparing(alloc, family)?)?;
+    for (place, note) in [
+        (0, Note::Missed),
+        (1, Note::Again),
+        (2, Note::Ended),
+        (3, Note::Late),
+    ] {
+        let letter = LetterId { event: 0, place };
+        trace.push(event(alloc, 2, Some(letter), &[], note)?)?;
+    }
+    Ok(trace)
 }
 
 const EACH_LETTER_AND_NOTE: &str = "event 0 node 1 letter 0 note preparing
@@ -132,12 +152,12 @@ event 4 node 2 letter 4 note late
 
 #[test]
 fn each_letter_and_each_note_is_traced(rt: HostRuntime) -> Result<(), Fail> {
-    let script = declared(rt.alloc())?;
-    let run = each_letter_and_note(rt.alloc())?;
-    assert_eq!(rt;
-        trace_text(rt.alloc(), &script, &run)?.as_str(),
-        EACH_LETTER_AND_NOTE
-    );
+    let run = RunRecord {
+        trace: each_letter_and_note(rt.alloc(), Name::parse("1.1.1")?)?,
+        marks: Marks::new(rt.alloc()),
+    };
+    let text = traced(rt.alloc(), &run)?;
+    same(&rt, text.as_str(), EACH_LETTER_AND_NOTE);
     Ok(())
 }
 
@@ -193,9 +213,9 @@ halted 6 1 lost
 
 #[test]
 fn each_deed_and_each_mark_is_traced(rt: HostRuntime) -> Result<(), Fail> {
-    let script = declared(rt.alloc())?;
     let run = each_kind(rt.alloc())?;
-    assert_eq!(rt; trace_text(rt.alloc(), &script, &run)?.as_str(), EACH_DEED);
+    let text = traced(rt.alloc(), &run)?;
+    same(&rt, text.as_str(), EACH_DEED);
     Ok(())
 }
 
@@ -208,11 +228,17 @@ letter 4 from 7 to 8
 #[test]
 fn a_stop_is_told_with_the_letters_that_led_there(rt: HostRuntime) -> Result<(), Fail> {
     let run = given_up(rt.alloc())?;
-    assert_eq!(rt; why_text(rt.alloc(), &run, 8)?.as_str(), WHY);
-    assert_eq!(rt;
-        why_text(rt.alloc(), &run, 3).err(),
-        Some(WhyFault::NoSuchStop)
-    );
+    let text = why_text(rt.alloc(), &run, 8)?;
+    same(&rt, text.as_str(), WHY);
+    Ok(())
+}
+
+/// The abort itself stops nothing.
+#[test]
+fn where_nothing_was_stopped_nothing_is_told(rt: HostRuntime) -> Result<(), Fail> {
+    let run = given_up(rt.alloc())?;
+    let fault = why_text(rt.alloc(), &run, 3).err();
+    same(&rt, fault, Some(WhyFault::NoSuchStop));
     Ok(())
 }
 
@@ -231,10 +257,8 @@ report ba7816bf8f01cfea414140de5dae2223b00361a396177a9cb410ff61f20015ad
 #[test]
 fn the_first_path_is_summed_up(rt: HostRuntime) -> Result<(), Fail> {
     let run = first_path(rt.alloc())?;
-    assert_eq!(rt;
-        summary_text(rt.alloc(), &run, 9, DIGEST)?.as_str(),
-        SUMMARY
-    );
+    let text = summary_text(rt.alloc(), &run, 9, DIGEST)?;
+    same(&rt, text.as_str(), SUMMARY);
     Ok(())
 }
 
@@ -251,9 +275,7 @@ report ba7816bf8f01cfea414140de5dae2223b00361a396177a9cb410ff61f20015ad
 #[test]
 fn commits_and_stops_are_summed_up(rt: HostRuntime) -> Result<(), Fail> {
     let run = each_kind(rt.alloc())?;
-    assert_eq!(rt;
-        summary_text(rt.alloc(), &run, 40, DIGEST)?.as_str(),
-        SUMMARY_OF_EACH
-    );
+    let text = summary_text(rt.alloc(), &run, 40, DIGEST)?;
+    same(&rt, text.as_str(), SUMMARY_OF_EACH);
     Ok(())
 }
