@@ -8,10 +8,8 @@ mod scenes;
 mod servers;
 mod steps;
 
-ghost use Rattle.std.specs.Prelude.{◌≡◌, [], ◌∷◌, pos, IfOk};
-ghost use Rattle.cam_type.specs.declared.State.TheVariants.{Register, Queue, Counter};
-
 use cam_base::NoMemory;
+use cam_locks::LockTable;
 use cam_type::{Items, ObjectDecl, Objects, State};
 use std::alloc::Global;
 
@@ -23,10 +21,7 @@ const QUEUE: u8 = 1;
 const COUNTER: u8 = 2;
 
 /// At node 1 a register that begins with 0, an empty queue and a counter that begins with 10.
-fn objects(alloc: Global) -> Result<Objects, NoMemory>
-    ensures { IfOk result (λ objects. objects ≡ record { node = 1; start = Register (pos 0) }
-        ∷ record { node = 1; start = Queue [] } ∷ record { node = 1; start = Counter (pos 10) } ∷ []) }
-{
+fn objects(alloc: Global) -> Result<Objects, NoMemory> {
     let mut objects = Objects::new(alloc);
     objects.push(ObjectDecl {
         node: 1,
@@ -41,4 +36,10 @@ fn objects(alloc: Global) -> Result<Objects, NoMemory>
         start: State::Counter(10),
     })?;
     Ok(objects)
+}
+
+/// A table of these objects, of which nothing was asked.
+fn new_table(alloc: Global) -> Result<LockTable, NoMemory> {
+    let objects = objects(alloc)?;
+    LockTable::new(alloc, &objects, 1)
 }

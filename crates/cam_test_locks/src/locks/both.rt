@@ -52,6 +52,27 @@ pub(super) fn value_of(table: &LockTable, object: u8) -> Result<Option<State>, N
     Ok(Some(table.value(object)?))
 }
 
+/// Goes on with a copy of the table.
+pub(super) fn take_copy(table: &mut LockTable) -> Result<(), NoMemory> {
+    *table = table.copy()?;
+    Ok(())
+}
+
+/// Goes on with what a restart makes of what was secured. False where it cannot be restored.
+fn take_restored(
+    alloc: Global,
+    table: &mut LockTable,
+    objects: &Objects,
+    held: &HeldList,
+    know: &Know,
+) -> Result<bool, NoMemory> {
+    if !may_restore(alloc, objects, 1, held)? {
+        return Ok(false);
+    }
+    *table = LockTable::restore(alloc, objects, 1, held, know)?;
+    Ok(true)
+}
+
 /// Both tables. Each call says whether both answer it alike.
 #[derive(Drop)]
 pub(super) struct Both {
@@ -121,7 +142,7 @@ impl Both {
 
     /// Goes on with a copy.
     pub(super) fn copy(&mut self) -> Result<bool, NoMemory> {
-        self.locks = self.locks.copy()?;
+        take_copy(&mut self.locks)?;
         Ok(self.plain.next == self.locks.next_index())
     }
 
@@ -138,11 +159,10 @@ impl Both {
         held: &HeldList,
         know: &Know,
     ) -> Result<bool, NoMemory> {
-        if !may_restore(alloc, &self.objects, 1, held)? {
+        if !take_restored(alloc, &mut self.locks, &self.objects, held, know)? {
             return Ok(false);
         }
         self.plain.restart(held.as_slice(), know)?;
-        self.locks = LockTable::restore(alloc, &self.objects, 1, held, know)?;
         Ok(self.plain.next == self.locks.next_index())
     }
 }

@@ -1,4 +1,5 @@
-//! A lock table that goes by the rule as it is written: it replays its list of live operations at each call. It is there to compare with.
+//! A lock table that goes by the rule as it is written: it replays its list of live operations at each call. It is
+//! there to compare with.
 
 use cam_base::NoMemory;
 use cam_know::{Know, Outcome};
@@ -34,8 +35,8 @@ impl PlainTable {
         }
     }
 
-    /// An operation waits for the first live one whose holder is neither an ancestor nor past the top, where their modes are not
-    /// compatible. Else it is done at the value of the object.
+    /// An operation waits for the first live one whose holder is neither an ancestor nor past the top, where their
+    /// modes are not compatible. Else it is done at the value of the object.
     pub(super) fn ask(
         &mut self,
         objects: &Objects,
@@ -46,10 +47,9 @@ impl PlainTable {
         if let Some(holder) = self.holder(name, object, op) {
             return Ok(Told::Busy(holder));
         }
-        let Some(mut value) = self.value(objects, object, false)? else {
+        let Some(answer) = self.answer(objects, object, op)? else {
             return Ok(Told::Unfit);
         };
-        let answer = apply(&mut value, op)?;
         self.live.push(LiveOp {
             index: self.next,
             action: *name,
@@ -58,6 +58,14 @@ impl PlainTable {
         })?;
         self.next = self.next.saturating_add(1);
         Ok(Told::Done(answer))
+    }
+
+    /// What an operation answers at the value of the object.
+    fn answer(&self, objects: &Objects, object: u8, op: &Op) -> Result<Option<Answer>, NoMemory> {
+        let Some(mut value) = self.value(objects, object, false)? else {
+            return Ok(None);
+        };
+        Ok(Some(apply(&mut value, op)?))
     }
 
     pub(super) fn commit(&mut self, name: &Name) -> Result<(), NoMemory> {
@@ -70,7 +78,8 @@ impl PlainTable {
             .retain(|operation| !name.is_ancestor(&operation.action));
     }
 
-    /// The start state of an object after all its live operations, or after those alone that are handed up past the top.
+    /// The start state of an object after all its live operations, or after those alone that are handed up past the
+    /// top.
     pub(super) fn value(
         &self,
         objects: &Objects,
@@ -105,7 +114,8 @@ impl PlainTable {
         Ok(ops)
     }
 
-    /// Goes on with what was held of these families: the operations of those whose abort is not known, in order, and what is known.
+    /// Goes on with what was held of these families: the operations of those whose abort is not known, in order, and
+    /// what is known.
     pub(super) fn restart(&mut self, held: &[Held], know: &Know) -> Result<(), NoMemory> {
         let alloc = *self.live.allocator();
         *self = PlainTable::new(alloc);

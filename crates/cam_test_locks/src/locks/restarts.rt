@@ -1,10 +1,9 @@
 //! What a restart keeps.
-ghost use Rattle.std.specs.Prelude.{◌≡◌, [], ◌∷◌, IfOk};
-ghost use Rattle.cam_type.specs.declared.Op.TheVariants.{Write};
 
 use super::steps::Step::{Abort, Busy, Commit, Copy, Counter, Done, Register, Secured};
 use super::steps::{Step, play, table_after};
 use super::{COUNTER, QUEUE, REGISTER, objects};
+use crate::check::same;
 use cam_base::NoMemory;
 use cam_know::{Know, Outcome};
 use cam_locks::{LockTable, may_restore};
@@ -13,8 +12,8 @@ use cam_type::{Answer, Held, HeldList, HeldOp, HeldOps, Op};
 use std::alloc::Global;
 use std::test::Fail;
 
-/// What a restart keeps of three families that wrote the register, of which the first aborted, the second is undecided, and the third
-/// committed.
+/// What a restart keeps of three families that wrote the register, of which the first aborted, the second is undecided,
+/// and the third committed.
 const RESTARTED: [Step<'static>; 4] = [
     Register(3),
     Secured("1.1.1", 0),
@@ -80,20 +79,19 @@ const SECURED_ADDS: [Step<'static>; 11] = [
     Done("1.1.3", COUNTER, Op::Read, Answer::Value(17)),
 ];
 
-/// What is held of a family that wrote a value under an index.
-fn held_write(alloc: Global, family: &Name, index: u32, value: i64) -> Result<Held, NoMemory>
-    ensures { IfOk result (λ held. held ≡ record {
-      family = family.now;
-      count = 1;
-      ops = record { index = index; object = 0; op = Write value } ∷ [];
-    }) }
-{
-    let mut ops = HeldOps::new(alloc);
-    ops.push(HeldOp {
+/// The write of a value to the register, under an index.
+fn write(index: u32, value: i64) -> HeldOp {
+    HeldOp {
         index,
-        object: 0,
+        object: REGISTER,
         op: Op::Write(value),
-    })?;
+    }
+}
+
+/// What is held of a family that did one operation.
+fn held_family(alloc: Global, family: &Name, done: &HeldOp) -> Result<Held, NoMemory> {
+    let mut ops = HeldOps::new(alloc);
+    ops.push_copy(done)?;
     Ok(Held {
         family: *family,
         count: 1,
@@ -101,99 +99,116 @@ fn held_write(alloc: Global, family: &Name, index: u32, value: i64) -> Result<He
     })
 }
 
-/// The table after a restart of three families, of which the first aborted, the second is undecided, and the third committed.
-fn table_after_a_restart(alloc: Global) -> Result<LockTable, Fail> {
-    let aborted = Name::parse("1.1.1")?;
-    let undecided = Name::parse("1.1.2")?;
-    let committed = Name::parse("1.1.3")?;
+/// What is held of families that did one operation each.
+fn held_of(alloc: Global, families: &[(&str, HeldOp)]) -> Result<HeldList, Fail> {
     let mut held = HeldList::new(alloc);
-    held.push(held_write(alloc, &aborted, 9, 9)?)?;
-    held.push(held_write(alloc, &undecided, 5, 5)?)?;
-    held.push(held_write(alloc, &committed, 3, 3)?)?;
-    let objects = objects(alloc)?;
+    for (family, done) in families {
+        let family = Name::parse(family)?;
+        held.push(held_family(alloc, &family, done)?)?;
+    }
+    Ok(held)
+}
+
+/// What is known where the first of three families aborted, the second is undecided, and the third committed.
+fn two_outcomes(alloc: Global) -> Result<Know, Fail> {
+    let aborted = Name::parse("1.1.1")?;
+    let committed = Name::parse("1.1.3")?;
     let mut know = Know::new(alloc);
     know.add(&Outcome::Aborted(aborted))?;
     know.add(&Outcome::Committed(committed, Deps::none()))?;
-    Ok(LockTable::restore(alloc, &objects, 1, &held, &know)?)
+    Ok(know)
 }
 
-/// The table after a restart of two families that both wrote the register, and of which nothing is known.
-fn table_of_two_writers(alloc: Global) -> Result<LockTable, Fail> {
-    let mut held = HeldList::new(alloc);
-    held.push(held_write(alloc, &Name::parse("1.1.1")?, 4, 4)?)?;
-    held.push(held_write(alloc, &Name::parse("1.1.2")?, 2, 2)?)?;
+/// The table after a restart with these families, of which this is known.
+fn restored(alloc: Global, held: &HeldList, know: &Know) -> Result<LockTable, Fail> {
     let objects = objects(alloc)?;
-    let know = Know::new(alloc);
-    Ok(LockTable::restore(alloc, &objects, 1, &held, &know)?)
+    if !may_restore(alloc, &objects, 1, held)? {
+        return Err(Fail::new("cannot be restored"));
+    }
+    Ok(LockTable::restore(alloc, &objects, 1, held, know)?)
+}
+
+/// The table after a restart of three families that wrote the register, of two of which the outcome is known.
+fn table_after_a_restart(alloc: Global) -> Result<LockTable, Fail> {
+    let know = two_outcomes(alloc)?;
+    let writes = [
+        ("1.1.1", write(9, 9)),
+        ("1.1.2", write(5, 5)),
+        ("1.1.3", write(3, 3)),
+    ];
+    restored(alloc, &held_of(alloc, &writes)?, &know)
 }
 
 #[test]
 fn a_restart_keeps_what_was_secured_and_not_aborted(rt: HostRuntime) -> Result<(), Fail> {
     let mut table = table_after_a_restart(rt.alloc())?;
-    assert_eq!(rt; table.next_index(), 10);
+    same(&rt, table.next_index(), 10);
     play(rt.alloc(), &mut table, "restarted", &RESTARTED)
 }
 
-#[test]
-fn two_restored_writers_stand_in_each_others_way(rt: HostRuntime) -> Result<(), Fail> {
-    let mut table = table_of_two_writers(rt.alloc())?;
-    play(rt.alloc(), &mut table, "two writers", &TWO_WRITERS)
-}
-
-/// What is secured of two families.
-fn secured(alloc: Global, table: &LockTable) -> Result<HeldList, Fail> {
-    let mut held = HeldList::new(alloc);
-    held.push(table.secure(&Name::parse("1.1.2")?, 1)?)?;
-    held.push(table.secure(&Name::parse("1.1.1")?, 1)?)?;
-    Ok(held)
-}
-
-/// The table after a restart with these families.
-fn restored(alloc: Global, held: &HeldList) -> Result<LockTable, Fail> {
-    let objects = objects(alloc)?;
-    if !may_restore(alloc, &objects, 1, held)? {
-        return Err(Fail::new("cannot be restored"));
-    }
-    Ok(LockTable::restore(alloc, &objects, 1, held, &Know::new(alloc))?)
-}
-
-/// Plays a scene after a restart with these families.
+/// Plays a scene after a restart with these families, of which nothing is known.
 fn play_restored(
     alloc: Global,
     held: &HeldList,
     name: &str,
     scene: &[Step<'_>],
 ) -> Result<(), Fail> {
-    let mut table = restored(alloc, held)?;
+    let mut table = restored(alloc, held, &Know::new(alloc))?;
     play(alloc, &mut table, name, scene)
 }
 
 #[test]
+fn two_restored_writers_stand_in_each_others_way(rt: HostRuntime) -> Result<(), Fail> {
+    let writes = [("1.1.1", write(4, 4)), ("1.1.2", write(2, 2))];
+    let held = held_of(rt.alloc(), &writes)?;
+    play_restored(rt.alloc(), &held, "two writers", &TWO_WRITERS)
+}
+
+/// What is secured of two families.
+fn secured(alloc: Global, table: &LockTable) -> Result<HeldList, Fail> {
+    let second = Name::parse("1.1.2")?;
+    let first = Name::parse("1.1.1")?;
+    let mut held = HeldList::new(alloc);
+    held.push(table.secure(&second, 1)?)?;
+    held.push(table.secure(&first, 1)?)?;
+    Ok(held)
+}
+
+/// What is secured of two families before they go on.
+fn secured_before_more_work(alloc: Global, table: &mut LockTable) -> Result<HeldList, Fail> {
+    let held = secured(alloc, table)?;
+    play(alloc, table, "more work", &MORE_WORK)?;
+    Ok(held)
+}
+
+/// What is secured of two families that work and then go on, between both.
+fn secured_at_work(alloc: Global) -> Result<HeldList, Fail> {
+    let mut table = table_after(alloc, "work", &WORK)?;
+    secured_before_more_work(alloc, &mut table)
+}
+
+#[test]
 fn what_is_secured_and_restored_answers_as_before(rt: HostRuntime) -> Result<(), Fail> {
-    let mut table = table_after(rt.alloc(), "work", &WORK)?;
-    let held = secured(rt.alloc(), &table)?;
-    play(rt.alloc(), &mut table, "more work", &MORE_WORK)?;
+    let held = secured_at_work(rt.alloc())?;
     play_restored(rt.alloc(), &held, "more work, restored", &MORE_WORK)
+}
+
+/// What is secured of two of three families that add.
+fn secured_adds(alloc: Global) -> Result<HeldList, Fail> {
+    let table = table_after(alloc, "adds", &ADDS)?;
+    secured(alloc, &table)
 }
 
 #[test]
 fn adds_that_were_secured_are_added_after_a_restart(rt: HostRuntime) -> Result<(), Fail> {
-    let table = table_after(rt.alloc(), "adds", &ADDS)?;
-    let held = secured(rt.alloc(), &table)?;
+    let held = secured_adds(rt.alloc())?;
     play_restored(rt.alloc(), &held, "secured adds", &SECURED_ADDS)
 }
 
-/// Whether two families can be restored at a node: one wrote the register under the index 3, and this is what the other did.
+/// Whether two families can be restored at a node: one wrote the register under the index 3, and this is what the other
+/// did.
 fn may_be_restored(alloc: Global, node: u8, second: &HeldOp) -> Result<bool, Fail> {
-    let mut held = HeldList::new(alloc);
-    held.push(held_write(alloc, &Name::parse("1.1.1")?, 3, 1)?)?;
-    let mut ops = HeldOps::new(alloc);
-    ops.push_copy(second)?;
-    held.push(Held {
-        family: Name::parse("1.1.2")?,
-        count: 1,
-        ops,
-    })?;
+    let held = held_of(alloc, &[("1.1.1", write(3, 1)), ("1.1.2", *second)])?;
     let objects = objects(alloc)?;
     Ok(may_restore(alloc, &objects, node, &held)?)
 }
@@ -215,13 +230,9 @@ fn only_what_fits_under_indices_of_its_own_can_be_restored(rt: HostRuntime) -> R
     for (index, object, op, may) in SECONDS {
         let second = HeldOp { index, object, op };
         let told = may_be_restored(rt.alloc(), 1, &second)?;
-        assert_eq!(rt; told, may, "{op:?} of object {object} at {index}");
+        same(&rt, (1, second, told), (1, second, may));
         let told = may_be_restored(rt.alloc(), 2, &second)?;
-        assert_eq!(rt;
-            told,
-            false,
-            "{op:?} of object {object} at {index}, at another node"
-        );
+        same(&rt, (2, second, told), (2, second, false));
     }
     Ok(())
 }

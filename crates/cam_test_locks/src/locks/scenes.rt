@@ -163,7 +163,8 @@ const SIBLINGS: [Step<'static>; 14] = [
     Counter(22),
 ];
 
-/// What a child adds is handed up twice and then taken back with the action that had it; of another action both outcomes come in.
+/// What a child adds is handed up twice and then taken back with the action that had it; of another action both
+/// outcomes come in.
 const TAKEN_BACK: [Step<'static>; 15] = [
     Done("1.1.1", COUNTER, Op::Add(1), Answer::Ok),
     Done("1.1.1/1.1.1", COUNTER, Op::Add(2), Answer::Ok),
@@ -182,7 +183,8 @@ const TAKEN_BACK: [Step<'static>; 15] = [
     Done("1.1.3", COUNTER, Op::Read, Answer::Value(11)),
 ];
 
-/// A refused operation is asked of no server, and one that is granted once, whatever its object's kind and however much stands before it.
+/// A refused operation is asked of no server, and one that is granted once, whatever its object's kind and however
+/// much stands before it.
 const ASKED_ONCE: [Step<'static>; 17] = [
     Done("1.1.1", REGISTER, Op::Write(5), Answer::Ok),
     Asked(1),

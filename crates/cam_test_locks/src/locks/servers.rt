@@ -2,7 +2,8 @@
 
 use super::both::{ask_with, value_of};
 use super::plain_table::Told;
-use super::{REGISTER, objects};
+use super::{REGISTER, new_table};
+use crate::check::same;
 use cam_base::NoMemory;
 use cam_locks::LockTable;
 use cam_names::Name;
@@ -82,7 +83,8 @@ impl Servers {
     }
 }
 
-/// What is seen of a new table at a server that wants memory, and then, once the server has it, of the table and the server.
+/// What is seen of a new table at a server that wants memory, and then, once the server has it, of the table and the
+/// server.
 #[derive(Clone, Copy, Debug, PartialEq)]
 struct Tried {
     wanted_memory: bool,
@@ -92,6 +94,7 @@ struct Tried {
     asked: u32,
 }
 
+/// Asks twice, with a server that wants memory at the first time.
 fn try_twice(table: &mut LockTable, server: &mut Counting<RegisterServer>) -> Result<Tried, Fail> {
     let one = Name::parse("1.1.1")?;
     let other = Name::parse("1.1.2")?;
@@ -113,11 +116,16 @@ fn try_twice(table: &mut LockTable, server: &mut Counting<RegisterServer>) -> Re
     })
 }
 
+/// What is seen of a new table and a new server.
+fn tried_anew(alloc: Global) -> Result<Tried, Fail> {
+    let mut server = Counting::new(RegisterServer::new());
+    let mut table = new_table(alloc)?;
+    try_twice(&mut table, &mut server)
+}
+
 #[test]
 fn a_server_that_wants_memory_leaves_the_table(rt: HostRuntime) -> Result<(), Fail> {
-    let mut table = LockTable::new(rt.alloc(), &objects(rt.alloc())?, 1)?;
-    let mut server = Counting::new(RegisterServer::new());
-    let tried = try_twice(&mut table, &mut server)?;
+    let tried = tried_anew(rt.alloc())?;
     let expected = Tried {
         wanted_memory: true,
         next_index: 0,
@@ -125,6 +133,6 @@ fn a_server_that_wants_memory_leaves_the_table(rt: HostRuntime) -> Result<(), Fa
         register: Some(0),
         asked: 2,
     };
-    assert_eq!(rt; tried, expected);
+    same(&rt, tried, expected);
     Ok(())
 }

@@ -1,9 +1,9 @@
 //! Steps with a lock table: what it has to answer at each, and what it is seen to answer.
 
-use super::both::{ask, value_of};
+use super::both::{ask, take_copy, value_of};
 use super::plain_table::Told;
 use super::servers::Servers;
-use super::{COUNTER, REGISTER, objects};
+use super::{COUNTER, REGISTER, new_table};
 use cam_base::NoMemory;
 use cam_locks::LockTable;
 use cam_names::{Name, NameFault};
@@ -52,13 +52,13 @@ pub(super) fn table_after(
     name: &str,
     scene: &[Step<'_>],
 ) -> Result<LockTable, Fail> {
-    let mut table = LockTable::new(alloc, &objects(alloc)?, 1)?;
+    let mut table = new_table(alloc)?;
     play(alloc, &mut table, name, scene)?;
     Ok(table)
 }
 
-/// Plays the scene of this name, which is a row of steps with a table. It fails at the first that is not answered as it has to be, with its
-/// name, the place of the step and what is seen there.
+/// Plays the scene of this name, which is a row of steps with a table. It fails at the first that is not answered as it
+/// has to be, with its name, the place of the step and what is seen there.
 pub(super) fn play(
     alloc: Global,
     table: &mut LockTable,
@@ -67,12 +67,24 @@ pub(super) fn play(
 ) -> Result<(), Fail> {
     let mut servers = Servers::new(alloc);
     for (place, step) in scene.iter().enumerate() {
-        let seen = seen_at_last(table, &mut servers, step)?;
-        if seen != expected_at(step)? {
-            return Err(Fail::new(format_args!("{name}, step {place}: {seen:?}")));
-        }
+        take_step(table, &mut servers, name, place, step)?;
     }
     Ok(())
+}
+
+/// Takes the step at a place of the scene of this name. It fails where what is seen is not what has to be seen.
+fn take_step(
+    table: &mut LockTable,
+    servers: &mut Servers,
+    name: &str,
+    place: usize,
+    step: &Step<'_>,
+) -> Result<(), Fail> {
+    let seen = seen_at_last(table, servers, step)?;
+    if seen == expected_at(step)? {
+        return Ok(());
+    }
+    Err(Fail::new(format_args!("{name}, step {place}: {seen:?}")))
 }
 
 /// What the table answers, at a second try where memory runs out: the table is as it was then.
@@ -137,7 +149,7 @@ fn asks(
 }
 
 fn goes_on_with_a_copy(table: &mut LockTable) -> Result<Seen, NoMemory> {
-    *table = table.copy()?;
+    take_copy(table)?;
     Ok(Seen::Made)
 }
 
