@@ -1,4 +1,5 @@
 //! The nine events of a trace: views, and copies.
+use crate::check::same;
 use cam_base::NoMemory;
 use cam_event::{
     Body, Deed, Event, LetterId, Note, Reply, Seen, Sent, Trace, ViewStep, copy_event, view,
@@ -7,6 +8,7 @@ use cam_names::{Deps, Name};
 use cam_samples::{bounce, call, create, deeds_of, got, perform, sent_of};
 use cam_type::{Answer, Op};
 use std::alloc::Global;
+use std::process::Abort;
 use std::test::Fail;
 
 fn asks(action: Name, number: u32, op: Op) -> Option<Body> {
@@ -64,12 +66,25 @@ fn trace(alloc: Global, a: Name, b: Name) -> Result<Trace, NoMemory> {
     Ok(trace)
 }
 
+/// Fails the test where the view of an action has other steps than these.
+fn has_view(
+    rt: &impl Abort,
+    alloc: Global,
+    trace: &Trace,
+    action: &Name,
+    steps: &[ViewStep],
+) -> Result<(), Fail> {
+    let seen = view(alloc, trace, action)?;
+    same(rt, seen.as_slice(), steps);
+    Ok(())
+}
+
 #[test]
 fn a_view_has_what_the_action_did_and_saw(rt: HostRuntime) -> Result<(), Fail> {
     let alloc = rt.alloc();
     let a = Name::parse("1.1.1")?;
     let b = Name::parse("1.1.2")?;
-    let trace = trace(alloc, a, b)?;
+    let other = Name::parse("1.1.3")?;
     let first = [
         ViewStep::Created,
         ViewStep::Called(1, 0, Op::Write(5)),
@@ -81,9 +96,16 @@ fn a_view_has_what_the_action_did_and_saw(rt: HostRuntime) -> Result<(), Fail> {
         ViewStep::Called(1, 0, Op::Read),
         ViewStep::Got(1, Seen::Busy(a)),
     ];
-    assert_eq!(rt; view(alloc, &trace, &a)?.as_slice(), first.as_slice());
-    assert_eq!(rt; view(alloc, &trace, &b)?.as_slice(), second.as_slice());
-    assert!(rt; view(alloc, &trace, &Name::parse("1.1.3")?)?.is_empty());
+    let trace = trace(alloc, a, b)?;
+    has_view(&rt, alloc, &trace, &a, &first)?;
+    has_view(&rt, alloc, &trace, &b, &second)?;
+    has_view(&rt, alloc, &trace, &other, &[])
+}
+
+/// Fails the test where the copy of an event is not equal to it.
+fn is_copied(rt: &impl Abort, event: &Event) -> Result<(), Fail> {
+    let copy = copy_event(event)?;
+    same(rt, &copy, event);
     Ok(())
 }
 
@@ -91,9 +113,9 @@ fn a_view_has_what_the_action_did_and_saw(rt: HostRuntime) -> Result<(), Fail> {
 fn a_copy_is_an_equal_event(rt: HostRuntime) -> Result<(), Fail> {
     let alloc = rt.alloc();
     let trace = trace(alloc, Name::parse("1.1.1")?, Name::parse("1.1.2")?)?;
-    assert_eq!(rt; trace.len(), 9);
+    same(&rt, trace.len(), 9);
     for event in trace.as_slice() {
-        assert_eq!(rt; &copy_event(event)?, event);
+        is_copied(&rt, event)?;
     }
     Ok(())
 }
