@@ -1,4 +1,4 @@
-//! What a test asserts. Each is a call, since an `assert_eq!` in place makes the proof of its test longer.
+//! What a test asserts, as a call: an `assert_eq!` in place makes the proof of its test longer.
 use std::fmt::Debug;
 use std::process::Abort;
 
@@ -8,6 +8,6 @@ pub(crate) fn same<T: PartialEq + Debug + Copy>(rt: &impl Abort, got: T, wanted:
 }
 
 /// Fails the test where it does not hold.
-pub(crate) fn holds(rt: &impl Abort, it: bool) {
-    assert!(rt; it);
+pub(crate) fn holds(rt: &impl Abort, condition: bool) {
+    assert!(rt; condition);
 }

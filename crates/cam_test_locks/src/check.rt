@@ -1,4 +1,4 @@
-//! What a test asserts. Each is a call, since an `assert_eq!` in place makes the proof of its test longer.
+//! What a test asserts, as a call: an `assert_eq!` in place makes the proof of its test longer.
 use std::fmt::Debug;
 use std::process::Abort;
 

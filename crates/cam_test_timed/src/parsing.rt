@@ -1,25 +1,32 @@
 //! `parse_timed`: what each form says, and first faults.
+use crate::check::same;
 use cam_script::{Cause, ScriptFault};
 use cam_timed::{TimedScript, parse_timed};
 use std::alloc::Global;
 use std::test::Fail;
 
-/// The steps of a script, or its fault, each as it is shown.
-fn read(alloc: Global, text: &str) -> Result<String, Fail> {
+/// How many nodes and objects a script has, and its steps, as they are shown.
+fn shown(alloc: Global, text: &str) -> Result<String, Fail> {
+    let TimedScript { script, steps } = parse_timed(alloc, text.as_bytes())?;
+    Ok(format!(in alloc;
+        "{} {} {:?}",
+        script.nodes,
+        script.objects.len(),
+        steps.as_slice()
+    )?)
+}
+
+/// Where and why a script is refused: the line, its column and the cause.
+fn fault_of(alloc: Global, text: &str) -> Result<(u32, u32, Cause), Fail> {
     match parse_timed(alloc, text.as_bytes()) {
-        Ok(TimedScript { script, steps }) => Ok(format!(in alloc;
-            "{} {} {:?}",
-            script.nodes,
-            script.objects.len(),
-            steps.as_slice()
-        )?),
+        Ok(_) => Err("no fault".into()),
         Err(
             ScriptFault::Bad {
                 line,
                 column,
                 cause,
             },
-        ) => Ok(format!(in alloc; "{line} {column} {cause:?}")?),
+        ) => Ok((line, column, cause)),
         Err(ScriptFault::NoMemory) => Err(ScriptFault::NoMemory.into()),
     }
 }
@@ -29,9 +36,10 @@ fn read(alloc: Global, text: &str) -> Result<String, Fail> {
 fn each_form_is_read(rt: HostRuntime) -> Result<(), Fail> {
     let text =
         "nodes 2\n\nobject x 2 counter -3\nbegin P 1 100\nask P C 2 1000000000\n# moments\ntick 1 50\nexpire P\ncall C x add 4\ncommit C 7\nabort C\ngiveup P C\ndeliver 3\nlose 4\ndrain\ntell 1 2\nquery 2 P\n";
-    assert_eq!(rt;
-        read(rt.alloc(), text)?.as_str(),
-        "2 1 [TimedStep { line: 4, act: Begin { node: 1, until: 100 } }, TimedStep { line: 5, act: Ask { parent: 0, node: 2, until: 1000000000 } }, TimedStep { line: 7, act: Tick { node: 1, moment: 50 } }, TimedStep { line: 8, act: Expire { action: 0 } }, TimedStep { line: 9, act: Call { action: 1, object: 0, op: Add(4) } }, TimedStep { line: 10, act: Commit { action: 1, value: 7 } }, TimedStep { line: 11, act: Abort { action: 1 } }, TimedStep { line: 12, act: GiveUp { action: 0, child: 1 } }, TimedStep { line: 13, act: Deliver { letter: 3 } }, TimedStep { line: 14, act: Lose { letter: 4 } }, TimedStep { line: 15, act: Drain }, TimedStep { line: 16, act: Tell { node: 1, to: 2 } }, TimedStep { line: 17, act: Query { node: 2, action: 0 } }]"
+    same(
+        &rt,
+        shown(rt.alloc(), text)?.as_str(),
+        "2 1 [TimedStep { line: 4, act: Begin { node: 1, until: 100 } }, TimedStep { line: 5, act: Ask { parent: 0, node: 2, until: 1000000000 } }, TimedStep { line: 7, act: Tick { node: 1, moment: 50 } }, TimedStep { line: 8, act: Expire { action: 0 } }, TimedStep { line: 9, act: Call { action: 1, object: 0, op: Add(4) } }, TimedStep { line: 10, act: Commit { action: 1, value: 7 } }, TimedStep { line: 11, act: Abort { action: 1 } }, TimedStep { line: 12, act: GiveUp { action: 0, child: 1 } }, TimedStep { line: 13, act: Deliver { letter: 3 } }, TimedStep { line: 14, act: Lose { letter: 4 } }, TimedStep { line: 15, act: Drain }, TimedStep { line: 16, act: Tell { node: 1, to: 2 } }, TimedStep { line: 17, act: Query { node: 2, action: 0 } }]",
     );
     Ok(())
 }
@@ -64,33 +72,51 @@ const FOURTH_LINES: [(&str, u32, Cause); 21] = [
     ("object x 1 queue", 1, Cause::Misplaced),
 ];
 
+/// The fault of a script of one node with a top action P and its child C, and then this line.
+fn fault_of_fourth(alloc: Global, line: &str) -> Result<(u32, u32, Cause), Fail> {
+    let text = format!(in alloc; "nodes 1\nbegin P 1 9\nask P C 1 9\n{line}\n")?;
+    fault_of(alloc, text.as_str())
+}
+
 #[test]
 fn faults_are_told(rt: HostRuntime) -> Result<(), Fail> {
-    let alloc = rt.alloc();
-    for (line, column, cause) in FOURTH_LINES {
-        let text = format!(in alloc; "nodes 1\nbegin P 1 9\nask P C 1 9\n{line}\n")?;
-        let told = format!(in alloc; "4 {column} {cause:?}")?;
-        assert!(rt;
-            read(alloc, text.as_str())?.as_str() == told.as_str(),
-            "{line}"
-        );
+    for place in 0..FOURTH_LINES.len() {
+        let (line, column, cause) = FOURTH_LINES[place];
+        let fault = fault_of_fourth(rt.alloc(), line)?;
+        same(&rt, (place, fault), (place, (4, column, cause)));
     }
     Ok(())
 }
 
-/// `tick` and `expire` count among the 512 steps, and `nodes` comes first.
+/// A script of one node with this many steps.
+fn ticks(alloc: Global, count: u32) -> Result<String, Fail> {
+    let mut text = String::from_str(alloc, "nodes 1\n")?;
+    for _ in 0..count {
+        text.push_str("tick 1 5\n")?;
+    }
+    Ok(text)
+}
+
+/// How many steps a script has.
+fn steps_of(alloc: Global, text: &str) -> Result<usize, ScriptFault> {
+    Ok(parse_timed(alloc, text.as_bytes())?.steps.len())
+}
+
+/// `tick` counts among the 512 steps.
 #[test]
 fn steps_are_counted(rt: HostRuntime) -> Result<(), Fail> {
     let alloc = rt.alloc();
-    let mut text = String::from_str(alloc, "nodes 1\n")?;
-    for _ in 0..512 {
-        text.push_str("tick 1 5\n")?;
+    same(&rt, steps_of(alloc, ticks(alloc, 512)?.as_str())?, 512);
+    let fault = fault_of(alloc, ticks(alloc, 513)?.as_str())?;
+    same(&rt, fault, (514, 1, Cause::TooMany));
+    Ok(())
+}
+
+#[test]
+fn nodes_come_first(rt: HostRuntime) -> Result<(), Fail> {
+    for (text, line) in [("tick 1 5\n", 1), ("# no line\n", 2)] {
+        let fault = fault_of(rt.alloc(), text)?;
+        same(&rt, fault, (line, 1, Cause::Misplaced));
     }
-    let whole = parse_timed(alloc, text.as_bytes())?;
-    assert_eq!(rt; whole.steps.len(), 512);
-    text.push_str("tick 1 5\n")?;
-    assert_eq!(rt; read(alloc, text.as_str())?.as_str(), "514 1 TooMany");
-    assert_eq!(rt; read(alloc, "tick 1 5\n")?.as_str(), "1 1 Misplaced");
-    assert_eq!(rt; read(alloc, "# no line\n")?.as_str(), "2 1 Misplaced");
     Ok(())
 }

@@ -1,8 +1,9 @@
 //! The report of a run by time, and the witness of an orphan in it.
+use crate::check::same;
 use cam_base::NoMemory;
 use cam_cut::CutFault;
-use cam_event::{Deed, Event, LetterId, LineRefusal, Note};
-use cam_names::Name;
+use cam_event::{Deed, LetterId, LineRefusal, Note};
+use cam_names::{Name, NameFault};
 use cam_samples::{abort, ask, call, create, event, got_done, inform, perform};
 use cam_script::{Bodies, Label, Labels, Script, Steps};
 use cam_timed::{
@@ -34,63 +35,76 @@ fn declared(alloc: Global) -> Result<TimedScript, NoMemory> {
     })
 }
 
-/// The letter that an event sent, which sends one.
-fn of_event(event: u64) -> Option<LetterId> {
-    Some(LetterId { event, place: 0 })
+/// An event: its node, the event whose letter it received, its deeds, its moment, and the quiesce moment that it gives,
+/// or 0.
+type Row<'a> = (u8, Option<u64>, &'a [Deed], u64, u64);
+
+/// The event of a row, and why it paused.
+fn event_of(alloc: Global, row: Row<'_>, pause: Option<Pause>) -> Result<TimedEvent, NoMemory> {
+    let (node, got, deeds, moment, until) = row;
+    let got = got.map(|event| LetterId { event, place: 0 });
+    Ok(TimedEvent {
+        event: event(alloc, node, got, deeds, Note::Plain)?,
+        moment,
+        until,
+        pause,
+    })
 }
 
-/// An event at a moment, which gives no quiesce moment.
-fn at(event: Event, moment: u64) -> TimedEvent {
-    TimedEvent {
-        event,
-        moment,
-        until: 0,
-        pause: None,
+/// The events of these rows, none of which paused.
+fn trace_of(alloc: Global, rows: &[Row<'_>]) -> Result<TimedTrace, NoMemory> {
+    let mut trace = TimedTrace::new(alloc);
+    for row in rows {
+        trace.push(event_of(alloc, *row, None)?)?;
     }
+    Ok(trace)
+}
+
+/// These marks.
+fn marks_of(alloc: Global, marks: &[TimedMark]) -> Result<TimedMarks, NoMemory> {
+    let mut list = TimedMarks::new(alloc);
+    list.extend_from_slice(marks)?;
+    Ok(list)
+}
+
+/// A parent at node 1 and its child at node 2.
+#[derive(Clone, Copy)]
+struct Pair {
+    parent: Name,
+    child: Name,
+}
+
+/// 1.1.1 and its child 1.1.1/2.1.1.
+fn parent_and_child() -> Result<Pair, NameFault> {
+    Ok(Pair {
+        parent: Name::parse("1.1.1")?,
+        child: Name::parse("1.1.1/2.1.1")?,
+    })
 }
 
 /// A parent at node 1 asks for a child at node 2, which writes 4; the parent gives it up at its quiesce moment, 50. The child's next call
 /// reads x, and its answer comes when node 2 has heard of the moment.
-fn given_up(alloc: Global, parent: Name, child: Name) -> Result<TimedTrace, NoMemory> {
-    let created = [create(parent)];
-    let asked = [ask(parent, child)];
-    let started = [create(child)];
-    let writes = [call(child, 1, 0, Op::Write(4))];
-    let written = [perform(child, 1, Answer::Ok)];
-    let answered = [got_done(child, 1, Answer::Ok)];
-    let given_up = [abort(child), inform(1, child, false)];
-    let reads = [call(child, 2, 0, Op::Read)];
-    let read = [perform(child, 2, Answer::Value(4))];
-    let told = [inform(2, child, false)];
-    let rows: [(u8, Option<LetterId>, &[Deed], u64, u64); 12] = [
-        (1, None, &created, 0, 100),
-        (1, None, &asked, 0, 50),
-        (2, of_event(1), &started, 0, 0),
-        (2, None, &writes, 0, 0),
-        (2, of_event(3), &written, 0, 0),
-        (2, of_event(4), &answered, 0, 0),
-        (1, None, &[], 50, 0),
-        (1, None, &given_up, 50, 0),
-        (2, None, &reads, 0, 0),
-        (1, None, &[], 50, 0),
-        (2, of_event(8), &read, 0, 0),
-        (2, of_event(9), &told, 50, 0),
-    ];
-    let mut trace = TimedTrace::new(alloc);
-    for (node, got, deeds, moment, until) in rows {
-        trace.push(TimedEvent {
-            event: event(alloc, node, got, deeds, Note::Plain)?,
-            moment,
-            until,
-            pause: None,
-        })?;
-    }
-    trace.push(TimedEvent {
-        event: event(alloc, 2, of_event(10), &[], Note::Plain)?,
-        moment: 50,
-        until: 0,
-        pause: Some(Pause::Quiet(child)),
-    })?;
+fn given_up(alloc: Global, pair: Pair) -> Result<TimedTrace, NoMemory> {
+    let Pair { parent, child } = pair;
+    let mut trace = trace_of(
+        alloc,
+        &[
+            (1, None, &[create(parent)], 0, 100),
+            (1, None, &[ask(parent, child)], 0, 50),
+            (2, Some(1), &[create(child)], 0, 0),
+            (2, None, &[call(child, 1, 0, Op::Write(4))], 0, 0),
+            (2, Some(3), &[perform(child, 1, Answer::Ok)], 0, 0),
+            (2, Some(4), &[got_done(child, 1, Answer::Ok)], 0, 0),
+            (1, None, &[], 50, 0),
+            (1, None, &[abort(child), inform(1, child, false)], 50, 0),
+            (2, None, &[call(child, 2, 0, Op::Read)], 0, 0),
+            (1, None, &[], 50, 0),
+            (2, Some(8), &[perform(child, 2, Answer::Value(4))], 0, 0),
+            (2, Some(9), &[inform(2, child, false)], 50, 0),
+        ],
+    )?;
+    let last = event_of(alloc, (2, Some(10), &[], 50, 0), Some(Pause::Quiet(child)))?;
+    trace.push(last)?;
     Ok(trace)
 }
 
@@ -99,41 +113,46 @@ fn given_up(alloc: Global, parent: Name, child: Name) -> Result<TimedTrace, NoMe
 #[test]
 fn a_quiet_answer_is_shown(rt: HostRuntime) -> Result<(), Fail> {
     let alloc = rt.alloc();
-    let parent = Name::parse("1.1.1")?;
-    let child = Name::parse("1.1.1/2.1.1")?;
-    let mut marks = TimedMarks::new(alloc);
-    marks.push(TimedMark::TooEarly {
-        line: 8,
-        moment: 0,
-        until: 50,
-    })?;
-    marks.push(TimedMark::Quiesced {
-        line: 14,
-        moment: 50,
-        until: 50,
-    })?;
+    let marks = [
+        TimedMark::TooEarly {
+            line: 8,
+            moment: 0,
+            until: 50,
+        },
+        TimedMark::Quiesced {
+            line: 14,
+            moment: 50,
+            until: 50,
+        },
+    ];
+    let pair = parent_and_child()?;
     let run = TimedRecord {
-        trace: given_up(alloc, parent, child)?,
-        marks,
+        trace: given_up(alloc, pair)?,
+        marks: marks_of(alloc, &marks)?,
     };
     let text = timed_text(alloc, &declared(alloc)?, &run)?;
-    assert_eq!(rt;
+    same(
+        &rt,
         text.as_str(),
-        "action 1.1.1 open\n  created\n  asked 1.1.1/2.1.1\n  child 1.1.1/2.1.1 aborted\naction 1.1.1/2.1.1 aborted\n  created\n  called 1 x write 4\n  got 1 ok\n  called 2 x read\nquiet 12 1.1.1/2.1.1 50 50\nrefused 8 L11 0 50\nrefused 14 L10 50 50\nvalue x 1\n"
+        "action 1.1.1 open\n  created\n  asked 1.1.1/2.1.1\n  child 1.1.1/2.1.1 aborted\naction 1.1.1/2.1.1 aborted\n  created\n  called 1 x write 4\n  got 1 ok\n  called 2 x read\nquiet 12 1.1.1/2.1.1 50 50\nrefused 8 L11 0 50\nrefused 14 L10 50 50\nvalue x 1\n",
     );
     Ok(())
+}
+
+/// The run of a parent and its child that is given up, with no marks.
+fn unmarked(alloc: Global, pair: Pair) -> Result<TimedRecord, NoMemory> {
+    Ok(TimedRecord {
+        trace: given_up(alloc, pair)?,
+        marks: TimedMarks::new(alloc),
+    })
 }
 
 /// The child's last step is its second call, in event 8. Its abort, in event 7, is not in the past of that.
 #[test]
 fn the_witness_has_no_abort(rt: HostRuntime) -> Result<(), Fail> {
     let alloc = rt.alloc();
-    let parent = Name::parse("1.1.1")?;
-    let child = Name::parse("1.1.1/2.1.1")?;
-    let run = TimedRecord {
-        trace: given_up(alloc, parent, child)?,
-        marks: TimedMarks::new(alloc),
-    };
+    let pair = parent_and_child()?;
+    let Pair { parent, child } = pair;
     let deeds = [
         create(parent),
         ask(parent, child),
@@ -143,53 +162,25 @@ fn the_witness_has_no_abort(rt: HostRuntime) -> Result<(), Fail> {
         got_done(child, 1, Answer::Ok),
         call(child, 2, 0, Op::Read),
     ];
+    let run = unmarked(alloc, pair)?;
     let witness = timed_witness(alloc, &run, &child)?;
-    assert_eq!(rt;
-        format!(in alloc; "{:?}", witness.as_slice())?.as_str(),
-        format!(in alloc; "{:?}", deeds.as_slice())?.as_str()
-    );
-    let other = Name::parse("1.1.2")?;
-    assert!(rt;
-        matches!(
-            timed_witness(alloc, &run, &other),
-            Err(CutFault::NoSuchAction)
-        )
-    );
+    same(&rt, witness.as_slice(), deeds.as_slice());
     Ok(())
 }
 
-/// A top action expires at its quiesce moment; a second expiry, and a moment that does not rise, are refused.
 #[test]
-fn an_expiry_is_shown(rt: HostRuntime) -> Result<(), Fail> {
+fn an_action_that_is_not_created_has_no_witness(rt: HostRuntime) -> Result<(), Fail> {
     let alloc = rt.alloc();
-    let top = Name::parse("1.1.1")?;
-    let mut trace = TimedTrace::new(alloc);
-    trace.push(TimedEvent {
-        event: event(alloc, 1, None, &[create(top)], Note::Plain)?,
-        moment: 0,
-        until: 5,
-        pause: None,
-    })?;
-    trace.push(at(event(alloc, 1, None, &[], Note::Plain)?, 5))?;
-    trace.push(at(
-        event(
-            alloc,
-            1,
-            None,
-            &[abort(top), inform(1, top, false)],
-            Note::Plain,
-        )?,
-        5,
-    ))?;
-    let mut marks = TimedMarks::new(alloc);
-    for line in [5, 6] {
-        marks.push(TimedMark::Refused {
-            line,
-            refusal: LineRefusal::NothingToDo,
-        })?;
-    }
-    let run = TimedRecord { trace, marks };
-    let script = TimedScript {
+    let other = Name::parse("1.1.2")?;
+    let run = unmarked(alloc, parent_and_child()?)?;
+    let fault = timed_witness(alloc, &run, &other).err();
+    same(&rt, fault, Some(CutFault::NoSuchAction));
+    Ok(())
+}
+
+/// A script of one node that declares no object.
+fn bare(alloc: Global) -> TimedScript {
+    TimedScript {
         script: Script {
             nodes: 1,
             objects: Objects::new(alloc),
@@ -198,11 +189,40 @@ fn an_expiry_is_shown(rt: HostRuntime) -> Result<(), Fail> {
             steps: Steps::new(alloc),
         },
         steps: TimedSteps::new(alloc),
+    }
+}
+
+/// A top action is begun and expires at its quiesce moment, 5.
+fn expired(alloc: Global, top: Name) -> Result<TimedTrace, NoMemory> {
+    trace_of(
+        alloc,
+        &[
+            (1, None, &[create(top)], 0, 5),
+            (1, None, &[], 5, 0),
+            (1, None, &[abort(top), inform(1, top, false)], 5, 0),
+        ],
+    )
+}
+
+/// A top action expires at its quiesce moment; a second expiry, and a moment that does not rise, are refused.
+#[test]
+fn an_expiry_is_shown(rt: HostRuntime) -> Result<(), Fail> {
+    let alloc = rt.alloc();
+    let top = Name::parse("1.1.1")?;
+    let refusal = LineRefusal::NothingToDo;
+    let marks = [
+        TimedMark::Refused { line: 5, refusal },
+        TimedMark::Refused { line: 6, refusal },
+    ];
+    let run = TimedRecord {
+        trace: expired(alloc, top)?,
+        marks: marks_of(alloc, &marks)?,
     };
-    let text = timed_text(alloc, &script, &run)?;
-    assert_eq!(rt;
+    let text = timed_text(alloc, &bare(alloc), &run)?;
+    same(
+        &rt,
         text.as_str(),
-        "action 1.1.1 aborted\n  created\nrefused 5 L9\nrefused 6 L9\n"
+        "action 1.1.1 aborted\n  created\nrefused 5 L9\nrefused 6 L9\n",
     );
     Ok(())
 }
