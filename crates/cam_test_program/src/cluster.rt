@@ -3,6 +3,7 @@
 ghost use Rattle.std.specs.Prelude.{◌≡◌, IfOk, length};
 ghost use Rattle.cam_script.specs.Law.{IsScript};
 
+mod halts;
 mod words;
 
 use cam_base::NoMemory;
@@ -90,8 +91,8 @@ begin A 8 | node 8 got 0 Plain, create 8.1.1
 deliver 1 | Refused { line: 3, refusal: NoLetter }
 restart 3 | node 3 got 0 Plain, another deed";
 
-/// The script of a table: of each row what stands before the bar.
-fn script_of(alloc: Global, table: &str) -> Result<String, NoMemory> {
+/// The text of a table's script: of each row what stands before the bar.
+fn text_of(alloc: Global, table: &str) -> Result<String, NoMemory> {
     let mut text = String::new(alloc);
     for row in table.lines() {
         let line = match row.split_once(" | ") {
@@ -101,6 +102,14 @@ fn script_of(alloc: Global, table: &str) -> Result<String, NoMemory> {
         writeln!(text, "{line}")?;
     }
     Ok(text)
+}
+
+/// The script of a table.
+fn script_of(alloc: Global, table: &str) -> Result<Script, Fail>
+    ensures { IfOk result IsScript }
+{
+    let text = text_of(alloc, table)?;
+    Ok(parse(alloc, text.as_bytes())?)
 }
 
 /// So many empty disks in memory.
@@ -118,42 +127,73 @@ pub(crate) fn empty_disks(alloc: Global, count: u8) -> Result<Vec<MemoryDisk>, N
 fn run(alloc: Global, script: &Script) -> Result<RunRecord, RunFault>
     requires { IsScript script.now }
 {
+    let mut disks = empty_disks(alloc, script.nodes)?;
     let mut servers = Servers {
         register: RegisterServer::new(),
         queue: QueueServer::new(alloc),
         counter: CounterServer::new(),
     };
-    let mut disks = empty_disks(alloc, script.nodes)?;
     run_script(alloc, script, &mut disks, &mut servers)
 }
 
-/// Fails at the first row of a table that the record of its run does not have, with what the record has there.
+/// How many events and how many marks there are.
+#[derive(Clone, Copy, Debug, PartialEq, Eq)]
+struct Counts {
+    events: usize,
+    marks: usize,
+}
+
+/// The next event of a record where an event is wanted, else its next mark. It counts from then on.
+fn next_text(
+    alloc: Global,
+    want: &str,
+    labels: &Labels,
+    record: &RunRecord,
+    counts: &mut Counts,
+) -> Result<String, Fail> {
+    if want.starts_with("node") {
+        let event = counts.events;
+        counts.events = event.wrapping_add(1);
+        Ok(event_text(alloc, labels, &record.trace, event)?)
+    } else {
+        let mark = counts.marks;
+        counts.marks = mark.wrapping_add(1);
+        mark_text(alloc, record, mark)
+    }
+}
+
+/// Fails where a line does not come to what its row has, with what it comes to.
+fn check_told(line: &str, told: &str, want: &str) -> Result<(), Fail> {
+    if told != want {
+        return Err(Fail::new(format_args!("{line} | {told}, in place of {want}")));
+    }
+    Ok(())
+}
+
+/// Fails at the first row of a table that the record of its run does not have, or where the record has more.
 fn check_rows(alloc: Global, table: &str, labels: &Labels, record: &RunRecord) -> Result<(), Fail> {
-    let mut events = 0usize;
-    let mut marks = 0usize;
+    let mut counts = Counts {
+        events: 0,
+        marks: 0,
+    };
     for row in table.lines() {
         let Some((line, want)) = row.split_once(" | ") else {
             continue;
         };
-        let is_event = want.starts_with("node");
-        let told = if is_event {
-            event_text(alloc, labels, &record.trace, events)?
-        } else {
-            mark_text(alloc, record, marks)?
-        };
-        if told.as_str() != want {
-            return Err(Fail::new(format_args!("{line} | {told}, in place of {want}")));
-        }
-        if is_event {
-            events = events.wrapping_add(1);
-        } else {
-            marks = marks.wrapping_add(1);
-        }
+        let told = next_text(alloc, want, labels, record, &mut counts)?;
+        check_told(line, &told, want)?;
     }
-    if record.trace.len() != events || record.marks.len() != marks {
-        return Err(Fail::new(format_args!(
-            "after the rows, {events} events and {marks} marks, there are more"
-        )));
+    check_counts(counts, record)
+}
+
+/// Fails where a record has more than the rows of its table.
+fn check_counts(rows: Counts, record: &RunRecord) -> Result<(), Fail> {
+    let all = Counts {
+        events: record.trace.len(),
+        marks: record.marks.len(),
+    };
+    if all != rows {
+        return Err(Fail::new(format_args!("the rows have {rows:?}, and there are {all:?}")));
     }
     Ok(())
 }
@@ -165,91 +205,23 @@ fn mark_text(alloc: Global, record: &RunRecord, place: usize) -> Result<String, 
 }
 
 /// Runs the script of a table, and fails where its record is not what the table has.
-fn check(alloc: Global, table: &str) -> Result<(), Fail> {
-    let text = script_of(alloc, table)?;
-    let script = parse(alloc, text.as_bytes())?;
-    let record = run(alloc, &script)?;
+fn check_run(alloc: Global, table: &str, script: &Script) -> Result<(), Fail>
+    requires { IsScript script.now }
+{
+    let record = run(alloc, script)?;
     check_rows(alloc, table, &script.labels, &record)
+}
+
+/// Fails where the run of a table's script is not what the table has.
+fn check(alloc: Global, table: &str) -> Result<(), Fail> {
+    let script = script_of(alloc, table)?;
+    check_run(alloc, table, &script)
 }
 
 #[test]
 fn each_line_has_its_event_or_its_mark(rt: HostRuntime) -> Result<(), Fail> {
     for table in [CONFLICT, TWO_NODES, REPEATS, EIGHT_NODES] {
         check(rt.alloc(), table)?;
-    }
-    Ok(())
-}
-
-/// What is to come of a halt, by the calls that its disk does before it stops.
-#[derive(Clone, Copy)]
-struct Halt {
-    calls: u32,
-    events: usize,
-    fourth_event: &'static str,
-    mark: &'static str,
-}
-
-/// The disk does nothing more: the event is lost.
-const LOST: Halt = Halt {
-    calls: 0,
-    events: 5,
-    fourth_event: "node 1 got 0 Plain, another deed",
-    mark: "Halted { line: 5, node: 1, taken: false }",
-};
-
-/// Its entry has come to the disk: the event is taken.
-const TAKEN: Halt = Halt {
-    calls: 3,
-    events: 6,
-    fourth_event: "node 1 got 2 Plain, another deed",
-    mark: "Halted { line: 5, node: 1, taken: true }",
-};
-
-/// What came of a halt: how many events there are, the fourth of them, the first mark, and how many marks there are.
-#[derive(Drop)]
-struct Halted {
-    events: usize,
-    fourth_event: String,
-    mark: String,
-    marks: usize,
-}
-
-/// What the record of a halt tells of it.
-fn told_of(alloc: Global, labels: &Labels, record: &RunRecord) -> Result<Halted, Fail> {
-    Ok(Halted {
-        events: record.trace.len(),
-        fourth_event: event_text(alloc, labels, &record.trace, 3)?,
-        mark: mark_text(alloc, record, 0)?,
-        marks: record.marks.len(),
-    })
-}
-
-/// What comes of a halt of a node at a stop of its disk after so many calls, as it secures a family. The node goes on by its restart.
-fn halted_after(alloc: Global, calls: u32) -> Result<Halted, Fail> {
-    let text = format!(in alloc;
-        "nodes 1\nbegin A 1\ncommit A 0\nstop 1 {calls}\ndrain\nbegin B 1\nrestart 1\nbegin C 1\n"
-    )?;
-    let script = parse(alloc, text.as_bytes())?;
-    let record = run(alloc, &script)?;
-    told_of(alloc, &script.labels, &record)
-}
-
-/// The event of the halt is taken where three calls more of its disk passed: then it stands at its place, after the three before it, without its
-/// letter.
-#[test]
-fn a_run_goes_on_through_a_halt(rt: HostRuntime) -> Result<(), Fail> {
-    for halt in [LOST, TAKEN] {
-        let calls = halt.calls;
-        let halted = halted_after(rt.alloc(), calls)?;
-        assert_eq!(rt; halted.events, halt.events, "with {calls} calls");
-        assert_eq!(rt;
-            halted.fourth_event.as_str(),
-            halt.fourth_event,
-            "with {calls} calls"
-        );
-        assert_eq!(rt; halted.mark.as_str(), halt.mark, "with {calls} calls");
-        // the other is that of the line that the halted node refuses
-        assert_eq!(rt; halted.marks, 2, "with {calls} calls");
     }
     Ok(())
 }

@@ -5,9 +5,11 @@ ghost use Rattle.cam_journal.specs.Seats.{AreNew};
 
 mod numbers;
 
+use crate::check::same;
 use cam_journal::{Gathered, Journal, NodeSeat, Note, ReserveFault, Seats};
 use numbers::Numbers;
 use std::alloc::Global;
+use std::process::Abort;
 use std::test::Fail;
 use std::thread::{Threads, join};
 
@@ -23,6 +25,18 @@ fn two_seats(
     let two = seats.pop()?;
     let one = seats.pop()?;
     Some((one, two))
+}
+
+/// A new journal of two nodes, with the seats of nodes 1 and 2.
+fn open_two(alloc: Global) -> Result<(Journal<Numbers>, NodeSeat<Numbers>, NodeSeat<Numbers>), Fail>
+    ensures nodes { IfOk result (λ r. r.0.nodes ≡ 2) }
+    ensures one { IfOk result
+        (λ r. (r.1.journal ≡ r.0.id) × (r.1.node ≡ 1) × (r.1.history ≡ [])) }
+    ensures two { IfOk result (λ r. (r.2.journal ≡ r.0.id) × (r.2.node ≡ 2)) }
+{
+    let (journal, seats) = Journal::<Numbers>::open(alloc, 2)?;
+    let (one, two) = two_seats(&journal, seats).ok_or("two seats")?;
+    Ok((journal, one, two))
 }
 
 /// Gathers the events of two nodes.
@@ -72,26 +86,101 @@ fn say_and_note(
     Ok((at, journal.note(seat, at, 0)?))
 }
 
+/// What came of a letter and of a copy of it.
+#[derive(Clone, Copy, Debug, PartialEq, Eq)]
+struct Taken {
+    /// The event that sent it.
+    event: u64,
+    /// The event and the place that the copy names.
+    copied: (u64, u32),
+    /// What was taken of the letter, and then of its copy.
+    letters: (u64, u64),
+}
+
+/// Node 1 says 7 first, and node 2 takes the letter of that, and a copy of it.
+fn say_and_take_twice(
+    journal: &Journal<Numbers>,
+    one: &mut NodeSeat<Numbers>,
+    two: &mut NodeSeat<Numbers>,
+) -> Result<Taken, Fail>
+    requires one { one.old.journal ≡ journal.now.id }
+    requires first { one.old.history ≡ [] }
+    requires two { two.old.journal ≡ journal.now.id }
+    ensures one { (one.new.journal ≡ one.old.journal) × (one.new.node ≡ one.old.node) }
+    ensures two { (two.new.journal ≡ two.old.journal) × (two.new.node ≡ two.old.node) }
+{
+    let (event, mut note) = say_and_note(journal, one, 7)?;
+    let copy = journal.copy_note(&mut note)?;
+    let copied = (copy.number(), copy.place());
+    let letter = journal.take_note(two, note);
+    let again = journal.take_note(two, copy);
+    Ok(Taken {
+        event,
+        copied,
+        letters: (letter, again),
+    })
+}
+
+/// What came of the letter of the first event, and the numbers of the two events after it.
+#[derive(Clone, Copy, Debug, PartialEq, Eq)]
+struct Told {
+    taken: Taken,
+    next: (u64, u64),
+}
+
+/// Node 1 says 7, of which node 2 takes the letter twice, then node 2 says 8, and node 1 says 9.
+fn talk_in_turn(
+    journal: &Journal<Numbers>,
+    one: &mut NodeSeat<Numbers>,
+    two: &mut NodeSeat<Numbers>,
+) -> Result<Told, Fail>
+    requires one { one.old.journal ≡ journal.now.id }
+    requires first { one.old.history ≡ [] }
+    requires two { two.old.journal ≡ journal.now.id }
+    ensures one { (one.new.journal ≡ one.old.journal) × (one.new.node ≡ one.old.node) }
+    ensures two { (two.new.journal ≡ two.old.journal) × (two.new.node ≡ two.old.node) }
+{
+    let taken = say_and_take_twice(journal, one, two)?;
+    let second = say(journal, two, 8)?;
+    let third = say(journal, one, 9)?;
+    Ok(Told {
+        taken,
+        next: (second, third),
+    })
+}
+
+const TOLD: Told = Told {
+    taken: Taken {
+        event: 0,
+        copied: (0, 0),
+        letters: (7, 7),
+    },
+    next: (1, 2),
+};
+
+/// Fails where node 1 has not two events, of which the second is the third of all.
+fn check_history(rt: &impl Abort, one: &NodeSeat<Numbers>) {
+    same(
+        rt,
+        (one.len(), one.get(1), one.get(2)),
+        (2, Some((2, &9)), None),
+    );
+}
+
+/// Fails where the events of both nodes are others.
+fn check_events(rt: &impl Abort, mut gathered: Gathered<Numbers>) {
+    for want in [(0, 7), (1, 8), (2, 9)] {
+        same(rt, gathered.take(), Some(want));
+    }
+    same(rt, gathered.take(), None);
+}
+
 #[test]
 fn events_and_letters_of_two_nodes_come_in_one_order(rt: HostRuntime) -> Result<(), Fail> {
-    let (journal, seats) = Journal::<Numbers>::open(rt.alloc(), 2)?;
-    let (mut one, mut two) = two_seats(&journal, seats).ok_or("two seats")?;
-    let (first, mut note) = say_and_note(&journal, &mut one, 7)?;
-    assert_eq!(rt; first, 0);
-    let copy = journal.copy_note(&mut note)?;
-    assert_eq!(rt; (copy.number(), copy.place()), (0, 0));
-    assert_eq!(rt; journal.take_note(&mut two, note), 7);
-    assert_eq!(rt; journal.take_note(&mut two, copy), 7);
-    assert_eq!(rt; say(&journal, &mut two, 8)?, 1);
-    assert_eq!(rt; say(&journal, &mut one, 9)?, 2);
-    assert_eq!(rt; one.len(), 2);
-    assert_eq!(rt; one.get(1), Some((2, &9)));
-    assert_eq!(rt; one.get(2), None);
-    let mut gathered = gather_two(rt.alloc(), journal, one, two)?;
-    for want in [(0, 7), (1, 8), (2, 9)] {
-        assert_eq!(rt; gathered.take(), Some(want));
-    }
-    assert_eq!(rt; gathered.take(), None);
+    let (journal, mut one, mut two) = open_two(rt.alloc())?;
+    same(&rt, talk_in_turn(&journal, &mut one, &mut two)?, TOLD);
+    check_history(&rt, &one);
+    check_events(&rt, gather_two(rt.alloc(), journal, one, two)?);
     Ok(())
 }
 
@@ -134,26 +223,54 @@ fn say_in_threads<R: Threads + Sync>(
     )
 }
 
-#[test]
-fn events_of_two_threads_are_gathered_in_order(rt: HostRuntime) -> Result<(), Fail> {
-    let (journal, seats) = Journal::<Numbers>::open(rt.alloc(), 2)?;
-    let (one, two) = two_seats(&journal, seats).ok_or("two seats")?;
-    let (one, two) = say_in_threads(&rt, &journal, one, two);
-    assert_eq!(rt; (one.len(), two.len()), (EACH, EACH));
-    let mut gathered = gather_two(rt.alloc(), journal, one, two)?;
-    // What each thread is to have said next.
-    let (mut one, mut two) = (0u64, EACH);
-    for number in 0..2 * EACH {
-        let (at, said) = gathered.take().ok_or("an event is left")?;
-        assert_eq!(rt; at, number);
+/// How many numbers each of two nodes has said, and the events of both.
+#[derive(Drop)]
+struct Talked {
+    said: (u64, u64),
+    gathered: Gathered<Numbers>,
+}
+
+/// Two new nodes say their numbers, each in a thread of its own.
+fn talk<R: Threads + Sync>(rt: &R, alloc: Global) -> Result<Talked, Fail> {
+    let (journal, one, two) = open_two(alloc)?;
+    let (one, two) = say_in_threads(rt, &journal, one, two);
+    Ok(Talked {
+        said: (one.len(), two.len()),
+        gathered: gather_two(alloc, journal, one, two)?,
+    })
+}
+
+/// What each of two threads is to have said next.
+#[derive(Clone, Copy)]
+struct Next {
+    one: u64,
+    two: u64,
+}
+
+impl Next {
+    /// What the thread was to say that said this number.
+    fn due(&mut self, said: u64) -> u64 {
         if said < EACH {
-            assert_eq!(rt; said, one);
-            one = one.wrapping_add(1);
+            let due = self.one;
+            self.one = due.wrapping_add(1);
+            due
         } else {
-            assert_eq!(rt; said, two);
-            two = two.wrapping_add(1);
+            let due = self.two;
+            self.two = due.wrapping_add(1);
+            due
         }
     }
-    assert_eq!(rt; gathered.take(), None);
+}
+
+#[test]
+fn events_of_two_threads_are_gathered_in_order(rt: HostRuntime) -> Result<(), Fail> {
+    let mut next = Next { one: 0, two: EACH };
+    let mut talked = talk(&rt, rt.alloc())?;
+    same(&rt, talked.said, (EACH, EACH));
+    for number in 0..2 * EACH {
+        let (at, said) = talked.gathered.take().ok_or("an event is left")?;
+        same(&rt, (at, said), (number, next.due(said)));
+    }
+    same(&rt, talked.gathered.take(), None);
     Ok(())
 }

@@ -1,18 +1,21 @@
 //! `cam_run`: answers to words and scripts, and streams and disks that fail.
 
-ghost use Rattle.std.specs.Prelude.{Some};
+ghost use Rattle.std.specs.Prelude.{◌≤◌, Some, length};
 
 mod commands;
 mod failing;
 mod rows;
 
+use crate::check::same;
 use crate::cluster::empty_disks;
 use cam_cluster::Servers;
+use cam_disk::TellingDisk;
 use cam_io::{Failed, MemorySink, MemorySource, Sink, Source};
 use cam_run::{camelot, worked_answers};
 use cam_type::{CounterServer, QueueServer, RegisterServer};
 use rows::{COUNT, REFUSED, ROWS};
 use std::alloc::Global;
+use std::process::Abort;
 use std::test::Fail;
 
 /// A write, and a read of another action that is told who holds the register.
@@ -57,70 +60,122 @@ fn source(alloc: Global, text: &str, fail: &[u32]) -> Result<MemorySource, Fail>
     Ok(MemorySource::new(text.as_bytes().to_vec(alloc)?, fail.to_vec(alloc)?))
 }
 
-/// The status of the answer to the words, over eight disks in memory.
-fn answered<S: Source, K: Sink>(
+/// The status of the answer to the words, over these disks.
+fn status_over<S: Source, K: Sink, D: TellingDisk>(
     alloc: Global,
     words: &[String],
     source: &mut S,
     sink: &mut K,
-) -> Result<u8, Fail> {
-    let mut disks = empty_disks(alloc, 8)?;
+    disks: &mut Vec<D>,
+) -> u8
+    requires { 8 ≤ length disks.old.items }
+{
     let mut servers = Servers {
         register: RegisterServer::new(),
         queue: QueueServer::new(alloc),
         counter: CounterServer::new(),
     };
-    Ok(camelot(alloc, words, source, sink, &mut disks, &mut servers))
+    camelot(alloc, words, source, sink, disks, &mut servers)
+}
+
+/// The status of the answer to the words, over these disks, and the text that it writes.
+fn answer_over<S: Source, D: TellingDisk>(
+    alloc: Global,
+    words: &[String],
+    source: &mut S,
+    disks: &mut Vec<D>,
+) -> Result<(u8, Vec<u8>), Fail>
+    requires { 8 ≤ length disks.old.items }
+{
+    let mut sink = MemorySink::new(alloc, Vec::new(alloc));
+    let status = status_over(alloc, words, source, &mut sink, disks);
+    Ok((status, sink.text().to_vec(alloc)?))
+}
+
+/// The same over eight disks in memory.
+fn answer<S: Source>(
+    alloc: Global,
+    words: &[String],
+    source: &mut S,
+) -> Result<(u8, Vec<u8>), Fail> {
+    let mut disks = empty_disks(alloc, 8)?;
+    answer_over(alloc, words, source, &mut disks)
 }
 
 /// The status of the answer to a command on its input, and the text that it writes.
 fn status_and_text(alloc: Global, command: &str, input: &str) -> Result<(u8, Vec<u8>), Fail> {
     let words = words(alloc, command)?;
     let mut source = source(alloc, input, &[])?;
-    let mut sink = MemorySink::new(alloc, Vec::new(alloc));
-    let status = answered(alloc, &words, &mut source, &mut sink)?;
-    Ok((status, sink.text().to_vec(alloc)?))
+    answer(alloc, &words, &mut source)
+}
+
+/// Fails where the run of a row of a topic does not have its report.
+fn check_row(rt: &impl Abort, alloc: Global, row: &str) -> Result<(), Fail> {
+    let (title, run) = row.split_once('\n').ok_or("a row has no script")?;
+    let (script, report) = run.split_once("--\n").ok_or("a row has no report")?;
+    let (status, text) = status_and_text(alloc, "run", script)?;
+    same(
+        rt,
+        (title, status, text.as_slice()),
+        (title, 0, report.as_bytes()),
+    );
+    Ok(())
+}
+
+/// The call whose promise of worked scripts is proved. It does nothing when it runs.
+fn call_worked_answers() {
+    worked_answers();
 }
 
 /// Lines of every kind, by the reports of their runs.
 #[test]
 fn worked_runs_have_their_reports(rt: HostRuntime) -> Result<(), Fail> {
-    worked_answers();
+    call_worked_answers();
     let mut count = 0usize;
     for topic in ROWS {
         for row in topic.split("== ").skip(1) {
-            let (title, run) = row.split_once('\n').ok_or("a row has no script")?;
-            let (script, report) = run.split_once("--\n").ok_or("a row has no report")?;
-            let (status, text) = status_and_text(rt.alloc(), "run", script)?;
-            assert_eq!(rt; status, 0, "{title}");
-            assert_eq!(rt; text.as_slice(), report.as_bytes(), "{title}");
+            check_row(&rt, rt.alloc(), row)?;
             count = count.wrapping_add(1);
         }
     }
-    assert_eq!(rt; count, COUNT);
+    same(&rt, count, COUNT);
     Ok(())
 }
 
 #[test]
 fn refused_scripts_have_their_faults(rt: HostRuntime) -> Result<(), Fail> {
-    let alloc = rt.alloc();
     for &(script, fault) in REFUSED {
-        let (status, text) = status_and_text(alloc, "run", script)?;
-        assert_eq!(rt; status, 3, "{script}");
-        assert_eq!(rt; text.as_slice(), fault.as_bytes(), "{script}");
+        let (status, text) = status_and_text(rt.alloc(), "run", script)?;
+        same(
+            &rt,
+            (script, status, text.as_slice()),
+            (script, 3, fault.as_bytes()),
+        );
     }
+    Ok(())
+}
+
+/// The answer to `run` of a script of empty lines, a byte longer than a script may be.
+fn answer_to_long_script(alloc: Global) -> Result<(u8, Vec<u8>), Fail> {
     let run = words(alloc, "run")?;
     let mut long = MemorySource::new(vec![in alloc; 10; 262_145]?, Vec::new(alloc));
-    let mut sink = MemorySink::new(alloc, Vec::new(alloc));
-    assert_eq!(rt; answered(alloc, &run, &mut long, &mut sink)?, 3);
-    assert_eq!(rt; sink.text(), b"refused 1 1 S1\n".as_slice());
+    answer(alloc, &run, &mut long)
+}
+
+#[test]
+fn a_script_that_is_too_long_is_refused(rt: HostRuntime) -> Result<(), Fail> {
+    let (status, text) = answer_to_long_script(rt.alloc())?;
+    same(
+        &rt,
+        (status, text.as_slice()),
+        (3, b"refused 1 1 S1\n".as_slice()),
+    );
     Ok(())
 }
 
 #[test]
 fn words_that_are_no_form(rt: HostRuntime) -> Result<(), Fail> {
-    let alloc = rt.alloc();
-    for text in [
+    for words in [
         "",
         "witness",
         "run run",
@@ -132,41 +187,51 @@ fn words_that_are_no_form(rt: HostRuntime) -> Result<(), Fail> {
         "Run",
         "run ",
     ] {
-        let words = words(alloc, text)?;
-        let mut source = source(alloc, FIRST_PATH, &[])?;
-        let mut sink = MemorySink::new(alloc, Vec::new(alloc));
-        assert_eq!(rt;
-            answered(alloc, &words, &mut source, &mut sink)?,
-            2,
-            "{text}"
+        let (status, text) = status_and_text(rt.alloc(), words, FIRST_PATH)?;
+        same(
+            &rt,
+            (words, status, text.as_slice()),
+            (words, 2, USAGE.as_bytes()),
         );
-        assert_eq!(rt; sink.text(), USAGE.as_bytes(), "{text}");
     }
+    Ok(())
+}
+
+/// The answer where there is no word at all.
+fn answer_to_no_words(alloc: Global) -> Result<(u8, Vec<u8>), Fail> {
     let none = Vec::new(alloc);
     let mut source = source(alloc, FIRST_PATH, &[])?;
-    let mut sink = MemorySink::new(alloc, Vec::new(alloc));
-    assert_eq!(rt; answered(alloc, &none, &mut source, &mut sink)?, 2);
+    answer(alloc, &none, &mut source)
+}
+
+#[test]
+fn no_words_are_no_form(rt: HostRuntime) -> Result<(), Fail> {
+    let (status, text) = answer_to_no_words(rt.alloc())?;
+    same(&rt, (status, text.as_slice()), (2, USAGE.as_bytes()));
     Ok(())
+}
+
+/// The answer to `run` of a script of which the read at this call fails.
+fn answer_with_failing_read(alloc: Global, call: u32) -> Result<(u8, Vec<u8>), Fail> {
+    let run = words(alloc, "run")?;
+    let mut source = source(alloc, FIRST_PATH, &[call])?;
+    answer(alloc, &run, &mut source)
 }
 
 /// Each read fails in turn: of the script, and of the end after it.
 #[test]
 fn a_source_that_fails(rt: HostRuntime) -> Result<(), Fail> {
-    let alloc = rt.alloc();
-    let run = words(alloc, "run")?;
     for (call, status, text) in [
         (1, 4, "read fault\n"),
         (2, 4, "read fault\n"),
         (3, 0, FIRST_REPORT),
     ] {
-        let mut source = source(alloc, FIRST_PATH, &[call])?;
-        let mut sink = MemorySink::new(alloc, Vec::new(alloc));
-        assert_eq!(rt;
-            answered(alloc, &run, &mut source, &mut sink)?,
-            status,
-            "at call {call}"
+        let (got, written) = answer_with_failing_read(rt.alloc(), call)?;
+        same(
+            &rt,
+            (call, got, written.as_slice()),
+            (call, status, text.as_bytes()),
         );
-        assert_eq!(rt; sink.text(), text.as_bytes(), "at call {call}");
     }
     Ok(())
 }
@@ -193,26 +258,32 @@ impl Sink for Narrow {
     }
 }
 
+/// The answer to `run` of a script into a sink that takes so many bytes.
+fn answer_in_room(alloc: Global, room: usize) -> Result<(u8, Vec<u8>), Fail> {
+    let run = words(alloc, "run")?;
+    let mut source = source(alloc, FIRST_PATH, &[])?;
+    let mut disks = empty_disks(alloc, 8)?;
+    let mut sink = Narrow {
+        text: Vec::new(alloc),
+        room,
+        faults: 0,
+    };
+    let status = status_over(alloc, &run, &mut source, &mut sink, &mut disks);
+    Ok((status, sink.text))
+}
+
 /// Each write fails in turn: a prefix of the text stands there, and the whole where none fails.
 #[test]
 fn a_sink_that_fails(rt: HostRuntime) -> Result<(), Fail> {
-    let alloc = rt.alloc();
-    let run = words(alloc, "run")?;
     let whole = FIRST_REPORT.as_bytes();
     for room in 0..=whole.len() {
-        let mut source = source(alloc, FIRST_PATH, &[])?;
-        let mut sink = Narrow {
-            text: Vec::new(alloc),
-            room,
-            faults: 0,
-        };
         let wanted = if room < whole.len() { 5 } else { 0 };
-        assert_eq!(rt;
-            answered(alloc, &run, &mut source, &mut sink)?,
-            wanted,
-            "at {room}"
+        let (status, text) = answer_in_room(rt.alloc(), room)?;
+        same(
+            &rt,
+            (room, status, text.as_slice()),
+            (room, wanted, &whole[..room]),
         );
-        assert_eq!(rt; sink.text.as_slice(), &whole[..room], "at {room}");
     }
     Ok(())
 }

@@ -1,10 +1,10 @@
 //! An event in words: its node, the number of the letter that it got (0 for none), its note, its deeds, and the letters that it sent.
 
 use cam_base::NoMemory;
-use cam_event::{Body, Deed, Reply, Seen, Trace};
+use cam_event::{Body, Deed, Event, Reply, Seen, Trace};
 use cam_names::{Deps, Name};
 use cam_script::Labels;
-use cam_type::Op;
+use cam_type::{Answer, Op};
 use std::alloc::Global;
 use std::fmt::Write;
 
@@ -41,25 +41,49 @@ impl Call<'_> {
     }
 }
 
+fn answer_text(alloc: Global, answer: &Answer) -> Result<String, NoMemory> {
+    Ok(format!(in alloc; "{answer:?}")?)
+}
+
+fn busy_text(alloc: Global, holder: &Name) -> Result<String, NoMemory> {
+    Ok(format!(in alloc; "busy {}", name_text(alloc, holder)?)?)
+}
+
 fn seen_text(alloc: Global, seen: &Seen) -> Result<String, NoMemory> {
     match seen {
-        Seen::Done(answer) => Ok(format!(in alloc; "{answer:?}")?),
-        Seen::Busy(holder) => Ok(format!(in alloc; "busy {}", name_text(alloc, holder)?)?),
+        Seen::Done(answer) => answer_text(alloc, answer),
+        Seen::Busy(holder) => busy_text(alloc, holder),
         Seen::Gone => Ok(String::from_str(alloc, "gone")?),
     }
 }
 
 fn reply_text(alloc: Global, reply: &Reply) -> Result<String, NoMemory> {
     match reply {
-        Reply::Done(answer) => seen_text(alloc, &Seen::Done(*answer)),
-        Reply::Busy(holder) => seen_text(alloc, &Seen::Busy(*holder)),
+        Reply::Done(answer) => answer_text(alloc, answer),
+        Reply::Busy(holder) => busy_text(alloc, holder),
         Reply::Missed | Reply::Refused => Ok(String::from_str(alloc, "not served")?),
     }
 }
 
+/// What is told of a call of an action, by the action and the number of the call.
+fn told_text(
+    alloc: Global,
+    verb: &str,
+    action: &Name,
+    number: u32,
+    told: &str,
+) -> Result<String, NoMemory> {
+    let action = name_text(alloc, action)?;
+    Ok(format!(in alloc; "{verb} {action} {number} {told}")?)
+}
+
+fn create_text(alloc: Global, action: &Name) -> Result<String, NoMemory> {
+    Ok(format!(in alloc; "create {}", name_text(alloc, action)?)?)
+}
+
 fn deed_text(alloc: Global, labels: &Labels, deed: &Deed) -> Result<String, NoMemory> {
     match deed {
-        Deed::Create { action } => Ok(format!(in alloc; "create {}", name_text(alloc, action)?)?),
+        Deed::Create { action } => create_text(alloc, action),
         Deed::Call {
             action,
             number,
@@ -78,23 +102,23 @@ fn deed_text(alloc: Global, labels: &Labels, deed: &Deed) -> Result<String, NoMe
             action,
             number,
             answer,
-        } => { Ok(format!(in alloc; "perform {} {number} {answer:?}", name_text(alloc, action)?)?) }
+        } => told_text(
+            alloc,
+            "perform",
+            action,
+            *number,
+            &answer_text(alloc, answer)?,
+        ),
         Deed::Bounce {
             action,
             number,
             holder,
-        } => {
-            let holder = name_text(alloc, holder)?;
-            Ok(format!(in alloc; "bounce {} {number} {holder}", name_text(alloc, action)?)?)
-        }
+        } => told_text(alloc, "bounce", action, *number, &name_text(alloc, holder)?),
         Deed::Got {
             action,
             number,
             seen,
-        } => {
-            let seen = seen_text(alloc, seen)?;
-            Ok(format!(in alloc; "got {} {number} {seen}", name_text(alloc, action)?)?)
-        }
+        } => told_text(alloc, "got", action, *number, &seen_text(alloc, seen)?),
         _ => Ok(String::from_str(alloc, "another deed")?),
     }
 }
@@ -135,10 +159,7 @@ fn body_text(alloc: Global, labels: &Labels, body: &Body) -> Result<String, NoMe
             action,
             number,
             reply,
-        } => {
-            let reply = reply_text(alloc, reply)?;
-            Ok(format!(in alloc; "answer {} {number} {reply}", name_text(alloc, action)?)?)
-        }
+        } => told_text(alloc, "answer", action, *number, &reply_text(alloc, reply)?),
         _ => Ok(String::from_str(alloc, "another letter")?),
     }
 }
@@ -152,6 +173,46 @@ fn first_letter(trace: &Trace, event: usize) -> usize {
     number
 }
 
+/// The number of the letter that an event got, 0 for none.
+fn got_number(trace: &Trace, event: &Event) -> usize {
+    match &event.got {
+        Some(letter) => first_letter(trace, letter.event as usize).wrapping_add(
+            letter.place as usize,
+        ),
+        None => 0,
+    }
+}
+
+fn write_deeds(
+    alloc: Global,
+    labels: &Labels,
+    event: &Event,
+    text: &mut String,
+) -> Result<(), NoMemory> {
+    for deed in event.deeds.as_slice() {
+        let deed = deed_text(alloc, labels, deed)?;
+        write!(text, ", {deed}")?;
+    }
+    Ok(())
+}
+
+/// Writes the letters that an event sent, of which the first has this number.
+fn write_sent(
+    alloc: Global,
+    labels: &Labels,
+    event: &Event,
+    first: usize,
+    text: &mut String,
+) -> Result<(), NoMemory> {
+    let mut number = first;
+    for sent in event.sent.as_slice() {
+        let body = body_text(alloc, labels, &sent.body)?;
+        write!(text, ", sent {number} to {} {body}", sent.to)?;
+        number = number.wrapping_add(1);
+    }
+    Ok(())
+}
+
 /// An event of a trace, by its place: its node, the letter that it got, its note, its deeds and its letters.
 pub(super) fn event_text(
     alloc: Global,
@@ -162,21 +223,9 @@ pub(super) fn event_text(
     let Some(event) = trace.get(place) else {
         return Ok(String::from_str(alloc, "no event")?);
     };
-    let got = match &event.got {
-        Some(letter) => first_letter(trace, letter.event as usize).wrapping_add(
-            letter.place as usize,
-        ),
-        None => 0,
-    };
+    let got = got_number(trace, event);
     let mut text = format!(in alloc; "node {} got {got} {:?}", event.node, event.note)?;
-    for deed in event.deeds.as_slice() {
-        write!(text, ", {}", deed_text(alloc, labels, deed)?)?;
-    }
-    let mut number = first_letter(trace, place);
-    for sent in event.sent.as_slice() {
-        let body = body_text(alloc, labels, &sent.body)?;
-        write!(text, ", sent {number} to {} {body}", sent.to)?;
-        number = number.wrapping_add(1);
-    }
+    write_deeds(alloc, labels, event, &mut text)?;
+    write_sent(alloc, labels, event, first_letter(trace, place), &mut text)?;
     Ok(text)
 }

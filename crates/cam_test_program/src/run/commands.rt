@@ -1,6 +1,7 @@
 //! The commands beside `run`: what each tells of a run or of the image of a log, and where there is nothing to tell.
 
 use super::{FIRST_PATH, status_and_text};
+use crate::check::same;
 use std::test::Fail;
 
 /// A command, its input, and its answer.
@@ -268,8 +269,11 @@ const ROWS: &[Row] = &[
 fn each_command_has_its_answer(rt: HostRuntime) -> Result<(), Fail> {
     for row in ROWS {
         let (status, text) = status_and_text(rt.alloc(), row.command, row.input)?;
-        assert_eq!(rt; status, row.status, "{}", row.command);
-        assert_eq!(rt; text.as_slice(), row.text.as_bytes(), "{}", row.command);
+        same(
+            &rt,
+            (row.command, status, text.as_slice()),
+            (row.command, row.status, row.text.as_bytes()),
+        );
     }
     Ok(())
 }

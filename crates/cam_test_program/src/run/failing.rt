@@ -1,15 +1,12 @@
 //! Disks that fail by themselves.
 
-ghost use Rattle.std.specs.Prelude.{◌≡◌, ◌≤◌, IfErr, IfOk, length};
+ghost use Rattle.std.specs.Prelude.{◌≡◌, IfErr, IfOk, length};
 ghost use Rattle.cam_disk.specs.declared.error.DiskError.TheVariants.{Failed};
 ghost use Rattle.cam_disk.specs.Disk.{FailsWithCause};
 
-use super::{source, words};
-use cam_cluster::Servers;
+use super::{answer_over, source, words};
+use crate::check::same;
 use cam_disk::{Disk, DiskError, MemoryDisk, TellingDisk};
-use cam_io::MemorySink;
-use cam_run::camelot;
-use cam_type::{CounterServer, QueueServer, RegisterServer};
 use std::alloc::Global;
 use std::test::Fail;
 
@@ -177,38 +174,43 @@ fn disks(alloc: Global, calls: u32, faults: u64) -> Result<Vec<FailingDisk<Memor
     Ok(disks)
 }
 
-/// The answer to `run` of the script over these disks is a status and a text.
-fn is_answer(
-    alloc: Global,
-    script: &str,
-    disks: &mut Vec<FailingDisk<MemoryDisk>>,
-    status: u8,
-    text: &str,
-) -> Result<bool, Fail>
-    requires { 8 ≤ length disks.old.items }
-{
+/// The answer to `run` of a script over such disks: its status, and the text that it writes.
+fn answer_of(alloc: Global, script: &str, calls: u32, faults: u64) -> Result<(u8, Vec<u8>), Fail> {
     let run = words(alloc, "run")?;
     let mut script = source(alloc, script, &[])?;
-    let mut sink = MemorySink::new(alloc, Vec::new(alloc));
-    let mut servers = Servers {
-        register: RegisterServer::new(),
-        queue: QueueServer::new(alloc),
-        counter: CounterServer::new(),
-    };
-    let answer = camelot(alloc, &run, &mut script, &mut sink, disks, &mut servers);
-    Ok(answer == status && sink.text() == text.as_bytes())
+    let mut disks = disks(alloc, calls, faults)?;
+    answer_over(alloc, &run, &mut script, &mut disks)
+}
+
+/// What came of a run whose disk may fail.
+#[derive(Clone, Copy, Debug, PartialEq, Eq)]
+enum Outcome {
+    /// The whole report.
+    Report,
+    /// That the disk of node 2 failed.
+    DiskFault,
+    Other,
+}
+
+/// What comes of the run of a case, where the disk of node 2 fails by itself once it has done so many calls.
+fn outcome_after(alloc: Global, case: Case, calls: u32) -> Result<Outcome, Fail> {
+    let (status, text) = answer_of(alloc, case.script, calls, 0)?;
+    Ok(if status == 0 && text.as_slice() == case.report.as_bytes() {
+        Outcome::Report
+    } else if status == 6 && text.as_slice() == b"disk fault 2\n".as_slice() {
+        Outcome::DiskFault
+    } else {
+        Outcome::Other
+    })
 }
 
 /// How many calls of the disk of node 2 the run takes: with fewer of them it is told that the disk failed. None where that is not so.
 fn calls_taken(alloc: Global, case: Case) -> Result<Option<u32>, Fail> {
     for calls in 0..64u32 {
-        let mut failing = disks(alloc, calls, 0)?;
-        if is_answer(alloc, case.script, &mut failing, 0, case.report)? {
-            return Ok(Some(calls));
-        }
-        let mut failing = disks(alloc, calls, 0)?;
-        if !is_answer(alloc, case.script, &mut failing, 6, "disk fault 2\n")? {
-            return Ok(None);
+        match outcome_after(alloc, case, calls)? {
+            Outcome::Report => return Ok(Some(calls)),
+            Outcome::DiskFault => {}
+            Outcome::Other => return Ok(None),
         }
     }
     Ok(None)
@@ -219,10 +221,9 @@ fn calls_taken(alloc: Global, case: Case) -> Result<Option<u32>, Fail> {
 #[test]
 fn a_disk_that_fails(rt: HostRuntime) -> Result<(), Fail> {
     for case in [COMMIT, STOPPED] {
-        match calls_taken(rt.alloc(), case)? {
-            Some(calls) => assert!(rt; 8 < calls, "{calls} calls"),
-            None => assert!(rt; false, "another answer"),
-        }
+        let taken = calls_taken(rt.alloc(), case)?;
+        let is_enough = matches!(taken, Some(calls) if 8 < calls);
+        same(&rt, (taken, is_enough), (taken, true));
     }
     Ok(())
 }
@@ -230,11 +231,13 @@ fn a_disk_that_fails(rt: HostRuntime) -> Result<(), Fail> {
 /// How often a disk had failed before does not matter.
 #[test]
 fn disks_that_had_failed(rt: HostRuntime) -> Result<(), Fail> {
-    let alloc = rt.alloc();
     for faults in [1, 7] {
-        let mut failed = disks(alloc, u32::MAX, faults)?;
-        let is_told = is_answer(alloc, COMMIT.script, &mut failed, 0, COMMIT.report)?;
-        assert!(rt; is_told, "{faults} faults");
+        let (status, text) = answer_of(rt.alloc(), COMMIT.script, u32::MAX, faults)?;
+        same(
+            &rt,
+            (faults, status, text.as_slice()),
+            (faults, 0, COMMIT.report.as_bytes()),
+        );
     }
     Ok(())
 }

@@ -1,0 +1,103 @@
+//! Runs that go on through a halt.
+
+ghost use Rattle.std.specs.Prelude.{IfOk};
+ghost use Rattle.cam_script.specs.Law.{IsScript};
+
+use super::words::event_text;
+use super::{mark_text, run};
+use crate::check::same;
+use cam_event::RunRecord;
+use cam_script::{Labels, Script, parse};
+use std::alloc::Global;
+use std::test::Fail;
+
+/// What is to come of a halt, by the calls that its disk does before it stops.
+#[derive(Clone, Copy)]
+struct Halt {
+    calls: u32,
+    events: usize,
+    fourth_event: &'static str,
+    mark: &'static str,
+}
+
+/// The disk does nothing more: the event is lost.
+const LOST: Halt = Halt {
+    calls: 0,
+    events: 5,
+    fourth_event: "node 1 got 0 Plain, another deed",
+    mark: "Halted { line: 5, node: 1, taken: false }",
+};
+
+/// Its entry has come to the disk: the event is taken.
+const TAKEN: Halt = Halt {
+    calls: 3,
+    events: 6,
+    fourth_event: "node 1 got 2 Plain, another deed",
+    mark: "Halted { line: 5, node: 1, taken: true }",
+};
+
+/// What came of a halt: how many events there are, the fourth of them, the first mark, and how many marks there are.
+#[derive(Drop)]
+struct Halted {
+    events: usize,
+    fourth_event: String,
+    mark: String,
+    marks: usize,
+}
+
+/// What the record of a halt tells of it.
+fn told_of(alloc: Global, labels: &Labels, record: &RunRecord) -> Result<Halted, Fail> {
+    Ok(Halted {
+        events: record.trace.len(),
+        fourth_event: event_text(alloc, labels, &record.trace, 3)?,
+        mark: mark_text(alloc, record, 0)?,
+        marks: record.marks.len(),
+    })
+}
+
+/// A script in which a disk stops after so many calls, as its node secures a family. The node goes on by its restart.
+fn script_with_halt(alloc: Global, calls: u32) -> Result<Script, Fail>
+    ensures { IfOk result IsScript }
+{
+    let text = format!(in alloc;
+        "nodes 1\nbegin A 1\ncommit A 0\nstop 1 {calls}\ndrain\nbegin B 1\nrestart 1\nbegin C 1\n"
+    )?;
+    Ok(parse(alloc, text.as_bytes())?)
+}
+
+/// What comes of the halt in a script.
+fn halt_of(alloc: Global, script: &Script) -> Result<Halted, Fail>
+    requires { IsScript script.now }
+{
+    let record = run(alloc, script)?;
+    told_of(alloc, &script.labels, &record)
+}
+
+/// What comes of a halt at a stop of the disk after so many calls.
+fn halted_after(alloc: Global, calls: u32) -> Result<Halted, Fail> {
+    let script = script_with_halt(alloc, calls)?;
+    halt_of(alloc, &script)
+}
+
+/// The event of the halt is taken where three calls more of its disk passed: then it stands at its place, after the three before it, without its
+/// letter.
+#[test]
+fn a_run_goes_on_through_a_halt(rt: HostRuntime) -> Result<(), Fail> {
+    for halt in [LOST, TAKEN] {
+        let calls = halt.calls;
+        let halted = halted_after(rt.alloc(), calls)?;
+        // the other mark is that of the line that the halted node refuses
+        same(
+            &rt,
+            (calls, halted.events, halted.marks),
+            (calls, halt.events, 2),
+        );
+        same(
+            &rt,
+            (calls, halted.fourth_event.as_str()),
+            (calls, halt.fourth_event),
+        );
+        same(&rt, (calls, halted.mark.as_str()), (calls, halt.mark));
+    }
+    Ok(())
+}
