@@ -67,7 +67,7 @@ fn trace(alloc: Global, a: Name, b: Name) -> Result<Trace, NoMemory> {
 }
 
 /// Fails the test where the view of an action has other steps than these.
-fn has_view(
+fn check_view(
     rt: &impl Abort,
     alloc: Global,
     trace: &Trace,
@@ -97,13 +97,13 @@ fn a_view_has_what_the_action_did_and_saw(rt: HostRuntime) -> Result<(), Fail> {
         ViewStep::Got(1, Seen::Busy(a)),
     ];
     let trace = trace(alloc, a, b)?;
-    has_view(&rt, alloc, &trace, &a, &first)?;
-    has_view(&rt, alloc, &trace, &b, &second)?;
-    has_view(&rt, alloc, &trace, &other, &[])
+    check_view(&rt, alloc, &trace, &a, &first)?;
+    check_view(&rt, alloc, &trace, &b, &second)?;
+    check_view(&rt, alloc, &trace, &other, &[])
 }
 
 /// Fails the test where the copy of an event is not equal to it.
-fn is_copied(rt: &impl Abort, event: &Event) -> Result<(), Fail> {
+fn check_copy(rt: &impl Abort, event: &Event) -> Result<(), Fail> {
     let copy = copy_event(event)?;
     same(rt, &copy, event);
     Ok(())
@@ -115,7 +115,7 @@ fn a_copy_is_an_equal_event(rt: HostRuntime) -> Result<(), Fail> {
     let trace = trace(alloc, Name::parse("1.1.1")?, Name::parse("1.1.2")?)?;
     same(&rt, trace.len(), 9);
     for event in trace.as_slice() {
-        is_copied(&rt, event)?;
+        check_copy(&rt, event)?;
     }
     Ok(())
 }

@@ -23,9 +23,9 @@ fn the_last_yes_commits_and_the_first_no_aborts(rt: HostRuntime) -> Result<(), F
     let steps = [
         (Act::Yes(family, 1, 2), Answer::Voted(Voted::Late)),
         (Act::IsPreparing(family), Answer::Is(false)),
-        (Act::Prepares(family), Answer::Done),
+        (Act::BeginsToPrepare(family), Answer::Done),
         (Act::IsPreparing(other), Answer::Is(false)),
-        (Act::Prepares(other), Answer::Done),
+        (Act::BeginsToPrepare(other), Answer::Done),
         (Act::Yes(family, 3, 4), Answer::Voted(Voted::Some)),
         (Act::Yes(family, 1, 2), Answer::Voted(Voted::Some)),
         (Act::Yes(family, 1, 2), Answer::Voted(Voted::Some)),
@@ -46,13 +46,16 @@ fn a_site_that_secured_votes_yes_at_an_old_count(rt: HostRuntime) -> Result<(), 
     let family = Name::parse("1.2.1")?;
     let other = Name::parse("1.2.2")?;
     let steps = [
-        (Act::Prepare(family, 3, 3), Answer::Asked(Asked::Secure)),
-        (Act::Prepare(family, 2, 3), Answer::Asked(Asked::Refuse)),
+        (Act::IsToSecure(family, 3, 3), Answer::Asked(Asked::Secure)),
+        (Act::IsToSecure(family, 2, 3), Answer::Asked(Asked::Refuse)),
         (Act::Secures(family), Answer::Done),
-        (Act::Prepare(family, 2, 3), Answer::Asked(Asked::AlreadyYes)),
-        (Act::Prepare(other, 3, 3), Answer::Asked(Asked::Secure)),
+        (
+            Act::IsToSecure(family, 2, 3),
+            Answer::Asked(Asked::AlreadyYes),
+        ),
+        (Act::IsToSecure(other, 3, 3), Answer::Asked(Asked::Secure)),
         (Act::Learns(Outcome::Aborted(family)), Answer::Done),
-        (Act::Prepare(family, 3, 3), Answer::Asked(Asked::Late)),
+        (Act::IsToSecure(family, 3, 3), Answer::Asked(Asked::Late)),
     ];
     same(&rt, first_other(rt.alloc(), &Deps::none(), &steps)?, None);
     Ok(())
@@ -65,8 +68,11 @@ fn a_site_that_secured_votes_yes_after_a_restart(rt: HostRuntime) -> Result<(), 
     let other = Name::parse("1.2.2")?;
     let steps = [
         (Act::RestartsWith(family), Answer::Done),
-        (Act::Prepare(family, 2, 4), Answer::Asked(Asked::AlreadyYes)),
-        (Act::Prepare(other, 2, 4), Answer::Asked(Asked::Refuse)),
+        (
+            Act::IsToSecure(family, 2, 4),
+            Answer::Asked(Asked::AlreadyYes),
+        ),
+        (Act::IsToSecure(other, 2, 4), Answer::Asked(Asked::Refuse)),
     ];
     same(&rt, first_other(rt.alloc(), &Deps::none(), &steps)?, None);
     Ok(())
@@ -101,10 +107,10 @@ fn a_prepare_comes_late_for_a_family_that_has_committed(rt: HostRuntime) -> Resu
             Act::Learns(Outcome::Committed(other, Deps::none().with(1, 1))),
             Answer::Done,
         ),
-        (Act::Prepare(family, 1, 1), Answer::Asked(Asked::Late)),
-        (Act::Prepare(family, 1, 2), Answer::Asked(Asked::Late)),
-        (Act::Prepare(other, 1, 1), Answer::Asked(Asked::Late)),
-        (Act::Prepare(other, 1, 2), Answer::Asked(Asked::Late)),
+        (Act::IsToSecure(family, 1, 1), Answer::Asked(Asked::Late)),
+        (Act::IsToSecure(family, 1, 2), Answer::Asked(Asked::Late)),
+        (Act::IsToSecure(other, 1, 1), Answer::Asked(Asked::Late)),
+        (Act::IsToSecure(other, 1, 2), Answer::Asked(Asked::Late)),
     ];
     same(&rt, first_other(rt.alloc(), &deps, &steps)?, None);
     Ok(())
@@ -117,10 +123,10 @@ fn a_site_that_restarted_votes_no(rt: HostRuntime) -> Result<(), Fail> {
     let deps = first_counts();
     let at_site = [
         (Act::Restarts, Answer::Done),
-        (Act::Prepare(family, 1, 2), Answer::Asked(Asked::Refuse)),
+        (Act::IsToSecure(family, 1, 2), Answer::Asked(Asked::Refuse)),
     ];
     let at_home = [
-        (Act::Prepares(family), Answer::Done),
+        (Act::BeginsToPrepare(family), Answer::Done),
         (Act::Yes(family, 1, 1), Answer::Voted(Voted::Some)),
         (Act::No(family, 2, 1), Answer::Voted(Voted::No)),
         (Act::IsPreparing(family), Answer::Is(false)),

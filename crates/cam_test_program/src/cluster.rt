@@ -143,7 +143,7 @@ struct Counts {
     marks: usize,
 }
 
-/// The next event of a record where an event is wanted, else its next mark. It counts from then on.
+/// The next event of a record where an event is wanted, else its next mark, and counts it.
 fn next_text(
     alloc: Global,
     want: &str,

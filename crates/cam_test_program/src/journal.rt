@@ -149,6 +149,7 @@ fn talk_in_turn(
     })
 }
 
+/// What has to be told of the two nodes.
 const TOLD: Told = Told {
     taken: Taken {
         event: 0,
@@ -158,7 +159,7 @@ const TOLD: Told = Told {
     next: (1, 2),
 };
 
-/// Fails where node 1 has not two events, of which the second is the third of all.
+/// Fails where node 1 has not two events, of which the second is 9 and the third of all.
 fn check_history(rt: &impl Abort, one: &NodeSeat<Numbers>) {
     same(
         rt,
@@ -167,7 +168,7 @@ fn check_history(rt: &impl Abort, one: &NodeSeat<Numbers>) {
     );
 }
 
-/// Fails where the events of both nodes are others.
+/// Fails where the events of both nodes are not 7, 8 and 9, numbered from 0.
 fn check_events(rt: &impl Abort, mut gathered: Gathered<Numbers>) {
     for want in [(0, 7), (1, 8), (2, 9)] {
         same(rt, gathered.take(), Some(want));
@@ -248,7 +249,7 @@ struct Next {
 }
 
 impl Next {
-    /// What the thread was to say that said this number.
+    /// What the thread that said this number was to say now. It is to say the next one then.
     fn due(&mut self, said: u64) -> u64 {
         if said < EACH {
             let due = self.one;

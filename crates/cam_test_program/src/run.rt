@@ -122,7 +122,8 @@ fn check_row(rt: &impl Abort, alloc: Global, row: &str) -> Result<(), Fail> {
     Ok(())
 }
 
-/// The call whose promise of worked scripts is proved. It does nothing when it runs.
+/// The call whose promise of worked scripts is proved. It does nothing when it runs. Called in a test, its promise would stand
+/// among what is known there, and make the proof of the test longer.
 fn call_worked_answers() {
     worked_answers();
 }

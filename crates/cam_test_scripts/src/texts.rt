@@ -86,7 +86,7 @@ fn what_was_not_created_has_no_witness(rt: HostRuntime) -> Result<(), Fail> {
     Ok(())
 }
 
-/// A letter of each kind that the other traces do not have.
+/// A letter of each kind but calls and answers, which other traces have.
 fn each_letter(alloc: Global, family: Name) -> Result<SentList, NoMemory> {
     let bodies = [
         Body::Finish {
@@ -103,6 +103,10 @@ fn each_letter(alloc: Global, family: Name) -> Result<SentList, NoMemory> {
         },
         Body::Query { family },
         Body::News,
+        Body::Start {
+            child: family,
+            deps: Deps::none(),
+        },
     ];
     let mut sent = SentList::new(alloc);
     for body in bodies {
@@ -121,7 +125,7 @@ fn preparing(alloc: Global, family: Name) -> Result<Event, NoMemory> {
     })
 }
 
-/// An event that sends a letter of each kind, and one with each other note.
+/// An event that sends a letter of each of these kinds, and one with each other note.
 fn each_letter_and_note(alloc: Global, family: Name) -> Result<Trace, NoMemory> {
     let mut trace = Trace::new(alloc);
     trace.push(preparing(alloc, family)?)?;
@@ -144,6 +148,7 @@ const EACH_LETTER_AND_NOTE: &str = "event 0 node 1 letter 0 note preparing
   sent 4 to 2 vote
   sent 5 to 2 query
   sent 6 to 2 news
+  sent 7 to 2 start
 event 1 node 2 letter 1 note missed
 event 2 node 2 letter 2 note again
 event 3 node 2 letter 3 note ended

@@ -17,16 +17,19 @@ fn shown(alloc: Global, text: &str) -> Result<String, Fail> {
 }
 
 /// Where and why a script is refused: the line, its column and the cause.
-fn fault_of(alloc: Global, text: &str) -> Result<(u32, u32, Cause), Fail> {
+type Fault = (u32, u32, Cause);
+
+/// The fault of a script. None where it is accepted.
+fn fault_of(alloc: Global, text: &str) -> Result<Option<Fault>, Fail> {
     match parse_timed(alloc, text.as_bytes()) {
-        Ok(_) => Err("no fault".into()),
+        Ok(_) => Ok(None),
         Err(
             ScriptFault::Bad {
                 line,
                 column,
                 cause,
             },
-        ) => Ok((line, column, cause)),
+        ) => Ok(Some((line, column, cause))),
         Err(ScriptFault::NoMemory) => Err(ScriptFault::NoMemory.into()),
     }
 }
@@ -73,7 +76,7 @@ const FOURTH_LINES: [(&str, u32, Cause); 21] = [
 ];
 
 /// The fault of a script of one node with a top action P and its child C, and then this line.
-fn fault_of_fourth(alloc: Global, line: &str) -> Result<(u32, u32, Cause), Fail> {
+fn fault_of_fourth(alloc: Global, line: &str) -> Result<Option<Fault>, Fail> {
     let text = format!(in alloc; "nodes 1\nbegin P 1 9\nask P C 1 9\n{line}\n")?;
     fault_of(alloc, text.as_str())
 }
@@ -83,7 +86,7 @@ fn faults_are_told(rt: HostRuntime) -> Result<(), Fail> {
     for place in 0..FOURTH_LINES.len() {
         let (line, column, cause) = FOURTH_LINES[place];
         let fault = fault_of_fourth(rt.alloc(), line)?;
-        same(&rt, (place, fault), (place, (4, column, cause)));
+        same(&rt, (place, fault), (place, Some((4, column, cause))));
     }
     Ok(())
 }
@@ -108,7 +111,7 @@ fn steps_are_counted(rt: HostRuntime) -> Result<(), Fail> {
     let alloc = rt.alloc();
     same(&rt, steps_of(alloc, ticks(alloc, 512)?.as_str())?, 512);
     let fault = fault_of(alloc, ticks(alloc, 513)?.as_str())?;
-    same(&rt, fault, (514, 1, Cause::TooMany));
+    same(&rt, fault, Some((514, 1, Cause::TooMany)));
     Ok(())
 }
 
@@ -116,7 +119,7 @@ fn steps_are_counted(rt: HostRuntime) -> Result<(), Fail> {
 fn nodes_come_first(rt: HostRuntime) -> Result<(), Fail> {
     for (text, line) in [("tick 1 5\n", 1), ("# no line\n", 2)] {
         let fault = fault_of(rt.alloc(), text)?;
-        same(&rt, fault, (line, 1, Cause::Misplaced));
+        same(&rt, fault, Some((line, 1, Cause::Misplaced)));
     }
     Ok(())
 }

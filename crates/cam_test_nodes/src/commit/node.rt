@@ -10,7 +10,7 @@ use std::alloc::Global;
 #[derive(Clone, Copy)]
 pub(super) enum Act {
     /// It begins to prepare a family. It may not where it is preparing it.
-    Prepares(Name),
+    BeginsToPrepare(Name),
     /// Whether it is preparing a family.
     IsPreparing(Name),
     /// Another node, at a count, votes yes for a family.
@@ -18,14 +18,14 @@ pub(super) enum Act {
     /// Another node, at a count, votes no.
     No(Name, u8, u32),
     /// It is to secure a family for the first count, and is at the second.
-    Prepare(Name, u32, u32),
+    IsToSecure(Name, u32, u32),
     /// It has secured a family.
     Secures(Name),
     /// It is asked after a family, and is at this count.
     Query(Name, u32),
     /// It learns how a family ended.
     Learns(Outcome),
-    /// It restarts, and its log has this family as secured.
+    /// It restarts, and its log has this family as secured at its count 2.
     RestartsWith(Name),
     /// It restarts, and its log has no family.
     Restarts,
@@ -35,6 +35,7 @@ pub(super) enum Act {
 #[derive(Clone, Copy, Debug, PartialEq, Eq)]
 pub(super) enum Answer {
     Done,
+    /// It may not begin to prepare: it is preparing.
     MayNot,
     Is(bool),
     Voted(Voted),
@@ -76,11 +77,11 @@ impl Node {
 
     fn answer(&mut self, alloc: Global, act: &Act) -> Result<Answer, NoMemory> {
         match act {
-            Act::Prepares(family) => self.prepare(family),
+            Act::BeginsToPrepare(family) => self.prepare(family),
             Act::IsPreparing(family) => Ok(Answer::Is(self.families.is_preparing(family))),
             Act::Yes(family, node, count) => self.yes(family, *node, *count),
             Act::No(family, node, count) => self.no(family, *node, *count),
-            Act::Prepare(family, count, present) => {
+            Act::IsToSecure(family, count, present) => {
                 let asked = self.families.asked(family, *count, *present, &self.know);
                 Ok(Answer::Asked(asked))
             }

@@ -156,7 +156,7 @@ impl Site {
     /// What happens at the site besides calls.
     fn change(&mut self, alloc: Global, step: &Step) -> Result<(), Fail> {
         match step {
-            Step::Called(_, _) => Ok(()),
+            Step::Called(_, _) => Err(Fail::new("a call is no change")),
             Step::Told(outcome) => self.tell(alloc, outcome),
             Step::Decided(outcome) => self.decide(outcome),
             Step::Copied => self.copy_server(),
@@ -233,7 +233,7 @@ fn new_server(alloc: Global, node: u8, objects: &Objects) -> Result<Server, NoMe
     Ok(Server::new(alloc, table, 1))
 }
 
-/// The first such step of these, one after the other at a node whose register begins with this value.
+/// The first of these steps, one after the other at a node whose register begins with this value, whose call is answered otherwise.
 pub(super) fn first_other(
     alloc: Global,
     node: u8,

@@ -183,12 +183,13 @@ fn answer_of(alloc: Global, script: &str, calls: u32, faults: u64) -> Result<(u8
 }
 
 /// What came of a run whose disk may fail.
-#[derive(Clone, Copy, Debug, PartialEq, Eq)]
+#[derive(Clone, Copy)]
 enum Outcome {
     /// The whole report.
     Report,
     /// That the disk of node 2 failed.
     DiskFault,
+    /// Something else.
     Other,
 }
 
