@@ -4,7 +4,8 @@ use crate::words::{event_text, letter_text};
 use cam_base::NoMemory;
 use cam_ckpt::{CheckpointLog, Ckpt};
 use cam_disk::{Disk, MemoryDisk, StopDisk};
-use cam_node::{Input, Node, NodeFault, Restarted, Stepped};
+use cam_event::LineRefusal;
+use cam_node::{Found, Input, Node, NodeFault, Restarted, Stepped};
 use cam_type::{CounterServer, ObjectDecl, Objects, QueueServer, RegisterServer, State};
 use std::alloc::Global;
 use std::fmt::Write;
@@ -16,7 +17,15 @@ enum Reaction {
     Stepped(Stepped),
     Fault(NodeFault),
     /// Nothing was put to it: this stands against it.
-    Refused(String),
+    Refused(Refusal),
+}
+
+/// Why an input was not put to a node.
+#[derive(Clone, Copy)]
+enum Refusal {
+    Halted,
+    Line(LineRefusal),
+    MayNotStep,
 }
 
 /// Node 1 over a disk that can be stopped. Object 0 is a register at node 1, which begins with 5, and object 1 is a counter at node 2.
@@ -64,12 +73,19 @@ impl Driven {
             let Some((line, want)) = row.split_once(" | ") else {
                 return Err(Fail::new("a row has no bar"));
             };
-            let told = self.take(line)?;
-            if told.as_str() != want {
-                return Err(Fail::new(format!(in self.alloc; "{line} | {told}")?));
-            }
+            self.check_row(line, want)?;
         }
         Ok(())
+    }
+
+    /// Fails where the line does not come to this, and tells what it comes to.
+    fn check_row(&mut self, line: &str, want: &str) -> Result<(), Fail> {
+        let told = self.take(line)?;
+        if told.as_str() == want {
+            Ok(())
+        } else {
+            Err(Fail::new(format!(in self.alloc; "{line} | {told}")?))
+        }
     }
 
     /// What a line comes to, in words.
@@ -113,26 +129,22 @@ pub(crate) fn two_objects(alloc: Global) -> Result<Objects, NoMemory> {
 }
 
 /// Puts an input to a node, where nothing stands against it.
-fn put<L: CheckpointLog>(
-    alloc: Global,
-    node: &mut Node<L>,
-    input: &Input,
-) -> Result<Reaction, NoMemory> {
+fn put<L: CheckpointLog>(alloc: Global, node: &mut Node<L>, input: &Input) -> Reaction {
     if node.is_halted() {
-        return Ok(Reaction::Refused(String::from_str(alloc, "halted before")?));
+        return Reaction::Refused(Refusal::Halted);
     }
     if let Some(refusal) = node.refusal(input) {
-        return Ok(Reaction::Refused(format!(in alloc; "refused {refusal:?}")?));
+        return Reaction::Refused(Refusal::Line(refusal));
     }
     if !node.may_step(input) {
-        return Ok(Reaction::Refused(String::from_str(alloc, "may not be put to a node")?));
+        return Reaction::Refused(Refusal::MayNotStep);
     }
     let mut register = RegisterServer::new();
     let mut queue = QueueServer::new(alloc);
     let mut counter = CounterServer::new();
     match node.step(input, &mut register, &mut queue, &mut counter) {
-        Ok(stepped) => Ok(Reaction::Stepped(stepped)),
-        Err(fault) => Ok(Reaction::Fault(fault)),
+        Ok(stepped) => Reaction::Stepped(stepped),
+        Err(fault) => Reaction::Fault(fault),
     }
 }
 
@@ -142,10 +154,10 @@ fn stepped<L: CheckpointLog>(
     node: &mut Node<L>,
     input: &Input,
 ) -> Result<String, Fail> {
-    match put(alloc, node, input)? {
+    match put(alloc, node, input) {
         Reaction::Stepped(stepped) => stepped_text(alloc, &stepped),
         Reaction::Fault(fault) => fault_text(alloc, fault, node.is_halted()),
-        Reaction::Refused(refused) => Ok(refused),
+        Reaction::Refused(refusal) => refusal_text(alloc, refusal),
     }
 }
 
@@ -164,7 +176,12 @@ pub(crate) fn restarted<L: CheckpointLog>(
 /// reached the log. What has nothing to tell is left out.
 fn restarted_text(alloc: Global, restarted: &Restarted) -> Result<String, Fail> {
     let mut text = stepped_text(alloc, &restarted.stepped)?;
-    let found = &restarted.found;
+    tell_found(alloc, &mut text, &restarted.found)?;
+    Ok(text)
+}
+
+/// Adds what was found to the text.
+fn tell_found(alloc: Global, text: &mut String, found: &Found) -> Result<(), Fail> {
     if let Some(event) = &found.event {
         if event.node != 1 {
             return Err(Fail::new("an event of another node was found"));
@@ -174,7 +191,7 @@ fn restarted_text(alloc: Global, restarted: &Restarted) -> Result<String, Fail> 
     if found.restarts > 0 {
         write!(text, "; restarts before {}", found.restarts)?;
     }
-    Ok(text)
+    Ok(())
 }
 
 /// The letter by which a node tells another what it knows.
@@ -183,13 +200,18 @@ pub(crate) fn told<L: CheckpointLog>(
     node: &mut Node<L>,
     to: u8,
 ) -> Result<String, Fail> {
-    match put(alloc, node, &Input::Tell(to))? {
-        Reaction::Stepped(stepped) => match stepped.letters.get(0) {
-            Some(letter) => Ok(letter_text(alloc, letter)?),
-            None => Err(Fail::new("no letter was sent")),
-        },
+    match put(alloc, node, &Input::Tell(to)) {
+        Reaction::Stepped(stepped) => first_letter_text(alloc, &stepped),
         Reaction::Fault(fault) => fault_text(alloc, fault, node.is_halted()),
-        Reaction::Refused(refused) => Ok(refused),
+        Reaction::Refused(refusal) => refusal_text(alloc, refusal),
+    }
+}
+
+/// The letter that was sent first.
+fn first_letter_text(alloc: Global, stepped: &Stepped) -> Result<String, Fail> {
+    match stepped.letters.get(0) {
+        Some(letter) => Ok(letter_text(alloc, letter)?),
+        None => Err(Fail::new("no letter was sent")),
     }
 }
 
@@ -199,6 +221,15 @@ fn stepped_text(alloc: Global, stepped: &Stepped) -> Result<String, Fail> {
         return Err(Fail::new("letters of another event, or of another node"));
     }
     Ok(event_text(alloc, &stepped.event)?)
+}
+
+/// What stands against an input.
+fn refusal_text(alloc: Global, refusal: Refusal) -> Result<String, Fail> {
+    match refusal {
+        Refusal::Halted => Ok(String::from_str(alloc, "halted before")?),
+        Refusal::Line(refusal) => Ok(format!(in alloc; "refused {refusal:?}")?),
+        Refusal::MayNotStep => Ok(String::from_str(alloc, "may not be put to a node")?),
+    }
 }
 
 fn fault_text(alloc: Global, fault: NodeFault, is_halted: bool) -> Result<String, Fail> {

@@ -28,6 +28,14 @@ impl Line {
     }
 }
 
+/// What a letter brings besides what it says.
+#[derive(Drop)]
+struct Brought {
+    know: Know,
+    have: u64,
+    place: u64,
+}
+
 /// The words of a line that are not read yet. One blank stands between two.
 #[derive(Drop)]
 struct Words<'a> {
@@ -167,38 +175,54 @@ impl Words<'_> {
         })
     }
 
-    /// A letter to node 1, at the first count of its sender: the sender, what the letter brings, and what it says. It brings outcomes
-    /// (`aborted 2.1.1`; `committed 2.1.1`, which depends on node 2 at its count 1), counts (`knows 2 2`) and places (`have 2`, `place 5`).
+    /// A letter to node 1, at the first count of its sender: the sender, what the letter brings, and what it says.
     fn letter(&mut self, alloc: Global) -> Result<Letter, Fail> {
         let from = self.small()?;
-        let mut know = Know::new(alloc);
-        let mut have = 0;
-        let mut place = 0;
-        let mut first = self.word();
-        for _ in 0..8 {
-            match first {
-                "aborted" => know.add(&Outcome::Aborted(self.name()?))?,
-                "committed" => {
-                    let deps = Deps::none().with(2, 1);
-                    know.add(&Outcome::Committed(self.name()?, deps))?;
-                }
-                "knows" => self.knows(&mut know)?,
-                "have" => have = self.place()?,
-                "place" => place = self.place()?,
-                _ => break,
-            }
-            first = self.word();
-        }
-        let body = self.body(first)?;
+        let mut brought = Brought {
+            know: Know::new(alloc),
+            have: 0,
+            place: 0,
+        };
+        let body = self.brought_and_body(&mut brought)?;
         Ok(Letter {
             from,
             count: 1,
             to: 1,
-            have,
-            place,
-            know,
+            have: brought.have,
+            place: brought.place,
+            know: brought.know,
             body,
         })
+    }
+
+    /// What a letter says, after what it brings.
+    fn brought_and_body(&mut self, brought: &mut Brought) -> Result<Body, Fail> {
+        let mut first = self.word();
+        for _ in 0..8 {
+            if !self.bring(brought, first)? {
+                break;
+            }
+            first = self.word();
+        }
+        self.body(first)
+    }
+
+    /// Whether a letter brings what begins with this word: outcomes (`aborted 2.1.1`; `committed 2.1.1`, which depends on node 2 at its
+    /// count 1), counts (`knows 2 2`) and places (`have 2`, `place 5`).
+    fn bring(&mut self, brought: &mut Brought, first: &str) -> Result<bool, Fail> {
+        match first {
+            "aborted" => brought.know.add(&Outcome::Aborted(self.name()?))?,
+            "committed" => {
+                let deps = Deps::none().with(2, 1);
+                let committed = Outcome::Committed(self.name()?, deps);
+                brought.know.add(&committed)?;
+            }
+            "knows" => self.knows(&mut brought.know)?,
+            "have" => brought.have = self.place()?,
+            "place" => brought.place = self.place()?,
+            _ => return Ok(false),
+        }
+        Ok(true)
     }
 
     fn knows(&mut self, know: &mut Know) -> Result<(), Fail> {
