@@ -78,25 +78,39 @@ fn write_three(disk: &mut HostDisk) -> Result<(), Fail> {
     Ok(())
 }
 
-/// How many bytes are read of a disk behind its first and the first two of them, how many behind its third, and how
-/// often it has failed.
-fn read_back(disk: &mut HostDisk) -> Result<(usize, [u8; 2], usize, u64), Fail> {
+/// What is read back of a disk: how many bytes behind its first and the first two of them, how many behind its third,
+/// and how often it has failed.
+#[derive(Clone, Copy, Debug, PartialEq, Eq)]
+struct ReadBack {
+    count: usize,
+    first: [u8; 2],
+    behind: usize,
+    failures: u64,
+}
+
+/// What is read back of this disk.
+fn read_back(disk: &mut HostDisk) -> Result<ReadBack, Fail> {
     let mut into = [0u8; 9];
     let count = disk.read(1, &mut into)?;
     let first = [into[0], into[1]];
     let behind = disk.read(3, &mut into)?;
-    Ok((count, first, behind, disk.failures()))
+    Ok(ReadBack {
+        count,
+        first,
+        behind,
+        failures: disk.failures(),
+    })
 }
 
 /// What is read back of the disk of a file, once it was written.
-fn written_and_read(rt: &HostRuntime, path: &str) -> Result<(usize, [u8; 2], usize, u64), Fail> {
+fn written_and_read(rt: &HostRuntime, path: &str) -> Result<ReadBack, Fail> {
     let mut disk = HostDisk::File(FileDisk::open(rt, rt.alloc(), path));
     write_three(&mut disk)?;
     read_back(&mut disk)
 }
 
 /// Fails the test where what was read of a file is not this text.
-fn is_read(rt: &impl Abort, read: io::Result<String>, text: &str) -> Result<(), Fail> {
+fn same_text(rt: &impl Abort, read: io::Result<String>, text: &str) -> Result<(), Fail> {
     let read = read?;
     same(rt, read.as_str(), text);
     Ok(())
@@ -106,8 +120,14 @@ fn is_read(rt: &impl Abort, read: io::Result<String>, text: &str) -> Result<(), 
 fn a_file_keeps_what_was_written(rt: HostRuntime) -> Result<(), Fail> {
     let path = "cam_disk_kept.log";
     fs::write(&rt, path, "what another run left")?;
-    same(&rt, written_and_read(&rt, path)?, (2, *b"xy", 0, 0));
-    is_read(&rt, fs::read_to_string(&rt, path), "axy")?;
+    let wanted = ReadBack {
+        count: 2,
+        first: *b"xy",
+        behind: 0,
+        failures: 0,
+    };
+    same(&rt, written_and_read(&rt, path)?, wanted);
+    same_text(&rt, fs::read_to_string(&rt, path), "axy")?;
     Ok(fs::remove_file(&rt, path)?)
 }
 
@@ -148,7 +168,7 @@ fn a_file_that_another_one_writes_fails(rt: HostRuntime) -> Result<(), Fail> {
     for other in ["abd", "ab", "abcd"] {
         let seen = read_and_cut_after(&rt, path, other)?;
         same(&rt, (other, seen), (other, failed));
-        is_read(&rt, fs::read_to_string(&rt, path), other)?;
+        same_text(&rt, fs::read_to_string(&rt, path), other)?;
     }
     Ok(fs::remove_file(&rt, path)?)
 }
@@ -176,7 +196,7 @@ fn a_file_of_another_run_is_no_log_of_this_one(rt: HostRuntime) -> Result<(), Fa
     same(&rt, first_read(&rt, path), Err(DiskError::Failed));
     same(&rt, first_write(&rt, path), Err(DiskError::Failed));
     same(&rt, first_sync(&rt, path), Err(DiskError::Failed));
-    is_read(&rt, fs::read_to_string(&rt, path), "abc")?;
+    same_text(&rt, fs::read_to_string(&rt, path), "abc")?;
     Ok(fs::remove_file(&rt, path)?)
 }
 

@@ -2,7 +2,7 @@
 use crate::check::same;
 use crate::log::{formatted, opened};
 use crate::recman::{ADDS, ALL, LATER};
-use crate::recovery::{entries_of, recovered_by};
+use crate::recovery::{Summary, entries_of, recovered_by};
 use cam_disk::MemoryDisk;
 use cam_log::{Entries, EntryLog, StopLog};
 use cam_recman::{MigrateFault, Migrated, encode_entry, migrate, recover, snapshot};
@@ -13,7 +13,7 @@ use std::test::Fail;
 /// The answer of a migration.
 type Answer = Result<Migrated, MigrateFault>;
 
-/// What migrating a log answers that is not broken.
+/// Migrates a log, and returns what that answers; fails where the log is broken.
 fn migrate_whole<L: EntryLog>(alloc: Global, log: &mut L) -> Result<Answer, Fail> {
     if log.is_broken() {
         return Err(Fail::new("the log is broken"));
@@ -35,7 +35,7 @@ fn stopped_migration(alloc: Global, calls: u32) -> Result<(Answer, MemoryDisk), 
 #[derive(Clone, Copy, Debug, PartialEq, Eq)]
 struct Again {
     entries: usize,
-    recovered: (u32, u64, usize),
+    recovered: Summary,
     migrated: Answer,
     entries_then: usize,
 }
@@ -69,7 +69,11 @@ fn a_migrated_log_recovers_the_same(rt: HostRuntime) -> Result<(), Fail> {
         same(&rt, (calls, answered), (calls, answer));
         let wanted = Again {
             entries,
-            recovered: (2, 2, 1),
+            recovered: Summary {
+                count: 2,
+                outcomes: 2,
+                families: 1,
+            },
             migrated: Ok(which),
             entries_then: 2,
         };
@@ -92,8 +96,8 @@ fn kept_of(alloc: Global, all: &[&[u8]]) -> Result<Vec<u8>, Fail> {
     kept_bytes(alloc, &entries)
 }
 
-/// Fails the test where the one entry that keeps what these say has other bytes.
-fn is_kept_as(rt: &impl Abort, alloc: Global, all: &[&[u8]], wanted: &[u8]) -> Result<(), Fail> {
+/// Fails the test where the one entry that keeps what the entries of these bytes say has other bytes.
+fn same_kept(rt: &impl Abort, alloc: Global, all: &[&[u8]], wanted: &[u8]) -> Result<(), Fail> {
     let kept = kept_of(alloc, all)?;
     same(rt, kept.as_slice(), wanted);
     Ok(())
@@ -130,8 +134,8 @@ fn one_entry_keeps_what_all_entries_say(rt: HostRuntime) -> Result<(), Fail> {
     ];
     for (all, pieces) in rows {
         let wanted = joined(alloc, pieces)?;
-        is_kept_as(&rt, alloc, all, &wanted)?;
-        is_kept_as(&rt, alloc, &[wanted.as_slice()], &wanted)?;
+        same_kept(&rt, alloc, all, &wanted)?;
+        same_kept(&rt, alloc, &[wanted.as_slice()], &wanted)?;
     }
     Ok(())
 }

@@ -25,12 +25,24 @@ fn recovered_from(alloc: Global, all: &[&[u8]]) -> Result<Recovered, Fail> {
 }
 
 /// What was recovered, in short: the count, how many outcomes, and how many families.
-fn in_short(recovered: &Recovered) -> (u32, u64, usize) {
-    (recovered.count, recovered.know.len(), recovered.held.len())
+#[derive(Clone, Copy, Debug, PartialEq, Eq)]
+pub(super) struct Summary {
+    pub(super) count: u32,
+    pub(super) outcomes: u64,
+    pub(super) families: usize,
+}
+
+/// What was recovered, in short.
+fn in_short(recovered: &Recovered) -> Summary {
+    Summary {
+        count: recovered.count,
+        outcomes: recovered.know.len(),
+        families: recovered.held.len(),
+    }
 }
 
 /// What a log recovers, in short.
-pub(super) fn recovered_by<L: EntryLog>(alloc: Global, log: &L) -> Result<(u32, u64, usize), Fail> {
+pub(super) fn recovered_by<L: EntryLog>(alloc: Global, log: &L) -> Result<Summary, Fail> {
     Ok(in_short(&restart(alloc, log)?))
 }
 
@@ -57,7 +69,12 @@ fn holding_at(recovered: &Recovered, place: usize) -> Option<Holding> {
 #[test]
 fn nothing_is_recovered_from_no_entries(rt: HostRuntime) -> Result<(), Fail> {
     let recovered = recovered_from(rt.alloc(), &[])?;
-    same(&rt, in_short(&recovered), (1, 0, 0));
+    let wanted = Summary {
+        count: 1,
+        outcomes: 0,
+        families: 0,
+    };
+    same(&rt, in_short(&recovered), wanted);
     Ok(())
 }
 
@@ -65,8 +82,13 @@ fn nothing_is_recovered_from_no_entries(rt: HostRuntime) -> Result<(), Fail> {
 fn counts_and_outcomes_are_recovered(rt: HostRuntime) -> Result<(), Fail> {
     let first = Name::parse("1.1.1")?;
     let second = Name::parse("2.3.4/1.2.1")?;
+    let wanted = Summary {
+        count: 5,
+        outcomes: 3,
+        families: 2,
+    };
     let all = recovered_from(rt.alloc(), &[&ALL, &[], &LATER])?;
-    same(&rt, in_short(&all), (5, 3, 2));
+    same(&rt, in_short(&all), wanted);
     same(&rt, (all.know.count(1), all.know.count(3)), (1, 4));
     let outcomes = (
         all.know.is_aborted(&first),
@@ -132,16 +154,13 @@ fn stopped_append(alloc: Global, calls: u32) -> Result<(Result<(), LogFault>, Me
 }
 
 /// What the log on a disk recovers, in short.
-fn recovered_on(alloc: Global, disk: MemoryDisk) -> Result<(u32, u64, usize), Fail> {
+fn recovered_on(alloc: Global, disk: MemoryDisk) -> Result<Summary, Fail> {
     let log = opened(alloc, disk)?;
     recovered_by(alloc, &log)
 }
 
 /// What that append answers, and what its disk recovers then, in short.
-fn seen_of_append(
-    alloc: Global,
-    calls: u32,
-) -> Result<(Result<(), LogFault>, (u32, u64, usize)), Fail> {
+fn seen_of_append(alloc: Global, calls: u32) -> Result<(Result<(), LogFault>, Summary), Fail> {
     let (answer, disk) = stopped_append(alloc, calls)?;
     Ok((answer, recovered_on(alloc, disk)?))
 }
@@ -149,13 +168,23 @@ fn seen_of_append(
 #[test]
 fn a_stopped_append_recovers_as_before_or_after(rt: HostRuntime) -> Result<(), Fail> {
     let stopped = Err(LogFault::DiskFault);
+    let before = Summary {
+        count: 2,
+        outcomes: 2,
+        families: 1,
+    };
+    let after = Summary {
+        count: 5,
+        outcomes: 3,
+        families: 2,
+    };
     // The device calls that are passed on, the answer, and what is recovered then, in short.
     let rows = [
-        (0, stopped, (2, 2, 1)),
-        (1, stopped, (2, 2, 1)),
-        (2, stopped, (2, 2, 1)),
-        (3, stopped, (5, 3, 2)),
-        (4, Ok(()), (5, 3, 2)),
+        (0, stopped, before),
+        (1, stopped, before),
+        (2, stopped, before),
+        (3, stopped, after),
+        (4, Ok(()), after),
     ];
     for (calls, answer, recovered) in rows {
         let seen = seen_of_append(rt.alloc(), calls)?;

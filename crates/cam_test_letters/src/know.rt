@@ -1,5 +1,5 @@
 // What is known, and what is answered by it.
-use crate::check::{holds, same};
+use crate::check::same;
 use cam_base::{NoMemory, Sequence};
 use cam_know::{Know, Outcome};
 use cam_names::{Deps, Name, NameFault, Part};
@@ -139,14 +139,15 @@ fn joined_twice(alloc: Global, know: &Know) -> Result<Know, NoMemory> {
     Ok(other)
 }
 
-/// How many outcomes are known, how many once they are learnt by a join, and how many of those are news then.
+/// How many outcomes are known, how many once they are learnt by two joins, and how many of those are news then.
 fn joined_counts(alloc: Global, know: &Know) -> Result<(u64, u64, u64), NoMemory> {
     let other = joined_twice(alloc, know)?;
     let news = know.news_of(&other)?;
     Ok((know.len(), other.len(), news.len()))
 }
 
-/// The children of one action commit and abort in turn. What is known of all of them is learnt by one join.
+/// The children of one action commit and abort in turn. What is known of all of them is learnt by a join; a second
+/// brings nothing.
 #[test]
 fn many_outcomes_are_joined(rt: HostRuntime) -> Result<(), Fail> {
     let top = Name::parse("1.1.1")?;
@@ -155,7 +156,7 @@ fn many_outcomes_are_joined(rt: HostRuntime) -> Result<(), Fail> {
     Ok(())
 }
 
-/// What is learnt by a join where the first fifty children of an action commit, and each second one also aborts.
+/// What is learnt by two joins where the first fifty children of an action commit, and each second one also aborts.
 fn joined_of_fifty(alloc: Global, top: &Name) -> Result<Know, NoMemory> {
     let know = known_of_fifty(alloc, top)?;
     joined_twice(alloc, &know)
@@ -238,7 +239,8 @@ fn outcomes_are_known_at_once(rt: HostRuntime) -> Result<(), Fail> {
     let child = Name::parse("1.1.1/2.1.1")?;
     let know = known_at_once(rt.alloc(), child)?;
     same(&rt, (know.len(), know.count(2)), (3, 9));
-    holds(&rt, know.is_aborted(&child) && know.is_committed(&child));
+    let ended = (know.is_aborted(&child), know.is_committed(&child));
+    same(&rt, ended, (true, true));
     same(&rt, know.oldest(&top).count_of(2), 5);
     Ok(())
 }

@@ -1,4 +1,5 @@
-//! Tests of `cam_know`, `cam_orphan`, `cam_comman`, `cam_wire` and `cam_net` through their public calls, a module for each.
+//! Tests of `cam_know`, `cam_orphan`, `cam_comman`, `cam_wire` and `cam_net` through their public calls, a module for
+//! each, and `check`, by which they assert.
 #![tactic(auto)]
 
 #[cfg(test)]

@@ -50,7 +50,8 @@ enum Line {
 
 use Line::{Deliver, Lose, Put};
 
-/// What is seen of a network where a line is done: the number of the letter that is put, or whether one is lost.
+/// What is seen of a network where a line is done: the number of the letter that is put, whether one is lost, or
+/// nothing where one is delivered.
 #[derive(Clone, Copy, Debug, PartialEq, Eq)]
 enum Done {
     Number(u32),

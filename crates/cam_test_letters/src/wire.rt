@@ -4,7 +4,7 @@ mod changes;
 ghost use Rattle.std.specs.Prelude.{◌<◌};
 ghost use Rattle.cam_wire.specs.Writable.{IsWritable, IsWritableBody};
 
-use crate::check::{holds, same};
+use crate::check::same;
 use cam_base::NoMemory;
 use cam_event::{Body, Letter, Reply};
 use cam_know::{Know, Outcome};
@@ -27,7 +27,8 @@ const CALL: [u8; 67] = [
     0, 0, 1,
 ];
 
-/// A Quit of 1.1.2 from node 2 at count 3 to node 1. Node 4 is known at count 2, 1.1.1 and 1.1.2 aborted, 2.3.1 committed.
+/// A Quit of 1.1.2 from node 2 at count 3 to node 1. Node 4 is known at count 2, 1.1.1 and 1.1.2 aborted, 2.3.1
+/// committed.
 const QUIT: [u8; 89] = [
     2, 2, 0, 0, 0, 3, 1, 0, 0, 0, 0, 0, 0, 0, 3, 0, 0, 0, 0, 0, 0, 0, 4, 2, 2, 0, 0, 0, 3, 4, 0, 0,
     0, 2, 0, 0, 0, 2, 1, 1, 0, 0, 0, 1, 0, 0, 0, 1, 1, 1, 0, 0, 0, 1, 0, 0, 0, 2, 0, 0, 0, 1, 1, 2,
@@ -129,17 +130,19 @@ fn what_is_known_is_spelled_as_the_format_says(rt: HostRuntime) -> Result<(), Fa
 fn a_letter_is_read_as_the_format_says(rt: HostRuntime) -> Result<(), Fail> {
     let top = Name::parse("1.1.1")?;
     let committed = Name::parse("2.3.1")?;
-    let read = decode(rt.alloc(), &QUIT)?;
-    same(&rt, (read.from, read.count, read.to), (2, 3, 1));
-    same(&rt, (read.know.len(), read.know.count(4)), (3, 2));
-    holds(
-        &rt,
-        read.know.is_aborted(&top) && read.know.is_committed(&committed),
+    let letter = decode(rt.alloc(), &QUIT)?;
+    same(&rt, (letter.from, letter.count, letter.to), (2, 3, 1));
+    same(&rt, (letter.know.len(), letter.know.count(4)), (3, 2));
+    let ended = (
+        letter.know.is_aborted(&top),
+        letter.know.is_committed(&committed),
     );
+    same(&rt, ended, (true, true));
     Ok(())
 }
 
-/// Whether a letter as `NEWS` but with this body is spelled as the first 32 bytes of `NEWS`, the tag, the name 1.1.1 and these bytes.
+/// Whether a letter as `NEWS` but with this body is spelled as the first 32 bytes of `NEWS`, the tag, the name 1.1.1
+/// and these bytes.
 fn is_spelled(alloc: Global, body: Body, tag: u8, fields: &[u8]) -> Result<bool, NoMemory>
     requires { IsWritableBody body }
 {
@@ -149,40 +152,55 @@ fn is_spelled(alloc: Global, body: Body, tag: u8, fields: &[u8]) -> Result<bool,
 }
 
 #[test]
-fn each_body_is_spelled_as_the_format_says(rt: HostRuntime) -> Result<(), Fail> {
+fn start_finish_prepare_and_query_are_spelled_as_the_format_says(
+    rt: HostRuntime,
+) -> Result<(), Fail> {
     let alloc = rt.alloc();
     let name = Name::top(Part::new(1, 1, 1).ok_or("no part")?);
     let start = Body::Start {
         child: name,
         deps: Deps::none().with(1, 1),
     };
-    holds(&rt, is_spelled(alloc, start, 1, &[1, 1, 0, 0, 0, 1])?);
+    let spelled = is_spelled(alloc, start, 1, &[1, 1, 0, 0, 0, 1])?;
+    same(&rt, ("Start", spelled), ("Start", true));
     let finish = Body::Finish {
         action: name,
         value: -1,
         deps: Deps::none(),
     };
     let fields = [255, 255, 255, 255, 255, 255, 255, 255, 0];
-    holds(&rt, is_spelled(alloc, finish, 4, &fields)?);
+    let spelled = is_spelled(alloc, finish, 4, &fields)?;
+    same(&rt, ("Finish", spelled), ("Finish", true));
     let prepare = Body::Prepare {
         family: name,
         count: 1,
     };
-    holds(&rt, is_spelled(alloc, prepare, 6, &[0, 0, 0, 1])?);
+    let spelled = is_spelled(alloc, prepare, 6, &[0, 0, 0, 1])?;
+    same(&rt, ("Prepare", spelled), ("Prepare", true));
+    let query = Body::Query { family: name };
+    let spelled = is_spelled(alloc, query, 8, &[])?;
+    same(&rt, ("Query", spelled), ("Query", true));
+    Ok(())
+}
+
+#[test]
+fn each_vote_is_spelled_as_the_format_says(rt: HostRuntime) -> Result<(), Fail> {
+    let alloc = rt.alloc();
+    let name = Name::top(Part::new(1, 1, 1).ok_or("no part")?);
     let yes = Body::Vote {
         family: name,
         count: 1,
         yes: true,
     };
-    holds(&rt, is_spelled(alloc, yes, 7, &[0, 0, 0, 1, 1])?);
+    let spelled = is_spelled(alloc, yes, 7, &[0, 0, 0, 1, 1])?;
+    same(&rt, ("yes", spelled), ("yes", true));
     let no = Body::Vote {
         family: name,
         count: 1,
         yes: false,
     };
-    holds(&rt, is_spelled(alloc, no, 7, &[0, 0, 0, 1, 0])?);
-    let query = Body::Query { family: name };
-    holds(&rt, is_spelled(alloc, query, 8, &[])?);
+    let spelled = is_spelled(alloc, no, 7, &[0, 0, 0, 1, 0])?;
+    same(&rt, ("no", spelled), ("no", true));
     Ok(())
 }
 
@@ -270,21 +288,5 @@ fn letters_are_read_and_other_bytes_refused(rt: HostRuntime) -> Result<(), Fail>
     }
     let rest = fault_of_parts(alloc, &[&NEWS, &[0]])?;
     same(&rt, rest, Some(WireFault::Rest(33)));
-    Ok(())
-}
-
-/// 2.3.1 is committed twice, the second time with no dependencies.
-#[test]
-fn a_name_that_is_committed_twice_is_refused(rt: HostRuntime) -> Result<(), Fail> {
-    let parts: [&[u8]; 6] = [
-        &QUIT[..58],
-        &[0, 0, 0, 2],
-        &QUIT[62..78],
-        &QUIT[62..72],
-        &[0],
-        &QUIT[78..],
-    ];
-    let fault = fault_of_parts(rt.alloc(), &parts)?;
-    same(&rt, fault, Some(WireFault::Order(78)));
     Ok(())
 }

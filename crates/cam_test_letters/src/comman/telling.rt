@@ -51,7 +51,7 @@ fn told_to_first(from: &Node) -> Result<(Load, u32), NoMemory>
     Ok((load_of(&letter), letter.know.count(2)))
 }
 
-/// What node 2 then tells node 1 has no outcomes, and so has what node 1 tells itself, which has no places.
+/// After an exchange, what node 2 tells node 1 has no outcomes, nor has what node 1 tells itself, which has no places.
 #[test]
 fn what_is_acknowledged_is_not_told_again(rt: HostRuntime) -> Result<(), Fail> {
     let mut sender = second_node(rt.alloc())?;
