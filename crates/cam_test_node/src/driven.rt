@@ -23,8 +23,11 @@ enum Reaction {
 /// Why an input was not put to a node.
 #[derive(Clone, Copy)]
 enum Refusal {
+    /// It halted before.
     Halted,
+    /// The node refuses it.
     Line(LineRefusal),
+    /// `may_step` is false of it.
     MayNotStep,
 }
 

@@ -207,8 +207,8 @@ impl Words<'_> {
         self.body(first)
     }
 
-    /// Whether a letter brings what begins with this word: outcomes (`aborted 2.1.1`; `committed 2.1.1`, which depends on node 2 at its
-    /// count 1), counts (`knows 2 2`) and places (`have 2`, `place 5`).
+    /// Reads what a letter brings that begins with this word: outcomes (`aborted 2.1.1`; `committed 2.1.1`, which depends on node 2 at its
+    /// count 1), counts (`knows 2 2`) and places (`have 2`, `place 5`). False, and nothing is read, where no such thing begins so.
     fn bring(&mut self, brought: &mut Brought, first: &str) -> Result<bool, Fail> {
         match first {
             "aborted" => brought.know.add(&Outcome::Aborted(self.name()?))?,

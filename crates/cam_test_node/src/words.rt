@@ -10,8 +10,7 @@ use cam_names::Name;
 use std::alloc::Global;
 use std::fmt::Write;
 
-/// A text to which words are written, with a blank before each but the first. Its calls make no value that is dropped at their exits: so they
-/// are proved in little time.
+/// A text to which words are written. Its calls make no value that is dropped at their exits: so they are proved in little time.
 #[derive(Drop)]
 struct Telling {
     alloc: Global,
@@ -19,6 +18,7 @@ struct Telling {
 }
 
 impl Telling {
+    /// A word, after a blank where the text has begun.
     fn word(&mut self, word: &str) -> Result<(), NoMemory> {
         if !self.text.is_empty() {
             self.text.push_str(" ")?;
@@ -27,17 +27,19 @@ impl Telling {
         Ok(())
     }
 
+    /// A number, after a blank.
     fn number(&mut self, number: i64) -> Result<(), NoMemory> {
         write!(self.text, " {number}")?;
         Ok(())
     }
 
+    /// A name, after a blank.
     fn name(&mut self, name: &Name) -> Result<(), NoMemory> {
         self.text.push_str(" ")?;
         name.write_text(self.alloc, &mut self.text)
     }
 
-    /// `2:1`
+    /// `2:1`, after a blank.
     fn pair(&mut self, node: u8, count: u32) -> Result<(), NoMemory> {
         write!(self.text, " {node}:{count}")?;
         Ok(())
