@@ -110,6 +110,7 @@ struct Names {
 }
 
 impl Names {
+    /// The top actions P and D, at home at node 1, and P's child C, at home at node 4.
     fn new() -> Result<Names, Fail> {
         Ok(Names {
             p: Name::parse("1.1.1")?,
@@ -124,8 +125,7 @@ impl Names {
     }
 }
 
-/// C asks for y after D has committed. In the past of that call, the last step of C's view, stands neither the abort of C nor anything of
-/// D.
+/// C asks for y after D has committed. In the past of that call, the last step of C's view, stands neither C's abort nor anything of D.
 #[test]
 fn the_witness_of_an_orphan_has_no_abort(rt: HostRuntime) -> Result<(), Fail> {
     let names = Names::new()?;

@@ -1,11 +1,11 @@
 //! `cam_live`: what stays live through a crash.
 use crate::check::same;
 use cam_base::NoMemory;
-use cam_event::{Deed, Deeds};
+use cam_event::Deed;
 use cam_live::{live, settled};
 use cam_names::Name;
-use cam_samples::{call, crash, inform, perform, registers, secure};
-use cam_type::{Answer, Objects, Op};
+use cam_samples::{call, crash, deeds_of, inform, perform, registers, secure};
+use cam_type::{Answer, Op};
 use std::alloc::Global;
 use std::test::Fail;
 
@@ -25,37 +25,25 @@ fn two_writes(secured: Name, late: Name) -> [Deed; 9] {
     ]
 }
 
-/// After each deed of `two_writes`, how many operations are live, and how many of them are settled.
-const COUNTS: [(usize, usize); 9] = [
-    (0, 0),
-    (1, 0),
-    (1, 0),
-    (2, 0),
-    (2, 1),
-    (2, 1),
-    (1, 0),
-    (1, 0),
-    (0, 0),
-];
-
 /// What lives after some deeds.
 #[derive(Clone, Copy, Debug, PartialEq, Eq)]
-struct Standing {
-    /// How many deeds.
-    deeds: usize,
-    /// How many operations are live, and the action of the first.
+struct Lived {
+    /// How many operations are live.
     lives: usize,
+    /// The action of the first live operation.
     first: Option<Name>,
-    /// How many of them are settled.
+    /// How many of the live operations are settled.
     settles: usize,
 }
 
-impl Standing {
-    fn after(alloc: Global, deeds: &Deeds, objects: &Objects) -> Result<Standing, NoMemory> {
-        let settles = settled(alloc, deeds, objects)?.len();
-        let live = live(alloc, deeds, objects)?;
-        Ok(Standing {
-            deeds: deeds.len(),
+impl Lived {
+    /// What lives after these deeds over two registers at node 1.
+    fn after(alloc: Global, deeds: &[Deed]) -> Result<Lived, NoMemory> {
+        let objects = registers(alloc, &[1, 1])?;
+        let deeds = deeds_of(alloc, deeds)?;
+        let settles = settled(alloc, &deeds, &objects)?.len();
+        let live = live(alloc, &deeds, &objects)?;
+        Ok(Lived {
             lives: live.len(),
             first: live.get(0).map(|first| first.action),
             settles,
@@ -63,23 +51,33 @@ impl Standing {
     }
 }
 
+/// How many operations are live after so many deeds of `two_writes`, and how many of them are settled.
+const COUNTS: [(usize, usize, usize); 9] = [
+    (1, 0, 0),
+    (2, 1, 0),
+    (3, 1, 0),
+    (4, 2, 0),
+    (5, 2, 1),
+    (6, 2, 1),
+    (7, 1, 0),
+    (8, 1, 0),
+    (9, 0, 0),
+];
+
 /// Where any operation is live, the first is of the action whose write is secured.
 #[test]
 fn a_crash_keeps_what_was_secured_before(rt: HostRuntime) -> Result<(), Fail> {
-    let alloc = rt.alloc();
     let secured = Name::parse("1.1.1")?;
-    let list = two_writes(secured, Name::parse("1.1.2")?);
-    let objects = registers(alloc, &[1, 1])?;
-    let mut deeds = Deeds::new(alloc);
-    for (deed, (lives, settles)) in list.iter().zip(&COUNTS) {
-        deeds.push_copy(deed)?;
-        let wanted = Standing {
-            deeds: deeds.len(),
-            lives: *lives,
-            first: if *lives == 0 { None } else { Some(secured) },
-            settles: *settles,
+    let deeds = two_writes(secured, Name::parse("1.1.2")?);
+    for (count, lives, settles) in COUNTS {
+        let first = if lives == 0 { None } else { Some(secured) };
+        let wanted = Lived {
+            lives,
+            first,
+            settles,
         };
-        same(&rt, Standing::after(alloc, &deeds, &objects)?, wanted);
+        let found = Lived::after(rt.alloc(), deeds.get(..count).unwrap_or(&deeds))?;
+        same(&rt, (count, found), (count, wanted));
     }
     Ok(())
 }

@@ -76,7 +76,7 @@ fn past_of(alloc: Global, trace: &Trace, last: u64) -> Result<BTreeSet<u64>, Fai
     Ok(past)
 }
 
-/// The first event that is in a past of an event by the clocks, and not by the definition, or the other way round.
+/// The first event that the clocks put in the past of `last` and the definition does not, or the other way round.
 fn first_unlike(clocks: &Clocks, past: &BTreeSet<u64>, last: u64) -> Option<u64> {
     for event in 0..EVENTS {
         if clocks.in_past(event, last) != past.contains(&event) {
@@ -109,8 +109,8 @@ fn clocks_tell_the_past_that_its_definition_gives(rt: HostRuntime) -> Result<(),
         pairs = pairs.saturating_add(count_in_past(&clocks, last));
     }
     same(&rt, pairs, 3313);
-    let behind = (clocks.in_past(0, EVENTS), clocks.in_past(EVENTS, 0));
-    same(&rt, behind, (false, false));
+    let outside = (clocks.in_past(0, EVENTS), clocks.in_past(EVENTS, 0));
+    same(&rt, outside, (false, false));
     Ok(())
 }
 

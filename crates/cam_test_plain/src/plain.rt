@@ -112,7 +112,7 @@ fn check_deeds(alloc: Global, deeds: &[Deed], objects: &Objects) -> Result<(), C
     check(alloc, &deeds_of(alloc, deeds)?, objects)
 }
 
-/// Whether they are without the one at a place.
+/// Whether these deeds are legal without the one at a place.
 fn check_without(
     alloc: Global,
     deeds: &[Deed],
@@ -146,7 +146,7 @@ fn a_value_is_handed_up_where_its_site_knows_of_the_commit(rt: HostRuntime) -> R
     let alloc = rt.alloc();
     let deeds = secured_write()?;
     let objects = registers(alloc, &[1])?;
-    for (deeds, value) in [(&deeds[..], 3), (&deeds[..20], 0)] {
+    for (deeds, value) in [(&deeds[..20], 0), (&deeds[..], 3)] {
         let state = value_after(alloc, deeds, &objects)?;
         same(
             &rt,

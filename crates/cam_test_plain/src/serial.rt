@@ -94,11 +94,11 @@ fn added_by_two(first: Name, second: Name, reader: Name) -> [Deed; 20] {
 
 /// Whether the list has the calls of these actions with these answers, in this order.
 fn has_calls(list: &SerialList, calls: &[(Name, Answer)]) -> bool {
-    let mut same = list.len() == calls.len();
+    let mut alike = list.len() == calls.len();
     for (operation, (action, answer)) in list.as_slice().iter().zip(calls) {
-        same = same && operation.action == *action && operation.answer == *answer;
+        alike = alike && operation.action == *action && operation.answer == *answer;
     }
-    same
+    alike
 }
 
 /// The serial list that a name should have: the list of the deeds as a whole where there is no name.
@@ -109,6 +109,7 @@ struct Wanted<'a> {
 }
 
 impl<'a> Wanted<'a> {
+    /// The list of these calls, of a name or of the deeds as a whole.
     fn new(name: Option<&'a Name>, calls: &'a [(Name, Answer)]) -> Wanted<'a> {
         Wanted { name, calls }
     }
@@ -120,38 +121,49 @@ impl<'a> Wanted<'a> {
     }
 }
 
-/// Whether the deeds are legal, and the place of the first of these lists that they do not give.
+/// Whether the deeds are legal, and the place of the first of the wanted lists that they do not give.
 #[derive(Clone, Copy, Debug, PartialEq, Eq)]
 struct Found {
     legal: Result<(), CheckFault>,
     unmet: Option<usize>,
 }
 
-/// What is found where the deeds are legal and give each list.
+/// What is found where the deeds are legal and give each wanted list.
 const ALL_IS_MET: Found = Found {
     legal: Ok(()),
     unmet: None,
 };
 
 impl Found {
+    /// What is found of these deeds, where these are the wanted lists.
     fn of(
         alloc: Global,
         deeds: &Deeds,
         objects: &Objects,
         lists: &[Wanted],
     ) -> Result<Found, NoMemory> {
-        let mut unmet = None;
-        for (place, wanted) in lists.iter().enumerate() {
-            if unmet.is_none() && !wanted.is_met(alloc, deeds, objects)? {
-                unmet = Some(place);
-            }
-        }
+        let unmet = first_unmet(alloc, deeds, objects, lists)?;
         let legal = check(alloc, deeds, objects);
         Ok(Found { legal, unmet })
     }
 }
 
-/// A list that is not legal, but gives the serial lists.
+/// The place of the first of the wanted lists that the deeds do not give.
+fn first_unmet(
+    alloc: Global,
+    deeds: &Deeds,
+    objects: &Objects,
+    lists: &[Wanted],
+) -> Result<Option<usize>, NoMemory> {
+    for (place, wanted) in lists.iter().enumerate() {
+        if !wanted.is_met(alloc, deeds, objects)? {
+            return Ok(Some(place));
+        }
+    }
+    Ok(None)
+}
+
+/// What is found where the deed at a place is not legal, and the deeds give each list all the same.
 fn illegal(at: u64, cause: DeedKind) -> Found {
     Found {
         legal: Err(CheckFault::Illegal { at, cause }),
@@ -159,10 +171,21 @@ fn illegal(at: u64, cause: DeedKind) -> Found {
     }
 }
 
+/// What is found of deeds over one register but the one at a place.
+fn found_without(
+    alloc: Global,
+    deeds: &[Deed],
+    left_out: usize,
+    lists: &[Wanted],
+) -> Result<Found, NoMemory> {
+    let objects = registers(alloc, &[1])?;
+    let deeds = without(alloc, deeds, left_out)?;
+    Found::of(alloc, &deeds, &objects, lists)
+}
+
 /// The whole list, and the same without the inform or the secure, which is not legal.
 #[test]
 fn a_read_comes_after_the_write(rt: HostRuntime) -> Result<(), Fail> {
-    let alloc = rt.alloc();
     let writer = Name::parse("1.1.1")?;
     let reader = Name::parse("1.1.2")?;
     let deeds = a_read_after_a_write(writer, reader);
@@ -171,46 +194,64 @@ fn a_read_comes_after_the_write(rt: HostRuntime) -> Result<(), Fail> {
         Wanted::new(None, &calls[..1]),
         Wanted::new(Some(&reader), &calls),
     ];
-    let objects = registers(alloc, &[1])?;
-    for (left_out, expected) in [
+    for (left_out, wanted) in [
         (12, ALL_IS_MET),
         (8, illegal(9, DeedKind::Perform)),
         (6, illegal(6, DeedKind::Commit)),
     ] {
-        let list = without(alloc, &deeds, left_out)?;
-        let found = Found::of(alloc, &list, &objects, &lists)?;
-        same(&rt, (left_out, found), (left_out, expected));
+        let found = found_without(rt.alloc(), &deeds, left_out, &lists)?;
+        same(&rt, (left_out, found), (left_out, wanted));
     }
     Ok(())
 }
 
+/// What is found of deeds over registers at the nodes 1, 2 and 1, where two names have one list.
+fn found_of_both(
+    alloc: Global,
+    deeds: &[Deed],
+    one: Option<&Name>,
+    other: Option<&Name>,
+    calls: &[(Name, Answer)],
+) -> Result<Found, NoMemory> {
+    let lists = [Wanted::new(one, calls), Wanted::new(other, calls)];
+    let objects = registers(alloc, &[1, 2, 1])?;
+    let deeds = deeds_of(alloc, deeds)?;
+    Found::of(alloc, &deeds, &objects, &lists)
+}
+
 #[test]
 fn top_actions_come_in_order_of_their_commits(rt: HostRuntime) -> Result<(), Fail> {
-    let alloc = rt.alloc();
     let first = Name::parse("1.1.1")?;
     let second = Name::parse("1.1.2")?;
     let kept = Name::parse("1.1.1/1.1.1")?;
     let lost = Name::parse("1.1.1/1.1.2")?;
     let deeds = overtaken([first, second, kept, lost]);
     let whole = [(second, Answer::Ok), (kept, Answer::Ok), (lost, Answer::Ok)];
-    let objects = registers(alloc, &[1, 2, 1])?;
     for (deeds, one, other, calls) in [
         (&deeds[..24], None, Some(&second), &whole[..1]),
         (&deeds[..24], Some(&first), Some(&kept), &whole[..2]),
         (&deeds[..24], Some(&lost), Some(&lost), &whole[..3]),
         (&deeds[..], None, Some(&lost), &whole[..2]),
     ] {
-        let list = deeds_of(alloc, deeds)?;
-        let lists = [Wanted::new(one, calls), Wanted::new(other, calls)];
-        let found = Found::of(alloc, &list, &objects, &lists)?;
-        same(&rt, (one, other, found), (one, other, ALL_IS_MET));
+        let found = found_of_both(rt.alloc(), deeds, one, other, calls)?;
+        same(
+            &rt,
+            (deeds.len(), calls.len(), found),
+            (deeds.len(), calls.len(), ALL_IS_MET),
+        );
     }
     Ok(())
 }
 
+/// What is found of deeds over a counter that begins with 10.
+fn found_over_counter(alloc: Global, deeds: &[Deed], lists: &[Wanted]) -> Result<Found, NoMemory> {
+    let objects = counter(alloc, 1, 10)?;
+    let deeds = deeds_of(alloc, deeds)?;
+    Found::of(alloc, &deeds, &objects, lists)
+}
+
 #[test]
 fn adders_come_in_order_of_their_commits(rt: HostRuntime) -> Result<(), Fail> {
-    let alloc = rt.alloc();
     let first = Name::parse("1.1.1")?;
     let second = Name::parse("1.1.2")?;
     let reader = Name::parse("1.1.3")?;
@@ -223,33 +264,43 @@ fn adders_come_in_order_of_their_commits(rt: HostRuntime) -> Result<(), Fail> {
         Wanted::new(None, &calls[..2]),
         Wanted::new(Some(&reader), &calls),
     ];
-    let objects = counter(alloc, 1, 10)?;
-    let list = deeds_of(alloc, &added_by_two(first, second, reader))?;
-    same(&rt, Found::of(alloc, &list, &objects, &lists)?, ALL_IS_MET);
+    let deeds = added_by_two(first, second, reader);
+    let found = found_over_counter(rt.alloc(), &deeds, &lists)?;
+    same(&rt, found, ALL_IS_MET);
     Ok(())
 }
 
-/// Whether the list replays after each of its operations.
-#[test]
-fn a_wrong_answer_does_not_replay(rt: HostRuntime) -> Result<(), Fail> {
-    let alloc = rt.alloc();
+/// Whether calls of a register with these answers, in this order, replay.
+fn replay(alloc: Global, calls: &[(Op, Answer)]) -> Result<bool, Fail> {
     let action = Name::parse("1.1.1")?;
-    let objects = registers(alloc, &[1])?;
     let mut list = SerialList::new(alloc);
-    for (op, answer, right) in [
-        (Op::Swap(5), Answer::Value(0), true),
-        (Op::Read, Answer::Value(5), true),
-        (Op::Read, Answer::Value(0), false),
-    ] {
+    for (op, answer) in calls {
         list.push_copy(&Operation {
             action,
             number: 1,
             object: 0,
-            op,
-            answer,
+            op: *op,
+            answer: *answer,
         })?;
-        let found = replays(alloc, &list, &objects)?;
-        same(&rt, (op, answer, found), (op, answer, right));
+    }
+    let objects = registers(alloc, &[1])?;
+    Ok(replays(alloc, &list, &objects)?)
+}
+
+#[test]
+fn a_wrong_answer_does_not_replay(rt: HostRuntime) -> Result<(), Fail> {
+    let calls = [
+        (Op::Swap(5), Answer::Value(0)),
+        (Op::Read, Answer::Value(5)),
+        (Op::Read, Answer::Value(0)),
+    ];
+    for (calls, right) in [
+        (&calls[..1], true),
+        (&calls[..2], true),
+        (&calls[..], false),
+    ] {
+        let found = replay(rt.alloc(), calls)?;
+        same(&rt, (calls.len(), found), (calls.len(), right));
     }
     Ok(())
 }

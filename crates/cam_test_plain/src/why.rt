@@ -4,35 +4,40 @@ use cam_base::NoMemory;
 use cam_event::{Body, Deed, Deeds, Event, LetterId, Note, Sent, Trace};
 use cam_know::Reason;
 use cam_names::Name;
-use cam_samples::{abort, crash, sent_of};
+use cam_samples::{abort, crash, deeds_of, sent_of};
 use cam_why::{Link, Why, WhyFault, chain};
 use std::alloc::Global;
 use std::test::Fail;
 
-/// A trace whose events each send one letter: of each event its node, the event whose letter it received, its deed, and its note.
-fn trace(
-    alloc: Global,
-    events: &[(u8, Option<u64>, Option<Deed>, Note)],
-) -> Result<Trace, NoMemory> {
+/// Of an event its node, the event whose letter it received, its deed, and its note.
+type Told = (u8, Option<u64>, Option<Deed>, Note);
+
+/// A trace whose events each send one letter.
+fn trace(alloc: Global, events: &[Told]) -> Result<Trace, NoMemory> {
     let mut trace = Trace::new(alloc);
-    for (node, sender, deed, note) in events {
-        let mut deeds = Deeds::new(alloc);
-        if let Some(deed) = deed {
-            deeds.push_copy(deed)?;
-        }
-        let news = Sent {
-            to: 1,
-            body: Body::News,
-        };
-        trace.push(Event {
-            node: *node,
-            got: sender.map(|event| LetterId { event, place: 0 }),
-            deeds,
-            sent: sent_of(alloc, &[news])?,
-            note: *note,
-        })?;
+    for told in events {
+        trace.push(event(alloc, told)?)?;
     }
     Ok(trace)
+}
+
+fn event(alloc: Global, (node, sender, deed, note): &Told) -> Result<Event, NoMemory> {
+    let got = sender.map(|event| LetterId { event, place: 0 });
+    let news = Sent {
+        to: 1,
+        body: Body::News,
+    };
+    let deeds = match deed {
+        Some(deed) => deeds_of(alloc, &[*deed])?,
+        None => Deeds::new(alloc),
+    };
+    Ok(Event {
+        node: *node,
+        got,
+        deeds,
+        sent: sent_of(alloc, &[news])?,
+        note: *note,
+    })
 }
 
 fn letter(from: u64, to: u64) -> Link {
@@ -54,7 +59,8 @@ fn stopped_by_abort(name: Name) -> Note {
     Note::Stopped(name, Reason::Abort(name))
 }
 
-/// The parent of a child, at node 1, gives it up and tells node 2 so, where the child's call then comes.
+/// A trace in which the parent of a child, at node 1, gives it up and tells node 2 so, where the child's call then comes; the last two
+/// events stop `child`.
 fn given_up(alloc: Global, child: Name) -> Result<Trace, NoMemory> {
     let events = [
         (1, None, None, Note::Plain),
@@ -72,9 +78,8 @@ fn given_up(alloc: Global, child: Name) -> Result<Trace, NoMemory> {
 
 #[test]
 fn an_abort_leads_to_a_stop_over_the_fewest_letters(rt: HostRuntime) -> Result<(), Fail> {
-    let child = Name::parse("1.1.1/3.1.1")?;
     let chained = [letter(4, 5), letter(7, 8)];
-    let trace = given_up(rt.alloc(), child)?;
+    let trace = given_up(rt.alloc(), Name::parse("1.1.1/3.1.1")?)?;
     for (event, wanted) in [(8, &chained[..]), (7, &chained[..1])] {
         let why = chain(rt.alloc(), &trace, event)?;
         same(&rt, (event, why.cause, links(&why)), (event, 3, wanted));
@@ -85,8 +90,7 @@ fn an_abort_leads_to_a_stop_over_the_fewest_letters(rt: HostRuntime) -> Result<(
 /// Of an event that stopped no action, and of one that there is not.
 #[test]
 fn where_nothing_was_stopped_there_is_no_chain(rt: HostRuntime) -> Result<(), Fail> {
-    let child = Name::parse("1.1.1/3.1.1")?;
-    let trace = given_up(rt.alloc(), child)?;
+    let trace = given_up(rt.alloc(), Name::parse("1.1.1/3.1.1")?)?;
     for event in [6, 9] {
         let fault = chain(rt.alloc(), &trace, event).err();
         same(&rt, (event, fault), (event, Some(WhyFault::NoSuchStop)));
@@ -94,7 +98,7 @@ fn where_nothing_was_stopped_there_is_no_chain(rt: HostRuntime) -> Result<(), Fa
     Ok(())
 }
 
-/// Node 2 restarts twice and tells node 3 of the first time; node 3 restarts too.
+/// A trace in which node 2 restarts twice and tells node 3 of the first time, and node 3 restarts too; the last event stops `action`.
 fn restarted(alloc: Global, action: Name) -> Result<Trace, NoMemory> {
     let reason = Reason::Crash {
         node: 2,
@@ -120,11 +124,16 @@ fn restarted(alloc: Global, action: Name) -> Result<Trace, NoMemory> {
 
 #[test]
 fn a_crash_leads_to_a_stop_through_a_node_that_restarted(rt: HostRuntime) -> Result<(), Fail> {
-    let action = Name::parse("1.1.1")?;
     let chained = [letter(5, 6), letter(9, 11)];
-    let trace = restarted(rt.alloc(), action)?;
+    let trace = restarted(rt.alloc(), Name::parse("1.1.1")?)?;
     let why = chain(rt.alloc(), &trace, 11)?;
     same(&rt, (why.cause, links(&why)), (4, chained.as_slice()));
+    Ok(())
+}
+
+#[test]
+fn a_letter_that_stopped_nothing_has_no_chain(rt: HostRuntime) -> Result<(), Fail> {
+    let trace = restarted(rt.alloc(), Name::parse("1.1.1")?)?;
     let fault = chain(rt.alloc(), &trace, 3).err();
     same(&rt, fault, Some(WhyFault::NoSuchStop));
     Ok(())

@@ -6,7 +6,7 @@ ghost use Rattle.cam_hall.specs.Ending.{HasLetter};
 ghost use Rattle.cam_test_threads.specs.Speaking.{sends, HasRemark};
 
 use crate::check::same;
-use crate::ring::{Plan, gather, ring};
+use crate::ring::{Plan, Troubles, gather, ring};
 use crate::speaker::{Remark, Speaker, Speech};
 use cam_hall::{Ended, HallFault, Names, Turned, TurnedOf};
 use cam_journal::{CoreFault, Journal, NodeSeat, Seats};
@@ -50,8 +50,8 @@ fn told(answer: Result<Turned<Row>, HallFault>) -> Seen {
     }
 }
 
-/// What a hall of a new journal leaves in which no worker worked: nodes 1 and 2 are sound, node 3 has a disk that
-/// fails once, and node 4 is out of memory once. Each has one remark to speak.
+/// What a hall of a new journal leaves in which no worker worked: nodes 1 and 2 are sound, node 3 has a disk that fails once, and node 4
+/// is out of memory once. Each has one remark to speak.
 fn leave_in<J: Names>(
     alloc: Global,
     journal: Journal<Row>,
@@ -65,7 +65,10 @@ fn leave_in<J: Names>(
     let plan = Plan {
         shares: [1; 4],
         twice: true,
-        troubles: (Some(CoreFault::DiskFault), Some(CoreFault::NoMemory)),
+        troubles: Troubles {
+            third: Some(CoreFault::DiskFault),
+            fourth: Some(CoreFault::NoMemory),
+        },
     };
     Ok(ring::<6, 2, J>(alloc, journal, seats, plan)?.end())
 }
@@ -156,7 +159,7 @@ fn spoken(number: u64, to: u8) -> Speech {
     })
 }
 
-/// Fails where the events of what those turns leave are not the remarks and the answer that they made.
+/// Fails where what is gathered is not the remarks of nodes 1, 3 and 4 and the answer of node 2.
 fn check_events(rt: &impl Abort, ended: Ended<Row>) {
     let answer = Speech::Answer {
         number: 8,

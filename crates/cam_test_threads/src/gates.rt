@@ -3,7 +3,7 @@ ghost use Rattle.std.specs.Prelude.{◌≡◌};
 ghost use Rattle.cam_journal.specs.Seats.{AreNew};
 
 use crate::check::same;
-use crate::ring::{Plan, ring};
+use crate::ring::{NO_TROUBLES, Plan, ring};
 use crate::speaker::Speaker;
 use crate::workers::{Talk, talk};
 use cam_hall::{End, Gate, Hall, HallFault, Names, OpenGate, Served, serve};
@@ -30,7 +30,7 @@ struct Meeting {
     steps: AtomicU64,
 }
 
-/// What a meeting has counted: the calls that waited in vain, where all saw all four workers none, and the steps.
+/// What a meeting has counted: the calls that waited in vain, none where each saw all four workers, and the steps.
 #[derive(Clone, Copy, Debug, PartialEq, Eq)]
 struct Counted {
     alone: u64,
@@ -70,6 +70,7 @@ impl Meeting {
         self.alone.load(Ordering::SeqCst) != 0
     }
 
+    /// What it has counted so far.
     fn counted(&self) -> Counted {
         Counted {
             alone: self.alone.load(Ordering::SeqCst),
@@ -137,7 +138,7 @@ fn serve_first<R: Wait, J: Names, G: Gate>(
     serve(rt, &hall, 1, 0, gate, turns)
 }
 
-/// What a worker of node 1 of a new journal did, which may speak three times.
+/// What the worker of node 1 of this new journal did, where the node may speak three times.
 fn serve_in<R: Wait, J: Names, G: Gate>(
     rt: &R,
     alloc: Global,
@@ -153,13 +154,13 @@ fn serve_in<R: Wait, J: Names, G: Gate>(
     let plan = Plan {
         shares: [3, 0, 0, 0],
         twice: false,
-        troubles: (None, None),
+        troubles: NO_TROUBLES,
     };
     let hall = ring::<0, 4, J>(alloc, journal, seats, plan)?;
     Ok(serve_first(rt, hall, gate, turns)?)
 }
 
-/// What a worker of a new node 1 did, which may speak three times.
+/// What the worker of node 1 of a journal of its own did, where the node may speak three times.
 fn serve_one<R: Wait, G: Gate>(
     rt: &R,
     alloc: Global,

@@ -8,6 +8,19 @@ use cam_journal::{Core, CoreFault, Gathered, Journal, NodeSeat, Seats};
 use std::alloc::Global;
 use std::test::Fail;
 
+/// What the first steps of nodes 3 and 4 that are not idle fail by.
+#[derive(Clone, Copy)]
+pub(crate) struct Troubles {
+    pub(crate) third: Option<CoreFault>,
+    pub(crate) fourth: Option<CoreFault>,
+}
+
+/// The steps of nodes 3 and 4 do not fail.
+pub(crate) const NO_TROUBLES: Troubles = Troubles {
+    third: None,
+    fourth: None,
+};
+
 /// What four new speakers are to do.
 #[derive(Clone, Copy)]
 pub(crate) struct Plan {
@@ -15,8 +28,8 @@ pub(crate) struct Plan {
     pub(crate) shares: [u32; 4],
     /// Whether each remark comes twice.
     pub(crate) twice: bool,
-    /// What the first steps of nodes 3 and 4 that are not idle fail by.
-    pub(crate) troubles: (Option<CoreFault>, Option<CoreFault>),
+    /// What the first steps of nodes 3 and 4 fail by.
+    pub(crate) troubles: Troubles,
 }
 
 /// A hall of four new speakers.
@@ -51,9 +64,9 @@ fn upper_cells<const FIRST: u32, const STEP: u32, J: Names>(
     requires seats { AreNew J.journal 4 seats.old.items }
     ensures rest { OnOk result (AreNew J.journal 2 seats.new.items) }
 {
-    let fourth = Speaker::new(4, plan.shares[3], plan.twice, plan.troubles.1);
+    let fourth = Speaker::new(4, plan.shares[3], plan.twice, plan.troubles.fourth);
     let fourth = last_cell(alloc, seats, fourth)?;
-    let third = Speaker::new(3, plan.shares[2], plan.twice, plan.troubles.0);
+    let third = Speaker::new(3, plan.shares[2], plan.twice, plan.troubles.third);
     let third = last_cell(alloc, seats, third)?;
     Ok((fourth, third))
 }

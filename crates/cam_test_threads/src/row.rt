@@ -3,7 +3,7 @@ ghost use Rattle.std.specs.Prelude.{◌≡◌};
 ghost use Rattle.cam_journal.specs.Seats.{AreNew};
 
 use crate::check::same;
-use crate::ring::{Plan, gather, ring};
+use crate::ring::{NO_TROUBLES, Plan, gather, ring};
 use crate::speaker::{Remark, Speaker, Speech};
 use cam_hall::{End, Hall, HallFault, Handled, ItemOf, Names, OpenGate, Served, serve};
 use cam_journal::{Gathered, Journal, Seats};
@@ -42,7 +42,7 @@ fn work<R: Wait, J: Names>(rt: &R, hall: &Hall<Row, J>) -> Result<Done, HallFaul
     })
 }
 
-/// What comes of that where node 1 may speak twice, each time in two copies.
+/// What nodes 1 and 2 of this new journal did, where node 1 may speak twice, each time in two copies, and the events of all.
 fn speak_in<R: Wait, J: Names>(
     rt: &R,
     alloc: Global,
@@ -56,18 +56,19 @@ fn speak_in<R: Wait, J: Names>(
     let plan = Plan {
         shares: [2, 0, 0, 0],
         twice: true,
-        troubles: (None, None),
+        troubles: NO_TROUBLES,
     };
     let hall = ring::<6, 2, J>(alloc, journal, seats, plan)?;
     let done = work(rt, &hall);
     let gathered = gather(hall.end());
     Ok(Seen {
+        // Opened once the hall has ended, so that no exit drops a hall.
         done: done?,
         gathered,
     })
 }
 
-/// The same in a journal of its own.
+/// What nodes 1 and 2 of a journal of its own did, where node 1 may speak twice, each time in two copies, and the events of all.
 fn speak<R: Wait>(rt: &R, alloc: Global) -> Result<Seen, Fail> {
     let (journal, seats) = Journal::<Row>::open(alloc, 4)?;
     speak_in::<R, Brand>(rt, alloc, journal, seats)
@@ -82,10 +83,10 @@ fn said(number: u64) -> Speech {
     })
 }
 
-const DONE: Done = Done {
+/// What is done where the second copy comes to a node that has answered the first.
+const ANSWERED_ONCE: Done = Done {
     first: Handled::Did { number: 0, sent: 2 },
-    // The second copy comes to a node that has answered the first one. Were it not there, all turns
-    // but the first would be empty, and the worker quiet.
+    // Were the second copy not there, all turns but the first would be empty, and the worker quiet.
     between: Served {
         steps: 1,
         end: End::Turns,
@@ -96,7 +97,7 @@ const DONE: Done = Done {
 #[test]
 fn events_and_letters_of_two_cells_come_in_one_order(rt: HostRuntime) -> Result<(), Fail> {
     let mut seen = speak(&rt, rt.alloc())?;
-    same(&rt, seen.done, DONE);
+    same(&rt, seen.done, ANSWERED_ONCE);
     let answer = Speech::Answer {
         number: 8,
         event: 0,

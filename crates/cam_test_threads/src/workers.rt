@@ -3,7 +3,7 @@ ghost use Rattle.std.specs.Prelude.{◌≡◌};
 ghost use Rattle.cam_journal.specs.Seats.{AreNew};
 
 use crate::check::same;
-use crate::ring::{Plan, gather, ring};
+use crate::ring::{NO_TROUBLES, Plan, gather, ring};
 use crate::speaker::{Speaker, Speech};
 use cam_hall::{Gate, Hall, HallFault, Names, OpenGate, Served, serve};
 use cam_journal::{Gathered, Journal, Seats};
@@ -42,12 +42,13 @@ fn talk_in<R: Threads + Wait + Sync, J: Names + Send + Sync, G: Gate + Sync>(
     let plan = Plan {
         shares: [share; 4],
         twice: false,
-        troubles: (None, None),
+        troubles: NO_TROUBLES,
     };
     let hall = ring::<0, 4, J>(alloc, journal, seats, plan)?;
     let steps = rounds(rt, alloc, &hall, gate);
     let gathered = gather(hall.end());
     Ok(Talked {
+        // Opened once the hall has ended, so that no exit drops a hall.
         steps: steps?,
         gathered,
     })
@@ -71,7 +72,7 @@ fn rounds<R: Threads + Wait + Sync, J: Names + Send + Sync, G: Gate + Sync>(
     Ok(steps)
 }
 
-/// What four new nodes talked, until none had anything to do.
+/// The steps and the events of four new nodes that speak `share` remarks each, and answer each other, until none has anything to do.
 pub(crate) fn talk<R: Threads + Wait + Sync, G: Gate + Sync>(
     rt: &R,
     alloc: Global,
@@ -132,7 +133,8 @@ enum Fault {
     SaidTwice(u64),
 }
 
-/// Takes the event that is due. The nodes say the numbers from 1 on, each its own, and `heard` has whether it was said.
+/// Takes the event that is due; `Err` tells why it is not as it is to be. The nodes say the numbers from 1 on, each its own, and `heard`
+/// has whether it was said.
 fn hear(gathered: &mut Gathered<Talk>, due: u64, heard: &mut [bool]) -> Result<(), Fault> {
     let Some((at, speech)) = gathered.take() else {
         return Err(Fault::NoEvent);

@@ -200,6 +200,14 @@ impl<'a> Before<'a> {
         Ok(!open.is_empty())
     }
 
+    /// Adds the pair of the site that a call addressed and the count that it gave.
+    fn add_site(&self, caller: &Name, call: u32, pairs: &mut Pairs) -> Result<(), NoMemory> {
+        if let Some(asked) = self.asked(caller, call) {
+            pairs.push((site_of(self.objects, asked.object), asked.count))?;
+        }
+        Ok(())
+    }
+
     /// Adds the pairs on which an action depends: its home, what its parent depended on when it asked for it, the sites whose
     /// answers it got, and what its committed children depended on.
     pub(super) fn add_deps(&self, name: &Name, pairs: &mut Pairs) -> Result<(), NoMemory> {
@@ -220,9 +228,7 @@ impl<'a> Before<'a> {
                 number,
                 seen: Seen::Done(_),
             } if action == name => {
-                if let Some(call) = before.asked(action, *number) {
-                    pairs.push((site_of(self.objects, call.object), call.count))?;
-                }
+                before.add_site(action, *number, pairs)?;
             }
             Deed::Commit { action } if name.is_parent(action) => before.add_deps(action, pairs)?,
             _ => {}

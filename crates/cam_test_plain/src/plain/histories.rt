@@ -24,12 +24,17 @@ type ByKind = [u32; 14];
 /// A legal list that grows by the deeds that are tried.
 #[derive(Drop)]
 struct History {
+    /// What the deeds that are tried next are drawn from.
     draw: Draw,
+    /// What the deeds are about.
     objects: Objects,
+    /// The list as it stands, of legal deeds alone.
     deeds: Deeds,
     /// The actions that were created or asked for.
     names: Vec<Name>,
+    /// How many of the tried deeds were legal.
     legal: ByKind,
+    /// How many of the tried deeds were not.
     refused: ByKind,
 }
 
@@ -122,7 +127,7 @@ impl History {
         Ok(None)
     }
 
-    /// The first place, of one in so many, without whose deed the list is not answered alike.
+    /// The first place, of every fifth one, without whose deed the list is not answered alike.
     fn first_unlike_without(&self, alloc: Global) -> Result<Option<usize>, CheckFault> {
         for left_out in (0..self.deeds.len()).step_by(5) {
             let less = without(alloc, self.deeds.as_slice(), left_out)?;
@@ -149,28 +154,57 @@ fn add(sums: &mut ByKind, more: &ByKind) {
     }
 }
 
-/// What came of a history.
-#[derive(Clone, Copy)]
-struct Outcome {
+/// Where a history was not answered alike.
+#[derive(Clone, Copy, Debug, PartialEq, Eq)]
+struct Unlike {
+    /// What the history is drawn from.
+    seed: u64,
     /// The first try that was not answered alike.
-    unlike: Option<u32>,
-    /// The first place without whose deed the list was not.
-    unlike_without: Option<usize>,
+    first: Option<u32>,
+    /// The first place without whose deed the list was not answered alike.
+    first_without: Option<usize>,
+}
+
+/// What came of the histories.
+#[derive(Clone, Copy)]
+struct Tally {
+    /// Of the last history in which not all was answered alike.
+    unlike: Option<Unlike>,
+    /// How many of the tried deeds were legal.
     legal: ByKind,
+    /// How many of the tried deeds were not.
     refused: ByKind,
 }
 
-impl Outcome {
-    fn of(alloc: Global, seed: u64) -> Result<Outcome, CheckFault> {
+impl Tally {
+    /// What came of all histories.
+    fn of_all(alloc: Global) -> Result<Tally, CheckFault> {
+        let mut tally = Tally {
+            unlike: None,
+            legal: [0; 14],
+            refused: [0; 14],
+        };
+        for seed in 0..HISTORIES {
+            tally.add(alloc, seed)?;
+        }
+        Ok(tally)
+    }
+
+    /// Adds what comes of the history of this seed.
+    fn add(&mut self, alloc: Global, seed: u64) -> Result<(), CheckFault> {
         let mut history = History::new(alloc, seed)?;
-        let unlike = history.first_unlike(alloc)?;
-        let unlike_without = history.first_unlike_without(alloc)?;
-        Ok(Outcome {
-            unlike,
-            unlike_without,
-            legal: history.legal,
-            refused: history.refused,
-        })
+        let first = history.first_unlike(alloc)?;
+        let first_without = history.first_unlike_without(alloc)?;
+        if first.is_some() || first_without.is_some() {
+            self.unlike = Some(Unlike {
+                seed,
+                first,
+                first_without,
+            });
+        }
+        add(&mut self.legal, &history.legal);
+        add(&mut self.refused, &history.refused);
+        Ok(())
     }
 }
 
@@ -184,22 +218,15 @@ fn first_rare(by_kind: &[u32]) -> Option<(usize, u32)> {
     None
 }
 
+/// Each kind is met, legal and, but for crashes, illegal.
 #[test]
 fn the_check_and_the_definition_answer_alike(rt: HostRuntime) -> Result<(), Fail> {
-    let mut legal = [0; 14];
-    let mut refused = [0; 14];
-    for seed in 0..HISTORIES {
-        let outcome = Outcome::of(rt.alloc(), seed)?;
-        same(&rt, (seed, outcome.unlike), (seed, None));
-        same(&rt, (seed, outcome.unlike_without), (seed, None));
-        add(&mut legal, &outcome.legal);
-        add(&mut refused, &outcome.refused);
-    }
-    // Each kind was met, legal and, but for crashes, illegal.
-    same(&rt, ("legal", first_rare(&legal)), ("legal", None));
+    let tally = Tally::of_all(rt.alloc())?;
+    same(&rt, tally.unlike, None);
+    same(&rt, ("legal", first_rare(&tally.legal)), ("legal", None));
     same(
         &rt,
-        ("illegal", first_rare(&refused[..13])),
+        ("illegal", first_rare(&tally.refused[..13])),
         ("illegal", None),
     );
     Ok(())
