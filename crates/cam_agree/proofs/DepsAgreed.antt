@@ -22,7 +22,7 @@ use Rattle.cam_event.specs.ByPast.{outcome_in, told}
 use Rattle.cam_event.specs.ByKnowledge.{carried_by, carried_of}
 use Rattle.cam_event.specs.Agreement.{AreSent, LettersAgree}
 use Rattle.cam_event.proofs.Members.{In, in_any, any_in}
-use Rattle.cam_event.proofs.PastLaws.{past_is_closed}
+use Rattle.cam_event.proofs.ClosedPasts.{past_is_closed}
 use Rattle.cam_event.proofs.SameOutcomes.{aborts_agree, commits_agree}
 use Rattle.cam_event.proofs.SameCounts.{counts_agree}
 use Rattle.cam_plain.proofs.Deciding.{committed_asked}

@@ -12,7 +12,7 @@ use Rattle.cam_type.specs.declared.Answer.{Answer}
 use Rattle.cam_event.specs.History.{after, informed, secured_at, number_of, Addressed, call_of, is_inform}
 use Rattle.cam_event.specs.Live.{of_call}
 use Rattle.cam_event.specs.Inputs.{Mail}
-use Rattle.cam_event.specs.ByKnowledge.{Placed, Site, is_any_perform, performed_op, site_after, site_after_all}
+use Rattle.cam_event.specs.HeldSites.{Placed, Site, is_any_perform, performed_op, site_after, site_after_all}
 use Rattle.cam_names.proofs.Every.{Every}
 use Rattle.cam_agree.proofs.LiveOrder.{of_family}
 use Rattle.cam_agree.proofs.LiveStands.{standing, crashed, alive, HandedUp, Stands, StandsAt}

@@ -9,7 +9,7 @@ use Rattle.cam_names.specs.declared.name.Name.{Name}
 use Rattle.cam_names.specs.Names.{name_eq, is_ancestor, ancestors, family}
 use Rattle.cam_names.proofs.Names.{name_eq_same, name_eq_sym, name_eq_refl, ancestors_any}
 use Rattle.cam_event.proofs.Snoc.{filter_filter, filter_same}
-use Rattle.cam_event.specs.ByKnowledge.{Placed}
+use Rattle.cam_event.specs.HeldSites.{Placed}
 use Rattle.cam_names.proofs.Every.{Every, every_weaker}
 use Rattle.cam_names.proofs.Ancestry.{is_ancestor_self, family_is_ancestor, is_ancestor_trans}
 use Rattle.cam_event.proofs.LiveLaws.{list_any_or}

@@ -19,7 +19,7 @@ use Rattle.cam_event.specs.History.{after, committed, aborted, informed, is_info
 use Rattle.cam_event.specs.Live.{live_at, lift}
 use Rattle.cam_event.specs.Inputs.{Mail, mail_got}
 use Rattle.cam_event.specs.ByPast.{first_informs, sight_by}
-use Rattle.cam_event.specs.ByKnowledge.{Placed, performed_op}
+use Rattle.cam_event.specs.HeldSites.{Placed, performed_op}
 use Rattle.cam_event.proofs.Members.{In, in_any, any_more}
 use Rattle.cam_plain.specs.Lines.{is_lift, SecureLine}
 use Rattle.cam_plain.specs.Legal.{Legal}

@@ -11,7 +11,7 @@ use Rattle.cam_event.specs.declared.Deed.{Deed}
 use Rattle.cam_event.specs.declared.Deed.TheVariants.{Create, Ask, Call, Perform, Bounce, Got, AskCommit, AskAbort, Commit, Abort, Secure, Inform, Crash}
 use Rattle.cam_event.specs.History.{informed, secured_at, number_of, Addressed, call_of}
 use Rattle.cam_event.specs.Live.{site_of, of_call, is_kept, is_dropped, surviving, live_at}
-use Rattle.cam_event.specs.ByKnowledge.{Placed, is_any_perform}
+use Rattle.cam_event.specs.HeldSites.{Placed, is_any_perform}
 use Rattle.cam_names.proofs.Every.{Every, every_weaker, every_any}
 use Rattle.cam_cut.proofs.Places.{PlacedDeeds}
 use Rattle.cam_cut.proofs.SiteFacts.{surviving_in, at_site, SiteAgrees}

@@ -7,7 +7,7 @@ use Rattle.std.proofs.Math.Bool.{and-false}
 use Rattle.cam_names.specs.declared.name.Name.{Name}
 use Rattle.cam_names.specs.Names.{name_eq, is_ancestor, ancestors, family}
 use Rattle.cam_names.proofs.Names.{name_eq_same, name_eq_sym}
-use Rattle.cam_event.specs.ByKnowledge.{Placed, Site, for_family, put_placed, in_order}
+use Rattle.cam_event.specs.HeldSites.{Placed, Site, for_family, put_placed, in_order}
 use Rattle.cam_event.proofs.Members.{in_any}
 use Rattle.cam_event.proofs.Snoc.{filter_same}
 use Rattle.cam_names.proofs.Every.{Every, every_weaker, every_both, every_then, pairs_weaker, pairs_filter}

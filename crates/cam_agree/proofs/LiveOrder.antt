@@ -6,7 +6,7 @@ use Rattle.std.proofs.lemmas.Bool.{true≢false, lt-ltb, le-ltb}
 use Rattle.cam_names.specs.declared.name.Name.{Name}
 use Rattle.cam_names.specs.Names.{name_eq, family}
 use Rattle.cam_names.proofs.Names.{name_eq_same, name_eq_sym}
-use Rattle.cam_event.specs.ByKnowledge.{Placed, put_placed, in_order}
+use Rattle.cam_event.specs.HeldSites.{Placed, put_placed, in_order}
 use Rattle.cam_names.proofs.Every.{Every, Pairs, every_filter}
 
 -- places rise along the list

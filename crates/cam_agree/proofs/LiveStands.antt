@@ -8,7 +8,7 @@ use Rattle.cam_event.specs.declared.Deed.{Deed}
 use Rattle.cam_event.specs.declared.Deed.TheVariants.{Perform, Crash}
 use Rattle.cam_event.specs.History.{call_of, informed, secured_at, number_of}
 use Rattle.cam_event.specs.Live.{of_call}
-use Rattle.cam_event.specs.ByKnowledge.{Placed, Site, for_family, is_any_perform}
+use Rattle.cam_event.specs.HeldSites.{Placed, Site, for_family, is_any_perform}
 use Rattle.cam_names.proofs.Every.{Every, Pairs}
 use Rattle.cam_agree.proofs.LiveOrder.{IsBefore, Distinct, of_family}
 

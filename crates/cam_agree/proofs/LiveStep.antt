@@ -9,7 +9,7 @@ use Rattle.cam_names.specs.declared.name.Name.{Name}
 use Rattle.cam_names.specs.Names.{name_eq, is_ancestor, ancestors, family}
 use Rattle.cam_names.proofs.Names.{name_eq_same, name_eq_sym}
 use Rattle.cam_event.specs.declared.Operation.{Operation}
-use Rattle.cam_event.specs.ByKnowledge.{Placed, Site}
+use Rattle.cam_event.specs.HeldSites.{Placed, Site}
 use Rattle.cam_event.proofs.Snoc.{filter_filter}
 use Rattle.cam_names.proofs.Every.{Every, every_weaker, every_both, every_then, every_append, pairs_push}
 use Rattle.std.proofs.lemmas.List.{map-append, append-nil}

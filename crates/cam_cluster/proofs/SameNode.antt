@@ -2,7 +2,8 @@
 use Rattle.std.proofs.Common.{ℕ, List, map, sym, ap, ◌∙◌, subst}
 use Rattle.cam_type.specs.declared.ObjectDecl.{ObjectDecl}
 use Rattle.cam_event.specs.History.{count}
-use Rattle.cam_event.specs.ByKnowledge.{Carried, deeds_of, own_pairs}
+use Rattle.cam_event.specs.ByKnowledge.{own_pairs}
+use Rattle.cam_event.specs.Carried.{Carried, deeds_of}
 use Rattle.cam_event.specs.ByDeltas.{Received, as_carried}
 use Rattle.cam_commit.specs.Families.{Families, CommitsFamilies}
 use Rattle.cam_commit.specs.Calls as commit
@@ -15,7 +16,7 @@ use Rattle.cam_server.specs.Server.{Server, ServesSite, IsSiteOf}
 use Rattle.cam_tranman.specs.Actions.{Actions, RunsActions}
 use Rattle.cam_tranman.specs.Calls as tranman
 use Rattle.cam_tranman.proofs.Running.{runs_by, answers_deeds, same_answers}
-use Rattle.cam_event.specs.ByKnowledge as held
+use Rattle.cam_event.specs.HeldSites as held
 
 runs_same : (objects : List ObjectDecl) (s : ℕ) (h : List Carried) (one other : Actions)
     → tranman.AreSame one other → RunsActions objects s h one → RunsActions objects s h other

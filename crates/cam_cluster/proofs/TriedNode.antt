@@ -12,7 +12,8 @@ use Rattle.cam_event.specs.declared.Want.{Want}
 use Rattle.cam_event.specs.declared.Want.TheVariants as wants
 use Rattle.cam_event.specs.Inputs.{node_of}
 use Rattle.cam_event.specs.ByDeltas.{Received, as_carried}
-use Rattle.cam_event.specs.ByKnowledge.{deeds_of, held_sight}
+use Rattle.cam_event.specs.ByKnowledge.{held_sight}
+use Rattle.cam_event.specs.Carried.{deeds_of}
 use Rattle.cam_event.specs.Readings.{by_knowledge}
 use Rattle.cam_event.specs.Refusals.{refusal, query_refusal, tell_refusal}
 use Rattle.cam_event.specs.Runs.{IsWant}

@@ -6,7 +6,7 @@ use Rattle.std.proofs.lemmas.Bool.{true≢false}
 use Rattle.cam_names.specs.Dependencies.{has_pair}
 use Rattle.cam_event.specs.History.{is_secure_at}
 use Rattle.cam_event.specs.Sights.{votes, is_preparing_note, yes_for}
-use Rattle.cam_event.specs.ByKnowledge.{entry_of, deeds_of}
+use Rattle.cam_event.specs.Carried.{entry_of, deeds_of}
 use Rattle.cam_event.proofs.Agree.{any_after}
 use Rattle.cam_commit.specs.Events.{is_restart, KeepsOverEvent}
 use Rattle.cam_commit.proofs.Knowing.{was_undecided}

@@ -14,7 +14,8 @@ use Rattle.cam_event.specs.declared.Deed.{Deed}
 use Rattle.cam_event.specs.declared.Deed.TheVariants.{Create, Ask, Call, Perform, Bounce, Got, AskCommit, AskAbort, Commit, Abort, Secure, Inform, Crash}
 use Rattle.cam_event.specs.History.{count, is_commit, is_abort}
 use Rattle.cam_event.specs.Inputs.{Mail}
-use Rattle.cam_event.specs.ByKnowledge.{Carried, deeds_of, commit_counts, learned_by, held}
+use Rattle.cam_event.specs.ByKnowledge.{commit_counts, learned_by, held}
+use Rattle.cam_event.specs.Carried.{Carried, deeds_of}
 use Rattle.cam_commit.specs.Families.{IsUndecided}
 
 -- whether an outcome of this kind is held

@@ -13,7 +13,8 @@ use Rattle.cam_event.specs.declared.Body.TheVariants as bodies
 use Rattle.cam_event.specs.declared.LetterId.{LetterId}
 use Rattle.cam_event.specs.Inputs.{Mail}
 use Rattle.cam_event.specs.Sights.{Sight, present, is_present, knows_outcome, yes_in}
-use Rattle.cam_event.specs.ByKnowledge.{Carried, deeds_of, held, held_sight, held_informs}
+use Rattle.cam_event.specs.ByKnowledge.{held, held_sight, held_informs}
+use Rattle.cam_event.specs.Carried.{Carried, deeds_of}
 use Rattle.cam_event.proofs.Agree.{count_after_other}
 use Rattle.cam_commit.specs.Families.{Families, IsUndecided, CommitsFamilies}
 use Rattle.cam_commit.specs.Events.{CountsNone}

@@ -13,7 +13,8 @@ use Rattle.cam_event.specs.History.{is_secure_at}
 use Rattle.cam_event.specs.Inputs.{Input, Begins, Requests, Receives, Tells, Queries, Restarts, Mail}
 use Rattle.cam_event.specs.Sights.{Sight, is_preparing_note, yes_in, yes_for}
 use Rattle.cam_event.specs.Rules.{finish_comes, arrives, rule}
-use Rattle.cam_event.specs.ByKnowledge.{Carried, held_sight}
+use Rattle.cam_event.specs.ByKnowledge.{held_sight}
+use Rattle.cam_event.specs.Carried.{Carried}
 use Rattle.cam_event.specs.NextStep.{stepped}
 use Rattle.cam_commit.specs.Steps.{is_prepare_of, is_mail, brings, IsOfKind}
 use Rattle.cam_commit.specs.Stepping.{concerns, OtherStepKeeps}

@@ -16,7 +16,8 @@ use Rattle.cam_event.specs.declared.Note.TheVariants as notes
 use Rattle.cam_event.specs.History.{is_secure_at}
 use Rattle.cam_event.specs.Sights.{Sight, yes_in, is_preparing_note}
 use Rattle.cam_event.specs.Rules.{Did, nothing_but, prepares, arrives}
-use Rattle.cam_event.specs.ByKnowledge.{Carried, held, held_sight, held_informs}
+use Rattle.cam_event.specs.ByKnowledge.{held, held_sight, held_informs}
+use Rattle.cam_event.specs.Carried.{Carried}
 use Rattle.cam_commit.specs.declared.Asked.{Asked}
 use Rattle.cam_commit.specs.declared.Asked.TheVariants as asked
 use Rattle.cam_commit.specs.Families.{CommitsFamilies}

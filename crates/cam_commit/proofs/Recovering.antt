@@ -13,7 +13,8 @@ use Rattle.cam_event.specs.declared.Deed.TheVariants.{Create, Ask, Call, Perform
 use Rattle.cam_event.specs.History.{is_secure_at}
 use Rattle.cam_event.specs.Inputs.{Mail}
 use Rattle.cam_event.specs.Sights.{votes, is_preparing_note, yes_for}
-use Rattle.cam_event.specs.ByKnowledge.{Carried, Placed, Site, entry_of, deeds_of, site_after, site_after_all, site}
+use Rattle.cam_event.specs.HeldSites.{Placed, Site, site_after, site_after_all, site}
+use Rattle.cam_event.specs.Carried.{Carried, entry_of, deeds_of}
 use Rattle.cam_event.proofs.Agree.{any_after}
 use Rattle.cam_commit.specs.Events.{is_restart, is_elsewhere, RecoversFamilies}
 use Rattle.cam_commit.proofs.Events.{votes_then}

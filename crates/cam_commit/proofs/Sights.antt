@@ -10,7 +10,8 @@ use Rattle.cam_know.specs.Known.{both, knows_abort, knows_commit, new_aborts, ne
 use Rattle.cam_know.proofs.Union.{any_both}
 use Rattle.cam_event.specs.History.{is_secure_at}
 use Rattle.cam_event.specs.Sights.{knows_outcome}
-use Rattle.cam_event.specs.ByKnowledge.{Carried, deeds_of, held, held_sight, held_informs}
+use Rattle.cam_event.specs.ByKnowledge.{held, held_sight, held_informs}
+use Rattle.cam_event.specs.Carried.{Carried, deeds_of}
 use Rattle.cam_event.proofs.Agree.{any_after}
 use Rattle.cam_commit.specs.Families.{IsUndecided}
 use Rattle.cam_commit.specs.Steps.{SightIsAnswered}

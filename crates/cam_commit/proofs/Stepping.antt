@@ -15,7 +15,8 @@ use Rattle.cam_event.specs.History.{is_commit, is_abort, is_secure_at}
 use Rattle.cam_event.specs.Inputs.{Receives, Mail}
 use Rattle.cam_event.specs.Sights.{Sight, is_preparing_note}
 use Rattle.cam_event.specs.Rules.{Did, nothing_but, arrives}
-use Rattle.cam_event.specs.ByKnowledge.{Carried, held_sight, held_informs}
+use Rattle.cam_event.specs.ByKnowledge.{held_sight, held_informs}
+use Rattle.cam_event.specs.Carried.{Carried}
 use Rattle.cam_commit.specs.declared.Voted.{Voted}
 use Rattle.cam_commit.specs.declared.Voted.TheVariants as voted
 use Rattle.cam_commit.specs.Calls.{yes, ends, voted_by}

@@ -14,7 +14,8 @@ use Rattle.cam_event.specs.declared.Deed.TheVariants.{Secure}
 use Rattle.cam_event.specs.History.{is_commit, is_abort, is_crash, is_secure_at}
 use Rattle.cam_event.specs.Inputs.{Mail}
 use Rattle.cam_event.specs.Sights.{is_preparing_note, yes_for}
-use Rattle.cam_event.specs.ByKnowledge.{Carried, deeds_of, site}
+use Rattle.cam_event.specs.HeldSites.{site}
+use Rattle.cam_event.specs.Carried.{Carried, deeds_of}
 use Rattle.cam_commit.specs.declared.Voted.{Voted}
 use Rattle.cam_commit.specs.Families.{Families, IsUndecided, CommitsFamilies}
 use Rattle.cam_commit.specs.Calls.{yes, ends, AreSame, IsPrepared, IsSecured, IsVoted}

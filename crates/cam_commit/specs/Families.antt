@@ -7,7 +7,8 @@ use Rattle.cam_type.specs.declared.ObjectDecl.{ObjectDecl}
 use Rattle.cam_know.specs.Known.{knows_abort, knows_commit}
 use Rattle.cam_event.specs.History.{secured_at}
 use Rattle.cam_event.specs.Sights.{votes}
-use Rattle.cam_event.specs.ByKnowledge.{Carried, entry_of, deeds_of, held}
+use Rattle.cam_event.specs.ByKnowledge.{held}
+use Rattle.cam_event.specs.Carried.{Carried, entry_of, deeds_of}
 
 -- the families that this node is preparing, and those that it has secured
 pub record Families : Type 0 where

@@ -13,7 +13,8 @@ use Rattle.cam_event.specs.declared.LetterId.{LetterId}
 use Rattle.cam_event.specs.History.{count}
 use Rattle.cam_event.specs.Inputs.{Input, Receives, Mail}
 use Rattle.cam_event.specs.Sights.{Sight, votes, present, knows_outcome}
-use Rattle.cam_event.specs.ByKnowledge.{Carried, entry_of, deeds_of, held_sight}
+use Rattle.cam_event.specs.ByKnowledge.{held_sight}
+use Rattle.cam_event.specs.Carried.{Carried, entry_of, deeds_of}
 use Rattle.cam_event.specs.NextStep.{stepped}
 use Rattle.cam_commit.specs.declared.Asked.{Asked}
 use Rattle.cam_commit.specs.declared.Asked.TheVariants as asked

@@ -19,7 +19,8 @@ use Rattle.cam_event.specs.Sights.{Sight, votes, present, is_present, is_prepari
 use Rattle.cam_event.specs.Sights.{is_preparing_note, knows_outcome}
 use Rattle.cam_event.specs.Rules.{Did, did, one, send, answers, nothing_but, commits, aborts, news}
 use Rattle.cam_event.specs.Rules.{prepares, vote, prepare_comes, vote_comes, query_comes, arrives}
-use Rattle.cam_event.specs.ByKnowledge.{Carried, held_sight}
+use Rattle.cam_event.specs.ByKnowledge.{held_sight}
+use Rattle.cam_event.specs.Carried.{Carried}
 use Rattle.cam_event.specs.NextStep.{stepped}
 use Rattle.cam_commit.specs.declared.Voted.{Voted}
 use Rattle.cam_commit.specs.declared.Voted.TheVariants as voted

@@ -22,7 +22,8 @@ use Rattle.cam_event.specs.Pasts.{last_of, holds, in_past, plain_all, every}
 use Rattle.cam_event.specs.Inputs.{Input, Mail, mail_got, node_of, got_of}
 use Rattle.cam_event.specs.Sights.{entries}
 use Rattle.cam_event.specs.ByPast.{own_past, first_informs}
-use Rattle.cam_event.specs.ByKnowledge.{Carried, learned_by, new_informs, carried_by, carried_of}
+use Rattle.cam_event.specs.ByKnowledge.{learned_by, new_informs, carried_by, carried_of}
+use Rattle.cam_event.specs.Carried.{Carried}
 use Rattle.cam_event.specs.Runs.{MayCome, IsRun}
 use Rattle.cam_event.proofs.Members.{In, any_more, plain_more}
 use Rattle.cam_event.proofs.SameInforms.{informs_agree}

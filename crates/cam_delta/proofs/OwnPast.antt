@@ -20,8 +20,9 @@ use Rattle.cam_event.specs.Pasts.{last_of, holds, in_past, plain, plain_all, IsC
 use Rattle.cam_event.specs.ByPast.{own_past, outcome_in, told}
 use Rattle.cam_event.specs.Agreement.{AreSent}
 use Rattle.cam_event.proofs.Members.{In}
-use Rattle.cam_event.proofs.PastLaws.{past_is_closed, closed_held}
-use Rattle.cam_event.proofs.SameOutcomes.{held_and_brought, tells_aborts, tells_commits}
+use Rattle.cam_event.proofs.ClosedPasts.{past_is_closed, closed_held}
+use Rattle.cam_event.proofs.SameOutcomes.{held_and_brought}
+use Rattle.cam_event.proofs.Decisions.{tells_aborts, tells_commits}
 use Rattle.cam_event.proofs.SameCounts.{held_and_brought_counts}
 use Rattle.cam_plain.proofs.Deciding.{committed_asked}
 use Rattle.cam_cut.proofs.Holds.{RunHolds}

@@ -16,7 +16,7 @@ use Rattle.cam_event.specs.Gained.{deps}
 use Rattle.cam_event.specs.Pasts.{last_of, holds, in_past}
 use Rattle.cam_event.specs.ByPast.{own_past, outcome_in, told}
 use Rattle.cam_event.proofs.Members.{In, in_any}
-use Rattle.cam_event.proofs.PastLaws.{past_is_closed, closed_held}
+use Rattle.cam_event.proofs.ClosedPasts.{past_is_closed, closed_held}
 use Rattle.cam_plain.specs.Legal.{Legal}
 use Rattle.cam_cut.proofs.Lists.{flat_in}
 use Rattle.cam_cut.proofs.Holds.{RunHolds}

@@ -17,7 +17,7 @@ use Rattle.cam_event.specs.Pasts.{in_past, holds, plain}
 use Rattle.cam_event.specs.Inputs.{Mail, letter_at}
 use Rattle.cam_event.specs.ByPast.{own_past, told}
 use Rattle.cam_event.proofs.Members.{In}
-use Rattle.cam_event.proofs.SameOutcomes.{older}
+use Rattle.cam_event.proofs.NewestPasts.{older}
 use Rattle.cam_cut.proofs.Lists.{in_filter}
 use Rattle.cam_agree.proofs.OrphanSame.{filter_in}
 use Rattle.cam_agree.proofs.DepsAgreed.{known_in, in_told, aborts_any}

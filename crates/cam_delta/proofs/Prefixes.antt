@@ -10,7 +10,7 @@ use Rattle.cam_event.specs.declared.Event.{Event}
 use Rattle.cam_event.specs.declared.Sent.{Sent}
 use Rattle.cam_event.specs.Inputs.{Mail, mail_of, letter_at}
 use Rattle.cam_event.specs.ByPast.{own_past}
-use Rattle.cam_event.proofs.SameOutcomes.{older, own_newest}
+use Rattle.cam_event.proofs.NewestPasts.{older, own_newest}
 use Rattle.cam_event.specs.ByDeltas.{load_for, of_node, up_to, received_of}
 use Rattle.cam_event.specs.DeltasByPast.{past_of, trace_to}
 use Rattle.cam_agree.proofs.Ran.{Ran, before_it}

@@ -23,7 +23,9 @@ use Rattle.cam_event.specs.Inputs.{Input, Begins, Requests, Receives, Tells, Que
 use Rattle.cam_event.specs.Sights.{own_deeds}
 use Rattle.cam_event.specs.Rules.{rule}
 use Rattle.cam_event.specs.ByPast.{event_of}
-use Rattle.cam_event.specs.ByKnowledge.{Carried, entry_of, site_after_all, sight_with, new_informs, of_node, carried_by, carried_of, node_step, held}
+use Rattle.cam_event.specs.ByKnowledge.{sight_with, new_informs, of_node, carried_by, carried_of, node_step, held}
+use Rattle.cam_event.specs.HeldSites.{site_after_all}
+use Rattle.cam_event.specs.Carried.{Carried, entry_of}
 use Rattle.cam_event.proofs.SortedNames.{sorted_same}
 use Rattle.cam_event.proofs.SameInforms.{among_aborted, among_committed}
 use Rattle.cam_agree.proofs.Ran.{Ran, plain_ran}

@@ -11,7 +11,8 @@ use Rattle.cam_event.specs.declared.Event.{Event}
 use Rattle.cam_event.specs.History.{is_crash}
 use Rattle.cam_event.specs.Inputs.{Input, Mail, letter_at, mail_got, node_of, got_of}
 use Rattle.cam_event.specs.Sights.{Sight}
-use Rattle.cam_event.specs.ByKnowledge.{Carried, held, held_sight, node_step}
+use Rattle.cam_event.specs.ByKnowledge.{held, held_sight, node_step}
+use Rattle.cam_event.specs.Carried.{Carried}
 use Rattle.cam_event.specs.Loads.{Load, no_load, with_load, PlacesFields, each_node}
 
 -- an event of a node, with the letter that it received and what that letter carried

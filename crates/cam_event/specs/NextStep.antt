@@ -3,7 +3,8 @@ use Rattle.std.specs.Prelude.{ℕ, List, Option}
 use Rattle.cam_type.specs.declared.ObjectDecl.{ObjectDecl}
 use Rattle.cam_know.specs.Knowledge.{Knowledge}
 use Rattle.cam_event.specs.Inputs.{Input, Mail}
-use Rattle.cam_event.specs.ByKnowledge.{Carried, node_step}
+use Rattle.cam_event.specs.ByKnowledge.{node_step}
+use Rattle.cam_event.specs.Carried.{Carried}
 
 -- The event that comes next for an input, with its letter and the knowledge that this brought.
 abbrev pub stepped : List ObjectDecl → ℕ → List Carried → Input → Option Mail → Knowledge → Carried

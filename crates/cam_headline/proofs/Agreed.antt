@@ -17,7 +17,8 @@ use Rattle.cam_event.specs.ByKnowledge.{held, of_node, carried_of}
 use Rattle.cam_event.specs.Runs.{IsRun}
 use Rattle.cam_event.proofs.Members.{any_more, plain_more, in_event}
 use Rattle.cam_event.proofs.RunLaws.{runs_are_sent}
-use Rattle.cam_event.proofs.SameOutcomes.{held_and_brought, tells_aborts, tells_commits}
+use Rattle.cam_event.proofs.SameOutcomes.{held_and_brought}
+use Rattle.cam_event.proofs.Decisions.{tells_aborts, tells_commits}
 use Rattle.cam_plain.specs.Legal.{Legal}
 use Rattle.cam_plain.proofs.Histories.{legal_before}
 use Rattle.cam_plain.proofs.Deciding.{one_outcome}

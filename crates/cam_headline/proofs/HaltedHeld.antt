@@ -12,7 +12,8 @@ use Rattle.cam_event.specs.ByPast.{own_past}
 use Rattle.cam_event.specs.ByKnowledge.{held, of_node, carried_of}
 use Rattle.cam_event.specs.Taken.{IsRunTaking}
 use Rattle.cam_event.proofs.RunLaws.{taking_are_sent, taking_crash_alone}
-use Rattle.cam_event.proofs.SameOutcomes.{held_and_brought, tells_aborts, tells_commits}
+use Rattle.cam_event.proofs.SameOutcomes.{held_and_brought}
+use Rattle.cam_event.proofs.Decisions.{tells_aborts, tells_commits}
 use Rattle.cam_plain.proofs.Deciding.{one_outcome}
 use Rattle.cam_cut.proofs.Halts.{run_taking_holds}
 use Rattle.cam_serial.proofs.Covering.{committed_covers}

@@ -22,7 +22,9 @@ use Rattle.cam_event.specs.Inputs.{Mail, mail_got, node_of, got_of}
 use Rattle.cam_event.specs.Sights.{Sight}
 use Rattle.cam_event.specs.Pasts.{plain_all, every}
 use Rattle.cam_event.specs.ByPast.{first_informs, sight}
-use Rattle.cam_event.specs.ByKnowledge.{Carried, Placed, Site, deeds_of, site_after, site_after_all, site, of_node, carried_of}
+use Rattle.cam_event.specs.ByKnowledge.{of_node, carried_of}
+use Rattle.cam_event.specs.HeldSites.{Placed, Site, site_after, site_after_all, site}
+use Rattle.cam_event.specs.Carried.{Carried, deeds_of}
 use Rattle.cam_event.specs.Agreement.{IsSent}
 use Rattle.cam_event.proofs.Members.{In}
 use Rattle.cam_cut.proofs.Good.{Good, Shape, No, One, Commits, Aborts}

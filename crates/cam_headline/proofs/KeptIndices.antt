@@ -10,7 +10,8 @@ use Rattle.cam_event.specs.declared.Operation.{Operation}
 use Rattle.cam_event.specs.Pasts.{plain_all}
 use Rattle.cam_event.specs.Sights.{entries, own_deeds}
 use Rattle.cam_event.specs.History.{number_of}
-use Rattle.cam_event.specs.ByKnowledge.{Placed, is_any_perform, site, of_node, carried_of}
+use Rattle.cam_event.specs.ByKnowledge.{of_node, carried_of}
+use Rattle.cam_event.specs.HeldSites.{Placed, is_any_perform, site}
 use Rattle.cam_node.specs.Kept.{Secured, performed_at, secured_of, paired}
 use Rattle.cam_server.specs.Recovered.{AreHeldOps, AreHeld, beside}
 use Rattle.cam_headline.specs.KeptLog.{LogsKeepOrder, LogsKeep}

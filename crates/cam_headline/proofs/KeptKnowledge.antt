@@ -13,9 +13,10 @@ use Rattle.cam_event.specs.Gained.{deps}
 use Rattle.cam_event.specs.Pasts.{last_of, holds, in_past, plain_all, IsClosed}
 use Rattle.cam_event.specs.ByPast.{own_past}
 use Rattle.cam_event.specs.ByKnowledge.{held, of_node, carried_of}
-use Rattle.cam_event.proofs.PastLaws.{past_is_closed, closed_held}
+use Rattle.cam_event.proofs.ClosedPasts.{past_is_closed, closed_held}
 use Rattle.cam_event.proofs.RunLaws.{taking_are_sent, taking_crash_alone}
-use Rattle.cam_event.proofs.SameCounts.{only_own, own_count, held_and_brought_counts}
+use Rattle.cam_event.proofs.SameCounts.{held_and_brought_counts}
+use Rattle.cam_event.proofs.CountedPasts.{only_own, own_count}
 use Rattle.cam_event.proofs.Base.{eighth}
 use Rattle.cam_plain.proofs.Deciding.{committed_asked}
 use Rattle.cam_cut.proofs.Holds.{RunHolds}

@@ -7,7 +7,8 @@ use Rattle.cam_type.specs.declared.Held.{Held}
 use Rattle.cam_type.specs.declared.HeldOp.{HeldOp}
 use Rattle.cam_event.specs.declared.Operation.{Operation}
 use Rattle.cam_event.specs.Pasts.{plain_all}
-use Rattle.cam_event.specs.ByKnowledge.{Placed, site, of_node, carried_of}
+use Rattle.cam_event.specs.ByKnowledge.{of_node, carried_of}
+use Rattle.cam_event.specs.HeldSites.{Placed, site}
 use Rattle.cam_node.specs.Kept.{Secured, secured_of, AllStandFor, AllHeld}
 use Rattle.cam_server.specs.Recovered.{AreHeldOps, AreHeld}
 use Rattle.cam_headline.specs.KeptLog.{LogsKeepSecured}

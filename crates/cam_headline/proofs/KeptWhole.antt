@@ -9,7 +9,9 @@ use Rattle.cam_know.specs.Known.{knows, outcome_eq, known_count, IsSame}
 use Rattle.cam_event.specs.declared.Event.{Event}
 use Rattle.cam_event.specs.History.{count as count_in}
 use Rattle.cam_event.specs.Sights.{own_deeds}
-use Rattle.cam_event.specs.ByKnowledge.{Carried, Site, deeds_of, held, site, of_node, carried_of}
+use Rattle.cam_event.specs.ByKnowledge.{held, of_node, carried_of}
+use Rattle.cam_event.specs.HeldSites.{Site, site}
+use Rattle.cam_event.specs.Carried.{Carried, deeds_of}
 use Rattle.cam_event.specs.ByDeltas.{as_carried, of_node as received_at, received_of}
 use Rattle.cam_event.specs.Taken.{IsRunTaking}
 use Rattle.cam_delta.proofs.Addressed.{halted_runs_are_addressed}

@@ -26,7 +26,8 @@ use Rattle.cam_event.specs.DeltasByPast.{past_of, past_load, past_load_by, past_
 use Rattle.cam_event.specs.Readings.{by_whole_letters, told_at}
 use Rattle.cam_event.specs.Runs.{IsNode}
 use Rattle.cam_event.proofs.Members.{In, event_below, plain_more}
-use Rattle.cam_event.proofs.PastLaws.{past_is_closed, past_has_it}
+use Rattle.cam_event.proofs.PastLaws.{past_has_it}
+use Rattle.cam_event.proofs.ClosedPasts.{past_is_closed}
 use Rattle.cam_plain.specs.Legal.{Legal}
 use Rattle.cam_cut.proofs.DepsFacts.{Ranged, pair_count, pair_range}
 use Rattle.cam_cut.proofs.Families.{sent_by}

@@ -15,7 +15,8 @@ use Rattle.cam_event.specs.declared.Want.TheVariants as wants
 use Rattle.cam_event.specs.History.{count, ended, created, is_open_child, is_crash, is_ask_of}
 use Rattle.cam_event.specs.History.{is_call_of, is_top_create, number_of}
 use Rattle.cam_event.specs.Inputs.{mail_got}
-use Rattle.cam_event.specs.ByKnowledge.{deeds_of, held_sight}
+use Rattle.cam_event.specs.ByKnowledge.{held_sight}
+use Rattle.cam_event.specs.Carried.{deeds_of}
 use Rattle.cam_event.specs.ByDeltas.{Received, as_carried, received, received_of}
 use Rattle.cam_event.specs.Refusals.{first_of_two, where_so, refusal, has_ended, has_call}
 use Rattle.cam_event.specs.Refusals.{has_child, is_not_open}

@@ -20,7 +20,8 @@ use Rattle.cam_event.specs.declared.Deed.TheVariants.{Inform, Crash}
 use Rattle.cam_event.specs.History.{is_crash, is_empty}
 use Rattle.cam_event.specs.Inputs.{Mail}
 use Rattle.cam_event.specs.Taken.{is_entered}
-use Rattle.cam_event.specs.ByKnowledge.{Carried, learned_by, commit_counts}
+use Rattle.cam_event.specs.ByKnowledge.{learned_by, commit_counts}
+use Rattle.cam_event.specs.Carried.{Carried}
 use Rattle.cam_event.proofs.Members.{In}
 use Rattle.cam_node.specs.LogOrder.{is_any_secure}
 use Rattle.cam_node.specs.Shapes.{is_mute, IsShaped, Quiet, Single, Commits, Aborts}

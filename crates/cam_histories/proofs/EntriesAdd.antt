@@ -19,7 +19,8 @@ use Rattle.cam_event.specs.declared.Deed.TheVariants.{Commit, Abort}
 use Rattle.cam_event.specs.History.{is_crash, is_empty}
 use Rattle.cam_event.specs.Inputs.{Input, Mail}
 use Rattle.cam_event.specs.Taken.{is_entered}
-use Rattle.cam_event.specs.ByKnowledge.{Carried, held_sight, learned_by, new_informs}
+use Rattle.cam_event.specs.ByKnowledge.{held_sight, learned_by, new_informs}
+use Rattle.cam_event.specs.Carried.{Carried}
 use Rattle.cam_event.specs.Loads.{Load, each_node}
 use Rattle.cam_event.specs.ByDeltas.{Received, as_carried, known}
 use Rattle.cam_event.proofs.Base.{eighth}

@@ -12,15 +12,16 @@ use Rattle.cam_event.specs.declared.Sent.{Sent}
 use Rattle.cam_event.specs.History.{count}
 use Rattle.cam_event.specs.Inputs.{Mail, mail_of, letter_at}
 use Rattle.cam_event.specs.ByPast.{own_past}
-use Rattle.cam_event.specs.ByKnowledge.{deeds_of}
+use Rattle.cam_event.specs.Carried.{deeds_of}
 use Rattle.cam_event.specs.Sights.{own_deeds}
 use Rattle.cam_event.specs.ByDeltas.{Received, as_carried, known, load_for, load_at}
 use Rattle.cam_event.specs.Loads.{Load, load_to}
 use Rattle.cam_event.specs.Runs.{IsNode}
 use Rattle.cam_event.proofs.Base.{eighth}
-use Rattle.cam_event.proofs.PastLaws.{last_has_node}
+use Rattle.cam_event.proofs.ClosedPasts.{last_has_node}
 use Rattle.cam_event.proofs.Agree.{same_count}
-use Rattle.cam_event.proofs.SameCounts.{only_own, own_count, held_and_brought_counts}
+use Rattle.cam_event.proofs.SameCounts.{held_and_brought_counts}
+use Rattle.cam_event.proofs.CountedPasts.{only_own, own_count}
 use Rattle.cam_agree.proofs.Ran.{Ran, ran_sent, ran_alone}
 use Rattle.cam_delta.proofs.Addressed.{ran_addressed}
 use Rattle.cam_delta.proofs.SameHistories.{entries_alike}

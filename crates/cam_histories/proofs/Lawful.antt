@@ -18,7 +18,7 @@ use Rattle.cam_event.specs.ByDeltas.{Received, next_by_deltas}
 use Rattle.cam_event.specs.Runs.{MayCome, IsNext}
 use Rattle.cam_event.specs.Taken.{is_entered, taken_of, IsTakenNext, MayStand, IsRunTaking}
 use Rattle.cam_event.proofs.Members.{in_any, any_in, any_more, in_append}
-use Rattle.cam_event.proofs.SameOutcomes.{plain_none}
+use Rattle.cam_event.proofs.NewestPasts.{plain_none}
 use Rattle.cam_cut.proofs.Lists.{in_filter}
 use Rattle.cam_cut.proofs.NextEvent.{sight_of, did_of}
 use Rattle.cam_cut.proofs.Parts.{first_is}

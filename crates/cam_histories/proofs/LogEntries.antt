@@ -17,7 +17,8 @@ use Rattle.cam_event.specs.Inputs.{Input, Begins, Requests, Receives, Tells, Que
 use Rattle.cam_event.specs.Inputs.{Mail, node_of, got_of, mail_got}
 use Rattle.cam_event.specs.Taken.{is_entered}
 use Rattle.cam_event.specs.ByPast.{next, own_past}
-use Rattle.cam_event.specs.ByKnowledge.{Carried, held, held_sight, new_informs, node_step}
+use Rattle.cam_event.specs.ByKnowledge.{held, held_sight, new_informs, node_step}
+use Rattle.cam_event.specs.Carried.{Carried}
 use Rattle.cam_event.specs.Loads.{Load, each_node}
 use Rattle.cam_event.specs.ByDeltas.{Received, as_carried, known, next_by_deltas}
 use Rattle.cam_event.specs.Readings.{by_knowledge}

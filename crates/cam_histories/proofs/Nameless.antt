@@ -19,8 +19,10 @@ use Rattle.cam_event.specs.declared.Deed.TheVariants.{Inform, Crash}
 use Rattle.cam_event.specs.History.{after, count, is_crash}
 use Rattle.cam_event.specs.Inputs.{Mail}
 use Rattle.cam_event.specs.Sights.{Entry, votes, yes_for, is_preparing_note}
-use Rattle.cam_event.specs.ByKnowledge.{Carried, deeds_of, gained_by, own_pairs}
-use Rattle.cam_event.specs.ByKnowledge.{finish_counts, learned_by, held, site, site_after_all}
+use Rattle.cam_event.specs.ByKnowledge.{gained_by, own_pairs}
+use Rattle.cam_event.specs.Carried.{Carried, deeds_of}
+use Rattle.cam_event.specs.ByKnowledge.{finish_counts, learned_by, held}
+use Rattle.cam_event.specs.HeldSites.{site, site_after_all}
 use Rattle.cam_event.specs.Loads.{with_load}
 use Rattle.cam_event.specs.ByDeltas.{Received, as_carried, known, crashed, came_from, have_of}
 use Rattle.cam_event.specs.ByDeltas.{acked_of, load_for}

@@ -8,7 +8,9 @@ use Rattle.cam_know.specs.Knowledge.{Knowledge}
 use Rattle.cam_know.specs.Known.{known_count, knows_abort, knows_commit}
 use Rattle.cam_event.specs.History.{count as count_in, informed, number_of, secured_at}
 use Rattle.cam_event.specs.Sights.{votes, kept_reply}
-use Rattle.cam_event.specs.ByKnowledge.{Carried, Site, entry_of, deeds_of, is_any_perform, own_pairs, held, site}
+use Rattle.cam_event.specs.ByKnowledge.{own_pairs, held}
+use Rattle.cam_event.specs.HeldSites.{Site, is_any_perform, site}
+use Rattle.cam_event.specs.Carried.{Carried, entry_of, deeds_of}
 use Rattle.cam_event.specs.Loads.{each_node}
 use Rattle.cam_event.specs.ByDeltas.{Received, as_carried, have_of, acked_of, places_of}
 use Rattle.cam_commit.specs.Families.{Families, IsUndecided, CommitsFamilies}

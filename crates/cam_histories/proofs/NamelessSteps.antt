@@ -24,8 +24,9 @@ use Rattle.cam_event.specs.Sights.{knows_outcome}
 use Rattle.cam_event.specs.Rules.{rule, arrives, arrives_mail, finish_comes, quit_comes, did}
 use Rattle.cam_event.specs.Rules.{aborts, commits, news, all_yes, nothing_but, request, prepares}
 use Rattle.cam_event.specs.ByPast.{event_of}
-use Rattle.cam_event.specs.ByKnowledge.{Carried, entry_of}
-use Rattle.cam_event.specs.ByKnowledge.{held, site_after_all}
+use Rattle.cam_event.specs.Carried.{Carried, entry_of}
+use Rattle.cam_event.specs.ByKnowledge.{held}
+use Rattle.cam_event.specs.HeldSites.{site_after_all}
 use Rattle.cam_event.specs.ByKnowledge.{sight_with, new_informs, step_with, node_step}
 use Rattle.cam_histories.proofs.Nameless.{bare, bare_entry, deeds_bare, pairs_bare, held_bare}
 use Rattle.cam_histories.proofs.Nameless.{site_bare, votes_bare}

@@ -8,7 +8,8 @@ use Rattle.cam_know.specs.Known.{nothing}
 use Rattle.cam_know.specs.Order.{told_in_order}
 use Rattle.cam_event.specs.declared.Event.{Event}
 use Rattle.cam_event.specs.ByDeltas.{Received, as_carried}
-use Rattle.cam_event.specs.ByKnowledge.{Carried, held, held_sight, node_step}
+use Rattle.cam_event.specs.ByKnowledge.{held, held_sight, node_step}
+use Rattle.cam_event.specs.Carried.{Carried}
 use Rattle.cam_event.specs.History.{is_crash}
 use Rattle.cam_event.specs.Inputs.{Input, Mail, node_of}
 use Rattle.cam_event.specs.Loads.{Load}

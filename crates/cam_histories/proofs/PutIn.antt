@@ -17,7 +17,8 @@ use Rattle.cam_event.specs.Inputs.{mail_got, node_of, got_of}
 use Rattle.cam_event.specs.Sights.{Sight}
 use Rattle.cam_event.specs.Refusals.{refusal, query_refusal}
 use Rattle.cam_event.specs.Readings.{by_knowledge}
-use Rattle.cam_event.specs.ByKnowledge.{Carried, held, sight_with, new_informs}
+use Rattle.cam_event.specs.ByKnowledge.{held, sight_with, new_informs}
+use Rattle.cam_event.specs.Carried.{Carried}
 use Rattle.cam_event.specs.ByKnowledge.{held_sight, node_step}
 use Rattle.cam_event.specs.Loads.{Load}
 use Rattle.cam_event.specs.ByDeltas.{Received, as_carried, received_of, of_node}

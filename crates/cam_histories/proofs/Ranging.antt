@@ -14,7 +14,8 @@ use Rattle.cam_event.specs.Live.{is_fit}
 use Rattle.cam_event.specs.Inputs.{decider, decider_of, mail_got, node_of, got_of}
 use Rattle.cam_event.specs.Pasts.{plain, every}
 use Rattle.cam_event.specs.ByPast.{first_informs}
-use Rattle.cam_event.specs.ByKnowledge.{deeds_of, is_any_perform}
+use Rattle.cam_event.specs.HeldSites.{is_any_perform}
+use Rattle.cam_event.specs.Carried.{deeds_of}
 use Rattle.cam_event.specs.ByDeltas.{Received, as_carried, received_of, received}
 use Rattle.cam_event.specs.Runs.{IsNode}
 use Rattle.cam_event.specs.Sights.{Sight}

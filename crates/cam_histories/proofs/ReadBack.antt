@@ -10,7 +10,9 @@ use Rattle.cam_event.specs.declared.Event.{Event}
 use Rattle.cam_event.specs.declared.Letter.{Letter}
 use Rattle.cam_event.specs.History.{count as count_in, number_of}
 use Rattle.cam_event.specs.Inputs.{Mail}
-use Rattle.cam_event.specs.ByKnowledge.{Carried, deeds_of, held, is_any_perform, site}
+use Rattle.cam_event.specs.ByKnowledge.{held}
+use Rattle.cam_event.specs.HeldSites.{is_any_perform, site}
+use Rattle.cam_event.specs.Carried.{Carried, deeds_of}
 use Rattle.cam_event.specs.Loads.{Load, each_node}
 use Rattle.cam_event.specs.ByDeltas.{Received, as_carried, known, crashed, is_from, have_of}
 use Rattle.cam_event.specs.ByDeltas.{acked_of, places_of, load_at, load_by, received_of}

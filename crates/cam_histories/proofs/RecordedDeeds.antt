@@ -23,7 +23,7 @@ use Rattle.cam_event.specs.declared.Deed.TheVariants.{Inform, Crash}
 use Rattle.cam_event.specs.History.{is_empty}
 use Rattle.cam_event.specs.Inputs.{Mail}
 use Rattle.cam_event.specs.Rules.{put_name, sorted_names, informs}
-use Rattle.cam_event.specs.ByKnowledge.{Carried}
+use Rattle.cam_event.specs.Carried.{Carried}
 use Rattle.cam_event.specs.Taken.{is_entered}
 use Rattle.cam_event.proofs.Members.{In}
 use Rattle.cam_node.specs.Entries.{Holding, deed_records}

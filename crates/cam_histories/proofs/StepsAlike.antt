@@ -11,7 +11,8 @@ use Rattle.cam_event.specs.Inputs.{Input, Begins, Requests, Receives, Tells, Que
 use Rattle.cam_event.specs.Inputs.{Mail, got_of}
 use Rattle.cam_event.specs.Loads.{Load}
 use Rattle.cam_event.specs.Sights.{Sight}
-use Rattle.cam_event.specs.ByKnowledge.{Carried, held_sight, node_step}
+use Rattle.cam_event.specs.ByKnowledge.{held_sight, node_step}
+use Rattle.cam_event.specs.Carried.{Carried}
 use Rattle.cam_event.specs.ByDeltas.{Received, as_carried}
 use Rattle.cam_node.specs.Halting.{IsTakenOf}
 use Rattle.cam_node.specs.Lawful.{MayBePut, IsStepOf}

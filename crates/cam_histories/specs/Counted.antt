@@ -7,7 +7,8 @@ use Rattle.cam_know.specs.Known.{nothing}
 use Rattle.cam_event.specs.declared.Deed.{Deed}
 use Rattle.cam_event.specs.declared.Event.{Event}
 use Rattle.cam_event.specs.declared.Want.{Want}
-use Rattle.cam_event.specs.ByKnowledge.{deeds_of, held_sight}
+use Rattle.cam_event.specs.ByKnowledge.{held_sight}
+use Rattle.cam_event.specs.Carried.{deeds_of}
 use Rattle.cam_event.specs.ByDeltas.{Received, as_carried}
 use Rattle.cam_event.specs.Refusals.{refusal}
 use Rattle.cam_event.specs.Taken.{IsRunTaking}

@@ -9,7 +9,8 @@ use Rattle.cam_event.specs.declared.Body.TheVariants as bodies
 use Rattle.cam_event.specs.Inputs.{Mail, letter_at}
 use Rattle.cam_event.specs.History.{count, tops, asks, calls, number_of}
 use Rattle.cam_event.specs.Pasts.{plain_all}
-use Rattle.cam_event.specs.ByKnowledge.{deeds_of, is_any_perform}
+use Rattle.cam_event.specs.HeldSites.{is_any_perform}
+use Rattle.cam_event.specs.Carried.{deeds_of}
 use Rattle.cam_event.specs.ByDeltas.{as_carried, load_at}
 use Rattle.cam_event.specs.Taken.{IsRunTaking}
 use Rattle.cam_wire.specs.OfTrace.{letter_with}

@@ -8,7 +8,8 @@ use Rattle.cam_type.specs.declared.ObjectDecl.{ObjectDecl}
 use Rattle.cam_know.specs.Knowledge.{Knowledge}
 use Rattle.cam_know.specs.Known.{counts_raised, with_count}
 use Rattle.cam_event.specs.History.{count}
-use Rattle.cam_event.specs.ByKnowledge.{deeds_of, site}
+use Rattle.cam_event.specs.HeldSites.{site}
+use Rattle.cam_event.specs.Carried.{deeds_of}
 use Rattle.cam_event.specs.ByDeltas.{Received, as_carried, known}
 use Rattle.cam_node.specs.Found.{after_restarts, counts_at}
 use Rattle.cam_node.specs.Log.{Logged, KeepsLog, secure_counts}

@@ -14,7 +14,8 @@ use Rattle.cam_event.specs.History.{after, count, is_crash, is_secure_at}
 use Rattle.cam_event.specs.Inputs.{Input, Mail}
 use Rattle.cam_event.specs.Sights.{is_preparing_note}
 use Rattle.cam_event.specs.Rules.{Did, rule}
-use Rattle.cam_event.specs.ByKnowledge.{Carried, deeds_of, held_sight, learned_by, node_step}
+use Rattle.cam_event.specs.ByKnowledge.{held_sight, learned_by, node_step}
+use Rattle.cam_event.specs.Carried.{Carried, deeds_of}
 use Rattle.cam_event.specs.Loads.{no_load}
 use Rattle.cam_event.specs.ByDeltas.{Received, as_carried, known}
 use Rattle.cam_tranman.specs.Actions.{RunsActions}

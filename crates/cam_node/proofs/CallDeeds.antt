@@ -9,7 +9,8 @@ use Rattle.cam_know.specs.Knowledge.{Knowledge}
 use Rattle.cam_event.specs.History.{is_secure_at}
 use Rattle.cam_event.specs.Inputs.{Mail}
 use Rattle.cam_event.specs.Sights.{is_preparing_note}
-use Rattle.cam_event.specs.ByKnowledge.{Carried, learned_by}
+use Rattle.cam_event.specs.ByKnowledge.{learned_by}
+use Rattle.cam_event.specs.Carried.{Carried}
 use Rattle.cam_tranman.specs.Events.{is_at_home}
 use Rattle.cam_server.specs.declared.Performed.{Performed}
 use Rattle.cam_server.specs.declared.Performed.TheVariants as performed

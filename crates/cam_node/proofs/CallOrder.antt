@@ -14,7 +14,9 @@ use Rattle.cam_event.specs.declared.Letter.{Letter}
 use Rattle.cam_event.specs.declared.LetterId.{LetterId}
 use Rattle.cam_event.specs.History.{after, number_of}
 use Rattle.cam_event.specs.ByPast.{event_of}
-use Rattle.cam_event.specs.ByKnowledge.{Carried, Placed, Site, deeds_of, is_any_perform, new_informs, site, site_after_all}
+use Rattle.cam_event.specs.ByKnowledge.{new_informs}
+use Rattle.cam_event.specs.HeldSites.{Placed, Site, is_any_perform, site, site_after_all}
+use Rattle.cam_event.specs.Carried.{Carried, deeds_of}
 use Rattle.cam_event.specs.ByDeltas.{as_carried, known}
 use Rattle.cam_comman.specs.Letters.{load_on}
 use Rattle.cam_recman.specs.declared.Record.{Record}

@@ -7,7 +7,8 @@ use Rattle.cam_know.specs.Order.{told_in_order}
 use Rattle.cam_event.specs.declared.LetterId.{LetterId}
 use Rattle.cam_event.specs.Inputs.{Receives, Mail}
 use Rattle.cam_event.specs.Rules.{rule, arrives}
-use Rattle.cam_event.specs.ByKnowledge.{Carried, held_sight, new_informs}
+use Rattle.cam_event.specs.ByKnowledge.{held_sight, new_informs}
+use Rattle.cam_event.specs.Carried.{Carried}
 use Rattle.cam_event.specs.Loads.{Load, with_load}
 use Rattle.cam_event.specs.ByDeltas.{Received, as_carried, known}
 use Rattle.cam_server.specs.declared.Performed.{Performed}

@@ -19,7 +19,8 @@ use Rattle.cam_event.specs.declared.Deed.TheVariants.{Call, Commit, Abort, Crash
 use Rattle.cam_event.specs.History.{count}
 use Rattle.cam_event.specs.Live.{site_of}
 use Rattle.cam_event.specs.Inputs.{Mail}
-use Rattle.cam_event.specs.ByKnowledge.{Carried, deeds_of, start_counts, finish_counts, own_pairs, commit_counts, learned_by, held}
+use Rattle.cam_event.specs.ByKnowledge.{start_counts, finish_counts, own_pairs, commit_counts, learned_by, held}
+use Rattle.cam_event.specs.Carried.{Carried, deeds_of}
 use Rattle.cam_event.specs.Loads.{Load, no_load}
 use Rattle.cam_event.proofs.Members.{In}
 use Rattle.cam_delta.proofs.DeltaLists.{ordered_in}

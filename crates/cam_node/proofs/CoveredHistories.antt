@@ -16,7 +16,8 @@ use Rattle.cam_event.specs.Inputs.{Input, Begins, Requests, Receives, Tells, Que
 use Rattle.cam_event.specs.Sights.{Sight, present}
 use Rattle.cam_event.specs.Rules.{informs}
 use Rattle.cam_event.specs.Taken.{is_entered}
-use Rattle.cam_event.specs.ByKnowledge.{Carried, deeds_of, held, learned_by}
+use Rattle.cam_event.specs.ByKnowledge.{held, learned_by}
+use Rattle.cam_event.specs.Carried.{Carried, deeds_of}
 use Rattle.cam_event.specs.Loads.{Load}
 use Rattle.cam_event.specs.ByDeltas.{Received, as_carried}
 use Rattle.cam_event.proofs.Members.{In}

@@ -18,7 +18,8 @@ use Rattle.cam_event.specs.History.{after, count, call_of}
 use Rattle.cam_event.specs.Gained.{home, visited}
 use Rattle.cam_event.specs.Live.{site_of}
 use Rattle.cam_event.specs.Sights.{Sight, present}
-use Rattle.cam_event.specs.ByKnowledge.{Carried, deeds_of, start_counts, finish_counts, gained_by, own_pairs, commit_counts, learned_by, held}
+use Rattle.cam_event.specs.ByKnowledge.{start_counts, finish_counts, gained_by, own_pairs, commit_counts, learned_by, held}
+use Rattle.cam_event.specs.Carried.{Carried, deeds_of}
 use Rattle.cam_event.specs.Loads.{Load}
 use Rattle.cam_event.proofs.Members.{In, in_append, in_after}
 use Rattle.cam_cut.proofs.DepsFacts.{in_visited}

@@ -16,7 +16,8 @@ use Rattle.cam_event.specs.History.{after, count, is_crash}
 use Rattle.cam_event.specs.Inputs.{Input, Begins, Requests, Receives, Tells, Queries, Restarts, Mail}
 use Rattle.cam_event.specs.Sights.{Sight, present}
 use Rattle.cam_event.specs.Rules.{informs, rule}
-use Rattle.cam_event.specs.ByKnowledge.{Carried, deeds_of, held, held_sight, learned_by}
+use Rattle.cam_event.specs.ByKnowledge.{held, held_sight, learned_by}
+use Rattle.cam_event.specs.Carried.{Carried, deeds_of}
 use Rattle.cam_event.specs.Loads.{Load}
 use Rattle.cam_event.specs.ByDeltas.{Received, as_carried}
 use Rattle.cam_event.proofs.Agree.{count_after_other}

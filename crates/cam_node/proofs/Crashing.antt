@@ -7,7 +7,8 @@ use Rattle.cam_know.specs.Knowledge.{Knowledge}
 use Rattle.cam_know.specs.Known.{knows_abort}
 use Rattle.cam_event.specs.declared.Deed.{Deed}
 use Rattle.cam_event.specs.History.{informed}
-use Rattle.cam_event.specs.ByKnowledge.{Placed, Site, put_placed, in_order, for_family, deeds_of, is_any_perform, site, site_after_all}
+use Rattle.cam_event.specs.HeldSites.{Placed, Site, put_placed, in_order, for_family, is_any_perform, site, site_after_all}
+use Rattle.cam_event.specs.Carried.{deeds_of}
 use Rattle.cam_event.specs.ByDeltas.{as_carried}
 use Rattle.cam_locks.specs.declared.LiveOp.{LiveOp}
 use Rattle.cam_locks.specs.Members.{In}

@@ -18,7 +18,9 @@ use Rattle.cam_event.specs.declared.Sent.{Sent}
 use Rattle.cam_event.specs.History.{after}
 use Rattle.cam_event.specs.Inputs.{Receives, Mail}
 use Rattle.cam_event.specs.ByPast.{event_of}
-use Rattle.cam_event.specs.ByKnowledge.{Carried, Site, deeds_of, site, site_after_all, new_informs}
+use Rattle.cam_event.specs.ByKnowledge.{new_informs}
+use Rattle.cam_event.specs.HeldSites.{Site, site, site_after_all}
+use Rattle.cam_event.specs.Carried.{Carried, deeds_of}
 use Rattle.cam_event.specs.Loads.{Load, noted_at, PlacesFields}
 use Rattle.cam_event.specs.ByDeltas.{Received, as_carried}
 use Rattle.cam_comman.specs.Letters.{load_on, IsWithin}

@@ -18,7 +18,8 @@ use Rattle.cam_event.specs.Inputs.{Receives, Mail}
 use Rattle.cam_event.specs.Sights.{Sight}
 use Rattle.cam_event.specs.Rules.{Did, arrives}
 use Rattle.cam_event.specs.ByPast.{event_of}
-use Rattle.cam_event.specs.ByKnowledge.{Carried, learned_by, new_informs, finish_counts, own_pairs, held_sight, node_step}
+use Rattle.cam_event.specs.ByKnowledge.{learned_by, new_informs, finish_counts, own_pairs, held_sight, node_step}
+use Rattle.cam_event.specs.Carried.{Carried}
 use Rattle.cam_event.specs.Loads.{Load}
 use Rattle.cam_event.specs.ByDeltas.{Received, as_carried, known}
 use Rattle.cam_tranman.specs.Actions.{Actions, deps}

@@ -15,7 +15,9 @@ use Rattle.cam_event.specs.declared.Deed.{Deed}
 use Rattle.cam_event.specs.declared.Deed.TheVariants.{Create, Ask, Call, Perform, Bounce, Got, AskCommit, AskAbort, Commit, Abort, Secure, Inform, Crash}
 use Rattle.cam_event.specs.History.{after, count}
 use Rattle.cam_event.specs.Inputs.{Mail}
-use Rattle.cam_event.specs.ByKnowledge.{Carried, Placed, Site, learned_by, commit_counts, site_after, site_after_all}
+use Rattle.cam_event.specs.ByKnowledge.{learned_by, commit_counts}
+use Rattle.cam_event.specs.HeldSites.{Placed, Site, site_after, site_after_all}
+use Rattle.cam_event.specs.Carried.{Carried}
 use Rattle.cam_recman.specs.declared.Record.TheVariants as records
 use Rattle.cam_recman.specs.declared.Recovered.{Recovered}
 use Rattle.cam_recman.specs.Recovery.{with_record, with_records}

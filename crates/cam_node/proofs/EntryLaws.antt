@@ -13,7 +13,9 @@ use Rattle.cam_event.specs.declared.Deed.{Deed}
 use Rattle.cam_event.specs.declared.Deed.TheVariants.{Create, Ask, Call, Perform, Bounce, Got, AskCommit, AskAbort, Commit, Abort, Secure, Inform, Crash}
 use Rattle.cam_event.specs.Inputs.{Mail}
 use Rattle.cam_event.specs.History.{after, count}
-use Rattle.cam_event.specs.ByKnowledge.{Carried, deeds_of, site, site_after_all, learned_by}
+use Rattle.cam_event.specs.ByKnowledge.{learned_by}
+use Rattle.cam_event.specs.HeldSites.{site, site_after_all}
+use Rattle.cam_event.specs.Carried.{Carried, deeds_of}
 use Rattle.cam_event.specs.ByDeltas.{as_carried, known}
 use Rattle.cam_recman.specs.declared.Record.{Record}
 use Rattle.cam_recman.specs.declared.Recovered.{Recovered}

@@ -8,7 +8,7 @@ use Rattle.cam_know.specs.Known.{counts_raised}
 use Rattle.cam_event.specs.declared.Deed.{Deed}
 use Rattle.cam_event.specs.declared.Event.{Event}
 use Rattle.cam_event.specs.Taken.{is_entered}
-use Rattle.cam_event.specs.ByKnowledge.{Placed, site}
+use Rattle.cam_event.specs.HeldSites.{Placed, site}
 use Rattle.cam_event.specs.ByDeltas.{Received, as_carried}
 use Rattle.cam_recman.specs.declared.Recovered.{Recovered}
 use Rattle.cam_node.specs.declared.found.Found.{Found}

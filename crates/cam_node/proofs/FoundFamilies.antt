@@ -13,7 +13,7 @@ use Rattle.cam_event.specs.declared.Deed.{Deed}
 use Rattle.cam_event.specs.declared.Deed.TheVariants.{Perform, Secure, Inform, Crash}
 use Rattle.cam_event.specs.History.{after}
 use Rattle.cam_event.specs.Inputs.{Mail}
-use Rattle.cam_event.specs.ByKnowledge.{Placed, Site, site_after, site_after_all}
+use Rattle.cam_event.specs.HeldSites.{Placed, Site, site_after, site_after_all}
 use Rattle.cam_node.specs.Found.{is_held}
 use Rattle.cam_node.specs.Log.{secure_counts}
 use Rattle.cam_node.specs.LogOrder.{is_any_secure}

@@ -13,7 +13,8 @@ use Rattle.cam_commit.specs.Events.{families_of}
 use Rattle.cam_event.specs.declared.Deed.{Deed}
 use Rattle.cam_event.specs.declared.Event.{Event}
 use Rattle.cam_event.specs.Taken.{is_entered}
-use Rattle.cam_event.specs.ByKnowledge.{Placed, deeds_of, site}
+use Rattle.cam_event.specs.HeldSites.{Placed, site}
+use Rattle.cam_event.specs.Carried.{deeds_of}
 use Rattle.cam_event.specs.ByDeltas.{Received, as_carried, known}
 use Rattle.cam_recman.specs.declared.Recovered.{Recovered}
 use Rattle.cam_server.specs.Recovered.{AreHeld, OrderIsKept, beside}

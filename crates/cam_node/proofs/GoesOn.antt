@@ -8,7 +8,8 @@ use Rattle.cam_know.specs.Order.{told_in_order}
 use Rattle.cam_event.specs.declared.Letter.{Letter}
 use Rattle.cam_event.specs.declared.LetterId.{LetterId}
 use Rattle.cam_event.specs.Sights.{Sight, present}
-use Rattle.cam_event.specs.ByKnowledge.{deeds_of, held_sight, new_informs}
+use Rattle.cam_event.specs.ByKnowledge.{held_sight, new_informs}
+use Rattle.cam_event.specs.Carried.{deeds_of}
 use Rattle.cam_event.specs.Loads.{with_load}
 use Rattle.cam_event.specs.ByDeltas.{Received, as_carried, known}
 use Rattle.cam_comman.specs.Letters.{load_on}

@@ -7,7 +7,7 @@ use Rattle.cam_names.specs.declared.name.Name.{Name}
 use Rattle.cam_names.specs.Names.{name_eq}
 use Rattle.cam_names.proofs.Names.{name_eq_sym}
 use Rattle.cam_type.specs.declared.ObjectDecl.{ObjectDecl}
-use Rattle.cam_event.specs.ByKnowledge.{Placed}
+use Rattle.cam_event.specs.HeldSites.{Placed}
 use Rattle.cam_node.specs.Restartable.{EachOnce}
 use Rattle.cam_node.proofs.PlacedOnce.{AreGroups, names_of}
 

@@ -10,7 +10,8 @@ use Rattle.cam_event.specs.declared.Deed.{Deed}
 use Rattle.cam_event.specs.declared.Deed.TheVariants.{Commit, Abort, Crash}
 use Rattle.cam_event.specs.History.{count}
 use Rattle.cam_event.specs.Inputs.{Mail}
-use Rattle.cam_event.specs.ByKnowledge.{Carried, commit_counts, deeds_of, learned_by}
+use Rattle.cam_event.specs.ByKnowledge.{commit_counts, learned_by}
+use Rattle.cam_event.specs.Carried.{Carried, deeds_of}
 use Rattle.cam_event.specs.ByDeltas.{Received, as_carried, known}
 
 pub record Grown (k now : Knowledge) : Type 0 where

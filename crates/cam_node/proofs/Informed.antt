@@ -19,7 +19,8 @@ use Rattle.cam_event.specs.declared.Deed.TheVariants.{Create, Ask, Call, Perform
 use Rattle.cam_event.specs.History.{after, informed, is_inform}
 use Rattle.cam_event.specs.Inputs.{Mail}
 use Rattle.cam_event.specs.Rules.{rule, sorted_names, informs}
-use Rattle.cam_event.specs.ByKnowledge.{Carried, deeds_of, held, held_sight, learned_by, commit_counts, new_informs}
+use Rattle.cam_event.specs.ByKnowledge.{held, held_sight, learned_by, commit_counts, new_informs}
+use Rattle.cam_event.specs.Carried.{Carried, deeds_of}
 use Rattle.cam_event.specs.ByDeltas.{Received, as_carried}
 use Rattle.cam_event.specs.Taken.{is_entered}
 use Rattle.cam_event.proofs.SameInforms.{among_aborted, among_committed}

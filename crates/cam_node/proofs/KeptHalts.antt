@@ -8,7 +8,8 @@ use Rattle.cam_event.specs.declared.Event.{Event}
 use Rattle.cam_event.specs.History.{after, count, is_crash}
 use Rattle.cam_event.specs.Inputs.{Input, Mail}
 use Rattle.cam_event.specs.Taken.{taken_of}
-use Rattle.cam_event.specs.ByKnowledge.{Carried, deeds_of, node_step}
+use Rattle.cam_event.specs.ByKnowledge.{node_step}
+use Rattle.cam_event.specs.Carried.{Carried, deeds_of}
 use Rattle.cam_event.specs.Loads.{Load}
 use Rattle.cam_event.specs.ByDeltas.{Received, as_carried, known}
 use Rattle.cam_event.proofs.Agree.{count_after_other}

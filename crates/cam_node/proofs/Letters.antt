@@ -15,7 +15,8 @@ use Rattle.cam_event.specs.History.{is_secure_at}
 use Rattle.cam_event.specs.Inputs.{Receives, Mail}
 use Rattle.cam_event.specs.Sights.{is_preparing_note}
 use Rattle.cam_event.specs.Rules.{Did, rule, sorted_names, informs}
-use Rattle.cam_event.specs.ByKnowledge.{Carried, held_sight, new_informs}
+use Rattle.cam_event.specs.ByKnowledge.{held_sight, new_informs}
+use Rattle.cam_event.specs.Carried.{Carried}
 use Rattle.cam_event.specs.Loads.{Load, noted_at, with_load}
 use Rattle.cam_event.specs.ByDeltas.{Received, as_carried, known}
 use Rattle.cam_tranman.specs.Orderly.{IsOrderly, MayBeAsked}

@@ -9,7 +9,8 @@ use Rattle.cam_event.specs.declared.Deed.{Deed}
 use Rattle.cam_event.specs.declared.Deed.TheVariants.{Create, Ask, Call, Perform, Bounce, Got, AskCommit, AskAbort, Commit, Abort, Secure, Inform, Crash}
 use Rattle.cam_event.specs.History.{count}
 use Rattle.cam_event.specs.Inputs.{Mail}
-use Rattle.cam_event.specs.ByKnowledge.{Carried, deeds_of, commit_counts}
+use Rattle.cam_event.specs.ByKnowledge.{commit_counts}
+use Rattle.cam_event.specs.Carried.{Carried, deeds_of}
 use Rattle.cam_event.specs.ByDeltas.{as_carried, known}
 use Rattle.cam_event.specs.Taken.{is_entered}
 use Rattle.cam_recman.specs.declared.Record.{Record}

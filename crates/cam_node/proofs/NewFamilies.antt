@@ -18,7 +18,8 @@ use Rattle.cam_event.specs.Inputs.{Input, Begins, Requests, Receives, Tells, Que
 use Rattle.cam_event.specs.Sights.{Sight, present, is_present, knows_outcome, is_preparing}
 use Rattle.cam_event.specs.Rules.{did, one, vote, answers, nothing_but, prepares, finish_comes, prepare_comes, arrives, rule}
 use Rattle.cam_event.specs.Taken.{is_entered}
-use Rattle.cam_event.specs.ByKnowledge.{Carried, deeds_of, held, held_sight, new_informs, node_step}
+use Rattle.cam_event.specs.ByKnowledge.{held, held_sight, new_informs, node_step}
+use Rattle.cam_event.specs.Carried.{Carried, deeds_of}
 use Rattle.cam_commit.proofs.RuleKinds.{is_marking, request_plain, start_plain, call_plain, answer_plain, child_plain, quit_plain, vote_plain, query_plain}
 use Rattle.cam_node.specs.LogOrder.{is_any_secure}
 use Rattle.cam_node.proofs.Unsecured.{informs_unsecured}

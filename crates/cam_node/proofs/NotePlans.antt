@@ -15,7 +15,8 @@ use Rattle.cam_event.specs.declared.Note.{Note}
 use Rattle.cam_event.specs.Inputs.{Receives, Mail}
 use Rattle.cam_event.specs.Rules.{Did, nothing_but}
 use Rattle.cam_event.specs.ByPast.{event_of}
-use Rattle.cam_event.specs.ByKnowledge.{Carried, learned_by, new_informs, node_step}
+use Rattle.cam_event.specs.ByKnowledge.{learned_by, new_informs, node_step}
+use Rattle.cam_event.specs.Carried.{Carried}
 use Rattle.cam_event.specs.Loads.{Load, noted_at, with_load}
 use Rattle.cam_event.specs.ByDeltas.{Received, as_carried, known}
 use Rattle.cam_comman.specs.Letters.{load_on}

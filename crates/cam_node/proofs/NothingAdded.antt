@@ -12,7 +12,9 @@ use Rattle.cam_event.specs.declared.Deed.{Deed}
 use Rattle.cam_event.specs.declared.Deed.TheVariants.{Create, Ask, Call, Perform, Bounce, Got, AskCommit, AskAbort, Commit, Abort, Secure, Inform, Crash}
 use Rattle.cam_event.specs.Inputs.{Mail}
 use Rattle.cam_event.specs.Rules.{sorted_names}
-use Rattle.cam_event.specs.ByKnowledge.{Carried, Site, site_after, site_after_all, new_informs}
+use Rattle.cam_event.specs.ByKnowledge.{new_informs}
+use Rattle.cam_event.specs.HeldSites.{Site, site_after, site_after_all}
+use Rattle.cam_event.specs.Carried.{Carried}
 use Rattle.cam_event.specs.History.{after}
 use Rattle.cam_node.specs.Entries.{Holding, AreHoldings, deed_records}
 use Rattle.cam_node.specs.AtHome.{is_at_home_alone}

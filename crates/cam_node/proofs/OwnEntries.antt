@@ -12,7 +12,8 @@ use Rattle.cam_event.specs.declared.Want.TheVariants as wants
 use Rattle.cam_event.specs.Inputs.{Input, Begins, Requests, Receives, Tells, Queries, Restarts}
 use Rattle.cam_event.specs.Sights.{Sight}
 use Rattle.cam_event.specs.Rules.{Did, stopped_by, wanted}
-use Rattle.cam_event.specs.ByKnowledge.{Carried, held_sight, node_step}
+use Rattle.cam_event.specs.ByKnowledge.{held_sight, node_step}
+use Rattle.cam_event.specs.Carried.{Carried}
 use Rattle.cam_recman.specs.declared.Record.TheVariants as records
 use Rattle.cam_recman.specs.Snapshot.{outcome_record}
 use Rattle.cam_node.specs.Entries.{greater_records, learnt_records}

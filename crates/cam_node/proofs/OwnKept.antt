@@ -7,7 +7,9 @@ use Rattle.cam_know.specs.Knowledge.{Knowledge}
 use Rattle.cam_know.specs.Known.{nothing, both}
 use Rattle.cam_event.specs.declared.Event.{Event}
 use Rattle.cam_event.specs.Inputs.{Input, Begins, Requests, Receives, Tells, Queries, Restarts}
-use Rattle.cam_event.specs.ByKnowledge.{Carried, deeds_of, node_step, site}
+use Rattle.cam_event.specs.ByKnowledge.{node_step}
+use Rattle.cam_event.specs.HeldSites.{site}
+use Rattle.cam_event.specs.Carried.{Carried, deeds_of}
 use Rattle.cam_event.specs.Loads.{no_load}
 use Rattle.cam_event.specs.ByDeltas.{Received, as_carried, known}
 use Rattle.cam_commit.specs.Steps.{is_restarting}

@@ -29,7 +29,9 @@ use Rattle.cam_event.specs.Live.{site_of}
 use Rattle.cam_event.specs.Loads.{Load}
 use Rattle.cam_event.specs.Sights.{Sight, present, is_present, knows_outcome, is_preparing, votes, kept_reply}
 use Rattle.cam_event.specs.Rules.{Did, did, stopped_by, aborts, wanted, request, with_home, start_comes, lift_here, is_conflict_here, on_object, bounced, served, refused_or_served, again_or, call_comes, awaits, got_reply, gone_or, answer_comes, decides_child, commits_or_aborts, child_finishes, child_quits, prepares, finish_comes, quit_comes, prepare_comes, all_yes, vote_comes, query_comes, arrives, arrives_mail, rule, sorted_names, informs}
-use Rattle.cam_event.specs.ByKnowledge.{Carried, Site, deeds_of, site, site_after, held, held_informs, held_sight, sight_with, node_step}
+use Rattle.cam_event.specs.ByKnowledge.{held, held_informs, held_sight, sight_with, node_step}
+use Rattle.cam_event.specs.HeldSites.{Site, site, site_after}
+use Rattle.cam_event.specs.Carried.{Carried, deeds_of}
 use Rattle.cam_event.specs.ByDeltas.{Received, as_carried}
 use Rattle.cam_event.specs.Taken.{is_entered}
 use Rattle.cam_node.specs.Lawful.{MayBePut, IsStepOf}

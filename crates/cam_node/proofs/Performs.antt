@@ -15,7 +15,8 @@ use Rattle.cam_event.specs.History.{count, is_secure_at}
 use Rattle.cam_event.specs.Inputs.{Receives, Mail}
 use Rattle.cam_event.specs.Sights.{is_preparing_note, yes_in}
 use Rattle.cam_event.specs.Rules.{Did, rule}
-use Rattle.cam_event.specs.ByKnowledge.{Carried, deeds_of, held_sight, new_informs, learned_by}
+use Rattle.cam_event.specs.ByKnowledge.{held_sight, new_informs, learned_by}
+use Rattle.cam_event.specs.Carried.{Carried, deeds_of}
 use Rattle.cam_event.specs.Loads.{Load, noted_at, with_load}
 use Rattle.cam_event.specs.ByDeltas.{Received, as_carried, known}
 use Rattle.cam_tranman.specs.Actions.{RunsActions}

@@ -6,7 +6,7 @@ use Rattle.cam_names.specs.declared.name.Name.{Name}
 use Rattle.cam_names.specs.Names.{name_eq, family}
 use Rattle.cam_names.proofs.Names.{name_eq_same, name_eq_refl}
 use Rattle.cam_type.specs.declared.ObjectDecl.{ObjectDecl}
-use Rattle.cam_event.specs.ByKnowledge.{Placed, for_family}
+use Rattle.cam_event.specs.HeldSites.{Placed, for_family}
 use Rattle.cam_node.specs.Restartable.{EachOnce}
 use Rattle.cam_node.proofs.PlacedOnce.{places, has_place, NoneTwice, AreApart, AreRight, AreOf, AreGroups, names_of, all_of, not_both}
 use Rattle.cam_node.proofs.PlacedTogether.{Away, none_append, apart_append, groups_places}

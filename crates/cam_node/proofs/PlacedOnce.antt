@@ -5,7 +5,7 @@ use Rattle.std.proofs.lemmas.Bool.{true≢false, or_parts, or_from}
 use Rattle.cam_names.specs.declared.name.Name.{Name}
 use Rattle.cam_names.specs.Names.{name_eq, family}
 use Rattle.cam_type.specs.declared.ObjectDecl.{ObjectDecl}
-use Rattle.cam_event.specs.ByKnowledge.{Placed}
+use Rattle.cam_event.specs.HeldSites.{Placed}
 use Rattle.cam_locks.specs.Site.{fits_here}
 
 -- the places of operations, whether one is among them, and that none stands twice

@@ -8,7 +8,8 @@ use Rattle.cam_event.specs.declared.Deed.{Deed}
 use Rattle.cam_event.specs.declared.Deed.TheVariants.{Create, Ask, Call, Perform, Bounce, Got, AskCommit, AskAbort, Commit, Abort, Secure, Inform, Crash}
 use Rattle.cam_event.specs.History.{after, number_of, informed}
 use Rattle.cam_event.specs.Inputs.{Mail}
-use Rattle.cam_event.specs.ByKnowledge.{Carried, Placed, Site, deeds_of, put_placed, in_order, for_family, is_any_perform, performed_op, site, site_after, site_after_all}
+use Rattle.cam_event.specs.HeldSites.{Placed, Site, put_placed, in_order, for_family, is_any_perform, performed_op, site, site_after, site_after_all}
+use Rattle.cam_event.specs.Carried.{Carried, deeds_of}
 
 abbrev pub ArePast : ℕ → List Placed → Type 0
 ArePast n [] = Unit {0}

@@ -5,7 +5,7 @@ use Rattle.cam_names.specs.declared.name.Name.{Name}
 use Rattle.cam_names.specs.Names.{family}
 use Rattle.cam_names.proofs.Names.{name_eq_same}
 use Rattle.cam_type.specs.declared.ObjectDecl.{ObjectDecl}
-use Rattle.cam_event.specs.ByKnowledge.{Placed, put_placed, in_order, for_family}
+use Rattle.cam_event.specs.HeldSites.{Placed, put_placed, in_order, for_family}
 use Rattle.cam_node.proofs.PlacedOnce.{places, has_place, AreApart, IsRight, AreRight, AreOf, AreGroups, all_of}
 
 -- operations behind others

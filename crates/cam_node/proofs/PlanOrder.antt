@@ -12,7 +12,8 @@ use Rattle.cam_event.specs.declared.Deed.{Deed}
 use Rattle.cam_event.specs.declared.Deed.TheVariants.{Create, Ask, Call, Perform, Bounce, Got, AskCommit, AskAbort, Commit, Abort, Secure, Inform, Crash}
 use Rattle.cam_event.specs.Inputs.{Input, Mail}
 use Rattle.cam_event.specs.Loads.{Load}
-use Rattle.cam_event.specs.ByKnowledge.{Carried, new_informs}
+use Rattle.cam_event.specs.ByKnowledge.{new_informs}
+use Rattle.cam_event.specs.Carried.{Carried}
 use Rattle.cam_event.specs.ByDeltas.{Received, as_carried}
 use Rattle.cam_event.proofs.Snoc.{filter_filter}
 use Rattle.cam_recman.specs.declared.Record.{Record}

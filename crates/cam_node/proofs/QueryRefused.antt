@@ -13,7 +13,8 @@ use Rattle.cam_event.specs.declared.LineRefusal.TheVariants as refusals
 use Rattle.cam_event.specs.History.{secured_at}
 use Rattle.cam_event.specs.Refusals.{query_refusal, where_so}
 use Rattle.cam_event.specs.Sights.{Sight, knows_outcome}
-use Rattle.cam_event.specs.ByKnowledge.{Placed, held_sight}
+use Rattle.cam_event.specs.ByKnowledge.{held_sight}
+use Rattle.cam_event.specs.HeldSites.{Placed}
 use Rattle.cam_event.specs.ByDeltas.{Received, as_carried, known}
 use Rattle.cam_commit.specs.Calls.{is_decided}
 use Rattle.cam_commit.proofs.Sights.{sight_is_answered}

@@ -10,7 +10,9 @@ use Rattle.cam_know.specs.Order.{told_in_order}
 use Rattle.cam_event.specs.declared.Deed.{Deed}
 use Rattle.cam_event.specs.History.{after, count, informed, is_crash, is_secure_at}
 use Rattle.cam_event.specs.Sights.{kept_reply, yes_for}
-use Rattle.cam_event.specs.ByKnowledge.{Carried, deeds_of, site, site_after_all, learned_by}
+use Rattle.cam_event.specs.ByKnowledge.{learned_by}
+use Rattle.cam_event.specs.HeldSites.{site, site_after_all}
+use Rattle.cam_event.specs.Carried.{Carried, deeds_of}
 use Rattle.cam_event.specs.ByDeltas.{as_carried, known}
 use Rattle.cam_tranman.specs.Actions.{RunsActions}
 use Rattle.cam_tranman.specs.Events.{is_at_home}

@@ -12,7 +12,9 @@ use Rattle.cam_event.specs.declared.Deed.{Deed}
 use Rattle.cam_event.specs.declared.Deed.TheVariants.{Create, Ask, Call, Perform, Bounce, Got, AskCommit, AskAbort, Commit, Abort, Secure, Inform, Crash}
 use Rattle.cam_event.specs.Inputs.{Mail}
 use Rattle.cam_event.specs.Rules.{sorted_names}
-use Rattle.cam_event.specs.ByKnowledge.{Carried, Site, site_after, learned_by, new_informs}
+use Rattle.cam_event.specs.ByKnowledge.{learned_by, new_informs}
+use Rattle.cam_event.specs.HeldSites.{Site, site_after}
+use Rattle.cam_event.specs.Carried.{Carried}
 use Rattle.cam_node.specs.Entries.{Holding, deed_records, AreHoldings}
 
 -- deeds that have a record

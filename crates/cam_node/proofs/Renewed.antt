@@ -7,7 +7,8 @@ use Rattle.cam_type.specs.declared.ObjectDecl.{ObjectDecl}
 use Rattle.cam_type.specs.declared.Held.{Held}
 use Rattle.cam_know.specs.Known.{is_abort_of, is_commit_of, with_count}
 use Rattle.cam_event.specs.History.{count}
-use Rattle.cam_event.specs.ByKnowledge.{Carried, Placed, deeds_of, site}
+use Rattle.cam_event.specs.HeldSites.{Placed, site}
+use Rattle.cam_event.specs.Carried.{Carried, deeds_of}
 use Rattle.cam_event.specs.Loads.{no_places, no_load, with_load}
 use Rattle.cam_event.specs.ByDeltas.{Received, as_carried, known, crashed, came_from, have_of, acked_of, places_of}
 use Rattle.cam_locks.specs.Restored.{restored, CanRestore}

@@ -16,7 +16,8 @@ use Rattle.cam_event.specs.Inputs.{Requests}
 use Rattle.cam_event.specs.Sights.{Sight}
 use Rattle.cam_event.specs.Rules.{Did, request, nothing_but, stopped_by}
 use Rattle.cam_event.specs.ByPast.{event_of}
-use Rattle.cam_event.specs.ByKnowledge.{Carried, sight_with, held_sight, node_step}
+use Rattle.cam_event.specs.ByKnowledge.{sight_with, held_sight, node_step}
+use Rattle.cam_event.specs.Carried.{Carried}
 use Rattle.cam_event.specs.Loads.{no_load}
 use Rattle.cam_event.specs.ByDeltas.{Received, as_carried, known}
 use Rattle.cam_tranman.specs.Actions.{Actions, deps}

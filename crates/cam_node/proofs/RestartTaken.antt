@@ -9,7 +9,7 @@ use Rattle.cam_know.specs.Knowledge.{Knowledge}
 use Rattle.cam_know.specs.declared.Outcome.{Outcome}
 use Rattle.cam_know.specs.declared.Outcome.TheVariants.{Aborted, Committed}
 use Rattle.cam_know.specs.Known.{known_count, with_count, counts_raised}
-use Rattle.cam_event.specs.ByKnowledge.{site}
+use Rattle.cam_event.specs.HeldSites.{site}
 use Rattle.cam_event.specs.ByDeltas.{Received, as_carried, known}
 use Rattle.cam_event.proofs.Members.{In}
 use Rattle.cam_cut.proofs.Lists.{all_in}

@@ -9,7 +9,7 @@ use Rattle.cam_type.specs.declared.ObjectDecl.{ObjectDecl}
 use Rattle.cam_know.specs.Knowledge.{Knowledge}
 use Rattle.cam_know.specs.Known.{nothing, both, known_count, counts_raised, with_count}
 use Rattle.cam_event.specs.History.{count}
-use Rattle.cam_event.specs.ByKnowledge.{deeds_of}
+use Rattle.cam_event.specs.Carried.{deeds_of}
 use Rattle.cam_event.specs.ByDeltas.{Received, as_carried, known}
 use Rattle.cam_node.specs.Halting.{restarted}
 use Rattle.cam_node.specs.LogLaws.{RestartKeeps, RestartKnows}

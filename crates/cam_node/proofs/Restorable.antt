@@ -9,7 +9,7 @@ use Rattle.cam_type.specs.declared.Op.{Op}
 use Rattle.cam_type.specs.declared.Held.{Held}
 use Rattle.cam_type.specs.declared.HeldOp.{HeldOp}
 use Rattle.cam_commit.specs.Events.{families_of}
-use Rattle.cam_event.specs.ByKnowledge.{Placed}
+use Rattle.cam_event.specs.HeldSites.{Placed}
 use Rattle.cam_locks.specs.Members.{In}
 use Rattle.cam_locks.specs.Restored.{all_held, has_index, MayBeHeld, CanRestore}
 use Rattle.cam_locks.specs.Site.{fits_here}

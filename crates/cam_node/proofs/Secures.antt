@@ -16,7 +16,8 @@ use Rattle.cam_event.specs.History.{after, count}
 use Rattle.cam_event.specs.Inputs.{Receives, Mail}
 use Rattle.cam_event.specs.Sights.{Sight}
 use Rattle.cam_event.specs.Rules.{Did, did, one, arrives, rule, vote}
-use Rattle.cam_event.specs.ByKnowledge.{Carried, deeds_of, held_sight, learned_by, new_informs}
+use Rattle.cam_event.specs.ByKnowledge.{held_sight, learned_by, new_informs}
+use Rattle.cam_event.specs.Carried.{Carried, deeds_of}
 use Rattle.cam_event.specs.Loads.{noted_at, with_load}
 use Rattle.cam_event.specs.ByDeltas.{Received, as_carried, known}
 use Rattle.cam_tranman.specs.Actions.{RunsActions}

@@ -11,7 +11,7 @@ use Rattle.cam_event.specs.declared.Deed.{Deed}
 use Rattle.cam_event.specs.declared.Operation.{Operation}
 use Rattle.cam_event.specs.History.{after, number_of}
 use Rattle.cam_event.specs.Inputs.{Mail}
-use Rattle.cam_event.specs.ByKnowledge.{Placed, Site, is_any_perform, called_op, site_after_all}
+use Rattle.cam_event.specs.HeldSites.{Placed, Site, is_any_perform, called_op, site_after_all}
 use Rattle.cam_locks.specs.declared.LiveOp.{LiveOp}
 use Rattle.cam_locks.specs.Moss.{holder, value}
 use Rattle.cam_locks.specs.Site as locks

@@ -11,7 +11,7 @@ use Rattle.cam_event.specs.declared.Deed.{Deed}
 use Rattle.cam_event.specs.declared.Deed.TheVariants.{Create, Ask, Call, Perform, Bounce, Got, AskCommit, AskAbort, Commit, Abort, Secure, Inform, Crash}
 use Rattle.cam_event.specs.History.{after, informed, number_of, secured_at}
 use Rattle.cam_event.specs.Inputs.{Mail}
-use Rattle.cam_event.specs.ByKnowledge.{Placed, Site, for_family, is_any_perform, performed_op, site_after, site_after_all}
+use Rattle.cam_event.specs.HeldSites.{Placed, Site, for_family, is_any_perform, performed_op, site_after, site_after_all}
 use Rattle.cam_node.proofs.NewFamilies.{IsNew, AreNew}
 use Rattle.cam_node.proofs.PlacedOnce.{AreApart, AreRight, AreGroups, names_of, places, has_place, with_owner, right_left, apart_left, of_left, right_more, groups_more, past_apart}
 use Rattle.cam_node.proofs.PlacedTogether.{Away, right_append, apart_append, right_order, apart_order, right_groups}

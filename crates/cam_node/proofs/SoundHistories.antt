@@ -7,7 +7,9 @@ use Rattle.cam_event.specs.declared.Event.{Event}
 use Rattle.cam_event.specs.History.{number_of}
 use Rattle.cam_event.specs.Inputs.{Input, Begins, Requests, Receives, Tells, Queries, Restarts, Mail}
 use Rattle.cam_event.specs.Sights.{Sight}
-use Rattle.cam_event.specs.ByKnowledge.{deeds_of, held_sight, is_any_perform, site}
+use Rattle.cam_event.specs.ByKnowledge.{held_sight}
+use Rattle.cam_event.specs.HeldSites.{is_any_perform, site}
+use Rattle.cam_event.specs.Carried.{deeds_of}
 use Rattle.cam_event.specs.Loads.{Load}
 use Rattle.cam_event.specs.ByDeltas.{Received, as_carried}
 use Rattle.cam_node.specs.Lawful.{HasNone, MayBePut, IsStepOf}

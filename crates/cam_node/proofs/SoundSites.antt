@@ -18,7 +18,7 @@ use Rattle.cam_event.specs.declared.Operation.{Operation}
 use Rattle.cam_event.specs.declared.Deed.{Deed}
 use Rattle.cam_event.specs.History.{secured_at}
 use Rattle.cam_event.specs.Inputs.{Mail}
-use Rattle.cam_event.specs.ByKnowledge.{Site, called_op, performed_op}
+use Rattle.cam_event.specs.HeldSites.{Site, called_op, performed_op}
 use Rattle.cam_locks.specs.Site.{fits_here, is_here}
 use Rattle.cam_node.specs.Lawful.{IsForNode}
 use Rattle.cam_node.specs.Restartable.{EachOnce}

@@ -10,7 +10,8 @@ use Rattle.cam_know.specs.Order.{told_in_order}
 use Rattle.cam_event.specs.declared.Deed.{Deed}
 use Rattle.cam_event.specs.History.{after, count, is_crash}
 use Rattle.cam_event.specs.Inputs.{Mail}
-use Rattle.cam_event.specs.ByKnowledge.{Carried, deeds_of, learned_by, new_informs}
+use Rattle.cam_event.specs.ByKnowledge.{learned_by, new_informs}
+use Rattle.cam_event.specs.Carried.{Carried, deeds_of}
 use Rattle.cam_event.specs.Loads.{Load, noted_at, with_load}
 use Rattle.cam_event.specs.ByDeltas.{Received, as_carried, known}
 use Rattle.cam_event.proofs.Agree.{count_after_other}

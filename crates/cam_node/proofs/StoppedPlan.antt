@@ -11,7 +11,8 @@ use Rattle.cam_event.specs.declared.Note.TheVariants as notes
 use Rattle.cam_event.specs.declared.Want.TheVariants as wants
 use Rattle.cam_event.specs.Rules.{nothing_but}
 use Rattle.cam_event.specs.ByPast.{event_of}
-use Rattle.cam_event.specs.ByKnowledge.{deeds_of, site}
+use Rattle.cam_event.specs.HeldSites.{site}
+use Rattle.cam_event.specs.Carried.{deeds_of}
 use Rattle.cam_event.specs.Loads.{no_load, with_load}
 use Rattle.cam_event.specs.ByDeltas.{as_carried}
 use Rattle.cam_tranman.specs.Actions.{deps}

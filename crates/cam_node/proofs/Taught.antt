@@ -15,7 +15,8 @@ use Rattle.cam_event.specs.declared.Deed.TheVariants.{Create, Ask, Call, Perform
 use Rattle.cam_event.specs.History.{count}
 use Rattle.cam_event.specs.Inputs.{Mail}
 use Rattle.cam_event.specs.Taken.{is_entered}
-use Rattle.cam_event.specs.ByKnowledge.{Carried, deeds_of, commit_counts, learned_by}
+use Rattle.cam_event.specs.ByKnowledge.{commit_counts, learned_by}
+use Rattle.cam_event.specs.Carried.{Carried, deeds_of}
 use Rattle.cam_node.specs.Entries.{is_own}
 use Rattle.cam_node.specs.Opened.{IsKnowledge}
 

@@ -11,7 +11,8 @@ use Rattle.cam_event.specs.declared.Deed.TheVariants.{Create, Ask, Call, Perform
 use Rattle.cam_event.specs.History.{after}
 use Rattle.cam_event.specs.Inputs.{Mail}
 use Rattle.cam_event.specs.Rules.{sorted_names}
-use Rattle.cam_event.specs.ByKnowledge.{Site, site_after, site_after_all, new_informs}
+use Rattle.cam_event.specs.ByKnowledge.{new_informs}
+use Rattle.cam_event.specs.HeldSites.{Site, site_after, site_after_all}
 use Rattle.cam_node.specs.Entries.{Holding, AreHoldings}
 use Rattle.cam_node.specs.LogOrder.{is_any_secure}
 

@@ -14,7 +14,8 @@ use Rattle.cam_event.specs.declared.Operation.{Operation}
 use Rattle.cam_event.specs.History.{informed}
 use Rattle.cam_event.specs.Live as live
 use Rattle.cam_event.specs.Settled.{is_past_top}
-use Rattle.cam_event.specs.ByKnowledge.{deeds_of, site}
+use Rattle.cam_event.specs.HeldSites.{site}
+use Rattle.cam_event.specs.Carried.{deeds_of}
 use Rattle.cam_event.specs.ByDeltas.{Received, as_carried}
 use Rattle.cam_locks.specs.declared.LiveOp.{LiveOp}
 use Rattle.cam_locks.specs.Moss as locks

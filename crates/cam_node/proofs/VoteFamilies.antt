@@ -18,7 +18,8 @@ use Rattle.cam_event.specs.declared.LetterId.{LetterId}
 use Rattle.cam_event.specs.History.{is_abort, is_commit}
 use Rattle.cam_event.specs.Inputs.{Receives, Mail}
 use Rattle.cam_event.specs.Sights.{Sight, yes_in}
-use Rattle.cam_event.specs.ByKnowledge.{Carried, held_informs}
+use Rattle.cam_event.specs.ByKnowledge.{held_informs}
+use Rattle.cam_event.specs.Carried.{Carried}
 use Rattle.cam_event.specs.Loads.{Load, with_load}
 use Rattle.cam_event.specs.ByDeltas.{Received, as_carried}
 use Rattle.cam_tranman.specs.Actions.{deps}

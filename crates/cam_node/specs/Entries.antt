@@ -15,7 +15,9 @@ use Rattle.cam_event.specs.declared.Deed.{Deed}
 use Rattle.cam_event.specs.declared.Deed.TheVariants.{Commit, Abort, Secure, Crash}
 use Rattle.cam_event.specs.History.{count}
 use Rattle.cam_event.specs.Inputs.{Mail}
-use Rattle.cam_event.specs.ByKnowledge.{Carried, Placed, Site, deeds_of, commit_counts, site_after}
+use Rattle.cam_event.specs.ByKnowledge.{commit_counts}
+use Rattle.cam_event.specs.HeldSites.{Placed, Site, site_after}
+use Rattle.cam_event.specs.Carried.{Carried, deeds_of}
 use Rattle.cam_event.specs.ByDeltas.{Received, as_carried, known}
 use Rattle.cam_recman.specs.declared.Record.{Record}
 use Rattle.cam_recman.specs.declared.Record.TheVariants as records

@@ -16,7 +16,8 @@ use Rattle.cam_event.specs.declared.Deed.TheVariants.{Secure}
 use Rattle.cam_event.specs.declared.Event.{Event}
 use Rattle.cam_event.specs.History.{count, is_crash}
 use Rattle.cam_event.specs.Inputs.{Input, Mail}
-use Rattle.cam_event.specs.ByKnowledge.{deeds_of, node_step}
+use Rattle.cam_event.specs.ByKnowledge.{node_step}
+use Rattle.cam_event.specs.Carried.{deeds_of}
 use Rattle.cam_event.specs.Loads.{Load}
 use Rattle.cam_event.specs.ByDeltas.{Received, as_carried, known}
 use Rattle.cam_know.specs.Order.{told_in_order}

@@ -1,7 +1,8 @@
 -- One more event of a node, and what its log recovers: with the event's entry, what the longer history keeps.
 use Rattle.std.specs.Prelude.{◌≡◌, ℕ, ◌+◌, ◌≤◌, List, [], ◌∷◌, map}
 use Rattle.cam_type.specs.declared.ObjectDecl.{ObjectDecl}
-use Rattle.cam_event.specs.ByKnowledge.{deeds_of, site}
+use Rattle.cam_event.specs.HeldSites.{site}
+use Rattle.cam_event.specs.Carried.{deeds_of}
 use Rattle.cam_know.specs.Known.{with_count}
 use Rattle.cam_event.specs.Loads.{with_load}
 use Rattle.cam_event.specs.ByDeltas.{Received, as_carried, known}

@@ -10,7 +10,8 @@ use Rattle.cam_type.specs.declared.Held.{Held}
 use Rattle.cam_event.specs.declared.Deed.{Deed}
 use Rattle.cam_event.specs.declared.Deed.TheVariants.{Secure}
 use Rattle.cam_event.specs.History.{number_of}
-use Rattle.cam_event.specs.ByKnowledge.{Placed, Site, deeds_of, is_any_perform, site}
+use Rattle.cam_event.specs.HeldSites.{Placed, Site, is_any_perform, site}
+use Rattle.cam_event.specs.Carried.{deeds_of}
 use Rattle.cam_event.specs.ByDeltas.{Received, as_carried}
 use Rattle.cam_locks.specs.declared.LiveOp.{LiveOp}
 use Rattle.cam_locks.specs.Members.{In}

@@ -20,7 +20,9 @@ use Rattle.cam_event.specs.declared.Note.TheVariants as notes
 use Rattle.cam_event.specs.Rules as rules
 use Rattle.cam_event.specs.Rules.{Did, nothing_but}
 use Rattle.cam_commit.specs.Calls.{yes}
-use Rattle.cam_event.specs.ByKnowledge.{deeds_of, site, held_sight}
+use Rattle.cam_event.specs.ByKnowledge.{held_sight}
+use Rattle.cam_event.specs.HeldSites.{site}
+use Rattle.cam_event.specs.Carried.{deeds_of}
 use Rattle.cam_event.specs.Loads.{Load, PlacesFields, with_load}
 use Rattle.cam_event.specs.ByDeltas.{Received, as_carried}
 use Rattle.cam_comman.specs.Letters.{load_on, IsWithin}

@@ -10,7 +10,7 @@ use Rattle.cam_event.specs.History.{informed}
 use Rattle.cam_event.specs.Inputs.{Input, Mail}
 use Rattle.cam_event.specs.Sights.{Sight}
 use Rattle.cam_event.specs.Rules.{rule}
-use Rattle.cam_event.specs.ByKnowledge.{deeds_of}
+use Rattle.cam_event.specs.Carried.{deeds_of}
 use Rattle.cam_event.specs.ByDeltas.{Received, as_carried, known}
 use Rattle.cam_node.specs.Halting.{IsThrough}
 

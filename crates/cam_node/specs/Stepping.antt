@@ -8,7 +8,8 @@ use Rattle.cam_know.specs.Known.{nothing, news}
 use Rattle.cam_know.specs.Order.{told_in_order}
 use Rattle.cam_event.specs.Inputs.{Input, Mail}
 use Rattle.cam_event.specs.Sights.{Sight}
-use Rattle.cam_event.specs.ByKnowledge.{Carried, held_sight, learned_by}
+use Rattle.cam_event.specs.ByKnowledge.{held_sight, learned_by}
+use Rattle.cam_event.specs.Carried.{Carried}
 use Rattle.cam_event.specs.Loads.{Load, no_load, PlacesFields, noted_at, with_load}
 use Rattle.cam_event.specs.ByDeltas.{Received, as_carried}
 use Rattle.cam_tranman.specs.Orderly.{IsOrderly, MayBeAsked}

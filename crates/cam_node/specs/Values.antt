@@ -6,7 +6,8 @@ use Rattle.cam_event.specs.declared.Deed.{Deed}
 use Rattle.cam_event.specs.declared.Operation.{Operation}
 use Rattle.cam_event.specs.Live.{lift, replay, start_of}
 use Rattle.cam_event.specs.Settled.{is_past_top}
-use Rattle.cam_event.specs.ByKnowledge.{deeds_of, site}
+use Rattle.cam_event.specs.HeldSites.{site}
+use Rattle.cam_event.specs.Carried.{deeds_of}
 use Rattle.cam_event.specs.ByDeltas.{Received, as_carried}
 
 -- an operation on the object, whose action's lift at the site is past the top

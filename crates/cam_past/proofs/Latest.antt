@@ -4,7 +4,8 @@ use Rattle.std.proofs.lemmas.Bool.{eq-eqb, ne_eqb, lt-ltb, le-ltb, cases_lt, or_
 use Rattle.std.proofs.lemmas.Bool.Decides.{eqb_tells}
 use Rattle.cam_event.specs.declared.Event.{Event}
 use Rattle.cam_event.specs.Pasts.{last_of, sender_of, holds, in_past, HasNode}
-use Rattle.cam_event.proofs.PastLaws.{in_past_newest, past_has_it, past_below, last_has_node}
+use Rattle.cam_event.proofs.PastLaws.{in_past_newest, past_has_it, past_below}
+use Rattle.cam_event.proofs.ClosedPasts.{last_has_node}
 use Rattle.cam_past.specs.Tables.{node_at, at_or_zero, latest}
 
 -- the newest event is the last one of its node

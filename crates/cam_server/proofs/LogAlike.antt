@@ -7,7 +7,7 @@ use Rattle.cam_know.specs.Knowledge.{Knowledge}
 use Rattle.cam_know.specs.Known.{knows_abort}
 use Rattle.cam_event.specs.declared.Deed.{Deed}
 use Rattle.cam_event.specs.History.{informed}
-use Rattle.cam_event.specs.ByKnowledge.{Placed, for_family}
+use Rattle.cam_event.specs.HeldSites.{Placed, for_family}
 use Rattle.cam_locks.specs.declared.LiveOp.{LiveOp}
 use Rattle.cam_locks.specs.Restored.{of_family, ops_of}
 use Rattle.cam_server.specs.Server.{AreLiveOps}

@@ -4,7 +4,7 @@ use Rattle.cam_names.specs.declared.name.Name.{Name}
 use Rattle.cam_type.specs.declared.ObjectDecl.{ObjectDecl}
 use Rattle.cam_type.specs.declared.Held.{Held}
 use Rattle.cam_type.specs.declared.HeldOp.{HeldOp}
-use Rattle.cam_event.specs.ByKnowledge.{Placed}
+use Rattle.cam_event.specs.HeldSites.{Placed}
 use Rattle.cam_locks.specs.Members.{In}
 use Rattle.cam_locks.specs.Restored.{all_held, has_index, MayBeHeld}
 use Rattle.cam_locks.proofs.Bools.{or_parts}

@@ -20,7 +20,8 @@ use Rattle.cam_event.specs.declared.Reply.TheVariants as replies
 use Rattle.cam_event.specs.History.{after, number_of}
 use Rattle.cam_event.specs.Inputs.{Mail}
 use Rattle.cam_event.specs.Sights.{kept_reply}
-use Rattle.cam_event.specs.ByKnowledge.{Carried, Placed, Site, is_any_perform, called_op, performed_op, site_after, site_after_all, deeds_of, site}
+use Rattle.cam_event.specs.HeldSites.{Placed, Site, is_any_perform, called_op, performed_op, site_after, site_after_all, site}
+use Rattle.cam_event.specs.Carried.{Carried, deeds_of}
 use Rattle.cam_locks.specs.Names.{has_name}
 use Rattle.cam_locks.specs.Moss.{holder, value}
 use Rattle.cam_locks.specs.Site as locks

@@ -2,7 +2,7 @@
 use Rattle.std.proofs.Common.{◌≡◌, ℕ, eqb, nat_lt, true, false, List, [], ◌∷◌, ◌++◌, flat_map, reverse, sym, ap, subst, ◌∙◌, refl, arith, inl, inr}
 use Rattle.std.proofs.lemmas.Bool.{cases_Bool}
 use Rattle.std.proofs.lemmas.List.{reverse-append}
-use Rattle.cam_event.specs.ByKnowledge.{Placed, put_placed, in_order}
+use Rattle.cam_event.specs.HeldSites.{Placed, put_placed, in_order}
 
 -- a place that is none of these
 abbrev pub IsAway : Placed → List Placed → Type 0

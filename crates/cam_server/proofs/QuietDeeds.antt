@@ -12,7 +12,7 @@ use Rattle.cam_event.specs.History.{after, count, is_inform}
 use Rattle.cam_event.specs.Inputs.{Mail}
 use Rattle.cam_event.specs.Rules.{informs, sorted_names}
 use Rattle.cam_event.specs.Sights.{kept_reply}
-use Rattle.cam_event.specs.ByKnowledge.{Placed, Site, site_after, site_after_all}
+use Rattle.cam_event.specs.HeldSites.{Placed, Site, site_after, site_after_all}
 use Rattle.cam_event.proofs.Snoc.{filter_filter, filter_same}
 use Rattle.cam_event.proofs.LiveLaws.{list_any_or}
 use Rattle.cam_event.proofs.SortedNames.{sorted_any}

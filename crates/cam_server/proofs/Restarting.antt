@@ -13,7 +13,8 @@ use Rattle.cam_know.specs.Known.{committed_name}
 use Rattle.cam_event.specs.declared.Deed.{Deed}
 use Rattle.cam_event.specs.declared.Deed.TheVariants.{Crash}
 use Rattle.cam_event.specs.History.{after, informed}
-use Rattle.cam_event.specs.ByKnowledge.{Carried, Placed, in_order, for_family, deeds_of, site, site_after_all}
+use Rattle.cam_event.specs.HeldSites.{Placed, in_order, for_family, site, site_after_all}
+use Rattle.cam_event.specs.Carried.{Carried, deeds_of}
 use Rattle.cam_event.proofs.SameInforms.{among_committed}
 use Rattle.cam_event.proofs.Snoc.{count_crash}
 use Rattle.cam_locks.specs.Names.{has_name, once}

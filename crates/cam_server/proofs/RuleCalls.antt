@@ -21,7 +21,9 @@ use Rattle.cam_event.specs.Live as live
 use Rattle.cam_event.specs.Sights.{Sight}
 use Rattle.cam_event.specs.Rules as rules
 use Rattle.cam_event.specs.Rules.{Did, lift_here, is_conflict_here, on_object, refused_or_served}
-use Rattle.cam_event.specs.ByKnowledge.{Placed, deeds_of, site, held, held_informs}
+use Rattle.cam_event.specs.ByKnowledge.{held, held_informs}
+use Rattle.cam_event.specs.HeldSites.{Placed, site}
+use Rattle.cam_event.specs.Carried.{deeds_of}
 use Rattle.cam_locks.specs.declared.LiveOp.{LiveOp}
 use Rattle.cam_locks.specs.Moss.{is_on, replay, value, lift_in, lift_of}
 use Rattle.cam_locks.specs.Calls.{grant_by, grant}

@@ -7,7 +7,8 @@ use Rattle.cam_type.specs.declared.ObjectDecl.{ObjectDecl}
 use Rattle.cam_event.specs.declared.Deed.{Deed}
 use Rattle.cam_event.specs.History.{after, count, informed, is_inform}
 use Rattle.cam_event.specs.Sights.{kept_reply}
-use Rattle.cam_event.specs.ByKnowledge.{Carried, Placed, deeds_of, site}
+use Rattle.cam_event.specs.HeldSites.{Placed, site}
+use Rattle.cam_event.specs.Carried.{Carried, deeds_of}
 use Rattle.cam_event.proofs.Agree.{any_after}
 use Rattle.cam_locks.specs.declared.LiveOp.{LiveOp}
 use Rattle.cam_locks.specs.Names.{has_name}

@@ -1,6 +1,6 @@
 -- Two lists that stand for one another do so put in order, where both orders agree.
 use Rattle.std.proofs.Common.{◌≡◌, nat_lt, Bool, true, false, not, cond, List, [], ◌∷◌, ◌++◌, sym, true≢false}
-use Rattle.cam_event.specs.ByKnowledge.{Placed, put_placed, in_order}
+use Rattle.cam_event.specs.HeldSites.{Placed, put_placed, in_order}
 use Rattle.cam_locks.specs.declared.LiveOp.{LiveOp}
 use Rattle.cam_locks.specs.Restored as restored
 use Rattle.cam_locks.specs.Restored.{put_in_order}

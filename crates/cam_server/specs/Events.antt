@@ -15,7 +15,9 @@ use Rattle.cam_event.specs.declared.Deed.{Deed}
 use Rattle.cam_event.specs.declared.Deed.TheVariants.{Perform, Bounce, Commit, Abort, Inform, Crash}
 use Rattle.cam_event.specs.History.{count, informed, is_inform}
 use Rattle.cam_event.specs.Inputs.{Mail}
-use Rattle.cam_event.specs.ByKnowledge.{Carried, deeds_of, new_informs, site}
+use Rattle.cam_event.specs.ByKnowledge.{new_informs}
+use Rattle.cam_event.specs.HeldSites.{site}
+use Rattle.cam_event.specs.Carried.{Carried, deeds_of}
 use Rattle.cam_locks.specs.Names.{has_name}
 use Rattle.cam_locks.specs.Restored.{CanRestore, restored}
 use Rattle.cam_server.specs.declared.Performed.{Performed}

@@ -4,7 +4,7 @@ use Rattle.cam_names.specs.declared.name.Name.{Name}
 use Rattle.cam_type.specs.declared.Held.{Held}
 use Rattle.cam_type.specs.declared.HeldOp.{HeldOp}
 use Rattle.cam_event.specs.declared.Operation.{Operation}
-use Rattle.cam_event.specs.ByKnowledge.{Placed}
+use Rattle.cam_event.specs.HeldSites.{Placed}
 
 -- a held operation stands for an operation: the same object and op
 abbrev pub StandsFor : HeldOp → Operation → Type 0

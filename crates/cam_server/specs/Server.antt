@@ -8,8 +8,9 @@ use Rattle.cam_event.specs.declared.Operation.{Operation}
 use Rattle.cam_event.specs.declared.Reply.{Reply}
 use Rattle.cam_event.specs.History.{count, informed}
 use Rattle.cam_event.specs.Sights as sights
-use Rattle.cam_event.specs.ByKnowledge as held
-use Rattle.cam_event.specs.ByKnowledge.{Carried, Placed, deeds_of}
+use Rattle.cam_event.specs.HeldSites as held
+use Rattle.cam_event.specs.HeldSites.{Placed}
+use Rattle.cam_event.specs.Carried.{Carried, deeds_of}
 use Rattle.cam_locks.specs.declared.LiveOp.{LiveOp}
 use Rattle.cam_locks.specs.Names.{has_name}
 use Rattle.cam_locks.specs.Site.{Site, TableView, IndicesRise}

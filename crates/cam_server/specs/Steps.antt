@@ -17,7 +17,8 @@ use Rattle.cam_event.specs.Sights.{Sight, present}
 use Rattle.cam_event.specs.Rules as rules
 use Rattle.cam_event.specs.Rules.{Did, did, one, answers, nothing_but, reply_to, call_comes}
 use Rattle.cam_event.specs.Inputs.{Input, Receives, Restarts, Mail}
-use Rattle.cam_event.specs.ByKnowledge.{Carried, held, held_sight, held_informs, node_step}
+use Rattle.cam_event.specs.ByKnowledge.{held, held_sight, held_informs, node_step}
+use Rattle.cam_event.specs.Carried.{Carried}
 use Rattle.cam_locks.specs.Names.{has_name}
 use Rattle.cam_server.specs.declared.Performed.{Performed}
 use Rattle.cam_server.specs.declared.Performed.TheVariants as performed

@@ -20,7 +20,8 @@ use Rattle.cam_event.specs.History.{count}
 use Rattle.cam_event.specs.Live.{site_of}
 use Rattle.cam_event.specs.Inputs.{Input, Begins, Requests, Receives, Tells, Queries, Restarts, Mail}
 use Rattle.cam_event.specs.Sights.{Sight}
-use Rattle.cam_event.specs.ByKnowledge.{Carried, deeds_of, start_counts, finish_counts, own_pairs, commit_counts, learned_by, held}
+use Rattle.cam_event.specs.ByKnowledge.{start_counts, finish_counts, own_pairs, commit_counts, learned_by, held}
+use Rattle.cam_event.specs.Carried.{Carried, deeds_of}
 use Rattle.cam_event.specs.Loads.{Load, no_load}
 use Rattle.cam_event.specs.ByDeltas.{Received}
 use Rattle.cam_delta.proofs.DeltaLists.{ordered_in}

@@ -16,7 +16,7 @@ use Rattle.cam_event.specs.History.{after}
 use Rattle.cam_event.specs.Inputs.{event_at}
 use Rattle.cam_event.specs.Sights.{entries, own_deeds}
 use Rattle.cam_event.specs.ByPast.{sight}
-use Rattle.cam_event.specs.ByKnowledge.{entry_of as own_entry}
+use Rattle.cam_event.specs.Carried.{entry_of as own_entry}
 use Rattle.cam_event.specs.ByDeltas.{Received, as_carried}
 use Rattle.cam_delta.proofs.Growing.{history}
 use Rattle.cam_delta.proofs.SameHistories.{received_entries}

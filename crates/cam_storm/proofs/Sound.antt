@@ -22,7 +22,8 @@ use Rattle.cam_event.specs.Live.{site_of}
 use Rattle.cam_event.specs.Inputs.{Input, Begins, Requests, Receives, Tells, Queries, Restarts, Mail}
 use Rattle.cam_event.specs.Sights.{Sight, present}
 use Rattle.cam_event.specs.Rules.{rule, top_name}
-use Rattle.cam_event.specs.ByKnowledge.{Carried, deeds_of, start_counts, finish_counts, gained_by, own_pairs, commit_counts, learned_by, held, held_informs, held_sight}
+use Rattle.cam_event.specs.ByKnowledge.{start_counts, finish_counts, gained_by, own_pairs, commit_counts, learned_by, held, held_informs, held_sight}
+use Rattle.cam_event.specs.Carried.{Carried, deeds_of}
 use Rattle.cam_event.proofs.Agree.{count_after_other}
 use Rattle.cam_event.proofs.Members.{In, in_append, in_after}
 use Rattle.cam_node.specs.Lawful.{IsForNode}

@@ -14,7 +14,8 @@ use Rattle.cam_event.specs.Gained.{home}
 use Rattle.cam_event.specs.Inputs.{Input, Mail}
 use Rattle.cam_event.specs.Sights.{Sight, present}
 use Rattle.cam_event.specs.Rules.{Did, rule, top_name}
-use Rattle.cam_event.specs.ByKnowledge.{Carried, deeds_of, held, held_informs, held_sight}
+use Rattle.cam_event.specs.ByKnowledge.{held, held_informs, held_sight}
+use Rattle.cam_event.specs.Carried.{Carried, deeds_of}
 use Rattle.cam_event.proofs.Members.{In, in_append, any_in}
 use Rattle.cam_cut.proofs.Informs.{IsInformAt, in_informs, keep_informs}
 use Rattle.cam_journal.specs.declared.entry.SentLetter.{SentLetter as Taken}

@@ -9,7 +9,7 @@ use Rattle.cam_event.specs.declared.Want.{Want}
 use Rattle.cam_event.specs.declared.ViewStep.{ViewStep}
 use Rattle.cam_event.specs.History.{created}
 use Rattle.cam_event.specs.Inputs.{Input, Begins, Requests, Receives, Restarts}
-use Rattle.cam_event.specs.ByKnowledge.{deeds_of}
+use Rattle.cam_event.specs.Carried.{deeds_of}
 use Rattle.cam_event.specs.ByDeltas.{Received, as_carried}
 use Rattle.cam_tranman.specs.Actions.{MayRunHere}
 use Rattle.cam_node.specs.Represents.{Node, Represents}

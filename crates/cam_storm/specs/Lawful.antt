@@ -15,7 +15,8 @@ use Rattle.cam_event.specs.declared.Body.TheVariants as bodies
 use Rattle.cam_event.specs.History.{count}
 use Rattle.cam_event.specs.Inputs.{Input, Begins, Requests, Receives, Tells, Queries, Restarts, Mail, decider}
 use Rattle.cam_event.specs.Loads.{Load, no_load}
-use Rattle.cam_event.specs.ByKnowledge.{deeds_of, node_step}
+use Rattle.cam_event.specs.ByKnowledge.{node_step}
+use Rattle.cam_event.specs.Carried.{deeds_of}
 use Rattle.cam_event.specs.ByDeltas.{Received, as_carried, load_for}
 use Rattle.cam_node.specs.Lawful.{MayBePut}
 use Rattle.cam_journal.specs.declared.entry.NumberedEvent.{NumberedEvent}

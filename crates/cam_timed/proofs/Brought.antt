@@ -11,7 +11,7 @@ use Rattle.cam_event.specs.declared.Deed.TheVariants.{Inform}
 use Rattle.cam_event.specs.History.{committed, aborted, informed}
 use Rattle.cam_event.specs.Rules.{informs}
 use Rattle.cam_event.specs.ByPast.{abort_in, commit_in, own_past, letter_past}
-use Rattle.cam_event.proofs.SameOutcomes.{plain_none}
+use Rattle.cam_event.proofs.NewestPasts.{plain_none}
 use Rattle.cam_event.proofs.SortedNames.{sorted_same}
 use Rattle.cam_cut.proofs.Informs.{any_aborts, any_commits, any_filter_name}
 use Rattle.cam_own.specs.Told.{commits_of, aborts_of}

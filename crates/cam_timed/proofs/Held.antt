@@ -12,7 +12,7 @@ use Rattle.cam_event.specs.Inputs.{event_at, Mail}
 use Rattle.cam_event.specs.Sights.{entries, own_deeds}
 use Rattle.cam_event.specs.ByPast.{own_past, letter_past}
 use Rattle.cam_event.proofs.Members.{event_below}
-use Rattle.cam_event.proofs.SameOutcomes.{older, plain_none}
+use Rattle.cam_event.proofs.NewestPasts.{older, plain_none}
 use Rattle.cam_cut.proofs.Families.{SentBy, sent_by}
 use Rattle.cam_cut.proofs.Sees.{known_in}
 use Rattle.cam_timed.specs.declared.TimedEvent.{TimedEvent}

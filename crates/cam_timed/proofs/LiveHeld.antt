@@ -13,7 +13,7 @@ use Rattle.cam_event.specs.History.{after, is_crash, count, informed, number_of,
 use Rattle.cam_event.specs.Live.{of_call}
 use Rattle.cam_event.specs.Pasts.{in_base, plain_all, every}
 use Rattle.cam_event.specs.Sights.{entries, own_deeds}
-use Rattle.cam_event.specs.ByKnowledge.{is_any_perform}
+use Rattle.cam_event.specs.HeldSites.{is_any_perform}
 use Rattle.cam_event.proofs.Members.{In, in_after}
 use Rattle.cam_plain.proofs.Called.{count_grows}
 use Rattle.cam_cut.proofs.Informs.{IsInformAt}

@@ -11,7 +11,7 @@ use Rattle.cam_event.specs.declared.Deed.{Deed}
 use Rattle.cam_event.specs.declared.Deed.TheVariants.{Create, Ask, Call, Perform, Bounce, Got, AskCommit, AskAbort, Commit, Abort, Secure, Inform, Crash}
 use Rattle.cam_event.specs.History.{count, tops, created, is_create}
 use Rattle.cam_event.specs.Inputs.{Mail}
-use Rattle.cam_event.specs.ByKnowledge.{Carried, deeds_of}
+use Rattle.cam_event.specs.Carried.{Carried, deeds_of}
 use Rattle.cam_tranman.specs.Actions.{Actions, created as actions_created, RunsActions}
 use Rattle.cam_tranman.specs.Calls.{next_top}
 use Rattle.cam_tranman.specs.Events.{IsNew, IsNamed, HasParent, CommitMayCome}

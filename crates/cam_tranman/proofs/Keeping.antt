@@ -13,7 +13,8 @@ use Rattle.cam_event.specs.declared.Deed.{Deed}
 use Rattle.cam_event.specs.declared.Deed.TheVariants.{Create, Ask, Call, Perform, Bounce, Got, AskCommit, AskAbort, Commit, Abort, Secure, Inform, Crash}
 use Rattle.cam_event.specs.History.{after, open_children}
 use Rattle.cam_event.specs.Inputs.{Mail}
-use Rattle.cam_event.specs.ByKnowledge.{Carried, deeds_of, own_pairs, gained_by, finish_counts}
+use Rattle.cam_event.specs.ByKnowledge.{own_pairs, gained_by, finish_counts}
+use Rattle.cam_event.specs.Carried.{Carried, deeds_of}
 use Rattle.cam_tranman.specs.declared.action.Action.{Action}
 use Rattle.cam_tranman.specs.Actions.{Actions, deps}
 use Rattle.cam_tranman.specs.Calls.{parent_changed, gaining}

@@ -19,7 +19,8 @@ use Rattle.cam_event.specs.History as history
 use Rattle.cam_event.specs.History.{after, count, tops, created, asks, calls, open_call, open_children, call_of, number_of, is_create, is_ask_commit, is_ask_abort, is_ask_of, is_call_of, is_top_create}
 use Rattle.cam_event.specs.Gained.{home, visited}
 use Rattle.cam_event.specs.Inputs.{Mail}
-use Rattle.cam_event.specs.ByKnowledge.{Carried, deeds_of, own_pairs, gained_by, start_counts, finish_counts}
+use Rattle.cam_event.specs.ByKnowledge.{own_pairs, gained_by, start_counts, finish_counts}
+use Rattle.cam_event.specs.Carried.{Carried, deeds_of}
 use Rattle.cam_tranman.specs.Actions.{MayRunHere}
 use Rattle.cam_tranman.specs.Calls.{none_run}
 use Rattle.cam_tranman.specs.Orderly.{subject, is_later, is_of_later, present_count, IsOrderly}

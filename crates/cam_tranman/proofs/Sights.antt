@@ -9,7 +9,8 @@ use Rattle.cam_event.specs.declared.Deed.{Deed}
 use Rattle.cam_event.specs.declared.Deed.TheVariants.{Inform}
 use Rattle.cam_event.specs.History.{after}
 use Rattle.cam_event.specs.Rules.{sorted_names, informs}
-use Rattle.cam_event.specs.ByKnowledge.{Carried, deeds_of, own_pairs, held, held_informs}
+use Rattle.cam_event.specs.ByKnowledge.{own_pairs, held, held_informs}
+use Rattle.cam_event.specs.Carried.{Carried, deeds_of}
 use Rattle.cam_tranman.specs.Events.{is_at_home}
 use Rattle.cam_tranman.specs.Steps.{SightIsAnswered}
 use Rattle.cam_tranman.proofs.Home.{SameHome, same_home}

@@ -19,7 +19,8 @@ use Rattle.cam_event.specs.Inputs.{Input, Begins, Requests, Receives, Tells, Que
 use Rattle.cam_event.specs.Sights.{Sight, present, votes, yes_for, is_preparing, is_preparing_note}
 use Rattle.cam_event.specs.Rules.{rule}
 use Rattle.cam_event.specs.Taken.{is_entered}
-use Rattle.cam_event.specs.ByKnowledge.{Carried, entry_of, deeds_of, start_counts, held_sight, held_informs}
+use Rattle.cam_event.specs.ByKnowledge.{start_counts, held_sight, held_informs}
+use Rattle.cam_event.specs.Carried.{Carried, entry_of, deeds_of}
 use Rattle.cam_tranman.specs.Events.{is_at_home}
 use Rattle.cam_event.proofs.Agree.{count_after_other}
 use Rattle.cam_event.specs.NextStep.{stepped}

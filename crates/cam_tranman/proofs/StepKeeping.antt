@@ -3,7 +3,7 @@ use Rattle.std.proofs.Common.{◌≡◌, ℕ, ◌+◌, List, [], ◌∷◌, ap, 
 use Rattle.cam_type.specs.declared.ObjectDecl.{ObjectDecl}
 use Rattle.cam_event.specs.declared.Deed.{Deed}
 use Rattle.cam_event.specs.declared.Deed.TheVariants.{Create, Ask, Call, Perform, Bounce, Got, AskCommit, AskAbort, Commit, Abort, Secure, Inform, Crash}
-use Rattle.cam_event.specs.ByKnowledge.{Carried}
+use Rattle.cam_event.specs.Carried.{Carried}
 use Rattle.cam_event.specs.NextStep.{stepped}
 use Rattle.cam_tranman.specs.Actions.{Actions, RunsActions}
 use Rattle.cam_tranman.specs.Calls.{AreSame, none_run}

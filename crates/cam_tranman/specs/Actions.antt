@@ -13,7 +13,8 @@ use Rattle.cam_event.specs.History as history
 use Rattle.cam_event.specs.History.{Addressed, call_of}
 use Rattle.cam_event.specs.Live.{site_of}
 use Rattle.cam_event.specs.Sights.{Sight}
-use Rattle.cam_event.specs.ByKnowledge.{Carried, deeds_of, own_pairs}
+use Rattle.cam_event.specs.ByKnowledge.{own_pairs}
+use Rattle.cam_event.specs.Carried.{Carried, deeds_of}
 use Rattle.cam_tranman.specs.declared.call.OpenCall.{OpenCall}
 use Rattle.cam_tranman.specs.declared.action.Action.{Action}
 

@@ -11,7 +11,8 @@ use Rattle.cam_event.specs.declared.Deed.TheVariants.{Create, Ask, Call, Got, As
 use Rattle.cam_event.specs.declared.Deed.TheVariants.{Commit, Abort, Crash}
 use Rattle.cam_event.specs.Live.{site_of}
 use Rattle.cam_event.specs.Inputs.{Mail}
-use Rattle.cam_event.specs.ByKnowledge.{Carried, start_counts, finish_counts}
+use Rattle.cam_event.specs.ByKnowledge.{start_counts, finish_counts}
+use Rattle.cam_event.specs.Carried.{Carried}
 use Rattle.cam_tranman.specs.declared.call.OpenCall.{OpenCall}
 use Rattle.cam_tranman.specs.Actions.{Actions, created, open_call, RunsActions}
 use Rattle.cam_tranman.specs.Calls.{AreSame, next_top, none_run, begun, begun_child, asked, called}

@@ -10,7 +10,8 @@ use Rattle.cam_event.specs.declared.Deed.{Deed}
 use Rattle.cam_event.specs.declared.Deed.TheVariants.{Crash}
 use Rattle.cam_event.specs.Inputs.{Input, Mail}
 use Rattle.cam_event.specs.Rules.{Did, rule}
-use Rattle.cam_event.specs.ByKnowledge.{Carried, held_sight}
+use Rattle.cam_event.specs.ByKnowledge.{held_sight}
+use Rattle.cam_event.specs.Carried.{Carried}
 use Rattle.cam_event.specs.NextStep.{stepped}
 use Rattle.cam_tranman.specs.Actions.{Actions, RunsActions}
 use Rattle.cam_tranman.specs.Calls.{AreSame, none_run}

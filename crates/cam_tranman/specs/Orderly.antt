@@ -21,7 +21,8 @@ use Rattle.cam_event.specs.Inputs.{Mail, decider}
 use Rattle.cam_event.specs.Sights.{Sight, votes}
 use Rattle.cam_event.specs.Refusals.{refusal}
 use Rattle.cam_event.specs.Taken.{taken_of}
-use Rattle.cam_event.specs.ByKnowledge.{Carried, entry_of, deeds_of, held_sight}
+use Rattle.cam_event.specs.ByKnowledge.{held_sight}
+use Rattle.cam_event.specs.Carried.{Carried, entry_of, deeds_of}
 use Rattle.cam_event.specs.NextStep.{stepped}
 
 -- the action to which a deed gives something, at that action's home

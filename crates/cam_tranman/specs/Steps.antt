@@ -19,7 +19,8 @@ use Rattle.cam_event.specs.Refusals.{refusal}
 use Rattle.cam_event.specs.Rules.{Did, did, one, send, answers, nothing_but, aborts, unless_orphan}
 use Rattle.cam_event.specs.Rules.{begins, asks_child, makes_call, request, with_home, start_comes}
 use Rattle.cam_event.specs.Rules.{answer_comes, commits_or_aborts, child_finishes, child_quits}
-use Rattle.cam_event.specs.ByKnowledge.{Carried, held_sight}
+use Rattle.cam_event.specs.ByKnowledge.{held_sight}
+use Rattle.cam_event.specs.Carried.{Carried}
 use Rattle.cam_tranman.specs.declared.Started.{Started}
 use Rattle.cam_tranman.specs.declared.Started.TheVariants as started
 use Rattle.cam_tranman.specs.declared.Taken.{Taken}
