@@ -37,8 +37,8 @@ fn write_call_head(
     Ok(write!(out, " {number} ")?)
 }
 
-/// Appends an object's name, the operation on it, and the count of its node.
-fn write_asked(object: &str, op: &Op, count: u32, out: &mut String) -> Result<(), NoMemory>
+/// Appends what was called: an object's name, the operation on it, and the addressed count of its node.
+fn write_called(object: &str, op: &Op, count: u32, out: &mut String) -> Result<(), NoMemory>
     ensures { OnOk result (string_bytes out.new ≡ string_bytes out.old
         ++ words (object.now ∷ op_words op.now ++ decimal count ∷ [])) }
 {
@@ -79,7 +79,7 @@ pub(crate) fn write_deed(
             count,
         } => {
             write_call_head(alloc, "call", action, *number, out)?;
-            write_asked(object_text(labels, *object), op, *count, out)
+            write_called(object_text(labels, *object), op, *count, out)
         }
         Deed::Perform {
             action,
