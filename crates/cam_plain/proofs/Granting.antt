@@ -24,7 +24,8 @@ use Rattle.cam_plain.specs.Tests.{is_performed}
 use Rattle.cam_plain.specs.declared.site.Site.{Site}
 use Rattle.cam_plain.specs.Sites.{KeepsSite, AfterAttempt, Attempted, KeepsSites, with_abort_of}
 use Rattle.cam_plain.proofs.Alike.{none_same}
-use Rattle.cam_plain.proofs.Sited.{holder_kept, value_kept, keeps_same, performed_kept}
+use Rattle.cam_plain.proofs.Sited.{holder_kept, value_kept, keeps_same}
+use Rattle.cam_plain.proofs.Performing.{performed_kept}
 
 -- an op that fits its object fits at the object's site
 pub fits_at : (objects : List ObjectDecl) (s x : ℕ) (op : Op) → s ≡ site_of objects x → is_fit objects x op ≡ true → fits_here objects s x op ≡ true

@@ -23,7 +23,10 @@ pub mod Children
 pub mod SecuredOnce
 pub mod Alike
 pub mod Sited
+pub mod Performing
+pub mod Searches
 pub mod Crashing
+pub mod Informing
 pub mod Siting
 pub mod Granting
 pub mod Marking

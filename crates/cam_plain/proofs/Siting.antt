@@ -17,7 +17,8 @@ use Rattle.cam_event.proofs.Snoc.{filter_filter, filter_same}
 use Rattle.cam_event.proofs.LiveLaws.{live_perform, live_abort, live_crash, is_below}
 use Rattle.cam_plain.specs.declared.site.Site.{Site}
 use Rattle.cam_plain.specs.Sites.{AreLiveOps, is_noted, KeepsSite, KeepsIfSome, site_in, KeepsSites, Attempted, AfterAttempt, Between}
-use Rattle.cam_plain.proofs.Sited.{all_weaker, noted_more}
+use Rattle.cam_plain.proofs.Performing.{noted_more}
+use Rattle.cam_plain.proofs.Searches.{all_weaker}
 
 -- what a deed leaves of a site
 record SameSite (objects : List ObjectDecl) (L M : List Deed) (t : ℕ) : Type 0 where

@@ -14,7 +14,7 @@ use Rattle.cam_event.specs.Gained.{deps}
 use Rattle.cam_plain.specs.Lines.{MayCommit}
 use Rattle.cam_plain.specs.Legal.{Legal}
 use Rattle.cam_plain.proofs.Deciding.{committed_asked}
-use Rattle.cam_plain.proofs.Sited.{all_weaker}
+use Rattle.cam_plain.proofs.Searches.{all_weaker}
 use Rattle.cam_cut.proofs.DepsFacts.{deps_final}
 
 -- a top action has no parent

@@ -2,7 +2,7 @@ use Rattle.std.proofs.Common.{◌∷◌, Bool, refl, sym, subst}
 use Rattle.std.proofs.lemmas.Result.{on_ok_weaker}
 use Rattle.cam_event.specs.declared.Deed.TheVariants.{Inform}
 use Rattle.cam_plain.specs.Sites.{KeepsSite}
-use Rattle.cam_plain.proofs.Crashing.{commit_kept, abort_kept}
+use Rattle.cam_plain.proofs.Informing.{commit_kept, abort_kept}
 use Rattle.cam_plain.proofs.site.Site.inform.Goals as goal
 
 pub returns-then-committed : goal.returns-then-committed
