@@ -30,7 +30,8 @@ use Rattle.cam_node.specs.LogLaws.{MayBeLogged}
 use Rattle.cam_node.specs.Opened.{IsKnowledge, logged_of}
 use Rattle.cam_node.proofs.EntryLaws.{entry_keeps}
 use Rattle.cam_node.proofs.LogEntries.{taken_is_the_same}
-use Rattle.cam_node.proofs.OwnSteps.{steps_are_own, taken_may_be_logged}
+use Rattle.cam_node.proofs.OwnSteps.{steps_are_own}
+use Rattle.cam_node.proofs.TakenSteps.{taken_may_be_logged}
 use Rattle.cam_node.proofs.Taught.{knowledge_before, taken_learns}
 use Rattle.cam_node.proofs.WrittenKnowledge.{written_knowledge}
 

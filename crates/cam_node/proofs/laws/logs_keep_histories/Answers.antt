@@ -1,6 +1,7 @@
 use Rattle.cam_node.proofs.LogEntries.{formatted_keeps, taken_is_the_same}
 use Rattle.cam_node.proofs.EntryLaws.{entry_keeps, no_entry_keeps}
-use Rattle.cam_node.proofs.OwnSteps.{steps_are_own, taken_may_be_logged}
+use Rattle.cam_node.proofs.OwnSteps.{steps_are_own}
+use Rattle.cam_node.proofs.TakenSteps.{taken_may_be_logged}
 use Rattle.cam_node.proofs.laws.logs_keep_histories.Goals as goal
 
 pub returns-clause-formatted : goal.returns-clause-formatted
