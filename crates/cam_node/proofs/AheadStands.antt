@@ -25,7 +25,7 @@ use Rattle.cam_node.specs.declared.plan.Plan.{Plan}
 use Rattle.cam_node.specs.declared.state.Core.{Core}
 use Rattle.cam_node.specs.Represents.{Node}
 use Rattle.cam_node.specs.Calls.{answers, mail_on}
-use Rattle.cam_node.specs.Plans.{HasLearnt, Stands}
+use Rattle.cam_node.specs.Standing.{HasLearnt, Stands}
 use Rattle.cam_node.specs.Planning.{HasReceived}
 use Rattle.cam_node.specs.Served.{IsCallOn, CallStands}
 use Rattle.cam_node.specs.Ahead.{HasGoneAhead}

@@ -22,7 +22,7 @@ use Rattle.cam_node.specs.declared.knowing.Heard.{Heard}
 use Rattle.cam_node.specs.Represents.{Node}
 use Rattle.cam_node.specs.declared.state.Core.{Core}
 use Rattle.cam_node.specs.Calls.{AreSame, AreToNodes}
-use Rattle.cam_node.specs.Plans.{HasLearnt, MayChange, Stands}
+use Rattle.cam_node.specs.Standing.{HasLearnt, MayChange, Stands}
 use Rattle.cam_node.specs.Answered.{answered_by, got_or_late, late, seen_by, stopped_or}
 use Rattle.cam_node.proofs.AnswerComes.{answer_quiet}
 use Rattle.cam_node.proofs.HomePlans.{HaveDone}

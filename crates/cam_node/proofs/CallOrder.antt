@@ -36,7 +36,8 @@ use Rattle.cam_node.specs.Represents.{Node}
 use Rattle.cam_node.specs.Calls.{answers, mail_on}
 use Rattle.cam_node.specs.LogOrder.{IsInOrder, OrderIsKeptWith, live_at, left_live}
 use Rattle.cam_node.specs.OrderLaws.{CallsKeepOrder}
-use Rattle.cam_node.specs.Plans.{KeepsOrderFor, Stands, held_in}
+use Rattle.cam_node.specs.Plans.{KeepsOrderFor, held_in}
+use Rattle.cam_node.specs.Standing.{Stands}
 use Rattle.cam_node.specs.Served.{CallStands}
 use Rattle.cam_node.proofs.CallRules.{at_site, answered}
 use Rattle.cam_node.proofs.Ordering.{dropped_in_order}

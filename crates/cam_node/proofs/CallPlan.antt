@@ -26,8 +26,10 @@ use Rattle.cam_node.specs.declared.state.Core.{Core}
 use Rattle.cam_node.specs.Represents.{Node}
 use Rattle.cam_node.specs.Calls.{answers, mail_on, letter_as, letters_of}
 use Rattle.cam_node.specs.Opened.{IsKnowledge}
-use Rattle.cam_node.specs.Plans.{Stands, IsHeard, IsPlanFor, IsPlanGiven, MayStand, MayChange}
-use Rattle.cam_node.specs.Plans.{HasRoom, KeepsOrderFor, nothing_given, places_heard}
+use Rattle.cam_node.specs.Plans.{IsHeard, IsPlanFor, IsPlanGiven}
+use Rattle.cam_node.specs.Standing.{Stands, MayStand, MayChange}
+use Rattle.cam_node.specs.Plans.{KeepsOrderFor, nothing_given}
+use Rattle.cam_node.specs.Standing.{HasRoom, places_heard}
 use Rattle.cam_node.specs.Planning.{HasReceived, IsMade}
 use Rattle.cam_node.specs.Served.{IsCallOn, ChangesTo, IsDone, CallStands}
 use Rattle.cam_node.proofs.CallComes.{call_comes}

@@ -17,7 +17,7 @@ use Rattle.cam_server.specs.Calls.{IsInformedOf}
 use Rattle.cam_server.specs.Steps.{did_performed}
 use Rattle.cam_node.specs.declared.did.Doing.{Doing}
 use Rattle.cam_node.specs.declared.plan.Change.TheVariants as changes
-use Rattle.cam_node.specs.Plans.{just}
+use Rattle.cam_node.specs.Standing.{just}
 use Rattle.cam_node.specs.Served.{MayBeServed, IsDone}
 use Rattle.cam_node.proofs.HomePlans.{informed_before}
 

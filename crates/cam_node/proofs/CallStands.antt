@@ -17,7 +17,7 @@ use Rattle.cam_node.specs.declared.knowing.Heard.{Heard}
 use Rattle.cam_node.specs.declared.plan.Change.{Change}
 use Rattle.cam_node.specs.Represents.{Node}
 use Rattle.cam_node.specs.Calls.{AreSame}
-use Rattle.cam_node.specs.Plans.{Stands}
+use Rattle.cam_node.specs.Standing.{Stands}
 use Rattle.cam_node.specs.Served.{ChangesTo, CallStands}
 use Rattle.cam_node.proofs.HomePlans.{IsLearnt, informed_before}
 

@@ -17,7 +17,7 @@ use Rattle.cam_node.specs.declared.plan.Plan.{Plan}
 use Rattle.cam_node.specs.Keeping.{IsHalt, KeepsOn}
 use Rattle.cam_node.specs.Opened.{IsKnowledge, MayRead, with_entry_of}
 use Rattle.cam_node.specs.Planned.{HasEntry, MayBeTaken, planned_records}
-use Rattle.cam_node.specs.Plans.{Stands}
+use Rattle.cam_node.specs.Standing.{Stands}
 use Rattle.cam_node.specs.Represents.{Node}
 use Rattle.cam_node.proofs.Entered.{entry_would_say, plan_entry}
 use Rattle.cam_node.proofs.EntryOrder.{plan_order}

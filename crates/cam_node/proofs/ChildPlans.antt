@@ -26,7 +26,8 @@ use Rattle.cam_node.specs.declared.state.Core.{Core}
 use Rattle.cam_node.specs.Calls.{answers, mail_on, AreSame}
 use Rattle.cam_node.specs.DecideRules.{IsFinish, outcome_of, note_of}
 use Rattle.cam_node.specs.Decides.{IsOutcomeOf, MayDecide, decided_action}
-use Rattle.cam_node.specs.Plans.{IsPlanFor, deciding, just}
+use Rattle.cam_node.specs.Plans.{IsPlanFor}
+use Rattle.cam_node.specs.Standing.{deciding, just}
 use Rattle.cam_node.specs.Planning.{HasReceived, IsMade, IsMadeDeciding}
 use Rattle.cam_node.proofs.LetterPlans.{quiet_plan, no_vote_in, learnt_of, orphan_as}
 use Rattle.cam_node.proofs.HomePlans.{ForEach, IsRuled}

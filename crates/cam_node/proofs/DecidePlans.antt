@@ -45,7 +45,8 @@ use Rattle.cam_node.specs.Log.{Logged}
 use Rattle.cam_node.specs.Opened.{IsKnowledge}
 use Rattle.cam_node.specs.Stepping.{longer}
 use Rattle.cam_node.specs.Decides.{IsOutcomeOf, HasDecided, IsDecided, decided_at_home}
-use Rattle.cam_node.specs.Plans.{HasLearnt, Stands, IsHeard, IsRecorded, IsPlanFor, as_list, deciding, held_in}
+use Rattle.cam_node.specs.Plans.{IsHeard, IsRecorded, IsPlanFor, as_list, held_in}
+use Rattle.cam_node.specs.Standing.{HasLearnt, Stands, deciding}
 use Rattle.cam_node.specs.PlanOrder.{is_served}
 use Rattle.cam_node.specs.Planning.{HasReceived, IsMade}
 use Rattle.cam_node.proofs.NothingAdded.{informs_add, records_behind, holdings_behind}

@@ -24,7 +24,8 @@ use Rattle.cam_node.specs.declared.state.Core.{Core}
 use Rattle.cam_node.specs.Calls.{answers, mail_on, AreSame}
 use Rattle.cam_node.specs.Lawful.{IsForNode}
 use Rattle.cam_node.specs.Planning.{HasReceived, IsMade}
-use Rattle.cam_node.specs.Plans.{IsPlanFor, just}
+use Rattle.cam_node.specs.Plans.{IsPlanFor}
+use Rattle.cam_node.specs.Standing.{just}
 use Rattle.cam_node.specs.Served.{IsElsewhere}
 use Rattle.cam_node.proofs.PlanMade.{home_plan}
 use Rattle.cam_node.proofs.Unchanged.{unchanged}

@@ -20,7 +20,8 @@ use Rattle.cam_node.specs.Entries.{greater_records}
 use Rattle.cam_node.specs.LogOrder.{IsInOrder}
 use Rattle.cam_node.specs.Opened.{logged_of}
 use Rattle.cam_node.specs.Planned.{heard_records, planned_records}
-use Rattle.cam_node.specs.Plans.{IsPlan, Stands, as_list, held_in}
+use Rattle.cam_node.specs.Plans.{IsPlan, as_list, held_in}
+use Rattle.cam_node.specs.Standing.{Stands}
 use Rattle.cam_node.specs.Represents.{Node}
 use Rattle.cam_node.proofs.Entered.{holds_of, holds_record}
 use Rattle.cam_node.proofs.KeptSteps.{OrderGoesOn}

@@ -43,7 +43,8 @@ use Rattle.cam_node.specs.Requests.{wanted_by}
 use Rattle.cam_node.specs.Stepping.{sight_before}
 use Rattle.cam_node.specs.Decides.{HasDecided, IsDecided}
 use Rattle.cam_node.specs.GivingUp.{giving_up, IsGivenUp}
-use Rattle.cam_node.specs.Plans.{HasLearnt, Stands, IsPlan, MayChange, MayStand, held_in}
+use Rattle.cam_node.specs.Plans.{IsPlan, held_in}
+use Rattle.cam_node.specs.Standing.{HasLearnt, Stands, MayChange, MayStand}
 use Rattle.cam_node.specs.PlanOrder.{is_served}
 use Rattle.cam_node.proofs.StoppedPlan.{told_nothing}
 use Rattle.cam_node.proofs.HomePlans.{informed_before}

@@ -25,7 +25,8 @@ use Rattle.std.specs.List.{list_all}
 use Rattle.cam_tranman.specs.Keeping.{HasCounts}
 use Rattle.cam_node.specs.AtHome.{is_at_home_alone, IsNoVote}
 use Rattle.cam_node.specs.declared.plan.Plan.{Plan}
-use Rattle.cam_node.specs.Plans.{IsPlanFor, just}
+use Rattle.cam_node.specs.Plans.{IsPlanFor}
+use Rattle.cam_node.specs.Standing.{just}
 use Rattle.cam_node.specs.Planning.{IsMade}
 use Rattle.cam_node.proofs.HomePlans.{IsRuled}
 use Rattle.cam_node.proofs.PlanMade.{home_plan}

@@ -34,7 +34,7 @@ use Rattle.cam_node.specs.Halting.{IsThrough, IsStepThrough}
 use Rattle.cam_node.specs.Lawful.{MayBePut}
 use Rattle.cam_node.specs.Calls.{AreSame, letter_as, letters_of}
 use Rattle.cam_node.specs.AtHome.{IsAtHome, IsNoVote, LearntAtHome}
-use Rattle.cam_node.specs.Plans.{HasLearnt}
+use Rattle.cam_node.specs.Standing.{HasLearnt}
 use Rattle.cam_node.proofs.Letters.{letter_keeps}
 use Rattle.cam_node.proofs.Orderly.{put_is_asked, through_orderly}
 

@@ -22,7 +22,7 @@ use Rattle.cam_node.specs.Halting.{IsStepThrough, IsThrough}
 use Rattle.cam_node.specs.Lawful.{IsStepOf}
 use Rattle.cam_node.specs.Opened.{IsKnowledge}
 use Rattle.cam_node.specs.Planned.{MayBeTaken}
-use Rattle.cam_node.specs.Plans.{Stands}
+use Rattle.cam_node.specs.Standing.{Stands}
 use Rattle.cam_node.specs.Represents.{Node}
 
 -- What went ahead is taken back at the server alone.

@@ -25,7 +25,8 @@ use Rattle.cam_node.specs.Represents.{Node}
 use Rattle.cam_node.specs.Calls.{answers, mail_on, AreSame}
 use Rattle.cam_node.specs.AtHome.{IsNoVote}
 use Rattle.cam_node.specs.Decides.{MayDecide}
-use Rattle.cam_node.specs.Plans.{IsPlanFor, MayChange, MayStand, just}
+use Rattle.cam_node.specs.Plans.{IsPlanFor}
+use Rattle.cam_node.specs.Standing.{MayChange, MayStand, just}
 use Rattle.cam_node.specs.Planning.{HasReceived, IsMade, IsMadeDeciding}
 use Rattle.cam_node.proofs.HomePlans.{IsRuled}
 use Rattle.cam_node.proofs.PlanMade.{home_plan}

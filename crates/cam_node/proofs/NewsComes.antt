@@ -20,7 +20,8 @@ use Rattle.cam_node.specs.declared.learning.Learnt.{Learnt}
 use Rattle.cam_node.specs.declared.plan.Plan.{Plan}
 use Rattle.cam_node.specs.declared.state.Core.{Core}
 use Rattle.cam_node.specs.Calls.{answers, mail_on, AreSame}
-use Rattle.cam_node.specs.Plans.{IsPlanFor, just}
+use Rattle.cam_node.specs.Plans.{IsPlanFor}
+use Rattle.cam_node.specs.Standing.{just}
 use Rattle.cam_node.specs.Planning.{HasReceived, IsMade}
 use Rattle.cam_node.proofs.PlanMade.{home_plan}
 use Rattle.cam_node.proofs.Unchanged.{unchanged}

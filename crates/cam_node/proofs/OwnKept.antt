@@ -28,7 +28,8 @@ use Rattle.cam_node.proofs.InOrder.{dropping_in_order}
 use Rattle.cam_node.proofs.Nothing.{both_nothing}
 use Rattle.cam_node.proofs.OwnEntries.{own_records, nothing_recorded}
 use Rattle.cam_node.proofs.Recorded.{NoneRecorded, none_recorded, none_held, none_learnt}
-use Rattle.cam_node.proofs.PlanOrder.{is_secure_record, unsecured_by, same_drops, same_server}
+use Rattle.cam_node.proofs.PlanOrder.{is_secure_record, unsecured_by}
+use Rattle.cam_node.proofs.Drops.{same_drops, same_server}
 use Rattle.cam_node.proofs.KeptSteps.{KnowsThen, OrderGoesOn, kept}
 
 nothing_held : Holding

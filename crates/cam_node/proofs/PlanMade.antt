@@ -31,7 +31,8 @@ use Rattle.cam_node.specs.Entries.{Holding, AreHoldings, deed_records}
 use Rattle.cam_node.specs.AtHome.{IsAtHome, IsNoVote}
 use Rattle.cam_node.specs.Log.{Logged}
 use Rattle.cam_node.specs.Opened.{IsKnowledge}
-use Rattle.cam_node.specs.Plans.{HasLearnt, Stands, IsHeard, IsRecorded, IsPlanFor, as_list, held_in}
+use Rattle.cam_node.specs.Plans.{IsHeard, IsRecorded, IsPlanFor, as_list, held_in}
+use Rattle.cam_node.specs.Standing.{HasLearnt, Stands}
 use Rattle.cam_node.specs.PlanOrder.{is_served}
 use Rattle.cam_node.specs.Planning.{HasReceived, IsMade}
 use Rattle.cam_node.proofs.NothingAdded.{adds_nothing, alone_add, both_add, informs_add, records_behind, holdings_behind}

@@ -33,7 +33,8 @@ use Rattle.cam_node.specs.declared.state.Core.{Core}
 use Rattle.cam_node.specs.AtHome.{IsNoVote}
 use Rattle.cam_node.specs.Calls as calls
 use Rattle.cam_node.specs.Calls.{mail_on}
-use Rattle.cam_node.specs.Plans.{IsPlanFor, MayChange}
+use Rattle.cam_node.specs.Plans.{IsPlanFor}
+use Rattle.cam_node.specs.Standing.{MayChange}
 use Rattle.cam_node.specs.Planning.{IsMade}
 use Rattle.cam_node.specs.Lawful.{IsForNode, IsLetter}
 use Rattle.cam_node.specs.Planned.{MayBeAdded}

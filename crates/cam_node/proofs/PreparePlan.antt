@@ -30,7 +30,8 @@ use Rattle.cam_node.specs.Represents.{Node}
 use Rattle.cam_node.specs.Calls.{answers, mail_on, letter_as, letters_of, AreSame}
 use Rattle.cam_node.specs.DecideRules.{IsFinish, is_closed, prepare_to, prepared_by}
 use Rattle.cam_node.specs.Opened.{IsKnowledge}
-use Rattle.cam_node.specs.Plans.{HasLearnt, Stands, IsHeard, IsPlanFor, held_in, preparing}
+use Rattle.cam_node.specs.Plans.{IsHeard, IsPlanFor, held_in}
+use Rattle.cam_node.specs.Standing.{HasLearnt, Stands, preparing}
 use Rattle.cam_node.specs.PlanOrder.{is_served}
 use Rattle.cam_node.specs.Planning.{HasReceived, IsMade}
 use Rattle.cam_node.specs.Preparing.{HasPrepared, HasBegun}

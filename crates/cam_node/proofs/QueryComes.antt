@@ -32,7 +32,8 @@ use Rattle.cam_node.specs.Represents.{Represents}
 use Rattle.cam_node.specs.AtHome.{IsNoVote}
 use Rattle.cam_node.specs.Calls.{answers, mail_on, AreSame}
 use Rattle.cam_node.specs.Lawful.{IsForNode, IsLetter}
-use Rattle.cam_node.specs.Plans.{IsPlanFor, MayStand, deciding, just}
+use Rattle.cam_node.specs.Plans.{IsPlanFor}
+use Rattle.cam_node.specs.Standing.{MayStand, deciding, just}
 use Rattle.cam_node.specs.Planning.{HasReceived, IsMade, IsMadeDeciding}
 use Rattle.cam_node.specs.Queried.{queried_after}
 use Rattle.cam_node.proofs.ChildEnds.{families_stay}

@@ -16,7 +16,7 @@ use Rattle.cam_event.specs.declared.Body.TheVariants as bodies
 use Rattle.cam_event.specs.declared.Want.{Want}
 use Rattle.cam_event.specs.declared.Want.TheVariants as wants
 use Rattle.cam_event.specs.declared.Deed.{Deed}
-use Rattle.cam_event.specs.declared.Deed.TheVariants.{Create, Ask, Call, Commit, Abort, Secure, Crash}
+use Rattle.cam_event.specs.declared.Deed.TheVariants.{Create, Secure, Crash}
 use Rattle.cam_event.specs.History.{Addressed, created, call_of, secured_at}
 use Rattle.cam_event.specs.Inputs.{Mail}
 use Rattle.cam_event.specs.Live.{site_of}

@@ -33,10 +33,11 @@ use Rattle.cam_node.specs.declared.state.Core.{Core}
 use Rattle.cam_node.specs.Represents.{Node}
 use Rattle.cam_node.specs.Calls.{answers, mail_on}
 use Rattle.cam_node.specs.LogOrder.{IsInOrder, left_live}
-use Rattle.cam_node.specs.Plans.{HasSecured, HoldsRecord, KeepsOrderFor, Stands, held_in}
+use Rattle.cam_node.specs.Plans.{HoldsRecord, KeepsOrderFor, held_in}
+use Rattle.cam_node.specs.Standing.{HasSecured, Stands}
 use Rattle.cam_node.specs.Planning.{IsMade}
 use Rattle.cam_node.specs.Prepared.{secures}
-use Rattle.cam_node.proofs.InOrder.{securing_in_order}
+use Rattle.cam_node.proofs.SecuringOrder.{securing_in_order}
 use Rattle.cam_node.proofs.GoesOn.{GoesOn}
 use Rattle.cam_node.proofs.SecureRecorded.{held_then, dropped_alike}
 use Rattle.cam_node.proofs.Unsecured.{informs_unsecured}

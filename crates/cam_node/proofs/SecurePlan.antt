@@ -33,7 +33,8 @@ use Rattle.cam_node.specs.declared.state.Core.{Core}
 use Rattle.cam_node.specs.Represents.{Node, Represents}
 use Rattle.cam_node.specs.Calls.{answers, mail_on, letter_as, letters_of}
 use Rattle.cam_node.specs.Opened.{IsKnowledge}
-use Rattle.cam_node.specs.Plans.{HasSecured, Stands, IsHeard, HoldsRecord, IsPlanFor, IsPlanGiven, in_order}
+use Rattle.cam_node.specs.Plans.{IsHeard, HoldsRecord, IsPlanFor, IsPlanGiven, in_order}
+use Rattle.cam_node.specs.Standing.{HasSecured, Stands}
 use Rattle.cam_node.specs.Planning.{IsMade}
 use Rattle.cam_node.specs.Prepared.{secures}
 use Rattle.cam_node.specs.Securing.{LearntAndSecured}

@@ -34,7 +34,7 @@ use Rattle.cam_node.specs.Entries.{Holding, deed_records}
 use Rattle.cam_node.specs.Log.{Logged, KeepsLog}
 use Rattle.cam_node.specs.LogOrder.{IsInOrder, left_live}
 use Rattle.cam_node.specs.Plans.{IsRecorded, as_list}
-use Rattle.cam_node.proofs.InOrder.{securing_in_order}
+use Rattle.cam_node.proofs.SecuringOrder.{securing_in_order}
 use Rattle.cam_node.proofs.NothingAdded.{informs_add, records_behind}
 use Rattle.cam_node.proofs.GoesOn.{GoesOn}
 use Rattle.cam_node.proofs.Unsecured.{informs_unsecured}

@@ -6,7 +6,7 @@ use Rattle.cam_commit.specs.Families.{Families}
 use Rattle.cam_commit.specs.Calls.{IsSecured}
 use Rattle.cam_node.specs.declared.knowing.Heard.{Heard}
 use Rattle.cam_node.specs.Represents.{Node}
-use Rattle.cam_node.specs.Plans.{HasLearnt, HasSecured, HaveSecured, IsInformed}
+use Rattle.cam_node.specs.Standing.{HasLearnt, HasSecured, HaveSecured, IsInformed}
 
 -- what was learnt stands, where the families alone have changed since
 pub learnt_besides : (heard : Option Heard) (known : Knowledge) (old mid new : Node)

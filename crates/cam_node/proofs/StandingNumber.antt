@@ -4,7 +4,7 @@ use Rattle.cam_know.specs.Knowledge.{Knowledge}
 use Rattle.cam_node.specs.declared.knowing.Heard.{Heard}
 use Rattle.cam_node.specs.declared.plan.Change.{Change}
 use Rattle.cam_node.specs.declared.plan.Change.TheVariants as changes
-use Rattle.cam_node.specs.Plans.{Stands}
+use Rattle.cam_node.specs.Standing.{Stands}
 use Rattle.cam_node.specs.Represents.{Node}
 
 pub stands_number : (change : Change) (heard : Option Heard) (known : Knowledge) (old new : Node)

@@ -13,7 +13,7 @@ use Rattle.cam_node.specs.declared.plan.Plan.{Plan}
 use Rattle.cam_node.specs.declared.state.Core.{Core}
 use Rattle.cam_node.specs.Planning.{IsMade}
 use Rattle.cam_node.specs.Represents.{Node}
-use Rattle.cam_node.specs.Plans.{HasActed, HasLearnt, HasRoom, HaveActed, IsInformed, MayChange, MayStand, places_heard}
+use Rattle.cam_node.specs.Standing.{HasActed, HasLearnt, HasRoom, HaveActed, IsInformed, MayChange, MayStand, places_heard}
 
 pub acts_stand : (heard : Option Heard) (known : Knowledge) (act : Actions → Actions)
     (old mid new : Node) → HasLearnt heard known old mid

@@ -20,7 +20,7 @@ use Rattle.cam_tranman.proofs.RuleCalls.{started_is_rule}
 use Rattle.cam_node.specs.declared.did.Doing.{Doing}
 use Rattle.cam_node.specs.AtHome.{IsAtHome}
 use Rattle.cam_node.specs.Calls.{AreToNodes}
-use Rattle.cam_node.specs.Plans.{just}
+use Rattle.cam_node.specs.Standing.{just}
 use Rattle.cam_node.specs.PlanOrder.{is_served}
 use Rattle.cam_node.specs.Started.{created_or, may_start_by, started_by}
 

@@ -29,7 +29,7 @@ use Rattle.cam_node.specs.declared.state.Core.{Core}
 use Rattle.cam_node.specs.Represents.{Node}
 use Rattle.cam_node.specs.Calls.{answers, AreSame}
 use Rattle.cam_node.specs.Lawful.{IsForNode}
-use Rattle.cam_node.specs.Plans.{HasLearnt, MayChange, Stands}
+use Rattle.cam_node.specs.Standing.{HasLearnt, MayChange, Stands}
 use Rattle.cam_node.specs.Started.{may_start_by, started_by}
 use Rattle.cam_node.proofs.HomePlans.{HaveDone}
 use Rattle.cam_node.proofs.StartComes.{by_tests}

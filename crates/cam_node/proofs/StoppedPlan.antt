@@ -28,7 +28,8 @@ use Rattle.cam_node.specs.Entries.{AreHoldings, deed_records}
 use Rattle.cam_node.specs.GivingUp.{giving_up}
 use Rattle.cam_node.specs.Opened.{IsKnowledge}
 use Rattle.cam_server.specs.Events.{AreQuiet}
-use Rattle.cam_node.specs.Plans.{HasLearnt, Stands, IsPlan, as_list, held_in}
+use Rattle.cam_node.specs.Plans.{IsPlan, as_list, held_in}
+use Rattle.cam_node.specs.Standing.{HasLearnt, Stands}
 use Rattle.cam_node.specs.PlanOrder.{is_served}
 use Rattle.cam_node.proofs.Nothing.{both_nothing}
 use Rattle.cam_node.proofs.Idle.{node_same, same_of}

@@ -27,7 +27,7 @@ use Rattle.cam_event.specs.ByDeltas.{Received, as_carried}
 use Rattle.cam_node.specs.Keeping.{IsLogOf, KeepsHistory, KeepsNode, MayBePutThen}
 use Rattle.cam_node.specs.Opened.{IsKnowledge, logged_of, with_entry_of}
 use Rattle.cam_node.specs.Planned.{HasEntry, MayBeTaken, planned_records}
-use Rattle.cam_node.specs.Plans.{Stands}
+use Rattle.cam_node.specs.Standing.{Stands}
 use Rattle.cam_node.specs.Represents.{Node}
 use Rattle.cam_node.proofs.CarriedOut.{taken_entry}
 use Rattle.cam_node.proofs.KeptSteps.{logged, known_then}

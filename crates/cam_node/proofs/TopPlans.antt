@@ -28,7 +28,8 @@ use Rattle.cam_node.specs.declared.state.Core.{Core}
 use Rattle.cam_node.specs.Calls.{answers, mail_on, AreSame}
 use Rattle.cam_node.specs.DecideRules.{IsFinish, is_closed, news_to}
 use Rattle.cam_node.specs.Decides.{MayDecide, decided_action}
-use Rattle.cam_node.specs.Plans.{IsPlanFor, deciding, just}
+use Rattle.cam_node.specs.Plans.{IsPlanFor}
+use Rattle.cam_node.specs.Standing.{deciding, just}
 use Rattle.cam_node.specs.Planning.{HasReceived, IsMade, IsMadeDeciding}
 use Rattle.cam_node.proofs.HomePlans.{IsRuled}
 use Rattle.cam_node.proofs.DecidePlans.{decision_plan}

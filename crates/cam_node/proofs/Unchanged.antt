@@ -16,7 +16,7 @@ use Rattle.std.specs.Prelude.{filter}
 use Rattle.cam_node.specs.declared.knowing.Heard.{Heard}
 use Rattle.cam_node.specs.Represents.{Node}
 use Rattle.cam_node.specs.Calls.{AreSame}
-use Rattle.cam_node.specs.Plans.{HasLearnt}
+use Rattle.cam_node.specs.Standing.{HasLearnt}
 use Rattle.cam_node.proofs.HomePlans.{HaveDone}
 
 -- actions that answer as others that answer as the first

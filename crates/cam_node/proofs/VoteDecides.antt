@@ -30,14 +30,15 @@ use Rattle.cam_node.specs.Calls.{answers, mail_on, AreSame}
 use Rattle.cam_node.specs.DecideRules.{is_closed, news_to}
 use Rattle.cam_node.specs.Decides.{IsOutcomeOf, decided_action}
 use Rattle.cam_node.specs.Lawful.{IsForNode}
-use Rattle.cam_node.specs.Plans.{IsPlanFor, MayStand, deciding}
+use Rattle.cam_node.specs.Plans.{IsPlanFor}
+use Rattle.cam_node.specs.Standing.{MayStand, deciding}
 use Rattle.cam_node.specs.Planning.{HasReceived, IsMade, IsMadeDeciding}
 use Rattle.cam_node.specs.Voting.{is_over, weighed}
 use Rattle.cam_node.proofs.LetterPlans.{deciding_may, learnt_of}
 use Rattle.cam_node.proofs.DecidePlans.{decision_plan}
 use Rattle.cam_node.proofs.Decides.{top_is_learnt}
 use Rattle.cam_node.proofs.HomePlans.{ForEach, IsRuled}
-use Rattle.cam_node.proofs.VoteFamilies.{decided_families}
+use Rattle.cam_node.proofs.DecidedFamilies.{decided_families}
 use Rattle.cam_node.proofs.VotePlans.{over_as, rule_weighed}
 
 -- the letters, as the node before says them

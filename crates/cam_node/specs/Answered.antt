@@ -17,7 +17,7 @@ use Rattle.cam_tranman.specs.declared.Taken.{Taken}
 use Rattle.cam_tranman.specs.declared.Taken.TheVariants as taken
 use Rattle.cam_node.specs.declared.did.Doing.{Doing}
 use Rattle.cam_node.specs.declared.plan.Change.TheVariants as changes
-use Rattle.cam_node.specs.Plans.{just}
+use Rattle.cam_node.specs.Standing.{just}
 
 abbrev pub late : Doing
 late = just (nothing_but notes.Late)

@@ -13,7 +13,7 @@ use Rattle.cam_node.specs.declared.plan.Change.TheVariants as changes
 use Rattle.cam_node.specs.declared.plan.Plan.{Plan}
 use Rattle.cam_node.specs.declared.state.Core.{Core}
 use Rattle.cam_node.specs.Calls.{answers}
-use Rattle.cam_node.specs.Plans.{places_heard, HasRoomForOne}
+use Rattle.cam_node.specs.Standing.{places_heard, HasRoomForOne}
 use Rattle.cam_comman.specs.Letters.{IsWithin}
 
 -- the request

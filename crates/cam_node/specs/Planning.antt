@@ -18,7 +18,7 @@ use Rattle.cam_node.specs.declared.plan.Plan.{Plan}
 use Rattle.cam_node.specs.declared.state.Core.{Core}
 use Rattle.cam_node.specs.Calls.{answers, letter_as, AreSame}
 use Rattle.cam_node.specs.Opened.{IsKnowledge}
-use Rattle.cam_node.specs.Plans.{deciding, places_heard, HasRoom, HasRoomForOne}
+use Rattle.cam_node.specs.Standing.{deciding, places_heard, HasRoom, HasRoomForOne}
 
 -- A letter was learnt: the node answers as before, and goes by this. Its actions and families are as they were,
 -- and there is room at its site for the news.

@@ -19,7 +19,7 @@ use Rattle.cam_commit.specs.Calls.{asked_of}
 use Rattle.cam_commit.specs.Families.{Families}
 use Rattle.cam_node.specs.declared.did.Doing.{Doing}
 use Rattle.cam_node.specs.declared.plan.Change.TheVariants as changes
-use Rattle.cam_node.specs.Plans.{just}
+use Rattle.cam_node.specs.Standing.{just}
 
 -- What its families answer. A family that is no top action is asked for by no letter: that is late.
 abbrev pub asked_for : Knowledge → Families → Name → ℕ → ℕ → Asked

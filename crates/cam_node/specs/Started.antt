@@ -12,7 +12,7 @@ use Rattle.cam_event.specs.Rules.{answers, did, nothing_but, one, send, with_hom
 use Rattle.cam_tranman.specs.Actions.{Actions, created}
 use Rattle.cam_node.specs.declared.did.Doing.{Doing}
 use Rattle.cam_node.specs.declared.plan.Change.TheVariants as changes
-use Rattle.cam_node.specs.Plans.{just}
+use Rattle.cam_node.specs.Standing.{just}
 
 -- the node is its home, at the present count
 abbrev pub may_start_by : Actions → Name → Bool

@@ -6,7 +6,8 @@ ghost use Rattle.std.specs.Prelude.{◌≡◌, ◌≤◌, List, None, IfOk};
 ghost use Rattle.cam_type.specs.declared.ObjectDecl.{ObjectDecl};
 ghost use Rattle.cam_event.specs.declared.Body.TheVariants as bodies;
 ghost use Rattle.cam_node.specs.Calls.{answers, AreSame, AreToNodes};
-ghost use Rattle.cam_node.specs.Plans.{after_answer, HaveActed, IsPlanFor, MayStand};
+ghost use Rattle.cam_node.specs.Plans.{IsPlanFor};
+ghost use Rattle.cam_node.specs.Standing.{after_answer, HaveActed, MayStand};
 ghost use Rattle.cam_node.specs.Answered.{answered_by, seen_by};
 
 use crate::did::{Did, Doing};

@@ -5,7 +5,8 @@ ghost use Rattle.cam_type.specs.declared.ObjectDecl.{ObjectDecl};
 ghost use Rattle.cam_node.specs.Calls.{answers, AreSame};
 ghost use Rattle.cam_node.specs.MayStep.{HasFewObjects};
 ghost use Rattle.cam_node.specs.Planned.{MayBeAdded};
-ghost use Rattle.cam_node.specs.Plans.{IsPlanFor, MayStand};
+ghost use Rattle.cam_node.specs.Plans.{IsPlanFor};
+ghost use Rattle.cam_node.specs.Standing.{MayStand};
 ghost use Rattle.cam_node.specs.Served.{is_call};
 
 use crate::plan::Plan;

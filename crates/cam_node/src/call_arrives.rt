@@ -13,7 +13,8 @@ ghost use Rattle.cam_server.specs.declared.Performed.{Performed as PerformedValu
 ghost use Rattle.cam_server.specs.Steps.{did_performed};
 ghost use Rattle.cam_node.specs.Ahead.{MayBeForgotten};
 ghost use Rattle.cam_node.specs.Calls.{answers, AreSame, AreToNodes};
-ghost use Rattle.cam_node.specs.Plans.{IsPlanFor, MayStand};
+ghost use Rattle.cam_node.specs.Plans.{IsPlanFor};
+ghost use Rattle.cam_node.specs.Standing.{MayStand};
 ghost use Rattle.cam_node.specs.Served.{asked_of, IsCallOn, MayBeServed, IsDone};
 
 use crate::did::{Did, Doing};

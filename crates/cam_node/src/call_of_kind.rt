@@ -4,7 +4,8 @@ ghost use Rattle.cam_type.specs.declared.Kind.TheVariants as kinds;
 ghost use Rattle.cam_type.specs.declared.ObjectDecl.{ObjectDecl};
 ghost use Rattle.cam_node.specs.Ahead.{MayBeForgotten};
 ghost use Rattle.cam_node.specs.Calls.{answers, AreSame};
-ghost use Rattle.cam_node.specs.Plans.{IsPlanFor, MayStand};
+ghost use Rattle.cam_node.specs.Plans.{IsPlanFor};
+ghost use Rattle.cam_node.specs.Standing.{MayStand};
 ghost use Rattle.cam_node.specs.Served.{asked_of, IsCallOn, IsElsewhere};
 
 use crate::call_arrives::Called;

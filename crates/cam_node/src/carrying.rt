@@ -14,7 +14,7 @@ ghost use Rattle.cam_node.specs.Halting.{IsStepThrough};
 ghost use Rattle.cam_node.specs.Keeping.{IsHalt, KeepsOn};
 ghost use Rattle.cam_node.specs.Opened.{MayRead};
 ghost use Rattle.cam_node.specs.Planned.{ForEachInput, MayBeAdded};
-ghost use Rattle.cam_node.specs.Plans.{MayStand};
+ghost use Rattle.cam_node.specs.Standing.{MayStand};
 ghost use Rattle.cam_node.specs.Represents.{Node as Parts};
 
 use crate::Stepped;

@@ -18,7 +18,7 @@ ghost use Rattle.cam_tranman.specs.Tables.{answers as at_home};
 ghost use Rattle.cam_node.specs.Calls.{answers, AreSame, AreToNodes};
 ghost use Rattle.cam_node.specs.Decides.{decided_at_home, IsDecided, MayDecide};
 ghost use Rattle.cam_node.specs.Planning.{IsMadeDeciding};
-ghost use Rattle.cam_node.specs.Plans.{deciding};
+ghost use Rattle.cam_node.specs.Standing.{deciding};
 
 use crate::did::{Did, Doing};
 use crate::learning::Learnt;

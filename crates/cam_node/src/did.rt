@@ -1,7 +1,7 @@
 //! What an event has after its first Informs, and what it does to the parts of the node.
 ghost use Rattle.std.specs.Prelude.{◌≡◌, [], IfOk};
 ghost use Rattle.cam_event.specs.Rules.{answers, did, nothing_but, send, one as single};
-ghost use Rattle.cam_node.specs.Plans.{just};
+ghost use Rattle.cam_node.specs.Standing.{just};
 
 use crate::plan::Change;
 use crate::room::one;

@@ -15,7 +15,8 @@ ghost use Rattle.cam_tranman.specs.Actions.{deps};
 ghost use Rattle.cam_node.specs.DecideRules.{IsFinish, note_of, outcome_of, prepare_to};
 ghost use Rattle.cam_node.specs.Planning.{IsMade};
 ghost use Rattle.cam_node.specs.Planned.{MayBeAdded};
-ghost use Rattle.cam_node.specs.Plans.{preparing, HasRoom, IsPlanFor, MayStand};
+ghost use Rattle.cam_node.specs.Plans.{IsPlanFor};
+ghost use Rattle.cam_node.specs.Standing.{preparing, HasRoom, MayStand};
 ghost use Rattle.cam_node.specs.Preparing.{HasBegun};
 
 use crate::did::{Did, Doing};

@@ -9,7 +9,8 @@ ghost use Rattle.cam_comman.specs.Letters.{IsWithin};
 ghost use Rattle.cam_node.specs.Calls.{answers, AreSame};
 ghost use Rattle.cam_node.specs.GivingUp.{giving_up, IsGivenUp};
 ghost use Rattle.cam_node.specs.Planned.{MayBeAdded};
-ghost use Rattle.cam_node.specs.Plans.{IsPlan, MayStand};
+ghost use Rattle.cam_node.specs.Plans.{IsPlan};
+ghost use Rattle.cam_node.specs.Standing.{MayStand};
 
 use crate::deciding::add_decision;
 use crate::learning::is_knowledge;

@@ -3,7 +3,8 @@ ghost use Rattle.std.specs.Prelude.{◌≡◌, ◌≤◌, List, None, IfOk};
 ghost use Rattle.cam_type.specs.declared.ObjectDecl.{ObjectDecl};
 ghost use Rattle.cam_event.specs.declared.Body.TheVariants as bodies;
 ghost use Rattle.cam_node.specs.Calls.{answers, AreSame};
-ghost use Rattle.cam_node.specs.Plans.{IsPlanFor, MayStand};
+ghost use Rattle.cam_node.specs.Plans.{IsPlanFor};
+ghost use Rattle.cam_node.specs.Standing.{MayStand};
 
 use crate::did::Doing;
 use crate::plan::Plan;

@@ -24,7 +24,8 @@ ghost use Rattle.cam_node.specs.Keeping.{IsHalt, KeepsOn};
 ghost use Rattle.cam_node.specs.MayStep.{MayStep};
 ghost use Rattle.cam_node.specs.Opened.{IsKnowledge, MayRead, with_entry_of};
 ghost use Rattle.cam_node.specs.Planned.{heard_records, planned_records, MayBeAdded};
-ghost use Rattle.cam_node.specs.Plans.{as_list, MayStand, Stands};
+ghost use Rattle.cam_node.specs.Plans.{as_list};
+ghost use Rattle.cam_node.specs.Standing.{MayStand, Stands};
 ghost use Rattle.cam_node.specs.Refused.{IsNotRefused};
 
 use crate::fault::NodeFault;

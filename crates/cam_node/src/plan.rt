@@ -5,7 +5,7 @@
 //! `Stands` (`specs/Plans.antt`).
 ghost use Rattle.std.specs.Prelude.{◌≡◌, ◌≤◌, ◌+◌};
 ghost use Rattle.cam_node.specs.Calls.{answers};
-ghost use Rattle.cam_node.specs.Plans.{HasLearnt, HasRoom, MayChange, MayStand, Stands, places_heard, count_heard};
+ghost use Rattle.cam_node.specs.Standing.{HasLearnt, HasRoom, MayChange, MayStand, Stands, places_heard, count_heard};
 ghost use Rattle.cam_comman.specs.Letters.{IsWithin};
 ghost use Rattle.cam_server.specs.Calls.{answers as served};
 

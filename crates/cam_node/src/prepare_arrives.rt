@@ -7,7 +7,8 @@ ghost use Rattle.cam_event.specs.declared.Body.TheVariants as bodies;
 ghost use Rattle.cam_event.specs.Rules.{answers as only_answers, vote};
 ghost use Rattle.cam_locks.specs.Calls.{held, left_by};
 ghost use Rattle.cam_node.specs.Calls.{answers, AreSame, AreToNodes};
-ghost use Rattle.cam_node.specs.Plans.{HaveSecured, IsPlanFor, MayStand, just};
+ghost use Rattle.cam_node.specs.Plans.{IsPlanFor};
+ghost use Rattle.cam_node.specs.Standing.{HaveSecured, MayStand, just};
 ghost use Rattle.cam_node.specs.Planned.{MayBeAdded};
 ghost use Rattle.cam_node.specs.Prepared.{asked_does, asked_for, secures, MayBeWritten};
 

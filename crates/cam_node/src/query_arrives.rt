@@ -7,7 +7,8 @@ ghost use Rattle.cam_event.specs.declared.Body.TheVariants as bodies;
 ghost use Rattle.cam_event.specs.Rules.{send, one as single};
 ghost use Rattle.cam_node.specs.Calls.{answers, AreSame, AreToNodes};
 ghost use Rattle.cam_node.specs.Planned.{MayBeAdded};
-ghost use Rattle.cam_node.specs.Plans.{IsPlanFor, MayStand};
+ghost use Rattle.cam_node.specs.Plans.{IsPlanFor};
+ghost use Rattle.cam_node.specs.Standing.{MayStand};
 ghost use Rattle.cam_node.specs.Queried.{queried_after};
 
 use crate::did::{Did, Doing};

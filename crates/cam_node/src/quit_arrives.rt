@@ -8,7 +8,8 @@ ghost use Rattle.cam_event.specs.declared.Body.TheVariants as bodies;
 ghost use Rattle.cam_node.specs.Calls.{answers, AreSame};
 ghost use Rattle.cam_node.specs.DecideRules.{is_closed};
 ghost use Rattle.cam_node.specs.Planned.{MayBeAdded};
-ghost use Rattle.cam_node.specs.Plans.{IsPlanFor, MayStand};
+ghost use Rattle.cam_node.specs.Plans.{IsPlanFor};
+ghost use Rattle.cam_node.specs.Standing.{MayStand};
 
 use crate::did::Doing;
 use crate::plan::Plan;

@@ -6,7 +6,8 @@ ghost use Rattle.cam_type.specs.declared.ObjectDecl.{ObjectDecl};
 ghost use Rattle.cam_event.specs.declared.Body.TheVariants as bodies;
 ghost use Rattle.cam_tranman.specs.Calls.{after_start};
 ghost use Rattle.cam_node.specs.Calls.{answers, AreSame, AreToNodes};
-ghost use Rattle.cam_node.specs.Plans.{HaveActed, IsPlanFor, MayStand, MayStart};
+ghost use Rattle.cam_node.specs.Plans.{IsPlanFor};
+ghost use Rattle.cam_node.specs.Standing.{HaveActed, MayStand, MayStart};
 ghost use Rattle.cam_node.specs.Started.{created_or, started_by};
 
 use crate::did::{Did, Doing};

@@ -8,7 +8,8 @@ ghost use Rattle.cam_event.specs.declared.Body.TheVariants as bodies;
 ghost use Rattle.cam_commit.specs.Calls.{yes, voted_by};
 ghost use Rattle.cam_node.specs.Calls.{answers, AreSame};
 ghost use Rattle.cam_node.specs.Planned.{MayBeAdded};
-ghost use Rattle.cam_node.specs.Plans.{counting, IsPlanFor, MayStand};
+ghost use Rattle.cam_node.specs.Plans.{IsPlanFor};
+ghost use Rattle.cam_node.specs.Standing.{counting, MayStand};
 ghost use Rattle.cam_node.specs.Voting.{is_over, HasCounted};
 
 use crate::did::{Did, Doing};

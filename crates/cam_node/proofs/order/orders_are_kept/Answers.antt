@@ -1,5 +1,6 @@
 -- The order is kept.
-use Rattle.cam_node.proofs.InOrder.{nothing_in_order, dropping_in_order, securing_in_order}
+use Rattle.cam_node.proofs.InOrder.{nothing_in_order, dropping_in_order}
+use Rattle.cam_node.proofs.SecuringOrder.{securing_in_order}
 use Rattle.cam_node.proofs.CallOrder.{calls_keep_order}
 use Rattle.cam_node.proofs.Crashing.{restart_in_order}
 use Rattle.cam_node.proofs.order.orders_are_kept.Goals as goal

@@ -4,7 +4,8 @@ use Rattle.std.proofs.lemmas.Result.{IfOk-weaker}
 use Rattle.cam_node.specs.declared.did.Doing.{Doing}
 use Rattle.cam_node.specs.declared.state.Core.{Core}
 use Rattle.cam_node.specs.Calls.{answers}
-use Rattle.cam_node.specs.Plans.{IsPlanFor, MayStand}
+use Rattle.cam_node.specs.Plans.{IsPlanFor}
+use Rattle.cam_node.specs.Standing.{MayStand}
 use Rattle.cam_node.specs.Planning.{IsMade}
 use Rattle.cam_node.proofs.AnswerComes.{answer_quiet}
 use Rattle.cam_node.proofs.AnswerPlan.{answer_plan}

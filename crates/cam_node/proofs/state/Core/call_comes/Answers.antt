@@ -5,7 +5,8 @@ use Rattle.cam_server.specs.Calls as server
 use Rattle.cam_node.specs.declared.plan.Change.{Change}
 use Rattle.cam_node.specs.Calls.{answers, AreSame}
 use Rattle.cam_node.specs.Ahead.{HasGoneAhead, MayBeForgotten}
-use Rattle.cam_node.specs.Plans.{IsPlanFor, MayStand}
+use Rattle.cam_node.specs.Plans.{IsPlanFor}
+use Rattle.cam_node.specs.Standing.{MayStand}
 use Rattle.cam_node.specs.Planning.{IsMade}
 use Rattle.cam_node.specs.Served.{asked_of}
 use Rattle.cam_node.proofs.CallPlan.{call_plan, call_may}

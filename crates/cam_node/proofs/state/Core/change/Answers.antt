@@ -6,7 +6,7 @@ use Rattle.cam_tranman.specs.Actions.{Actions}
 use Rattle.cam_tranman.specs.Calls.{IsFree, after_start}
 use Rattle.cam_node.specs.declared.plan.Change.{Change}
 use Rattle.cam_node.specs.Calls.{answers}
-use Rattle.cam_node.specs.Plans.{MayChange, Stands, after_answer}
+use Rattle.cam_node.specs.Standing.{MayChange, Stands, after_answer}
 use Rattle.cam_node.proofs.SecureStands.{families_stand}
 use Rattle.cam_node.proofs.Stands.{acts_stand}
 use Rattle.cam_node.proofs.state.Core.change.Goals as goal

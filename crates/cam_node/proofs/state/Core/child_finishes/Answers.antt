@@ -10,7 +10,8 @@ use Rattle.cam_node.specs.Calls.{answers}
 use Rattle.cam_node.specs.DecideRules.{outcome_of, note_of}
 use Rattle.cam_node.specs.Decides.{decided_action}
 use Rattle.cam_node.specs.Planned.{MayBeAdded}
-use Rattle.cam_node.specs.Plans.{IsPlanFor, MayStand}
+use Rattle.cam_node.specs.Plans.{IsPlanFor}
+use Rattle.cam_node.specs.Standing.{MayStand}
 use Rattle.cam_node.specs.Planning.{IsMade, IsMadeDeciding}
 use Rattle.cam_node.proofs.Adding.{deciding_adds}
 use Rattle.cam_node.proofs.ChildPlans.{finish_late_plan, finish_stopped_plan, finish_decided_plan, decided_may, ended_action}

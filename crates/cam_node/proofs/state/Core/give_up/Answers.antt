@@ -8,7 +8,8 @@ use Rattle.cam_node.specs.Calls.{answers}
 use Rattle.cam_node.specs.GivingUp.{giving_up, IsGivenUp}
 use Rattle.cam_node.specs.Planned.{MayBeAdded}
 use Rattle.cam_node.specs.Opened.{IsKnowledge}
-use Rattle.cam_node.specs.Plans.{IsPlan, MayStand}
+use Rattle.cam_node.specs.Plans.{IsPlan}
+use Rattle.cam_node.specs.Standing.{MayStand}
 use Rattle.cam_node.specs.Represents.{Node}
 use Rattle.cam_node.proofs.Idle.{same_of}
 use Rattle.cam_node.proofs.GiveUpPlan.{given_up_plan, given_up_may}

@@ -6,7 +6,8 @@ use Rattle.cam_commit.specs.declared.Asked.{Asked}
 use Rattle.cam_commit.specs.Calls as commit
 use Rattle.cam_node.specs.declared.state.Core.{Core}
 use Rattle.cam_node.specs.Calls.{answers}
-use Rattle.cam_node.specs.Plans.{IsPlanFor, MayStand}
+use Rattle.cam_node.specs.Plans.{IsPlanFor}
+use Rattle.cam_node.specs.Standing.{MayStand}
 use Rattle.cam_node.specs.Planning.{IsMade}
 use Rattle.cam_node.specs.Planned.{MayBeAdded}
 use Rattle.cam_node.specs.Prepared.{asked_does}

@@ -6,7 +6,8 @@ use Rattle.cam_event.specs.declared.Deed.{Deed}
 use Rattle.cam_event.specs.declared.Note.TheVariants as notes
 use Rattle.cam_event.specs.Rules.{did}
 use Rattle.cam_node.specs.Calls.{answers}
-use Rattle.cam_node.specs.Plans.{IsPlanFor, MayStand, just}
+use Rattle.cam_node.specs.Plans.{IsPlanFor}
+use Rattle.cam_node.specs.Standing.{MayStand, just}
 use Rattle.cam_node.specs.Planning.{IsMade, IsMadeDeciding}
 use Rattle.cam_node.proofs.LetterPlans.{same_then}
 use Rattle.cam_node.proofs.QueryComes.{gone_may, gone_plan, open_plan, told_plan}

@@ -4,7 +4,8 @@ use Rattle.std.proofs.lemmas.Result.{IfOk-weaker}
 use Rattle.cam_tranman.specs.Tables as tranman
 use Rattle.cam_node.specs.declared.state.Core.{Core}
 use Rattle.cam_node.specs.Calls.{answers}
-use Rattle.cam_node.specs.Plans.{IsPlanFor, MayStand}
+use Rattle.cam_node.specs.Plans.{IsPlanFor}
+use Rattle.cam_node.specs.Standing.{MayStand}
 use Rattle.cam_node.specs.Planning.{IsMade}
 use Rattle.cam_node.proofs.Stands.{made_may}
 use Rattle.cam_node.proofs.StartComes.{starts_at_home}

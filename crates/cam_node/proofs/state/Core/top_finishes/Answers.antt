@@ -7,7 +7,8 @@ use Rattle.cam_tranman.specs.Actions.{deps}
 use Rattle.cam_node.specs.declared.did.Doing.{Doing}
 use Rattle.cam_node.specs.Calls.{answers}
 use Rattle.cam_node.specs.DecideRules.{is_closed, news_to, prepare_to}
-use Rattle.cam_node.specs.Plans.{IsPlanFor, preparing}
+use Rattle.cam_node.specs.Plans.{IsPlanFor}
+use Rattle.cam_node.specs.Standing.{preparing}
 use Rattle.cam_node.specs.Planning.{IsMade, IsMadeDeciding}
 use Rattle.cam_node.proofs.LetterPlans.{same_then}
 use Rattle.cam_node.proofs.TopPlans.{top_finish_late_plan, top_orphan_plan}

@@ -6,7 +6,8 @@ use Rattle.cam_event.specs.declared.Note.TheVariants as notes
 use Rattle.cam_node.specs.declared.did.Doing.{Doing}
 use Rattle.cam_node.specs.Calls.{answers}
 use Rattle.cam_node.specs.DecideRules.{news_to}
-use Rattle.cam_node.specs.Plans.{IsPlanFor, MayStand}
+use Rattle.cam_node.specs.Plans.{IsPlanFor}
+use Rattle.cam_node.specs.Standing.{MayStand}
 use Rattle.cam_node.specs.Planning.{IsMade, IsMadeDeciding}
 use Rattle.cam_node.proofs.LetterPlans.{deciding_may, same_then}
 use Rattle.cam_node.proofs.TopPlans.{top_quit_late_plan, top_quit_plan, top_may}

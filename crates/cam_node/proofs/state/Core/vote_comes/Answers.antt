@@ -9,11 +9,13 @@ use Rattle.cam_node.specs.declared.vote_arrives.Vote.{Vote}
 use Rattle.cam_node.specs.declared.state.Core.{Core}
 use Rattle.cam_node.specs.Calls.{answers}
 use Rattle.cam_node.specs.DecideRules.{news_to}
-use Rattle.cam_node.specs.Plans.{IsPlanFor, MayStand}
+use Rattle.cam_node.specs.Plans.{IsPlanFor}
+use Rattle.cam_node.specs.Standing.{MayStand}
 use Rattle.cam_node.specs.Planning.{IsMade, IsMadeDeciding}
 use Rattle.cam_node.proofs.LetterPlans.{same_then}
 use Rattle.cam_node.proofs.VoteDecides.{all_plan, no_plan, vote_may}
-use Rattle.cam_node.proofs.VotePlans.{counted_plan, late_plan, over_plan, with_families}
+use Rattle.cam_node.proofs.VotePlans.{late_plan, over_plan, with_families}
+use Rattle.cam_node.proofs.CountedPlan.{counted_plan}
 use Rattle.cam_node.proofs.state.Core.vote_comes.Goals as goal
 
 pub returns-then-is_over-clause-plan : goal.returns-then-is_over-clause-plan
