@@ -2,7 +2,7 @@
 //! log; then it stands, by calls that take no memory.
 //!
 //! Each kind of change has a variant of [`Change`], an arm of [`Core::stand`] and a case of
-//! `Stands` (`specs/Plans.antt`).
+//! `Stands` (`specs/Standing.antt`).
 ghost use Rattle.std.specs.Prelude.{◌≡◌, ◌≤◌, ◌+◌};
 ghost use Rattle.cam_node.specs.Calls.{answers};
 ghost use Rattle.cam_node.specs.Standing.{HasLearnt, HasRoom, MayChange, MayStand, Stands, places_heard, count_heard};
