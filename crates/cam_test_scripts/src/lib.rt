@@ -11,6 +11,8 @@ mod check;
 #[cfg(test)]
 mod generator;
 #[cfg(test)]
+mod letters;
+#[cfg(test)]
 mod report;
 #[cfg(test)]
 mod script;

@@ -1,14 +1,14 @@
 //! `cam_report`: traces, witnesses, chains and summaries, byte for byte.
 
 use crate::check::same;
+use crate::letters::each_letter_and_note;
 use crate::report::{declared, each_kind};
 use crate::traces::{first_path, given_up};
 use cam_base::NoMemory;
 use cam_cut::CutFault;
-use cam_event::{Body, Deeds, Event, LetterId, Marks, Note, RunRecord, Sent, SentList, Trace};
-use cam_names::{Deps, Name};
+use cam_event::RunRecord;
+use cam_names::Name;
 use cam_report::{summary_text, trace_text, why_text, witness_text};
-use cam_samples::event;
 use cam_why::WhyFault;
 use std::alloc::Global;
 use std::test::Fail;
@@ -39,9 +39,9 @@ event 8 node 1 letter 0 note plain
 ";
 
 /// The trace of a run with the declared objects.
-fn traced(alloc: Global, run: &RunRecord) -> Result<String, Fail> {
+fn traced(alloc: Global, run: &RunRecord) -> Result<String, NoMemory> {
     let script = declared(alloc)?;
-    Ok(trace_text(alloc, &script, run)?)
+    trace_text(alloc, &script, run)
 }
 
 #[test]
@@ -63,11 +63,16 @@ got 1.1.2 1 busy 1.1.1
 legal
 ";
 
+/// The witness of an action in a run with the declared objects.
+fn witness_in(alloc: Global, run: &RunRecord, action: &Name) -> Result<String, CutFault> {
+    let script = declared(alloc)?;
+    witness_text(alloc, &script, run, action)
+}
+
 /// The witness of an action in the first path.
 fn witnessed(alloc: Global, action: &Name) -> Result<Result<String, CutFault>, Fail> {
-    let script = declared(alloc)?;
     let run = first_path(alloc)?;
-    Ok(witness_text(alloc, &script, &run, action))
+    Ok(witness_in(alloc, &run, action))
 }
 
 #[test]
@@ -86,61 +91,6 @@ fn what_was_not_created_has_no_witness(rt: HostRuntime) -> Result<(), Fail> {
     Ok(())
 }
 
-/// A letter of each kind but calls and answers, which other traces have.
-fn each_letter(alloc: Global, family: Name) -> Result<SentList, NoMemory> {
-    let bodies = [
-        Body::Finish {
-            action: family,
-            value: 1,
-            deps: Deps::none(),
-        },
-        Body::Quit { action: family },
-        Body::Prepare { family, count: 1 },
-        Body::Vote {
-            family,
-            count: 1,
-            yes: true,
-        },
-        Body::Query { family },
-        Body::News,
-        Body::Start {
-            child: family,
-            deps: Deps::none(),
-        },
-    ];
-    let mut sent = SentList::new(alloc);
-    for body in bodies {
-        sent.push_copy(&Sent { to: 2, body })?;
-    }
-    Ok(sent)
-}
-
-fn preparing(alloc: Global, family: Name) -> Result<Event, NoMemory> {
-    Ok(Event {
-        node: 1,
-        got: None,
-        deeds: Deeds::new(alloc),
-        sent: each_letter(alloc, family)?,
-        note: Note::Preparing(family),
-    })
-}
-
-/// An event that sends a letter of each of these kinds, and one with each other note.
-fn each_letter_and_note(alloc: Global, family: Name) -> Result<Trace, NoMemory> {
-    let mut trace = Trace::new(alloc);
-    trace.push(preparing(alloc, family)?)?;
-    for (place, note) in [
-        (0, Note::Missed),
-        (1, Note::Again),
-        (2, Note::Ended),
-        (3, Note::Late),
-    ] {
-        let letter = LetterId { event: 0, place };
-        trace.push(event(alloc, 2, Some(letter), &[], note)?)?;
-    }
-    Ok(trace)
-}
-
 const EACH_LETTER_AND_NOTE: &str = "event 0 node 1 letter 0 note preparing
   sent 1 to 2 finish
   sent 2 to 2 quit
@@ -157,10 +107,7 @@ event 4 node 2 letter 4 note late
 
 #[test]
 fn each_letter_and_each_note_is_traced(rt: HostRuntime) -> Result<(), Fail> {
-    let run = RunRecord {
-        trace: each_letter_and_note(rt.alloc(), Name::parse("1.1.1")?)?,
-        marks: Marks::new(rt.alloc()),
-    };
+    let run = each_letter_and_note(rt.alloc())?;
     let text = traced(rt.alloc(), &run)?;
     same(&rt, text.as_str(), EACH_LETTER_AND_NOTE);
     Ok(())

@@ -1,12 +1,12 @@
 //! Traces for the tests of the texts: the first path, and a stop after an abort, event by event.
 
 use cam_base::NoMemory;
-use cam_event::{Body, Deed, Event, LetterId, Marks, Note, Reply, RunRecord, Seen, Sent, Trace};
+use cam_event::{
+    Body, Deed, Deeds, Event, LetterId, Marks, Note, Reply, RunRecord, Seen, Sent, SentList, Trace,
+};
 use cam_know::Reason;
 use cam_names::{Deps, Name};
-use cam_samples::{
-    abort, ask, bounce, call, create, deeds_of, got, got_done, inform, perform, sent_of,
-};
+use cam_samples::{abort, ask, bounce, call, create, got, got_done, inform, perform};
 use cam_type::{Answer, Op};
 use std::alloc::Global;
 use std::test::Fail;
@@ -56,15 +56,27 @@ impl Step {
         }
     }
 
-    fn event(&self, alloc: Global) -> Result<Event, NoMemory> {
-        let mut deeds = deeds_of(alloc, &[])?;
+    /// The deed, where there is one.
+    fn deeds(&self, alloc: Global) -> Result<Deeds, NoMemory> {
+        let mut deeds = Deeds::new(alloc);
         if let Some(deed) = self.deed {
             deeds.push_copy(&deed)?;
         }
-        let mut sent = sent_of(alloc, &[])?;
+        Ok(deeds)
+    }
+
+    /// The letter sent, where there is one.
+    fn letters(&self, alloc: Global) -> Result<SentList, NoMemory> {
+        let mut letters = SentList::new(alloc);
         if let Some(letter) = self.sent {
-            sent.push_copy(&letter)?;
+            letters.push_copy(&letter)?;
         }
+        Ok(letters)
+    }
+
+    fn event(&self, alloc: Global) -> Result<Event, NoMemory> {
+        let deeds = self.deeds(alloc)?;
+        let sent = self.letters(alloc)?;
         Ok(Event {
             node: self.node,
             got: self.got.map(|event| LetterId { event, place: 0 }),
@@ -105,59 +117,62 @@ fn answer_letter(action: Name, number: u32, reply: Reply) -> Body {
     }
 }
 
+/// An action at a node calls the object, whose node is `to`.
+fn calls(node: u8, to: u8, action: Name, number: u32, op: Op) -> Step {
+    let letter = call_letter(action, number, op);
+    Step::at(node, call(action, number, 0, op)).sends(to, letter)
+}
+
+/// The call of the writer comes, and is performed.
+fn performs(writer: Name) -> Step {
+    let letter = answer_letter(writer, 1, Reply::Done(Answer::Ok));
+    Step::at(1, perform(writer, 1, Answer::Ok))
+        .on(2)
+        .sends(1, letter)
+}
+
+/// The call of the reader comes, and meets the lock of the writer.
+fn bounces(reader: Name, writer: Name) -> Step {
+    let letter = answer_letter(reader, 1, Reply::Busy(writer));
+    Step::at(1, bounce(reader, 1, writer))
+        .on(5)
+        .sends(1, letter)
+}
+
+fn first_path_of(alloc: Global, writer: Name, reader: Name) -> Result<RunRecord, NoMemory> {
+    let steps = [
+        Step::at(1, create(writer)),
+        Step::at(1, create(reader)),
+        calls(1, 1, writer, 1, Op::Write(5)),
+        performs(writer),
+        Step::at(1, got_done(writer, 1, Answer::Ok)).on(3),
+        calls(1, 1, reader, 1, Op::Read),
+        bounces(reader, writer),
+        Step::at(1, got(reader, 1, Seen::Busy(writer))).on(6),
+        calls(1, 1, writer, 2, Op::Read),
+    ];
+    record_of(alloc, &steps)
+}
+
 /// An action writes, a second one meets its lock, and the first reads.
 pub(crate) fn first_path(alloc: Global) -> Result<RunRecord, Fail> {
     let writer = Name::parse("1.1.1")?;
     let reader = Name::parse("1.1.2")?;
-    let ok = Answer::Ok;
-    let busy = Reply::Busy(writer);
-    let steps = [
-        Step::at(1, create(writer)),
-        Step::at(1, create(reader)),
-        Step::at(1, call(writer, 1, 0, Op::Write(5))).sends(
-            1,
-            call_letter(writer, 1, Op::Write(5)),
-        ),
-        Step::at(1, perform(writer, 1, ok))
-            .on(2)
-            .sends(1, answer_letter(writer, 1, Reply::Done(ok))),
-        Step::at(1, got_done(writer, 1, ok)).on(3),
-        Step::at(1, call(reader, 1, 0, Op::Read)).sends(1, call_letter(reader, 1, Op::Read)),
-        Step::at(1, bounce(reader, 1, writer))
-            .on(5)
-            .sends(1, answer_letter(reader, 1, busy)),
-        Step::at(1, got(reader, 1, Seen::Busy(writer))).on(6),
-        Step::at(1, call(writer, 2, 0, Op::Read)).sends(1, call_letter(writer, 2, Op::Read)),
-    ];
-    Ok(record_of(alloc, &steps)?)
+    Ok(first_path_of(alloc, writer, reader)?)
 }
 
-/// A parent at node 1 gives its child at node 3 up and tells node 2 so, where the child's call then comes.
-pub(crate) fn given_up(alloc: Global) -> Result<RunRecord, Fail> {
-    let parent = Name::parse("1.1.1")?;
-    let child = Name::parse("1.1.1/3.1.1")?;
+/// The parent asks for its child at node 3.
+fn asks(parent: Name, child: Name) -> Step {
     let start = Body::Start {
         child,
         deps: Deps::none(),
     };
-    let stopped = Step {
-        node: 2,
-        got: Some(6),
-        deed: None,
-        sent: Some(Sent {
-            to: 3,
-            body: answer_letter(child, 1, Reply::Refused),
-        }),
-        note: Note::Stopped(child, Reason::Abort(child)),
-    };
-    let at_home = Step {
-        node: 3,
-        got: Some(7),
-        deed: None,
-        sent: None,
-        note: Note::Stopped(child, Reason::Abort(child)),
-    };
-    let tells = Step {
+    Step::at(1, ask(parent, child)).sends(3, start)
+}
+
+/// The node of the parent tells node 2 what it knows.
+fn tells() -> Step {
+    Step {
         node: 1,
         got: None,
         deed: None,
@@ -166,17 +181,50 @@ pub(crate) fn given_up(alloc: Global) -> Result<RunRecord, Fail> {
             body: Body::News,
         }),
         note: Note::Plain,
-    };
+    }
+}
+
+/// The call of the child comes to node 2, which refuses it.
+fn refuses(child: Name) -> Step {
+    let body = answer_letter(child, 1, Reply::Refused);
+    Step {
+        node: 2,
+        got: Some(6),
+        deed: None,
+        sent: Some(Sent { to: 3, body }),
+        note: Note::Stopped(child, Reason::Abort(child)),
+    }
+}
+
+/// The refusal comes to the child's node.
+fn is_refused(child: Name) -> Step {
+    Step {
+        node: 3,
+        got: Some(7),
+        deed: None,
+        sent: None,
+        note: Note::Stopped(child, Reason::Abort(child)),
+    }
+}
+
+fn given_up_by(alloc: Global, parent: Name, child: Name) -> Result<RunRecord, NoMemory> {
     let steps = [
         Step::at(1, create(parent)),
-        Step::at(1, ask(parent, child)).sends(3, start),
+        asks(parent, child),
         Step::at(3, create(child)).on(1),
         Step::at(1, abort(child)),
-        tells,
+        tells(),
         Step::at(2, inform(2, child, false)).on(4),
-        Step::at(3, call(child, 1, 0, Op::Read)).sends(2, call_letter(child, 1, Op::Read)),
-        stopped,
-        at_home,
+        calls(3, 2, child, 1, Op::Read),
+        refuses(child),
+        is_refused(child),
     ];
-    Ok(record_of(alloc, &steps)?)
+    record_of(alloc, &steps)
+}
+
+/// A parent at node 1 gives its child at node 3 up and tells node 2 so, where the child's call then comes.
+pub(crate) fn given_up(alloc: Global) -> Result<RunRecord, Fail> {
+    let parent = Name::parse("1.1.1")?;
+    let child = Name::parse("1.1.1/3.1.1")?;
+    Ok(given_up_by(alloc, parent, child)?)
 }
