@@ -6,12 +6,18 @@ use cam_names::Name;
 use std::alloc::Global;
 use std::test::Fail;
 
-/// The command of the words of a line.
-fn read(alloc: Global, line: &str) -> Result<Result<Command, ArgsFault>, Fail> {
+/// The words of a line.
+fn words_of(alloc: Global, line: &str) -> Result<Vec<String>, Fail> {
     let mut words = Vec::new(alloc);
     for word in line.split_whitespace() {
         words.push(String::from_str(alloc, word)?)?;
     }
+    Ok(words)
+}
+
+/// The command of the words of a line.
+fn read(alloc: Global, line: &str) -> Result<Result<Command, ArgsFault>, Fail> {
+    let words = words_of(alloc, line)?;
     Ok(read_words(alloc, words.as_slice()))
 }
 

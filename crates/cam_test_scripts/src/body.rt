@@ -58,24 +58,29 @@ enum Told {
     AbortAsked,
 }
 
+/// The step, with this name wherever it has one.
+fn step_of(told: Told, name: Name) -> ViewStep {
+    match told {
+        Told::Created => ViewStep::Created,
+        Told::Called => ViewStep::Called(1, 0, Op::Read),
+        Told::Busy => ViewStep::Got(1, Seen::Busy(name)),
+        Told::Gone => ViewStep::Got(1, Seen::Gone),
+        Told::Ok => ViewStep::Got(1, Seen::Done(Answer::Ok)),
+        Told::Empty => ViewStep::Got(1, Seen::Done(Answer::Empty)),
+        Told::Value(value) => ViewStep::Got(1, Seen::Done(Answer::Value(value))),
+        Told::Asked => ViewStep::Asked(name),
+        Told::Child(value) => ViewStep::Child(name, value),
+        Told::CommitAsked => ViewStep::CommitAsked(0),
+        Told::AbortAsked => ViewStep::AbortAsked,
+    }
+}
+
 /// Adds a step to a view. The names in it are all the same.
 fn push(view: &mut View, told: Told) -> Result<(), Fail> {
     let Some(part) = Part::new(2, 1, 1) else {
         return Err(Fail::new("no part"));
     };
-    let step = match told {
-        Told::Created => ViewStep::Created,
-        Told::Called => ViewStep::Called(1, 0, Op::Read),
-        Told::Busy => ViewStep::Got(1, Seen::Busy(Name::top(part))),
-        Told::Gone => ViewStep::Got(1, Seen::Gone),
-        Told::Ok => ViewStep::Got(1, Seen::Done(Answer::Ok)),
-        Told::Empty => ViewStep::Got(1, Seen::Done(Answer::Empty)),
-        Told::Value(value) => ViewStep::Got(1, Seen::Done(Answer::Value(value))),
-        Told::Asked => ViewStep::Asked(Name::top(part)),
-        Told::Child(value) => ViewStep::Child(Name::top(part), value),
-        Told::CommitAsked => ViewStep::CommitAsked(0),
-        Told::AbortAsked => ViewStep::AbortAsked,
-    };
+    let step = step_of(told, Name::top(part));
     view.push_copy(&step)?;
     Ok(())
 }
@@ -94,6 +99,18 @@ fn is_next(alloc: Global, body: &BodyText, view: &View, expected: &str) -> Resul
     Ok(next.as_str() == expected)
 }
 
+/// Whether the action does this next, once the step is added to its view.
+fn is_next_after(
+    alloc: Global,
+    body: &BodyText,
+    view: &mut View,
+    told: Told,
+    expected: &str,
+) -> Result<bool, Fail> {
+    push(view, told)?;
+    is_next(alloc, body, view, expected)
+}
+
 /// The first step of a view after which the action does not do what stands beside the step.
 fn first_wrong(
     alloc: Global,
@@ -101,10 +118,18 @@ fn first_wrong(
     steps: &[(Told, &str)],
 ) -> Result<Option<usize>, Fail> {
     let body = body(alloc, statements)?;
+    first_wrong_of(alloc, &body, steps)
+}
+
+/// The same of an action with this body.
+fn first_wrong_of(
+    alloc: Global,
+    body: &BodyText,
+    steps: &[(Told, &str)],
+) -> Result<Option<usize>, Fail> {
     let mut view = View::new(alloc);
     for (i, (told, expected)) in steps.iter().enumerate() {
-        push(&mut view, *told)?;
-        if !is_next(alloc, &body, &view, expected)? {
+        if !is_next_after(alloc, body, &mut view, *told, expected)? {
             return Ok(Some(i));
         }
     }
@@ -170,13 +195,20 @@ fn sums_wrap_and_ok_leaves_nothing(rt: HostRuntime) -> Result<(), Fail> {
     Ok(())
 }
 
-/// The body of the child for which `TRANSFER` asks after these steps.
-fn child_after(alloc: Global, steps: &[Told]) -> Result<Option<u8>, Fail> {
+/// A view of these steps.
+fn view_of(alloc: Global, steps: &[Told]) -> Result<View, Fail> {
     let mut view = View::new(alloc);
     for told in steps {
         push(&mut view, *told)?;
     }
-    Ok(child_body(&body(alloc, &TRANSFER)?, &view))
+    Ok(view)
+}
+
+/// The body of the child for which `TRANSFER` asks after these steps.
+fn child_after(alloc: Global, steps: &[Told]) -> Result<Option<u8>, Fail> {
+    let view = view_of(alloc, steps)?;
+    let body = body(alloc, &TRANSFER)?;
+    Ok(child_body(&body, &view))
 }
 
 #[test]
