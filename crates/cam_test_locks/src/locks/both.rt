@@ -6,7 +6,7 @@ use cam_base::NoMemory;
 use cam_know::Know;
 use cam_locks::{Grant, LockTable, may_restore};
 use cam_names::Name;
-use cam_type::{DataType, HeldList, Kind, Objects, Op, State};
+use cam_type::{DataType, HeldList, HeldOps, Kind, Objects, Op, State};
 use std::alloc::Global;
 
 /// Asks for an operation, with a server of the object's kind.
@@ -125,19 +125,21 @@ impl Both {
     /// The values that are handed up past the top.
     pub(super) fn value(&self, object: u8) -> Result<bool, NoMemory> {
         let one = self.plain.value(&self.objects, object, true)?;
-        Ok(one.is_some() && one == value_of(&self.locks, object)?)
+        let other = value_of(&self.locks, object)?;
+        Ok(one.is_some() && one == other)
     }
 
     /// Whether something of a family stands there, and what is secured of it.
     pub(super) fn family(&self, family: &Name) -> Result<bool, NoMemory> {
         let one = self.plain.secured(family)?;
-        let other = self.locks.secure(family, 7)?;
-        Ok(
-            self.locks.has_family(family) != one.is_empty()
-                && other.family == *family
-                && other.count == 7
-                && other.ops == one,
-        )
+        let is_secured = self.secures(family, &one)?;
+        Ok(is_secured && self.locks.has_family(family) != one.is_empty())
+    }
+
+    /// Whether this is what is secured of a family.
+    fn secures(&self, family: &Name, ops: &HeldOps) -> Result<bool, NoMemory> {
+        let held = self.locks.secure(family, 7)?;
+        Ok(held.family == *family && held.count == 7 && held.ops == *ops)
     }
 
     /// Goes on with a copy.

@@ -123,6 +123,11 @@ impl PlainTable {
             self.take_over(family, know)?;
         }
         self.live.sort_unstable_by_key(|operation| operation.index);
+        self.commit_all(know)
+    }
+
+    /// Takes in the commits that are known.
+    fn commit_all(&mut self, know: &Know) -> Result<(), NoMemory> {
         for outcome in know.outcomes() {
             if let Outcome::Committed(name, _) = outcome {
                 self.commit(name)?;

@@ -8,7 +8,7 @@ use cam_base::NoMemory;
 use cam_know::{Know, Outcome};
 use cam_locks::{LockTable, may_restore};
 use cam_names::{Deps, Name};
-use cam_type::{Answer, Held, HeldList, HeldOp, HeldOps, Op};
+use cam_type::{Answer, Held, HeldList, HeldOp, HeldOps, Objects, Op};
 use std::alloc::Global;
 use std::test::Fail;
 
@@ -119,24 +119,40 @@ fn two_outcomes(alloc: Global) -> Result<Know, Fail> {
     Ok(know)
 }
 
+/// The table of these objects after a restart with these families, of which this is known.
+fn restored_with(
+    alloc: Global,
+    objects: &Objects,
+    held: &HeldList,
+    know: &Know,
+) -> Result<LockTable, Fail> {
+    if !may_restore(alloc, objects, 1, held)? {
+        return Err(Fail::new("cannot be restored"));
+    }
+    Ok(LockTable::restore(alloc, objects, 1, held, know)?)
+}
+
 /// The table after a restart with these families, of which this is known.
 fn restored(alloc: Global, held: &HeldList, know: &Know) -> Result<LockTable, Fail> {
     let objects = objects(alloc)?;
-    if !may_restore(alloc, &objects, 1, held)? {
-        return Err(Fail::new("cannot be restored"));
-    }
-    Ok(LockTable::restore(alloc, &objects, 1, held, know)?)
+    restored_with(alloc, &objects, held, know)
 }
 
-/// The table after a restart of three families that wrote the register, of two of which the outcome is known.
-fn table_after_a_restart(alloc: Global) -> Result<LockTable, Fail> {
-    let know = two_outcomes(alloc)?;
+/// What is held of three families that wrote the register.
+fn three_writers(alloc: Global) -> Result<HeldList, Fail> {
     let writes = [
         ("1.1.1", write(9, 9)),
         ("1.1.2", write(5, 5)),
         ("1.1.3", write(3, 3)),
     ];
-    restored(alloc, &held_of(alloc, &writes)?, &know)
+    held_of(alloc, &writes)
+}
+
+/// The table after a restart of three families that wrote the register, of two of which the outcome is known.
+fn table_after_a_restart(alloc: Global) -> Result<LockTable, Fail> {
+    let know = two_outcomes(alloc)?;
+    let held = three_writers(alloc)?;
+    restored(alloc, &held, &know)
 }
 
 #[test]
@@ -146,6 +162,12 @@ fn a_restart_keeps_what_was_secured_and_not_aborted(rt: HostRuntime) -> Result<(
     play(rt.alloc(), &mut table, "restarted", &RESTARTED)
 }
 
+/// The table after a restart with these families, of which nothing is known.
+fn restored_unknown(alloc: Global, held: &HeldList) -> Result<LockTable, Fail> {
+    let know = Know::new(alloc);
+    restored(alloc, held, &know)
+}
+
 /// Plays a scene after a restart with these families, of which nothing is known.
 fn play_restored(
     alloc: Global,
@@ -153,7 +175,7 @@ fn play_restored(
     name: &str,
     scene: &[Step<'_>],
 ) -> Result<(), Fail> {
-    let mut table = restored(alloc, held, &Know::new(alloc))?;
+    let mut table = restored_unknown(alloc, held)?;
     play(alloc, &mut table, name, scene)
 }
 
@@ -164,13 +186,19 @@ fn two_restored_writers_stand_in_each_others_way(rt: HostRuntime) -> Result<(), 
     play_restored(rt.alloc(), &held, "two writers", &TWO_WRITERS)
 }
 
+/// Adds what is secured of a family.
+fn secure(table: &LockTable, held: &mut HeldList, family: &str) -> Result<(), Fail> {
+    let family = Name::parse(family)?;
+    let one = table.secure(&family, 1)?;
+    held.push(one)?;
+    Ok(())
+}
+
 /// What is secured of two families.
 fn secured(alloc: Global, table: &LockTable) -> Result<HeldList, Fail> {
-    let second = Name::parse("1.1.2")?;
-    let first = Name::parse("1.1.1")?;
     let mut held = HeldList::new(alloc);
-    held.push(table.secure(&second, 1)?)?;
-    held.push(table.secure(&first, 1)?)?;
+    secure(table, &mut held, "1.1.2")?;
+    secure(table, &mut held, "1.1.1")?;
     Ok(held)
 }
 
@@ -205,12 +233,17 @@ fn adds_that_were_secured_are_added_after_a_restart(rt: HostRuntime) -> Result<(
     play_restored(rt.alloc(), &held, "secured adds", &SECURED_ADDS)
 }
 
+/// Whether these families can be restored at a node.
+fn may_restore_at(alloc: Global, node: u8, held: &HeldList) -> Result<bool, NoMemory> {
+    let objects = objects(alloc)?;
+    may_restore(alloc, &objects, node, held)
+}
+
 /// Whether two families can be restored at a node: one wrote the register under the index 3, and this is what the other
 /// did.
 fn may_be_restored(alloc: Global, node: u8, second: &HeldOp) -> Result<bool, Fail> {
     let held = held_of(alloc, &[("1.1.1", write(3, 1)), ("1.1.2", *second)])?;
-    let objects = objects(alloc)?;
-    Ok(may_restore(alloc, &objects, node, &held)?)
+    Ok(may_restore_at(alloc, node, &held)?)
 }
 
 /// What the other did, and whether both can be restored at node 1.

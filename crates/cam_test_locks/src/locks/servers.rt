@@ -94,19 +94,42 @@ struct Tried {
     asked: u32,
 }
 
+/// Whether the table wants memory when its server does.
+fn wants_memory(
+    table: &mut LockTable,
+    server: &mut Counting<RegisterServer>,
+) -> Result<bool, Fail> {
+    let name = Name::parse("1.1.1")?;
+    server.wants_memory = true;
+    let wants_memory = ask_with(table, &name, REGISTER, &Op::Write(5), server).is_err();
+    server.wants_memory = false;
+    Ok(wants_memory)
+}
+
+/// What another action is told.
+fn told_another(
+    table: &mut LockTable,
+    server: &mut Counting<RegisterServer>,
+) -> Result<Told, Fail> {
+    let name = Name::parse("1.1.2")?;
+    let told = ask_with(table, &name, REGISTER, &Op::Swap(6), server)?;
+    Ok(told)
+}
+
+/// What the register holds past the top.
+fn register_of(table: &LockTable) -> Result<Option<i64>, NoMemory> {
+    match value_of(table, REGISTER)? {
+        Some(State::Register(value)) => Ok(Some(value)),
+        _ => Ok(None),
+    }
+}
+
 /// Asks twice, with a server that wants memory at the first time.
 fn try_twice(table: &mut LockTable, server: &mut Counting<RegisterServer>) -> Result<Tried, Fail> {
-    let one = Name::parse("1.1.1")?;
-    let other = Name::parse("1.1.2")?;
-    server.wants_memory = true;
-    let wanted_memory = ask_with(table, &one, REGISTER, &Op::Write(5), server).is_err();
+    let wanted_memory = wants_memory(table, server)?;
     let next_index = table.next_index();
-    server.wants_memory = false;
-    let told = ask_with(table, &other, REGISTER, &Op::Swap(6), server)?;
-    let register = match value_of(table, REGISTER)? {
-        Some(State::Register(value)) => Some(value),
-        _ => None,
-    };
+    let told = told_another(table, server)?;
+    let register = register_of(table)?;
     Ok(Tried {
         wanted_memory,
         next_index,
@@ -118,8 +141,8 @@ fn try_twice(table: &mut LockTable, server: &mut Counting<RegisterServer>) -> Re
 
 /// What is seen of a new table and a new server.
 fn tried_anew(alloc: Global) -> Result<Tried, Fail> {
-    let mut server = Counting::new(RegisterServer::new());
     let mut table = new_table(alloc)?;
+    let mut server = Counting::new(RegisterServer::new());
     try_twice(&mut table, &mut server)
 }
 

@@ -81,7 +81,7 @@ fn take_step(
     step: &Step<'_>,
 ) -> Result<(), Fail> {
     let seen = seen_at_last(table, servers, step)?;
-    if seen == expected_at(step)? {
+    if is_expected(step, &seen)? {
         return Ok(());
     }
     Err(Fail::new(format_args!("{name}, step {place}: {seen:?}")))
@@ -97,6 +97,12 @@ fn seen_at_last(
         Ok(seen) => Ok(seen),
         Err(NoMemory) => seen_at(table, servers, step),
     }
+}
+
+/// Whether this has to be seen.
+fn is_expected(step: &Step<'_>, seen: &Seen) -> Result<bool, Fail> {
+    let expected = expected_at(step)?;
+    Ok(*seen == expected)
 }
 
 /// What the table has to answer.
@@ -128,8 +134,8 @@ fn seen_at(
         Step::Commit(name) => commits(table, name),
         Step::Abort(name) => aborts(table, name),
         Step::Copy => goes_on_with_a_copy(table),
-        Step::Register(_) => Ok(Seen::Holds(value_of(table, REGISTER)?)),
-        Step::Counter(_) => Ok(Seen::Holds(value_of(table, COUNTER)?)),
+        Step::Register(_) => holds(table, REGISTER),
+        Step::Counter(_) => holds(table, COUNTER),
         Step::Secured(name, _) => secures(table, name),
         Step::Asked(_) => Ok(Seen::Asked(servers.asked())),
     }
@@ -173,6 +179,11 @@ fn aborts(table: &mut LockTable, name: &str) -> Result<Seen, NoMemory> {
         }
         Err(fault) => Ok(Seen::NoName(fault)),
     }
+}
+
+fn holds(table: &LockTable, object: u8) -> Result<Seen, NoMemory> {
+    let state = value_of(table, object)?;
+    Ok(Seen::Holds(state))
 }
 
 fn secures(table: &LockTable, name: &str) -> Result<Seen, NoMemory> {
