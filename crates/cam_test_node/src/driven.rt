@@ -1,10 +1,10 @@
-//! A node that is driven by lines.
+//! A node that is driven by lines. One function alone owns it, since what a function does with a node of its own is long to prove.
 use crate::inputs::Line;
 use crate::words::{event_text, letter_text};
 use cam_base::NoMemory;
 use cam_ckpt::{CheckpointLog, Ckpt};
 use cam_disk::{Disk, MemoryDisk, StopDisk};
-use cam_event::LineRefusal;
+use cam_event::{Event, Letter, LineRefusal, Sent};
 use cam_node::{Found, Input, Node, NodeFault, Restarted, Stepped};
 use cam_type::{CounterServer, ObjectDecl, Objects, QueueServer, RegisterServer, State};
 use std::alloc::Global;
@@ -31,94 +31,99 @@ enum Refusal {
     MayNotStep,
 }
 
-/// Node 1 over a disk that can be stopped. Object 0 is a register at node 1, which begins with 5, and object 1 is a counter at node 2.
-#[derive(Drop)]
-pub(crate) struct Driven {
+/// Takes the rows of a table in order, at node 1 over a disk that can be stopped, to which nothing has happened. Object 0 is a register at node 1,
+/// which begins with 5, and object 1 is a counter at node 2. It fails at the first row that does not come to what stands after its bar, and tells
+/// what it comes to.
+pub(crate) fn check_rows(alloc: Global, table: &str) -> Result<(), Fail> {
+    let objects = two_objects(alloc)?;
+    check_rows_over(alloc, objects, MemoryDisk::new(alloc), table)
+}
+
+/// The same over this disk, of a node with these objects.
+fn check_rows_over<D: Disk>(
     alloc: Global,
-    node: Node<Ckpt<StopDisk<MemoryDisk>>>,
-}
-
-impl Driven {
-    /// Nothing has happened to it.
-    pub(crate) fn new(alloc: Global) -> Result<Driven, Fail> {
-        let disk = StopDisk::new(MemoryDisk::new(alloc));
-        match Node::format(alloc, 1, two_objects(alloc)?, disk) {
-            Ok(node) => Ok(Driven { alloc, node }),
-            Err(refused) => Err(refused.fault.into()),
-        }
-    }
-
-    /// The disk does this many calls more.
-    pub(crate) fn stop_after(&mut self, calls: u32) {
-        stop_after(&mut self.node, calls);
-    }
-
-    /// The disk goes on.
-    fn clear(&mut self) {
-        clear(&mut self.node);
-    }
-
-    fn restart(&mut self) -> Result<String, Fail> {
-        restarted(self.alloc, &mut self.node)
-    }
-
-    fn told(&mut self, to: u8) -> Result<String, Fail> {
-        told(self.alloc, &mut self.node, to)
-    }
-
-    fn put(&mut self, input: &Input) -> Result<String, Fail> {
-        stepped(self.alloc, &mut self.node, input)
-    }
-
-    /// Takes the rows of a table in order, and fails at the first that does not come to what stands after its bar.
-    fn check_rows(&mut self, table: &str) -> Result<(), Fail> {
-        for row in table.lines() {
-            let Some((line, want)) = row.split_once(" | ") else {
-                return Err(Fail::new("a row has no bar"));
-            };
-            self.check_row(line, want)?;
-        }
-        Ok(())
-    }
-
-    /// Fails where the line does not come to this, and tells what it comes to.
-    fn check_row(&mut self, line: &str, want: &str) -> Result<(), Fail> {
-        let told = self.take(line)?;
-        if told.as_str() == want {
-            Ok(())
-        } else {
-            Err(Fail::new(format!(in self.alloc; "{line} | {told}")?))
-        }
-    }
-
-    /// What a line comes to, in words.
-    pub(crate) fn take(&mut self, line: &str) -> Result<String, Fail> {
-        match Line::read(self.alloc, line)? {
-            Line::Stop(calls) => {
-                self.stop_after(calls);
-                Ok(String::from_str(self.alloc, "stopped")?)
-            }
-            Line::Clear => {
-                self.clear();
-                Ok(String::from_str(self.alloc, "cleared")?)
-            }
-            Line::Restart => self.restart(),
-            Line::Told(to) => self.told(to),
-            Line::Put(input) => self.put(&input),
-        }
+    objects: Objects,
+    disk: D,
+    table: &str,
+) -> Result<(), Fail> {
+    match Node::format(alloc, 1, objects, StopDisk::new(disk)) {
+        Ok(mut node) => check_table(alloc, &mut node, table),
+        Err(refused) => Err(refused.fault.into()),
     }
 }
 
-fn stop_after<D: Disk>(node: &mut Node<Ckpt<StopDisk<D>>>, calls: u32) {
+/// Takes the rows of a table in order, and fails at the first that does not come to what stands after its bar.
+fn check_table<D: Disk>(
+    alloc: Global,
+    node: &mut Node<Ckpt<StopDisk<D>>>,
+    table: &str,
+) -> Result<(), Fail> {
+    for row in table.lines() {
+        check_row(alloc, node, table, row)?;
+    }
+    Ok(())
+}
+
+/// Fails where the row of a table has no bar, and where it does not come to what stands after that.
+fn check_row<D: Disk>(
+    alloc: Global,
+    node: &mut Node<Ckpt<StopDisk<D>>>,
+    table: &str,
+    row: &str,
+) -> Result<(), Fail> {
+    let Some((line, want)) = row.split_once(" | ") else {
+        return Err(Fail::new("a row has no bar"));
+    };
+    let told = take(alloc, node, line)?;
+    check_told(table, line, &told, want)
+}
+
+/// Fails where the line of a table does not come to this, and tells what it comes to, and of which table it is.
+fn check_told(table: &str, line: &str, told: &str, want: &str) -> Result<(), Fail> {
+    if told == want {
+        return Ok(());
+    }
+    Err(Fail::new(format_args!("{line} | {told}, in the table: {table}")))
+}
+
+/// What a line comes to, in words.
+fn take<D: Disk>(
+    alloc: Global,
+    node: &mut Node<Ckpt<StopDisk<D>>>,
+    line: &str,
+) -> Result<String, Fail> {
+    match Line::read(alloc, line)? {
+        Line::Stop(calls) => stopped(alloc, node, calls),
+        Line::Clear => cleared(alloc, node),
+        Line::Restart => restarted(alloc, node),
+        Line::Told(to) => told(alloc, node, to),
+        Line::Put(input) => stepped(alloc, node, &input),
+    }
+}
+
+/// The disk does this many calls more.
+fn stopped<D: Disk>(
+    alloc: Global,
+    node: &mut Node<Ckpt<StopDisk<D>>>,
+    calls: u32,
+) -> Result<String, Fail> {
     node.stop_after(calls);
+    words(alloc, "stopped")
 }
 
-fn clear<D: Disk>(node: &mut Node<Ckpt<StopDisk<D>>>) {
+/// The disk goes on.
+fn cleared<D: Disk>(alloc: Global, node: &mut Node<Ckpt<StopDisk<D>>>) -> Result<String, Fail> {
     node.clear();
+    words(alloc, "cleared")
+}
+
+/// These words, as they stand.
+fn words(alloc: Global, words: &str) -> Result<String, Fail> {
+    Ok(String::from_str(alloc, words)?)
 }
 
 /// The two objects.
-pub(crate) fn two_objects(alloc: Global) -> Result<Objects, NoMemory> {
+fn two_objects(alloc: Global) -> Result<Objects, NoMemory> {
     let mut objects = Objects::new(alloc);
     objects.push(ObjectDecl {
         node: 1,
@@ -165,10 +170,7 @@ fn stepped<L: CheckpointLog>(
 }
 
 /// What a restart of a node comes to.
-pub(crate) fn restarted<L: CheckpointLog>(
-    alloc: Global,
-    node: &mut Node<L>,
-) -> Result<String, Fail> {
+fn restarted<L: CheckpointLog>(alloc: Global, node: &mut Node<L>) -> Result<String, Fail> {
     match node.restart() {
         Ok(restarted) => restarted_text(alloc, &restarted),
         Err(fault) => fault_text(alloc, fault, node.is_halted()),
@@ -186,10 +188,7 @@ fn restarted_text(alloc: Global, restarted: &Restarted) -> Result<String, Fail> 
 /// Adds what was found to the text.
 fn tell_found(alloc: Global, text: &mut String, found: &Found) -> Result<(), Fail> {
     if let Some(event) = &found.event {
-        if event.node != 1 {
-            return Err(Fail::new("an event of another node was found"));
-        }
-        write!(text, "; found {}", event_text(alloc, event)?)?;
+        tell_found_event(alloc, text, event)?;
     }
     if found.restarts > 0 {
         write!(text, "; restarts before {}", found.restarts)?;
@@ -197,12 +196,18 @@ fn tell_found(alloc: Global, text: &mut String, found: &Found) -> Result<(), Fai
     Ok(())
 }
 
+/// Adds the event of the halt, which is one of node 1, to the text.
+fn tell_found_event(alloc: Global, text: &mut String, event: &Event) -> Result<(), Fail> {
+    if event.node != 1 {
+        return Err(Fail::new("an event of another node was found"));
+    }
+    text.push_str("; found ")?;
+    text.push_str(&event_text(alloc, event)?)?;
+    Ok(())
+}
+
 /// The letter by which a node tells another what it knows.
-pub(crate) fn told<L: CheckpointLog>(
-    alloc: Global,
-    node: &mut Node<L>,
-    to: u8,
-) -> Result<String, Fail> {
+fn told<L: CheckpointLog>(alloc: Global, node: &mut Node<L>, to: u8) -> Result<String, Fail> {
     match put(alloc, node, &Input::Tell(to)) {
         Reaction::Stepped(stepped) => first_letter_text(alloc, &stepped),
         Reaction::Fault(fault) => fault_text(alloc, fault, node.is_halted()),
@@ -229,16 +234,16 @@ fn stepped_text(alloc: Global, stepped: &Stepped) -> Result<String, Fail> {
 /// What stands against an input.
 fn refusal_text(alloc: Global, refusal: Refusal) -> Result<String, Fail> {
     match refusal {
-        Refusal::Halted => Ok(String::from_str(alloc, "halted before")?),
+        Refusal::Halted => words(alloc, "halted before"),
         Refusal::Line(refusal) => Ok(format!(in alloc; "refused {refusal:?}")?),
-        Refusal::MayNotStep => Ok(String::from_str(alloc, "may not be put to a node")?),
+        Refusal::MayNotStep => words(alloc, "may not be put to a node"),
     }
 }
 
 fn fault_text(alloc: Global, fault: NodeFault, is_halted: bool) -> Result<String, Fail> {
     match fault {
-        NodeFault::DiskFault if is_halted => Ok(String::from_str(alloc, "disk fault, halted")?),
-        NodeFault::DiskFault => Ok(String::from_str(alloc, "disk fault")?),
+        NodeFault::DiskFault if is_halted => words(alloc, "disk fault, halted"),
+        NodeFault::DiskFault => words(alloc, "disk fault"),
         NodeFault::NoMemory => Err(fault.into()),
     }
 }
@@ -248,17 +253,14 @@ fn are_of_event(stepped: &Stepped) -> bool {
     let mut letters = stepped.letters.as_slice().iter();
     for sent in stepped.event.sent.as_slice() {
         match letters.next() {
-            Some(letter) if letter.to == sent.to && letter.body == sent.body && letter.from == 1 =>
-                {}
+            Some(letter) if is_sent(letter, sent) => {}
             _ => return false,
         }
     }
     letters.next().is_none()
 }
 
-/// Takes the rows of a table in order, at a node to which nothing has happened. It fails at the first that does not come to what stands after
-/// its bar, and tells what it comes to.
-pub(crate) fn check_rows(alloc: Global, table: &str) -> Result<(), Fail> {
-    let mut driven = Driven::new(alloc)?;
-    driven.check_rows(table)
+/// Whether a letter is the one that was sent, from node 1.
+fn is_sent(letter: &Letter, sent: &Sent) -> bool {
+    letter.from == 1 && letter.to == sent.to && letter.body == sent.body
 }

@@ -1,7 +1,7 @@
 //! A disk that stops at each device call of an append and of a restart. An append takes four calls. A restart reads in three, and replaces
 //! its list in seven, of which the sixth lets the new list count. The restart that comes to its end tells what the log has of the event at
 //! which the node halted, and how many restarts that failed had reached the log: `found.rt` has more of that.
-use crate::driven::{Driven, check_rows};
+use crate::driven::check_rows;
 use std::alloc::Global;
 use std::test::Fail;
 
@@ -105,34 +105,17 @@ fn a_step_without_an_entry_is_not_stopped(rt: HostRuntime) -> Result<(), Fail> {
     check_rows(rt.alloc(), SILENT)
 }
 
-/// What a restart comes to whose disk did so many calls, what one more comes to, and what the node tells then: its count says whether the
-/// first was done.
-fn restarted_at(alloc: Global, calls: u32) -> Result<String, Fail> {
-    let mut driven = Driven::new(alloc)?;
-    driven.stop_after(calls);
-    restarted_twice(alloc, &mut driven)
+/// Fails where a restart whose disk does so many calls does not come to the first of these rows, or what follows it to the others. One more restart
+/// follows, and what the node tells then: its count says whether the first restart was done.
+fn check_restart(alloc: Global, calls: u32, rows: &str) -> Result<(), Fail> {
+    let table = format!(in alloc; "stop {calls} | stopped\n{rows}")?;
+    check_rows(alloc, &table)
 }
 
-fn restarted_twice(alloc: Global, driven: &mut Driven) -> Result<String, Fail> {
-    let first = driven.take("restart")?;
-    driven.take("clear")?;
-    let second = driven.take("restart")?;
-    let told = driven.take("told 2")?;
-    Ok(format!(in alloc; "{first} | {second} | {told}")?)
-}
-
-const LOST_RESTART: &str =
-    "disk fault, halted | plain, crash 1 | to 2 count 2 have 0 place 0 knows 1 2 news";
-
-/// Fails where a restart whose disk did so many calls comes to something else.
-fn check_restart(alloc: Global, calls: u32, want: &str) -> Result<(), Fail> {
-    let told = restarted_at(alloc, calls)?;
-    if told.as_str() == want {
-        Ok(())
-    } else {
-        Err(Fail::new(format!(in alloc; "after {calls} calls: {told}")?))
-    }
-}
+const LOST_RESTART: &str = "restart | disk fault, halted
+clear | cleared
+restart | plain, crash 1
+told 2 | to 2 count 2 have 0 place 0 knows 1 2 news";
 
 /// The new list does not count before the ninth call.
 #[test]
@@ -143,8 +126,10 @@ fn a_restart_is_lost_at_its_first_nine_calls(rt: HostRuntime) -> Result<(), Fail
     Ok(())
 }
 
-const TAKEN_RESTART: &str =
-    "disk fault, halted | plain, crash 1; restarts before 1 | to 2 count 3 have 0 place 0 knows 1 3 news";
+const TAKEN_RESTART: &str = "restart | disk fault, halted
+clear | cleared
+restart | plain, crash 1; restarts before 1
+told 2 | to 2 count 3 have 0 place 0 knows 1 3 news";
 
 /// The tenth call fails, and the new list counts all the same.
 #[test]
@@ -152,8 +137,10 @@ fn a_restart_is_taken_at_its_tenth_call(rt: HostRuntime) -> Result<(), Fail> {
     check_restart(rt.alloc(), 9, TAKEN_RESTART)
 }
 
-const WHOLE_RESTART: &str =
-    "plain, crash 1 | plain, crash 1 | to 2 count 3 have 0 place 0 knows 1 3 news";
+const WHOLE_RESTART: &str = "restart | plain, crash 1
+clear | cleared
+restart | plain, crash 1
+told 2 | to 2 count 3 have 0 place 0 knows 1 3 news";
 
 #[test]
 fn a_restart_takes_ten_calls(rt: HostRuntime) -> Result<(), Fail> {
