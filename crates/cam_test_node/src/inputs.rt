@@ -1,4 +1,6 @@
 //! Inputs of node 1, read from lines of words.
+mod bodies;
+
 use cam_event::{Body, Letter, LetterId, Reply, Request, Want};
 use cam_know::{Know, Outcome};
 use cam_names::{Deps, Name};
@@ -26,14 +28,6 @@ impl Line {
     pub(crate) fn read(alloc: Global, line: &str) -> Result<Line, Fail> {
         Words::of(line).line(alloc)
     }
-}
-
-/// What a letter brings besides what it says.
-#[derive(Drop)]
-struct Brought {
-    know: Know,
-    have: u64,
-    place: u64,
 }
 
 /// The words of a line that are not read yet. One blank stands between two.
@@ -120,13 +114,18 @@ impl<'a> Words<'a> {
         self.expect("deps")?;
         let mut deps = Deps::none();
         for pair in self.rest.split(" ") {
-            let Some((node, count)) = pair.split_once(':') else {
-                return Err(Fail::new("no pair of a node and a count"));
-            };
-            deps = with(&deps, node.parse::<u8>()?, count.parse::<u32>()?)?;
+            deps = with_pair(&deps, pair)?;
         }
         Ok(deps)
     }
+}
+
+/// These, and one more: `2:1`, a node and its count.
+fn with_pair(deps: &Deps, pair: &str) -> Result<Deps, Fail> {
+    let Some((node, count)) = pair.split_once(':') else {
+        return Err(Fail::new("no pair of a node and a count"));
+    };
+    with(deps, node.parse::<u8>()?, count.parse::<u32>()?)
 }
 
 fn with(deps: &Deps, node: u8, count: u32) -> Result<Deps, Fail> {
@@ -149,19 +148,26 @@ impl Words<'_> {
 
     /// The input whose line begins so: `begin`; a request (`ask 1.1.1 2`); a letter (`from 2 news`); `tell 2`, `query 1.1.1`.
     fn input(&mut self, alloc: Global, first: &str) -> Result<Input, Fail> {
-        Ok(match first {
-            "begin" => Input::Begin,
-            "from" => {
-                let id = LetterId { event: 0, place: 0 };
-                Input::Letter(id, self.letter(alloc)?)
-            }
-            "tell" => Input::Tell(self.small()?),
-            "query" => Input::Query(self.name()?),
-            other => Input::Request(Request {
-                action: self.name()?,
-                want: self.want(other)?,
-            }),
-        })
+        match first {
+            "begin" => Ok(Input::Begin),
+            "from" => self.arrival(alloc),
+            "tell" => Ok(Input::Tell(self.small()?)),
+            "query" => Ok(Input::Query(self.name()?)),
+            want => self.request(want),
+        }
+    }
+
+    /// A letter that comes, as the first of event 0.
+    fn arrival(&mut self, alloc: Global) -> Result<Input, Fail> {
+        let letter = self.letter(alloc)?;
+        Ok(Input::Letter(LetterId { event: 0, place: 0 }, letter))
+    }
+
+    /// What an action wants, by the word that stands before the action.
+    fn request(&mut self, want: &str) -> Result<Input, Fail> {
+        let action = self.name()?;
+        let want = self.want(want)?;
+        Ok(Input::Request(Request { action, want }))
     }
 
     fn want(&mut self, first: &str) -> Result<Want, Fail> {
@@ -177,29 +183,17 @@ impl Words<'_> {
 
     /// A letter to node 1, at the first count of its sender: the sender, what the letter brings, and what it says.
     fn letter(&mut self, alloc: Global) -> Result<Letter, Fail> {
-        let from = self.small()?;
-        let mut brought = Brought {
-            know: Know::new(alloc),
-            have: 0,
-            place: 0,
-        };
-        let body = self.brought_and_body(&mut brought)?;
-        Ok(Letter {
-            from,
-            count: 1,
-            to: 1,
-            have: brought.have,
-            place: brought.place,
-            know: brought.know,
-            body,
-        })
+        let mut letter = news(alloc, self.small()?);
+        let body = self.brought_and_body(&mut letter)?;
+        letter.body = body;
+        Ok(letter)
     }
 
     /// What a letter says, after what it brings.
-    fn brought_and_body(&mut self, brought: &mut Brought) -> Result<Body, Fail> {
+    fn brought_and_body(&mut self, letter: &mut Letter) -> Result<Body, Fail> {
         let mut first = self.word();
         for _ in 0..8 {
-            if !self.bring(brought, first)? {
+            if !self.bring(letter, first)? {
                 break;
             }
             first = self.word();
@@ -207,22 +201,32 @@ impl Words<'_> {
         self.body(first)
     }
 
-    /// Reads what a letter brings that begins with this word: outcomes (`aborted 2.1.1`; `committed 2.1.1`, which depends on node 2 at its
-    /// count 1), counts (`knows 2 2`) and places (`have 2`, `place 5`). False, and nothing is read, where no such thing begins so.
-    fn bring(&mut self, brought: &mut Brought, first: &str) -> Result<bool, Fail> {
+    /// Reads what a letter brings that begins with this word: outcomes (`aborted 2.1.1`; `committed 2.1.1`), counts (`knows 2 2`) and places
+    /// (`have 2`, `place 5`). False, and nothing is read, where no such thing begins so.
+    fn bring(&mut self, letter: &mut Letter, first: &str) -> Result<bool, Fail> {
         match first {
-            "aborted" => brought.know.add(&Outcome::Aborted(self.name()?))?,
-            "committed" => {
-                let deps = Deps::none().with(2, 1);
-                let committed = Outcome::Committed(self.name()?, deps);
-                brought.know.add(&committed)?;
-            }
-            "knows" => self.knows(&mut brought.know)?,
-            "have" => brought.have = self.place()?,
-            "place" => brought.place = self.place()?,
+            "aborted" => self.aborted(&mut letter.know)?,
+            "committed" => self.committed(&mut letter.know)?,
+            "knows" => self.knows(&mut letter.know)?,
+            "have" => letter.have = self.place()?,
+            "place" => letter.place = self.place()?,
             _ => return Ok(false),
         }
         Ok(true)
+    }
+
+    fn aborted(&mut self, know: &mut Know) -> Result<(), Fail> {
+        let name = self.name()?;
+        know.add(&Outcome::Aborted(name))?;
+        Ok(())
+    }
+
+    /// The action depends on node 2 at its count 1.
+    fn committed(&mut self, know: &mut Know) -> Result<(), Fail> {
+        let name = self.name()?;
+        let deps = Deps::none().with(2, 1);
+        know.add(&Outcome::Committed(name, deps))?;
+        Ok(())
     }
 
     fn knows(&mut self, know: &mut Know) -> Result<(), Fail> {
@@ -234,66 +238,17 @@ impl Words<'_> {
         know.raise(node, count);
         Ok(())
     }
+}
 
-    /// What a letter says.
-    fn body(&mut self, kind: &str) -> Result<Body, Fail> {
-        Ok(match kind {
-            "start" => Body::Start {
-                child: self.name()?,
-                deps: self.deps()?,
-            },
-            "call" => self.call()?,
-            "answer" => Body::Answer {
-                action: self.name()?,
-                number: self.number()?,
-                reply: self.reply()?,
-            },
-            "finish" => Body::Finish {
-                action: self.name()?,
-                value: self.value()?,
-                deps: self.deps()?,
-            },
-            _ => self.family_body(kind)?,
-        })
-    }
-
-    /// `2.1.1 1 0 write 7 at 1 deps 2:1`: the action, the number of the call, the object, and the count that is addressed.
-    fn call(&mut self) -> Result<Body, Fail> {
-        let action = self.name()?;
-        let number = self.number()?;
-        let object = self.small()?;
-        let op = self.op()?;
-        self.expect("at")?;
-        Ok(Body::Call {
-            action,
-            number,
-            object,
-            op,
-            count: self.number()?,
-            deps: self.deps()?,
-        })
-    }
-
-    /// What the letters of families in commit say, and those by which actions end.
-    fn family_body(&mut self, kind: &str) -> Result<Body, Fail> {
-        Ok(match kind {
-            "quit" => Body::Quit {
-                action: self.name()?,
-            },
-            "prepare" => Body::Prepare {
-                family: self.name()?,
-                count: self.number()?,
-            },
-            "vote" => Body::Vote {
-                family: self.name()?,
-                count: self.number()?,
-                yes: self.word() == "yes",
-            },
-            "query" => Body::Query {
-                family: self.name()?,
-            },
-            "news" => Body::News,
-            _ => return Err(Fail::new("no letter is called so")),
-        })
+/// A letter of news to node 1, at the first count of its sender, which brings nothing.
+fn news(alloc: Global, from: u8) -> Letter {
+    Letter {
+        from,
+        count: 1,
+        to: 1,
+        have: 0,
+        place: 0,
+        know: Know::new(alloc),
+        body: Body::News,
     }
 }
