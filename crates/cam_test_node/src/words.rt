@@ -4,7 +4,7 @@ mod deeds;
 mod values;
 
 use cam_base::NoMemory;
-use cam_event::{Event, Letter};
+use cam_event::{Event, Letter, Sent};
 use cam_know::{Know, Outcome};
 use cam_names::Name;
 use std::alloc::Global;
@@ -18,6 +18,13 @@ struct Telling {
 }
 
 impl Telling {
+    fn new(alloc: Global) -> Telling {
+        Telling {
+            alloc,
+            text: String::new(alloc),
+        }
+    }
+
     /// A word, after a blank where the text has begun.
     fn word(&mut self, word: &str) -> Result<(), NoMemory> {
         if !self.text.is_empty() {
@@ -73,15 +80,45 @@ impl Telling {
     /// Its note, its deeds and its letters, with a comma between two.
     fn event(&mut self, event: &Event) -> Result<(), NoMemory> {
         self.note(&event.note)?;
+        self.deeds(event)?;
+        self.letters(event)
+    }
+
+    fn deeds(&mut self, event: &Event) -> Result<(), NoMemory> {
         for deed in event.deeds.as_slice() {
             self.comma()?;
             self.deed(deed)?;
         }
+        Ok(())
+    }
+
+    /// The letters that an event sent.
+    fn letters(&mut self, event: &Event) -> Result<(), NoMemory> {
         for sent in event.sent.as_slice() {
             self.comma()?;
-            self.valued("to", i64::from(sent.to))?;
-            self.body(&sent.body)?;
+            self.sent(sent)?;
         }
+        Ok(())
+    }
+
+    /// `to 2 news`
+    fn sent(&mut self, sent: &Sent) -> Result<(), NoMemory> {
+        self.valued("to", i64::from(sent.to))?;
+        self.body(&sent.body)
+    }
+
+    /// To whom it is, its count, the places, what it brings, and what it says.
+    fn letter(&mut self, letter: &Letter) -> Result<(), NoMemory> {
+        self.valued("to", i64::from(letter.to))?;
+        self.valued("count", i64::from(letter.count))?;
+        self.places(letter.have, letter.place)?;
+        self.know(&letter.know)?;
+        self.body(&letter.body)
+    }
+
+    /// `have 2 place 5`
+    fn places(&mut self, have: u64, place: u64) -> Result<(), NoMemory> {
+        write!(self.text, " have {have} place {place}")?;
         Ok(())
     }
 
@@ -93,11 +130,16 @@ impl Telling {
         for node in 1..=8u8 {
             let count = know.count(node);
             if count > 1 {
-                self.valued("knows", i64::from(node))?;
-                self.number(i64::from(count))?;
+                self.known(node, count)?;
             }
         }
         Ok(())
+    }
+
+    /// `knows 2 3`
+    fn known(&mut self, node: u8, count: u32) -> Result<(), NoMemory> {
+        self.valued("knows", i64::from(node))?;
+        self.number(i64::from(count))
     }
 
     fn outcome(&mut self, outcome: &Outcome) -> Result<(), NoMemory> {
@@ -113,22 +155,14 @@ impl Telling {
 
 /// The note of an event, its deeds, and the letters that it sent.
 pub(crate) fn event_text(alloc: Global, event: &Event) -> Result<String, NoMemory> {
-    let mut telling = Telling {
-        alloc,
-        text: String::new(alloc),
-    };
+    let mut telling = Telling::new(alloc);
     telling.event(event)?;
     Ok(telling.text)
 }
 
 /// A letter of the node itself: to whom, its count, the places, the outcomes that it carries in their order, the counts above 1, and what it says.
 pub(crate) fn letter_text(alloc: Global, letter: &Letter) -> Result<String, NoMemory> {
-    let text = format!(in alloc;
-        "to {} count {} have {} place {}",
-        letter.to, letter.count, letter.have, letter.place
-    )?;
-    let mut telling = Telling { alloc, text };
-    telling.know(&letter.know)?;
-    telling.body(&letter.body)?;
+    let mut telling = Telling::new(alloc);
+    telling.letter(letter)?;
     Ok(telling.text)
 }
