@@ -170,6 +170,19 @@ fn check_told(line: &str, told: &str, want: &str) -> Result<(), Fail> {
     Ok(())
 }
 
+/// Fails where the line of a row does not come to what it has to in the record of its run, and counts it.
+fn check_line(
+    alloc: Global,
+    line: &str,
+    want: &str,
+    labels: &Labels,
+    record: &RunRecord,
+    counts: &mut Counts,
+) -> Result<(), Fail> {
+    let told = next_text(alloc, want, labels, record, counts)?;
+    check_told(line, &told, want)
+}
+
 /// Fails at the first row of a table that the record of its run does not have, or where the record has more.
 fn check_rows(alloc: Global, table: &str, labels: &Labels, record: &RunRecord) -> Result<(), Fail> {
     let mut counts = Counts {
@@ -177,11 +190,9 @@ fn check_rows(alloc: Global, table: &str, labels: &Labels, record: &RunRecord) -
         marks: 0,
     };
     for row in table.lines() {
-        let Some((line, want)) = row.split_once(" | ") else {
-            continue;
-        };
-        let told = next_text(alloc, want, labels, record, &mut counts)?;
-        check_told(line, &told, want)?;
+        if let Some((line, want)) = row.split_once(" | ") {
+            check_line(alloc, line, want, labels, record, &mut counts)?;
+        }
     }
     check_counts(counts, record)
 }
@@ -220,8 +231,8 @@ fn check(alloc: Global, table: &str) -> Result<(), Fail> {
 
 #[test]
 fn each_line_has_its_event_or_its_mark(rt: HostRuntime) -> Result<(), Fail> {
-    for table in [CONFLICT, TWO_NODES, REPEATS, EIGHT_NODES] {
-        check(rt.alloc(), table)?;
-    }
-    Ok(())
+    check(rt.alloc(), CONFLICT)?;
+    check(rt.alloc(), TWO_NODES)?;
+    check(rt.alloc(), REPEATS)?;
+    check(rt.alloc(), EIGHT_NODES)
 }

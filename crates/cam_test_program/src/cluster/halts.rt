@@ -9,6 +9,7 @@ use crate::check::same;
 use cam_event::RunRecord;
 use cam_script::{Labels, Script, parse};
 use std::alloc::Global;
+use std::process::Abort;
 use std::test::Fail;
 
 /// What is to come of a halt, by the calls that its disk does before it stops.
@@ -47,10 +48,12 @@ struct Halted {
 
 /// What the record of a halt tells of it.
 fn told_of(alloc: Global, labels: &Labels, record: &RunRecord) -> Result<Halted, Fail> {
+    let fourth_event = event_text(alloc, labels, &record.trace, 3)?;
+    let mark = mark_text(alloc, record, 0)?;
     Ok(Halted {
         events: record.trace.len(),
-        fourth_event: event_text(alloc, labels, &record.trace, 3)?,
-        mark: mark_text(alloc, record, 0)?,
+        fourth_event,
+        mark,
         marks: record.marks.len(),
     })
 }
@@ -79,25 +82,33 @@ fn halted_after(alloc: Global, calls: u32) -> Result<Halted, Fail> {
     halt_of(alloc, &script)
 }
 
+/// Fails where something else comes of a halt.
+fn check_halt(rt: &impl Abort, alloc: Global, halt: Halt) -> Result<(), Fail> {
+    let halted = halted_after(alloc, halt.calls)?;
+    check_numbers(rt, halt, &halted);
+    check_text(rt, halt.calls, &halted.fourth_event, halt.fourth_event);
+    check_text(rt, halt.calls, &halted.mark, halt.mark);
+    Ok(())
+}
+
+/// Fails where there are more or fewer events, or not two marks: the other mark is that of the line that the halted node refuses.
+fn check_numbers(rt: &impl Abort, halt: Halt, halted: &Halted) {
+    same(
+        rt,
+        (halt.calls, halted.events, halted.marks),
+        (halt.calls, halt.events, 2),
+    );
+}
+
+/// Fails where a text is another, and tells after how many calls the disk stopped.
+fn check_text(rt: &impl Abort, calls: u32, got: &str, wanted: &str) {
+    same(rt, (calls, got), (calls, wanted));
+}
+
 /// The event of the halt is taken where three calls more of its disk passed: then it stands at its place, after the three before it, without its
 /// letter.
 #[test]
 fn a_run_goes_on_through_a_halt(rt: HostRuntime) -> Result<(), Fail> {
-    for halt in [LOST, TAKEN] {
-        let calls = halt.calls;
-        let halted = halted_after(rt.alloc(), calls)?;
-        // the other mark is that of the line that the halted node refuses
-        same(
-            &rt,
-            (calls, halted.events, halted.marks),
-            (calls, halt.events, 2),
-        );
-        same(
-            &rt,
-            (calls, halted.fourth_event.as_str()),
-            (calls, halt.fourth_event),
-        );
-        same(&rt, (calls, halted.mark.as_str()), (calls, halt.mark));
-    }
-    Ok(())
+    check_halt(&rt, rt.alloc(), LOST)?;
+    check_halt(&rt, rt.alloc(), TAKEN)
 }

@@ -1,166 +1,223 @@
 //! An event in words: its node, the number of the letter that it got (0 for none), its note, its deeds, and the letters that it sent.
 
 use cam_base::NoMemory;
-use cam_event::{Body, Deed, Event, Reply, Seen, Trace};
+use cam_event::{Body, Deed, Event, Reply, Seen, Sent, Trace};
 use cam_names::{Deps, Name};
 use cam_script::Labels;
 use cam_type::{Answer, Op};
 use std::alloc::Global;
 use std::fmt::Write;
 
-fn name_text(alloc: Global, name: &Name) -> Result<String, NoMemory> {
-    let mut text = String::new(alloc);
-    name.write_text(alloc, &mut text)?;
-    Ok(text)
-}
-
-/// A call of an action, as it stands in a deed and in a letter.
-#[derive(Clone, Copy)]
-struct Call<'a> {
-    action: &'a Name,
-    number: u32,
-    object: u8,
-    op: &'a Op,
-    count: u32,
-}
-
-impl Call<'_> {
-    fn text(&self, alloc: Global, labels: &Labels) -> Result<String, NoMemory> {
-        let label = match labels.get(self.object as usize) {
-            Some(label) => label.as_str(),
-            None => "undeclared",
-        };
-        let action = name_text(alloc, self.action)?;
-        let Call {
-            number,
-            op,
-            count,
-            ..
-        } = self;
-        Ok(format!(in alloc; "call {action} {number} {label} {op:?} at {count}")?)
-    }
-}
-
-fn answer_text(alloc: Global, answer: &Answer) -> Result<String, NoMemory> {
-    Ok(format!(in alloc; "{answer:?}")?)
-}
-
-fn busy_text(alloc: Global, holder: &Name) -> Result<String, NoMemory> {
-    Ok(format!(in alloc; "busy {}", name_text(alloc, holder)?)?)
-}
-
-fn seen_text(alloc: Global, seen: &Seen) -> Result<String, NoMemory> {
-    match seen {
-        Seen::Done(answer) => answer_text(alloc, answer),
-        Seen::Busy(holder) => busy_text(alloc, holder),
-        Seen::Gone => Ok(String::from_str(alloc, "gone")?),
-    }
-}
-
-fn reply_text(alloc: Global, reply: &Reply) -> Result<String, NoMemory> {
-    match reply {
-        Reply::Done(answer) => answer_text(alloc, answer),
-        Reply::Busy(holder) => busy_text(alloc, holder),
-        Reply::Missed | Reply::Refused => Ok(String::from_str(alloc, "not served")?),
-    }
-}
-
-/// What is told of a call of an action, by the action and the number of the call.
-fn told_text(
+/// A text to which words are written. Its calls make no value that is dropped at their exits: so they are proved in little time.
+#[derive(Drop)]
+struct Telling {
     alloc: Global,
-    verb: &str,
-    action: &Name,
-    number: u32,
-    told: &str,
-) -> Result<String, NoMemory> {
-    let action = name_text(alloc, action)?;
-    Ok(format!(in alloc; "{verb} {action} {number} {told}")?)
+    text: String,
 }
 
-fn create_text(alloc: Global, action: &Name) -> Result<String, NoMemory> {
-    Ok(format!(in alloc; "create {}", name_text(alloc, action)?)?)
-}
+impl Telling {
+    /// These words, as they stand.
+    fn words(&mut self, words: &str) -> Result<(), NoMemory> {
+        self.text.push_str(words)?;
+        Ok(())
+    }
 
-fn deed_text(alloc: Global, labels: &Labels, deed: &Deed) -> Result<String, NoMemory> {
-    match deed {
-        Deed::Create { action } => create_text(alloc, action),
-        Deed::Call {
-            action,
-            number,
-            object,
-            op,
-            count,
-        } => Call {
-            action,
-            number: *number,
-            object: *object,
-            op,
-            count: *count,
+    /// A name, after a blank.
+    fn name(&mut self, name: &Name) -> Result<(), NoMemory> {
+        self.text.push_str(" ")?;
+        name.write_text(self.alloc, &mut self.text)
+    }
+
+    /// `create 1.1.1`
+    fn named(&mut self, verb: &str, name: &Name) -> Result<(), NoMemory> {
+        self.words(verb)?;
+        self.name(name)
+    }
+
+    /// `perform 1.1.1 1`
+    fn numbered(&mut self, verb: &str, action: &Name, number: u32) -> Result<(), NoMemory> {
+        self.named(verb, action)?;
+        write!(self.text, " {number}")?;
+        Ok(())
+    }
+
+    /// `2:1`, after a blank.
+    fn pair(&mut self, node: u8, count: u32) -> Result<(), NoMemory> {
+        write!(self.text, " {node}:{count}")?;
+        Ok(())
+    }
+
+    /// The nodes on which an action depends, each with its count.
+    fn deps(&mut self, deps: &Deps) -> Result<(), NoMemory> {
+        self.words(" deps")?;
+        for node in 1..=8u8 {
+            let count = deps.count_of(node);
+            if count > 0 {
+                self.pair(node, count)?;
+            }
         }
-        .text(alloc, labels),
-        Deed::Perform {
-            action,
-            number,
-            answer,
-        } => told_text(
-            alloc,
-            "perform",
-            action,
-            *number,
-            &answer_text(alloc, answer)?,
-        ),
-        Deed::Bounce {
-            action,
-            number,
-            holder,
-        } => told_text(alloc, "bounce", action, *number, &name_text(alloc, holder)?),
-        Deed::Got {
-            action,
-            number,
-            seen,
-        } => told_text(alloc, "got", action, *number, &seen_text(alloc, seen)?),
-        _ => Ok(String::from_str(alloc, "another deed")?),
+        Ok(())
+    }
+
+    fn answer(&mut self, answer: &Answer) -> Result<(), NoMemory> {
+        write!(self.text, " {answer:?}")?;
+        Ok(())
+    }
+
+    fn seen(&mut self, seen: &Seen) -> Result<(), NoMemory> {
+        match seen {
+            Seen::Done(answer) => self.answer(answer),
+            Seen::Busy(holder) => self.named(" busy", holder),
+            Seen::Gone => self.words(" gone"),
+        }
+    }
+
+    fn reply(&mut self, reply: &Reply) -> Result<(), NoMemory> {
+        match reply {
+            Reply::Done(answer) => self.answer(answer),
+            Reply::Busy(holder) => self.named(" busy", holder),
+            Reply::Missed | Reply::Refused => self.words(" not served"),
+        }
+    }
+
+    /// What is asked of an object, and the count that is addressed.
+    fn asked(&mut self, label: &str, op: &Op, count: u32) -> Result<(), NoMemory> {
+        write!(self.text, " {label} {op:?} at {count}")?;
+        Ok(())
+    }
+
+    /// A call of an action, as it stands in a deed and in a letter.
+    fn call(
+        &mut self,
+        labels: &Labels,
+        action: &Name,
+        number: u32,
+        object: u8,
+        op: &Op,
+        count: u32,
+    ) -> Result<(), NoMemory> {
+        self.numbered("call", action, number)?;
+        self.asked(label_of(labels, object), op, count)
     }
 }
 
-/// The nodes on which an action depends, each with its count.
-fn deps_text(alloc: Global, deps: &Deps) -> Result<String, NoMemory> {
-    let mut text = String::from_str(alloc, "deps")?;
-    for node in 1..=8u8 {
-        let count = deps.count_of(node);
-        if count > 0 {
-            write!(text, " {node}:{count}")?;
-        }
+/// The label of an object.
+fn label_of(labels: &Labels, object: u8) -> &str {
+    match labels.get(object as usize) {
+        Some(label) => label.as_str(),
+        None => "undeclared",
     }
-    Ok(text)
 }
 
-fn body_text(alloc: Global, labels: &Labels, body: &Body) -> Result<String, NoMemory> {
-    match body {
-        Body::Call {
-            action,
-            number,
-            object,
-            op,
-            count,
-            deps,
-        } => {
-            let call = Call {
+impl Telling {
+    fn deed(&mut self, labels: &Labels, deed: &Deed) -> Result<(), NoMemory> {
+        match deed {
+            Deed::Create { action } => self.named("create", action),
+            Deed::Call {
                 action,
-                number: *number,
-                object: *object,
+                number,
+                object,
                 op,
-                count: *count,
-            };
-            let call = call.text(alloc, labels)?;
-            Ok(format!(in alloc; "{call} {}", deps_text(alloc, deps)?)?)
+                count,
+            } => self.call(labels, action, *number, *object, op, *count),
+            other => self.answering(other),
         }
-        Body::Answer {
-            action,
-            number,
-            reply,
-        } => told_text(alloc, "answer", action, *number, &reply_text(alloc, reply)?),
-        _ => Ok(String::from_str(alloc, "another letter")?),
+    }
+
+    /// The deeds by which calls are answered.
+    fn answering(&mut self, deed: &Deed) -> Result<(), NoMemory> {
+        match deed {
+            Deed::Perform {
+                action,
+                number,
+                answer,
+            } => {
+                self.numbered("perform", action, *number)?;
+                self.answer(answer)
+            }
+            Deed::Bounce {
+                action,
+                number,
+                holder,
+            } => {
+                self.numbered("bounce", action, *number)?;
+                self.name(holder)
+            }
+            Deed::Got {
+                action,
+                number,
+                seen,
+            } => {
+                self.numbered("got", action, *number)?;
+                self.seen(seen)
+            }
+            _ => self.words("another deed"),
+        }
+    }
+
+    fn body(&mut self, labels: &Labels, body: &Body) -> Result<(), NoMemory> {
+        match body {
+            Body::Call {
+                action,
+                number,
+                object,
+                op,
+                count,
+                deps,
+            } => {
+                self.call(labels, action, *number, *object, op, *count)?;
+                self.deps(deps)
+            }
+            Body::Answer {
+                action,
+                number,
+                reply,
+            } => {
+                self.numbered("answer", action, *number)?;
+                self.reply(reply)
+            }
+            _ => self.words("another letter"),
+        }
+    }
+
+    /// A letter that an event sent, and its number.
+    fn sent(&mut self, labels: &Labels, number: usize, sent: &Sent) -> Result<(), NoMemory> {
+        write!(self.text, ", sent {number} to {} ", sent.to)?;
+        self.body(labels, &sent.body)
+    }
+
+    /// The letters that an event sent, of which the first has this number.
+    fn letters(&mut self, labels: &Labels, event: &Event, first: usize) -> Result<(), NoMemory> {
+        let mut number = first;
+        for sent in event.sent.as_slice() {
+            self.sent(labels, number, sent)?;
+            number = number.wrapping_add(1);
+        }
+        Ok(())
+    }
+
+    fn deeds(&mut self, labels: &Labels, event: &Event) -> Result<(), NoMemory> {
+        for deed in event.deeds.as_slice() {
+            self.words(", ")?;
+            self.deed(labels, deed)?;
+        }
+        Ok(())
+    }
+
+    /// The node of an event, the letter that it got, and its note.
+    fn head(&mut self, event: &Event, got: usize) -> Result<(), NoMemory> {
+        write!(self.text, "node {} got {got} {:?}", event.node, event.note)?;
+        Ok(())
+    }
+
+    /// The event at this place of a trace, with its deeds and its letters.
+    fn event(&mut self, labels: &Labels, trace: &Trace, place: usize) -> Result<(), NoMemory> {
+        let Some(event) = trace.get(place) else {
+            return self.words("no event");
+        };
+        self.head(event, got_number(trace, event))?;
+        self.deeds(labels, event)?;
+        self.letters(labels, event, first_letter(trace, place))
     }
 }
 
@@ -183,36 +240,6 @@ fn got_number(trace: &Trace, event: &Event) -> usize {
     }
 }
 
-fn write_deeds(
-    alloc: Global,
-    labels: &Labels,
-    event: &Event,
-    text: &mut String,
-) -> Result<(), NoMemory> {
-    for deed in event.deeds.as_slice() {
-        let deed = deed_text(alloc, labels, deed)?;
-        write!(text, ", {deed}")?;
-    }
-    Ok(())
-}
-
-/// Writes the letters that an event sent, of which the first has this number.
-fn write_sent(
-    alloc: Global,
-    labels: &Labels,
-    event: &Event,
-    first: usize,
-    text: &mut String,
-) -> Result<(), NoMemory> {
-    let mut number = first;
-    for sent in event.sent.as_slice() {
-        let body = body_text(alloc, labels, &sent.body)?;
-        write!(text, ", sent {number} to {} {body}", sent.to)?;
-        number = number.wrapping_add(1);
-    }
-    Ok(())
-}
-
 /// An event of a trace, by its place: its node, the letter that it got, its note, its deeds and its letters.
 pub(super) fn event_text(
     alloc: Global,
@@ -220,12 +247,10 @@ pub(super) fn event_text(
     trace: &Trace,
     place: usize,
 ) -> Result<String, NoMemory> {
-    let Some(event) = trace.get(place) else {
-        return Ok(String::from_str(alloc, "no event")?);
+    let mut telling = Telling {
+        alloc,
+        text: String::new(alloc),
     };
-    let got = got_number(trace, event);
-    let mut text = format!(in alloc; "node {} got {got} {:?}", event.node, event.note)?;
-    write_deeds(alloc, labels, event, &mut text)?;
-    write_sent(alloc, labels, event, first_letter(trace, place), &mut text)?;
-    Ok(text)
+    telling.event(labels, trace, place)?;
+    Ok(telling.text)
 }
