@@ -168,12 +168,17 @@ fn check_history(rt: &impl Abort, one: &NodeSeat<Numbers>) {
     );
 }
 
+/// Fails where the next event is another.
+fn check_next(rt: &impl Abort, gathered: &mut Gathered<Numbers>, want: Option<(u64, u64)>) {
+    same(rt, gathered.take(), want);
+}
+
 /// Fails where the events of both nodes are not 7, 8 and 9, numbered from 0.
 fn check_events(rt: &impl Abort, mut gathered: Gathered<Numbers>) {
-    for want in [(0, 7), (1, 8), (2, 9)] {
-        same(rt, gathered.take(), Some(want));
-    }
-    same(rt, gathered.take(), None);
+    check_next(rt, &mut gathered, Some((0, 7)));
+    check_next(rt, &mut gathered, Some((1, 8)));
+    check_next(rt, &mut gathered, Some((2, 9)));
+    check_next(rt, &mut gathered, None);
 }
 
 #[test]
@@ -263,15 +268,31 @@ impl Next {
     }
 }
 
+/// Fails where the next event has not this number, or is not what its thread was to say then.
+fn check_said(
+    rt: &impl Abort,
+    gathered: &mut Gathered<Numbers>,
+    number: u64,
+    next: &mut Next,
+) -> Result<(), Fail> {
+    let (at, said) = gathered.take().ok_or("an event is left")?;
+    same(rt, (at, said), (number, next.due(said)));
+    Ok(())
+}
+
+/// Fails where the events are not those of both threads, each in its order.
+fn check_order(rt: &impl Abort, gathered: &mut Gathered<Numbers>) -> Result<(), Fail> {
+    let mut next = Next { one: 0, two: EACH };
+    for number in 0..2 * EACH {
+        check_said(rt, gathered, number, &mut next)?;
+    }
+    check_next(rt, gathered, None);
+    Ok(())
+}
+
 #[test]
 fn events_of_two_threads_are_gathered_in_order(rt: HostRuntime) -> Result<(), Fail> {
-    let mut next = Next { one: 0, two: EACH };
     let mut talked = talk(&rt, rt.alloc())?;
     same(&rt, talked.said, (EACH, EACH));
-    for number in 0..2 * EACH {
-        let (at, said) = talked.gathered.take().ok_or("an event is left")?;
-        same(&rt, (at, said), (number, next.due(said)));
-    }
-    same(&rt, talked.gathered.take(), None);
-    Ok(())
+    check_order(&rt, &mut talked.gathered)
 }
