@@ -1,16 +1,17 @@
 //! `cam_run`: answers to words and scripts, and streams and disks that fail.
 
-ghost use Rattle.std.specs.Prelude.{◌≤◌, Some, length};
+ghost use Rattle.std.specs.Prelude.{◌≤◌, length};
 
 mod commands;
 mod failing;
 mod rows;
+mod streams;
 
 use crate::check::same;
 use crate::cluster::empty_disks;
 use cam_cluster::Servers;
 use cam_disk::TellingDisk;
-use cam_io::{Failed, MemorySink, MemorySource, Sink, Source};
+use cam_io::{MemorySink, MemorySource, Sink, Source};
 use cam_run::{camelot, worked_answers};
 use cam_type::{CounterServer, QueueServer, RegisterServer};
 use rows::{COUNT, REFUSED, ROWS};
@@ -78,48 +79,108 @@ fn status_over<S: Source, K: Sink, D: TellingDisk>(
     camelot(alloc, words, source, sink, disks, &mut servers)
 }
 
-/// The status of the answer to the words, over these disks, and the text that it writes.
+/// An answer: its status, and the text that it writes.
+#[derive(Drop)]
+struct Answer {
+    status: u8,
+    text: Vec<u8>,
+}
+
+impl Answer {
+    /// Whether it has this status and this text.
+    fn has(&self, status: u8, text: &str) -> bool {
+        self.status == status && self.text.as_slice() == text.as_bytes()
+    }
+}
+
+/// Fails where an answer has not this status and this text, and tells of which case it is.
+fn check_answer(rt: &impl Abort, case: &str, answer: &Answer, status: u8, text: &[u8]) {
+    same(
+        rt,
+        (case, answer.status, answer.text.as_slice()),
+        (case, status, text),
+    );
+}
+
+/// Fails where an answer has not this status and this text, and tells the number of its case.
+fn check_numbered_answer(rt: &impl Abort, case: u64, answer: &Answer, status: u8, text: &[u8]) {
+    same(
+        rt,
+        (case, answer.status, answer.text.as_slice()),
+        (case, status, text),
+    );
+}
+
+/// The answer to the words, over these disks.
 fn answer_over<S: Source, D: TellingDisk>(
     alloc: Global,
     words: &[String],
     source: &mut S,
     disks: &mut Vec<D>,
-) -> Result<(u8, Vec<u8>), Fail>
+) -> Result<Answer, Fail>
     requires { 8 ≤ length disks.old.items }
 {
     let mut sink = MemorySink::new(alloc, Vec::new(alloc));
     let status = status_over(alloc, words, source, &mut sink, disks);
-    Ok((status, sink.text().to_vec(alloc)?))
+    let text = sink.text().to_vec(alloc)?;
+    Ok(Answer { status, text })
 }
 
 /// The same over eight disks in memory.
-fn answer<S: Source>(
-    alloc: Global,
-    words: &[String],
-    source: &mut S,
-) -> Result<(u8, Vec<u8>), Fail> {
+fn answer<S: Source>(alloc: Global, words: &[String], source: &mut S) -> Result<Answer, Fail> {
     let mut disks = empty_disks(alloc, 8)?;
     answer_over(alloc, words, source, &mut disks)
 }
 
-/// The status of the answer to a command on its input, and the text that it writes.
-fn status_and_text(alloc: Global, command: &str, input: &str) -> Result<(u8, Vec<u8>), Fail> {
+/// The answer to a command on its input.
+fn answer_to(alloc: Global, command: &str, input: &str) -> Result<Answer, Fail> {
     let words = words(alloc, command)?;
     let mut source = source(alloc, input, &[])?;
     answer(alloc, &words, &mut source)
+}
+
+/// Fails where the answer to a command on its input has not this status and this text.
+fn check_command(
+    rt: &impl Abort,
+    alloc: Global,
+    command: &str,
+    input: &str,
+    status: u8,
+    text: &str,
+) -> Result<(), Fail> {
+    let answer = answer_to(alloc, command, input)?;
+    check_answer(rt, command, &answer, status, text.as_bytes());
+    Ok(())
+}
+
+/// Fails where the run of a script does not have its report, and tells its title.
+fn check_run(
+    rt: &impl Abort,
+    alloc: Global,
+    title: &str,
+    script: &str,
+    report: &str,
+) -> Result<(), Fail> {
+    let answer = answer_to(alloc, "run", script)?;
+    check_answer(rt, title, &answer, 0, report.as_bytes());
+    Ok(())
 }
 
 /// Fails where the run of a row of a topic does not have its report.
 fn check_row(rt: &impl Abort, alloc: Global, row: &str) -> Result<(), Fail> {
     let (title, run) = row.split_once('\n').ok_or("a row has no script")?;
     let (script, report) = run.split_once("--\n").ok_or("a row has no report")?;
-    let (status, text) = status_and_text(alloc, "run", script)?;
-    same(
-        rt,
-        (title, status, text.as_slice()),
-        (title, 0, report.as_bytes()),
-    );
-    Ok(())
+    check_run(rt, alloc, title, script, report)
+}
+
+/// Fails where a run of a topic does not have its report, and counts its runs.
+fn check_topic(rt: &impl Abort, alloc: Global, topic: &str) -> Result<usize, Fail> {
+    let mut count = 0usize;
+    for row in topic.split("== ").skip(1) {
+        check_row(rt, alloc, row)?;
+        count = count.wrapping_add(1);
+    }
+    Ok(count)
 }
 
 /// The call whose promise of worked scripts is proved. It does nothing when it runs. Called in a test, its promise would stand
@@ -134,30 +195,30 @@ fn worked_runs_have_their_reports(rt: HostRuntime) -> Result<(), Fail> {
     call_worked_answers();
     let mut count = 0usize;
     for topic in ROWS {
-        for row in topic.split("== ").skip(1) {
-            check_row(&rt, rt.alloc(), row)?;
-            count = count.wrapping_add(1);
-        }
+        let runs = check_topic(&rt, rt.alloc(), topic)?;
+        count = count.wrapping_add(runs);
     }
     same(&rt, count, COUNT);
+    Ok(())
+}
+
+/// Fails where a script is not refused with this fault.
+fn check_refused(rt: &impl Abort, alloc: Global, script: &str, fault: &str) -> Result<(), Fail> {
+    let answer = answer_to(alloc, "run", script)?;
+    check_answer(rt, script, &answer, 3, fault.as_bytes());
     Ok(())
 }
 
 #[test]
 fn refused_scripts_have_their_faults(rt: HostRuntime) -> Result<(), Fail> {
     for &(script, fault) in REFUSED {
-        let (status, text) = status_and_text(rt.alloc(), "run", script)?;
-        same(
-            &rt,
-            (script, status, text.as_slice()),
-            (script, 3, fault.as_bytes()),
-        );
+        check_refused(&rt, rt.alloc(), script, fault)?;
     }
     Ok(())
 }
 
 /// The answer to `run` of a script of empty lines, a byte longer than a script may be.
-fn answer_to_long_script(alloc: Global) -> Result<(u8, Vec<u8>), Fail> {
+fn answer_to_long_script(alloc: Global) -> Result<Answer, Fail> {
     let run = words(alloc, "run")?;
     let mut long = MemorySource::new(vec![in alloc; 10; 262_145]?, Vec::new(alloc));
     answer(alloc, &run, &mut long)
@@ -165,41 +226,41 @@ fn answer_to_long_script(alloc: Global) -> Result<(u8, Vec<u8>), Fail> {
 
 #[test]
 fn a_script_that_is_too_long_is_refused(rt: HostRuntime) -> Result<(), Fail> {
-    let (status, text) = answer_to_long_script(rt.alloc())?;
-    same(
+    let answer = answer_to_long_script(rt.alloc())?;
+    check_answer(
         &rt,
-        (status, text.as_slice()),
-        (3, b"refused 1 1 S1\n".as_slice()),
+        "a long script",
+        &answer,
+        3,
+        "refused 1 1 S1\n".as_bytes(),
     );
     Ok(())
 }
 
+/// Words that are no form.
+const NO_FORMS: &[&str] = &[
+    "",
+    "witness",
+    "run run",
+    "--help",
+    "gen 7 401",
+    "storm 7 1 1 calm",
+    "inspect run",
+    "timed 7",
+    "Run",
+    "run ",
+];
+
 #[test]
 fn words_that_are_no_form(rt: HostRuntime) -> Result<(), Fail> {
-    for words in [
-        "",
-        "witness",
-        "run run",
-        "--help",
-        "gen 7 401",
-        "storm 7 1 1 calm",
-        "inspect run",
-        "timed 7",
-        "Run",
-        "run ",
-    ] {
-        let (status, text) = status_and_text(rt.alloc(), words, FIRST_PATH)?;
-        same(
-            &rt,
-            (words, status, text.as_slice()),
-            (words, 2, USAGE.as_bytes()),
-        );
+    for &words in NO_FORMS {
+        check_command(&rt, rt.alloc(), words, FIRST_PATH, 2, USAGE)?;
     }
     Ok(())
 }
 
 /// The answer where there is no word at all.
-fn answer_to_no_words(alloc: Global) -> Result<(u8, Vec<u8>), Fail> {
+fn answer_to_no_words(alloc: Global) -> Result<Answer, Fail> {
     let none = Vec::new(alloc);
     let mut source = source(alloc, FIRST_PATH, &[])?;
     answer(alloc, &none, &mut source)
@@ -207,84 +268,7 @@ fn answer_to_no_words(alloc: Global) -> Result<(u8, Vec<u8>), Fail> {
 
 #[test]
 fn no_words_are_no_form(rt: HostRuntime) -> Result<(), Fail> {
-    let (status, text) = answer_to_no_words(rt.alloc())?;
-    same(&rt, (status, text.as_slice()), (2, USAGE.as_bytes()));
-    Ok(())
-}
-
-/// The answer to `run` of a script of which the read at this call fails.
-fn answer_with_failing_read(alloc: Global, call: u32) -> Result<(u8, Vec<u8>), Fail> {
-    let run = words(alloc, "run")?;
-    let mut source = source(alloc, FIRST_PATH, &[call])?;
-    answer(alloc, &run, &mut source)
-}
-
-/// Each read fails in turn: of the script, and of the end after it.
-#[test]
-fn a_source_that_fails(rt: HostRuntime) -> Result<(), Fail> {
-    for (call, status, text) in [
-        (1, 4, "read fault\n"),
-        (2, 4, "read fault\n"),
-        (3, 0, FIRST_REPORT),
-    ] {
-        let (got, written) = answer_with_failing_read(rt.alloc(), call)?;
-        same(
-            &rt,
-            (call, got, written.as_slice()),
-            (call, status, text.as_bytes()),
-        );
-    }
-    Ok(())
-}
-
-/// A sink that takes a byte a call, and fails once it has taken so many.
-#[derive(Drop)]
-struct Narrow {
-    text: Vec<u8>,
-    room: usize,
-    faults: u64,
-}
-
-impl Sink for Narrow {
-    ghost written = { λ s. Some s.text.items };
-
-    ghost faults = { λ s. s.faults };
-
-    fn write(&mut self, piece: &[u8]) -> Result<usize, Failed> {
-        if self.text.len() < self.room && self.text.push(piece[0]).is_ok() {
-            return Ok(1);
-        }
-        self.faults = self.faults.saturating_add(1);
-        Err(Failed)
-    }
-}
-
-/// The answer to `run` of a script into a sink that takes so many bytes.
-fn answer_in_room(alloc: Global, room: usize) -> Result<(u8, Vec<u8>), Fail> {
-    let run = words(alloc, "run")?;
-    let mut source = source(alloc, FIRST_PATH, &[])?;
-    let mut disks = empty_disks(alloc, 8)?;
-    let mut sink = Narrow {
-        text: Vec::new(alloc),
-        room,
-        faults: 0,
-    };
-    let status = status_over(alloc, &run, &mut source, &mut sink, &mut disks);
-    Ok((status, sink.text))
-}
-
-/// Each write fails in turn: a prefix of the text stands there, and the whole where none fails.
-#[test]
-fn a_sink_that_fails(rt: HostRuntime) -> Result<(), Fail> {
-    let whole = FIRST_REPORT.as_bytes();
-    for room in 0..=whole.len() {
-        let wanted = if room < whole.len() { 5 } else { 0 };
-        let (status, text) = answer_in_room(rt.alloc(), room)?;
-        same(
-            &rt,
-            (room, status, text.as_slice()),
-            (room, wanted, &whole[..room]),
-        );
-    }
+    let answer = answer_to_no_words(rt.alloc())?;
+    check_answer(&rt, "no words", &answer, 2, USAGE.as_bytes());
     Ok(())
 }

@@ -1,11 +1,10 @@
 //! The commands beside `run`: what each tells of a run or of the image of a log, and where there is nothing to tell.
 
-use super::{FIRST_PATH, status_and_text};
-use crate::check::same;
+use super::{FIRST_PATH, check_command};
 use std::test::Fail;
 
 /// A command, its input, and its answer.
-#[derive(Clone, Copy, Debug)]
+#[derive(Clone, Copy)]
 struct Row {
     command: &'static str,
     input: &'static str,
@@ -268,12 +267,14 @@ const ROWS: &[Row] = &[
 #[test]
 fn each_command_has_its_answer(rt: HostRuntime) -> Result<(), Fail> {
     for row in ROWS {
-        let (status, text) = status_and_text(rt.alloc(), row.command, row.input)?;
-        same(
+        check_command(
             &rt,
-            (row.command, status, text.as_slice()),
-            (row.command, row.status, row.text.as_bytes()),
-        );
+            rt.alloc(),
+            row.command,
+            row.input,
+            row.status,
+            row.text,
+        )?;
     }
     Ok(())
 }

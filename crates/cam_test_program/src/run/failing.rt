@@ -4,10 +4,11 @@ ghost use Rattle.std.specs.Prelude.{◌≡◌, IfErr, IfOk, length};
 ghost use Rattle.cam_disk.specs.declared.error.DiskError.TheVariants.{Failed};
 ghost use Rattle.cam_disk.specs.Disk.{FailsWithCause};
 
-use super::{answer_over, source, words};
+use super::{Answer, answer_over, check_numbered_answer, source, words};
 use crate::check::same;
 use cam_disk::{Disk, DiskError, MemoryDisk, TellingDisk};
 use std::alloc::Global;
+use std::process::Abort;
 use std::test::Fail;
 
 /// A disk that fails by itself once it has done so many calls: it does none any more.
@@ -174,8 +175,8 @@ fn disks(alloc: Global, calls: u32, faults: u64) -> Result<Vec<FailingDisk<Memor
     Ok(disks)
 }
 
-/// The answer to `run` of a script over such disks: its status, and the text that it writes.
-fn answer_of(alloc: Global, script: &str, calls: u32, faults: u64) -> Result<(u8, Vec<u8>), Fail> {
+/// The answer to `run` of a script over such disks.
+fn answer_of(alloc: Global, script: &str, calls: u32, faults: u64) -> Result<Answer, Fail> {
     let run = words(alloc, "run")?;
     let mut script = source(alloc, script, &[])?;
     let mut disks = disks(alloc, calls, faults)?;
@@ -193,16 +194,21 @@ enum Outcome {
     Other,
 }
 
-/// What comes of the run of a case, where the disk of node 2 fails by itself once it has done so many calls.
-fn outcome_after(alloc: Global, case: Case, calls: u32) -> Result<Outcome, Fail> {
-    let (status, text) = answer_of(alloc, case.script, calls, 0)?;
-    Ok(if status == 0 && text.as_slice() == case.report.as_bytes() {
+/// What an answer to the run of a case is.
+fn outcome_of(answer: &Answer, case: Case) -> Outcome {
+    if answer.has(0, case.report) {
         Outcome::Report
-    } else if status == 6 && text.as_slice() == b"disk fault 2\n".as_slice() {
+    } else if answer.has(6, "disk fault 2\n") {
         Outcome::DiskFault
     } else {
         Outcome::Other
-    })
+    }
+}
+
+/// What comes of the run of a case, where the disk of node 2 fails by itself once it has done so many calls.
+fn outcome_after(alloc: Global, case: Case, calls: u32) -> Result<Outcome, Fail> {
+    let answer = answer_of(alloc, case.script, calls, 0)?;
+    Ok(outcome_of(&answer, case))
 }
 
 /// How many calls of the disk of node 2 the run takes: with fewer of them it is told that the disk failed. None where that is not so.
@@ -217,28 +223,32 @@ fn calls_taken(alloc: Global, case: Case) -> Result<Option<u32>, Fail> {
     Ok(None)
 }
 
+/// Fails where the run of a case is not told of a disk that failed with all fewer calls than it takes, or takes no more than eight of them.
+fn check_case(rt: &impl Abort, alloc: Global, case: Case) -> Result<(), Fail> {
+    let taken = calls_taken(alloc, case)?;
+    let is_enough = matches!(taken, Some(calls) if 8 < calls);
+    same(rt, (taken, is_enough), (taken, true));
+    Ok(())
+}
+
 /// The disk of node 2 fails at each of its calls in turn: while it is formatted, in the run, and while its node restarts. Where it does all
 /// of them the run stands.
 #[test]
 fn a_disk_that_fails(rt: HostRuntime) -> Result<(), Fail> {
-    for case in [COMMIT, STOPPED] {
-        let taken = calls_taken(rt.alloc(), case)?;
-        let is_enough = matches!(taken, Some(calls) if 8 < calls);
-        same(&rt, (taken, is_enough), (taken, true));
-    }
+    check_case(&rt, rt.alloc(), COMMIT)?;
+    check_case(&rt, rt.alloc(), STOPPED)
+}
+
+/// Fails where the run of a case over disks that had failed so often does not have its report.
+fn check_failed(rt: &impl Abort, alloc: Global, faults: u64) -> Result<(), Fail> {
+    let answer = answer_of(alloc, COMMIT.script, u32::MAX, faults)?;
+    check_numbered_answer(rt, faults, &answer, 0, COMMIT.report.as_bytes());
     Ok(())
 }
 
 /// How often a disk had failed before does not matter.
 #[test]
 fn disks_that_had_failed(rt: HostRuntime) -> Result<(), Fail> {
-    for faults in [1, 7] {
-        let (status, text) = answer_of(rt.alloc(), COMMIT.script, u32::MAX, faults)?;
-        same(
-            &rt,
-            (faults, status, text.as_slice()),
-            (faults, 0, COMMIT.report.as_bytes()),
-        );
-    }
-    Ok(())
+    check_failed(&rt, rt.alloc(), 1)?;
+    check_failed(&rt, rt.alloc(), 7)
 }
