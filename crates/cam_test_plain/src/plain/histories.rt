@@ -1,8 +1,8 @@
 //! Random lists of deeds, on which the check and the plain machine by its definition answer alike.
 
 use super::before::Before;
-use super::lines;
 use super::next::Next;
+use super::{expected, lines};
 use crate::check::same;
 use cam_base::NoMemory;
 use cam_event::{Deed, Deeds};
@@ -53,15 +53,16 @@ fn objects(alloc: Global) -> Result<Objects, NoMemory> {
 }
 
 impl History {
-    fn new(alloc: Global, seed: u64) -> Result<History, NoMemory> {
-        Ok(History {
+    /// No deed is tried yet.
+    fn new(alloc: Global, seed: u64, objects: Objects) -> History {
+        History {
             draw: Draw::of(seed),
-            objects: objects(alloc)?,
+            objects,
             deeds: Deeds::new(alloc),
             names: Vec::new(alloc),
             legal: [0; 14],
             refused: [0; 14],
-        })
+        }
     }
 
     /// What is tried next: a deed, or none.
@@ -78,13 +79,18 @@ impl History {
         Ok(tried)
     }
 
-    /// Tries a deed: it stays where it is legal. Whether both answer alike.
-    fn try_deed(&mut self, alloc: Global, deed: &Deed) -> Result<bool, CheckFault> {
+    /// Whether a deed is legal now by the definition.
+    fn takes(&self, alloc: Global, deed: &Deed) -> Result<bool, NoMemory> {
         let before = Before {
             objects: &self.objects,
             deeds: self.deeds.as_slice(),
         };
-        let is_legal = before.takes(alloc, deed)?;
+        before.takes(alloc, deed)
+    }
+
+    /// Tries a deed: it stays where it is legal. Whether both answer alike.
+    fn try_deed(&mut self, alloc: Global, deed: &Deed) -> Result<bool, CheckFault> {
+        let is_legal = self.takes(alloc, deed)?;
         let at = self.deeds.len();
         let kind = DeedKind::of(deed);
         self.deeds.push_copy(deed)?;
@@ -96,13 +102,7 @@ impl History {
         }
         count(&mut self.refused, kind);
         self.deeds.remove(at);
-        Ok(
-            found
-                == Err(CheckFault::Illegal {
-                    at: at as u64,
-                    cause: kind,
-                }),
-        )
+        Ok(found == expected(&Some((at as u64, kind))))
     }
 
     fn note_name(&mut self, deed: &Deed) -> Result<(), NoMemory> {
@@ -114,29 +114,56 @@ impl History {
         Ok(())
     }
 
+    /// Tries what is next. Whether both answer alike.
+    fn try_next(&mut self, alloc: Global) -> Result<bool, CheckFault> {
+        let tried = self.next(alloc)?;
+        for deed in tried.as_slice() {
+            if !self.try_deed(alloc, deed)? {
+                return Ok(false);
+            }
+        }
+        Ok(true)
+    }
+
     /// The first of many deeds on which they do not answer alike.
     fn first_unlike(&mut self, alloc: Global) -> Result<Option<u32>, CheckFault> {
         for place in 0..TRIES {
-            let tried = self.next(alloc)?;
-            for deed in tried.as_slice() {
-                if !self.try_deed(alloc, deed)? {
-                    return Ok(Some(place));
-                }
+            if !self.try_next(alloc)? {
+                return Ok(Some(place));
             }
         }
         Ok(None)
     }
 
+    /// Whether both answer alike on the list without the deed at a place.
+    fn is_alike_without(&self, alloc: Global, left_out: usize) -> Result<bool, CheckFault> {
+        let less = without(alloc, self.deeds.as_slice(), left_out)?;
+        let found = check(alloc, &less, &self.objects);
+        Ok(found == lines::check(alloc, less.as_slice(), &self.objects))
+    }
+
     /// The first place, of every fifth one, without whose deed the list is not answered alike.
     fn first_unlike_without(&self, alloc: Global) -> Result<Option<usize>, CheckFault> {
         for left_out in (0..self.deeds.len()).step_by(5) {
-            let less = without(alloc, self.deeds.as_slice(), left_out)?;
-            let found = check(alloc, &less, &self.objects);
-            if found != lines::check(alloc, less.as_slice(), &self.objects) {
+            if !self.is_alike_without(alloc, left_out)? {
                 return Ok(Some(left_out));
             }
         }
         Ok(None)
+    }
+
+    /// Where this history, of this seed, is not answered alike.
+    fn difference(&mut self, alloc: Global, seed: u64) -> Result<Option<Unlike>, CheckFault> {
+        let first = self.first_unlike(alloc)?;
+        let first_without = self.first_unlike_without(alloc)?;
+        if first.is_none() && first_without.is_none() {
+            return Ok(None);
+        }
+        Ok(Some(Unlike {
+            seed,
+            first,
+            first_without,
+        }))
     }
 }
 
@@ -192,15 +219,9 @@ impl Tally {
 
     /// Adds what comes of the history of this seed.
     fn add(&mut self, alloc: Global, seed: u64) -> Result<(), CheckFault> {
-        let mut history = History::new(alloc, seed)?;
-        let first = history.first_unlike(alloc)?;
-        let first_without = history.first_unlike_without(alloc)?;
-        if first.is_some() || first_without.is_some() {
-            self.unlike = Some(Unlike {
-                seed,
-                first,
-                first_without,
-            });
+        let mut history = History::new(alloc, seed, objects(alloc)?);
+        if let Some(unlike) = history.difference(alloc, seed)? {
+            self.unlike = Some(unlike);
         }
         add(&mut self.legal, &history.legal);
         add(&mut self.refused, &history.refused);

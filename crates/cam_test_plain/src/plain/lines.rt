@@ -238,6 +238,19 @@ impl Before<'_> {
         self.has(&outcome) && !self.has(deed)
     }
 
+    /// A family depends on a site at a count.
+    fn depends_on(
+        &self,
+        alloc: Global,
+        family: &Name,
+        site: u8,
+        count: u32,
+    ) -> Result<bool, NoMemory> {
+        let mut pairs = Pairs::new(alloc);
+        self.add_deps(family, &mut pairs)?;
+        Ok(pairs.contains(&(site, count)))
+    }
+
     /// Once, for a family that has asked to commit, at the present count of a site on which it depends, when all its live
     /// operations there have been handed up to it.
     fn may_secure(
@@ -247,12 +260,11 @@ impl Before<'_> {
         site: u8,
         count: u32,
     ) -> Result<bool, NoMemory> {
-        let mut pairs = Pairs::new(alloc);
-        self.add_deps(family, &mut pairs)?;
+        let depends_on_it = self.depends_on(alloc, family, site, count)?;
         Ok(
             family.depth() == 1
                 && self.asked_commit(family)
-                && pairs.contains(&(site, count))
+                && depends_on_it
                 && count == self.count(site)
                 && !self.secured_at(family, site)
                 && self.is_handed_up(alloc, family, site)?,

@@ -4,7 +4,7 @@ use super::before::{Asked, Before};
 use cam_base::NoMemory;
 use cam_event::{Deed, Operation};
 use cam_names::Name;
-use cam_type::{Answer, apply, compatible, mode_of, site_of, start_of};
+use cam_type::{Answer, State, apply, compatible, mode_of, site_of, start_of};
 use std::alloc::Global;
 
 /// Operations in the order in which they were performed.
@@ -19,6 +19,31 @@ impl<'a> Before<'a> {
         }
     }
 
+    /// Adds the operation of a call that is performed now.
+    fn add_performed(
+        &self,
+        action: &Name,
+        number: u32,
+        answer: &Answer,
+        operations: &mut Performed,
+    ) -> Result<(), NoMemory> {
+        if let Some(call) = self.asked(action, number) {
+            operations.push(Operation {
+                action: *action,
+                number,
+                object: call.object,
+                op: call.op,
+                answer: *answer,
+            })?;
+        }
+        Ok(())
+    }
+
+    /// An operation outlives a crash of this site now.
+    fn outlives(&self, operation: &Operation, site: u8) -> bool {
+        self.site_of(operation) != site || self.secured_at(&operation.action.family(), site)
+    }
+
     /// The operations that no crash of their site has removed. It keeps those of families that were secured there before.
     fn surviving(&self, alloc: Global) -> Result<Performed, NoMemory> {
         let mut operations = Performed::new(alloc);
@@ -29,21 +54,10 @@ impl<'a> Before<'a> {
                     action,
                     number,
                     answer,
-                } => {
-                    if let Some(call) = before.asked(action, *number) {
-                        operations.push(Operation {
-                            action: *action,
-                            number: *number,
-                            object: call.object,
-                            op: call.op,
-                            answer: *answer,
-                        })?;
-                    }
+                } => before.add_performed(action, *number, answer, &mut operations)?,
+                Deed::Crash { site } => {
+                    operations.retain(|operation| before.outlives(operation, *site))
                 }
-                Deed::Crash { site } => operations.retain(|operation| {
-                    before.site_of(operation) != *site
-                        || before.secured_at(&operation.action.family(), *site)
-                }),
                 _ => {}
             }
         }
@@ -120,14 +134,20 @@ impl<'a> Before<'a> {
         Ok(None)
     }
 
+    /// Applies the live operations of an object.
+    fn apply_live(&self, alloc: Global, object: u8, state: &mut State) -> Result<(), NoMemory> {
+        for operation in self.live(alloc)?.as_slice() {
+            if operation.object == object {
+                apply(state, &operation.op)?;
+            }
+        }
+        Ok(())
+    }
+
     /// What a call answers at the value of its object.
     pub(super) fn answer(&self, alloc: Global, call: &Asked) -> Result<Answer, NoMemory> {
         let mut state = start_of(self.objects, call.object as usize)?;
-        for operation in self.live(alloc)?.as_slice() {
-            if operation.object == call.object {
-                apply(&mut state, &operation.op)?;
-            }
-        }
+        self.apply_live(alloc, call.object, &mut state)?;
         apply(&mut state, &call.op)
     }
 }
