@@ -8,7 +8,7 @@ mod standing;
 
 use crate::check::same;
 use cam_base::NoMemory;
-use cam_event::{Deed, Seen};
+use cam_event::{Deed, Deeds, Seen};
 use cam_names::Name;
 use cam_plain::{CheckFault, DeedKind, check, site_value};
 use cam_samples::{
@@ -140,14 +140,18 @@ fn each_deed_needs_what_came_before(rt: HostRuntime) -> Result<(), Fail> {
     Ok(())
 }
 
+/// The value of a register that is handed up past the top after these deeds.
+fn register_after(alloc: Global, deeds: &[Deed]) -> Result<State, NoMemory> {
+    let objects = registers(alloc, &[1])?;
+    value_after(alloc, deeds, &objects)
+}
+
 /// Before the site knows that the family committed, and after.
 #[test]
 fn a_value_is_handed_up_where_its_site_knows_of_the_commit(rt: HostRuntime) -> Result<(), Fail> {
-    let alloc = rt.alloc();
     let deeds = secured_write()?;
-    let objects = registers(alloc, &[1])?;
     for (deeds, value) in [(&deeds[..20], 0), (&deeds[..], 3)] {
-        let state = value_after(alloc, deeds, &objects)?;
+        let state = register_after(rt.alloc(), deeds)?;
         same(
             &rt,
             (deeds.len(), &state),
@@ -180,27 +184,47 @@ fn two_adders(one: Name, other: Name) -> [Deed; 17] {
     ]
 }
 
+/// Whether these deeds are legal over a counter that begins with 10.
+fn check_over_counter(alloc: Global, deeds: &[Deed]) -> Result<(), CheckFault> {
+    let objects = counter(alloc, 1, 10)?;
+    check_deeds(alloc, deeds, &objects)
+}
+
+/// The value of that counter that is handed up past the top after these deeds.
+fn counter_after(alloc: Global, deeds: &[Deed]) -> Result<State, NoMemory> {
+    let objects = counter(alloc, 1, 10)?;
+    value_after(alloc, deeds, &objects)
+}
+
 #[test]
 fn adders_stand_in_the_way_of_readers_alone(rt: HostRuntime) -> Result<(), Fail> {
-    let alloc = rt.alloc();
     let one = Name::parse("1.1.1")?;
     let deeds = two_adders(one, Name::parse("1.1.2")?);
-    let objects = counter(alloc, 1, 10)?;
-    same(&rt, check_deeds(alloc, &deeds, &objects), Ok(()));
-    let state = value_after(alloc, &deeds, &objects)?;
+    same(&rt, check_over_counter(rt.alloc(), &deeds), Ok(()));
+    let state = counter_after(rt.alloc(), &deeds)?;
     same(&rt, &state, &State::Counter(17));
     Ok(())
 }
 
-#[test]
-fn a_reader_waits_for_an_adder(rt: HostRuntime) -> Result<(), Fail> {
-    let alloc = rt.alloc();
-    let one = Name::parse("1.1.1")?;
-    let deeds = two_adders(one, Name::parse("1.1.2")?);
-    let objects = counter(alloc, 1, 10)?;
+/// The deeds of two adders until the early read, which is performed here.
+fn read_early(alloc: Global, one: Name, other: Name) -> Result<Deeds, NoMemory> {
+    let deeds = two_adders(one, other);
     let mut early = deeds_of(alloc, &deeds[..9])?;
     early.push_copy(&perform(one, 2, Answer::Value(22)))?;
-    let found = check(alloc, &early, &objects);
+    Ok(early)
+}
+
+/// Whether they are legal.
+fn check_read_early(alloc: Global, one: Name, other: Name) -> Result<(), CheckFault> {
+    let early = read_early(alloc, one, other)?;
+    check_over_counter(alloc, early.as_slice())
+}
+
+#[test]
+fn a_reader_waits_for_an_adder(rt: HostRuntime) -> Result<(), Fail> {
+    let one = Name::parse("1.1.1")?;
+    let other = Name::parse("1.1.2")?;
+    let found = check_read_early(rt.alloc(), one, other);
     same(&rt, found, expected(&Some((9, DeedKind::Perform))));
     Ok(())
 }
