@@ -2,7 +2,7 @@
 use crate::check::same;
 use cam_base::NoMemory;
 use cam_cut::{CutFault, cut_deeds, witness};
-use cam_event::{Deed, Deeds, LetterId, Note, Trace};
+use cam_event::{Deed, Deeds, Event, LetterId, Note, Trace};
 use cam_names::Name;
 use cam_samples::{
     abort, ask, ask_commit, call, commit, create, event, got_done, inform, perform, secure,
@@ -43,8 +43,11 @@ const EVENTS: [(u8, Option<(u64, u32)>); 27] = [
     (4, Some((25, 0))),
 ];
 
-/// The deeds of that run, each with the number of its event.
-fn deeds(p: Name, c: Name, d: Name) -> [(u64, Deed); 28] {
+/// A deed and the number of its event.
+type Dated = (u64, Deed);
+
+/// The deeds of that run until P has aborted C.
+fn first_deeds(p: Name, c: Name) -> [Dated; 8] {
     [
         (0, create(p)),
         (1, ask(p, c)),
@@ -54,6 +57,12 @@ fn deeds(p: Name, c: Name, d: Name) -> [(u64, Deed); 28] {
         (5, got_done(c, 1, Answer::Value(1))),
         (6, abort(c)),
         (6, inform(1, c, false)),
+    ]
+}
+
+/// Its deeds from there until D has got its answers.
+fn middle_deeds(c: Name, d: Name) -> [Dated; 9] {
+    [
         (7, create(d)),
         (8, call(d, 1, 0, Op::Write(2))),
         (9, inform(2, c, false)),
@@ -63,6 +72,12 @@ fn deeds(p: Name, c: Name, d: Name) -> [(u64, Deed); 28] {
         (12, inform(3, c, false)),
         (12, perform(d, 2, Answer::Ok)),
         (13, got_done(d, 2, Answer::Ok)),
+    ]
+}
+
+/// Its deeds from there to its end.
+fn last_deeds(c: Name, d: Name) -> [Dated; 11] {
+    [
         (14, ask_commit(d, 0)),
         (16, secure(d, 1)),
         (17, secure(d, 2)),
@@ -77,20 +92,14 @@ fn deeds(p: Name, c: Name, d: Name) -> [(u64, Deed); 28] {
     ]
 }
 
-/// The trace of that run. What its events sent and noted is left out, since nothing here looks at it.
-fn trace(alloc: Global, deeds: &[(u64, Deed)]) -> Result<Trace, NoMemory> {
-    let mut trace = Trace::new(alloc);
-    for (number, (node, got)) in EVENTS.iter().enumerate() {
-        let mut own = Deeds::new(alloc);
-        for (event, deed) in deeds {
-            if *event == number as u64 {
-                own.push_copy(deed)?;
-            }
+/// Adds those of these deeds that are of the event of a number.
+fn add_own(own: &mut Deeds, deeds: &[Dated], number: u64) -> Result<(), NoMemory> {
+    for (event, deed) in deeds {
+        if *event == number {
+            own.push_copy(deed)?;
         }
-        let got = got.map(|(event, place)| LetterId { event, place });
-        trace.push(event(alloc, *node, got, own.as_slice(), Note::Plain)?)?;
     }
-    Ok(trace)
+    Ok(())
 }
 
 /// The deeds of the events that are kept, where there is a flag for each event.
@@ -119,18 +128,41 @@ impl Names {
         })
     }
 
-    /// The trace of the run.
+    /// The deeds of the event of a number.
+    fn own_deeds(&self, alloc: Global, number: u64) -> Result<Deeds, NoMemory> {
+        let mut own = Deeds::new(alloc);
+        add_own(&mut own, &first_deeds(self.p, self.c), number)?;
+        add_own(&mut own, &middle_deeds(self.c, self.d), number)?;
+        add_own(&mut own, &last_deeds(self.c, self.d), number)?;
+        Ok(own)
+    }
+
+    /// The event of a number, at a node, which received a letter or none.
+    fn event(
+        &self,
+        alloc: Global,
+        number: u64,
+        node: u8,
+        got: Option<(u64, u32)>,
+    ) -> Result<Event, NoMemory> {
+        let own = self.own_deeds(alloc, number)?;
+        let got = got.map(|(event, place)| LetterId { event, place });
+        event(alloc, node, got, own.as_slice(), Note::Plain)
+    }
+
+    /// The trace of the run. What its events sent and noted is left out, since nothing here looks at it.
     fn trace(&self, alloc: Global) -> Result<Trace, NoMemory> {
-        trace(alloc, &deeds(self.p, self.c, self.d))
+        let mut trace = Trace::new(alloc);
+        for (number, (node, got)) in EVENTS.iter().enumerate() {
+            trace.push(self.event(alloc, number as u64, *node, *got)?)?;
+        }
+        Ok(trace)
     }
 }
 
-/// C asks for y after D has committed. In the past of that call, the last step of C's view, stands neither C's abort nor anything of D.
-#[test]
-fn the_witness_of_an_orphan_has_no_abort(rt: HostRuntime) -> Result<(), Fail> {
-    let names = Names::new()?;
-    let Names { p, c, .. } = names;
-    let expected = [
+/// The deeds of C's view.
+fn seen_by_c(p: Name, c: Name) -> [Deed; 7] {
+    [
         create(p),
         ask(p, c),
         create(c),
@@ -138,9 +170,16 @@ fn the_witness_of_an_orphan_has_no_abort(rt: HostRuntime) -> Result<(), Fail> {
         perform(c, 1, Answer::Value(1)),
         got_done(c, 1, Answer::Value(1)),
         call(c, 2, 1, Op::Read),
-    ];
+    ]
+}
+
+/// C asks for y after D has committed. In the past of that call, the last step of C's view, stands neither C's abort nor anything of D.
+#[test]
+fn the_witness_of_an_orphan_has_no_abort(rt: HostRuntime) -> Result<(), Fail> {
+    let names = Names::new()?;
+    let expected = seen_by_c(names.p, names.c);
     let trace = names.trace(rt.alloc())?;
-    let found = witness(rt.alloc(), &trace, &c)?;
+    let found = witness(rt.alloc(), &trace, &names.c)?;
     same(&rt, found.as_slice(), expected.as_slice());
     Ok(())
 }
@@ -155,26 +194,35 @@ fn what_was_not_created_has_no_witness(rt: HostRuntime) -> Result<(), Fail> {
     Ok(())
 }
 
-/// Of the last six events, without C's call of y: of all four nodes, and one of them has no deeds.
-#[test]
-fn a_cut_keeps_the_order_of_the_trace(rt: HostRuntime) -> Result<(), Fail> {
-    let names = Names::new()?;
-    let Names { c, d, .. } = names;
+/// A flag for each event: whether it is one of the last six, and not C's call of y.
+fn last_but_the_call() -> [bool; 27] {
     let mut keep = [false; 27];
     for number in 21..27 {
         keep[number] = number != 24;
     }
-    let expected = [
+    keep
+}
+
+/// The deeds of those events.
+fn deeds_but_the_call(c: Name, d: Name) -> [Deed; 6] {
+    [
         commit(d),
         inform(1, d, true),
         inform(2, d, true),
         inform(3, d, true),
         inform(4, c, false),
         inform(4, d, true),
-    ];
+    ]
+}
+
+/// Of the last six events, without C's call of y: of all four nodes, and one of them has no deeds.
+#[test]
+fn a_cut_keeps_the_order_of_the_trace(rt: HostRuntime) -> Result<(), Fail> {
+    let names = Names::new()?;
+    let expected = deeds_but_the_call(names.c, names.d);
     let trace = names.trace(rt.alloc())?;
     same(&rt, trace.len(), 27);
-    let kept = kept_deeds(rt.alloc(), &trace, &keep)?;
+    let kept = kept_deeds(rt.alloc(), &trace, &last_but_the_call())?;
     same(&rt, kept.as_slice(), expected.as_slice());
     Ok(())
 }
