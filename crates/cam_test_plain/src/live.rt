@@ -1,11 +1,11 @@
 //! `cam_live`: what stays live through a crash.
 use crate::check::same;
 use cam_base::NoMemory;
-use cam_event::Deed;
+use cam_event::{Deed, Deeds};
 use cam_live::{live, settled};
 use cam_names::Name;
 use cam_samples::{call, crash, deeds_of, inform, perform, registers, secure};
-use cam_type::{Answer, Op};
+use cam_type::{Answer, Objects, Op};
 use std::alloc::Global;
 use std::test::Fail;
 
@@ -41,8 +41,13 @@ impl Lived {
     fn after(alloc: Global, deeds: &[Deed]) -> Result<Lived, NoMemory> {
         let objects = registers(alloc, &[1, 1])?;
         let deeds = deeds_of(alloc, deeds)?;
-        let settles = settled(alloc, &deeds, &objects)?.len();
-        let live = live(alloc, &deeds, &objects)?;
+        Lived::of(alloc, &deeds, &objects)
+    }
+
+    /// What lives after these deeds over these objects.
+    fn of(alloc: Global, deeds: &Deeds, objects: &Objects) -> Result<Lived, NoMemory> {
+        let settles = settled(alloc, deeds, objects)?.len();
+        let live = live(alloc, deeds, objects)?;
         Ok(Lived {
             lives: live.len(),
             first: live.get(0).map(|first| first.action),

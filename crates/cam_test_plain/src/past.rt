@@ -5,6 +5,7 @@ use cam_event::{Body, Deeds, Event, LetterId, Note, Sent, SentList, Trace};
 use cam_past::{Clocks, clocks};
 use std::alloc::Global;
 use std::collections::BTreeSet;
+use std::process::Abort;
 use std::test::Fail;
 
 const EVENTS: u64 = 100;
@@ -56,6 +57,19 @@ fn sender(trace: &Trace, number: u64) -> Option<u64> {
     Some(letter.event)
 }
 
+/// Brings in the earlier events of a member's node, and the sender of its letter.
+fn add_before(trace: &Trace, member: u64, past: &mut BTreeSet<u64>) -> Result<(), Fail> {
+    for earlier in 0..member {
+        if node(trace, earlier) == node(trace, member) {
+            past.insert(earlier)?;
+        }
+    }
+    if let Some(sender) = sender(trace, member) {
+        past.insert(sender)?;
+    }
+    Ok(())
+}
+
 /// The past of an event by its definition: from the last event back, each member brings in the
 /// earlier events of its node, and the sender of its letter.
 fn past_of(alloc: Global, trace: &Trace, last: u64) -> Result<BTreeSet<u64>, Fail> {
@@ -63,14 +77,7 @@ fn past_of(alloc: Global, trace: &Trace, last: u64) -> Result<BTreeSet<u64>, Fai
     past.insert(last)?;
     for member in (0..EVENTS).rev() {
         if past.contains(&member) {
-            for earlier in 0..member {
-                if node(trace, earlier) == node(trace, member) {
-                    past.insert(earlier)?;
-                }
-            }
-            if let Some(sender) = sender(trace, member) {
-                past.insert(sender)?;
-            }
+            add_before(trace, member, &mut past)?;
         }
     }
     Ok(past)
@@ -97,17 +104,27 @@ fn count_in_past(clocks: &Clocks, last: u64) -> u32 {
     count
 }
 
-#[test]
-fn clocks_tell_the_past_that_its_definition_gives(rt: HostRuntime) -> Result<(), Fail> {
-    let alloc = rt.alloc();
-    let trace = crossing(alloc)?;
-    let clocks = clocks(alloc, &trace)?;
+/// The clocks and the definition give each event the same past. Of how many pairs the one event is in the past of the other.
+fn count_pairs(
+    rt: &impl Abort,
+    alloc: Global,
+    trace: &Trace,
+    clocks: &Clocks,
+) -> Result<u32, Fail> {
     let mut pairs = 0u32;
     for last in 0..EVENTS {
-        let unlike = first_unlike(&clocks, &past_of(alloc, &trace, last)?, last);
-        same(&rt, (last, unlike), (last, None));
-        pairs = pairs.saturating_add(count_in_past(&clocks, last));
+        let past = past_of(alloc, trace, last)?;
+        same(rt, (last, first_unlike(clocks, &past, last)), (last, None));
+        pairs = pairs.saturating_add(count_in_past(clocks, last));
     }
+    Ok(pairs)
+}
+
+#[test]
+fn clocks_tell_the_past_that_its_definition_gives(rt: HostRuntime) -> Result<(), Fail> {
+    let trace = crossing(rt.alloc())?;
+    let clocks = clocks(rt.alloc(), &trace)?;
+    let pairs = count_pairs(&rt, rt.alloc(), &trace, &clocks)?;
     same(&rt, pairs, 3313);
     let outside = (clocks.in_past(0, EVENTS), clocks.in_past(EVENTS, 0));
     same(&rt, outside, (false, false));
@@ -130,21 +147,24 @@ fn of_any_bytes(alloc: Global) -> Result<Trace, NoMemory> {
     Ok(trace)
 }
 
+/// Each pair of those events, and whether the first is in the past of the second.
+const PAIRS: [(u64, u64, bool); 9] = [
+    (0, 0, true),
+    (0, 1, true),
+    (0, 2, true),
+    (1, 0, false),
+    (1, 1, true),
+    (1, 2, true),
+    (2, 0, false),
+    (2, 1, false),
+    (2, 2, true),
+];
+
 #[test]
 fn any_byte_is_a_node(rt: HostRuntime) -> Result<(), Fail> {
     let trace = of_any_bytes(rt.alloc())?;
     let clocks = clocks(rt.alloc(), &trace)?;
-    for (i, j, is_in_past) in [
-        (0, 0, true),
-        (0, 1, true),
-        (0, 2, true),
-        (1, 0, false),
-        (1, 1, true),
-        (1, 2, true),
-        (2, 0, false),
-        (2, 1, false),
-        (2, 2, true),
-    ] {
+    for (i, j, is_in_past) in PAIRS {
         same(&rt, (i, j, clocks.in_past(i, j)), (i, j, is_in_past));
     }
     Ok(())

@@ -14,6 +14,7 @@ use cam_serial::{SerialList, replays};
 use cam_type::{Answer, Op};
 use found::{ALL_IS_MET, Found, Wanted, illegal};
 use std::alloc::Global;
+use std::process::Abort;
 use std::test::Fail;
 
 // Each action has at most one call, which is its first, and each site and home is at its first count.
@@ -36,9 +37,36 @@ fn a_read_after_a_write(writer: Name, reader: Name) -> [Deed; 12] {
     ]
 }
 
+/// The names of two top actions, of which the second commits first, and of the two children of the first.
+#[derive(Clone, Copy)]
+struct Names {
+    first: Name,
+    second: Name,
+    kept: Name,
+    lost: Name,
+}
+
+impl Names {
+    /// All are at home at node 1.
+    fn new() -> Result<Names, Fail> {
+        Ok(Names {
+            first: Name::parse("1.1.1")?,
+            second: Name::parse("1.1.2")?,
+            kept: Name::parse("1.1.1/1.1.1")?,
+            lost: Name::parse("1.1.1/1.1.2")?,
+        })
+    }
+}
+
 /// Two top actions that commit in the other order than they began. The first has two children: one writes at node 1 and commits, and one
 /// writes at node 2, which never hears that it aborted.
-fn overtaken([first, second, kept, lost]: [Name; 4]) -> [Deed; 26] {
+fn overtaken(names: Names) -> [Deed; 26] {
+    let Names {
+        first,
+        second,
+        kept,
+        lost,
+    } = names;
     [
         create(first),
         create(second),
@@ -143,13 +171,34 @@ fn found_of_both(
     Found::of(alloc, &deeds, &objects, &lists)
 }
 
+/// The deeds are legal, and each of the two names has this list.
+fn check_both(
+    rt: &impl Abort,
+    alloc: Global,
+    deeds: &[Deed],
+    one: Option<&Name>,
+    other: Option<&Name>,
+    calls: &[(Name, Answer)],
+) -> Result<(), Fail> {
+    let found = found_of_both(alloc, deeds, one, other, calls)?;
+    same(
+        rt,
+        (deeds.len(), calls.len(), found),
+        (deeds.len(), calls.len(), ALL_IS_MET),
+    );
+    Ok(())
+}
+
 #[test]
 fn top_actions_come_in_order_of_their_commits(rt: HostRuntime) -> Result<(), Fail> {
-    let first = Name::parse("1.1.1")?;
-    let second = Name::parse("1.1.2")?;
-    let kept = Name::parse("1.1.1/1.1.1")?;
-    let lost = Name::parse("1.1.1/1.1.2")?;
-    let deeds = overtaken([first, second, kept, lost]);
+    let names = Names::new()?;
+    let Names {
+        first,
+        second,
+        kept,
+        lost,
+    } = names;
+    let deeds = overtaken(names);
     let whole = [(second, Answer::Ok), (kept, Answer::Ok), (lost, Answer::Ok)];
     for (deeds, one, other, calls) in [
         (&deeds[..24], None, Some(&second), &whole[..1]),
@@ -157,12 +206,7 @@ fn top_actions_come_in_order_of_their_commits(rt: HostRuntime) -> Result<(), Fai
         (&deeds[..24], Some(&lost), Some(&lost), &whole[..3]),
         (&deeds[..], None, Some(&lost), &whole[..2]),
     ] {
-        let found = found_of_both(rt.alloc(), deeds, one, other, calls)?;
-        same(
-            &rt,
-            (deeds.len(), calls.len(), found),
-            (deeds.len(), calls.len(), ALL_IS_MET),
-        );
+        check_both(&rt, rt.alloc(), deeds, one, other, calls)?;
     }
     Ok(())
 }
@@ -194,9 +238,8 @@ fn adders_come_in_order_of_their_commits(rt: HostRuntime) -> Result<(), Fail> {
     Ok(())
 }
 
-/// Whether calls of a register with these answers, in this order, replay.
-fn replay(alloc: Global, calls: &[(Op, Answer)]) -> Result<bool, Fail> {
-    let action = Name::parse("1.1.1")?;
+/// The serial list of calls of a register with these answers, each the first of the action.
+fn list_of(alloc: Global, action: Name, calls: &[(Op, Answer)]) -> Result<SerialList, NoMemory> {
     let mut list = SerialList::new(alloc);
     for (op, answer) in calls {
         list.push_copy(&Operation {
@@ -207,6 +250,12 @@ fn replay(alloc: Global, calls: &[(Op, Answer)]) -> Result<bool, Fail> {
             answer: *answer,
         })?;
     }
+    Ok(list)
+}
+
+/// Whether calls of a register with these answers, in this order, replay.
+fn replay(alloc: Global, calls: &[(Op, Answer)]) -> Result<bool, Fail> {
+    let list = list_of(alloc, Name::parse("1.1.1")?, calls)?;
     let objects = registers(alloc, &[1])?;
     Ok(replays(alloc, &list, &objects)?)
 }
