@@ -7,6 +7,7 @@ use cam_names::Name;
 use cam_samples::{abort, crash, deeds_of, sent_of};
 use cam_why::{Link, Why, WhyFault, chain};
 use std::alloc::Global;
+use std::process::Abort;
 use std::test::Fail;
 
 /// Of an event its node, the event whose letter it received, its deed, and its note.
@@ -19,6 +20,21 @@ fn trace(alloc: Global, events: &[Told]) -> Result<Trace, NoMemory> {
         trace.push(event(alloc, told)?)?;
     }
     Ok(trace)
+}
+
+/// An event without a letter or a deed.
+fn plain(node: u8) -> Told {
+    (node, None, None, Note::Plain)
+}
+
+/// An event that received the letter of another.
+fn reached(node: u8, sender: u64) -> Told {
+    (node, Some(sender), None, Note::Plain)
+}
+
+/// An event with a deed.
+fn does(node: u8, deed: Deed) -> Told {
+    (node, None, Some(deed), Note::Plain)
 }
 
 fn event(alloc: Global, (node, sender, deed, note): &Told) -> Result<Event, NoMemory> {
@@ -63,28 +79,39 @@ fn stopped_by_abort(name: Name) -> Note {
 /// events stop `child`.
 fn given_up(alloc: Global, child: Name) -> Result<Trace, NoMemory> {
     let events = [
-        (1, None, None, Note::Plain),
-        (1, None, None, Note::Plain),
-        (3, Some(1), None, Note::Plain),
-        (1, None, Some(abort(child)), Note::Plain),
-        (1, None, None, Note::Plain),
-        (2, Some(4), None, Note::Plain),
-        (3, None, None, Note::Plain),
+        plain(1),
+        plain(1),
+        reached(3, 1),
+        does(1, abort(child)),
+        plain(1),
+        reached(2, 4),
+        plain(3),
         (2, Some(6), None, stopped_by_abort(child)),
         (3, Some(7), None, stopped_by_abort(child)),
     ];
     trace(alloc, &events)
 }
 
+/// The stop of an event has this cause, and these letters lead to it from there.
+fn check_chain(
+    rt: &impl Abort,
+    alloc: Global,
+    trace: &Trace,
+    event: u32,
+    cause: u64,
+    wanted: &[Link],
+) -> Result<(), Fail> {
+    let why = chain(alloc, trace, event)?;
+    same(rt, (event, why.cause, links(&why)), (event, cause, wanted));
+    Ok(())
+}
+
 #[test]
 fn an_abort_leads_to_a_stop_over_the_fewest_letters(rt: HostRuntime) -> Result<(), Fail> {
     let chained = [letter(4, 5), letter(7, 8)];
     let trace = given_up(rt.alloc(), Name::parse("1.1.1/3.1.1")?)?;
-    for (event, wanted) in [(8, &chained[..]), (7, &chained[..1])] {
-        let why = chain(rt.alloc(), &trace, event)?;
-        same(&rt, (event, why.cause, links(&why)), (event, 3, wanted));
-    }
-    Ok(())
+    check_chain(&rt, rt.alloc(), &trace, 8, 3, &chained)?;
+    check_chain(&rt, rt.alloc(), &trace, 7, 3, &chained[..1])
 }
 
 /// Of an event that stopped no action, and of one that there is not.
@@ -106,17 +133,17 @@ fn restarted(alloc: Global, action: Name) -> Result<Trace, NoMemory> {
         new: 2,
     };
     let events = [
-        (1, None, None, Note::Plain),
-        (1, None, None, Note::Plain),
-        (2, Some(1), None, Note::Plain),
-        (1, Some(2), None, Note::Plain),
-        (2, None, Some(crash(2)), Note::Plain),
-        (2, None, None, Note::Plain),
-        (3, Some(5), None, Note::Plain),
-        (3, None, Some(crash(3)), Note::Plain),
-        (1, None, None, Note::Plain),
+        plain(1),
+        plain(1),
+        reached(2, 1),
+        reached(1, 2),
+        does(2, crash(2)),
+        plain(2),
+        reached(3, 5),
+        does(3, crash(3)),
+        plain(1),
         (3, Some(8), None, Note::Missed),
-        (2, None, Some(crash(2)), Note::Plain),
+        does(2, crash(2)),
         (1, Some(9), None, Note::Stopped(action, reason)),
     ];
     trace(alloc, &events)
@@ -126,9 +153,7 @@ fn restarted(alloc: Global, action: Name) -> Result<Trace, NoMemory> {
 fn a_crash_leads_to_a_stop_through_a_node_that_restarted(rt: HostRuntime) -> Result<(), Fail> {
     let chained = [letter(5, 6), letter(9, 11)];
     let trace = restarted(rt.alloc(), Name::parse("1.1.1")?)?;
-    let why = chain(rt.alloc(), &trace, 11)?;
-    same(&rt, (why.cause, links(&why)), (4, chained.as_slice()));
-    Ok(())
+    check_chain(&rt, rt.alloc(), &trace, 11, 4, &chained)
 }
 
 #[test]
