@@ -8,7 +8,7 @@ use cam_know::{Outcome, Reason};
 use cam_names::{Deps, Name};
 use cam_server::Performed;
 use cam_type::{Answer, Op};
-use site::{Step, addressed, called, first_other};
+use site::{Step, addressed, called, crash_orphan, first_other};
 use std::test::Fail;
 
 /// *A call arrives*, tests *busy* and *again*. Two top actions and a register: the second finds it busy, and so does its repeat when the first has committed.
@@ -76,39 +76,58 @@ fn a_late_call_of_a_committed_family_has_ended(rt: HostRuntime) -> Result<(), Fa
     Ok(())
 }
 
-/// *A call arrives*, test *orphan*. An abort drops what was written. A repeat comes before the orphan test, and this before the lock in the way: by the own abort, and by
-/// what a sibling that committed had visited.
+/// A child writes and is aborted, and then calls again while another action holds the lock.
+fn orphaned_by_abort(child: &Name, other: &Name) -> [Step; 6] {
+    let done = Performed::Done(Answer::Ok);
+    let again = Performed::Again(Reply::Done(Answer::Ok));
+    let orphan = Performed::Orphan(Reason::Abort(*child));
+    [
+        called(child, 1, Op::Write(5), done),
+        called(other, 1, Op::Read, Performed::Busy(*child)),
+        Step::Told(Outcome::Aborted(*child)),
+        called(child, 1, Op::Write(5), again),
+        called(other, 2, Op::Swap(2), Performed::Done(Answer::Value(1))),
+        called(child, 2, Op::Read, orphan),
+    ]
+}
+
+/// *A call arrives*, test *orphan*. An abort drops what was written. A repeat comes before the orphan test, and this before the lock in the way: by
+/// the own abort.
 #[test]
-fn an_orphan_is_refused(rt: HostRuntime) -> Result<(), Fail> {
-    let c = Name::parse("1.1.1/4.1.1")?;
-    let e = Name::parse("1.1.1/1.1.2")?;
-    let f = Name::parse("1.1.1/1.1.3")?;
-    let d = Name::parse("1.1.2")?;
-    let by_abort = Performed::Orphan(Reason::Abort(c));
-    let by_crash = Performed::Orphan(Reason::Crash {
-        node: 4,
-        old: 1,
-        new: 2,
-    });
-    let steps = [
-        called(&c, 1, Op::Write(5), Performed::Done(Answer::Ok)),
-        called(&d, 1, Op::Read, Performed::Busy(c)),
-        Step::Told(Outcome::Aborted(c)),
-        called(
-            &c,
-            1,
-            Op::Write(5),
-            Performed::Again(Reply::Done(Answer::Ok)),
-        ),
-        called(&d, 2, Op::Swap(2), Performed::Done(Answer::Value(1))),
-        called(&c, 2, Op::Read, by_abort),
-        called(&f, 1, Op::Read, Performed::Busy(d)),
-        Step::Told(Outcome::Committed(e, Deps::none().with(1, 1).with(4, 1))),
-        called(&f, 2, Op::Read, Performed::Busy(d)),
+fn an_orphan_by_an_abort_is_refused(rt: HostRuntime) -> Result<(), Fail> {
+    let child = Name::parse("1.1.1/4.1.1")?;
+    let other = Name::parse("1.1.2")?;
+    let steps = orphaned_by_abort(&child, &other);
+    same(&rt, first_other(rt.alloc(), 3, 1, &steps)?, None);
+    Ok(())
+}
+
+/// A child of node 4 writes and is aborted. A second child of its parent commits, which has visited node 4, and a third calls before and after
+/// that node restarts, while another action holds the lock.
+fn orphaned_by_crash(first: &Name, second: &Name, third: &Name, other: &Name) -> [Step; 9] {
+    let visited = Deps::none().with(1, 1).with(4, 1);
+    let busy = Performed::Busy(*other);
+    [
+        called(first, 1, Op::Write(5), Performed::Done(Answer::Ok)),
+        Step::Told(Outcome::Aborted(*first)),
+        called(other, 2, Op::Swap(2), Performed::Done(Answer::Value(1))),
+        called(third, 1, Op::Read, busy),
+        Step::Told(Outcome::Committed(*second, visited)),
+        called(third, 2, Op::Read, busy),
         Step::Restarted(4, 2),
-        called(&f, 3, Op::Read, by_crash),
-        called(&d, 3, Op::Read, Performed::Done(Answer::Value(2))),
-    ];
+        called(third, 3, Op::Read, crash_orphan(4, 1, 2)),
+        called(other, 3, Op::Read, Performed::Done(Answer::Value(2))),
+    ]
+}
+
+/// *A call arrives*, test *orphan*, before the lock in the way: by what a sibling that committed had visited.
+#[test]
+fn an_orphan_by_a_crash_is_refused(rt: HostRuntime) -> Result<(), Fail> {
+    let first = Name::parse("1.1.1/4.1.1")?;
+    let second = Name::parse("1.1.1/1.1.2")?;
+    let third = Name::parse("1.1.1/1.1.3")?;
+    let other = Name::parse("1.1.2")?;
+    let steps = orphaned_by_crash(&first, &second, &third, &other);
     same(&rt, first_other(rt.alloc(), 3, 1, &steps)?, None);
     Ok(())
 }

@@ -1,8 +1,8 @@
 //! What a site answers after a restart of its own, and after one of a node that the caller has visited.
-use super::site::{Call, Step, addressed, called, first_other};
+use super::site::{Call, Step, addressed, called, crash_orphan, first_other};
 use crate::check::same;
 use cam_event::Reply;
-use cam_know::{Outcome, Reason};
+use cam_know::Outcome;
 use cam_names::{Deps, Name};
 use cam_server::Performed;
 use cam_type::{Answer, Op};
@@ -64,16 +64,8 @@ fn what_was_visited_makes_an_orphan(rt: HostRuntime) -> Result<(), Fail> {
     let zero = Answer::Value(0);
     let older = Deps::none().with(1, 1).with(2, 1).with(4, 5);
     let newer = Deps::none().with(1, 1).with(2, 1).with(4, 6);
-    let second = Performed::Orphan(Reason::Crash {
-        node: 2,
-        old: 1,
-        new: 2,
-    });
-    let fourth = Performed::Orphan(Reason::Crash {
-        node: 4,
-        old: 5,
-        new: 6,
-    });
+    let second = crash_orphan(2, 1, 2);
+    let fourth = crash_orphan(4, 5, 6);
     let steps = [
         visiting(&a, 1, &older, Performed::Done(zero)),
         Step::Restarted(4, 6),

@@ -1,6 +1,6 @@
 //! A site that serves a register and a queue, and steps that are played at it.
 use cam_base::NoMemory;
-use cam_know::{Know, Outcome};
+use cam_know::{Know, Outcome, Reason};
 use cam_locks::{LockTable, may_restore};
 use cam_names::{Deps, Name};
 use cam_server::{Performed, Server};
@@ -61,6 +61,11 @@ pub(super) fn addressed(action: &Name, number: u32, op: Op, count: u32, answer: 
     Step::Called(call, answer)
 }
 
+/// What an action is answered that is an orphan since a node that was visited at the one count is now at the other.
+pub(super) fn crash_orphan(node: u8, old: u32, new: u32) -> Performed {
+    Performed::Orphan(Reason::Crash { node, old, new })
+}
+
 /// A node that serves a register and a queue, at its count 1.
 #[derive(Drop)]
 struct Site {
@@ -109,9 +114,15 @@ impl Site {
 
     /// The node restarts, at this count: what it knows and what it has secured stay.
     fn crash(&mut self, alloc: Global, count: u32) -> Result<(), Fail> {
-        let table = self.restored(alloc)?;
-        self.server = Server::new(alloc, table, count);
+        let server = self.restarted(alloc, count)?;
+        self.server = server;
         Ok(())
+    }
+
+    /// The server after a restart, at this count.
+    fn restarted(&self, alloc: Global, count: u32) -> Result<Server, Fail> {
+        let table = self.restored(alloc)?;
+        Ok(Server::new(alloc, table, count))
     }
 
     /// The locks of what was secured.
@@ -233,6 +244,26 @@ fn new_server(alloc: Global, node: u8, objects: &Objects) -> Result<Server, NoMe
     Ok(Server::new(alloc, table, 1))
 }
 
+/// What holds the state of an object while none is called.
+fn new_holders(alloc: Global) -> Holders {
+    Holders {
+        register: RegisterServer::new(),
+        queue: QueueServer::new(alloc),
+    }
+}
+
+/// The node of these objects, which knows nothing and has secured nothing.
+fn site_of(alloc: Global, node: u8, objects: Objects, server: Server) -> Site {
+    Site {
+        objects,
+        node,
+        held: HeldList::new(alloc),
+        know: Know::new(alloc),
+        server,
+        holders: new_holders(alloc),
+    }
+}
+
 /// The first of these steps, one after the other at a node whose register begins with this value, whose call is answered otherwise.
 pub(super) fn first_other(
     alloc: Global,
@@ -242,16 +273,6 @@ pub(super) fn first_other(
 ) -> Result<Option<Other>, Fail> {
     let objects = two_objects(alloc, node, value)?;
     let server = new_server(alloc, node, &objects)?;
-    let mut site = Site {
-        objects,
-        node,
-        held: HeldList::new(alloc),
-        know: Know::new(alloc),
-        server,
-        holders: Holders {
-            register: RegisterServer::new(),
-            queue: QueueServer::new(alloc),
-        },
-    };
+    let mut site = site_of(alloc, node, objects, server);
     site.first_other(alloc, steps)
 }
