@@ -5,7 +5,10 @@ use crate::check::same;
 use cam_commit::{Asked, Queried, Voted};
 use cam_know::Outcome;
 use cam_names::{Deps, Name};
-use node::{Act, Answer, first_other};
+use node::{
+    Act, Answer, begins_to_prepare, first_other, is_preparing, is_to_secure, learns, query,
+    secures, votes_no, votes_yes,
+};
 use std::test::Fail;
 
 /// What a family depends on: nodes 1 and 2 at their first counts.
@@ -21,19 +24,19 @@ fn the_last_yes_commits_and_the_first_no_aborts(rt: HostRuntime) -> Result<(), F
     let other = Name::parse("1.2.2")?;
     let deps = Deps::none().with(1, 2).with(3, 5);
     let steps = [
-        (Act::Yes(family, 1, 2), Answer::Voted(Voted::Late)),
-        (Act::IsPreparing(family), Answer::Is(false)),
-        (Act::BeginsToPrepare(family), Answer::Done),
-        (Act::IsPreparing(other), Answer::Is(false)),
-        (Act::BeginsToPrepare(other), Answer::Done),
-        (Act::Yes(family, 3, 4), Answer::Voted(Voted::Some)),
-        (Act::Yes(family, 1, 2), Answer::Voted(Voted::Some)),
-        (Act::Yes(family, 1, 2), Answer::Voted(Voted::Some)),
-        (Act::Yes(family, 3, 5), Answer::Voted(Voted::All)),
-        (Act::Yes(family, 3, 5), Answer::Voted(Voted::Late)),
-        (Act::IsPreparing(other), Answer::Is(true)),
-        (Act::No(other, 3, 4), Answer::Voted(Voted::No)),
-        (Act::Yes(other, 3, 5), Answer::Voted(Voted::Late)),
+        votes_yes(family, 1, 2, Voted::Late),
+        is_preparing(family, false),
+        begins_to_prepare(family),
+        is_preparing(other, false),
+        begins_to_prepare(other),
+        votes_yes(family, 3, 4, Voted::Some),
+        votes_yes(family, 1, 2, Voted::Some),
+        votes_yes(family, 1, 2, Voted::Some),
+        votes_yes(family, 3, 5, Voted::All),
+        votes_yes(family, 3, 5, Voted::Late),
+        is_preparing(other, true),
+        votes_no(other, 3, 4, Voted::No),
+        votes_yes(other, 3, 5, Voted::Late),
     ];
     same(&rt, first_other(rt.alloc(), &deps, &steps)?, None);
     Ok(())
@@ -46,16 +49,13 @@ fn a_site_that_secured_votes_yes_at_an_old_count(rt: HostRuntime) -> Result<(), 
     let family = Name::parse("1.2.1")?;
     let other = Name::parse("1.2.2")?;
     let steps = [
-        (Act::IsToSecure(family, 3, 3), Answer::Asked(Asked::Secure)),
-        (Act::IsToSecure(family, 2, 3), Answer::Asked(Asked::Refuse)),
-        (Act::Secures(family), Answer::Done),
-        (
-            Act::IsToSecure(family, 2, 3),
-            Answer::Asked(Asked::AlreadyYes),
-        ),
-        (Act::IsToSecure(other, 3, 3), Answer::Asked(Asked::Secure)),
-        (Act::Learns(Outcome::Aborted(family)), Answer::Done),
-        (Act::IsToSecure(family, 3, 3), Answer::Asked(Asked::Late)),
+        is_to_secure(family, 3, 3, Asked::Secure),
+        is_to_secure(family, 2, 3, Asked::Refuse),
+        secures(family),
+        is_to_secure(family, 2, 3, Asked::AlreadyYes),
+        is_to_secure(other, 3, 3, Asked::Secure),
+        learns(Outcome::Aborted(family)),
+        is_to_secure(family, 3, 3, Asked::Late),
     ];
     same(&rt, first_other(rt.alloc(), &Deps::none(), &steps)?, None);
     Ok(())
@@ -68,11 +68,8 @@ fn a_site_that_secured_votes_yes_after_a_restart(rt: HostRuntime) -> Result<(), 
     let other = Name::parse("1.2.2")?;
     let steps = [
         (Act::RestartsWith(family), Answer::Done),
-        (
-            Act::IsToSecure(family, 2, 4),
-            Answer::Asked(Asked::AlreadyYes),
-        ),
-        (Act::IsToSecure(other, 2, 4), Answer::Asked(Asked::Refuse)),
+        is_to_secure(family, 2, 4, Asked::AlreadyYes),
+        is_to_secure(other, 2, 4, Asked::Refuse),
     ];
     same(&rt, first_other(rt.alloc(), &Deps::none(), &steps)?, None);
     Ok(())
@@ -85,10 +82,10 @@ fn a_query_aborts_an_open_family_of_an_older_count(rt: HostRuntime) -> Result<()
     let deps = Deps::none().with(1, 2);
     let committed = Outcome::Committed(family, deps);
     let steps = [
-        (Act::Query(family, 2), Answer::Queried(Queried::StillOpen)),
-        (Act::Query(family, 3), Answer::Queried(Queried::Abort)),
-        (Act::Learns(committed), Answer::Done),
-        (Act::Query(family, 3), Answer::Queried(Queried::Tell)),
+        query(family, 2, Queried::StillOpen),
+        query(family, 3, Queried::Abort),
+        learns(committed),
+        query(family, 3, Queried::Tell),
     ];
     same(&rt, first_other(rt.alloc(), &deps, &steps)?, None);
     Ok(())
@@ -101,16 +98,13 @@ fn a_prepare_comes_late_for_a_family_that_has_committed(rt: HostRuntime) -> Resu
     let other = Name::parse("1.1.2")?;
     let deps = first_counts();
     let steps = [
-        (Act::Secures(family), Answer::Done),
-        (Act::Learns(Outcome::Committed(family, deps)), Answer::Done),
-        (
-            Act::Learns(Outcome::Committed(other, Deps::none().with(1, 1))),
-            Answer::Done,
-        ),
-        (Act::IsToSecure(family, 1, 1), Answer::Asked(Asked::Late)),
-        (Act::IsToSecure(family, 1, 2), Answer::Asked(Asked::Late)),
-        (Act::IsToSecure(other, 1, 1), Answer::Asked(Asked::Late)),
-        (Act::IsToSecure(other, 1, 2), Answer::Asked(Asked::Late)),
+        secures(family),
+        learns(Outcome::Committed(family, deps)),
+        learns(Outcome::Committed(other, Deps::none().with(1, 1))),
+        is_to_secure(family, 1, 1, Asked::Late),
+        is_to_secure(family, 1, 2, Asked::Late),
+        is_to_secure(other, 1, 1, Asked::Late),
+        is_to_secure(other, 1, 2, Asked::Late),
     ];
     same(&rt, first_other(rt.alloc(), &deps, &steps)?, None);
     Ok(())
@@ -123,13 +117,13 @@ fn a_site_that_restarted_votes_no(rt: HostRuntime) -> Result<(), Fail> {
     let deps = first_counts();
     let at_site = [
         (Act::Restarts, Answer::Done),
-        (Act::IsToSecure(family, 1, 2), Answer::Asked(Asked::Refuse)),
+        is_to_secure(family, 1, 2, Asked::Refuse),
     ];
     let at_home = [
-        (Act::BeginsToPrepare(family), Answer::Done),
-        (Act::Yes(family, 1, 1), Answer::Voted(Voted::Some)),
-        (Act::No(family, 2, 1), Answer::Voted(Voted::No)),
-        (Act::IsPreparing(family), Answer::Is(false)),
+        begins_to_prepare(family),
+        votes_yes(family, 1, 1, Voted::Some),
+        votes_no(family, 2, 1, Voted::No),
+        is_preparing(family, false),
     ];
     same(&rt, first_other(rt.alloc(), &deps, &at_site)?, None);
     same(&rt, first_other(rt.alloc(), &deps, &at_home)?, None);
@@ -144,12 +138,12 @@ fn a_query_is_told_an_abort(rt: HostRuntime) -> Result<(), Fail> {
     let deps = first_counts();
     let steps = [
         (Act::Restarts, Answer::Done),
-        (Act::Query(family, 1), Answer::Queried(Queried::StillOpen)),
-        (Act::Query(family, 2), Answer::Queried(Queried::Abort)),
-        (Act::Learns(Outcome::Aborted(family)), Answer::Done),
-        (Act::Query(family, 2), Answer::Queried(Queried::Tell)),
-        (Act::Query(family, 1), Answer::Queried(Queried::Tell)),
-        (Act::Yes(family, 2, 1), Answer::Voted(Voted::Late)),
+        query(family, 1, Queried::StillOpen),
+        query(family, 2, Queried::Abort),
+        learns(Outcome::Aborted(family)),
+        query(family, 2, Queried::Tell),
+        query(family, 1, Queried::Tell),
+        votes_yes(family, 2, 1, Voted::Late),
     ];
     same(&rt, first_other(rt.alloc(), &deps, &steps)?, None);
     Ok(())

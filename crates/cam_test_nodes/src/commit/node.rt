@@ -43,6 +43,50 @@ pub(super) enum Answer {
     Queried(Queried),
 }
 
+/// What happens at a node, and what it should answer.
+pub(super) type Step = (Act, Answer);
+
+/// It begins to prepare a family, and may.
+pub(super) fn begins_to_prepare(family: Name) -> Step {
+    (Act::BeginsToPrepare(family), Answer::Done)
+}
+
+/// Whether it is preparing a family.
+pub(super) fn is_preparing(family: Name, is_so: bool) -> Step {
+    (Act::IsPreparing(family), Answer::Is(is_so))
+}
+
+/// Another node, at a count, votes yes for a family.
+pub(super) fn votes_yes(family: Name, node: u8, count: u32, voted: Voted) -> Step {
+    (Act::Yes(family, node, count), Answer::Voted(voted))
+}
+
+/// Another node, at a count, votes no.
+pub(super) fn votes_no(family: Name, node: u8, count: u32, voted: Voted) -> Step {
+    (Act::No(family, node, count), Answer::Voted(voted))
+}
+
+/// It is to secure a family for the first count, and is at the second.
+pub(super) fn is_to_secure(family: Name, count: u32, present: u32, asked: Asked) -> Step {
+    let act = Act::IsToSecure(family, count, present);
+    (act, Answer::Asked(asked))
+}
+
+/// It has secured a family.
+pub(super) fn secures(family: Name) -> Step {
+    (Act::Secures(family), Answer::Done)
+}
+
+/// It is asked after a family, and is at this count.
+pub(super) fn query(family: Name, present: u32, queried: Queried) -> Step {
+    (Act::Query(family, present), Answer::Queried(queried))
+}
+
+/// It learns how a family ended.
+pub(super) fn learns(outcome: Outcome) -> Step {
+    (Act::Learns(outcome), Answer::Done)
+}
+
 /// A node: what it knows, the families that it commits, and what each of these depends on.
 #[derive(Drop)]
 struct Node {
@@ -64,7 +108,7 @@ impl Node {
     fn first_other(
         &mut self,
         alloc: Global,
-        steps: &[(Act, Answer)],
+        steps: &[Step],
     ) -> Result<Option<(usize, Answer)>, NoMemory> {
         for (place, (act, wanted)) in steps.iter().enumerate() {
             let got = self.answer(alloc, act)?;
@@ -147,7 +191,7 @@ impl Node {
 pub(super) fn first_other(
     alloc: Global,
     deps: &Deps,
-    steps: &[(Act, Answer)],
+    steps: &[Step],
 ) -> Result<Option<(usize, Answer)>, NoMemory> {
     let mut node = Node::new(alloc, deps);
     node.first_other(alloc, steps)
