@@ -58,6 +58,12 @@ fn what_is_seen_of_an_answer(rt: HostRuntime) -> Result<(), Fail> {
     same(&rt, of_done, (value, false, Some(home_and_site())));
     let of_busy = answered(&rt, rt.alloc(), &busy, 7)?;
     same(&rt, of_busy, (held, false, Some(home())));
+    Ok(())
+}
+
+/// The same of what is no answer: the call stays open.
+#[test]
+fn a_call_that_was_not_served_stays_open(rt: HostRuntime) -> Result<(), Fail> {
     for reply in [Reply::Missed, Reply::Refused] {
         let got = answered(&rt, rt.alloc(), &reply, 7)?;
         let wanted = (Taken::Late, true, Some(home()));
@@ -79,18 +85,23 @@ fn every_answer_is_gone_after_a_crash(rt: HostRuntime) -> Result<(), Fail> {
     Ok(())
 }
 
+/// The top action begins, and its first call is answered. Then it makes its second.
+fn call_twice(rt: &impl Abort, homed: &mut Homed, top: &Name) {
+    let busy = Reply::Busy(*top);
+    let seen = Taken::Got(Seen::Busy(*top));
+    same(rt, begun(homed), Some(*top));
+    same(rt, called(homed, top), Some(1));
+    same(rt, homed.answer(top, 1, &busy, 7), seen);
+    same(rt, called(homed, top), Some(2));
+}
+
 /// *An answer arrives*, test *late*. The answer to an earlier call, and to a call of an action that has ended, is late.
 #[test]
 fn only_the_open_call_is_answered(rt: HostRuntime) -> Result<(), Fail> {
     let top = Name::parse("1.2.1")?;
     let done = Reply::Done(Answer::Value(6));
-    let busy = Reply::Busy(top);
-    let seen = Taken::Got(Seen::Busy(top));
     let mut homed = Homed::new(rt.alloc(), 1, 2);
-    same(&rt, begun(&mut homed), Some(top));
-    same(&rt, called(&mut homed, &top), Some(1));
-    same(&rt, homed.answer(&top, 1, &busy, 7), seen);
-    same(&rt, called(&mut homed, &top), Some(2));
+    call_twice(&rt, &mut homed, &top);
     let earlier = homed.answer(&top, 1, &done, 7);
     let is_open = homed.awaits(&top, 2);
     let has_quit = quits(&mut homed, &top);

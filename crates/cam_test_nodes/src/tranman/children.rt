@@ -118,34 +118,55 @@ fn children_are_decided_once(rt: HostRuntime) -> Result<(), Fail> {
     Ok(())
 }
 
-/// *Ask*, and test *late* of *A child finishes*. Children are numbered in the order in which they were asked for, whatever their nodes. They are decided while their parent goes on: no child of
-/// an action that has ended is, nor one of an action of an older count, or of one that was not created.
+/// The top action begins, and asks for a child at its node and then for one at node 5.
+fn ask_for_two(rt: &impl Abort, homed: &mut Homed, top: &Name, here: &Name, there: &Name) {
+    same(rt, begun(homed), Some(*top));
+    same(rt, asked(homed, top, 1), Some(*here));
+    same(rt, asked(homed, top, 5), Some(*there));
+}
+
+/// *Ask*. Children are numbered in the order in which they were asked for, whatever their nodes. They are decided while their parent goes on: no
+/// child of an action that has ended is.
 #[test]
 fn a_child_is_decided_while_its_parent_goes_on(rt: HostRuntime) -> Result<(), Fail> {
     let top = Name::parse("1.2.1")?;
     let here = Name::parse("1.2.1/1.1.1")?;
     let there = Name::parse("1.2.1/5.1.2")?;
-    let older = Name::parse("1.1.1/5.1.1")?;
-    let unknown = Name::parse("1.2.2/5.1.1")?;
     let mut homed = Homed::new(rt.alloc(), 1, 2);
-    same(&rt, begun(&mut homed), Some(top));
-    same(&rt, asked(&mut homed, &top, 1), Some(here));
-    same(&rt, asked(&mut homed, &top, 5), Some(there));
-    for (child, decides) in [
-        (&here, true),
-        (&there, true),
-        (&older, false),
-        (&unknown, false),
-        (&top, false),
-    ] {
-        same(&rt, (*child, homed.decides(child)), (*child, decides));
-    }
+    ask_for_two(&rt, &mut homed, &top, &here, &there);
+    same(
+        &rt,
+        (homed.decides(&here), homed.decides(&there)),
+        (true, true),
+    );
     holds(&rt, quits(&mut homed, &top));
     same(
         &rt,
         (homed.decides(&here), homed.decides(&there)),
         (false, false),
     );
+    Ok(())
+}
+
+/// None of these is to be decided.
+fn decide_none(rt: &impl Abort, homed: &Homed, children: &[Name]) {
+    for child in children {
+        same(rt, (*child, homed.decides(child)), (*child, false));
+    }
+}
+
+/// *A child finishes*, test *late*. Neither the child of an action of an older count is decided, nor that of an action that was not created, nor
+/// a top action.
+#[test]
+fn no_child_of_an_action_that_is_not_here_is_decided(rt: HostRuntime) -> Result<(), Fail> {
+    let top = Name::parse("1.2.1")?;
+    let here = Name::parse("1.2.1/1.1.1")?;
+    let there = Name::parse("1.2.1/5.1.2")?;
+    let older = Name::parse("1.1.1/5.1.1")?;
+    let unknown = Name::parse("1.2.2/5.1.1")?;
+    let mut homed = Homed::new(rt.alloc(), 1, 2);
+    ask_for_two(&rt, &mut homed, &top, &here, &there);
+    decide_none(&rt, &homed, &[older, unknown, top]);
     Ok(())
 }
 

@@ -61,6 +61,17 @@ fn a_child_that_is_there_starts_no_more(rt: HostRuntime) -> Result<(), Fail> {
     Ok(())
 }
 
+/// An answer to the first call of an action is late, whatever the count of its site. The action does not await it.
+fn check_late(rt: &impl Abort, homed: &mut Homed, action: &Name) {
+    let zero = Reply::Done(Answer::Value(0));
+    let told = homed.taken(action, 1, &zero, 7);
+    let at_count = homed.answer(action, 1, &zero, 7);
+    let after_crash = homed.answer(action, 1, &zero, 8);
+    let late = (Taken::Late, Taken::Late, Taken::Late);
+    same(rt, (told, at_count, after_crash), late);
+    same(rt, homed.awaits(action, 1), false);
+}
+
 /// *An answer arrives*, test *late*: the count of the action is not the present one. Before the restart the action had the call of this number
 /// open, and so has now the first top action of the present count.
 #[test]
@@ -72,13 +83,8 @@ fn the_answer_to_an_action_of_an_older_count_is_late(rt: HostRuntime) -> Result<
     let mut homed = Homed::new(rt.alloc(), 1, 2);
     same(&rt, begun(&mut homed), Some(present));
     same(&rt, called(&mut homed, &present), Some(1));
-    let told = homed.taken(&older, 1, &zero, 7);
-    let at_count = homed.answer(&older, 1, &zero, 7);
-    let after_crash = homed.answer(&older, 1, &zero, 8);
-    let late = (Taken::Late, Taken::Late, Taken::Late);
-    same(&rt, (told, at_count, after_crash), late);
-    let awaited = (homed.awaits(&older, 1), homed.awaits(&present, 1));
-    same(&rt, awaited, (false, true));
+    check_late(&rt, &mut homed, &older);
+    same(&rt, homed.awaits(&present, 1), true);
     same(&rt, homed.answer(&present, 1, &zero, 7), seen);
     Ok(())
 }

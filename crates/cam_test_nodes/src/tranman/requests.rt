@@ -93,11 +93,23 @@ fn check_parent(rt: &impl Abort, homed: &Homed, named: &Named) {
     same(rt, first_other(homed, &named.parent, &rows), None);
 }
 
-fn check_ended(rt: &impl Abort, homed: &Homed, named: &Named) {
-    for want in [ASK, READ, COMMIT, ABORT, Want::GiveUp(named.child)] {
-        let got = refused(homed, &named.ended, &want);
-        same(rt, (want, got), (want, Some(LineRefusal::Ended)));
+/// Each of these requests of an action is refused so.
+fn check_refused(
+    rt: &impl Abort,
+    homed: &Homed,
+    action: &Name,
+    wants: &[Want],
+    refusal: LineRefusal,
+) {
+    for want in wants {
+        let got = refused(homed, action, want);
+        same(rt, (*want, got), (*want, Some(refusal)));
     }
+}
+
+fn check_ended(rt: &impl Abort, homed: &Homed, named: &Named) {
+    let wants = [ASK, READ, COMMIT, ABORT, Want::GiveUp(named.child)];
+    check_refused(rt, homed, &named.ended, &wants, LineRefusal::Ended);
 }
 
 /// The tests of a request in their order: each, for an action that calls, one with an open child, and one that has ended.
@@ -121,14 +133,9 @@ fn an_action_that_is_not_here_is_refused(rt: HostRuntime) -> Result<(), Fail> {
     let unknown = Name::parse("3.2.5")?;
     let mut homed = Homed::new(rt.alloc(), 3, 2);
     begin_all(&rt, &mut homed, &named);
-    for want in [ASK, ABORT] {
-        let got = refused(&homed, &older, &want);
-        same(&rt, (want, got), (want, Some(LineRefusal::Ended)));
-    }
-    for want in [ASK, READ, COMMIT, ABORT, Want::GiveUp(named.child)] {
-        let got = refused(&homed, &unknown, &want);
-        same(&rt, (want, got), (want, Some(LineRefusal::NotOpen)));
-    }
+    check_refused(&rt, &homed, &older, &[ASK, ABORT], LineRefusal::Ended);
+    let wants = [ASK, READ, COMMIT, ABORT, Want::GiveUp(named.child)];
+    check_refused(&rt, &homed, &unknown, &wants, LineRefusal::NotOpen);
     Ok(())
 }
 
@@ -143,10 +150,8 @@ fn end_others(rt: &impl Abort, homed: &mut Homed, named: &Named) {
 fn check_others_ended(rt: &impl Abort, homed: &Homed, named: &Named) {
     let calling = refused(homed, &named.calling, &READ);
     same(rt, calling, Some(LineRefusal::Ended));
-    for want in [COMMIT, Want::GiveUp(named.child)] {
-        let parent = refused(homed, &named.parent, &want);
-        same(rt, (want, parent), (want, Some(LineRefusal::Ended)));
-    }
+    let wants = [COMMIT, Want::GiveUp(named.child)];
+    check_refused(rt, homed, &named.parent, &wants, LineRefusal::Ended);
 }
 
 /// Whoever has ended is refused as such, whatever is open.
