@@ -1,5 +1,6 @@
 #!/usr/bin/env python3
-"""What the gate takes, from nothing: gate.py [COMMIT] runs `rt ci --anew` in a fresh clone of COMMIT (HEAD, where none is named).
+"""What the gate takes, from nothing: gate.py [COMMIT [CRATE..]] runs `rt ci --anew` in a fresh clone of COMMIT (HEAD, where none is named),
+for these crates and those below them, or for all where none is named.
 
 It writes the processor seconds (user and system) that the prover took for each crate: `proofs` for the crate itself, which for a program
 has its two builds; `tests` for the crate with its tests; `base` for the checks of the unchanged crate before its edits and after them;
@@ -135,10 +136,10 @@ def line(name, row):
     return f"{name:18}" + "".join(f"{row[column]:8.0f}" for column in COLUMNS)
 
 
-def measure(clone, said):
+def measure(clone, crates, said):
     """Runs the gate in the clone, and returns the prover's calls, and the gate's status, or None where it was stopped."""
     calls = Calls()
-    gate = subprocess.Popen(["rt", "ci", "--anew"], cwd=clone, stdin=subprocess.DEVNULL, stdout=said, stderr=subprocess.STDOUT)
+    gate = subprocess.Popen(["rt", "ci", "--anew", *crates], cwd=clone, stdin=subprocess.DEVNULL, stdout=said, stderr=subprocess.STDOUT)
     status = None
     try:
         while status is None:
@@ -182,14 +183,14 @@ def main():
     if not shutil.which("rt"):
         sys.exit("the command rt is not on the path")
     top = os.path.dirname(os.path.dirname(os.path.abspath(__file__)))
-    commit = output_of("git", "-C", top, "rev-parse", "--short", *(sys.argv[1:] or ["HEAD"]))
+    commit = output_of("git", "-C", top, "rev-parse", "--short", *(sys.argv[1:2] or ["HEAD"]))
     where = f"commit {commit}, {output_of('rt', 'version')}, {len(os.sched_getaffinity(0))} processors"
     began = time.time()
     with tempfile.TemporaryDirectory(dir=os.environ.get("bench_folder"), ignore_cleanup_errors=True) as room:
         output_of("git", "clone", "-q", top, f"{room}/clone")
         output_of("git", "-C", f"{room}/clone", "checkout", "-q", commit)
         with open(f"{room}/said", "w+", encoding="utf-8", errors="replace") as said:
-            calls, status = measure(f"{room}/clone", said)
+            calls, status = measure(f"{room}/clone", sys.argv[2:], said)
             said.seek(0)
             lines = said.read().splitlines() or [f"ended with status {status}"]
         ended = "stopped" if status is None else lines[-1]

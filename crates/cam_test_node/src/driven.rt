@@ -83,7 +83,7 @@ fn check_told(table: &str, line: &str, told: &str, want: &str) -> Result<(), Fai
     if told == want {
         return Ok(());
     }
-    Err(Fail::new(format_args!("{line} | {told}, in the table: {table}")))
+    Err(Fail::new(format_args!("{line} | {told}, in place of {want}, in the table: {table}")))
 }
 
 /// What a line comes to, in words.
@@ -108,18 +108,18 @@ fn stopped<D: Disk>(
     calls: u32,
 ) -> Result<String, Fail> {
     node.stop_after(calls);
-    words(alloc, "stopped")
+    owned(alloc, "stopped")
 }
 
 /// The disk goes on.
 fn cleared<D: Disk>(alloc: Global, node: &mut Node<Ckpt<StopDisk<D>>>) -> Result<String, Fail> {
     node.clear();
-    words(alloc, "cleared")
+    owned(alloc, "cleared")
 }
 
 /// These words, as they stand.
-fn words(alloc: Global, words: &str) -> Result<String, Fail> {
-    Ok(String::from_str(alloc, words)?)
+fn owned(alloc: Global, text: &str) -> Result<String, Fail> {
+    Ok(String::from_str(alloc, text)?)
 }
 
 /// The two objects.
@@ -234,16 +234,16 @@ fn stepped_text(alloc: Global, stepped: &Stepped) -> Result<String, Fail> {
 /// What stands against an input.
 fn refusal_text(alloc: Global, refusal: Refusal) -> Result<String, Fail> {
     match refusal {
-        Refusal::Halted => words(alloc, "halted before"),
+        Refusal::Halted => owned(alloc, "halted before"),
         Refusal::Line(refusal) => Ok(format!(in alloc; "refused {refusal:?}")?),
-        Refusal::MayNotStep => words(alloc, "may not be put to a node"),
+        Refusal::MayNotStep => owned(alloc, "may not be put to a node"),
     }
 }
 
 fn fault_text(alloc: Global, fault: NodeFault, is_halted: bool) -> Result<String, Fail> {
     match fault {
-        NodeFault::DiskFault if is_halted => words(alloc, "disk fault, halted"),
-        NodeFault::DiskFault => words(alloc, "disk fault"),
+        NodeFault::DiskFault if is_halted => owned(alloc, "disk fault, halted"),
+        NodeFault::DiskFault => owned(alloc, "disk fault"),
         NodeFault::NoMemory => Err(fault.into()),
     }
 }

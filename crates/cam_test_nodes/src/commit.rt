@@ -6,8 +6,8 @@ use cam_commit::{Asked, Queried, Voted};
 use cam_know::Outcome;
 use cam_names::{Deps, Name};
 use node::{
-    Act, Answer, begins_to_prepare, first_other, is_preparing, is_to_secure, learns, query,
-    secures, votes_no, votes_yes,
+    begins_to_prepare, first_other, is_preparing, is_to_secure, learns, query, restarts,
+    restarts_with, secures, votes_no, votes_yes,
 };
 use std::test::Fail;
 
@@ -67,7 +67,7 @@ fn a_site_that_secured_votes_yes_after_a_restart(rt: HostRuntime) -> Result<(), 
     let family = Name::parse("1.2.1")?;
     let other = Name::parse("1.2.2")?;
     let steps = [
-        (Act::RestartsWith(family), Answer::Done),
+        restarts_with(family),
         is_to_secure(family, 2, 4, Asked::AlreadyYes),
         is_to_secure(other, 2, 4, Asked::Refuse),
     ];
@@ -115,10 +115,7 @@ fn a_prepare_comes_late_for_a_family_that_has_committed(rt: HostRuntime) -> Resu
 fn a_site_that_restarted_votes_no(rt: HostRuntime) -> Result<(), Fail> {
     let family = Name::parse("1.1.1")?;
     let deps = first_counts();
-    let at_site = [
-        (Act::Restarts, Answer::Done),
-        is_to_secure(family, 1, 2, Asked::Refuse),
-    ];
+    let at_site = [restarts(), is_to_secure(family, 1, 2, Asked::Refuse)];
     let at_home = [
         begins_to_prepare(family),
         votes_yes(family, 1, 1, Voted::Some),
@@ -137,7 +134,7 @@ fn a_query_is_told_an_abort(rt: HostRuntime) -> Result<(), Fail> {
     let family = Name::parse("1.1.1")?;
     let deps = first_counts();
     let steps = [
-        (Act::Restarts, Answer::Done),
+        restarts(),
         query(family, 1, Queried::StillOpen),
         query(family, 2, Queried::Abort),
         learns(Outcome::Aborted(family)),

@@ -91,8 +91,8 @@ fn orphaned_by_abort(child: &Name, other: &Name) -> [Step; 6] {
     ]
 }
 
-/// *A call arrives*, test *orphan*. An abort drops what was written. A repeat comes before the orphan test, and this before the lock in the way: by
-/// the own abort.
+/// *A call arrives*, test *orphan*, by the action's own abort. The abort drops what was written. A repeat comes before the orphan test, and
+/// this before the lock in the way.
 #[test]
 fn an_orphan_by_an_abort_is_refused(rt: HostRuntime) -> Result<(), Fail> {
     let child = Name::parse("1.1.1/4.1.1")?;
@@ -102,21 +102,21 @@ fn an_orphan_by_an_abort_is_refused(rt: HostRuntime) -> Result<(), Fail> {
     Ok(())
 }
 
-/// A child of node 4 writes and is aborted. A second child of its parent commits, which has visited node 4, and a third calls before and after
-/// that node restarts, while another action holds the lock.
+/// A child of node 4 writes and is aborted, which makes no orphan of its siblings. A second child of its parent commits, which has visited
+/// node 4, and a third calls before and after that node restarts, while another action holds the lock.
 fn orphaned_by_crash(first: &Name, second: &Name, third: &Name, other: &Name) -> [Step; 9] {
     let visited = Deps::none().with(1, 1).with(4, 1);
     let busy = Performed::Busy(*other);
     [
         called(first, 1, Op::Write(5), Performed::Done(Answer::Ok)),
         Step::Told(Outcome::Aborted(*first)),
-        called(other, 2, Op::Swap(2), Performed::Done(Answer::Value(1))),
+        called(other, 1, Op::Swap(2), Performed::Done(Answer::Value(1))),
         called(third, 1, Op::Read, busy),
         Step::Told(Outcome::Committed(*second, visited)),
         called(third, 2, Op::Read, busy),
         Step::Restarted(4, 2),
         called(third, 3, Op::Read, crash_orphan(4, 1, 2)),
-        called(other, 3, Op::Read, Performed::Done(Answer::Value(2))),
+        called(other, 2, Op::Read, Performed::Done(Answer::Value(2))),
     ]
 }
 

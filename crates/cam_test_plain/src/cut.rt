@@ -160,8 +160,8 @@ impl Names {
     }
 }
 
-/// The deeds of C's view.
-fn seen_by_c(p: Name, c: Name) -> [Deed; 7] {
+/// The deeds of C's witness.
+fn witness_of_c(p: Name, c: Name) -> [Deed; 7] {
     [
         create(p),
         ask(p, c),
@@ -177,7 +177,7 @@ fn seen_by_c(p: Name, c: Name) -> [Deed; 7] {
 #[test]
 fn the_witness_of_an_orphan_has_no_abort(rt: HostRuntime) -> Result<(), Fail> {
     let names = Names::new()?;
-    let expected = seen_by_c(names.p, names.c);
+    let expected = witness_of_c(names.p, names.c);
     let trace = names.trace(rt.alloc())?;
     let found = witness(rt.alloc(), &trace, &names.c)?;
     same(&rt, found.as_slice(), expected.as_slice());
@@ -203,7 +203,7 @@ fn last_but_the_call() -> [bool; 27] {
     keep
 }
 
-/// The deeds of those events.
+/// The deeds of the events with that flag.
 fn deeds_but_the_call(c: Name, d: Name) -> [Deed; 6] {
     [
         commit(d),

@@ -104,8 +104,8 @@ fn count_in_past(clocks: &Clocks, last: u64) -> u32 {
     count
 }
 
-/// The clocks and the definition give each event the same past. Of how many pairs the one event is in the past of the other.
-fn count_pairs(
+/// The clocks and the definition give each event the same past. It answers for how many pairs the one event is in the past of the other.
+fn check_pasts(
     rt: &impl Abort,
     alloc: Global,
     trace: &Trace,
@@ -124,7 +124,7 @@ fn count_pairs(
 fn clocks_tell_the_past_that_its_definition_gives(rt: HostRuntime) -> Result<(), Fail> {
     let trace = crossing(rt.alloc())?;
     let clocks = clocks(rt.alloc(), &trace)?;
-    let pairs = count_pairs(&rt, rt.alloc(), &trace, &clocks)?;
+    let pairs = check_pasts(&rt, rt.alloc(), &trace, &clocks)?;
     same(&rt, pairs, 3313);
     let outside = (clocks.in_past(0, EVENTS), clocks.in_past(EVENTS, 0));
     same(&rt, outside, (false, false));

@@ -86,6 +86,7 @@ const FAULTS: [Option<(u64, DeedKind)>; 25] = [
     None,
 ];
 
+/// What the check answers where the deed at this place, of this kind, is at fault; or where none is.
 fn expected(fault: &Option<(u64, DeedKind)>) -> Result<(), CheckFault> {
     match fault {
         Some((at, cause)) => Err(CheckFault::Illegal {

@@ -92,7 +92,7 @@ fn given_up(alloc: Global, child: Name) -> Result<Trace, NoMemory> {
     trace(alloc, &events)
 }
 
-/// The stop of an event has this cause, and these letters lead to it from there.
+/// The stop of an event has this cause, and these letters lead from the cause to the stop.
 fn check_chain(
     rt: &impl Abort,
     alloc: Global,

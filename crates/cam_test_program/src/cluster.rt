@@ -170,7 +170,7 @@ fn check_told(line: &str, told: &str, want: &str) -> Result<(), Fail> {
     Ok(())
 }
 
-/// Fails where the line of a row does not come to what it has to in the record of its run, and counts it.
+/// Fails where a line does not come to what stands after its bar, and counts the event or the mark that it came to.
 fn check_line(
     alloc: Global,
     line: &str,

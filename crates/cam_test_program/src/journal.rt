@@ -275,7 +275,7 @@ fn check_said(
     number: u64,
     next: &mut Next,
 ) -> Result<(), Fail> {
-    let (at, said) = gathered.take().ok_or("an event is left")?;
+    let (at, said) = gathered.take().ok_or("an event is missing")?;
     same(rt, (at, said), (number, next.due(said)));
     Ok(())
 }

@@ -1,4 +1,4 @@
-//! A run for the tests of the texts, with the letters and the notes that other runs have not.
+//! A run for the tests of the texts, with the letters and the notes that no other traced run has.
 
 use cam_base::NoMemory;
 use cam_event::{Body, Deeds, Event, LetterId, Marks, Note, RunRecord, Sent, SentList, Trace};
@@ -58,7 +58,7 @@ fn push_got(alloc: Global, trace: &mut Trace, place: u32, note: Note) -> Result<
     trace.push(event)
 }
 
-/// Adds an event with each note but that of the first event.
+/// Adds an event with each note, but that of the first event, that no other traced run has.
 fn push_each_note(alloc: Global, trace: &mut Trace) -> Result<(), NoMemory> {
     push_got(alloc, trace, 0, Note::Missed)?;
     push_got(alloc, trace, 1, Note::Again)?;
@@ -74,7 +74,7 @@ fn events(alloc: Global, family: Name) -> Result<Trace, NoMemory> {
     Ok(trace)
 }
 
-/// A run of an event that sends a letter of each of these kinds, and of one with each other note.
+/// A run of an event that sends each of those letters, and of one with each of those notes.
 pub(crate) fn each_letter_and_note(alloc: Global) -> Result<RunRecord, Fail> {
     let family = Name::parse("1.1.1")?;
     Ok(RunRecord {

@@ -1,5 +1,5 @@
 //! Tests of `cam_words` and `cam_script` (by the parser), `cam_gen`, `cam_args`, `cam_body` and `cam_report` through their public calls,
-//! a module for each.
+//! a module for each; `letters` and `traces` make runs for the tests of the texts.
 #![tactic(auto)]
 
 #[cfg(test)]

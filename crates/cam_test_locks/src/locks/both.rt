@@ -132,12 +132,12 @@ impl Both {
     /// Whether something of a family stands there, and what is secured of it.
     pub(super) fn family(&self, family: &Name) -> Result<bool, NoMemory> {
         let one = self.plain.secured(family)?;
-        let is_secured = self.secures(family, &one)?;
+        let is_secured = self.is_secured_as(family, &one)?;
         Ok(is_secured && self.locks.has_family(family) != one.is_empty())
     }
 
     /// Whether this is what is secured of a family.
-    fn secures(&self, family: &Name, ops: &HeldOps) -> Result<bool, NoMemory> {
+    fn is_secured_as(&self, family: &Name, ops: &HeldOps) -> Result<bool, NoMemory> {
         let held = self.locks.secure(family, 7)?;
         Ok(held.family == *family && held.count == 7 && held.ops == *ops)
     }

@@ -49,7 +49,8 @@ impl Words<'_> {
         self.asked(action, number)
     }
 
-    /// The rest of a call after its action and its number: the object, what is asked of it, and the count that is addressed.
+    /// The rest of a call after its action and its number: the object, what is asked of it, the count that is addressed, and what the action
+    /// depends on.
     fn asked(&mut self, action: Name, number: u32) -> Result<Body, Fail> {
         let object = self.small()?;
         let op = self.op()?;

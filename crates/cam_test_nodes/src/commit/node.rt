@@ -46,6 +46,16 @@ pub(super) enum Answer {
 /// What happens at a node, and what it should answer.
 pub(super) type Step = (Act, Answer);
 
+/// It restarts, and its log has this family as secured at its count 2.
+pub(super) fn restarts_with(family: Name) -> Step {
+    (Act::RestartsWith(family), Answer::Done)
+}
+
+/// It restarts, and its log has no family.
+pub(super) fn restarts() -> Step {
+    (Act::Restarts, Answer::Done)
+}
+
 /// It begins to prepare a family, and may.
 pub(super) fn begins_to_prepare(family: Name) -> Step {
     (Act::BeginsToPrepare(family), Answer::Done)

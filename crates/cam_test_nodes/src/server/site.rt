@@ -61,7 +61,7 @@ pub(super) fn addressed(action: &Name, number: u32, op: Op, count: u32, answer: 
     Step::Called(call, answer)
 }
 
-/// What an action is answered that is an orphan since a node that was visited at the one count is now at the other.
+/// The answer to an orphan that has visited a node at the count `old`, where `new` is known.
 pub(super) fn crash_orphan(node: u8, old: u32, new: u32) -> Performed {
     Performed::Orphan(Reason::Crash { node, old, new })
 }
@@ -84,7 +84,29 @@ struct Holders {
     queue: QueueServer,
 }
 
+impl Holders {
+    /// What holds the state of an object while none is called.
+    fn new(alloc: Global) -> Holders {
+        Holders {
+            register: RegisterServer::new(),
+            queue: QueueServer::new(alloc),
+        }
+    }
+}
+
 impl Site {
+    /// The node of these objects, which knows nothing and has secured nothing.
+    fn new(alloc: Global, node: u8, objects: Objects, server: Server) -> Site {
+        Site {
+            objects,
+            node,
+            held: HeldList::new(alloc),
+            know: Know::new(alloc),
+            server,
+            holders: Holders::new(alloc),
+        }
+    }
+
     /// What the call is answered. None where no call may come so.
     fn call(&mut self, call: &Call) -> Result<Option<Performed>, NoMemory> {
         match call.op {
@@ -244,26 +266,6 @@ fn new_server(alloc: Global, node: u8, objects: &Objects) -> Result<Server, NoMe
     Ok(Server::new(alloc, table, 1))
 }
 
-/// What holds the state of an object while none is called.
-fn new_holders(alloc: Global) -> Holders {
-    Holders {
-        register: RegisterServer::new(),
-        queue: QueueServer::new(alloc),
-    }
-}
-
-/// The node of these objects, which knows nothing and has secured nothing.
-fn site_of(alloc: Global, node: u8, objects: Objects, server: Server) -> Site {
-    Site {
-        objects,
-        node,
-        held: HeldList::new(alloc),
-        know: Know::new(alloc),
-        server,
-        holders: new_holders(alloc),
-    }
-}
-
 /// The first of these steps, one after the other at a node whose register begins with this value, whose call is answered otherwise.
 pub(super) fn first_other(
     alloc: Global,
@@ -273,6 +275,6 @@ pub(super) fn first_other(
 ) -> Result<Option<Other>, Fail> {
     let objects = two_objects(alloc, node, value)?;
     let server = new_server(alloc, node, &objects)?;
-    let mut site = site_of(alloc, node, objects, server);
+    let mut site = Site::new(alloc, node, objects, server);
     site.first_other(alloc, steps)
 }

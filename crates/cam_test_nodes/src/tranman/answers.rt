@@ -61,7 +61,8 @@ fn what_is_seen_of_an_answer(rt: HostRuntime) -> Result<(), Fail> {
     Ok(())
 }
 
-/// The same of what is no answer: the call stays open.
+/// *An answer arrives*, at the count at which the site was addressed: a reply that says *missed* or *refused* is late, and the call stays
+/// open.
 #[test]
 fn a_call_that_was_not_served_stays_open(rt: HostRuntime) -> Result<(), Fail> {
     for reply in [Reply::Missed, Reply::Refused] {
@@ -72,7 +73,7 @@ fn a_call_that_was_not_served_stays_open(rt: HostRuntime) -> Result<(), Fail> {
     Ok(())
 }
 
-/// The same where the site's count is known as 8, after a crash.
+/// *An answer arrives*, where the site's count is known as 8, after a crash: whatever the reply, the answer is gone.
 #[test]
 fn every_answer_is_gone_after_a_crash(rt: HostRuntime) -> Result<(), Fail> {
     let done = Reply::Done(Answer::Value(6));

@@ -125,8 +125,8 @@ fn ask_for_two(rt: &impl Abort, homed: &mut Homed, top: &Name, here: &Name, ther
     same(rt, asked(homed, top, 5), Some(*there));
 }
 
-/// *Ask*. Children are numbered in the order in which they were asked for, whatever their nodes. They are decided while their parent goes on: no
-/// child of an action that has ended is.
+/// *Ask*, and test *late* of *A child finishes*. Children are numbered in the order in which they were asked for, whatever their nodes. They are
+/// decided while their parent goes on: no child of an action that has ended is.
 #[test]
 fn a_child_is_decided_while_its_parent_goes_on(rt: HostRuntime) -> Result<(), Fail> {
     let top = Name::parse("1.2.1")?;
@@ -149,9 +149,9 @@ fn a_child_is_decided_while_its_parent_goes_on(rt: HostRuntime) -> Result<(), Fa
 }
 
 /// None of these is to be decided.
-fn decide_none(rt: &impl Abort, homed: &Homed, children: &[Name]) {
-    for child in children {
-        same(rt, (*child, homed.decides(child)), (*child, false));
+fn check_none_decided(rt: &impl Abort, homed: &Homed, names: &[Name]) {
+    for name in names {
+        same(rt, (*name, homed.decides(name)), (*name, false));
     }
 }
 
@@ -166,7 +166,7 @@ fn no_child_of_an_action_that_is_not_here_is_decided(rt: HostRuntime) -> Result<
     let unknown = Name::parse("1.2.2/5.1.1")?;
     let mut homed = Homed::new(rt.alloc(), 1, 2);
     ask_for_two(&rt, &mut homed, &top, &here, &there);
-    decide_none(&rt, &homed, &[older, unknown, top]);
+    check_none_decided(&rt, &homed, &[older, unknown, top]);
     Ok(())
 }
 

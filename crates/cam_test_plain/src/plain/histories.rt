@@ -8,7 +8,7 @@ use cam_base::NoMemory;
 use cam_event::{Deed, Deeds};
 use cam_names::Name;
 use cam_plain::{CheckFault, DeedKind, check};
-use cam_samples::{Draw, deeds_of, without};
+use cam_samples::{Draw, without};
 use cam_type::{Items, ObjectDecl, Objects, State};
 use std::alloc::Global;
 use std::test::Fail;

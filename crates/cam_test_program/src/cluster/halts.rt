@@ -82,7 +82,7 @@ fn halted_after(alloc: Global, calls: u32) -> Result<Halted, Fail> {
     halt_of(alloc, &script)
 }
 
-/// Fails where something else comes of a halt.
+/// Fails where something else comes of a halt than is to come of it, and tells after how many calls its disk stopped.
 fn check_halt(rt: &impl Abort, alloc: Global, halt: Halt) -> Result<(), Fail> {
     let halted = halted_after(alloc, halt.calls)?;
     check_numbers(rt, halt, &halted);
@@ -91,7 +91,7 @@ fn check_halt(rt: &impl Abort, alloc: Global, halt: Halt) -> Result<(), Fail> {
     Ok(())
 }
 
-/// Fails where there are more or fewer events, or not two marks: the other mark is that of the line that the halted node refuses.
+/// Fails where there are more or fewer events, or not two marks: that of the halt, and that of the line that the halted node refuses.
 fn check_numbers(rt: &impl Abort, halt: Halt, halted: &Halted) {
     same(
         rt,

@@ -99,17 +99,7 @@ impl Telling {
         self.numbered("call", action, number)?;
         self.asked(label_of(labels, object), op, count)
     }
-}
 
-/// The label of an object.
-fn label_of(labels: &Labels, object: u8) -> &str {
-    match labels.get(object as usize) {
-        Some(label) => label.as_str(),
-        None => "undeclared",
-    }
-}
-
-impl Telling {
     fn deed(&mut self, labels: &Labels, deed: &Deed) -> Result<(), NoMemory> {
         match deed {
             Deed::Create { action } => self.named("create", action),
@@ -218,6 +208,14 @@ impl Telling {
         self.head(event, got_number(trace, event))?;
         self.deeds(labels, event)?;
         self.letters(labels, event, first_letter(trace, place))
+    }
+}
+
+/// The label of an object.
+fn label_of(labels: &Labels, object: u8) -> &str {
+    match labels.get(object as usize) {
+        Some(label) => label.as_str(),
+        None => "undeclared",
     }
 }
 

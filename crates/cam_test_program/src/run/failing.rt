@@ -223,11 +223,16 @@ fn calls_taken(alloc: Global, case: Case) -> Result<Option<u32>, Fail> {
     Ok(None)
 }
 
-/// Fails where the run of a case is not told of a disk that failed with all fewer calls than it takes, or takes no more than eight of them.
+/// Fails where the run of a case takes eight calls of the disk of node 2 or fewer, or where with fewer calls than it takes it is not told that the
+/// disk failed.
 fn check_case(rt: &impl Abort, alloc: Global, case: Case) -> Result<(), Fail> {
     let taken = calls_taken(alloc, case)?;
     let is_enough = matches!(taken, Some(calls) if 8 < calls);
-    same(rt, (taken, is_enough), (taken, true));
+    same(
+        rt,
+        (case.script, taken, is_enough),
+        (case.script, taken, true),
+    );
     Ok(())
 }
 
@@ -239,8 +244,8 @@ fn a_disk_that_fails(rt: HostRuntime) -> Result<(), Fail> {
     check_case(&rt, rt.alloc(), STOPPED)
 }
 
-/// Fails where the run of a case over disks that had failed so often does not have its report.
-fn check_failed(rt: &impl Abort, alloc: Global, faults: u64) -> Result<(), Fail> {
+/// Fails where the run of `COMMIT` over disks that had failed so often does not have its report.
+fn check_disks_that_had_failed(rt: &impl Abort, alloc: Global, faults: u64) -> Result<(), Fail> {
     let answer = answer_of(alloc, COMMIT.script, u32::MAX, faults)?;
     check_numbered_answer(rt, faults, &answer, 0, COMMIT.report.as_bytes());
     Ok(())
@@ -249,6 +254,6 @@ fn check_failed(rt: &impl Abort, alloc: Global, faults: u64) -> Result<(), Fail>
 /// How often a disk had failed before does not matter.
 #[test]
 fn disks_that_had_failed(rt: HostRuntime) -> Result<(), Fail> {
-    check_failed(&rt, rt.alloc(), 1)?;
-    check_failed(&rt, rt.alloc(), 7)
+    check_disks_that_had_failed(&rt, rt.alloc(), 1)?;
+    check_disks_that_had_failed(&rt, rt.alloc(), 7)
 }

@@ -18,7 +18,7 @@ fn answer_with_failing_read(alloc: Global, call: u32) -> Result<Answer, Fail> {
     answer(alloc, &run, &mut source)
 }
 
-/// Fails where the answer has not this status and this text, as the read at this call fails.
+/// Fails where the answer has not this status and this text when the read at this call fails.
 fn check_failing_read(
     rt: &impl Abort,
     alloc: Global,
@@ -88,7 +88,7 @@ fn answer_in_room(alloc: Global, room: usize) -> Result<Answer, Fail> {
     answer_into(alloc, &run, &mut source, room)
 }
 
-/// Fails where a sink that takes so many bytes as these is not left with them, or the answer has not this status.
+/// Fails where a sink that takes as many bytes as this text has is not left with it, or where the answer has not this status.
 fn check_room(rt: &impl Abort, alloc: Global, text: &[u8], status: u8) -> Result<(), Fail> {
     let room = text.len();
     let answer = answer_in_room(alloc, room)?;
