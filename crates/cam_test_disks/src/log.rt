@@ -3,7 +3,7 @@ ghost use Rattle.std.specs.Prelude.{IfOk, IsFalse};
 
 use crate::check::same;
 use cam_disk::{Disk, MemoryDisk, StopDisk};
-use cam_log::{EntryLog, Log, LogFault, StopLog};
+use cam_log::{Entries, Entry, EntryLog, Log, LogFault, StopLog};
 use std::alloc::Global;
 use std::test::Fail;
 
@@ -63,6 +63,11 @@ fn seen_on(alloc: Global, disk: MemoryDisk) -> Result<(usize, bool), Fail> {
     Ok((log.entries().len(), log.is_broken()))
 }
 
+/// The bytes of the entry at a place. None where there are fewer.
+fn bytes_of(entries: &Entries, place: usize) -> Option<&[u8]> {
+    entries.get(place).map(Entry::as_slice)
+}
+
 /// The disk of a log to which one entry was appended.
 fn disk_after_an_append(alloc: Global) -> Result<MemoryDisk, Fail> {
     let mut log = formatted(alloc)?;
@@ -95,8 +100,10 @@ fn each_beginning_of_a_log_is_refused_at_its_place(rt: HostRuntime) -> Result<()
 #[test]
 fn the_whole_of_a_log_is_opened(rt: HostRuntime) -> Result<(), Fail> {
     let disk = disk_of(rt.alloc(), &TWO)?;
-    let (entries, _) = seen_on(rt.alloc(), disk)?;
-    same(&rt, entries, 2);
+    let log = opened(rt.alloc(), disk)?;
+    same(&rt, log.entries().len(), 2);
+    same(&rt, bytes_of(log.entries(), 0), Some(b"ab".as_slice()));
+    same(&rt, bytes_of(log.entries(), 1), Some(b"c".as_slice()));
     Ok(())
 }
 
@@ -157,5 +164,6 @@ fn a_log_whose_disk_was_cleared_appends(rt: HostRuntime) -> Result<(), Fail> {
     log.clear();
     log.append(b"ab")?;
     same(&rt, log.entries().len(), 1);
+    same(&rt, bytes_of(log.entries(), 0), Some(b"ab".as_slice()));
     Ok(())
 }

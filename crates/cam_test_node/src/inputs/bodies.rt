@@ -94,7 +94,16 @@ impl Words<'_> {
         Ok(Body::Vote {
             family: self.name()?,
             count: self.number()?,
-            yes: self.word() == "yes",
+            yes: self.is_yes()?,
         })
+    }
+
+    /// `yes` or `no`
+    fn is_yes(&mut self) -> Result<bool, Fail> {
+        match self.word() {
+            "yes" => Ok(true),
+            "no" => Ok(false),
+            _ => Err(Fail::new("a vote is yes or no")),
+        }
     }
 }
