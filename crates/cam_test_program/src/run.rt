@@ -127,7 +127,11 @@ fn answer_over<S: Source, D: TellingDisk>(
 }
 
 /// The same over eight disks in memory.
-fn answer<S: Source>(alloc: Global, words: &[String], source: &mut S) -> Result<Answer, Fail> {
+fn answer_in_memory<S: Source>(
+    alloc: Global,
+    words: &[String],
+    source: &mut S,
+) -> Result<Answer, Fail> {
     let mut disks = empty_disks(alloc, 8)?;
     answer_over(alloc, words, source, &mut disks)
 }
@@ -136,7 +140,7 @@ fn answer<S: Source>(alloc: Global, words: &[String], source: &mut S) -> Result<
 fn answer_to(alloc: Global, command: &str, input: &str) -> Result<Answer, Fail> {
     let words = words(alloc, command)?;
     let mut source = source(alloc, input, &[])?;
-    answer(alloc, &words, &mut source)
+    answer_in_memory(alloc, &words, &mut source)
 }
 
 /// Fails where the answer to a command on its input has not this status and this text.
@@ -221,7 +225,7 @@ fn refused_scripts_have_their_faults(rt: HostRuntime) -> Result<(), Fail> {
 fn answer_to_long_script(alloc: Global) -> Result<Answer, Fail> {
     let run = words(alloc, "run")?;
     let mut long = MemorySource::new(vec![in alloc; 10; 262_145]?, Vec::new(alloc));
-    answer(alloc, &run, &mut long)
+    answer_in_memory(alloc, &run, &mut long)
 }
 
 #[test]
@@ -263,7 +267,7 @@ fn words_that_are_no_form(rt: HostRuntime) -> Result<(), Fail> {
 fn answer_to_no_words(alloc: Global) -> Result<Answer, Fail> {
     let none = Vec::new(alloc);
     let mut source = source(alloc, FIRST_PATH, &[])?;
-    answer(alloc, &none, &mut source)
+    answer_in_memory(alloc, &none, &mut source)
 }
 
 #[test]

@@ -3,7 +3,8 @@
 ghost use Rattle.std.specs.Prelude.{Some};
 
 use super::{
-    Answer, FIRST_PATH, FIRST_REPORT, answer, check_numbered_answer, source, status_over, words,
+    Answer, FIRST_PATH, FIRST_REPORT, answer_in_memory, check_numbered_answer, source, status_over,
+    words,
 };
 use crate::cluster::empty_disks;
 use cam_io::{Failed, Sink, Source};
@@ -15,7 +16,7 @@ use std::test::Fail;
 fn answer_with_failing_read(alloc: Global, call: u32) -> Result<Answer, Fail> {
     let run = words(alloc, "run")?;
     let mut source = source(alloc, FIRST_PATH, &[call])?;
-    answer(alloc, &run, &mut source)
+    answer_in_memory(alloc, &run, &mut source)
 }
 
 /// Fails where the answer has not this status and this text when the read at this call fails.
