@@ -106,14 +106,13 @@ fn an_orphan_by_an_abort_is_refused(rt: HostRuntime) -> Result<(), Fail> {
 /// node 4, and a third calls before and after that node restarts, while another action holds the lock.
 fn orphaned_by_crash(first: &Name, second: &Name, third: &Name, other: &Name) -> [Step; 9] {
     let visited = Deps::none().with(1, 1).with(4, 1);
-    let busy = Performed::Busy(*other);
     [
         called(first, 1, Op::Write(5), Performed::Done(Answer::Ok)),
         Step::Told(Outcome::Aborted(*first)),
         called(other, 1, Op::Swap(2), Performed::Done(Answer::Value(1))),
-        called(third, 1, Op::Read, busy),
+        called(third, 1, Op::Read, Performed::Busy(*other)),
         Step::Told(Outcome::Committed(*second, visited)),
-        called(third, 2, Op::Read, busy),
+        called(third, 2, Op::Read, Performed::Busy(*other)),
         Step::Restarted(4, 2),
         called(third, 3, Op::Read, crash_orphan(4, 1, 2)),
         called(other, 2, Op::Read, Performed::Done(Answer::Value(2))),

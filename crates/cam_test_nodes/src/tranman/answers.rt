@@ -58,13 +58,6 @@ fn what_is_seen_of_an_answer(rt: HostRuntime) -> Result<(), Fail> {
     same(&rt, of_done, (value, false, Some(home_and_site())));
     let of_busy = answered(&rt, rt.alloc(), &busy, 7)?;
     same(&rt, of_busy, (held, false, Some(home())));
-    Ok(())
-}
-
-/// *An answer arrives*, at the count at which the site was addressed: a reply that says *missed* or *refused* is late, and the call stays
-/// open.
-#[test]
-fn a_call_that_was_not_served_stays_open(rt: HostRuntime) -> Result<(), Fail> {
     for reply in [Reply::Missed, Reply::Refused] {
         let got = answered(&rt, rt.alloc(), &reply, 7)?;
         let wanted = (Taken::Late, true, Some(home()));
