@@ -5,8 +5,8 @@ for these crates and those below them, or for all where none is named.
 It writes the processor seconds (user and system) that the prover took for each crate: `proofs` for the crate itself, which for a program
 has its two builds; `tests` for the crate with its tests; `base` for the checks of the unchanged crate before its edits and after them;
 `edits` for the edits, in so many tries. The last lines have the sums, and what all processes took: the rest is the work of `rt` itself,
-links, and the runs of tests and programs. Where it is stopped, it writes what the prover took by then. With RT_JOBS=4 it takes about two
-hours on four processors, and it wants the machine for itself.
+links, and the runs of tests and programs. Where it is stopped, it writes what the prover took by then. With RT_JOBS=4 it takes one
+hour or two on four processors, and it wants the machine for itself.
 
 The times of a call are those that Linux tells of its processes in /proc, read ten times a second, so what a call takes in its last tenth
 of a second may be missed. `rt ci` runs as it always does: what it proves here is kept for later runs on this machine.
