@@ -2,7 +2,7 @@ use Rattle.std.proofs.Common.{◌<◌, ◌∙◌, length, subst, arith}
 use Rattle.std.specs.Prelude.{Option}
 use Rattle.cam_journal.specs.Seats.{Mention}
 use Rattle.cam_hall.specs.Ending.{IsFound}
-use Rattle.cam_hall.proofs.Leaving.{here_too, put_back}
+use Rattle.cam_hall.proofs.Places.{here_too, put_back}
 use Rattle.cam_hall.proofs.Letters.{none_more, none_never}
 use Rattle.cam_hall.proofs.letter.note_of.Goals as goal
 
