@@ -1,0 +1,2 @@
+" Scripts of camelot.
+autocmd BufNewFile,BufRead *.cam setfiletype cam
