@@ -1,5 +1,5 @@
 #!/usr/bin/env python3
-"""prove.py   proves the program and what it stands on, crate beside crate, and builds it
+"""prove.py [PROGRAM..]   proves the program, the crate cam_cli if none is named, and what it stands on, crate beside crate, and builds it
 
 Several provers of the kit work side by side, each in a room of its own: a copy of the sources under out/prove, since in one folder the kit lets
 two provers that have a crate in common wait for each other. Each room has the libraries that are proved already, as hard links; a library that
