@@ -122,12 +122,18 @@ class Proof:
         self.program, self.order = program, below(named, program)
         self.needs = {crate: named[crate] for crate in self.order}
         self.seconds = reckoned(self.order)
+        self.chains = self.chains_of(self.seconds)
         self.took, self.done, self.running, self.failed, self.calls, self.linked = {}, [], {}, [], {}, set()
         self.changed, self.began, self.stops = threading.Condition(), time.monotonic(), False
 
-    def chain(self, crate):
-        """How long the longest chain of crates from this one up takes."""
-        return self.seconds[crate] + max((self.chain(it) for it in self.order if crate in self.needs[it]), default=0)
+    def chains_of(self, seconds):
+        """How long the longest chain of crates takes from each of these up, with so many seconds for each."""
+        chains = {}
+        for crate in reversed(self.order):
+            if crate in seconds:
+                users = (chains[it] for it in chains if crate in self.needs[it])
+                chains[crate] = seconds[crate] + max(users, default=0)
+        return chains
 
     def next(self):
         """The crate that comes next, of those whose libraries are all proved; None where nothing is left to begin."""
@@ -135,7 +141,7 @@ class Proof:
             waiting = [it for it in self.order[:-1] if it not in self.done and it not in self.running]
             ready = [it for it in waiting if all(need in self.done for need in self.needs[it])]
             if ready:
-                return max(ready, key=self.chain)
+                return max(ready, key=self.chains.get)
             if not waiting:
                 return None
             self.changed.wait()
@@ -155,7 +161,7 @@ class Proof:
 
     def jobs(self, crate, workers):
         """How many processors one prover may use: those that no other has, and two at the head of the longest chain."""
-        longest = self.chain(crate) >= max(self.chain(it) for it in self.order if it not in self.done)
+        longest = self.chains[crate] >= max(self.chains[it] for it in self.order if it not in self.done)
         return max(workers // len(self.running), min(workers, 2) if longest else 1)
 
     def prove(self, crate, room, jobs):
@@ -201,10 +207,7 @@ class Proof:
         to_do = [it for it in self.order if it not in self.done]
         gone = {it: time.monotonic() - since for it, since in self.running.items()}
         rest = {it: max(self.seconds[it] * pace - gone.get(it, 0), 0) for it in to_do}
-        chains = {}
-        for it in reversed(to_do):
-            chains[it] = rest[it] + max((chains[user] for user in to_do if user in chains and it in self.needs[user]), default=0)
-        return max(sum(rest.values()) / workers, max(chains.values(), default=0))
+        return max(sum(rest.values()) / workers, max(self.chains_of(rest).values(), default=0))
 
     def stop(self):
         """Ends the provers that this call began."""
