@@ -1,10 +1,10 @@
 #!/usr/bin/env python3
 """prove.py [PROGRAM..]   proves the program, the crate cam_cli if none is named, and what it stands on, crate beside crate, and builds it
 
-Several provers of the kit work side by side, each in a room of its own: a copy of the sources under out/prove, since in one folder the kit lets
-two provers that have a crate in common wait for each other. Each room has the libraries that are proved already, as hard links; a library that
-a room has proved is linked back into the crate's own folder, so that an interrupted proof goes on where it was. What is at the head of the
-longest chain comes first. At the end the kit builds the program in its own folder, and looks at every library once more.
+Several provers of the kit work side by side, each in a room of its own: the sources once more, as hard links under out/prove, since in one
+folder the kit lets two provers that have a crate in common wait for each other. Each room has the libraries that are proved already, as hard
+links too; a library that a room has proved is linked back into the crate's own folder, so that an interrupted proof goes on where it was. What
+is at the head of the longest chain comes first. At the end the kit builds the program in its own folder, and looks at every library once more.
 
 RT_JOBS says how many provers work side by side; else there is one for each processor, and no more than memory has room for.
 """
@@ -244,7 +244,7 @@ class Screen:
 
 
 def furnish(room, order):
-    """Makes a room, or brings an old one up to the sources as they are; what checks keep in out/ stays."""
+    """Makes a room of links to the sources as they are, or an old one anew; what checks keep in out/ stays."""
     for name in os.listdir(f"{room}/crates") if os.path.isdir(f"{room}/crates") else []:
         if name not in order:
             shutil.rmtree(f"{room}/crates/{name}")
@@ -252,7 +252,7 @@ def furnish(room, order):
         for part in (*PARTS, "c"):
             shutil.rmtree(f"{room}/crates/{crate}/{part}", ignore_errors=True)
             if os.path.isdir(f"{TOP}/crates/{crate}/{part}"):
-                shutil.copytree(f"{TOP}/crates/{crate}/{part}", f"{room}/crates/{crate}/{part}")
+                shutil.copytree(f"{TOP}/crates/{crate}/{part}", f"{room}/crates/{crate}/{part}", copy_function=os.link)
     if os.path.exists(f"{TOP}/HANDLES"):
         shutil.copy(f"{TOP}/HANDLES", f"{room}/HANDLES")
     # (a line of crates.txt whose crate is not there is refused)
