@@ -9,3 +9,4 @@ pub mod MadeCalls
 pub mod MadeSteps
 pub mod MadeVariables
 pub mod AllAccepted
+mod StormNumbers

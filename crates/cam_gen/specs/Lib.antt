@@ -5,3 +5,4 @@ pub mod Storms
 pub mod Worked
 pub mod Writes
 pub mod Accepted
+pub mod StormDraws

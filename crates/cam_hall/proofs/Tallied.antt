@@ -1,5 +1,5 @@
 -- The turns of a worker, as they are tallied.
-use Rattle.std.proofs.Common.{◌≡◌, ℕ, ◌<◌, ◌≤◌, List, [], ◌∷◌, length, refl, arith}
+use Rattle.std.proofs.Common.{◌≡◌, ℕ, ◌+◌, ◌<◌, ◌≤◌, List, [], ◌∷◌, length, refl, sym, arith}
 use Rattle.cam_hall.specs.declared.served.End.TheVariants as ends
 use Rattle.cam_hall.specs.declared.served.Turn.{Turn}
 use Rattle.cam_hall.specs.declared.served.Turn.TheVariants.{Step, Empty, Unused, Held}
@@ -33,11 +33,16 @@ no_sooner (turn ∷ before) busy = busy.1
 -- a worker that ends quiet
 pub served_quiet : (most : ℕ) (turn : Turn) (before : List Turn) (tally : Tally)
     → IsTally (turn ∷ before) tally → length before < most → IsBusy before → 4096 ≤ tally.empty
-    → IsServed most (turn ∷ before) (record { steps = tally.steps; end = ends.Quiet })
+    → IsServed most (turn ∷ before) (record {
+      steps = tally.steps;
+      turns = length before + 1;
+      end = ends.Quiet;
+    })
 served_quiet most turn before tally tallied within busy quiet =
     let empty = tallied.empty_are in
     record {
       steps_are = tallied.steps_are;
+      turns_are = omega arith;
       within = omega arith;
       quiet = ((λ is. omega (arith, empty, quiet)), (λ is. refl));
       spent = λ is. absurd (cc);
@@ -47,9 +52,10 @@ served_quiet most turn before tally tallied within busy quiet =
 -- a worker whose turns have run out
 pub served_spent : (most : ℕ) (turns : List Turn) (tally : Tally) → IsTally turns tally
     → length turns ≡ most → IsBusy turns
-    → IsServed most turns (record { steps = tally.steps; end = ends.Turns })
+    → IsServed most turns (record { steps = tally.steps; turns = most; end = ends.Turns })
 served_spent most turns tally tallied all busy = record {
   steps_are = tallied.steps_are;
+  turns_are = sym all;
   within = omega arith;
   quiet = ((λ is. absurd (cc)), (λ is. absurd (not_quiet turns busy is)));
   spent = λ is. all;

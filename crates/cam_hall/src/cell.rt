@@ -10,7 +10,6 @@ use crate::names::Names;
 use crate::served::Handled;
 use crate::slot::Slot;
 use crate::turned::{HallFault, Turned, TurnedOf};
-use cam_base::NoMemory;
 use cam_journal::{Core, Journal, NodeSeat, Seats};
 use std::alloc::Global;
 use std::sync::{Mutex, Wait};
@@ -22,15 +21,14 @@ pub struct Cell<C: Core, J: Names, const NODE: u8> {
 }
 
 impl<C: Core, J: Names, const NODE: u8> Cell<C, J, NODE> {
-    /// A cell of a core with the seat of its node. It fails only when out of memory.
-    pub fn new(alloc: Global, core: C, seat: NodeSeat<C>) -> Result<Cell<C, J, NODE>, NoMemory>
+    /// A cell of a core with the seat of its node. It takes no memory.
+    pub fn new(alloc: Global, core: Box<C>, seat: NodeSeat<C>) -> Cell<C, J, NODE>
         requires seat { (seat.journal ≡ J.journal) × (seat.node ≡ NODE) }
-        requires replay { C.is_replay core NODE seat.history }
+        requires replay { C.is_replay core.value NODE seat.history }
     {
-        let slot = Slot::new(alloc, core, seat)?;
-        Ok(Cell {
-            slot: Mutex::new(slot),
-        })
+        Cell {
+            slot: Mutex::new(Slot::new(alloc, core, seat)),
+        }
     }
 
     /// Waits for the lock, takes one turn with the item, lets the lock go, and puts the notes into

@@ -1,5 +1,5 @@
 //! Four cells with their journal and their mailboxes.
-ghost use Rattle.std.specs.Prelude.{◌≡◌, IfOk};
+ghost use Rattle.std.specs.Prelude.{◌≡◌};
 
 use crate::cell::Cell;
 use crate::ended::Ended;
@@ -25,6 +25,24 @@ pub struct Hall<C: Core, J: Names> {
     room: Mutex<Room<C>>,
 }
 
+/// What a hall takes memory for: empty mailboxes, and room for what it will leave. It is made before
+/// the cells, so that no core is lost where memory runs out.
+#[derive(Drop)]
+pub struct HallRoom<C: Core, J: Names> {
+    mail: Mailboxes<C, J>,
+    room: Room<C>,
+}
+
+impl<C: Core, J: Names> HallRoom<C, J> {
+    /// It fails only when out of memory.
+    pub fn new(alloc: Global) -> Result<HallRoom<C, J>, NoMemory> {
+        Ok(HallRoom {
+            mail: Mailboxes::new(alloc)?,
+            room: Room::new(alloc)?,
+        })
+    }
+}
+
 impl<C: Core, J: Names> Model for Hall<C, J> {
     ghost use Rattle.std.specs.Prelude.{◌≡◌};
     ghost use Rattle.cam_journal.specs.Seats.{Opened};
@@ -37,28 +55,29 @@ impl<C: Core, J: Names> Model for Hall<C, J> {
 }
 
 impl<C: Core, J: Names> Hall<C, J> {
-    /// A hall with empty mailboxes. It fails only when out of memory.
+    /// A hall in the room that was made for it. It takes no memory.
     pub fn new(
-        alloc: Global,
+        place: HallRoom<C, J>,
         journal: Journal<C>,
         first: Cell<C, J, 1>,
         second: Cell<C, J, 2>,
         third: Cell<C, J, 3>,
         fourth: Cell<C, J, 4>,
-    ) -> Result<Hall<C, J>, NoMemory>
+    ) -> Hall<C, J>
         requires own { journal.id ≡ J.journal }
         requires nodes { journal.nodes ≡ 4 }
-        ensures { IfOk result (λ hall. hall ≡ journal) }
+        ensures { result ≡ journal }
     {
-        Ok(Hall {
+        let HallRoom { mail, room } = place;
+        Hall {
             journal,
             first,
             second,
             third,
             fourth,
-            mail: Mailboxes::new(alloc)?,
-            room: Mutex::new(Room::new(alloc)?),
-        })
+            mail,
+            room: Mutex::new(room),
+        }
     }
 
     /// Gives what is left once no worker uses the hall. Letters that are still in mailboxes are

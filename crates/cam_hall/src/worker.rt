@@ -18,9 +18,9 @@ use std::sync::Wait;
 // How many empty turns in a row end the work.
 const QUIET_TURNS: u32 = 4096;
 
-/// Works for a node, for so many turns at most: hands its letters to its cell, and lets the core go
-/// on by itself where there is none. It ends with the first 4,096 turns in a row that found neither
-/// letter nor request, or with its last turn.
+/// Works for a node, for so many turns at most: lets its core go on by itself, and hands a letter to
+/// its cell where the core has nothing to do. It ends with the first 4,096 turns in a row that found
+/// neither letter nor request, or with its last turn.
 pub fn serve<R: Wait, C: Core, J: Names, G: Gate>(
     rt: &R,
     hall: &Hall<C, J>,
@@ -33,19 +33,21 @@ pub fn serve<R: Wait, C: Core, J: Names, G: Gate>(
     ensures { IfOk result (λ served. (taken : List Turn) × IsServed turns taken served) }
 {
     let mut tally = Tally { steps: 0, empty: 0 };
-    for _ in 0..turns {
+    for taken in 0..turns {
         let turn = pass(rt, hall, node, worker, gate, tally.steps)?;
         tally.add(turn);
         let quiet = tally.empty >= QUIET_TURNS;
         if quiet {
             return Ok(Served {
                 steps: tally.steps,
+                turns: taken + 1,
                 end: End::Quiet,
             });
         }
     }
     Ok(Served {
         steps: tally.steps,
+        turns,
         end: End::Turns,
     })
 }
@@ -100,22 +102,34 @@ fn pass<R: Wait, C: Core, J: Names, G: Gate>(
     Ok(turn)
 }
 
-// Hands the next letter to the cell, or lets its core go on by itself.
+// Lets the core of the cell go on by itself, or hands it the next letter where it has nothing to
+// do.
 fn work<R: Wait, C: Core, J: Names, const NODE: u8>(
     rt: &R,
     hall: &Hall<C, J>,
     cell: &Cell<C, J, NODE>,
     mailbox: &Mailbox<C, J, NODE>,
 ) -> Result<Turn, HallFault> {
-    match mailbox.take(rt) {
-        Some(note) => match cell.handle(rt, hall, ItemOf::Letter(note))? {
-            Handled::Did { .. } => Ok(Turn::Step),
-            Handled::Nothing | Handled::Full => Ok(Turn::Unused),
-        },
-        None => match cell.handle(rt, hall, ItemOf::Drive)? {
-            Handled::Did { .. } => Ok(Turn::Step),
-            Handled::Nothing => Ok(Turn::Empty),
-            Handled::Full => Ok(Turn::Unused),
-        },
+    match cell.handle(rt, hall, ItemOf::Drive)? {
+        Handled::Did { .. } => Ok(Turn::Step),
+        Handled::Nothing => deliver(rt, hall, cell, mailbox, Turn::Empty),
+        Handled::Full => deliver(rt, hall, cell, mailbox, Turn::Unused),
+    }
+}
+
+// Hands the next letter to the cell; the turn is this one where there is none.
+fn deliver<R: Wait, C: Core, J: Names, const NODE: u8>(
+    rt: &R,
+    hall: &Hall<C, J>,
+    cell: &Cell<C, J, NODE>,
+    mailbox: &Mailbox<C, J, NODE>,
+    none: Turn,
+) -> Result<Turn, HallFault> {
+    let Some(note) = mailbox.take(rt) else {
+        return Ok(none);
+    };
+    match cell.handle(rt, hall, ItemOf::Letter(note))? {
+        Handled::Did { .. } => Ok(Turn::Step),
+        Handled::Nothing | Handled::Full => Ok(Turn::Unused),
     }
 }

@@ -17,7 +17,7 @@ use Rattle.cam_journal.specs.declared.input.CoreInput.TheVariants.{Letter, Drive
 use Rattle.cam_journal.specs.Trace.{Receives as Named}
 use Rattle.cam_journal.specs.Taking.{received_of, letter_in, IsNext, IsFromLawful}
 use Rattle.cam_gen.specs.Storms.{Words, objects_of, tops_of, restarts_at}
-use Rattle.cam_storm.specs.declared.Copied.{Copied}
+use Rattle.cam_storm.specs.Events.{Copied}
 use Rattle.cam_storm.specs.Runs.{received, is_begin, is_restart}
 use Rattle.cam_storm.specs.Own.{event_in}
 use Rattle.cam_storm.specs.Lawful.{named, names, sends, goes_to, mail_in, load_in, own_history, IsPut, lawful}

@@ -16,7 +16,7 @@ use Rattle.cam_event.specs.ByDeltas.{Received, as_carried}
 use Rattle.cam_journal.specs.Trace.{Receives as Named}
 use Rattle.cam_gen.specs.Draws.{draw_at}
 use Rattle.cam_gen.specs.Storms.{Words, objects_of, copies_of, copies_by}
-use Rattle.cam_storm.specs.declared.Copied.{Copied}
+use Rattle.cam_storm.specs.Events.{Copied}
 use Rattle.cam_storm.specs.Own.{own_sent}
 use Rattle.cam_storm.specs.Lawful.{named, letter_mail, load_in, carried, own_history, AreCopied, IsStormStep}
 use Rattle.cam_storm.specs.Weights.{copy_weight, copies_weight, ArrivalsWeighLess}

@@ -31,7 +31,7 @@ use Rattle.cam_cut.proofs.Informs.{IsInformAt}
 use Rattle.cam_cut.proofs.Lists.{in_all, all_in}
 use Rattle.cam_journal.specs.declared.entry.SentLetter.{SentLetter as Taken}
 use Rattle.cam_gen.specs.Storms.{Words, objects_of}
-use Rattle.cam_storm.specs.declared.Copied.{Copied}
+use Rattle.cam_storm.specs.Events.{Copied}
 use Rattle.cam_storm.specs.Lawful.{letter_mail, mail_in, load_in, ComesFrom, IsPut}
 
 -- no count of the pair is above the known one

@@ -16,8 +16,8 @@ use Rattle.cam_delta.proofs.SameReadings.{events_agree}
 use Rattle.cam_journal.specs.declared.entry.RunStep.{RunStep}
 use Rattle.cam_journal.specs.Trace.{IsRun as Run}
 use Rattle.cam_gen.specs.Storms.{Words, objects_of, tops_of, restarts_at}
-use Rattle.cam_storm.specs.declared.Copied.{Copied}
-use Rattle.cam_storm.specs.declared.Stepped.{Stepped}
+use Rattle.cam_storm.specs.Events.{Copied}
+use Rattle.cam_storm.specs.Events.{Stepped}
 use Rattle.cam_storm.specs.Runs.{own_count, sent_count, IsStormNext, StormRun}
 use Rattle.cam_storm.specs.Own.{own_sent}
 use Rattle.cam_storm.specs.Lawful.{sends, mail_in, load_in, carried, lawful, names, IsStormStep}

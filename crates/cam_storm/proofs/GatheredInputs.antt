@@ -21,8 +21,8 @@ use Rattle.cam_journal.specs.declared.entry.RunStep.{RunStep}
 use Rattle.cam_journal.specs.declared.entry.SentLetter.{SentLetter as Taken}
 use Rattle.cam_journal.specs.Trace.{Receives as Named, IsSent}
 use Rattle.cam_gen.specs.Storms.{Words, objects_of}
-use Rattle.cam_storm.specs.declared.Copied.{Copied}
-use Rattle.cam_storm.specs.declared.Stepped.{Stepped}
+use Rattle.cam_storm.specs.Events.{Copied}
+use Rattle.cam_storm.specs.Events.{Stepped}
 use Rattle.cam_storm.specs.Runs.{copies, received, IsStormInput, StormRun}
 use Rattle.cam_storm.specs.Own.{event_in}
 use Rattle.cam_storm.specs.Lawful.{named, sends, letter_mail, mail_in, load_in, IsLeft, IsPut, IsStormStep}

@@ -13,8 +13,8 @@ use Rattle.cam_node.specs.Lawful.{IsLawful}
 use Rattle.cam_journal.specs.declared.entry.NumberedEvent.{NumberedEvent}
 use Rattle.cam_journal.specs.declared.input.CoreInput.TheVariants.{Letter, Drive}
 use Rattle.cam_gen.specs.Storms.{Words, objects_of, tops_of, restarts_at}
-use Rattle.cam_storm.specs.declared.Copied.{Copied}
-use Rattle.cam_storm.specs.declared.Stepped.{Stepped}
+use Rattle.cam_storm.specs.Events.{Copied}
+use Rattle.cam_storm.specs.Events.{Stepped}
 use Rattle.cam_storm.specs.Own.{OwnRequest}
 use Rattle.cam_storm.specs.Lawful.{carried_in, own_history, IsStormHistory}
 use Rattle.cam_storm.specs.Core.{Cell, Keeps, IsReplay, IsLeastDrive, MakesRequest, IsDriven}

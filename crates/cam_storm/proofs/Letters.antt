@@ -15,8 +15,8 @@ use Rattle.cam_journal.specs.declared.entry.SentLetter.{SentLetter as Taken}
 use Rattle.cam_journal.specs.Trace.{Receives, IsSent}
 use Rattle.cam_journal.proofs.Lists.{slice_get-push}
 use Rattle.cam_gen.specs.Storms.{Words, objects_of, copies_of}
-use Rattle.cam_storm.specs.declared.Copied.{Copied}
-use Rattle.cam_storm.specs.declared.Stepped.{Stepped}
+use Rattle.cam_storm.specs.Events.{Copied}
+use Rattle.cam_storm.specs.Events.{Stepped}
 use Rattle.cam_storm.specs.Runs.{sent_count, sender_node, letter_number, copies}
 use Rattle.cam_storm.specs.Own.{own_sent}
 use Rattle.cam_storm.specs.Lawful.{named, sends, letter_mail, mail_in, letter_load, load_in, IsCopied, AreCopied}

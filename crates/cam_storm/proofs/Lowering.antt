@@ -7,8 +7,8 @@ use Rattle.std.proofs.lemmas.Bool.{eq-eqb}
 use Rattle.cam_event.specs.declared.LetterId.{LetterId}
 use Rattle.cam_journal.specs.declared.entry.NumberedEvent.{NumberedEvent}
 use Rattle.cam_journal.specs.Trace.{Receives as Named}
-use Rattle.cam_storm.specs.declared.Copied.{Copied}
-use Rattle.cam_storm.specs.declared.Stepped.{Stepped}
+use Rattle.cam_storm.specs.Events.{Copied}
+use Rattle.cam_storm.specs.Events.{Stepped}
 use Rattle.cam_storm.specs.Runs.{is_letter}
 use Rattle.cam_storm.specs.Lawful.{named}
 use Rattle.cam_storm.specs.Weights.{copy_weight, copies_weight, event_at_entry, times, left_of, left_from, ReceiptsLower}

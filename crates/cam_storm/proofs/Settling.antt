@@ -22,8 +22,8 @@ use Rattle.cam_journal.specs.declared.entry.RunStep.{RunStep}
 use Rattle.cam_journal.specs.Trace.{entry_of, history_of}
 use Rattle.cam_journal.specs.Seats.{Sitting}
 use Rattle.cam_gen.specs.Storms.{objects_of, tops_of}
-use Rattle.cam_storm.specs.declared.Copied.{Copied}
-use Rattle.cam_storm.specs.declared.Stepped.{Stepped}
+use Rattle.cam_storm.specs.Events.{Copied}
+use Rattle.cam_storm.specs.Events.{Stepped}
 use Rattle.cam_storm.specs.Runs.{own_count, copies, received, Drives, Settled}
 use Rattle.cam_storm.specs.Own.{event_in, OwnDrives, OwnRequest}
 use Rattle.cam_storm.specs.Lawful.{own_history, letter_mail}

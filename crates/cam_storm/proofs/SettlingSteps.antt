@@ -31,8 +31,8 @@ use Rattle.cam_journal.specs.Seats.{Sitting}
 use Rattle.cam_journal.proofs.Lists.{slice_get-longer, slice_get-end}
 use Rattle.cam_journal.proofs.Histories.{if_here}
 use Rattle.cam_gen.specs.Storms.{Words, objects_of}
-use Rattle.cam_storm.specs.declared.Copied.{Copied}
-use Rattle.cam_storm.specs.declared.Stepped.{Stepped}
+use Rattle.cam_storm.specs.Events.{Copied}
+use Rattle.cam_storm.specs.Events.{Stepped}
 use Rattle.cam_storm.specs.Runs.{Drives, StormRun}
 use Rattle.cam_storm.specs.Lawful.{carried, AreCopied}
 use Rattle.cam_storm.specs.Laws.{events_of, IsHeldRun, GatheredByKnowledge}

@@ -27,8 +27,8 @@ use Rattle.cam_know.specs.Order.{told_in_order}
 use Rattle.cam_event.specs.Loads.{Load}
 use Rattle.cam_event.specs.ByDeltas.{Received, as_carried, known, acked_of, load_for}
 use Rattle.cam_delta.proofs.DeltaLists.{in_drop}
-use Rattle.cam_storm.specs.declared.Copied.{Copied}
-use Rattle.cam_storm.specs.declared.Stepped.{Stepped}
+use Rattle.cam_storm.specs.Events.{Copied}
+use Rattle.cam_storm.specs.Events.{Stepped}
 use Rattle.cam_storm.specs.Own.{own_sent}
 use Rattle.cam_storm.specs.Lawful.{mail_in, load_in, carried, carried_in, own_history, IsCopied, IsFrom, IsStormStep, IsStormHistory}
 use Rattle.cam_storm.specs.Laws.{LettersMayCome}

@@ -23,8 +23,8 @@ use Rattle.cam_gen.specs.Storms.{Words, objects_of}
 use Rattle.cam_know.specs.Order.{told_in_order}
 use Rattle.cam_event.specs.Loads.{Load}
 use Rattle.cam_event.specs.ByDeltas.{Received, as_carried}
-use Rattle.cam_storm.specs.declared.Copied.{Copied}
-use Rattle.cam_storm.specs.declared.Stepped.{Stepped}
+use Rattle.cam_storm.specs.Events.{Copied}
+use Rattle.cam_storm.specs.Events.{Stepped}
 use Rattle.cam_storm.specs.Runs.{is_restart}
 use Rattle.cam_storm.specs.Lawful.{mail_in, load_in, IsStormStep}
 use Rattle.cam_storm.proofs.Rules.{DeedFine, Fine}

@@ -14,8 +14,8 @@ use Rattle.cam_journal.specs.Rule.{IsNode}
 use Rattle.cam_journal.proofs.Lists.{slice_get-longer, slice_get-end}
 use Rattle.cam_journal.proofs.Histories.{history_of-same, history_of-other}
 use Rattle.cam_gen.specs.Storms.{Words}
-use Rattle.cam_storm.specs.declared.Copied.{Copied}
-use Rattle.cam_storm.specs.declared.Stepped.{Stepped}
+use Rattle.cam_storm.specs.Events.{Copied}
+use Rattle.cam_storm.specs.Events.{Stepped}
 use Rattle.cam_storm.specs.Lawful.{names, sends, carried, carried_in, own_history, lawful}
 
 pub reverse_more : {X : Type 0} (x : X) (xs : List X) → reverse (x ∷ xs) ≡ reverse xs ++ x ∷ []

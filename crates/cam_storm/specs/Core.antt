@@ -19,8 +19,8 @@ use Rattle.cam_journal.specs.Taking.{received_of, letter_in}
 use Rattle.cam_journal.specs.declared.input.CoreInput.{CoreInput}
 use Rattle.cam_journal.specs.declared.input.CoreInput.TheVariants.{Letter, Drive}
 use Rattle.cam_gen.specs.Storms.{Words, objects_of, tops_of, restarts_at}
-use Rattle.cam_storm.specs.declared.Copied.{Copied}
-use Rattle.cam_storm.specs.declared.Stepped.{Stepped}
+use Rattle.cam_storm.specs.Events.{Copied}
+use Rattle.cam_storm.specs.Events.{Stepped}
 use Rattle.cam_storm.specs.Runs.{received}
 use Rattle.cam_storm.specs.Own.{event_in, own_sent, own_view, OwnRequest}
 use Rattle.cam_storm.specs.Lawful.{SeatHistory, names, carried, own_history, step_at, AreCopied, IsStormHistory}

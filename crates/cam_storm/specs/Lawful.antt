@@ -22,8 +22,8 @@ use Rattle.cam_node.specs.Lawful.{MayBePut}
 use Rattle.cam_journal.specs.declared.entry.NumberedEvent.{NumberedEvent}
 use Rattle.cam_journal.specs.declared.entry.SentLetter.{SentLetter as Taken}
 use Rattle.cam_gen.specs.Storms.{Words, objects_of, tops_of, copies_of, restarts_at}
-use Rattle.cam_storm.specs.declared.Copied.{Copied}
-use Rattle.cam_storm.specs.declared.Stepped.{Stepped}
+use Rattle.cam_storm.specs.Events.{Copied}
+use Rattle.cam_storm.specs.Events.{Stepped}
 use Rattle.cam_storm.specs.Runs.{received, is_begin, is_restart}
 use Rattle.cam_storm.specs.Own.{event_in, own_sent, sight_at, OwnDrives}
 

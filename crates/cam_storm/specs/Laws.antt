@@ -21,8 +21,8 @@ use Rattle.cam_journal.specs.Taking.{letter_in, IsNext, IsFromLawful}
 use Rattle.cam_journal.specs.Seats.{Opened, Sitting}
 use Rattle.cam_journal.specs.Gathered.{AreSeats, AreGathered}
 use Rattle.cam_gen.specs.Storms.{Words, objects_of, tops_of}
-use Rattle.cam_storm.specs.declared.Copied.{Copied}
-use Rattle.cam_storm.specs.declared.Stepped.{Stepped}
+use Rattle.cam_storm.specs.Events.{Copied}
+use Rattle.cam_storm.specs.Events.{Stepped}
 use Rattle.cam_storm.specs.Runs.{received, copies, Drives, StormRun, Settled}
 use Rattle.cam_storm.specs.Own.{event_in, OwnRequest}
 use Rattle.cam_storm.specs.Lawful.{SeatHistory, names, sends, goes_to, letter_mail, letter_load, IsFrom, IsStormHistory, lawful, own_history}

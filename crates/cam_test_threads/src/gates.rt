@@ -176,6 +176,7 @@ fn a_worker_takes_no_turn_that_its_gate_holds(rt: HostRuntime) -> Result<(), Fai
     let served = serve_one(&rt, rt.alloc(), &Until { step: 2 }, 10_000)?;
     let held = Served {
         steps: 2,
+        turns: 10_000,
         end: End::Turns,
     };
     same(&rt, served, held);
@@ -185,13 +186,18 @@ fn a_worker_takes_no_turn_that_its_gate_holds(rt: HostRuntime) -> Result<(), Fai
 #[test]
 fn a_worker_ends_behind_so_many_empty_turns(rt: HostRuntime) -> Result<(), Fail> {
     // Three steps, and then 4,096 turns that find nothing.
-    for (turns, end) in [
-        (4_098, End::Turns),
-        (4_099, End::Quiet),
-        (10_000, End::Quiet),
+    for (most, turns, end) in [
+        (4_098, 4_098, End::Turns),
+        (4_099, 4_099, End::Quiet),
+        (10_000, 4_099, End::Quiet),
     ] {
-        let served = serve_one(&rt, rt.alloc(), &OpenGate, turns)?;
-        same(&rt, (turns, served), (turns, Served { steps: 3, end }));
+        let served = serve_one(&rt, rt.alloc(), &OpenGate, most)?;
+        let quiet = Served {
+            steps: 3,
+            turns,
+            end,
+        };
+        same(&rt, (most, served), (most, quiet));
     }
     Ok(())
 }

@@ -3,7 +3,7 @@ ghost use Rattle.std.specs.Prelude.{◌≡◌, ◌-◌, [], OnOk, OnSome, IfOk, 
 ghost use Rattle.cam_journal.specs.Seats.{AreNew};
 
 use crate::speaker::Speaker;
-use cam_hall::{Cell, Ended, Hall, Names};
+use cam_hall::{Cell, Ended, Hall, HallRoom, Names};
 use cam_journal::{Core, CoreFault, Gathered, Journal, NodeSeat, Seats};
 use std::alloc::Global;
 use std::test::Fail;
@@ -44,9 +44,10 @@ pub(crate) fn ring<const FIRST: u32, const STEP: u32, J: Names>(
     requires seats { AreNew journal.id 4 seats.items }
     ensures { IfOk result (λ hall. hall.nodes ≡ 4) }
 {
+    let room = HallRoom::new(alloc)?;
     let (fourth, third) = upper_cells(alloc, &mut seats, plan)?;
     let (second, first) = lower_cells(alloc, &mut seats, plan)?;
-    Ok(Hall::new(alloc, journal, first, second, third, fourth)?)
+    Ok(Hall::new(room, journal, first, second, third, fourth))
 }
 
 /// The cells of nodes 4 and 3.
@@ -105,7 +106,8 @@ fn last_cell<C: Core, J: Names, const NODE: u8>(
     let Some(seat) = last_seat::<C, J, NODE>(seats) else {
         return Err(Fail::new("no seat is left"));
     };
-    Ok(Cell::new(alloc, core, seat)?)
+    let core = Box::new(alloc, core)?;
+    Ok(Cell::new(alloc, core, seat))
 }
 
 // The last of these seats, which are those of the first nodes of a new journal.

@@ -89,6 +89,7 @@ const ANSWERED_ONCE: Done = Done {
     // Were the second copy not there, all turns but the first would be empty, and the worker quiet.
     between: Served {
         steps: 1,
+        turns: TURNS,
         end: End::Turns,
     },
     last: Handled::Did { number: 2, sent: 2 },
