@@ -1,0 +1,346 @@
+"""Makes scripts that aim at the rules: it takes each line that it writes, so that it knows which letters wait and which actions are open."""
+
+from lines import LineRefused, Run
+from machine import wrapped
+from reading import Body, Object, Script, Step
+
+FIRST, LAST = -(2 ** 63), 2 ** 63 - 1
+# How often a kind of script is made, and how often each kind of line stands in it.
+FLAVOURS = {
+    "mixed": (22, dict(begin=3, ask=4, call=8, commit=4, abort=1, giveup=2, deliver=14, drain=4, lose=1, restart=1, tell=2, query=1, cut=1)),
+    "families": (14, dict(begin=3, ask=2, call=6, commit=7, abort=1, deliver=16, drain=1, lose=1, restart=2, query=3, tell=1)),
+    "orphans": (14, dict(begin=2, ask=7, call=7, commit=3, abort=2, giveup=4, deliver=14, drain=3, tell=3, restart=1)),
+    "crashes": (14, dict(begin=3, ask=4, call=7, commit=4, abort=1, giveup=1, deliver=14, drain=3, restart=5, tell=3, query=2)),
+    "stops": (14, dict(begin=3, ask=3, call=6, commit=4, abort=1, giveup=2, deliver=13, drain=4, restart=4, stop=5, tell=2, query=1, cut=1)),
+    "locks": (8, dict(begin=6, ask=4, call=16, commit=5, abort=2, giveup=1, deliver=4, drain=9, restart=1)),
+    "deep": (4, dict(begin=1, ask=12, call=4, commit=2, abort=1, giveup=2, deliver=12, drain=6, restart=1, tell=1)),
+    "bodies": (10, dict(start=4, go=8, play=2, deliver=8, drain=2, lose=1, restart=1, tell=1, query=1, stop=1, begin=1, call=1, commit=1)),
+}
+TIMED = dict(begin=3, ask=4, call=7, commit=4, abort=1, giveup=3, deliver=14, drain=3, lose=1, tell=2, query=1, tick=5, expire=3)
+
+
+class Generator:
+    """One script, made line by line from a source of random numbers."""
+
+    def __init__(self, random, timed=False, run=Run):
+        self.random, self.timed, self.text, self.line = random, timed, [], 0
+        self.script = Script()
+        self.flavour = self.pick_flavour()
+        self.variables, self.starts, self.weights = [], [], TIMED if timed else FLAVOURS[self.flavour][1]
+        self.declare()
+        self.run = run(self.script)
+        self.cost = 0
+
+    def pick_flavour(self):
+        names = list(FLAVOURS)
+        return self.random.choices(names, [FLAVOURS[name][0] for name in names])[0]
+
+    def write(self, text):
+        self.line += 1
+        self.text.append(text)
+
+    # Declarations
+
+    def declare(self):
+        random, script = self.random, self.script
+        script.nodes = random.choice([1, 2, 2, 2, 3, 3, 3, 4, 4, 5, 8])
+        self.write(f"nodes {script.nodes}")
+        count = random.choice([1, 1, 2, 2, 3, 4]) if random.random() < 0.99 else 64
+        for place in range(count):
+            kind = random.choice(["register", "register", "queue", "counter"])
+            start = () if kind == "queue" else self.value()
+            one = Object(f"o{place}", random.randint(1, script.nodes), kind, start)
+            script.places[one.name] = place
+            script.objects.append(one)
+            self.write(f"object {one.name} {one.node} {kind}" + ("" if kind == "queue" else f" {start}"))
+        if self.flavour == "bodies" and not self.timed:
+            for place in range(random.randint(1, 4)):
+                self.declare_body(f"b{place}")
+
+    def declare_body(self, name):
+        random, script, said, lines, cost, nesting = self.random, self.script, [], [], 1, 1
+        for place in range(1, random.randint(1, 4)):
+            tries = random.choice([1, 1, 2, 3])
+            if script.bodies and random.random() < 0.5:
+                child, node = random.choice(list(script.bodies.values())), random.randint(1, script.nodes)
+                if child.nesting == 8:
+                    continue
+                said.append(("child", tries, node, child.name))
+                lines.append(f"child {tries} {node} {child.name}")
+                cost, nesting = cost + tries * (1 + child.cost), max(nesting, child.nesting + 1)
+            else:
+                one = random.choice(script.objects)
+                op, text = self.operation(one, lambda at=len(said): self.expression(at))
+                said.append(("call", tries, one.name, op))
+                lines.append(f"call {tries} {one.name} {text}")
+                cost += tries
+        if random.random() < 0.15:
+            said.append(("abort",))
+            lines.append("abort")
+        else:
+            value, text = self.expression(len(said))
+            said.append(("commit", value))
+            lines.append("commit " + text)
+        for text in [f"body {name}", *lines, "end"]:
+            self.write(text)
+        script.bodies[name] = Body(name, said, cost, nesting)
+
+    def value(self):
+        return self.random.choice([0, 1, 2, 5, -1, 7, FIRST, LAST]) if self.random.random() < 0.8 else self.random.randint(FIRST, LAST)
+
+    def expression(self, places):
+        if places == 0 or self.random.random() < 0.4:
+            value = self.value()
+            return value, str(value)
+        place, form = self.random.randint(1, places), self.random.randint(0, 2)
+        added = self.random.choice([0, 1, 30, LAST])
+        if form == 0:
+            return ("$", place, 0), f"${place}"
+        return ("$", place, added if form == 1 else -added), f"${place}{'+' if form == 1 else '-'}{added}"
+
+    def operation(self, one, value):
+        words = {"register": ["read", "read", "write", "swap"], "queue": ["size", "put", "put", "take"], "counter": ["read", "add", "add"]}
+        word = self.random.choice(words[one.kind])
+        if word in ("write", "swap", "put", "add"):
+            number, text = value()
+            return (word, number), f"{word} {text}"
+        return (word,), word
+
+    # Steps
+
+    def take(self, word, args, text, cost=1):
+        """Writes a line, and takes it in the run, which tells what there is to aim at next."""
+        self.write(text)
+        self.cost += cost
+        step = Step(self.line, word, args)
+        self.script.steps.append(step)
+        run = self.run
+        run.line = self.line
+        try:
+            getattr(run, "line_" + word)(*args)
+        except LineRefused:
+            pass
+
+    def make(self, size):
+        words, weights = list(self.weights), list(self.weights.values())
+        while self.cost < size:
+            word = self.random.choices(words, weights)[0]
+            made = getattr(self, "make_" + word)()
+            if made is not None and self.cost + (made[3] if len(made) > 3 else 1) <= 512:
+                self.take(*made)
+            elif not self.variables:
+                self.take(*self.make_begin())
+        return ("\n".join(self.text) + "\n").encode()
+
+    def node(self):
+        return self.random.randint(1, self.script.nodes)
+
+    def until(self):
+        return (self.random.choice([3, 5, 8, 20, 10 ** 9]),) if self.timed else ()
+
+    def new(self, list_of):
+        name = f"{'s' if list_of is self.starts else 'a'}{len(list_of) + 1}"
+        list_of.append(name)
+        return name
+
+    def variable(self):
+        """A variable, most often one that is still open."""
+        if not self.variables:
+            return None
+        if self.random.random() < 0.75:
+            run, open_ones = self.run, []
+            for one in self.variables[-12:]:
+                name = run.bound.get(one)
+                action = run.actions.get(name)
+                if action is not None and not action.ended and run.here(name):
+                    open_ones.append(one)
+            if open_ones:
+                return self.random.choice(open_ones)
+        return self.random.choice(self.variables)
+
+    def make_begin(self):
+        node, until = self.node(), self.until()
+        name = self.new(self.variables)
+        return "begin", (name, node, *until), " ".join(map(str, ["begin", name, node, *until]))
+
+    def make_start(self):
+        body = self.random.choice(list(self.script.bodies.values()))
+        if self.cost + 1 + body.cost > 512:
+            return None
+        node, name = self.node(), self.new(self.starts)
+        return "start", (name, node, body.name), f"start {name} {node} {body.name}", 1 + body.cost
+
+    def make_ask(self):
+        parent = self.variables[-1] if self.flavour == "deep" and self.variables and self.random.random() < 0.7 else self.variable()
+        if parent is None:
+            return None
+        node, until = self.node(), self.until()
+        name = self.new(self.variables)
+        return "ask", (parent, name, node, *until), " ".join(map(str, ["ask", parent, name, node, *until]))
+
+    def make_call(self):
+        action = self.variable()
+        if action is None:
+            return None
+        one = self.random.choice(self.script.objects)
+
+        def value():
+            number = self.value()
+            return number, str(number)
+
+        op, text = self.operation(one, value)
+        return "call", (action, one.name, op), f"call {action} {one.name} {text}"
+
+    def make_commit(self):
+        action, value = self.variable(), self.value()
+        return action and ("commit", (action, value), f"commit {action} {value}")
+
+    def make_abort(self):
+        action = self.variable()
+        return action and ("abort", (action,), f"abort {action}")
+
+    def make_giveup(self):
+        if not self.variables:
+            return None
+        child = self.random.choice(self.variables[-8:])
+        name, parent = self.run.bound.get(child), None
+        for one in self.variables:
+            if name is not None and self.run.bound.get(one) == name[:-1]:
+                parent = one
+        parent = parent or self.random.choice(self.variables)
+        return "giveup", (parent, child), f"giveup {parent} {child}"
+
+    def make_go(self):
+        if not self.starts:
+            return None
+        action = self.random.choice(self.starts)
+        return "go", (action,), f"go {action}"
+
+    def a_letter(self):
+        """The number of a letter: most often one that waits, often one that came before, seldom one that was not sent."""
+        random, letters = self.random, self.run.letters
+        if len(letters) == 1 or random.random() < 0.02:
+            return random.choice([1, len(letters), len(letters) + 1, 4294967295])
+        chance = random.random()
+        if chance < 0.8:
+            waiting = [one.number for one in letters[max(1, len(letters) - 40):] if not (one.delivered or one.lost)]
+            if waiting:
+                return waiting[0] if chance < 0.45 else random.choice(waiting)
+        return random.randint(max(1, len(letters) - 15), len(letters) - 1)
+
+    def make_deliver(self):
+        number = self.a_letter()
+        return "deliver", (number,), f"deliver {number}"
+
+    def make_lose(self):
+        number = self.a_letter()
+        return "lose", (number,), f"lose {number}"
+
+    def make_cut(self):
+        number, random = self.a_letter(), self.random
+        size = random.choice([0, 1, 32, 4294967295, random.randint(0, 120)])
+        if number < len(self.run.letters) and random.random() < 0.7:
+            size = max(0, self.run.length(self.run.letters[number]) + random.choice([-1, 0, 1]))
+        return "cut", (number, size), f"cut {number} {size}"
+
+    def make_restart(self):
+        halted = [n for n in range(1, self.script.nodes + 1) if self.run.nodes[n].halted]
+        node = self.random.choice(halted) if halted and self.random.random() < 0.6 else self.node()
+        return "restart", (node,), f"restart {node}"
+
+    def make_drain(self):
+        return "drain", (), "drain"
+
+    def make_play(self):
+        return "play", (), "play"
+
+    def make_tell(self):
+        node, to = self.node(), self.node()
+        return "tell", (node, to), f"tell {node} {to}"
+
+    def make_query(self):
+        action = self.random.choice(self.starts) if self.starts and self.random.random() < 0.5 else self.variable()
+        node = self.node()
+        return action and ("query", (node, action), f"query {node} {action}")
+
+    def make_stop(self):
+        node, calls = self.node(), self.random.choice([0, 1, 2, 3, 3, 3, 4, 5, 6, 7, 7, 8, 11, 1000])
+        return "stop", (node, calls), f"stop {node} {calls}"
+
+    def make_tick(self):
+        node = self.node()
+        moment = max(1, self.run.nodes[node].moment + self.random.choice([0, 1, 1, 2, 3, 5]))
+        return "tick", (node, moment), f"tick {node} {moment}"
+
+    def make_expire(self):
+        tops = [one for one in self.variables if len(self.run.bound.get(one) or ()) == 1]
+        if not tops:
+            return None
+        action = self.random.choice(tops)
+        return "expire", (action,), f"expire {action}"
+
+
+def spoilt(random, data):
+    """A script with one place changed, which most often makes it faulty."""
+    lines = data.split(b"\n")
+    at = random.randrange(len(lines))
+    words = lines[at].split(b" ")
+    form = random.randint(0, 8)
+    others = [b"9", b"0", b"read", b"$1", b"-1", b"a1", b"o0", b"18446744073709551616", b"call", b"end", b"nodes", b"body", b"1A", b"b0",
+              b"object", b"child", b"s1", b"01", b"513", b"take", b"abcdefghijklmnopq", b"-", b"$0", b"$1+9223372036854775808", b"#"]
+    if form == 0:
+        lines.insert(at, random.choice(lines))
+    elif form == 1:
+        del lines[at]
+    elif form == 2:
+        words.insert(random.randint(0, len(words)), random.choice(others))
+    elif form == 3:
+        del words[random.randrange(len(words))]
+    elif form == 4:
+        words[random.randrange(len(words))] = random.choice(others)
+    elif form == 5:
+        words[random.randrange(len(words))] += bytes([random.randrange(256)])
+    elif form == 6:
+        return b"\n".join(lines[:at]) + (b"\n" if random.random() < 0.5 else b"")
+    elif form == 7:
+        words.insert(random.randint(0, len(words)), random.choice([b"", b"\t", b"\r", b"#"]))
+    else:
+        return data.replace(b"\n", b"\r\n") + (b"\r" if random.random() < 0.3 else b"")
+    if form in (2, 3, 4, 5, 7):
+        lines[at] = b" ".join(words)
+    return b"\n".join(lines)
+
+
+def at_an_end(random):
+    """A script at an end of one of the limits, or one past it."""
+    form, past = random.randint(0, 4), random.randint(0, 1)
+    head = b"nodes 1\nobject r 1 register 0\n"
+    if form == 0:
+        return head + b"#" * (262144 - len(head) - 1 + past) + b"\n"
+    if form == 1:
+        return head + b"drain\n" * (512 + past)
+    if form == 2:
+        return b"nodes 1\n" + b"".join(b"object o%d 1 counter 0\n" % n for n in range(64 + past))
+    if form == 3:
+        return head + b"".join(b"body b%d\ncommit 0\nend\n" % n for n in range(32 + past))
+    bodies = [b"body b0\ncall 1 r write 1\ncommit 0\nend\n"]
+    bodies += [b"body b%d\nchild 1 1 b%d\ncommit $1\nend\n" % (n, n - 1) for n in range(1, 8 + past)]
+    return head + b"".join(bodies) + b"start s 1 b7\nplay\n"
+
+
+def size_of(random):
+    """How many steps a script has: most have few, and some all that a script may have."""
+    chance = random.random()
+    if chance < 0.6:
+        return random.randint(4, 24)
+    if chance < 0.97:
+        return random.randint(20, 60)
+    return random.randint(60, 200) if chance < 0.997 else 512
+
+
+def script_of(random, timed=False, run=Run):
+    """A script as bytes."""
+    if not timed and random.random() < 0.001:
+        return at_an_end(random)
+    data = Generator(random, timed, run).make(size_of(random))
+    return spoilt(random, data) if random.random() < 0.06 else data
