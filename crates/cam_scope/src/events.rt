@@ -6,7 +6,8 @@ use cam_base::{NoMemory, Sequence};
 use cam_event::{Event, Trace};
 use std::alloc::Global;
 
-/// An event of a run: where it happened, the line that made it, and its letters by their numbers, which count from 1 in order of sending.
+/// An event of a run: where it happened, the line that made it, and its letters by their numbers,
+/// which count from 1 in order of sending.
 #[derive(Clone, Copy, Debug, PartialEq, Eq)]
 pub struct NamedEvent {
     pub node: u8,

@@ -17,8 +17,8 @@ pub(crate) struct Variable {
 /// The variables of a script, by the actions for which they stand.
 pub(crate) type Variables = BTreeMap<Name, Variable>;
 
-/// The actions of a run with the words by which its script knows them: a variable, `T`; or, where a body asked for it, the parent's
-/// word and the child's place among the parent's children, `T/2`.
+/// The actions of a run with the words by which its script knows them: a variable, `T`; or, where a
+/// body asked for it, the parent's word and the child's place among the parent's children, `T/2`.
 #[derive(Drop)]
 pub struct Names {
     variables: Variables,
@@ -61,7 +61,8 @@ impl Names {
         Ok(())
     }
 
-    /// Appends the word of an action. An action that the script cannot name is written as the report writes it.
+    /// Appends the word of an action. An action that the script cannot name is written as the
+    /// report writes it.
     pub fn write_name(
         &self,
         alloc: Global,

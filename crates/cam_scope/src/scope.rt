@@ -56,7 +56,8 @@ pub fn scope_of(
 }
 
 impl Scope {
-    /// The action that a step made, by the step's place in the script; none where its line was refused.
+    /// The action that a step made, by the step's place in the script; none where its line was
+    /// refused.
     pub fn made(&self, step: u32) -> Option<Name> {
         self.made.get(&step).copied()
     }

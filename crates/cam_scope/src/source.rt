@@ -59,7 +59,8 @@ fn is_blank(byte: u8) -> bool {
     byte == b' ' || byte == b'\t'
 }
 
-/// The column, from 1, at which a word of a line begins, by its place among the words, from 0; that behind the line where there is none.
+/// The column, from 1, at which a word of a line begins, by its place among the words, from 0; that
+/// behind the line where there is none.
 pub fn column(line: &[u8], place: usize) -> usize {
     let mut words = 0usize;
     let mut was_blank = true;

@@ -45,7 +45,8 @@ pub fn write_answer(answer: &Answer, out: &mut String) -> Result<(), NoMemory> {
     }
 }
 
-/// Appends what an action got to see of a call: an answer, `busy` with the holder's name, or `gone`.
+/// Appends what an action got to see of a call: an answer, `busy` with the holder's name, or
+/// `gone`.
 pub fn write_seen(
     alloc: Global,
     names: &Names,
@@ -62,7 +63,8 @@ pub fn write_seen(
     }
 }
 
-/// Appends why an action was stopped: `abort T`, or `crash 2 1 2` with the node, the count that was visited and the known one.
+/// Appends why an action was stopped: `abort T`, or `crash 2 1 2` with the node, the count that was
+/// visited and the known one.
 pub fn write_reason(
     alloc: Global,
     names: &Names,

@@ -1,7 +1,9 @@
-//! The steps of a script and the events of its run, walked side by side: which events happened in which line.
+//! The steps of a script and the events of its run, walked side by side: which events happened in
+//! which line.
 //!
-//! A line of one event has the next one, unless it left a mark that says otherwise. A `drain` has the deliveries of the letters that
-//! wait, the least first. A `play` has the requests of actions that work at bodies, and such deliveries.
+//! A line of one event has the next one, unless it left a mark that says otherwise. A `drain` has
+//! the deliveries of the letters that wait, the least first. A `play` has the requests of actions
+//! that work at bodies, and such deliveries.
 use crate::letters::Fate;
 use crate::marks::{Halt, LineMarks};
 use crate::names::{Variable, Variables};
@@ -317,7 +319,8 @@ impl Walk {
         Ok(())
     }
 
-    /// Whether the next event is a request that an action with a body makes in a play. An action that was stopped at its home makes none.
+    /// Whether the next event is a request that an action with a body makes in a play. An action
+    /// that was stopped at its home makes none.
     fn is_request_of_body(&self, run: &RunRecord) -> bool {
         let Some(event) = run.trace.get(self.lines.len()) else {
             return false;
@@ -333,7 +336,8 @@ impl Walk {
         }
     }
 
-    /// The least letter that waits arrives, or meets a halt, or is held for a node that is halted. It says whether one waited.
+    /// The least letter that waits arrives, or meets a halt, or is held for a node that is halted.
+    /// It says whether one waited.
     fn deliver_least(
         &mut self,
         run: &RunRecord,
