@@ -1,0 +1,15 @@
+//! What `camscope` says of itself.
+
+/// All forms of the words, each with what it does.
+pub const USAGE: &str = "usage: camscope explain [FILE]    the run in words
+       camscope columns [FILE]    the run in columns, a node each
+       camscope shiviz [FILE]     the run as a log that ShiViz reads
+       camscope check [FILE..]    whether the run keeps the lines '#= TEXT' of the script
+       camscope --help            these lines
+       camscope --version         the version
+Without FILE a script is read from standard input. The status is 0, 1 for a finding, 2 for wrong words.
+";
+
+/// The version: the file VERSION has its number.
+pub const VERSION: &str = "camscope, of the version that the file VERSION names
+";
