@@ -89,6 +89,8 @@ int main(int count, char **arguments) {
     posix_spawnattr_setsigmask(&attributes, &none);
     posix_spawnattr_setflags(&attributes, POSIX_SPAWN_SETSIGMASK);
 
+    // What is loaded before the program, and not before this helper.
+    if (getenv("HUNT_PRELOAD")) setenv("LD_PRELOAD", getenv("HUNT_PRELOAD"), 1);
     int words;
     size_t length;
     while (scanf("%d %zu", &words, &length) == 2) {
