@@ -7,13 +7,14 @@ import time
 from generator import script_of
 from laws import broken_laws
 from lines import Run
+from made import summary
 from program import HUNT, Program
 from reading import Refused, parse
 from texts import Texts, name_text
 
 FOUND = os.path.join(HUNT, "found")
-# Of how many scripts one is asked for witnesses and chains too, and judged by the laws on the printed texts.
-ONE_IN = 16
+# Of how many scripts one is asked for witnesses and chains too; after how many one is made by `gen`.
+ONE_IN, MADE_IN = 16, 64
 
 
 class Expected:
@@ -95,6 +96,14 @@ class Expected:
         return asked + [["witness", "8.1.9"], ["why", str(source.randint(0, self.events))]]
 
 
+class MadeExpected:
+    """What `gen` has to write."""
+
+    def differs(self, words, ended):
+        text = summary(int(words[1]), int(words[2]))
+        return None if (ended.status, ended.signal, ended.text) == (0, 0, text) else f"{ended.said()}, {ended.text!r}, not {text!r}"
+
+
 class Hunter:
     """One process that hunts."""
 
@@ -122,6 +131,10 @@ class Hunter:
             more = expected.questions(source)
             self.ask(more, data)
             self.backlog.append((name, data, expected, more))
+        if self.done % MADE_IN == 0:
+            made = [["gen", str(source.randrange(2 ** 64)), str(source.randint(1, 60))]]
+            self.ask(made, b"")
+            self.backlog.append((name, b"", MadeExpected(), made))
         self.count(expected)
         while len(self.backlog) > 2 or len(data) > 4000 and self.backlog:
             self.judge(*self.backlog.pop(0))
@@ -164,7 +177,8 @@ class Hunter:
         self.found.append((name, words, wrong))
 
     def is_wrong(self, data, words):
-        return Expected(data).differs(words, self.program.run(words, data)) is not None
+        expected = MadeExpected() if words[0] == "gen" else Expected(data)
+        return expected.differs(words, self.program.run(words, data)) is not None
 
 
 def shrunk(data, is_wrong):

@@ -11,7 +11,7 @@ from program import HUNT, NoProgram, built, find
 
 USAGE = """usage: hunt/run SECONDS [SEED] [--runs N] [--jobs N] [--program FILE] [--timed]
 
-Generates scripts, runs the program on each (`run` and `trace`; of one in 16 also `witness` and `why`), and compares what it writes
+Generates scripts, runs the program on each (`run` and `trace`; of one in 16 also `witness` and `why`, and after 64 one `gen`), and compares what it writes
 with a second implementation of the rules; of one in ten the printed texts are judged by laws too. What differs is shrunk and kept in
 hunt/found. SEED is any word, and 1 where it is left out; the same seed makes the same scripts, on any number of processors as long as
 --jobs is the same. It ends after SECONDS, or after N scripts.

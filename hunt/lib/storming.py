@@ -12,6 +12,7 @@ import time
 from hunting import Expected
 from images import entries_of, records_of
 from lines import Run
+from made import Draws
 from program import NoProgram, find
 from reading import Body, Object, Script
 
@@ -25,17 +26,6 @@ beside others that are busy; none may take longer than a minute.
 Status 0: all is as it must be. Status 1: something is not; a line says what. Status 2: nothing was tried, as where PROGRAM has no `storm`."""
 
 MOST_SECONDS = 60
-
-
-class Draws:
-    """The generator of 64 bits."""
-
-    def __init__(self, seed):
-        self.state = seed % 2 ** 64
-
-    def below(self, count):
-        self.state = (self.state * 6364136223846793005 + 1442695040888963407) % 2 ** 64
-        return (self.state >> 32) % count
 
 
 class Storm:
