@@ -1,6 +1,8 @@
-// Runs one program many times. `batch SECONDS PROGRAM` reads jobs from standard input: a line with the number of words and the number of
-// bytes of the input, a line for each word, and the bytes. For each it writes a line with the status, the signal (0 where none ended the
-// program, -1 where it was still running after SECONDS) and the number of bytes, and then what the program wrote to standard output.
+// Runs one program many times. `batch SECONDS PROGRAM` reads jobs from standard input: a line with
+// the number of words and the number of bytes of the input, a line for each word, and the bytes.
+// For each it writes a line with the status, the signal (0 where none ended the program, -1 where
+// it was still running after SECONDS) and the number of bytes, and then what the program wrote to
+// standard output.
 #define _GNU_SOURCE
 #include <errno.h>
 #include <signal.h>
@@ -110,7 +112,8 @@ int main(int count, char **arguments) {
         if (ftruncate(output, 0) != 0 || lseek(output, 0, SEEK_SET) != 0) fail("the output");
         pid_t program;
         int status = 0;
-        if (posix_spawn(&program, arguments[2], &actions, &attributes, list, environ) != 0) fail(arguments[2]);
+        if (posix_spawn(&program, arguments[2], &actions, &attributes, list, environ) != 0)
+            fail(arguments[2]);
         int ended = wait_for(program, seconds, &status);
         off_t wrote = lseek(output, 0, SEEK_END);
         int by = !ended ? -1 : WIFSIGNALED(status) ? WTERMSIG(status) : 0;

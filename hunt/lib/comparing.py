@@ -14,19 +14,30 @@ from timed import TimedRun
 
 USAGE = """usage: hunt/compilers [SECONDS] [SEED] [--programs FILE FILE]
 
-Builds the program by LLVM and by the compiler that is written in Rattle, and runs both on the same inputs for SECONDS, 60 where they are
-left out: generated scripts with every command that runs one, scripts by time, made scripts, and the logs that runs leave, whole and spoilt.
-Both must write the same bytes with the same status. With --programs two builds that stand already are compared.
+Builds the program by LLVM and by the compiler that is written in Rattle, and runs both on the same
+inputs for SECONDS, 60 where they are left out: generated scripts with every command that runs one,
+scripts by time, made scripts, and the logs that runs leave, whole and spoilt. Both must write the
+same bytes with the same status. With --programs two builds that stand already are compared.
 
-Status 0: they agree. Status 1: they do not; the input is kept in hunt/found. Status 2: nothing was compared."""
+Status 0: they agree. Status 1: they do not; the input is kept in hunt/found. Status 2: nothing was
+compared."""
 
 
 def build(backend):
     """The proved program as this compiler builds it, in a file of its own."""
     crate = os.path.join(TOP, "crates", "cam_cli")
-    done = subprocess.run(["rt", "run", "--backend", backend, "--", "run"], cwd=crate, input=b"nodes 1\n", capture_output=True, check=False)
+    done = subprocess.run(
+        ["rt", "run", "--backend", backend, "--", "run"],
+        cwd=crate,
+        input=b"nodes 1\n",
+        capture_output=True,
+        check=False,
+    )
     if done.returncode:
-        raise NoProgram(f"rt run --backend {backend} ended with status {done.returncode}: {done.stderr.decode()[-300:]}")
+        raise NoProgram(
+            f"rt run --backend {backend} ended with status {done.returncode}: "
+            f"{done.stderr.decode()[-300:]}"
+        )
     os.makedirs(os.path.join(HUNT, "out"), exist_ok=True)
     made = os.path.join(HUNT, "out", "by-" + backend)
     shutil.copy2(os.path.join(crate, "out", "cam_cli"), made)
@@ -39,9 +50,12 @@ def jobs(source):
     if form < 0.1:
         return script_of(source, timed=True, run=TimedRun), [["timed"]]
     if form < 0.2:
-        return b"", [["gen", str(source.randrange(2 ** 64)), str(source.randint(1, 400))]]
+        return b"", [["gen", str(source.randrange(2**64)), str(source.randint(1, 400))]]
     if form < 0.3:
-        image = bytearray(source.choice([b"CAMELOT\n", b"CAMCKPT\n"]) + bytes.fromhex("010000000000000005010000000200"))
+        image = bytearray(
+            source.choice([b"CAMELOT\n", b"CAMCKPT\n"])
+            + bytes.fromhex("010000000000000005010000000200")
+        )
         image[source.randrange(len(image))] = source.randrange(256)
         return bytes(image), [["inspect"], ["upgrade"]]
     data = script_of(source)
@@ -55,7 +69,7 @@ def main(words):
     paths = None
     if "--programs" in words[:-2]:
         at = words.index("--programs")
-        paths, words = words[at + 1:at + 3], words[:at] + words[at + 3:]
+        paths, words = words[at + 1 : at + 3], words[:at] + words[at + 3 :]
     if len(words) > 2 or words and not words[0].isdigit():
         print(f"hunt/compilers: the first word is a number of seconds\n{USAGE}", file=sys.stderr)
         return 2
@@ -63,7 +77,9 @@ def main(words):
     try:
         paths = paths or [build("llvm"), build("rattle")]
         one, other = (Program(path) for path in paths)
-        inputs, runs, differ = compare(one, other, random.Random(f"compilers {seed}"), time.time() + seconds)
+        inputs, runs, differ = compare(
+            one, other, random.Random(f"compilers {seed}"), time.time() + seconds
+        )
     except (NoProgram, OSError) as error:
         print(f"hunt/compilers: {error}", file=sys.stderr)
         return 2
@@ -84,7 +100,10 @@ def compare(one, other, source, until):
                 os.makedirs(FOUND, exist_ok=True)
                 with open(os.path.join(FOUND, f"compilers-{inputs}"), "wb") as file:
                     file.write(data)
-                print(f"hunt/found/compilers-{inputs}, {' '.join(words)}: {first.said()} and {second.said()}")
+                print(
+                    f"hunt/found/compilers-{inputs}, {' '.join(words)}: "
+                    f"{first.said()} and {second.said()}"
+                )
     return inputs, runs, differ
 
 

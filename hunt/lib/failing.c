@@ -1,6 +1,7 @@
-// Stands before the C library, and makes calls of the program fail: those that the plan names, which is a file that $HUNT_PLAN names.
-// It counts the calls of each kind there. Kinds: 1 malloc and realloc; 2 read of standard input; 3 write of standard output; 4 any call
-// on the disk of a node; 5 a read, and 6 a write, of a stream that moves one byte alone.
+// Stands before the C library, and makes calls of the program fail: those that the plan names,
+// which is a file that $HUNT_PLAN names. It counts the calls of each kind there. Kinds: 1 malloc
+// and realloc; 2 read of standard input; 3 write of standard output; 4 any call on the disk of a
+// node; 5 a read, and 6 a write, of a stream that moves one byte alone.
 #define _GNU_SOURCE
 #include <dlfcn.h>
 #include <errno.h>

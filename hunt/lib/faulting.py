@@ -1,9 +1,9 @@
-"""hunt/faults: makes each allocation, each read and write, and each call of each disk fail in turn, and spoils images of logs."""
+"""hunt/faults: makes each allocation, each read and write, and each call of each disk fail in turn,
+and spoils images of logs."""
 
 import glob
 import mmap
 import os
-import random
 import shutil
 import struct
 import subprocess
@@ -17,18 +17,25 @@ from texts import name_text
 
 USAGE = """usage: hunt/faults [PART..] [--program FILE]
 
-Runs the program on the twenty scripts of hunt/scripts, which meet all rules, and makes things fail. Each answer must be the one that
-README.md's table of statuses says. The parts are these, and without a word all of them:
+Runs the program on the twenty scripts of hunt/scripts, which meet all rules, and makes things fail.
+Each answer must be the one that README.md's table of statuses says. The parts are these, and
+without a word all of them:
 
-  allocations  each allocation fails: alone, and with all later ones. Status 7 and no text, or the whole text
-  streams      each read and each write of a stream fails, or moves one byte alone. Status 4; 5 and a prefix; the whole text
-  disks        over files: each call on the file of each node fails: alone, and with all later ones. Status 6 and the node
+  allocations  each allocation fails: alone, and with all later ones. Status 7 and no text, or the
+               whole text
+  streams      each read and each write of a stream fails, or moves one byte alone. Status 4; 5 and
+               a prefix; the whole text
+  disks        over files: each call on the file of each node fails: alone, and with all later ones.
+               Status 6 and the node
   letters      each letter of the scripts is cut at each length
-  images       each image of a log that the scripts leave: every prefix, and every byte changed to eight values, by inspect and upgrade
-  valgrind     the scripts once more, under valgrind where it is installed: no access to memory that is not the program's
+  images       each image of a log that the scripts leave: every prefix, and every byte changed to
+               eight values, by inspect and upgrade
+  valgrind     the scripts once more, under valgrind where it is installed: no access to memory that
+               is not the program's
   commands     words that are no command, and words at the ends of their ranges
 
-Status 0: all answers are right. Status 1: some are not; a line says which. Status 2: nothing could be tried."""
+Status 0: all answers are right. Status 1: some are not; a line says which. Status 2: nothing could
+be tried."""
 
 KINDS = {"allocation": 1, "read": 2, "write": 3, "disk": 4, "short read": 5, "short write": 6}
 FIELDS = 4 + 7 + 9 + 1
@@ -48,12 +55,18 @@ class Faults:
         self.place = os.getcwd()
         os.makedirs(os.path.join(room, "files"))
         os.chdir(os.path.join(room, "files"))
-        self.program = Program(path, environment={"HUNT_PLAN": plan, "HUNT_PRELOAD": built("failing", "-shared", "-fPIC")})
+        self.program = Program(
+            path,
+            environment={"HUNT_PLAN": plan, "HUNT_PRELOAD": built("failing", "-shared", "-fPIC")},
+        )
         self.tried, self.wrong, self.met = 0, [], {}
 
     def run(self, words, data, kind=0, number=0, later=False, node=0):
-        """Runs the program with this plan. Returns how it ended, and its counts of calls by kind and by node."""
-        self.plan[:] = struct.pack(f"{FIELDS}q", kind, node, number, int(later), *[0] * (FIELDS - 4))
+        """Runs the program with this plan. Returns how it ended, and its counts of calls by kind
+        and by node."""
+        self.plan[:] = struct.pack(
+            f"{FIELDS}q", kind, node, number, int(later), *[0] * (FIELDS - 4)
+        )
         ended = self.program.run(words, data)
         found = struct.unpack(f"{FIELDS}q", self.plan[:])
         self.tried += 1
@@ -81,19 +94,35 @@ def scripts():
 
 
 def runs():
-    """Each script with the commands that run it, the inputs of the other commands, and whether the status is 0 or 8."""
+    """Each script with the commands that run it, the inputs of the other commands, and whether the
+    status is 0 or 8."""
     found = []
     for name, data in scripts():
         expected = Expected(data)
-        names, stops = sorted(expected.texts.views()), [n for n, event in enumerate(expected.run.events) if event.stop]
-        words = [["run"], ["trace"], ["witness", name_text(names[-1]) if names else "1.1.1"], ["why", str(stops[0] if stops else 0)]]
+        names, stops = sorted(expected.texts.views()), [
+            n for n, event in enumerate(expected.run.events) if event.stop
+        ]
+        words = [
+            ["run"],
+            ["trace"],
+            ["witness", name_text(names[-1]) if names else "1.1.1"],
+            ["why", str(stops[0] if stops else 0)],
+        ]
         found += [(name, one, data) for one in words]
     for path in sorted(glob.glob(os.path.join(TOP, "examples", "runs-by-time", "*.cam"))):
         with open(path, "rb") as file:
             found.append((os.path.basename(path), ["timed"], file.read()))
     image = bytes.fromhex("43414d454c4f540a0100000000000000050100000002" + "00")
-    found += [("an image", ["inspect"], image), ("an image", ["upgrade"], image), ("half an image", ["inspect"], image[:20])]
-    return found + [("a refused script", ["run"], b"nodes 2\nbegin A 3\n"), ("no script", ["gen", "7", "30"], b""), ("no script", ["no", "form"], b"")]
+    found += [
+        ("an image", ["inspect"], image),
+        ("an image", ["upgrade"], image),
+        ("half an image", ["inspect"], image[:20]),
+    ]
+    return found + [
+        ("a refused script", ["run"], b"nodes 2\nbegin A 3\n"),
+        ("no script", ["gen", "7", "30"], b""),
+        ("no script", ["no", "form"], b""),
+    ]
 
 
 def allocations(faults):
@@ -103,7 +132,12 @@ def allocations(faults):
             for later in (False, True):
                 ended, _, _ = faults.run(words, data, KINDS["allocation"], number, later)
                 fits = ended == whole or (ended.status, ended.signal, ended.text) == (7, 0, "")
-                faults.expect(fits, f"{name}, {' '.join(words)}: allocation {number} fails{' and all later' * later}", ended)
+                faults.expect(
+                    fits,
+                    f"{name}, {' '.join(words)}: allocation {number} fails"
+                    + " and all later" * later,
+                    ended,
+                )
     return faults.line("allocations")
 
 
@@ -113,12 +147,27 @@ def streams(faults):
         for kind in ("read", "write"):
             for number in range(1, counts[KINDS[kind]] + 1):
                 ended, _, _ = faults.run(words, data, KINDS[kind], number)
-                fits = (ended.status, ended.text) == (4, "read fault\n") if kind == "read" else (
-                    ended.status == 5 and whole.text.startswith(ended.text) and ended.text != whole.text)
-                faults.expect(fits and not ended.signal, f"{name}, {' '.join(words)}: {kind} {number} fails", ended)
+                fits = (
+                    (ended.status, ended.text) == (4, "read fault\n")
+                    if kind == "read"
+                    else (
+                        ended.status == 5
+                        and whole.text.startswith(ended.text)
+                        and ended.text != whole.text
+                    )
+                )
+                faults.expect(
+                    fits and not ended.signal,
+                    f"{name}, {' '.join(words)}: {kind} {number} fails",
+                    ended,
+                )
             for later in (False, True):
                 ended, _, _ = faults.run(words, data, KINDS["short " + kind], 1, later)
-                faults.expect(ended == whole, f"{name}, {' '.join(words)}: a {kind} moves one byte{', each' * later}", ended)
+                faults.expect(
+                    ended == whole,
+                    f"{name}, {' '.join(words)}: a {kind} moves one byte{', each' * later}",
+                    ended,
+                )
     return faults.line("streams")
 
 
@@ -133,29 +182,47 @@ def disks(faults):
                 for number in range(1, counts[node] + 1):
                     for later in (False, True):
                         ended, _, _ = faults.run(words, data, KINDS["disk"], number, later, node)
-                        fits = (ended.status, ended.signal, ended.text) == (6, 0, f"disk fault {node}\n") if node <= nodes else ended == whole
-                        faults.expect(fits, f"{name}, {' '.join(words)}: call {number} of disk {node} fails{' and all later' * later}", ended)
+                        fits = (
+                            (ended.status, ended.signal, ended.text)
+                            == (6, 0, f"disk fault {node}\n")
+                            if node <= nodes
+                            else ended == whole
+                        )
+                        faults.expect(
+                            fits,
+                            f"{name}, {' '.join(words)}: call {number} of disk {node} fails"
+                            + " and all later" * later,
+                            ended,
+                        )
     return faults.line("disks")
 
 
 def letters(faults):
-    """Each letter of each script, cut at each length, in place of the script's last lines."""
-    source = random.Random(1)
+    """Each letter of each script, cut at each length, in a line behind the script's last."""
     for name, data in scripts():
         run = Expected(data).run
         for letter in run.letters[1:]:
             length = run.length(letter)
-            for size in sorted({0, 1, length - 1, length, length + 1, *source.sample(range(length), min(6, length))}):
+            for size in range(length + 2):
                 cut = data + f"cut {letter.number} {size}\n".encode()
                 ended, _, _ = faults.run(["run"], cut)
                 why = Expected(cut).differs(["run"], ended)
-                faults.expect(not why, f"{name}: letter {letter.number} cut at {size} of {length}: {why}", ended)
+                what = f"{name}: letter {letter.number} cut at {size} of {length}: {why}"
+                faults.expect(not why, what, ended)
     return faults.line("letters")
 
 
 def images_of(faults):
     """The images that the scripts leave in files, each once, and one of a plain log."""
-    found = {bytes.fromhex("43414d454c4f540a01000000000000002f" + "01000000020202020000000300000004010000000200000001" + "0403000000040501010000000100000001" + "0000000200000000" + "00")}
+    found = {
+        bytes.fromhex(
+            "43414d454c4f540a01000000000000002f"
+            + "01000000020202020000000300000004010000000200000001"
+            + "0403000000040501010000000100000001"
+            + "0000000200000000"
+            + "00"
+        )
+    }
     for _, data in scripts():
         for word in glob.glob("cam*.log"):
             os.remove(word)
@@ -171,18 +238,34 @@ def images(faults):
     plain = [b"CAMELOT\n" + image[42:] for image in logs if len(image) > 60]
     for image in logs + plain:
         spoilt = [image] + [image[:size] for size in range(len(image))]
-        spoilt += [image[:at] + bytes([value]) + image[at + 1:] for at in range(len(image)) for value in VALUES]
+        spoilt += [
+            image[:at] + bytes([value]) + image[at + 1 :]
+            for at in range(len(image))
+            for value in VALUES
+        ]
         for one in spoilt:
             for command in ("inspect", "upgrade"):
                 ended, _, _ = faults.run([command], one)
                 wanted = told(command, one)
-                fits = (ended.status, ended.signal, ended.text.encode("latin-1")) == (wanted[0], 0, wanted[1])
+                fits = (ended.status, ended.signal, ended.text.encode("latin-1")) == (
+                    wanted[0],
+                    0,
+                    wanted[1],
+                )
                 faults.expect(fits, f"{command} of {one.hex()}", ended)
-    for one in (b"CAMELOT\n" + bytes(262136), b"CAMELOT\n" + bytes(262137), b"CAMCKPT\n" + bytes(262137)):
+    for one in (
+        b"CAMELOT\n" + bytes(262136),
+        b"CAMELOT\n" + bytes(262137),
+        b"CAMCKPT\n" + bytes(262137),
+    ):
         for command in ("inspect", "upgrade"):
             ended, _, _ = faults.run([command], one)
             wanted = told(command, one)
-            faults.expect((ended.status, ended.text.encode("latin-1")) == wanted, f"{command} of {len(one)} bytes", ended)
+            faults.expect(
+                (ended.status, ended.text.encode("latin-1")) == wanted,
+                f"{command} of {len(one)} bytes",
+                ended,
+            )
     return faults.line("images")
 
 
@@ -196,19 +279,59 @@ def valgrind(faults):
         done = subprocess.run(command, input=data, capture_output=True, check=False)
         whole, _, _ = faults.run(words, data)
         fits = (done.returncode, done.stdout.decode("latin-1")) == (whole.status, whole.text)
-        faults.expect(fits, f"{name}, {' '.join(words)} under valgrind: {done.stderr[:200]!r}", whole)
+        faults.expect(
+            fits, f"{name}, {' '.join(words)} under valgrind: {done.stderr[:200]!r}", whole
+        )
     return faults.line("valgrind")
 
 
 def commands(faults):
     usage = faults.run(["no", "form"], b"")[0]
-    forms = [["run"], ["trace"], ["witness", "1.1.1"], ["why", "0"], ["why", "4294967295"], ["gen", "0", "1"],
-             ["gen", "18446744073709551615", "400"], ["inspect"], ["upgrade"], ["timed"], ["witness", "/".join(["8.1000000000.1000000000"] * 8)]]
-    no_forms = [[], ["run", "run"], ["witness"], ["witness", ""], ["witness", "1.1"], ["witness", "9.1.1"], ["witness", "1.0.1"], ["witness", "01.1.1"],
-                ["witness", "1.1.1000000001"], ["witness", "1.1.1/"], ["witness", "/".join(["1.1.1"] * 9)], ["why"], ["why", "01"], ["why", "-1"],
-                ["why", "4294967296"], ["why", "1", "2"], ["gen", "7"], ["gen", "7", "0"], ["gen", "7", "401"], ["gen", "07", "1"],
-                ["gen", "18446744073709551616", "1"], ["gen", "+1", "1"], ["--help"], ["-h"], ["Run"], ["run", ""], ["files"], ["files", "run"],
-                ["inspect", "files"], ["run", "files", "files"]]
+    forms = [
+        ["run"],
+        ["trace"],
+        ["witness", "1.1.1"],
+        ["why", "0"],
+        ["why", "4294967295"],
+        ["gen", "0", "1"],
+        ["gen", "18446744073709551615", "400"],
+        ["inspect"],
+        ["upgrade"],
+        ["timed"],
+        ["witness", "/".join(["8.1000000000.1000000000"] * 8)],
+    ]
+    no_forms = [
+        [],
+        ["run", "run"],
+        ["witness"],
+        ["witness", ""],
+        ["witness", "1.1"],
+        ["witness", "9.1.1"],
+        ["witness", "1.0.1"],
+        ["witness", "01.1.1"],
+        ["witness", "1.1.1000000001"],
+        ["witness", "1.1.1/"],
+        ["witness", "/".join(["1.1.1"] * 9)],
+        ["why"],
+        ["why", "01"],
+        ["why", "-1"],
+        ["why", "4294967296"],
+        ["why", "1", "2"],
+        ["gen", "7"],
+        ["gen", "7", "0"],
+        ["gen", "7", "401"],
+        ["gen", "07", "1"],
+        ["gen", "18446744073709551616", "1"],
+        ["gen", "+1", "1"],
+        ["--help"],
+        ["-h"],
+        ["Run"],
+        ["run", ""],
+        ["files"],
+        ["files", "run"],
+        ["inspect", "files"],
+        ["run", "files", "files"],
+    ]
     for words in forms:
         ended, _, _ = faults.run(words, b"nodes 1\n")
         faults.expect(ended.status != 2 and not ended.signal, f"{words} is a form", ended)
@@ -218,7 +341,15 @@ def commands(faults):
     return faults.line("commands")
 
 
-PARTS = {"allocations": allocations, "streams": streams, "disks": disks, "letters": letters, "images": images, "valgrind": valgrind, "commands": commands}
+PARTS = {
+    "allocations": allocations,
+    "streams": streams,
+    "disks": disks,
+    "letters": letters,
+    "images": images,
+    "valgrind": valgrind,
+    "commands": commands,
+}
 
 
 def main(words):
@@ -228,10 +359,13 @@ def main(words):
     named = None
     if "--program" in words[:-1]:
         at = words.index("--program")
-        named, words = words[at + 1], words[:at] + words[at + 2:]
+        named, words = words[at + 1], words[:at] + words[at + 2 :]
     unknown = [word for word in words if word not in PARTS]
     if unknown:
-        print(f"hunt/faults: {unknown[0]!r} is no part; hunt/faults --help lists them", file=sys.stderr)
+        print(
+            f"hunt/faults: {unknown[0]!r} is no part; hunt/faults --help lists them",
+            file=sys.stderr,
+        )
         return 2
     room = tempfile.mkdtemp(dir="/dev/shm" if os.path.isdir("/dev/shm") else None)
     try:

@@ -1,22 +1,149 @@
-"""Makes scripts that aim at the rules: it takes each line that it writes, so that it knows which letters wait and which actions are open."""
+"""Makes scripts that aim at the rules: it takes each line that it writes, so that it knows which
+letters wait and which actions are open."""
 
 from lines import LineRefused, Run
 from machine import wrapped
 from reading import Body, Object, Script, Step
 
-FIRST, LAST = -(2 ** 63), 2 ** 63 - 1
+FIRST, LAST = -(2**63), 2**63 - 1
 # How often a kind of script is made, and how often each kind of line stands in it.
 FLAVOURS = {
-    "mixed": (22, dict(begin=3, ask=4, call=8, commit=4, abort=1, giveup=2, deliver=14, drain=4, lose=1, restart=1, tell=2, query=1, cut=1)),
-    "families": (14, dict(begin=3, ask=2, call=6, commit=7, abort=1, deliver=16, drain=1, lose=1, restart=2, query=3, tell=1)),
-    "orphans": (14, dict(begin=2, ask=7, call=7, commit=3, abort=2, giveup=4, deliver=14, drain=3, tell=3, restart=1)),
-    "crashes": (14, dict(begin=3, ask=4, call=7, commit=4, abort=1, giveup=1, deliver=14, drain=3, restart=5, tell=3, query=2)),
-    "stops": (14, dict(begin=3, ask=3, call=6, commit=4, abort=1, giveup=2, deliver=13, drain=4, restart=4, stop=5, tell=2, query=1, cut=1)),
-    "locks": (8, dict(begin=6, ask=4, call=16, commit=5, abort=2, giveup=1, deliver=4, drain=9, restart=1)),
-    "deep": (4, dict(begin=1, ask=12, call=4, commit=2, abort=1, giveup=2, deliver=12, drain=6, restart=1, tell=1)),
-    "bodies": (10, dict(start=4, go=8, play=2, deliver=8, drain=2, lose=1, restart=1, tell=1, query=1, stop=1, begin=1, call=1, commit=1)),
+    "mixed": (
+        22,
+        dict(
+            begin=3,
+            ask=4,
+            call=8,
+            commit=4,
+            abort=1,
+            giveup=2,
+            deliver=14,
+            drain=4,
+            lose=1,
+            restart=1,
+            tell=2,
+            query=1,
+            cut=1,
+        ),
+    ),
+    "families": (
+        14,
+        dict(
+            begin=3,
+            ask=2,
+            call=6,
+            commit=7,
+            abort=1,
+            deliver=16,
+            drain=1,
+            lose=1,
+            restart=2,
+            query=3,
+            tell=1,
+        ),
+    ),
+    "orphans": (
+        14,
+        dict(
+            begin=2,
+            ask=7,
+            call=7,
+            commit=3,
+            abort=2,
+            giveup=4,
+            deliver=14,
+            drain=3,
+            tell=3,
+            restart=1,
+        ),
+    ),
+    "crashes": (
+        14,
+        dict(
+            begin=3,
+            ask=4,
+            call=7,
+            commit=4,
+            abort=1,
+            giveup=1,
+            deliver=14,
+            drain=3,
+            restart=5,
+            tell=3,
+            query=2,
+        ),
+    ),
+    "stops": (
+        14,
+        dict(
+            begin=3,
+            ask=3,
+            call=6,
+            commit=4,
+            abort=1,
+            giveup=2,
+            deliver=13,
+            drain=4,
+            restart=4,
+            stop=5,
+            tell=2,
+            query=1,
+            cut=1,
+        ),
+    ),
+    "locks": (
+        8,
+        dict(begin=6, ask=4, call=16, commit=5, abort=2, giveup=1, deliver=4, drain=9, restart=1),
+    ),
+    "deep": (
+        4,
+        dict(
+            begin=1,
+            ask=12,
+            call=4,
+            commit=2,
+            abort=1,
+            giveup=2,
+            deliver=12,
+            drain=6,
+            restart=1,
+            tell=1,
+        ),
+    ),
+    "bodies": (
+        10,
+        dict(
+            start=4,
+            go=8,
+            play=2,
+            deliver=8,
+            drain=2,
+            lose=1,
+            restart=1,
+            tell=1,
+            query=1,
+            stop=1,
+            begin=1,
+            call=1,
+            commit=1,
+        ),
+    ),
 }
-TIMED = dict(begin=3, ask=4, call=7, commit=4, abort=1, giveup=3, deliver=14, drain=3, lose=1, tell=2, query=1, tick=5, expire=3)
+TIMED = dict(
+    begin=3,
+    ask=4,
+    call=7,
+    commit=4,
+    abort=1,
+    giveup=3,
+    deliver=14,
+    drain=3,
+    lose=1,
+    tell=2,
+    query=1,
+    tick=5,
+    expire=3,
+)
 
 
 class Generator:
@@ -26,7 +153,11 @@ class Generator:
         self.random, self.timed, self.text, self.line = random, timed, [], 0
         self.script = Script()
         self.flavour = self.pick_flavour()
-        self.variables, self.starts, self.weights = [], [], TIMED if timed else FLAVOURS[self.flavour][1]
+        self.variables, self.starts, self.weights = (
+            [],
+            [],
+            TIMED if timed else FLAVOURS[self.flavour][1],
+        )
         self.declare()
         self.run = run(self.script)
         self.cost = 0
@@ -52,7 +183,9 @@ class Generator:
             one = Object(f"o{place}", random.randint(1, script.nodes), kind, start)
             script.places[one.name] = place
             script.objects.append(one)
-            self.write(f"object {one.name} {one.node} {kind}" + ("" if kind == "queue" else f" {start}"))
+            self.write(
+                f"object {one.name} {one.node} {kind}" + ("" if kind == "queue" else f" {start}")
+            )
         if self.flavour == "bodies" and not self.timed:
             for place in range(random.randint(1, 4)):
                 self.declare_body(f"b{place}")
@@ -62,7 +195,9 @@ class Generator:
         for place in range(1, random.randint(1, 4)):
             tries = random.choice([1, 1, 2, 3])
             if script.bodies and random.random() < 0.5:
-                child, node = random.choice(list(script.bodies.values())), random.randint(1, script.nodes)
+                child, node = random.choice(list(script.bodies.values())), random.randint(
+                    1, script.nodes
+                )
                 if child.nesting == 8:
                     continue
                 said.append(("child", tries, node, child.name))
@@ -86,7 +221,11 @@ class Generator:
         script.bodies[name] = Body(name, said, cost, nesting)
 
     def value(self):
-        return self.random.choice([0, 1, 2, 5, -1, 7, FIRST, LAST]) if self.random.random() < 0.8 else self.random.randint(FIRST, LAST)
+        return (
+            self.random.choice([0, 1, 2, 5, -1, 7, FIRST, LAST])
+            if self.random.random() < 0.8
+            else self.random.randint(FIRST, LAST)
+        )
 
     def expression(self, places):
         if places == 0 or self.random.random() < 0.4:
@@ -96,10 +235,18 @@ class Generator:
         added = self.random.choice([0, 1, 30, LAST])
         if form == 0:
             return ("$", place, 0), f"${place}"
-        return ("$", place, added if form == 1 else -added), f"${place}{'+' if form == 1 else '-'}{added}"
+        return (
+            "$",
+            place,
+            added if form == 1 else -added,
+        ), f"${place}{'+' if form == 1 else '-'}{added}"
 
     def operation(self, one, value):
-        words = {"register": ["read", "read", "write", "swap"], "queue": ["size", "put", "put", "take"], "counter": ["read", "add", "add"]}
+        words = {
+            "register": ["read", "read", "write", "swap"],
+            "queue": ["size", "put", "put", "take"],
+            "counter": ["read", "add", "add"],
+        }
         word = self.random.choice(words[one.kind])
         if word in ("write", "swap", "put", "add"):
             number, text = value()
@@ -136,7 +283,7 @@ class Generator:
         return self.random.randint(1, self.script.nodes)
 
     def until(self):
-        return (self.random.choice([3, 5, 8, 20, 10 ** 9]),) if self.timed else ()
+        return (self.random.choice([3, 5, 8, 20, 10**9]),) if self.timed else ()
 
     def new(self, list_of):
         name = f"{'s' if list_of is self.starts else 'a'}{len(list_of) + 1}"
@@ -171,12 +318,20 @@ class Generator:
         return "start", (name, node, body.name), f"start {name} {node} {body.name}", 1 + body.cost
 
     def make_ask(self):
-        parent = self.variables[-1] if self.flavour == "deep" and self.variables and self.random.random() < 0.7 else self.variable()
+        parent = (
+            self.variables[-1]
+            if self.flavour == "deep" and self.variables and self.random.random() < 0.7
+            else self.variable()
+        )
         if parent is None:
             return None
         node, until = self.node(), self.until()
         name = self.new(self.variables)
-        return "ask", (parent, name, node, *until), " ".join(map(str, ["ask", parent, name, node, *until]))
+        return (
+            "ask",
+            (parent, name, node, *until),
+            " ".join(map(str, ["ask", parent, name, node, *until])),
+        )
 
     def make_call(self):
         action = self.variable()
@@ -217,13 +372,18 @@ class Generator:
         return "go", (action,), f"go {action}"
 
     def a_letter(self):
-        """The number of a letter: most often one that waits, often one that came before, seldom one that was not sent."""
+        """The number of a letter: most often one that waits, often one that came before, seldom one
+        that was not sent."""
         random, letters = self.random, self.run.letters
         if len(letters) == 1 or random.random() < 0.02:
             return random.choice([1, len(letters), len(letters) + 1, 4294967295])
         chance = random.random()
         if chance < 0.8:
-            waiting = [one.number for one in letters[max(1, len(letters) - 40):] if not (one.delivered or one.lost)]
+            waiting = [
+                one.number
+                for one in letters[max(1, len(letters) - 40) :]
+                if not (one.delivered or one.lost)
+            ]
             if waiting:
                 return waiting[0] if chance < 0.45 else random.choice(waiting)
         return random.randint(max(1, len(letters) - 15), len(letters) - 1)
@@ -259,12 +419,18 @@ class Generator:
         return "tell", (node, to), f"tell {node} {to}"
 
     def make_query(self):
-        action = self.random.choice(self.starts) if self.starts and self.random.random() < 0.5 else self.variable()
+        action = (
+            self.random.choice(self.starts)
+            if self.starts and self.random.random() < 0.5
+            else self.variable()
+        )
         node = self.node()
         return action and ("query", (node, action), f"query {node} {action}")
 
     def make_stop(self):
-        node, calls = self.node(), self.random.choice([0, 1, 2, 3, 3, 3, 4, 5, 6, 7, 7, 8, 11, 1000])
+        node, calls = self.node(), self.random.choice(
+            [0, 1, 2, 3, 3, 3, 4, 5, 6, 7, 7, 8, 11, 1000]
+        )
         return "stop", (node, calls), f"stop {node} {calls}"
 
     def make_tick(self):
@@ -286,8 +452,33 @@ def spoilt(random, data):
     at = random.randrange(len(lines))
     words = lines[at].split(b" ")
     form = random.randint(0, 8)
-    others = [b"9", b"0", b"read", b"$1", b"-1", b"a1", b"o0", b"18446744073709551616", b"call", b"end", b"nodes", b"body", b"1A", b"b0",
-              b"object", b"child", b"s1", b"01", b"513", b"take", b"abcdefghijklmnopq", b"-", b"$0", b"$1+9223372036854775808", b"#"]
+    others = [
+        b"9",
+        b"0",
+        b"read",
+        b"$1",
+        b"-1",
+        b"a1",
+        b"o0",
+        b"18446744073709551616",
+        b"call",
+        b"end",
+        b"nodes",
+        b"body",
+        b"1A",
+        b"b0",
+        b"object",
+        b"child",
+        b"s1",
+        b"01",
+        b"513",
+        b"take",
+        b"abcdefghijklmnopq",
+        b"-",
+        b"$0",
+        b"$1+9223372036854775808",
+        b"#",
+    ]
     if form == 0:
         lines.insert(at, random.choice(lines))
     elif form == 1:
@@ -324,7 +515,9 @@ def at_an_end(random):
     if form == 3:
         return head + b"".join(b"body b%d\ncommit 0\nend\n" % n for n in range(32 + past))
     bodies = [b"body b0\ncall 1 r write 1\ncommit 0\nend\n"]
-    bodies += [b"body b%d\nchild 1 1 b%d\ncommit $1\nend\n" % (n, n - 1) for n in range(1, 8 + past)]
+    bodies += [
+        b"body b%d\nchild 1 1 b%d\ncommit $1\nend\n" % (n, n - 1) for n in range(1, 8 + past)
+    ]
     return head + b"".join(bodies) + b"start s 1 b7\nplay\n"
 
 

@@ -1,4 +1,5 @@
-"""Generates scripts, runs the program on them, compares its texts with those of the second implementation, and shrinks what differs."""
+"""Generates scripts, runs the program on them, compares its texts with those of the second
+implementation, and shrinks what differs."""
 
 import os
 import random
@@ -13,7 +14,8 @@ from reading import Refused, parse
 from texts import Texts, name_text
 
 FOUND = os.path.join(HUNT, "found")
-# Of how many scripts one is asked for witnesses and chains too; after how many one is made by `gen`.
+# Of how many scripts one is asked for witnesses and chains too; after how many one is made by
+# `gen`.
 ONE_IN, MADE_IN = 16, 64
 
 
@@ -28,7 +30,12 @@ class Expected:
             self.refused = fault.text
             self.met = {fault.text.split()[-1]}
             return
-        self.refused, self.texts, self.met, self.events = None, Texts(self.run), self.run.met, len(self.run.events)
+        self.refused, self.texts, self.met, self.events = (
+            None,
+            Texts(self.run),
+            self.run.met,
+            len(self.run.events),
+        )
 
     def of(self, words):
         """The status and the text of a command; the text of `why` is judged apart."""
@@ -54,14 +61,22 @@ class Expected:
         if ended.text == text:
             return None
         ours, theirs = text.split("\n"), ended.text.split("\n")
-        at = next(n for n, (one, other) in enumerate(zip(ours + [None] * len(theirs), theirs + [None])) if one != other)
+        at = next(
+            n
+            for n, (one, other) in enumerate(zip(ours + [None] * len(theirs), theirs + [None]))
+            if one != other
+        )
         line = lambda lines: repr(lines[at]) if at < len(lines) else "no line"
         return f"line {at + 1} is {line(theirs)}, not {line(ours)}"
 
     def wrong_why(self, event, ended):
         wanted = self.texts.why(event)
         if wanted is None:
-            return None if (ended.status, ended.text) == (8, "no such stop\n") else f"status {ended.status} for an event that stopped nobody"
+            return (
+                None
+                if (ended.status, ended.text) == (8, "no such stop\n")
+                else f"status {ended.status} for an event that stopped nobody"
+            )
         if ended.status != 0:
             return f"status {ended.status}, not 0"
         stop, cause, fewest = wanted
@@ -74,7 +89,11 @@ class Expected:
         events, letters, at = self.run.events, self.run.letters, cause
         for line in lines:
             number, first, last = (int(line.split()[n]) for n in (1, 3, 5))
-            if line != f"letter {number} from {first} to {last}" or not 0 < number < len(letters) or not first < last < len(events):
+            if (
+                line != f"letter {number} from {first} to {last}"
+                or not 0 < number < len(letters)
+                or not first < last < len(events)
+            ):
                 return f"{line!r} is no letter of the run"
             if letters[number].event != first or events[last].got is not letters[number]:
                 return f"letter {number} did not go from event {first} to event {last}"
@@ -83,7 +102,11 @@ class Expected:
             at = last
         if events[at].node != events[event].node or at > event:
             return f"the chain ends at event {at}"
-        return None if len(lines) == fewest else f"the chain has {len(lines)} letters, and {fewest} are enough"
+        return (
+            None
+            if len(lines) == fewest
+            else f"the chain has {len(lines)} letters, and {fewest} are enough"
+        )
 
     def questions(self, source):
         """Commands beside run and trace that this run can answer, and some that it cannot."""
@@ -101,7 +124,11 @@ class MadeExpected:
 
     def differs(self, words, ended):
         text = summary(int(words[1]), int(words[2]))
-        return None if (ended.status, ended.signal, ended.text) == (0, 0, text) else f"{ended.said()}, {ended.text!r}, not {text!r}"
+        return (
+            None
+            if (ended.status, ended.signal, ended.text) == (0, 0, text)
+            else f"{ended.said()}, {ended.text!r}, not {text!r}"
+        )
 
 
 class Hunter:
@@ -132,7 +159,7 @@ class Hunter:
             self.ask(more, data)
             self.backlog.append((name, data, expected, more))
         if self.done % MADE_IN == 0:
-            made = [["gen", str(source.randrange(2 ** 64)), str(source.randint(1, 60))]]
+            made = [["gen", str(source.randrange(2**64)), str(source.randint(1, 60))]]
             self.ask(made, b"")
             self.backlog.append((name, b"", MadeExpected(), made))
         self.count(expected)
@@ -156,10 +183,17 @@ class Hunter:
         answers = [self.program.take() for _ in words]
         self.calls += len(words)
         wrong = [(one, expected.differs(one, ended)) for one, ended in zip(words, answers)]
-        if words[0][0] == "trace" and not expected.refused and name.endswith("0") and expected.events < 40:
+        if (
+            words[0][0] == "trace"
+            and not expected.refused
+            and name.endswith("0")
+            and expected.events < 40
+        ):
             self.lawful += 1
-            wrong += [(["trace"], "a law on the printed texts: " + one) for one in broken_laws(
-                expected.run.script, answers[0].text, answers[1].text)]
+            wrong += [
+                (["trace"], "a law on the printed texts: " + one)
+                for one in broken_laws(expected.run.script, answers[0].text, answers[1].text)
+            ]
         for one, why in wrong:
             if why:
                 self.keep(name, data, one, why)
@@ -191,7 +225,7 @@ def shrunk(data, is_wrong):
     while size >= 1:
         at, removed = 0, False
         while at < len(lines) and time.time() < until:
-            fewer = lines[:at] + lines[at + size:]
+            fewer = lines[:at] + lines[at + size :]
             if fewer and is_wrong(b"\n".join(fewer)):
                 lines, removed = fewer, True
             else:

@@ -2,7 +2,15 @@
 
 MOST = 262144
 LAST = 1000000000
-OPS = {1: ("read", False), 2: ("write", True), 3: ("swap", True), 4: ("size", False), 5: ("put", True), 6: ("take", False), 7: ("add", True)}
+OPS = {
+    1: ("read", False),
+    2: ("write", True),
+    3: ("swap", True),
+    4: ("size", False),
+    5: ("put", True),
+    6: ("take", False),
+    7: ("add", True),
+}
 
 
 class NoLog(Exception):
@@ -14,7 +22,7 @@ class BadRecord(Exception):
 
 
 def long_at(image, at):
-    return int.from_bytes(image[at:at + 8], "big")
+    return int.from_bytes(image[at : at + 8], "big")
 
 
 def differs_from(image, header, least):
@@ -36,7 +44,7 @@ def entries_from(image, at):
         length = long_at(image, at + 1)
         if at + 9 > len(image) or at + 9 + length > len(image):
             raise NoLog(at + 1)
-        entries.append(image[at + 9:at + 9 + length])
+        entries.append(image[at + 9 : at + 9 + length])
         at += 9 + length
 
 
@@ -72,7 +80,7 @@ class Entry:
         if self.at + length > len(self.data):
             raise BadRecord(len(self.data))
         self.at += length
-        return int.from_bytes(self.data[self.at - length:self.at], "big")
+        return int.from_bytes(self.data[self.at - length : self.at], "big")
 
     def number(self, length, least, most):
         at = self.at
@@ -85,7 +93,10 @@ class Entry:
         return self.number(4, least, LAST)
 
     def name(self, most=8):
-        parts = [f"{self.number(1, 1, 8)}.{self.count()}.{self.count()}" for _ in range(self.number(1, 1, most))]
+        parts = [
+            f"{self.number(1, 1, 8)}.{self.count()}.{self.count()}"
+            for _ in range(self.number(1, 1, most))
+        ]
         return "/".join(parts)
 
     def deps(self):
@@ -149,7 +160,12 @@ def records_of(entries):
 def told(command, image):
     """The status and the bytes that `inspect` or `upgrade` owes for an image."""
     try:
-        if command == "upgrade" and len(image) <= MOST and image[3:4] == b"C" and differs_from(image, b"CAM", 3) is None:
+        if (
+            command == "upgrade"
+            and len(image) <= MOST
+            and image[3:4] == b"C"
+            and differs_from(image, b"CAM", 3) is None
+        ):
             raise NoLog(3)
         entries, closed = entries_of(image)
         lines, version = records_of(entries)
@@ -160,5 +176,5 @@ def told(command, image):
     if command == "inspect":
         return 0, "".join(line + "\n" for line in lines).encode()
     if version == 2:
-        return 0, image[:closed + 1]
+        return 0, image[: closed + 1]
     return 0, image[:closed] + bytes([1, 0, 0, 0, 0, 0, 0, 0, 2, 6, 2, 0])

@@ -10,22 +10,27 @@ from timed import TimedExpected
 
 USAGE = """usage: hunt/judge [PROGRAM] [timed] < SCRIPT
 
-Runs a program on a script, and judges what it writes by a second implementation of the rules and by laws on the printed texts:
-its report, its trace, the witness of each action, and the cause and the letters of each stop. With `timed` the script is one by
-time, and its report is judged. PROGRAM is ./camelot, or any program with its commands; without it $CAMELOT, else the proved
-program of this repository, is judged.
+Runs a program on a script, and judges what it writes by a second implementation of the rules and by
+laws on the printed texts: its report, its trace, the witness of each action, and the cause and the
+letters of each stop. With `timed` the script is one by time, and its report is judged. PROGRAM is
+./camelot, or any program with its commands; without it $CAMELOT, else the proved program of this
+repository, is judged.
 
-Status 0: all is as it must be. Status 1: something is not; a line says what. Status 2: nothing was judged."""
+Status 0: all is as it must be. Status 1: something is not; a line says what. Status 2: nothing was
+judged."""
 
 
 def judged(program, data):
-    """Judges all commands that run a script. Returns what is wrong, and a sentence on what was judged."""
+    """Judges all commands that run a script. Returns what is wrong, and a sentence on what was
+    judged."""
     expected = Expected(data)
     if expected.refused:
         words = [["run"], ["trace"], ["witness", "1.1.1"], ["why", "0"]]
     else:
         words = [["run"], ["trace"]]
-        words += [["witness", name_text(name)] for name in sorted(expected.texts.views())] + [["witness", "8.1.9"]]
+        words += [["witness", name_text(name)] for name in sorted(expected.texts.views())] + [
+            ["witness", "8.1.9"]
+        ]
         words += [["why", str(event)] for event in range(expected.events + 1)]
     wrong, told = [], {}
     for one in words:
@@ -36,16 +41,26 @@ def judged(program, data):
             wrong.append(f"{' '.join(one)}: {why}")
     if expected.refused:
         return wrong, f"the script is refused: {expected.refused.strip()}"
-    wrong += ["the printed texts: " + one for one in broken_laws(expected.run.script, told["trace"], told["run"])]
+    wrong += [
+        "the printed texts: " + one
+        for one in broken_laws(expected.run.script, told["trace"], told["run"])
+    ]
     small = expected.events <= MOST_EVENTS
-    return wrong, (f"{expected.events} events, {len(expected.run.letters) - 1} letters, {len(expected.texts.views())} witnesses, "
-                   f"{len(expected.texts.stops())} stops; views against {'all cuts' if small else 'their pasts'}")
+    return wrong, (
+        f"{expected.events} events, {len(expected.run.letters) - 1} letters, "
+        f"{len(expected.texts.views())} witnesses, "
+        f"{len(expected.texts.stops())} stops; views against {'all cuts' if small else 'their pasts'}"
+    )
 
 
 def judged_timed(program, data):
     expected = TimedExpected(data)
     why = expected.differs(["timed"], program.run(["timed"], data))
-    said = f"the script is refused: {expected.refused.strip()}" if expected.refused else f"{expected.events} events by time"
+    said = (
+        f"the script is refused: {expected.refused.strip()}"
+        if expected.refused
+        else f"{expected.events} events by time"
+    )
     return [f"timed: {why}"] if why else [], said
 
 

@@ -1,4 +1,5 @@
-"""hunt/files: kills runs over files at random moments, and gives the program files that cannot be used."""
+"""hunt/files: kills runs over files at random moments, and gives the program files that cannot be
+used."""
 
 import glob
 import os
@@ -18,11 +19,13 @@ from reading import Refused
 
 USAGE = """usage: hunt/files [TIMES] [SEED] [--program FILE]
 
-Kills runs over files, 500 where TIMES is left out, each by `kill -9` at a random moment. Each file that was begun must then be read by
-`inspect` as a log whose records are those of the first events of the run, in order. Then the program is given files that it cannot use: a
-full file system, a file without rights, a folder in its place, a file that shrinks under the run.
+Kills runs over files, 500 where TIMES is left out, each by `kill -9` at a random moment. Each file
+that was begun must then be read by `inspect` as a log whose records are those of the first events
+of the run, in order. Then the program is given files that it cannot use: a full file system, a file
+without rights, a folder in its place, a file that shrinks under the run.
 
-Status 0: all is as it must be. Status 1: something is not; a line says what. Status 2: nothing was tried."""
+Status 0: all is as it must be. Status 1: something is not; a line says what. Status 2: nothing was
+tried."""
 
 
 def logged(run, node):
@@ -34,7 +37,10 @@ def logged(run, node):
         lines = []
         for deed in event.deeds:
             if deed[0] == "inform":
-                lines.append(("commit " if deed[2] else "abort ") + "/".join(".".join(map(str, part)) for part in deed[3]))
+                lines.append(
+                    ("commit " if deed[2] else "abort ")
+                    + "/".join(".".join(map(str, part)) for part in deed[3])
+                )
             elif deed[0] == "secure":
                 lines.append(f"secure {'.'.join(map(str, deed[1][0]))} {deed[3]}")
             elif deed[0] == "crash":
@@ -50,7 +56,8 @@ def logged(run, node):
 
 
 def is_prefix(lines, entries):
-    """Whether the lines of `inspect` are those of the first entries of a node that did not restart."""
+    """Whether the lines of `inspect` are those of the first entries of a node that did not
+    restart."""
     found = []
     for line in lines:
         if line.startswith("entry "):
@@ -59,13 +66,17 @@ def is_prefix(lines, entries):
         words = line.split()
         kept = {"commit": 2, "abort": 2, "secure": 3, "seen": 3, "version": 2, "count": 1}[words[0]]
         found[-1].append(" ".join(words[:kept]))
-    return [sorted(one) for one in found] == entries[:len(found)]
+    return [sorted(one) for one in found] == entries[: len(found)]
 
 
 def a_script(source):
     """A script without stops and restarts, whose logs only grow."""
     generator = Generator(source)
-    generator.weights = {word: weight for word, weight in generator.weights.items() if word not in ("restart", "stop", "start", "go", "play")}
+    generator.weights = {
+        word: weight
+        for word, weight in generator.weights.items()
+        if word not in ("restart", "stop", "start", "go", "play")
+    }
     generator.weights["begin"] = generator.weights.get("begin", 3)
     return generator.make(source.choice([40, 80, 160, 300]))
 
@@ -91,7 +102,9 @@ class Killing:
         took = self.whole_time(data)
         for path in glob.glob("cam*"):
             os.remove(path)
-        with open("script", "rb") as file, subprocess.Popen([self.path, "run", "files"], stdin=file, stdout=subprocess.PIPE) as process:
+        with open("script", "rb") as file, subprocess.Popen(
+            [self.path, "run", "files"], stdin=file, stdout=subprocess.PIPE
+        ) as process:
             time.sleep(self.source.random() * took)
             process.send_signal(signal.SIGKILL)
             process.communicate()
@@ -122,15 +135,21 @@ class Killing:
         except NoLog as fault:
             # A file that is being made is no log until it was synced first.
             self.note("being made")
-            if len(image) >= 43 or b"CAMCKPT\n"[:len(image)] != image[:8]:
-                self.wrong.append(f"run {number}, node {node}: a file of {len(image)} bytes is no log from {fault} on")
+            if len(image) >= 43 or b"CAMCKPT\n"[: len(image)] != image[:8]:
+                self.wrong.append(
+                    f"run {number}, node {node}: a file of {len(image)} bytes is no log "
+                    f"from {fault} on"
+                )
             return None
         except BadRecord as fault:
             self.wrong.append(f"run {number}, node {node}: bad record {fault}")
             return None
         self.note("a log")
         if not is_prefix(lines, entries):
-            self.wrong.append(f"run {number}, node {node}: the log is not of a first part of the run: {lines}, {entries}")
+            self.wrong.append(
+                f"run {number}, node {node}: the log is not of a first part of the run: "
+                f"{lines}, {entries}"
+            )
         return None
 
 
@@ -138,7 +157,8 @@ SCRIPT = b"nodes 2\nobject x 2 register 0\nbegin A 1\ncall A x write 5\ndrain\nc
 
 
 def run_over_files(path, setup=None, preload=None):
-    """Runs a script over files in a new folder, as a user without rights where one can be had. Returns its status and its text."""
+    """Runs a script over files in a new folder, as a user without rights where one can be had.
+    Returns its status and its text."""
     with tempfile.TemporaryDirectory() as folder:
         if setup:
             setup(folder)
@@ -146,12 +166,20 @@ def run_over_files(path, setup=None, preload=None):
         if os.getuid() == 0 and shutil.which("setpriv"):
             os.chmod(folder, 0o777)
             command = ["setpriv", "--reuid=65534", "--regid=65534", "--clear-groups", *command]
-        done = subprocess.run(command, input=SCRIPT, cwd=folder, capture_output=True, check=False, env={**os.environ, **(preload or {})})
+        done = subprocess.run(
+            command,
+            input=SCRIPT,
+            cwd=folder,
+            capture_output=True,
+            check=False,
+            env={**os.environ, **(preload or {})},
+        )
         return done.returncode, done.stdout.decode("latin-1")
 
 
 def unusable(path):
     """Files that cannot be used, and what the program must answer."""
+
     def no_rights(folder):
         with open(os.path.join(folder, "cam2.log"), "wb"):
             pass
@@ -172,8 +200,13 @@ def unusable(path):
     def a_read_only_folder(folder):
         os.chmod(folder, 0o555)
 
-    cases = [("without rights", no_rights, "disk fault 2"), ("a folder", a_folder, "disk fault 1"), ("a full device", a_device, "disk fault 2"),
-             ("a link to itself", a_loop, "disk fault 2"), ("of no node of the script", of_another_node, None)]
+    cases = [
+        ("without rights", no_rights, "disk fault 2"),
+        ("a folder", a_folder, "disk fault 1"),
+        ("a full device", a_device, "disk fault 2"),
+        ("a link to itself", a_loop, "disk fault 2"),
+        ("of no node of the script", of_another_node, None),
+    ]
     wrong = []
     for what, setup, said in cases:
         status, text = run_over_files(path, setup)
@@ -184,17 +217,21 @@ def unusable(path):
 
 
 def full_system(path):
-    """A file system with room for a few pages, or the limit of a file's size, where none can be mounted."""
+    """A file system with room for a few pages, or the limit of a file's size, where none can be
+    mounted."""
     command = 'ulimit -f 0 && trap "" XFSZ && exec "$0" run files'
     with tempfile.TemporaryDirectory() as folder:
-        done = subprocess.run(["sh", "-c", command, path], input=SCRIPT, cwd=folder, capture_output=True, check=False)
+        done = subprocess.run(
+            ["sh", "-c", command, path], input=SCRIPT, cwd=folder, capture_output=True, check=False
+        )
     print(f"no room for a byte (ulimit -f 0): status {done.returncode}, {done.stdout.decode()!r}")
     fits = done.returncode == 6 and done.stdout.startswith(b"disk fault ")
     return [] if fits else [f"no room: status {done.returncode}, {done.stdout!r}"]
 
 
 def shrinking(path):
-    """Another process cuts a file to nothing again and again while runs go on: each ends as the table of statuses says."""
+    """Another process cuts a file to nothing again and again while runs go on: each ends as the
+    table of statuses says."""
     met = {}
     wrong = []
     data = SCRIPT + b"restart 2\nrestart 1\ntell 1 2\ndrain\n" * 60
@@ -202,15 +239,39 @@ def shrinking(path):
         target = os.path.join(folder, "cam2.log")
         with open(target, "wb"):
             pass
-        with subprocess.Popen([sys.executable, "-c", "import os, sys\nwhile True: os.truncate(sys.argv[1], 0)", target]) as cutter:
+        with subprocess.Popen(
+            [
+                sys.executable,
+                "-c",
+                "import os, sys\nwhile True: os.truncate(sys.argv[1], 0)",
+                target,
+            ]
+        ) as cutter:
             for _ in range(40):
-                done = subprocess.run([path, "run", "files"], input=data, cwd=folder, capture_output=True, check=False, timeout=60)
+                done = subprocess.run(
+                    [path, "run", "files"],
+                    input=data,
+                    cwd=folder,
+                    capture_output=True,
+                    check=False,
+                    timeout=60,
+                )
                 said = done.stdout.decode("latin-1")
                 met[done.returncode] = met.get(done.returncode, 0) + 1
-                fits = done.returncode == 0 and said == Expected(data).of(["run"])[1] or (done.returncode, said) == (6, "disk fault 2\n")
-                wrong += [] if fits else [f"a file that shrinks: status {done.returncode}, {said[:80]!r}"]
+                fits = (
+                    done.returncode == 0
+                    and said == Expected(data).of(["run"])[1]
+                    or (done.returncode, said) == (6, "disk fault 2\n")
+                )
+                wrong += (
+                    []
+                    if fits
+                    else [f"a file that shrinks: status {done.returncode}, {said[:80]!r}"]
+                )
             cutter.kill()
-    print(f"a file that shrinks under the run: {', '.join(f'status {key} {count}' for key, count in sorted(met.items()))}")
+    print(
+        f"a file that shrinks under the run: {', '.join(f'status {key} {count}' for key, count in sorted(met.items()))}"
+    )
     return wrong[:5]
 
 
@@ -221,11 +282,15 @@ def main(words):
     named = None
     if "--program" in words[:-1]:
         at = words.index("--program")
-        named, words = words[at + 1], words[:at] + words[at + 2:]
+        named, words = words[at + 1], words[:at] + words[at + 2 :]
     if len(words) > 2 or words and not words[0].isdigit():
         print(f"hunt/files: the first word is a number of runs\n{USAGE}", file=sys.stderr)
         return 2
-    times, seed, here = int(words[0]) if words else 500, words[1] if len(words) > 1 else "1", os.getcwd()
+    times, seed, here = (
+        int(words[0]) if words else 500,
+        words[1] if len(words) > 1 else "1",
+        os.getcwd(),
+    )
     with tempfile.TemporaryDirectory() as room:
         try:
             path = find(named)
@@ -233,7 +298,10 @@ def main(words):
             killing = Killing(path, seed)
             for number in range(times):
                 killing.kill_one(number)
-            print(f"{times} runs: " + ", ".join(f"{kind} {count}" for kind, count in sorted(killing.kinds.items())))
+            print(
+                f"{times} runs: "
+                + ", ".join(f"{kind} {count}" for kind, count in sorted(killing.kinds.items()))
+            )
             wrong = killing.wrong + unusable(path)
         except (NoProgram, OSError) as error:
             print(f"hunt/files: {error}", file=sys.stderr)

@@ -1,6 +1,8 @@
-"""Judges what the program printed by laws that need no step rule: locks, serial orders, and what orphans may see.
+"""Judges what the program printed by laws that need no step rule: locks, serial orders, and what
+orphans may see.
 
-All is worked out from the printed trace and report, and from the objects of the script, by plain and slow search.
+All is worked out from the printed trace and report, and from the objects of the script, by plain
+and slow search.
 """
 
 from itertools import permutations
@@ -69,7 +71,8 @@ def deed_of(words):
 
 
 class Plain:
-    """The plain machine of nested transactions: takes deeds one by one, and says what is not legal. No line asks for orphans."""
+    """The plain machine of nested transactions: takes deeds one by one, and says what is not legal.
+    No line asks for orphans."""
 
     def __init__(self, objects):
         self.objects = {one.name: one for one in objects}
@@ -91,7 +94,11 @@ class Plain:
         return self.has("commit", name) or self.has("abort", name)
 
     def runs(self, name):
-        return self.has("create", name) and not self.ended(name) and self.count(name[-1][0]) == name[-1][1]
+        return (
+            self.has("create", name)
+            and not self.ended(name)
+            and self.count(name[-1][0]) == name[-1][1]
+        )
 
     def open_call(self, name):
         got = {deed[2] for deed in self.all("got", name)}
@@ -101,7 +108,8 @@ class Plain:
         return any(not self.decided(deed[2]) for deed in self.all("ask", name))
 
     def live(self, node):
-        """The list of what was read and written at a site, without what an abort or a crash dropped."""
+        """The list of what was read and written at a site, without what an abort or a crash
+        dropped."""
         return [op for op in self.ops if op["site"] == node and op["live"]]
 
     def lift(self, node, name):
@@ -128,7 +136,9 @@ class Plain:
 
     def is_orphan(self, name):
         for one in ancestors(name):
-            if self.has("abort", one) or any(count < self.count(node) for node, count in self.deps.get(one, ())):
+            if self.has("abort", one) or any(
+                count < self.count(node) for node, count in self.deps.get(one, ())
+            ):
                 return True
         return False
 
@@ -148,36 +158,67 @@ class Plain:
             return False
         if len(name) > 1:
             return self.has("ask", name[:-1], name)
-        return number == 1 + sum(deed[0] == "create" and len(deed[1]) == 1 and deed[1][0][:2] == (node, count) for deed in self.deeds)
+        return number == 1 + sum(
+            deed[0] == "create" and len(deed[1]) == 1 and deed[1][0][:2] == (node, count)
+            for deed in self.deeds
+        )
 
     def after_create(self, name):
         self.deps.setdefault(name, {name[-1][:2]})
 
     def is_ask(self, name, child):
         node, count, number = child[-1]
-        return self.runs(name) and not self.open_call(name) and len(name) < 8 and child[:-1] == name \
-            and count <= self.count(node) and number == 1 + len(self.all("ask", name))
+        return (
+            self.runs(name)
+            and not self.open_call(name)
+            and len(name) < 8
+            and child[:-1] == name
+            and count <= self.count(node)
+            and number == 1 + len(self.all("ask", name))
+        )
 
     def after_ask(self, name, child):
         self.deps[child] = self.deps[name] | {child[-1][:2]}
 
     def is_call(self, name, number, place, op, count):
-        return self.runs(name) and not self.open_call(name) and not self.open_child(name) \
-            and number == 1 + len(self.all("call", name)) and count <= self.count(self.objects[place].node)
+        return (
+            self.runs(name)
+            and not self.open_call(name)
+            and not self.open_child(name)
+            and number == 1 + len(self.all("call", name))
+            and count <= self.count(self.objects[place].node)
+        )
 
     def may_serve(self, name, number):
         call = self.call_of(name, number)
-        served = any(deed[2] == number for kind in ("perform", "bounce") for deed in self.all(kind, name))
-        return call if call and not served and call[5] == self.count(self.objects[call[3]].node) else None
+        served = any(
+            deed[2] == number for kind in ("perform", "bounce") for deed in self.all(kind, name)
+        )
+        return (
+            call
+            if call and not served and call[5] == self.count(self.objects[call[3]].node)
+            else None
+        )
 
     def is_perform(self, name, number, answer):
         call = self.may_serve(name, number)
-        return bool(call) and not self.meets(call) and answer == apply(self.state(call[3]), call[4])[1]
+        return (
+            bool(call) and not self.meets(call) and answer == apply(self.state(call[3]), call[4])[1]
+        )
 
     def after_perform(self, name, number, answer):
         call = self.call_of(name, number)
-        self.ops.append({"action": name, "number": number, "object": call[3], "op": call[4], "answer": answer,
-                         "site": self.objects[call[3]].node, "live": True})
+        self.ops.append(
+            {
+                "action": name,
+                "number": number,
+                "object": call[3],
+                "op": call[4],
+                "answer": answer,
+                "site": self.objects[call[3]].node,
+                "live": True,
+            }
+        )
 
     def is_bounce(self, name, number, holder):
         call = self.may_serve(name, number)
@@ -209,7 +250,9 @@ class Plain:
             return False
         if len(name) > 1:
             return self.runs(name[:-1])
-        return self.count(name[0][0]) == name[0][1] and all(self.has("secure", name, *pair) for pair in self.deps[name])
+        return self.count(name[0][0]) == name[0][1] and all(
+            self.has("secure", name, *pair) for pair in self.deps[name]
+        )
 
     def after_commit(self, name):
         if len(name) > 1:
@@ -223,12 +266,22 @@ class Plain:
         return self.has("create", name)
 
     def is_secure(self, name, node, count):
-        return bool(self.all("askcommit", name)) and (node, count) in self.deps[name] and count == self.count(node) \
-            and not any(deed[2] == node for deed in self.all("secure", name)) \
-            and all(self.lift(node, op["action"]) == name for op in self.live(node) if op["action"][:1] == name)
+        return (
+            bool(self.all("askcommit", name))
+            and (node, count) in self.deps[name]
+            and count == self.count(node)
+            and not any(deed[2] == node for deed in self.all("secure", name))
+            and all(
+                self.lift(node, op["action"]) == name
+                for op in self.live(node)
+                if op["action"][:1] == name
+            )
+        )
 
     def is_inform(self, node, committed, name):
-        return self.has("commit" if committed else "abort", name) and not self.has("inform", node, committed, name)
+        return self.has("commit" if committed else "abort", name) and not self.has(
+            "inform", node, committed, name
+        )
 
     def after_inform(self, node, committed, name):
         for op in self.live(node):
@@ -255,8 +308,15 @@ def plain_of(objects, deeds):
 
 def view_of(name, deeds):
     """The deeds that give the action's view."""
-    mine = [deed for deed in deeds if deed[0] in ("create", "ask", "call", "got", "askcommit", "askabort") and deed[1] == name
-            or deed[0] in ("commit", "abort") and deed[1][:-1] == name and len(name) < len(deed[1])]
+    mine = [
+        deed
+        for deed in deeds
+        if deed[0] in ("create", "ask", "call", "got", "askcommit", "askabort")
+        and deed[1] == name
+        or deed[0] in ("commit", "abort")
+        and deed[1][:-1] == name
+        and len(name) < len(deed[1])
+    ]
     return mine
 
 
@@ -282,7 +342,8 @@ def cuts_of(pasts):
 
 
 def explains(objects, events, cut, name, view):
-    """Whether the deeds of these events are legal, and the action has the same view in them and is no orphan."""
+    """Whether the deeds of these events are legal, and the action has the same view in them and is
+    no orphan."""
     deeds = [deed for number in sorted(cut) for deed in events[number].deeds]
     if view_of(name, deeds) != view:
         return False
@@ -293,7 +354,11 @@ def explains(objects, events, cut, name, view):
 def serial_orders(plain, deeds):
     """The committed top actions in order of their commits, each with its operations that count."""
     tops = [deed[1] for deed in deeds if deed[0] == "commit" and len(deed[1]) == 1]
-    counted = [op for op in plain.ops if op["live"] and all(plain.has("commit", one) for one in ancestors(op["action"]))]
+    counted = [
+        op
+        for op in plain.ops
+        if op["live"] and all(plain.has("commit", one) for one in ancestors(op["action"]))
+    ]
     return [(top, [op for op in counted if op["action"][:1] == top]) for top in tops]
 
 
@@ -309,13 +374,23 @@ def replays(objects, groups):
 
 
 def values_fit(objects, plain, groups, report):
-    """Whether each printed value is what some order of the top actions of which the site was told leads to."""
-    printed = dict(line.split(" ", 2)[1:] for line in report.split("\n") if line.startswith("value "))
+    """Whether each printed value is what some order of the top actions of which the site was told
+    leads to."""
+    printed = dict(
+        line.split(" ", 2)[1:] for line in report.split("\n") if line.startswith("value ")
+    )
     for one in objects:
-        told = [(top, [op for op in ops if op["object"] == one.name]) for top, ops in groups if plain.has("inform", one.node, True, top)]
+        told = [
+            (top, [op for op in ops if op["object"] == one.name])
+            for top, ops in groups
+            if plain.has("inform", one.node, True, top)
+        ]
         told = [group for group in told if group[1]]
         orders = permutations(told) if len(told) <= MOST_TOPS else [told]
-        if not any(states and state_text(states[one.name]) == printed[one.name] for states in (replays(objects, order) for order in orders)):
+        if not any(
+            states and state_text(states[one.name]) == printed[one.name]
+            for states in (replays(objects, order) for order in orders)
+        ):
             return f"no order of the committed top actions leads to the value of {one.name}"
     return None
 
@@ -334,7 +409,11 @@ def broken_laws(script, trace, report):
     cuts = cuts_of(pasts) if len(events) <= MOST_EVENTS else None
     for name in {deed[1] for deed in deeds if deed[0] == "create"}:
         view = view_of(name, deeds)
-        last = max(number for number, event in enumerate(events) if set(view_of(name, event.deeds)) & set(view))
+        last = max(
+            number
+            for number, event in enumerate(events)
+            if set(view_of(name, event.deeds)) & set(view)
+        )
         tried = sorted(cuts, key=len) if cuts else [pasts[last]]
         if not any(explains(objects, events, cut, name, view) for cut in tried):
             broken.append(f"no cut explains what {name} saw")

@@ -3,8 +3,23 @@
 from machine import wrapped
 from rules import Rules
 
-NAME = {name: "L%d" % place for place, name in enumerate(
-    ["unbound", "no letter", "halted", "ended", "open call", "open child", "not open", "too deep", "nothing to do"], 1)}
+NAME = {
+    name: "L%d" % place
+    for place, name in enumerate(
+        [
+            "unbound",
+            "no letter",
+            "halted",
+            "ended",
+            "open call",
+            "open child",
+            "not open",
+            "too deep",
+            "nothing to do",
+        ],
+        1,
+    )
+}
 
 
 class LineRefused(Exception):
@@ -47,7 +62,11 @@ class Run(Rules):
 
     def not_ended(self, name):
         action = self.actions.get(name)
-        refuse_if((action is not None and self.here(name) and action.ended) or self.nodes[name[-1][0]].count > name[-1][1], "ended")
+        refuse_if(
+            (action is not None and self.here(name) and action.ended)
+            or self.nodes[name[-1][0]].count > name[-1][1],
+            "ended",
+        )
         return action
 
     def may_ask(self, variable, call=True, child=True):
@@ -126,7 +145,13 @@ class Run(Rules):
             made = 0
             for name in sorted(self.body_of):
                 node, action = self.nodes[name[-1][0]], self.actions.get(name)
-                if name not in node.created or not self.here(name) or action.ended or action.stopped or node.halted:
+                if (
+                    name not in node.created
+                    or not self.here(name)
+                    or action.ended
+                    or action.stopped
+                    or node.halted
+                ):
                     continue
                 if not action.open_call and not any(action.children.values()):
                     self.go(name)
@@ -169,6 +194,7 @@ class Run(Rules):
 
     def length(self, letter):
         """How many bytes the letter has (docs/FORMATS.md)."""
+
         def name_size(name):
             return 1 + 9 * len(name)
 
@@ -177,8 +203,11 @@ class Run(Rules):
 
         past = self.events[letter.event].past
         size = 33 + 5 * sum(self.known_count(past, n) > 1 for n in range(1, self.script.nodes + 1))
-        told = self.nodes[letter.sender].list[letter.acked:letter.place]
-        size += sum(name_size(name) + (deps_size(self.decided[name][2]) if self.decided[name][1] else 0) for name in told)
+        told = self.nodes[letter.sender].list[letter.acked : letter.place]
+        size += sum(
+            name_size(name) + (deps_size(self.decided[name][2]) if self.decided[name][1] else 0)
+            for name in told
+        )
         for part in letter.body:
             if isinstance(part, frozenset):
                 size += deps_size(part)
@@ -191,7 +220,9 @@ class Run(Rules):
             size += 8 * (len(letter.body[3]) - 1)
         if letter.kind == "answer":
             reply = letter.body[2]
-            size += {"value": 8, "busy": name_size(reply[1]) if reply[0] == "busy" else 0}.get(reply[0], 0)
+            size += {"value": 8, "busy": name_size(reply[1]) if reply[0] == "busy" else 0}.get(
+                reply[0], 0
+            )
         return size
 
     # Bodies

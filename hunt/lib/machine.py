@@ -1,13 +1,22 @@
 """Runs a script by the rules of docs/RULES.md, read over pasts.
 
-What a node knows is looked up in the past of its last event, a set of events kept as the bits of a number. Letters carry nothing here:
-whoever receives one has the past of the event that sent it. The program under test keeps joined tables, logs and bytes instead.
+What a node knows is looked up in the past of its last event, a set of events kept as the bits of a
+number. Letters carry nothing here: whoever receives one has the past of the event that sent it. The
+program under test keeps joined tables, logs and bytes instead.
 """
 
 from collections import namedtuple
 
-WRAP, HALF = 2 ** 64, 2 ** 63
-MODES = {"read": "read", "size": "read", "write": "write", "swap": "write", "put": "write", "take": "write", "add": "add"}
+WRAP, HALF = 2**64, 2**63
+MODES = {
+    "read": "read",
+    "size": "read",
+    "write": "write",
+    "swap": "write",
+    "put": "write",
+    "take": "write",
+    "add": "add",
+}
 
 Op = namedtuple("Op", "action number object op answer")
 
@@ -40,7 +49,7 @@ def ancestors(name):
 
 
 def is_ancestor(name, of):
-    return name == of[:len(name)]
+    return name == of[: len(name)]
 
 
 def compatible(one, other):
@@ -50,15 +59,36 @@ def compatible(one, other):
 class Letter:
     """A letter: who sent it in which event, its body, and how long its sender's list was."""
 
-    __slots__ = ("number", "event", "sender", "to", "kind", "body", "delivered", "lost", "place", "acked", "have", "moment")
+    __slots__ = (
+        "number",
+        "event",
+        "sender",
+        "to",
+        "kind",
+        "body",
+        "delivered",
+        "lost",
+        "place",
+        "acked",
+        "have",
+        "moment",
+    )
 
     def __init__(self, number, event, sender, to, kind, body):
-        self.number, self.event, self.sender, self.to, self.kind, self.body = number, event, sender, to, kind, body
+        self.number, self.event, self.sender, self.to, self.kind, self.body = (
+            number,
+            event,
+            sender,
+            to,
+            kind,
+            body,
+        )
         self.delivered = self.lost = False
 
 
 class Event:
-    """An event: its node, the letter that it received, its deeds, the letters that it sent, and its note."""
+    """An event: its node, the letter that it received, its deeds, the letters that it sent, and its
+    note."""
 
     __slots__ = ("node", "got", "deeds", "sent", "note", "past", "stop", "pause")
 
@@ -70,7 +100,19 @@ class Event:
 class Action:
     """What an action's home keeps of it."""
 
-    __slots__ = ("deps", "calls", "open_call", "children", "asked", "ended", "stopped", "view", "body", "until", "value")
+    __slots__ = (
+        "deps",
+        "calls",
+        "open_call",
+        "children",
+        "asked",
+        "ended",
+        "stopped",
+        "view",
+        "body",
+        "until",
+        "value",
+    )
 
     def __init__(self, deps):
         self.deps, self.calls, self.open_call, self.children, self.asked = deps, 0, None, {}, 0
@@ -107,7 +149,8 @@ class Machine:
         return 1 + bin(past & self.crashes[node]).count("1")
 
     def orphan(self, past, name, visited):
-        """The reason for which a past shows that an action with these visited pairs is an orphan, or None."""
+        """The reason for which a past shows that an action with these visited pairs is an orphan,
+        or None."""
         mine = ancestors(name)
         for one in mine:
             found = self.decided.get(one)
@@ -137,12 +180,17 @@ class Machine:
             self.first_informs(node, event, letter)
             if letter.sender != node.number:
                 node.have[letter.sender] = max(node.have[letter.sender], letter.place)
-                node.acked[letter.sender] = max(node.acked[letter.sender], min(letter.have, len(node.list)))
+                node.acked[letter.sender] = max(
+                    node.acked[letter.sender], min(letter.have, len(node.list))
+                )
         return event
 
     def first_informs(self, node, event, letter):
-        new = [(committed, name) for name, (bit, committed, _) in self.decided.items()
-               if event.past & bit and name not in node.informed]
+        new = [
+            (committed, name)
+            for name, (bit, committed, _) in self.decided.items()
+            if event.past & bit and name not in node.informed
+        ]
         for committed, name in sorted(new):
             self.inform(node, event, name, committed)
 
@@ -163,7 +211,9 @@ class Machine:
             parent.view.append(("child", name, self.actions[name].value if committed else None))
 
     def send(self, event, to, kind, body):
-        letter = Letter(len(self.letters) + len(event.sent), len(self.events), event.node, to, kind, body)
+        letter = Letter(
+            len(self.letters) + len(event.sent), len(self.events), event.node, to, kind, body
+        )
         event.sent.append(letter)
 
     def send_news(self, event, name, deps):
@@ -174,7 +224,11 @@ class Machine:
         event.note, event.stop = "stopped", (name, reason)
         self.met.add("stop " + reason[0])
         action = self.actions.get(name)
-        if action is not None and name[-1][0] == event.node and name[-1][1] == self.nodes[event.node].count:
+        if (
+            action is not None
+            and name[-1][0] == event.node
+            and name[-1][1] == self.nodes[event.node].count
+        ):
             action.stopped = True
 
     def close_event(self, event):
@@ -187,7 +241,11 @@ class Machine:
         node.past = event.past
         self.events.append(event)
         for letter in event.sent:
-            letter.place, letter.have, letter.acked = len(node.list), node.have[letter.to], node.acked[letter.to]
+            letter.place, letter.have, letter.acked = (
+                len(node.list),
+                node.have[letter.to],
+                node.acked[letter.to],
+            )
             if letter.to == node.number:
                 letter.place = letter.have = letter.acked = 0
             letter.moment = node.moment
@@ -196,8 +254,11 @@ class Machine:
     def appends(self, node, event):
         if any(deed[0] in ("inform", "secure", "crash") for deed in event.deeds):
             return True
-        return any(self.known_count(event.past, n) > self.known_count(node.past, n)
-                   for n in range(1, self.script.nodes + 1) if n != node.number)
+        return any(
+            self.known_count(event.past, n) > self.known_count(node.past, n)
+            for n in range(1, self.script.nodes + 1)
+            if n != node.number
+        )
 
     def here(self, name):
         """Whether the action runs, or may run, at its home in the home's present incarnation."""
@@ -231,7 +292,8 @@ class Machine:
         return dict(node.informed), list(node.list), list(node.live), dict(node.secured)
 
     def halt(self, node, event):
-        """The append failed. The event is taken where its entry is whole and a later line restarts the node; else there is none."""
+        """The append failed. The event is taken where its entry is whole and a later line restarts
+        the node; else there is none."""
         taken = node.calls_left == 3 and self.later_restarts.get(node.number, 0) > self.line
         self.met.add("halted taken" if taken else "halted lost")
         self.marks.append(f"halted {self.line} {node.number} {'taken' if taken else 'lost'}")

@@ -6,17 +6,23 @@ from lines import Run
 from reading import parse
 from texts import Texts
 
-HEAD = ["nodes 3", "object r1 1 register 0", "object r2 2 register 0", "object r3 3 register 0", "object q1 1 queue"]
+HEAD = [
+    "nodes 3",
+    "object r1 1 register 0",
+    "object r2 2 register 0",
+    "object r3 3 register 0",
+    "object q1 1 queue",
+]
 
 
 class Draws:
     """The generator of 64 bits: a draw is the upper half of its state."""
 
     def __init__(self, seed):
-        self.state = seed % 2 ** 64
+        self.state = seed % 2**64
 
     def below(self, count):
-        self.state = (self.state * 6364136223846793005 + 1442695040888963407) % 2 ** 64
+        self.state = (self.state * 6364136223846793005 + 1442695040888963407) % 2**64
         return (self.state >> 32) % count
 
 
@@ -63,7 +69,9 @@ class Made:
 
     def call(self):
         action, place = self.old(), self.draws.below(4)
-        word = (["read", "write", "swap"] if place < 3 else ["size", "put", "take"])[self.draws.below(3)]
+        word = (["read", "write", "swap"] if place < 3 else ["size", "put", "take"])[
+            self.draws.below(3)
+        ]
         value = f" {self.draws.below(100)}" if word in ("write", "swap", "put") else ""
         return f"call {action} {['r1', 'r2', 'r3', 'q1'][place]} {word}{value}"
 
@@ -73,7 +81,16 @@ def summary(seed, size):
     run = Run(parse(("\n".join(Made(seed, size).lines) + "\n").encode())).run()
     texts = Texts(run)
     views = texts.views()
-    committed = sum(len(name) == 1 and name in run.decided and run.decided[name][1] for name in views)
-    lines = [f"steps {size}", f"events {len(run.events)}", f"letters {len(run.letters) - 1}", f"actions {len(views)}", f"committed {committed}",
-             f"stops {len(texts.stops())}", "report " + hashlib.sha256(texts.report().encode()).hexdigest()]
+    committed = sum(
+        len(name) == 1 and name in run.decided and run.decided[name][1] for name in views
+    )
+    lines = [
+        f"steps {size}",
+        f"events {len(run.events)}",
+        f"letters {len(run.letters) - 1}",
+        f"actions {len(views)}",
+        f"committed {committed}",
+        f"stops {len(texts.stops())}",
+        "report " + hashlib.sha256(texts.report().encode()).hexdigest(),
+    ]
     return "".join(line + "\n" for line in lines)

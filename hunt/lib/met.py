@@ -1,4 +1,5 @@
-"""Which rules, notes, refusals, faults and reasons for a stop a run can meet. After a long hunt none of them may be 0."""
+"""Which rules, notes, refusals, faults and reasons for a stop a run can meet. After a long hunt
+none of them may be 0."""
 
 NOTES = {
     "start": ["plain", "again", "missed", "stopped"],
@@ -12,15 +13,33 @@ NOTES = {
     "news": ["plain"],
 }
 REFUSALS = {
-    "begin": "3", "start": "3", "ask": "1345 78", "call": "134567", "commit": "134567", "abort": "1347", "giveup": "1347", "go": "1345 6",
-    "deliver": "23", "cut": "23", "lose": "2", "tell": "39", "query": "139", "stop": "3",
+    "begin": "3",
+    "start": "3",
+    "ask": "1345 78",
+    "call": "134567",
+    "commit": "134567",
+    "abort": "1347",
+    "giveup": "1347",
+    "go": "1345 6",
+    "deliver": "23",
+    "cut": "23",
+    "lose": "2",
+    "tell": "39",
+    "query": "139",
+    "stop": "3",
 }
 
 RULES = {
     "a letter arrives": [f"{kind} {note}" for kind, notes in NOTES.items() for note in notes],
     "inside a rule": ["busy", "gone", "vote no", "query aborts"],
-    "an action is stopped": ["stop abort", "stop crash", *("stopped at " + want for want in ["ask", "call", "commit", "abort", "giveup"])],
-    "a line is refused": [f"{word} L{n}" for word, numbers in REFUSALS.items() for n in numbers.replace(" ", "")],
+    "an action is stopped": [
+        "stop abort",
+        "stop crash",
+        *("stopped at " + want for want in ["ask", "call", "commit", "abort", "giveup"]),
+    ],
+    "a line is refused": [
+        f"{word} L{n}" for word, numbers in REFUSALS.items() for n in numbers.replace(" ", "")
+    ],
     "a letter is cut": ["cut short", "cut whole"],
     "a disk stops": ["halted taken", "halted lost"],
     "a script is refused": [f"S{n}" for n in range(1, 13)],

@@ -19,7 +19,10 @@ def find(named=None):
     """The program of a command line, else $CAMELOT, else the proved program of this repository."""
     path = named or os.environ.get("CAMELOT") or PROVED
     if not (os.path.isfile(path) and os.access(path, os.X_OK)):
-        raise NoProgram(f"{path} is no program. ./camelot --prove makes the proved program; $CAMELOT may name another")
+        raise NoProgram(
+            f"{path} is no program. ./camelot --prove makes the proved program; "
+            "$CAMELOT may name another"
+        )
     return os.path.abspath(path)
 
 
@@ -27,12 +30,16 @@ def built(name, *flags):
     """A helper in C, compiled when it is older than its source."""
     folder = os.path.join(HUNT, "out")
     os.makedirs(folder, exist_ok=True)
-    source, made = os.path.join(HERE, name + ".c"), os.path.join(folder, name + (".so" if "-shared" in flags else ""))
+    source, made = os.path.join(HERE, name + ".c"), os.path.join(
+        folder, name + (".so" if "-shared" in flags else "")
+    )
     with open(os.path.join(folder, "lock"), "w") as lock:
         fcntl.flock(lock, fcntl.LOCK_EX)
         if not os.path.exists(made) or os.path.getmtime(made) < os.path.getmtime(source):
             compiler = os.environ.get("CC", "cc")
-            subprocess.run([compiler, "-O2", "-Wall", "-Wextra", *flags, "-o", made, source], check=True)
+            subprocess.run(
+                [compiler, "-O2", "-Wall", "-Wextra", *flags, "-o", made, source], check=True
+            )
     return made
 
 
@@ -54,11 +61,16 @@ class Ended:
 
 
 class Program:
-    """One helper that runs the program. Jobs are handed over many at a time, so that neither waits for the other at each."""
+    """One helper that runs the program. Jobs are handed over many at a time, so that neither waits
+    for the other at each."""
 
     def __init__(self, path, seconds=SECONDS, environment=None):
-        self.helper = subprocess.Popen([built("batch"), str(seconds), path], stdin=subprocess.PIPE, stdout=subprocess.PIPE,
-                                       env={**os.environ, **(environment or {})})
+        self.helper = subprocess.Popen(
+            [built("batch"), str(seconds), path],
+            stdin=subprocess.PIPE,
+            stdout=subprocess.PIPE,
+            env={**os.environ, **(environment or {})},
+        )
 
     def put(self, words, data):
         job = "".join(f"{word}\n" for word in [f"{len(words)} {len(data)}", *words])

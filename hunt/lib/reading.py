@@ -9,14 +9,51 @@ KINDS = {
 }
 DECLARATIONS = {"nodes", "object", "body"}
 STATEMENTS = {"call", "child", "commit", "abort", "end"}
-STEPS = {"begin", "start", "ask", "call", "commit", "abort", "giveup", "go", "deliver", "cut", "lose",
-         "restart", "drain", "play", "tell", "query", "stop"}
-TIMED_STEPS = {"begin", "ask", "call", "commit", "abort", "giveup", "deliver", "lose", "drain", "tell",
-               "query", "tick", "expire"}
+STEPS = {
+    "begin",
+    "start",
+    "ask",
+    "call",
+    "commit",
+    "abort",
+    "giveup",
+    "go",
+    "deliver",
+    "cut",
+    "lose",
+    "restart",
+    "drain",
+    "play",
+    "tell",
+    "query",
+    "stop",
+}
+TIMED_STEPS = {
+    "begin",
+    "ask",
+    "call",
+    "commit",
+    "abort",
+    "giveup",
+    "deliver",
+    "lose",
+    "drain",
+    "tell",
+    "query",
+    "tick",
+    "expire",
+}
 DIGITS = frozenset("0123456789")
 LETTERS = frozenset("abcdefghijklmnopqrstuvwxyzABCDEFGHIJKLMNOPQRSTUVWXYZ")
 ALLOWED = frozenset([9, 10, 13, *range(32, 127)])
-MOST_BYTES, MOST_OBJECTS, MOST_BODIES, MOST_STATEMENTS, MOST_STEPS, MOST_NESTING = 262144, 64, 32, 32, 512, 8
+MOST_BYTES, MOST_OBJECTS, MOST_BODIES, MOST_STATEMENTS, MOST_STEPS, MOST_NESTING = (
+    262144,
+    64,
+    32,
+    32,
+    512,
+    8,
+)
 
 Object = namedtuple("Object", "name node kind start")
 Step = namedtuple("Step", "line word args")
@@ -45,11 +82,15 @@ def is_number(word):
 
 def is_value(word):
     digits = word[1:] if word.startswith("-") else word
-    return is_number(digits) and -(2 ** 63) <= int(word) < 2 ** 63
+    return is_number(digits) and -(2**63) <= int(word) < 2**63
 
 
 def is_name(word):
-    return 1 <= len(word) <= 16 and word[0] in LETTERS and all(c in LETTERS or c in DIGITS for c in word)
+    return (
+        1 <= len(word) <= 16
+        and word[0] in LETTERS
+        and all(c in LETTERS or c in DIGITS for c in word)
+    )
 
 
 class Line:
@@ -125,7 +166,11 @@ class Line:
         rest, place = word[1:], ""
         while rest and rest[0] in DIGITS:
             place, rest = place + rest[0], rest[1:]
-        if not place or rest and not (rest[0] in "+-" and is_number(rest[1:]) and int(rest[1:]) < 2 ** 63):
+        if (
+            not place
+            or rest
+            and not (rest[0] in "+-" and is_number(rest[1:]) and int(rest[1:]) < 2**63)
+        ):
             self.fault(6)
         if not 1 <= int(place) <= len(self.reader.statements):
             self.fault(9)
@@ -209,8 +254,12 @@ class Reader:
             return self.close()
         if len(said) >= MOST_STATEMENTS:
             line.fault(12, 0)
-        if word == "child" and len(line.words) > 3 and line.words[3][1] in self.script.bodies \
-                and self.script.bodies[line.words[3][1]].nesting >= MOST_NESTING:
+        if (
+            word == "child"
+            and len(line.words) > 3
+            and line.words[3][1] in self.script.bodies
+            and self.script.bodies[line.words[3][1]].nesting >= MOST_NESTING
+        ):
             line.fault(12, 0)
         if word == "call":
             tries = line.number_in(1, 9)
@@ -251,7 +300,7 @@ class Reader:
         self.script.steps.append(Step(line.number, word, args))
 
     def step_words(self, line, word):
-        most = 2 ** 32 - 1
+        most = 2**32 - 1
         if word == "begin":
             name, node = line.new_name(self.variables), line.node()
             return (name, node, *self.until(line)), name
@@ -290,11 +339,11 @@ class Reader:
         if word == "stop":
             return (line.node(), line.number_in(0, 1000)), None
         if word == "tick":
-            return (line.node(), line.number_in(1, 10 ** 9)), None
+            return (line.node(), line.number_in(1, 10**9)), None
         return (), None
 
     def until(self, line):
-        return (line.number_in(1, 10 ** 9),) if self.timed else ()
+        return (line.number_in(1, 10**9),) if self.timed else ()
 
 
 def words_of(text):

@@ -1,4 +1,5 @@
-"""The step rules: what an action asks of its home, and what a node does with each letter (docs/RULES.md)."""
+"""The step rules: what an action asks of its home, and what a node does with each letter
+(docs/RULES.md)."""
 
 from machine import Action, Machine, Op, ancestors, apply
 
@@ -24,7 +25,8 @@ class Rules(Machine):
         self.actions[name].view.append(("created",))
 
     def request(self, name, want, *args):
-        """One request of an action. Returns the event, and the child that was asked for, or None where the action was stopped."""
+        """One request of an action. Returns the event, and the child that was asked for, or None
+        where the action was stopped."""
         node, action = self.nodes[name[-1][0]], self.actions[name]
         event = self.open_event(node)
         reason = self.orphan(event.past, name, action.deps)
@@ -149,7 +151,13 @@ class Rules(Machine):
 
     def got_answer(self, node, event, letter, name, number, reply):
         action = self.actions.get(name)
-        if not self.here(name) or name not in node.created or action.ended or not action.open_call or action.open_call[0] != number:
+        if (
+            not self.here(name)
+            or name not in node.created
+            or action.ended
+            or not action.open_call
+            or action.open_call[0] != number
+        ):
             event.note = "late"
             return None
         reason = self.orphan(event.past, name, action.deps)
@@ -174,7 +182,12 @@ class Rules(Machine):
 
     def is_late(self, node, child):
         parent = self.actions.get(child[:-1])
-        return not self.here(child[:-1]) or child[:-1] not in node.created or parent.ended or not parent.children.get(child)
+        return (
+            not self.here(child[:-1])
+            or child[:-1] not in node.created
+            or parent.ended
+            or not parent.children.get(child)
+        )
 
     def child_ends(self, node, event, child):
         """The tests that a finish and a quit of a child share; whether one of them held."""

@@ -11,13 +11,15 @@ from program import HUNT, NoProgram, built, find
 
 USAGE = """usage: hunt/run SECONDS [SEED] [--runs N] [--jobs N] [--program FILE] [--timed]
 
-Generates scripts, runs the program on each (`run` and `trace`; of one in 16 also `witness` and `why`, and after 64 one `gen`), and compares what it writes
-with a second implementation of the rules; of one in ten the printed texts are judged by laws too. What differs is shrunk and kept in
-hunt/found. SEED is any word, and 1 where it is left out; the same seed makes the same scripts, on any number of processors as long as
---jobs is the same. It ends after SECONDS, or after N scripts.
+Generates scripts, runs the program on each (`run` and `trace`; of one in 16 also `witness` and
+`why`, and after 64 one `gen`), and compares what it writes with a second implementation of the
+rules; of one in ten the printed texts are judged by laws too. What differs is shrunk and kept in
+hunt/found. SEED is any word, and 1 where it is left out; the same seed makes the same scripts as
+long as --jobs is the same. It ends after SECONDS, or after N scripts.
 
   --jobs N        so many processes, in place of one for each processor
-  --program FILE  hunts in this program, in place of $CAMELOT or the proved program of this repository
+  --program FILE  hunts in this program, in place of $CAMELOT or the proved program of this
+                  repository
   --timed         scripts by time, of which the report is compared
 
 Status 0: nothing differs. Status 1: something does. Status 2: the hunt could not be made."""
@@ -80,8 +82,21 @@ def main(words):
     jobs, began = max(1, options["--jobs"]), time.time()
     most = options["--runs"] and -(-options["--runs"] // jobs)
     worker = os.path.join(HUNT, "lib", "worker.py")
-    processes = [subprocess.Popen([sys.executable, worker, path, f"{seed}-{job}", str(began + seconds), str(most or 0),
-                                   "timed" if options["--timed"] else "plain"], stdout=subprocess.PIPE) for job in range(jobs)]
+    processes = [
+        subprocess.Popen(
+            [
+                sys.executable,
+                worker,
+                path,
+                f"{seed}-{job}",
+                str(began + seconds),
+                str(most or 0),
+                "timed" if options["--timed"] else "plain",
+            ],
+            stdout=subprocess.PIPE,
+        )
+        for job in range(jobs)
+    ]
     try:
         whole = gather(processes)
     except NoProgram as error:
@@ -98,11 +113,14 @@ def say(whole, seed, took, timed):
             print("not met: " + ", ".join(missing))
     else:
         print(", ".join(f"{key} {count}" for key, count in sorted(whole["counts"].items())))
-    print(f"{whole['scripts'] / took:.0f} scripts, {whole['calls'] / took:.0f} runs of the program and {whole['events'] / took:.0f} events "
-          f"a second; {whole['lawful']} scripts judged by laws")
+    rates = [round(whole[key] / took) for key in ("scripts", "calls", "events")]
+    print("{} scripts, {} runs of the program and {} events a second; ".format(*rates), end="")
+    print(f"{whole['lawful']} scripts judged by laws")
     for name, words, wrong in whole["found"][:20]:
         print(f"hunt/found/{name}.cam, {' '.join(words)}: {wrong}")
-    print(f"hunt seed {seed}: {whole['scripts']} scripts, {whole['calls']} runs in {took:.0f} s, {len(whole['found'])} differences")
+    differences = f"{len(whole['found'])} differences"
+    print(f"hunt seed {seed}: {whole['scripts']} scripts, {whole['calls']} runs", end="")
+    print(f" in {took:.0f} s, {differences}")
     return 1 if whole["found"] else 0
 
 

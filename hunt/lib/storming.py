@@ -18,12 +18,14 @@ from reading import Body, Object, Script
 
 USAGE = """usage: hunt/storms [COUNT] [SEED] [--program FILE] [--stress]
 
-Runs COUNT storms over files, 1,000 where it is left out, with seeds of their own, 1 to 64 actions, 1 to 4 threads, calm and rough. Of each:
-the actions of the report are those of the storm, and the view of each is a way through its body; nothing is left to do; what is committed,
-and the values, agree with each other and with what `inspect` reads from the four logs. With --stress each storm runs on one processor,
-beside others that are busy; none may take longer than a minute.
+Runs COUNT storms over files, 1,000 where it is left out, with seeds of their own, 1 to 64 actions,
+1 to 4 threads, calm and rough. Of each: the actions of the report are those of the storm, and the
+view of each is a way through its body; nothing is left to do; what is committed, and the values,
+agree with each other and with what `inspect` reads from the four logs. With --stress each storm
+runs on one processor, beside others that are busy; none may take longer than a minute.
 
-Status 0: all is as it must be. Status 1: something is not; a line says what. Status 2: nothing was tried, as where PROGRAM has no `storm`."""
+Status 0: all is as it must be. Status 1: something is not; a line says what. Status 2: nothing was
+tried, as where PROGRAM has no `storm`."""
 
 MOST_SECONDS = 60
 
@@ -113,27 +115,40 @@ class Judge:
     def judge(self, logs):
         storm, report = self.storm, self.report
         tops = {name for name in report.actions if len(name) == 1}
-        self.say(tops == {storm.top(i) for i in range(1, storm.actions + 1)}, "the top actions are not those of the storm")
+        self.say(
+            tops == {storm.top(i) for i in range(1, storm.actions + 1)},
+            "the top actions are not those of the storm",
+        )
         self.say(not report.rest, f"lines that no storm has: {report.rest[:2]}")
         for name in report.actions:
             self.follows(name)
         if storm.calm:
-            self.say(all(report.actions[name] == "committed" for name in tops), "a top action of a calm storm is not committed")
-            self.say(all(report.values[f"r{i}"] == str(i) for i in range(1, storm.actions + 1)), "a register of a calm storm has another value")
+            self.say(
+                all(report.actions[name] == "committed" for name in tops),
+                "a top action of a calm storm is not committed",
+            )
+            self.say(
+                all(report.values[f"r{i}"] == str(i) for i in range(1, storm.actions + 1)),
+                "a register of a calm storm has another value",
+            )
             self.say(not report.stops, "a calm storm has a stop")
         self.values()
         if logs:
             self.logs(logs)
 
     def follows(self, name):
-        """Whether the view is a way through the body: each request is the next one of the steps before it."""
+        """Whether the view is a way through the body: each request is the next one of the steps
+        before it."""
         view, steps = self.report.views[name], []
         self.say(view[:1] == [["created"]], f"{name} was not created first")
         is_open = is_over = False
         for words in view:
             if words[0] in ("asked", "called", "commit", "abort"):
                 self.say(not is_open and not is_over, f"{name} made a request while one was open")
-                self.say(self.is_next(name, steps, words), f"{name}: {' '.join(words)} is not the next request of its body")
+                self.say(
+                    self.is_next(name, steps, words),
+                    f"{name}: {' '.join(words)} is not the next request of its body",
+                )
                 is_open, is_over = words[0] in ("asked", "called"), words[0] in ("commit", "abort")
             elif words[0] in ("got", "child"):
                 is_open = False
@@ -151,32 +166,58 @@ class Judge:
     def is_next(self, name, steps, words):
         want, *args = self.run.next_request(self.storm.body(name), steps)
         if words[0] == "asked":
-            return want == "ask" and name_of(words[1])[-1][0] == args[0] and name_of(words[1])[:-1] == name
+            return (
+                want == "ask"
+                and name_of(words[1])[-1][0] == args[0]
+                and name_of(words[1])[:-1] == name
+            )
         if words[0] == "called":
-            return want == "call" and words[2] == self.storm.script.objects[args[0]].name and words[3:] == [str(one) for one in args[1]]
+            return (
+                want == "call"
+                and words[2] == self.storm.script.objects[args[0]].name
+                and words[3:] == [str(one) for one in args[1]]
+            )
         return words == [want, *map(str, args)]
 
     def values(self):
-        """A register has what one of the committed top actions wrote that wrote it with all its ancestors committed, or 0."""
+        """A register has what one of the committed top actions wrote that wrote it with all its
+        ancestors committed, or 0."""
         for one in self.storm.script.objects:
-            wrote = {str(self.storm.number(name)) for name, view in self.report.views.items()
-                     if all(self.report.actions.get(name[:n]) == "committed" for n in range(1, len(name) + 1))
-                     and any(step[:1] == ["called"] and step[2] == one.name for step in view) and any(step[0] == "got" and step[2] == "ok" for step in view)}
+            wrote = {
+                str(self.storm.number(name))
+                for name, view in self.report.views.items()
+                if all(
+                    self.report.actions.get(name[:n]) == "committed"
+                    for n in range(1, len(name) + 1)
+                )
+                and any(step[:1] == ["called"] and step[2] == one.name for step in view)
+                and any(step[0] == "got" and step[2] == "ok" for step in view)
+            }
             found = self.report.values.get(one.name)
-            self.say(found in (wrote or {"0"}) or found == "0" and not self.storm.calm, f"{one.name} is {found}, and {sorted(wrote)} wrote it")
+            self.say(
+                found in (wrote or {"0"}) or found == "0" and not self.storm.calm,
+                f"{one.name} is {found}, and {sorted(wrote)} wrote it",
+            )
 
     def logs(self, logs):
-        """What the logs say is what the report says: which actions committed and aborted, and no two outcomes of one."""
+        """What the logs say is what the report says: which actions committed and aborted, and no
+        two outcomes of one."""
         found = {}
         for node, lines in logs.items():
             for line in lines:
                 words = line.split()
                 if words[0] in ("commit", "abort"):
                     name = name_of(words[1])
-                    self.say(found.setdefault(name, words[0]) == words[0], f"two outcomes of {name} in the logs")
+                    self.say(
+                        found.setdefault(name, words[0]) == words[0],
+                        f"two outcomes of {name} in the logs",
+                    )
         for name, outcome in found.items():
             said = self.report.actions.get(name)
-            self.say(said is None or said == outcome + "ed" or said == outcome + "ted", f"{name} is {said} in the report, and its log says {outcome}")
+            self.say(
+                said is None or said == outcome + "ed" or said == outcome + "ted",
+                f"{name} is {said} in the report, and its log says {outcome}",
+            )
         for name, said in self.report.actions.items():
             self.say(said == "open" or name in found, f"{name} is {said}, and no log says so")
 
@@ -187,7 +228,9 @@ def read_logs(folder):
         with open(os.path.join(folder, f"cam{node}.log"), "rb") as file:
             lines = [line.strip() for line in records_of(entries_of(file.read())[0])[0]]
         logs[node] = lines
-        counts[node] = max([1] + [int(line.split()[1]) for line in lines if line.startswith("count ")])
+        counts[node] = max(
+            [1] + [int(line.split()[1]) for line in lines if line.startswith("count ")]
+        )
     return logs, counts
 
 
@@ -197,12 +240,24 @@ def run_one(path, folder, words, stress):
         command = ["taskset", "-c", "0", *command]
     for name in glob.glob(os.path.join(folder, "cam*.log")):
         os.remove(name)
-    done = subprocess.run(command, stdin=subprocess.DEVNULL, cwd=folder, capture_output=True, check=False, timeout=MOST_SECONDS)
+    done = subprocess.run(
+        command,
+        stdin=subprocess.DEVNULL,
+        cwd=folder,
+        capture_output=True,
+        check=False,
+        timeout=MOST_SECONDS,
+    )
     return done.returncode, done.stdout.decode("latin-1")
 
 
 def one_storm(path, folder, source, stress):
-    seed, actions, threads, calm = source.randrange(2 ** 64), source.choice([1, 2, 4, 8, 16, 64]), source.randint(1, 4), source.random() < 0.4
+    seed, actions, threads, calm = (
+        source.randrange(2**64),
+        source.choice([1, 2, 4, 8, 16, 64]),
+        source.randint(1, 4),
+        source.random() < 0.4,
+    )
     words = ["storm", str(seed), str(actions), str(threads), "calm" if calm else "rough"]
     try:
         status, text = run_one(path, folder, words, stress)
@@ -215,9 +270,16 @@ def one_storm(path, folder, source, stress):
     logs, judge.count_of = read_logs(folder)
     judge.knows_counts = True
     judge.judge(logs)
-    return words, judge.wrong, {"actions": len(report.actions), "stops": len(report.stops),
-                                "committed": sum(said == "committed" for said in report.actions.values()),
-                                "restarts": sum(count - 1 for count in judge.count_of.values())}
+    return (
+        words,
+        judge.wrong,
+        {
+            "actions": len(report.actions),
+            "stops": len(report.stops),
+            "committed": sum(said == "committed" for said in report.actions.values()),
+            "restarts": sum(count - 1 for count in judge.count_of.values()),
+        },
+    )
 
 
 def main(words):
@@ -228,7 +290,7 @@ def main(words):
     words = [word for word in words if word != "--stress"]
     if "--program" in words[:-1]:
         at = words.index("--program")
-        named, words = words[at + 1], words[:at] + words[at + 2:]
+        named, words = words[at + 1], words[:at] + words[at + 2 :]
     if len(words) > 2 or words and not words[0].isdigit():
         print(f"hunt/storms: the first word is a number of storms\n{USAGE}", file=sys.stderr)
         return 2
@@ -239,10 +301,25 @@ def main(words):
         print(f"hunt/storms: {error}", file=sys.stderr)
         return 2
     source, whole, failed, began, longest = random.Random(f"storms {seed}"), {}, 0, time.time(), 0.0
-    busy = [subprocess.Popen([sys.executable, "-c", "while True: pass"]) for _ in range(os.cpu_count() or 1)] if stress else []
+    busy = (
+        [
+            subprocess.Popen([sys.executable, "-c", "while True: pass"])
+            for _ in range(os.cpu_count() or 1)
+        ]
+        if stress
+        else []
+    )
     try:
         with tempfile.TemporaryDirectory() as folder:
-            if subprocess.run([path, "storm", "1", "1", "1", "calm"], cwd=folder, capture_output=True, check=False).returncode == 2:
+            if (
+                subprocess.run(
+                    [path, "storm", "1", "1", "1", "calm"],
+                    cwd=folder,
+                    capture_output=True,
+                    check=False,
+                ).returncode
+                == 2
+            ):
                 print("hunt/storms: the program has no command `storm`", file=sys.stderr)
                 return 2
             for _ in range(count):
@@ -258,8 +335,11 @@ def main(words):
         for process in busy:
             process.send_signal(signal.SIGKILL)
             process.wait()
-    print(f"storms: {count} in {time.time() - began:.0f} s, the longest {longest:.1f} s; " +
-          ", ".join(f"{key} {value}" for key, value in sorted(whole.items())) + f"; {failed} storms with something wrong")
+    print(
+        f"storms: {count} in {time.time() - began:.0f} s, the longest {longest:.1f} s; "
+        + ", ".join(f"{key} {value}" for key, value in sorted(whole.items()))
+        + f"; {failed} storms with something wrong"
+    )
     return 1 if failed else 0
 
 

@@ -55,7 +55,9 @@ class Texts:
             got = event.got.number if event.got is not None else 0
             lines.append(f"event {number} node {event.node} letter {got} note {event.note}")
             lines.extend("  " + self.deed(deed) for deed in event.deeds)
-            lines.extend(f"  sent {letter.number} to {letter.to} {letter.kind}" for letter in event.sent)
+            lines.extend(
+                f"  sent {letter.number} to {letter.to} {letter.kind}" for letter in event.sent
+            )
         return "".join(line + "\n" for line in lines + self.run.marks)
 
     def views(self):
@@ -93,7 +95,9 @@ class Texts:
         for number, event in enumerate(self.run.events):
             if event.stop:
                 name, reason = event.stop
-                said = name_text(reason[1]) if reason[0] == "abort" else " ".join(map(str, reason[1:]))
+                said = (
+                    name_text(reason[1]) if reason[0] == "abort" else " ".join(map(str, reason[1:]))
+                )
                 lines.append(f"stop {number} {name_text(name)} {reason[0]} {said}")
         return lines
 
@@ -108,11 +112,14 @@ class Texts:
             lines.extend("  " + step for step in views[name])
         lines.extend(self.stops() + run.marks)
         for place, one in enumerate(run.script.objects):
-            lines.append(f"value {one.name} {state_text(run.value(run.nodes[one.node], place, True))}")
+            lines.append(
+                f"value {one.name} {state_text(run.value(run.nodes[one.node], place, True))}"
+            )
         return "".join(line + "\n" for line in lines)
 
     def witness(self, name):
-        """The deeds in the past of the last event that gives a step of the action's view; None where it was not created."""
+        """The deeds in the past of the last event that gives a step of the action's view; None
+        where it was not created."""
         values, last, created = {}, None, False
         for event in self.run.events:
             for deed in event.deeds:
@@ -128,7 +135,8 @@ class Texts:
         return "".join(line + "\n" for line in lines + ["legal"])
 
     def why(self, number):
-        """The line of a stop, its cause, and the fewest letters that lead from there; None where the event stopped nobody."""
+        """The line of a stop, its cause, and the fewest letters that lead from there; None where
+        the event stopped nobody."""
         run = self.run
         if number >= len(run.events) or not run.events[number].stop:
             return None
@@ -141,7 +149,11 @@ class Texts:
             if reason[0] == "abort" and ("abort", reason[1]) in event.deeds:
                 return number
             if reason[0] == "crash" and ("crash", reason[1]) in event.deeds:
-                crashes = [one for one in self.run.events[:number + 1] if ("crash", reason[1]) in one.deeds]
+                crashes = [
+                    one
+                    for one in self.run.events[: number + 1]
+                    if ("crash", reason[1]) in one.deeds
+                ]
                 if 1 + len(crashes) == reason[3]:
                     return number
         raise AssertionError("a stop without a cause")
@@ -152,7 +164,11 @@ class Texts:
         letters = {first: 0}
         for number in range(first + 1, len(events)):
             event = events[number]
-            found = [letters[n] for n in range(first, number) if n in letters and events[n].node == event.node]
+            found = [
+                letters[n]
+                for n in range(first, number)
+                if n in letters and events[n].node == event.node
+            ]
             if event.got is not None and event.got.event in letters:
                 found.append(letters[event.got.event] + 1)
             if found:

@@ -1,4 +1,5 @@
-"""Runs by time, as docs/RUNS-BY-TIME.md tells them: no node tests for orphans, and each action has a quiesce moment."""
+"""Runs by time, as docs/RUNS-BY-TIME.md tells them: no node tests for orphans, and each action has
+a quiesce moment."""
 
 import random
 
@@ -23,10 +24,19 @@ class TimedRun(Run):
         return None
 
     def first_informs(self, node, event, letter):
-        new = {(True, name) for name, (bit, committed, _) in self.decided.items() if committed and event.past & bit}
+        new = {
+            (True, name)
+            for name, (bit, committed, _) in self.decided.items()
+            if committed and event.past & bit
+        }
         if letter.kind in BRING_ABORTS:
-            new |= {(False, deed[3]) for one in self.events[:letter.event + 1] if one.node == letter.sender
-                    for deed in one.deeds if deed[0] == "inform" and not deed[2]}
+            new |= {
+                (False, deed[3])
+                for one in self.events[: letter.event + 1]
+                if one.node == letter.sender
+                for deed in one.deeds
+                if deed[0] == "inform" and not deed[2]
+            }
         for committed, name in sorted(one for one in new if one[1] not in node.informed):
             self.inform(node, event, name, committed)
 
@@ -46,7 +56,8 @@ class TimedRun(Run):
         self.close_event(event)
 
     def pause_of(self, node, deeds):
-        """Why an arrival pauses: its form, the action, the moment and the action's quiesce moment."""
+        """Why an arrival pauses: its form, the action, the moment and the action's quiesce
+        moment."""
         values = {name: action.value for name, action in self.actions.items()}
         for deed in deeds:
             for name, _ in Texts(self).steps_of(deed, values):
@@ -58,13 +69,33 @@ class TimedRun(Run):
         return None
 
     def state(self, node):
-        actions = {name: (one.deps, one.open_call, dict(one.children), list(one.view)) for name, one in self.actions.items()}
-        return (dict(node.informed), list(node.list), list(node.live), dict(node.kept), set(node.created), dict(node.secured),
-                {name: set(votes) for name, votes in node.preparing.items()}, dict(self.decided), actions)
+        actions = {
+            name: (one.deps, one.open_call, dict(one.children), list(one.view))
+            for name, one in self.actions.items()
+        }
+        return (
+            dict(node.informed),
+            list(node.list),
+            list(node.live),
+            dict(node.kept),
+            set(node.created),
+            dict(node.secured),
+            {name: set(votes) for name, votes in node.preparing.items()},
+            dict(self.decided),
+            actions,
+        )
 
     def restore(self, node, before):
         *mine, self.decided, actions = before
-        node.informed, node.list, node.live, node.kept, node.created, node.secured, node.preparing = mine
+        (
+            node.informed,
+            node.list,
+            node.live,
+            node.kept,
+            node.created,
+            node.secured,
+            node.preparing,
+        ) = mine
         self.actions = {name: one for name, one in self.actions.items() if name in actions}
         for name, (deps, open_call, children, view) in actions.items():
             one = self.actions[name]
@@ -134,7 +165,9 @@ class TimedRun(Run):
         node = self.nodes[name[0][0]]
         refuse_if(name not in node.created, "not open")
         refuse_if(name in node.informed, "nothing to do")
-        self.refuse_by_moments(node.moment < self.untils[name], "L11", node.moment, self.untils[name])
+        self.refuse_by_moments(
+            node.moment < self.untils[name], "L11", node.moment, self.untils[name]
+        )
         event = self.open_event(node)
         self.decide(node, event, name, False)
         self.send_news(event, name, self.actions[name].deps)

@@ -10,8 +10,18 @@ from timed import TimedHunter
 def main(path, seed, until, most, form):
     hunter = (TimedHunter if form == "timed" else Hunter)(path, seed)
     hunter.hunt(float(until), int(most) or None)
-    print(json.dumps({"scripts": hunter.done, "calls": hunter.calls, "events": hunter.events, "lawful": hunter.lawful,
-                      "counts": hunter.counts, "found": hunter.found}))
+    print(
+        json.dumps(
+            {
+                "scripts": hunter.done,
+                "calls": hunter.calls,
+                "events": hunter.events,
+                "lawful": hunter.lawful,
+                "counts": hunter.counts,
+                "found": hunter.found,
+            }
+        )
+    )
 
 
 if __name__ == "__main__":
