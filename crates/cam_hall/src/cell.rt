@@ -5,19 +5,23 @@ ghost use Rattle.cam_hall.specs.Turns.{Standing, IsFor, IsStanding};
 ghost use Rattle.cam_hall.specs.Notes.{HasAddressed};
 
 use crate::hall::Hall;
-use crate::item::Item;
+use crate::item::{Item, ItemOf};
 use crate::names::Names;
 use crate::served::Handled;
 use crate::slot::Slot;
 use crate::turned::{HallFault, Turned, TurnedOf};
 use cam_journal::{Core, Journal, NodeSeat, Seats};
 use std::alloc::Global;
+use std::sync::atomic::{AtomicBool, Ordering};
 use std::sync::{Mutex, Wait};
 
 /// The core and the seat of node `NODE` of the journal that `J` names, under a lock.
 #[derive(Drop)]
 pub struct Cell<C: Core, J: Names, const NODE: u8> {
     slot: Mutex<Slot<C, J, NODE>>,
+    /// Its core had nothing to do by itself when it was last asked, and has made no step since. It is
+    /// written under the lock alone.
+    rests: AtomicBool,
 }
 
 impl<C: Core, J: Names, const NODE: u8> Cell<C, J, NODE> {
@@ -28,6 +32,7 @@ impl<C: Core, J: Names, const NODE: u8> Cell<C, J, NODE> {
     {
         Cell {
             slot: Mutex::new(Slot::new(alloc, core, seat)),
+            rests: AtomicBool::new(false),
         }
     }
 
@@ -62,7 +67,21 @@ impl<C: Core, J: Names, const NODE: u8> Cell<C, J, NODE> {
         requires item { IsFor J.journal C.goes_to NODE item }
         ensures { HasAddressed C.goes_to J.journal result }
     {
-        self.slot.lock(rt).turn(journal, item)
+        let by_itself = matches!(&item, ItemOf::Drive);
+        let mut slot = self.slot.lock(rt);
+        let answer = slot.turn(journal, item);
+        match &answer {
+            Ok(TurnedOf::Did { .. }) => self.rests.store(false, Ordering::SeqCst),
+            Ok(TurnedOf::Nothing) if by_itself => self.rests.store(true, Ordering::SeqCst),
+            Ok(TurnedOf::Nothing | TurnedOf::Full) | Err(_) => {}
+        }
+        answer
+    }
+
+    /// Whether its core has nothing to do by itself, by a look that takes no lock: a step that
+    /// another worker makes meanwhile may not be seen yet.
+    pub(crate) fn rests(&self) -> bool {
+        self.rests.load(Ordering::SeqCst)
     }
 
     /// Puts the core and the seat behind those of the nodes before, once no thread uses the cell.

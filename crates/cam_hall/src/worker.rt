@@ -102,14 +102,17 @@ fn pass<R: Wait, C: Core, J: Names, G: Gate>(
     Ok(turn)
 }
 
-// Lets the core of the cell go on by itself, or hands it the next letter where it has nothing to
-// do.
+// Lets the core of the cell go on by itself, or hands it the next letter if it has nothing to do. It
+// takes the lock only if the core may have something to do, or a letter is there.
 fn work<R: Wait, C: Core, J: Names, const NODE: u8>(
     rt: &R,
     hall: &Hall<C, J>,
     cell: &Cell<C, J, NODE>,
     mailbox: &Mailbox<C, J, NODE>,
 ) -> Result<Turn, HallFault> {
+    if cell.rests() {
+        return deliver(rt, hall, cell, mailbox, Turn::Empty);
+    }
     match cell.handle(rt, hall, ItemOf::Drive)? {
         Handled::Did { .. } => Ok(Turn::Step),
         Handled::Nothing => deliver(rt, hall, cell, mailbox, Turn::Empty),

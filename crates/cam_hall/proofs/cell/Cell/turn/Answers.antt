@@ -5,4 +5,4 @@ pub returns : goal.returns
 returns g c =
     let core = g.C.Core in
     history_addressed core.names core.sends core.lawful core.answers core.goes_to core.copied
-    g.J.Names.journal g.row.NODE _ _ c.args.item c.turn.result c.turn.ensures.history
+    g.J.Names.journal g.row.NODE _ _ c.args.item c.turn-answer.result c.turn-answer.ensures.history

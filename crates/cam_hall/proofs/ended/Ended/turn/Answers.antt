@@ -3,7 +3,7 @@ use Rattle.std.specs.Prelude.{Result}
 use Rattle.cam_journal.specs.Seats.{Sitting, Mention}
 use Rattle.cam_hall.specs.declared.turned.TurnedOf.{TurnedOf}
 use Rattle.cam_hall.specs.declared.turned.HallFault.{HallFault}
-use Rattle.cam_hall.specs.Ending.{Left, IsStepAt, IsTaken}
+use Rattle.cam_hall.specs.Ending.{Left, IsLeft, IsStepAt, IsTaken}
 use Rattle.cam_hall.proofs.Leaving.{own_seats}
 use Rattle.cam_hall.proofs.EndTurns.{taken}
 use Rattle.cam_hall.proofs.ended.Ended.turn.Goals as goal
@@ -61,3 +61,9 @@ returns-clause-turn g c =
     IsTaken core.faults core.names core.sends core.goes_to core.lawful core.answers
     core.is_idle node old new letter a)
     (sym c.without_notes.ensures) done))
+
+pub returns-clause-left : goal.returns-clause-left
+returns-clause-left g c = (
+  subst (IsLeft g.C.Core.is_replay) c.self.view_is c.self.invariant,
+  c.step_at-answer.ensures.left,
+)
