@@ -1,0 +1,17 @@
+pub mod Copied
+pub mod Drawn
+pub mod Counted
+pub mod Wanted
+pub mod Running
+pub mod Requests
+pub mod Requested
+pub mod Restarted
+pub mod Answered
+pub mod Took
+pub mod TookInput
+pub mod Working
+pub mod Played
+pub mod Stepped
+pub mod Steps
+pub mod Cores
+pub mod Least

@@ -1,0 +1,42 @@
+-- The event is taken in, and its letters have drawn their copies.
+use Rattle.std.proofs.Common.{◌≡◌, ◌∷◌, map, refl, sym, ap, subst}
+use Rattle.cam_event.specs.declared.Event.{Event}
+use Rattle.cam_storm.specs.Own.{event_in}
+use Rattle.cam_storm_node.specs.Works.{HaveSeen}
+use Rattle.cam_storm_node.proofs.storm_node.StormNode.follow.Goals as goal
+
+pub returns-clause-followed : goal.returns-clause-followed
+returns-clause-followed g c words s sent own k is may =
+    let seen : HaveSeen words (k ∷ own) c.take_in-2.new.self =
+    subst
+    (λ (e : Event).
+    HaveSeen words (record { event = e; mail = k.mail; load = k.load } ∷ own) c.take_in-2.new.self)
+    (sym is) (c.in_ok-take_in-2.ensures words own k.mail k.load may.finish_is may.seen) in record {
+      drawn_are = c.in_ok-letters.ensures.copied words s sent may.copies;
+      inside = c.in_ok-letters.ensures.inside;
+      copies = c.in_ok-letters.ensures.copies words s sent may.copies;
+      seen = seen;
+      receipts =
+          c.in_ok-take_in.ensures (map event_in own) k.event (ap (λ (e : Event). e.got) is)
+          may.receipts;
+      drive = c.least_request-self.ensures.least words s (k ∷ own) (record {
+        low = may.low;
+        words_are = may.words_are;
+        number = may.number;
+        node = may.node;
+        seen = seen;
+      });
+      next = c.least_request-self.ensures.request words s (k ∷ own) (record {
+        low = may.low;
+        words_are = may.words_are;
+        number = may.number;
+        node = may.node;
+        seen = seen;
+      });
+      events = refl;
+      node = refl;
+      entries = refl;
+      objects = refl;
+      storm = refl;
+      tops = refl;
+    }

@@ -1,0 +1,7 @@
+pub mod Receipts
+pub mod Works
+pub mod Copying
+pub mod Playing
+pub mod Taking
+pub mod Following
+pub mod Stepping
