@@ -1,7 +1,7 @@
 """Makes scripts that aim at the rules: it takes each line that it writes, so that it knows which
 letters wait and which actions are open."""
 
-from lines import LineRefused, Run
+from lines import Run
 from machine import wrapped
 from reading import Body, Object, Script, Step
 
@@ -261,12 +261,7 @@ class Generator:
         self.cost += cost
         step = Step(self.line, word, args)
         self.script.steps.append(step)
-        run = self.run
-        run.line = self.line
-        try:
-            getattr(run, "line_" + word)(*args)
-        except LineRefused:
-            pass
+        self.run.take(step)
 
     def make(self, size):
         words, weights = list(self.weights), list(self.weights.values())
@@ -531,9 +526,19 @@ def size_of(random):
     return random.randint(60, 200) if chance < 0.997 else 512
 
 
+def script_and_run(random, timed=False, run=Run):
+    """A script as bytes, with its run where taking its lines has made the whole of it, else None."""
+    if not timed and random.random() < 0.001:
+        return at_an_end(random), None
+    generator = Generator(random, timed, run)
+    data = generator.make(size_of(random))
+    if random.random() < 0.06:
+        return spoilt(random, data), None
+    # What a halt comes to is told by later lines, so such a script is run once more.
+    halts = any(step.word == "stop" for step in generator.script.steps)
+    return data, None if halts else generator.run
+
+
 def script_of(random, timed=False, run=Run):
     """A script as bytes."""
-    if not timed and random.random() < 0.001:
-        return at_an_end(random)
-    data = Generator(random, timed, run).make(size_of(random))
-    return spoilt(random, data) if random.random() < 0.06 else data
+    return script_and_run(random, timed, run)[0]

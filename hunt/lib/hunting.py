@@ -5,7 +5,7 @@ import os
 import random
 import time
 
-from generator import script_of
+from generator import script_and_run
 from laws import broken_laws
 from lines import Run
 from made import summary
@@ -22,10 +22,13 @@ ONE_IN, MADE_IN = 16, 64
 class Expected:
     """What the program has to write of one script."""
 
-    def __init__(self, data):
+    def __init__(self, data, run=None):
+        """`run` is the run of the script, if it was made already."""
         self.texts, self.met, self.events = None, set(), 0
         try:
-            self.run = Run(parse(data)).run()
+            script = parse(data)
+            self.run = run or Run(script).run()
+            assert script.steps == self.run.script.steps
         except Refused as fault:
             self.refused = fault.text
             self.met = {fault.text.split()[-1]}
@@ -149,10 +152,10 @@ class Hunter:
 
     def one(self, name):
         source = random.Random(name)
-        data = script_of(source)
+        data, run = script_and_run(source)
         words = [["trace"], ["run"]]
         self.ask(words, data)
-        expected = Expected(data)
+        expected = Expected(data, run)
         self.backlog.append((name, data, expected, words))
         if self.done % ONE_IN == 0:
             more = expected.questions(source)

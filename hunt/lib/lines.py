@@ -43,13 +43,16 @@ class Run(Rules):
 
     def run(self):
         for step in self.script.steps:
-            self.line = step.line
-            try:
-                getattr(self, "line_" + step.word)(*step.args)
-            except LineRefused as refused:
-                self.marks.append(f"refused {step.line} {refused}")
-                self.met.add(f"{step.word} {refused}")
+            self.take(step)
         return self
+
+    def take(self, step):
+        self.line = step.line
+        try:
+            getattr(self, "line_" + step.word)(*step.args)
+        except LineRefused as refused:
+            self.marks.append(f"refused {step.line} {refused}")
+            self.met.add(f"{step.word} {refused}")
 
     # What refuses a line
 

@@ -10,6 +10,7 @@ from timed import TimedHunter
 def main(path, seed, until, most, form):
     hunter = (TimedHunter if form == "timed" else Hunter)(path, seed)
     hunter.hunt(float(until), int(most) or None)
+    hunter.program.close()
     print(
         json.dumps(
             {
