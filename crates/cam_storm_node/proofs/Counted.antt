@@ -8,7 +8,6 @@ use Rattle.std.specs.declared.cmp.Ordering.TheVariants.{Less, Equal, Greater}
 use Rattle.std.proofs.lemmas.Bool.{true≢false, and_parts, ne_eqb}
 use Rattle.std.proofs.lemmas.Bool.Decides.{eqb_tells, leb_tells}
 use Rattle.cam_event.specs.declared.Event.{Event}
-use Rattle.cam_event.specs.declared.LetterId.{LetterId}
 use Rattle.cam_storm.specs.Runs.{is_letter, received}
 use Rattle.cam_storm_node.specs.declared.receipts.Receipts.{Receipts}
 use Rattle.cam_storm_node.specs.Receipts.{AreReceipts, letter_cmp, times_in}

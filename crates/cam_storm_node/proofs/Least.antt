@@ -1,5 +1,5 @@
 -- The works of a node, in order of names, are gone over for the first action with a request.
-use Rattle.std.proofs.Common.{◌≡◌, inl, inr, ℕ, ◌≤◌, Bool, true, false, cond, List, [], ◌∷◌, length}
+use Rattle.std.proofs.Common.{◌≡◌, inl, inr, ℕ, ◌≤◌, true, false, cond, List, [], ◌∷◌}
 use Rattle.std.proofs.Common.{Option, Some, None, refl, sym, ap, ◌∙◌, subst}
 use Rattle.std.specs.Ordering.{is_eq, is_lt, ordering_reverse}
 use Rattle.std.specs.declared.cmp.Ordering.TheVariants.{Less}
@@ -9,15 +9,14 @@ use Rattle.std.specs.List.Sorted.{IsStrictlySortedBy}
 use Rattle.std.specs.Map.{keys_of, lookup}
 use Rattle.std.proofs.lemmas.Bool.{cases_Bool}
 use Rattle.cam_names.specs.declared.name.Name.{Name}
-use Rattle.cam_names.specs.Names.{name_cmp, name_eq, name_lt}
+use Rattle.cam_names.specs.Names.{name_cmp, name_lt}
 use Rattle.cam_names.proofs.Names.{name_eq_same, name_ties_back}
 use Rattle.cam_names.proofs.Order.{name_lt_itself, name_total}
 use Rattle.cam_event.specs.declared.Request.{Request}
-use Rattle.cam_event.specs.declared.ViewStep.{ViewStep}
 use Rattle.cam_event.specs.declared.Want.{Want}
 use Rattle.cam_event.specs.ByDeltas.{Received}
 use Rattle.cam_gen.specs.Storms.{Words}
-use Rattle.cam_storm.specs.Own.{OwnRequest, own_view}
+use Rattle.cam_storm.specs.Own.{OwnRequest}
 use Rattle.cam_storm.specs.Core.{IsLeastDrive}
 use Rattle.cam_storm_node.specs.declared.works.Work.{Work}
 use Rattle.cam_storm_node.specs.declared.works.Works.{Works}
@@ -60,7 +59,8 @@ module _ (words : Words) (s : ℕ) (own : List Received) where
       elim (cases_Bool (is_eq (name_cmp b e.0))) [
         | inl is ↦
             absurd (none want
-            (subst (λ (n : Name). OwnRequest words s own n want) (sym (found_key e.0 b is)) request))
+            (subst (λ (n : Name). OwnRequest words s own n want) (sym (found_key e.0 b is))
+            request))
         | inr other ↦
             let found = all b want request in (
               found.0,

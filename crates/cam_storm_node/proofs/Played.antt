@@ -1,5 +1,5 @@
--- A storm node that is the replay of its history: what it keeps while it runs, when it gives up, and
--- when it begins.
+-- A storm node that is the replay of its history: what it keeps while it runs, when it gives up,
+-- and when it begins.
 use Rattle.std.proofs.Common.{◌∷◌, ◌≡◌, ◌⊎◌, inl, inr, ℕ, suc, ◌+◌, ◌≤◌, Bool, true, false, ◌&&◌, ◌||◌, [], length, Option, Some, None, refl, sym, ap, ◌∙◌, subst, arith}
 use Rattle.std.specs.Prelude.{nat_le, option_map, is_none}
 use Rattle.std.proofs.lemmas.Bool.{true≢false}
@@ -40,7 +40,8 @@ idle_same words storm_node s history plays Drive =
     && none_mapped (λ (r : Request). r.action) storm_node.next i)
 
 -- a storm node that has something to do is not over
-pub busy_runs : (storm_node : StormNodeFields) (item : CoreInput Copied) → is_idle_by storm_node item ≡ false
+pub busy_runs : (storm_node : StormNodeFields) (item : CoreInput Copied)
+    → is_idle_by storm_node item ≡ false
     → is_over storm_node ≡ false
 busy_runs storm_node (Letter number place c) busy = first (is_over storm_node) _ busy
   where

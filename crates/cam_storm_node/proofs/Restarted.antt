@@ -33,7 +33,8 @@ same_recovered : (x : Result Recovered RecFault) (a b : Recovered) → x ≡ Ok 
 same_recovered x a b first other = cc
 
 -- whatever may be read of a log at rest is the log of the history that its entries keep
-pub read_is : (objects : List ObjectDecl) (s : ℕ) (own : List Received) (since : ℕ → Opened → Type 0)
+pub read_is : (objects : List ObjectDecl) (s : ℕ) (own : List Received)
+    (since : ℕ → Opened → Type 0)
     (t : ℕ) (listed : List (List ℕ)) (logged : Logged)
     → ((opened : Opened) → since t opened → opened ≡ Ok listed) → MayRead since t logged
     → KeepsHistory objects s own listed → IsLogOf objects s own logged
@@ -45,7 +46,8 @@ read_is objects s own since t listed logged rest read keeps =
     recovers : recover listed ≡ Ok read.recovered
     recovers =
         subst (λ (es : List (List ℕ)). recover es ≡ Ok read.recovered)
-        (same_entries (Ok read.entries) read.entries listed refl (rest (Ok read.entries) read.opens))
+        (same_entries (Ok read.entries) read.entries listed refl (rest (Ok read.entries)
+        read.opens))
         read.recovers
 
 -- THE LEMMA

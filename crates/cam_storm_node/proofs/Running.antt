@@ -101,7 +101,8 @@ created_early s c a (Create b ∷ L) none is home =
           created_early s c a L parts.1 (sym (ap (λ x. x || created L a) other) ∙ is) home
     ]
 created_early s c a (d ∷ L) none is home =
-    created_early s c a L (or_parts (is_of_later s c d) (list_any (is_of_later s c) L) none).1 is home
+    created_early s c a L (or_parts (is_of_later s c d) (list_any (is_of_later s c) L) none).1 is
+    home
 
 and_four : (b c d e : Bool) → b ≡ true → c ≡ true → d ≡ true → e ≡ true
     → (b && c && d && e) ≡ true

@@ -1,5 +1,5 @@
--- After a step a storm node is the replay of the history with the event that it made, which answers the
--- item and may come next.
+-- After a step a storm node is the replay of the history with the event that it made, which answers
+-- the item and may come next.
 use Rattle.std.proofs.Common.{◌≡◌, inr, ℕ, ℤ, ◌+◌, false, List, [], ◌∷◌, ◌++◌, map, length, Option, sym, ap, ◌∙◌, subst}
 use Rattle.std.specs.Prelude.{reverse, IfSome, Ok}
 use Rattle.std.specs.List.{AllByRecursion}
@@ -82,14 +82,16 @@ module _ (words : Words) (s : ℕ) (history : SeatHistory) (item : CoreInput Cop
     count : length letters ≡ length e.event.sent
     count =
         ap length took.letters_are
-        ∙ length-map e.event.sent (letter_as mid.node.know mid.node.places mid.node.number mid.node.count)
+        ∙ length-map e.event.sent (letter_as mid.node.know mid.node.places mid.node.number
+        mid.node.count)
 
     are_all : AreCopied words s (c ∷ own) (own_sent own) e.event.sent e.letters
     are_all =
         subst (λ (ds : List Copied). AreCopied words s (c ∷ own) (own_sent own) e.event.sent ds)
         (sym (followed.drawn_are
         ∙ λ i. copied_from words s (keeps.sent i) (took.letters_are i)))
-        (are_copied words s (c ∷ own) mid.node took.number (stands took).represents (own_sent own) e.event.sent
+        (are_copied words s (c ∷ own) mid.node took.number (stands took).represents (own_sent own)
+        e.event.sent
         (subst (AllByRecursion IsInside) took.letters_are followed.inside))
 
     pub answer : Answers words s history item e
@@ -122,7 +124,8 @@ module _ (words : Words) (s : ℕ) (history : SeatHistory) (item : CoreInput Cop
       own_more = ap (map carried_in) turned
 
       lawful_more : IsStormHistory words s (reverse more)
-      lawful_more = subst (IsStormHistory words s) (sym turned) (next.allowed.1, plays.replay.lawful)
+      lawful_more = subst (IsStormHistory words s) (sym turned)
+          (next.allowed.1, plays.replay.lawful)
 
       abbrev pub sent_now : ℕ
       sent_now = plays.sent + length letters
@@ -132,7 +135,8 @@ module _ (words : Words) (s : ℕ) (history : SeatHistory) (item : CoreInput Cop
 
       keeps_more : Keeps words s (c ∷ own) (cell_of new sent_now)
       keeps_more = record {
-        node = subst (Represents (objects_of words) (c ∷ own)) (sym followed.node) (stands took).represents;
+        node = subst (Represents (objects_of words) (c ∷ own)) (sym followed.node)
+            (stands took).represents;
         events =
             followed.events ∙ ap (λ n. n + 1) (only.events ∙ keeps.events) ∙ one_more (length own);
         sent = sent_is;
@@ -152,7 +156,8 @@ module _ (words : Words) (s : ℕ) (history : SeatHistory) (item : CoreInput Cop
           number = ap (λ n. n.number) followed.node ∙ took.number;
           here = plays.replay.here;
           lawful = lawful_more;
-          keeps = inr (subst (λ h. Keeps words s h (cell_of new sent_now)) (sym own_more) keeps_more);
+          keeps = inr (subst (λ h. Keeps words s h (cell_of new sent_now)) (sym own_more)
+              keeps_more);
         };
         runs = inr (subst (λ h. Runs words s sent_now h new) (sym own_more) (record {
           node =

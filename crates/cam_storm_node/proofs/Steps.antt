@@ -9,17 +9,16 @@ use Rattle.cam_journal.specs.declared.entry.SentLetter.{SentLetter as Taken}
 use Rattle.cam_journal.specs.declared.input.CoreFault.{CoreFault}
 use Rattle.cam_journal.specs.declared.input.CoreFault.TheVariants.{DiskFault, NoMemory}
 use Rattle.cam_journal.specs.declared.input.CoreInput.{CoreInput}
-use Rattle.cam_journal.specs.declared.input.CoreInput.TheVariants.{Letter, Drive}
+use Rattle.cam_journal.specs.declared.input.CoreInput.TheVariants.{Letter}
 use Rattle.cam_journal.specs.Taking.{FaultsWithCause, IsFromLawful, letter_in}
 use Rattle.cam_event.specs.declared.Sent.{Sent}
 use Rattle.cam_event.specs.ByDeltas.{Received}
 use Rattle.cam_gen.specs.Storms.{Words}
-use Rattle.cam_storm.specs.Events.{Copied, Stepped}
+use Rattle.cam_storm.specs.Events.{Copied}
 use Rattle.cam_storm.specs.Lawful.{AreCopied, SeatHistory, carried_in, goes_to, lawful, own_history, sends}
 use Rattle.cam_storm.proofs.ArrivalsWeigh.{copies_few}
-use Rattle.cam_storm_node.specs.Playing.{StormNodeFields, is_busy, is_idle_by, is_over}
+use Rattle.cam_storm_node.specs.Playing.{StormNodeFields, is_idle_by, is_over}
 use Rattle.cam_storm_node.specs.Receipts.{times_in}
-use Rattle.cam_storm_node.specs.Taking.{IsItem}
 
 pub not_true : (b : Bool) → not b ≡ true → b ≡ false
 not_true true e = sym e
@@ -38,7 +37,8 @@ faults_later before now (Err DiskFault) has = has.0
 faults_later before now (Err NoMemory) has = has
 
 pub faults_other : (E F : Type 0) (before now : ℕ) (fault : CoreFault)
-    → FaultsWithCause {E = E} before now (Err fault) → FaultsWithCause {E = F} before now (Err fault)
+    → FaultsWithCause {E = E} before now (Err fault)
+    → FaultsWithCause {E = F} before now (Err fault)
 faults_other E F before now DiskFault has = has
 faults_other E F before now NoMemory has = has
 

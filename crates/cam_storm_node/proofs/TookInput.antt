@@ -31,8 +31,10 @@ use Rattle.cam_storm_node.proofs.Answered.{begins_answer, letter_answer, request
 
 -- what the node did for an input is what it took for the item
 module _ (words : Words) (s : ℕ) (own : List Received) (objects : List ObjectDecl)
-    (objects_are : objects ≡ objects_of words) (old : Node) (number : old.number ≡ s) (event : Event)
-    (letters : List EventLetter) (finish : Option ℤ) (node : Node) (after : node.number ≡ old.number)
+    (objects_are : objects ≡ objects_of words) (old : Node) (number : old.number ≡ s)
+    (event : Event)
+    (letters : List EventLetter) (finish : Option ℤ) (node : Node)
+    (after : node.number ≡ old.number)
     (entries : List (List ℕ)) where
   of_storm : (input : Put) → HasPut objects own input old event letters finish node entries
       → HasPut (objects_of words) own input old event letters finish node entries
@@ -46,7 +48,8 @@ module _ (words : Words) (s : ℕ) (own : List Received) (objects : List ObjectD
       → HasTaken words s own item event letters finish node entries
   begin_taken item few put =
       let p = of_storm puts.Begin put in
-      own_taken words s own item event letters node entries (after ∙ number) p.letters_are (Begins s)
+      own_taken words s own item event letters node entries (after ∙ number) p.letters_are
+      (Begins s)
       finish (begins_answer words s own item few) refl
       (p.is_next
       ∙ ap (λ (n : ℕ).
@@ -69,7 +72,8 @@ module _ (words : Words) (s : ℕ) (own : List Received) (objects : List ObjectD
       node_step (objects_of words) n (map as_carried own) (Restarts n) None nothing) number)
       p.finish_is p.stands
 
-  pub received_taken : (item : CoreInput Copied) (k place : ℕ) (c : Copied) → item ≡ Letter k place c
+  pub received_taken : (item : CoreInput Copied) (k place : ℕ) (c : Copied)
+      → item ≡ Letter k place c
       → tops_of words s ≤ length own
       → restarts_at words (length own) ≡ false
       → HasPut objects own (puts.Letter (record { event = k; place = place }) c.letter) old event
@@ -77,7 +81,8 @@ module _ (words : Words) (s : ℕ) (own : List Received) (objects : List ObjectD
       → HasTaken words s own item event letters finish node entries
   received_taken item k place c at all none put =
       let p = of_storm (puts.Letter (record { event = k; place = place }) c.letter) put in
-      letter_taken words s own item event letters node entries (after ∙ number) p.letters_are k place c
+      letter_taken words s own item event letters node entries (after ∙ number) p.letters_are k
+      place c
       finish at
       (subst
       (λ (i : CoreInput Copied).
@@ -97,7 +102,8 @@ module _ (words : Words) (s : ℕ) (own : List Received) (objects : List ObjectD
       → HasTaken words s own item event letters finish node entries
   request_taken item r at all none least request put =
       let p = of_storm (puts.Request r) put in
-      own_taken words s own item event letters node entries (after ∙ number) p.letters_are (Requests r)
+      own_taken words s own item event letters node entries (after ∙ number) p.letters_are
+      (Requests r)
       finish
       (subst (λ (i : CoreInput Copied). IsAnswer words s own i (Requests r)) (sym at)
       (request_answer words s own r all none least request)) refl
@@ -106,8 +112,8 @@ module _ (words : Words) (s : ℕ) (own : List Received) (objects : List ObjectD
       node_step (objects_of words) n (map as_carried own) (Requests r) None
       (told_in_order no_load.know)) number) p.finish_is p.stands
 
--- The letter that an event received came fewer times before than a number of times can be, where the
--- letter of the item did.
+-- The letter that an event received came fewer times before than a number of times can be, where
+-- the letter of the item did.
 pub few_taken : (words : Words) (s : ℕ) (own : List Received) (item : CoreInput Copied)
     (event : Event) (letters : List EventLetter) (finish : Option ℤ) (node : Node)
     (entries : List (List ℕ)) (receipts : Receipts)
@@ -144,4 +150,5 @@ few_taken words s own item event letters finish node entries receipts took few =
         (by_test k place (nat_lt (length own) (tops_of words s)) (restarts_at words (length own))
         (small k place c refl))
     by_item Drive input answers small =
-        by_drive (nat_lt (length own) (tops_of words s)) (restarts_at words (length own)) input answers
+        by_drive (nat_lt (length own) (tops_of words s)) (restarts_at words (length own)) input
+        answers

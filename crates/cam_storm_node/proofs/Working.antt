@@ -1,13 +1,12 @@
 -- What one more step of a view does to the table of works.
 use Rattle.std.proofs.Common.{◌≡◌, inl, inr, ℕ, ℤ, ◌≤◌, Bool, true, false, ◌&&◌, ◌||◌}
-use Rattle.std.proofs.Common.{if◌then◌else◌, cond, List, [], ◌∷◌, ◌++◌, length, eqb, eq-eqb}
-use Rattle.std.proofs.Common.{Option, Some, None, refl, sym, ap, ◌∙◌, subst, append-nil, append_assoc}
-use Rattle.std.specs.Prelude.{flat_map}
+use Rattle.std.proofs.Common.{if◌then◌else◌, cond, [], ◌∷◌, ◌++◌, length, eqb, eq-eqb}
+use Rattle.std.proofs.Common.{Option, Some, None, refl, sym, ap, ◌∙◌, append-nil}
 use Rattle.std.specs.Ordering.{is_eq}
 use Rattle.std.specs.BTreeMap.{BTreeMap, get}
 use Rattle.std.proofs.lemmas.Bool.{and_left, and_right, cases_Bool, ne_eqb}
 use Rattle.cam_names.specs.declared.name.Name.{Name}
-use Rattle.cam_names.specs.Names.{name_cmp, name_eq, home_node, is_child, parent}
+use Rattle.cam_names.specs.Names.{name_cmp, name_eq, home_node, parent}
 use Rattle.cam_names.proofs.Children.{is_some_name, child_of}
 use Rattle.cam_names.proofs.Names.{name_eq_same, name_ties_back}
 use Rattle.cam_event.specs.declared.ViewStep.{ViewStep}

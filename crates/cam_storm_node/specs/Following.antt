@@ -1,5 +1,5 @@
--- What a storm node makes of a step that its node took: its letters, what its actions have seen, and
--- which action makes the next request.
+-- What a storm node makes of a step that its node took: its letters, what its actions have seen,
+-- and which action makes the next request.
 use Rattle.std.specs.Prelude.{◌≡◌, ℕ, ℤ, ◌+◌, ◌<◌, ◌≤◌, List, ◌∷◌, length, map, Option, Some, None, option_map}
 use Rattle.std.specs.List.{AllByRecursion}
 use Rattle.cam_names.specs.declared.name.Name.{Name}
@@ -20,10 +20,11 @@ use Rattle.cam_storm_node.specs.Receipts.{AreReceipts, times_in}
 use Rattle.cam_storm_node.specs.Works.{HaveSeen}
 use Rattle.cam_storm_node.specs.Playing.{StormNodeFields, IsNextRequest}
 
--- What a storm node makes of a step that its node took: its event is taken in, its letters have drawn
--- their copies, and its node and its log stay.
+-- What a storm node makes of a step that its node took: its event is taken in, its letters have
+-- drawn their copies, and its node and its log stay.
 pub record HasFollowed (words : Words) (s sent : ℕ) (own : List Received) (c : Received)
-    (letters : List EventLetter) (old : StormNodeFields) (drawn : List Copied) (new : StormNodeFields)
+    (letters : List EventLetter) (old : StormNodeFields) (drawn : List Copied)
+    (new : StormNodeFields)
     : Type 0 where
   pub drawn_are : drawn ≡ copied_from words s sent letters
   pub inside : AllByRecursion IsInside letters
@@ -39,9 +40,10 @@ pub record HasFollowed (words : Words) (s sent : ℕ) (own : List Received) (c :
   pub storm : new.storm ≡ old.storm
   pub tops : new.tops ≡ old.tops
 
--- What a storm node tells requests by: its node and its log stand for its history, and what it keeps of
--- its actions is what they have seen.
-pub record Knows (words : Words) (s : ℕ) (own : List Received) (storm_node : StormNodeFields) : Type 0
+-- What a storm node tells requests by: its node and its log stand for its history, and what it
+-- keeps of its actions is what they have seen.
+pub record Knows (words : Words) (s : ℕ) (own : List Received) (storm_node : StormNodeFields) :
+    Type 0
   where
     pub low : 1 ≤ s
     pub words_are : storm_node.storm ≡ words
@@ -54,8 +56,8 @@ abbrev pub IsRequestOf : Words → ℕ → List Received → Name → Option Req
 IsRequestOf words s own a None = (want : Want) → OwnRequest words s own a want → ⊥
 IsRequestOf words s own a (Some r) = (r.action ≡ a) × OwnRequest words s own a r.want
 
--- What a storm node is before it takes in a step that its node took: the node and the log have it, and
--- all else is as it was.
+-- What a storm node is before it takes in a step that its node took: the node and the log have it,
+-- and all else is as it was.
 pub record MayFollow (words : Words) (s sent : ℕ) (own : List Received) (c : Received)
     (finish : Option ℤ) (storm_node : StormNodeFields) : Type 0 where
   pub low : 1 ≤ s

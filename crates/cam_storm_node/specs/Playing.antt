@@ -31,7 +31,7 @@ pub record StormNodeFields : Type 0 where
   pub halted : Bool
   -- how often its disk has failed
   pub faults : ℕ
-  -- memory ran out behind a step
+  -- a step failed
   pub lost : Bool
   pub events : ℕ
   pub tops : ℕ

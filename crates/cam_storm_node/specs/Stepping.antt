@@ -9,8 +9,8 @@ use Rattle.cam_storm.specs.Lawful.{SeatHistory, lawful, names}
 use Rattle.cam_storm.specs.Core.{Answers}
 use Rattle.cam_storm_node.specs.Playing.{StormNodeFields, IsPlaying}
 
--- A step: its event answers the item and may come next, and the storm node is then the replay of the
--- history with it. After a fault it is the replay of the history as it was.
+-- A step: its event answers the item and may come next, and the storm node is then the replay of
+-- the history with it. After a fault it is the replay of the history as it was.
 abbrev pub HasStepped :
     Words → ℕ → SeatHistory → CoreInput Copied → StormNodeFields → Result Stepped CoreFault
     → Type 0

@@ -38,20 +38,24 @@ impl<L: TellingLog, W: Storming> Core for StormNode<L, W> {
     ghost answers = { Answers W.words };
 
     ghost is_replay = { λ storm_node node history.
-        IsCore W.words W.failures (⟦<StormNode<L, W> as AsStormNode>⟧.fields storm_node) node history };
+        IsCore W.words W.failures (⟦<StormNode<L, W> as AsStormNode>⟧.fields storm_node)
+        node history };
 
     ghost is_idle = { λ storm_node input.
         is_idle_by (⟦<StormNode<L, W> as AsStormNode>⟧.fields storm_node) input };
 
     fn step(&mut self, input: CoreInput<Copied>) -> Result<Option<Stepped>, CoreFault>
         requires { CanStep (λ storm_node node history.
-            IsCore W.words W.failures (⟦<StormNode<L, W> as AsStormNode>⟧.fields storm_node) node history)
+            IsCore W.words W.failures (⟦<StormNode<L, W> as AsStormNode>⟧.fields storm_node)
+            node history)
             sends goes_to (lawful W.words) self.old input }
         ensures step { IsStep (λ storm_node node history.
-            IsCore W.words W.failures (⟦<StormNode<L, W> as AsStormNode>⟧.fields storm_node) node history)
+            IsCore W.words W.failures (⟦<StormNode<L, W> as AsStormNode>⟧.fields storm_node)
+            node history)
             names goes_to (lawful W.words) (Answers W.words) self.old input self.new result }
         ensures none { IfOk result (λ made.
-            IsNone made ↔ IsTrue (is_idle_by (⟦<StormNode<L, W> as AsStormNode>⟧.fields self.old) input)) }
+            IsNone made ↔ IsTrue (is_idle_by
+            (⟦<StormNode<L, W> as AsStormNode>⟧.fields self.old) input)) }
         ensures cause { FaultsWithCause (⟦<StormNode<L, W> as AsStormNode>⟧.fields self.old).faults
             (⟦<StormNode<L, W> as AsStormNode>⟧.fields self.new).faults result }
     {

@@ -44,8 +44,8 @@ fn goes_inside(letter: &Letter) -> bool
     1 <= letter.to && letter.to <= 4
 }
 
-/// The letters with the copies that they draw, one after another. Each goes to one of the four nodes: one that did not would find no
-/// memory.
+/// The letters with the copies that they draw, one after another. Each letter of a storm goes to
+/// one of the four nodes; if one did not, this would fail as if memory ran out.
 pub(crate) fn with_copies(
     alloc: Global,
     copies: &mut Copies,

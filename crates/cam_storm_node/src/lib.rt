@@ -1,12 +1,13 @@
 //! The core of a storm: a node with the bodies of its actions.
 //!
-//! A [`StormNode`] is one of the four nodes of a storm. It creates its top actions first. Then an action makes the next request of its body
-//! where it has one, or a letter is received, or the node restarts where the words of the storm say so. It keeps what each action has
-//! seen, and how often each letter came. [`StormNode`] is a core of `cam_journal`, so cells and workers of `cam_hall` drive it.
+//! A [`StormNode`] is one of the four nodes of a storm. It creates its top actions first. Then the
+//! least-named action that has a request makes it, or a letter is received, or the node restarts if
+//! the words of the storm say so. It keeps what each action has seen, and how often each letter
+//! came. It is a core of `cam_journal`, so the cells and workers of `cam_hall` drive it.
 //!
-//! It stands on `cam_node` (the node), `cam_body` (the next request of a body), `cam_gen` (the words of storms) and `cam_storm` (which
-//! events are lawful in a storm). Its main clause is that of `step`: the event answers the item, and the storm node is the replay of the
-//! longer history.
+//! It stands on `cam_node` (the node), `cam_body` (the next request of a body), `cam_gen` (the
+//! words of storms) and `cam_storm` (which events are lawful in a storm). Its main clause is that
+//! of `step`: the event answers the item, and the storm node is the replay of the longer history.
 #![tactic(auto)]
 
 mod as_core;

@@ -32,7 +32,8 @@ impl Receipts {
         self.times.get(&(number, place)).copied().unwrap_or(0)
     }
 
-    /// Takes in the letter that an event received, if it received one. It came fewer than 255 times before.
+    /// Takes in the letter that an event received, if it received one. It came fewer than 255 times
+    /// before.
     pub(crate) fn take_in(&mut self, got: Option<LetterId>) -> Result<(), NoMemory>
         requires { HasFewReceipts self.old got }
         ensures { OnOk result ((t : List EventFields) (e : EventFields) → e.got ≡ got

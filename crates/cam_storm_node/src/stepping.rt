@@ -18,7 +18,8 @@ impl<L: TellingLog, W: Storming> StormNode<L, W> {
     fn try_step(&mut self, item: CoreInput<Copied>) -> Result<Stepped, CoreFault>
         requires busy { IsTrue (is_busy (⟦<StormNode<L, W> as AsStormNode>⟧.fields self.old) item) }
         requires can { CanStep (λ storm_node node history.
-            IsCore W.words W.failures (⟦<StormNode<L, W> as AsStormNode>⟧.fields storm_node) node history)
+            IsCore W.words W.failures (⟦<StormNode<L, W> as AsStormNode>⟧.fields storm_node)
+            node history)
             sends goes_to (lawful W.words) self.old item }
         ensures stepped { IfOk result (λ e. (s : ℕ) (history : SeatHistory)
             → IsPlaying W.words (⟦<StormNode<L, W> as AsStormNode>⟧.fields self.old) s history
@@ -37,12 +38,13 @@ impl<L: TellingLog, W: Storming> StormNode<L, W> {
         }
     }
 
-    /// A step for an item with which there is something to do. After a fault the storm node takes no
-    /// further one.
+    /// A step for an item with which there is something to do. After a fault the storm node takes
+    /// no further one.
     pub(crate) fn step_on(&mut self, item: CoreInput<Copied>) -> Result<Stepped, CoreFault>
         requires busy { IsTrue (is_busy (⟦<StormNode<L, W> as AsStormNode>⟧.fields self.old) item) }
         requires can { CanStep (λ storm_node node history.
-            IsCore W.words W.failures (⟦<StormNode<L, W> as AsStormNode>⟧.fields storm_node) node history)
+            IsCore W.words W.failures (⟦<StormNode<L, W> as AsStormNode>⟧.fields storm_node)
+            node history)
             sends goes_to (lawful W.words) self.old item }
         ensures stepped { (s : ℕ) (history : SeatHistory)
             → IsPlaying W.words (⟦<StormNode<L, W> as AsStormNode>⟧.fields self.old) s history

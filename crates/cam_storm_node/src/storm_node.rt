@@ -79,7 +79,7 @@ impl<L: CheckpointLog, W: Storming> AsStormNode for StormNode<L, W> {
 }
 
 impl<D: TellingDisk, W: Storming> DiskStormNode<D, W> {
-    /// A node, 1 to 4, to which nothing has happened, over a disk that is formatted. Where the disk
+    /// A node, 1 to 4, to which nothing has happened, over a disk that it formats. If the disk
     /// fails or memory runs out, the disk is handed back.
     pub fn new(
         alloc: Global,
@@ -118,8 +118,8 @@ impl<D: TellingDisk, W: Storming> DiskStormNode<D, W> {
         })
     }
 
-    /// The disk of the node, as it is. While the node is not halted, whatever a crash may leave of it
-    /// opens as the entries of its log.
+    /// The disk of the node, as it is. While the node is not halted, whatever a crash may leave of
+    /// it opens as the entries of its log.
     pub fn into_disk(self) -> D
         ensures faults { D.faults result
             ≡ (⟦<DiskStormNode<D, W> as AsStormNode>⟧.fields self).faults }
@@ -132,8 +132,8 @@ impl<D: TellingDisk, W: Storming> DiskStormNode<D, W> {
     }
 }
 
-/// The node of this number, 1 to 8, of a storm, to which nothing has happened, over a disk that is
-/// formatted.
+/// The node of this number, 1 to 8, of a storm, to which nothing has happened, over a disk that it
+/// formats.
 fn formatted<D: TellingDisk>(
     alloc: Global,
     storm: &Storm,
@@ -170,7 +170,7 @@ fn formatted<D: TellingDisk>(
 }
 
 impl<L: TellingLog, W: Storming> StormNode<L, W> {
-    /// Whether it takes no further step: its node halted, or memory ran out behind a step.
+    /// Whether it takes no further step: its node halted, or a step failed.
     pub fn is_halted(&self) -> bool
         ensures { result ≡ is_over (⟦<StormNode<L, W> as AsStormNode>⟧.fields self.now) }
     {

@@ -45,7 +45,8 @@ impl<L: TellingLog, W: Storming> StormNode<L, W> {
         self.node.log().failures()
     }
 
-    /// The fault of a step that came to nothing, where the disk had failed so often before: that of the disk just where it failed.
+    /// The fault of a step that failed, if the disk had failed so often before it: that of the disk
+    /// if it failed since.
     fn fault_since(&self, before: u64) -> CoreFault
         ensures { result ≡ DiskFault → Rose before
             (L.faults_within self.now.node.log.log) }
@@ -57,12 +58,13 @@ impl<L: TellingLog, W: Storming> StormNode<L, W> {
         }
     }
 
-    /// Puts an input to the node. None of a storm is refused, and none finds its numbers used up: where one did, it would count as out of
-    /// memory.
+    /// Puts an input to the node. No input of a storm is refused or finds its numbers used up; if
+    /// one did, the step would fail as if memory ran out.
     fn put(&mut self, input: &Input) -> Result<Taken, CoreFault>
         requires running { IsFalse self.old.node.log.halted }
         ensures put { IfOk result (λ taken. (own : List Received)
-            → KeepsNode self.old.node.objects own (⟦<StormNode<L, W> as AsStormNode>⟧.fields self.old).node
+            → KeepsNode self.old.node.objects own
+            (⟦<StormNode<L, W> as AsStormNode>⟧.fields self.old).node
             (⟦<StormNode<L, W> as AsStormNode>⟧.fields self.old).entries
             → HasPut self.old.node.objects own input.now
             (⟦<StormNode<L, W> as AsStormNode>⟧.fields self.old).node
@@ -96,11 +98,13 @@ impl<L: TellingLog, W: Storming> StormNode<L, W> {
         }
     }
 
-    /// Restarts the node. A log that no restart takes, while the disk has not failed, counts as out of memory: none of a storm is so.
+    /// Restarts the node. Each log of a storm can be restarted from; if one could not, and the disk
+    /// had not failed, the step would fail as if memory ran out.
     fn restart(&mut self) -> Result<Taken, CoreFault>
         requires running { IsFalse self.old.node.log.halted }
         ensures restarted { IfOk result (λ taken. (own : List Received)
-            → KeepsNode self.old.node.objects own (⟦<StormNode<L, W> as AsStormNode>⟧.fields self.old).node
+            → KeepsNode self.old.node.objects own
+            (⟦<StormNode<L, W> as AsStormNode>⟧.fields self.old).node
             (⟦<StormNode<L, W> as AsStormNode>⟧.fields self.old).entries
             → HasRestarted self.old.node.objects own
             (⟦<StormNode<L, W> as AsStormNode>⟧.fields self.old).node

@@ -7,7 +7,8 @@ use cam_event::Want;
 use cam_gen::Storm;
 use cam_type::{Kind, fits};
 
-/// Whether it is in range for an action of the storm: a child at one of the eight nodes, or a call of one of the registers.
+/// Whether it is in range for an action of the storm: a child at one of the eight nodes, or a call
+/// of one of the registers.
 pub(crate) fn has_want(storm: &Storm, want: &Want) -> bool
     ensures { IsTrue result ↔ IsWant (objects_of storm.now) want.now }
 {

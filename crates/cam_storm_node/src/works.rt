@@ -30,7 +30,7 @@ pub(crate) struct Work {
 }
 
 impl Work {
-    /// What the action asks for next, by its body and its view; none where it waits or is over.
+    /// What the action asks for next, by its body and its view; none if it waits or is over.
     pub(crate) fn want(&self) -> Option<Want>
         ensures { IsWanted (next self.now.body self.now.view) result }
     {
@@ -53,7 +53,7 @@ pub(crate) struct Works {
     pub(crate) stopped: BTreeSet<Name>,
 }
 
-/// The value on a finish; none on another letter.
+/// The value on a finish; none on any other letter.
 pub(crate) fn value_on(body: &Body) -> Option<i64>
     ensures { result ≡ value_on body.now }
 {
@@ -73,8 +73,8 @@ fn child_end(child: &Name, value: Option<i64>) -> Option<(Name, ViewStep)>
     }
 }
 
-/// The step that a deed gives to a view, and whose view it is. A child that commits does so with the
-/// value on the finish that came.
+/// The step that a deed gives to a view, and whose view it is. A child that commits does so with
+/// the value on the finish that came.
 fn step_given(deed: &Deed, finish: Option<i64>) -> Option<(Name, ViewStep)>
     ensures { (mail : Option Mail) (a : NameFields) → finish_value mail ≡ finish → 1 ≤ length a
         → steps_for a result ≡ own_step mail a deed.now }
@@ -157,7 +157,7 @@ fn add_step(
     Ok(())
 }
 
-/// Adds the step that a deed gives, where it gives one.
+/// Adds the step that a deed gives, if it gives one.
 fn note_step(
     alloc: Global,
     storm: &Storm,

@@ -1,5 +1,5 @@
 -- One letter more has drawn its copies.
-use Rattle.std.proofs.Common.{◌≡◌, ℕ, ◌+◌, ◌++◌, List, length, sym, ap, ◌∙◌, subst, arith}
+use Rattle.std.proofs.Common.{◌≡◌, ◌+◌, ◌++◌, List, length, sym, ap, ◌∙◌, subst, arith}
 use Rattle.std.specs.List.{AllByRecursion}
 use Rattle.std.specs.Vec.Iter.{into_iter_items}
 use Rattle.cam_event.specs.declared.Letter.{Letter}
@@ -34,7 +34,8 @@ loop-letter-preserved c =
           drawn ++ copied_from words s (number + length drawn) ls
           ≡ copied_from words s number c.args.letters) step.0 (was.copied words s number at)));
       copies = λ words s number at.
-          subst (λ (ds : List Copied). AreAt words s (number + length ds) c.next-in-loop-letter.new.self) (sym pushed)
+          subst (λ (ds : List Copied). AreAt words s (number + length ds)
+          c.next-in-loop-letter.new.self) (sym pushed)
           (at_more words s number drawn _ _
           (c.next-in-loop-letter.ensures.goes_on words s (number + length drawn)
           (was.copies words s number at)));

@@ -18,5 +18,7 @@ invariant-loop-letter l = record {
       → AreAt words s (number + length l.drawn) l.copies;
   whole : into_iter_len l.letter-iterator ≡ length (into_iter_items l.letter-iterator);
   count : length l.drawn + length (into_iter_items l.letter-iterator) ≡ length l.fn.letters;
-  inside : AllByRecursion IsInside (into_iter_items l.letter-iterator) → AllByRecursion IsInside l.fn.letters;
+  inside :
+      AllByRecursion IsInside (into_iter_items l.letter-iterator)
+      → AllByRecursion IsInside l.fn.letters;
 }

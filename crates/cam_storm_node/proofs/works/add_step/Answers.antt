@@ -1,5 +1,5 @@
 -- A step is added to the view of one action.
-use Rattle.std.proofs.Common.{◌≡◌, ◌++◌, ◌∷◌, [], List, ap, ◌∙◌}
+use Rattle.std.proofs.Common.{◌++◌, ◌∷◌, [], List, ap, ◌∙◌}
 use Rattle.cam_event.specs.declared.ViewStep.{ViewStep}
 use Rattle.cam_storm_node.proofs.Working.{view_put, bodies_put}
 use Rattle.cam_storm_node.proofs.works.add_step.Goals as goal

@@ -1,5 +1,5 @@
 -- Whatever a crash may leave of the disk opens as the entries of the log.
-use Rattle.std.proofs.Common.{◌≡◌, ℕ, subst}
+use Rattle.std.proofs.Common.{ℕ, subst}
 use Rattle.cam_log.specs.Moments.{OpeningsBy}
 use Rattle.cam_ckpt.specs.Reading.{read_ckpt}
 use Rattle.cam_storm_node.proofs.storm_node.DiskStormNode+D+W.into_disk.Goals as goal

@@ -1,5 +1,5 @@
 -- The event is taken in, and its letters have drawn their copies.
-use Rattle.std.proofs.Common.{◌≡◌, ◌∷◌, map, refl, sym, ap, subst}
+use Rattle.std.proofs.Common.{◌∷◌, map, refl, sym, ap, subst}
 use Rattle.cam_event.specs.declared.Event.{Event}
 use Rattle.cam_storm.specs.Own.{event_in}
 use Rattle.cam_storm_node.specs.Works.{HaveSeen}

@@ -8,7 +8,8 @@ pub returns-in-Ok-clause-put : goal.returns-in-Ok-clause-put
 returns-in-Ok-clause-put g c own keeps =
     let free : IsNotRefused (answers c.args.self.now.node.core) c.args.input.now = search rules in
     let may =
-    c.if-not-may_step.ensures.put refl c.args.self.now.node.objects own keeps.through keeps.represents
+    c.if-not-may_step.ensures.put refl c.args.self.now.node.objects own keeps.through
+    keeps.represents
     free in
     record {
       is_next = c.in-Ok.ensures.step.next own keeps.through keeps.represents may;

@@ -1,5 +1,5 @@
 -- The request of an action, by what it works at and has seen.
-use Rattle.std.proofs.Common.{◌≡◌, Option, true, false, refl, sym, ap, ◌∙◌, subst, arith}
+use Rattle.std.proofs.Common.{◌≡◌, Option, refl, sym, ap, ◌∙◌, subst, arith}
 use Rattle.std.proofs.lemmas.Bool.{true≢false}
 use Rattle.cam_names.specs.Names.{home_node}
 use Rattle.cam_event.specs.declared.Request.{Request}

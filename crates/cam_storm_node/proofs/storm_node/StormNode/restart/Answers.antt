@@ -1,5 +1,5 @@
 -- The node restarted.
-use Rattle.std.proofs.Common.{◌≡◌, refl, sym, ap, ◌∙◌}
+use Rattle.std.proofs.Common.{refl, sym, ap, ◌∙◌}
 use Rattle.cam_event.specs.declared.Event.{Event}
 use Rattle.cam_node.specs.Calls.{answers, letters_of}
 use Rattle.cam_storm_node.proofs.Restarted.{restart_stands}

@@ -1,5 +1,5 @@
 -- A step is what its node took, with what the storm node makes of it.
-use Rattle.std.proofs.Common.{◌≡◌, ◌<◌, ℕ, sym, subst, arith}
+use Rattle.std.proofs.Common.{◌<◌, sym, subst, arith}
 use Rattle.cam_event.specs.declared.Event.{Event}
 use Rattle.cam_journal.specs.Taking.{letter_in}
 use Rattle.cam_node.specs.Calls.{answers}
@@ -122,7 +122,8 @@ returns-in-Ok-clause-stepped g c s history plays item =
     HasTaken words s own given ev taken.stepped.letters taken.finish mid.node mid.entries) (sym is)
     (c.in_ok-taken.ensures.taken words s own
     (may_take words old s history plays (busy_runs old given busy)) item) in
-    stepped words s history given old plays busy sent mid only e taken.stepped.letters taken.finish took
+    stepped words s history given old plays busy sent mid only e taken.stepped.letters
+    taken.finish took
     _
     (c.in-Ok.ensures.followed words s plays.sent own (carried e (used_by e given)) is
     (may_follow words s history given old plays busy sent mid only e taken.stepped.letters

@@ -1,5 +1,5 @@
 -- One more event is taken in.
-use Rattle.std.proofs.Common.{◌≡◌, ◌||◌, ◌++◌, sym, ap, ◌∙◌, subst}
+use Rattle.std.proofs.Common.{◌||◌, ◌++◌, sym, ap, ◌∙◌, subst}
 use Rattle.std.specs.Prelude.{OnOk, Result, Ok, Err, flat_map}
 use Rattle.std.specs.BTreeSet.{contains}
 use Rattle.cam_names.specs.Names.{name_cmp}
@@ -21,7 +21,8 @@ returns c =
       bodies =
           subst (λ (w : Words). HaveBodies w c.take_deeds.new.self.works) has.words_are
           (c.in_ok-take_deeds.ensures.bodies
-          (subst (λ (w : Words). HaveBodies w c.args.self.now.works) (sym has.words_are) has.bodies));
+          (subst (λ (w : Words). HaveBodies w c.args.self.now.works) (sym has.words_are)
+          has.bodies));
       views = λ a named.
           c.in_ok-take_deeds.ensures.views mail a is named
           ∙ ap (λ xs. xs ++ flat_map (own_step mail a) c.args.event.now.deeds) (has.views a named);
