@@ -1,9 +1,9 @@
 -- The headline, put together, of the run in which these inputs are halts.
-use Rattle.std.proofs.Common.{◌≡◌, ℕ, Bool, List, None, refl, ap, ◌∙◌}
+use Rattle.std.proofs.Common.{◌≡◌, None, refl, ap, ◌∙◌}
 use Rattle.std.specs.Prelude.{Result, Ok, Err, IfOk}
-use Rattle.cam_event.specs.declared.Event.{Event}
 use Rattle.cam_event.specs.Pasts.{plain_all}
 use Rattle.cam_event.specs.Readings.{by_pasts, by_knowledge}
+use Rattle.cam_agree.proofs.Ran.{plain_ran}
 use Rattle.cam_plain.specs.Legal.{Legal}
 use Rattle.cam_words.specs.declared.fault.ScriptFault.{ScriptFault}
 use Rattle.cam_script.specs.declared.Script.{Script}
@@ -25,10 +25,30 @@ use Rattle.cam_report.specs.Report.{report}
 use Rattle.cam_report.specs.Traces.{trace_text, witness_text}
 use Rattle.cam_headline.specs.Headline.{halted_run, halted_events, HasHaltedRun, HasOneRun}
 use Rattle.cam_headline.specs.Headline.{Headline, HaltedHeadline, NoStopIsTheRun}
+use Rattle.cam_headline.specs.Headline.{HaltedRunsKeepPromises, RunsKeepPromises}
 use Rattle.cam_headline.proofs.HaltedRuns.{halted_legal, halted_views}
 use Rattle.cam_headline.proofs.HaltedHeld.{halted_nodes_agree, halted_committed_is_covered}
 use Rattle.cam_headline.proofs.KeptIndices.{logs_keep}
 use Rattle.cam_headline.proofs.PlainFor.{texts_by}
+
+-- what each run promises, with taken events
+pub halted_runs_keep_promises : HaltedRunsKeepPromises
+halted_runs_keep_promises objects taken t is = record {
+  legal = legal;
+  committed = replay objects (plain_all t) None legal;
+  kept = λ a all. halted_committed_is_covered objects taken t a is all;
+  views = λ a there. halted_views objects taken t a is there;
+  agree = λ s r a. halted_nodes_agree objects taken t s r a is;
+  restarts = λ s logged log. logs_keep objects taken t s logged is log;
+}
+  where
+    legal : Legal objects (plain_all t)
+    legal = halted_legal objects taken t is
+
+-- and without
+pub runs_keep_promises : RunsKeepPromises
+runs_keep_promises objects t run =
+    let ran = plain_ran objects t run in halted_runs_keep_promises objects ran.0 t ran.1
 
 -- the run of a script in range
 halted_run_holds : (script : Script) (halts : Halting) → IsInRange script
@@ -36,12 +56,9 @@ halted_run_holds : (script : Script) (halts : Halting) → IsInRange script
 halted_run_holds script halts range = record {
   held = same;
   is_run = is;
-  legal = legal;
-  committed = replay script.objects (plain_all t) None legal;
-  kept = λ a all. halted_committed_is_covered script.objects taken t a is all;
-  views = λ a there. halted_views script.objects taken t a is there;
-  agree = λ s r a. halted_nodes_agree script.objects taken t s r a is;
-  restarts = λ s logged log. logs_keep script.objects taken t s logged is log;
+  promises =
+      halted_runs_keep_promises script.objects (has_number (halted_run script halts).taken)
+      (halted_events script halts) is;
   reported = texts_by (report script.objects script.labels) made one same_running;
   traced = texts_by (trace_text script.labels) made one same_running;
   witnessed = λ a.
@@ -54,12 +71,6 @@ halted_run_holds script halts range = record {
     one : Running
     one = (halted_run script halts).running
 
-    t : List Event
-    t = halted_events script halts
-
-    taken : ℕ → Bool
-    taken = has_number (halted_run script halts).taken
-
     is : IsHaltedRun script (halted_run script halts)
     is = halted_runs_are_runs script halts range
 
@@ -68,9 +79,6 @@ halted_run_holds script halts range = record {
 
     same_running : made ≡ one
     same_running = ap (λ (st : Standing). st.running) same
-
-    legal : Legal script.objects (plain_all t)
-    legal = halted_legal script.objects taken t is
 
 pub halted_headline : HaltedHeadline
 halted_headline bytes = by (read_script bytes) refl

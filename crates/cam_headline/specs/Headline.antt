@@ -6,7 +6,7 @@
 -- committed top actions replay serially in order of their commits; and no two nodes hold different
 -- outcomes of an action; and what a log recovers that keeps a node's history is what the node kept.
 -- So it is whichever inputs are halts.
-use Rattle.std.specs.Prelude.{◌≡◌, ◌≤◌, ℕ, true, false, List, reverse, Some, None, IfOk}
+use Rattle.std.specs.Prelude.{◌≡◌, ◌≤◌, ℕ, Bool, true, false, List, reverse, Some, None, IfOk}
 use Rattle.cam_names.specs.declared.name.Name.{Name}
 use Rattle.cam_type.specs.declared.ObjectDecl.{ObjectDecl}
 use Rattle.cam_know.specs.Known.{knows_abort, knows_commit}
@@ -18,6 +18,8 @@ use Rattle.cam_event.specs.Orphans.{orphan}
 use Rattle.cam_event.specs.Views.{view}
 use Rattle.cam_event.specs.Pasts.{plain_all}
 use Rattle.cam_event.specs.Readings.{by_pasts, by_knowledge}
+use Rattle.cam_event.specs.Runs.{IsRun}
+use Rattle.cam_event.specs.Taken.{IsRunTaking}
 use Rattle.cam_plain.specs.Legal.{Legal}
 use Rattle.cam_serial.specs.Serial.{serial, all_committed, Replays, Covers}
 use Rattle.cam_cut.specs.Witness.{witness}
@@ -76,6 +78,42 @@ pub record IsPlainFor (objects : List ObjectDecl) (t : List Event) (a : Name) (L
     -- Each answer that the action got is that of its operation in this list.
     pub covers : Covers (serial objects L (Some a)) L a
 
+-- What each run promises over these objects, whatever made it: that of a script, with halts or
+-- without, and that which is gathered from threads.
+pub record KeepsPromises (objects : List ObjectDecl) (t : List Event) : Type 0 where
+  -- The deeds of all its events are a legal history of plain nested transactions.
+  pub legal : Legal objects (plain_all t)
+  -- The operations of committed top actions replay in order of the commits.
+  pub committed : Replays objects (serial objects (plain_all t) None)
+  -- Each answer that an action got which has committed with all its ancestors is that of its
+  -- operation in this list.
+  pub kept :
+      (a : Name) → all_committed (plain_all t) a ≡ true
+      → Covers (serial objects (plain_all t) None) (plain_all t) a
+  -- Each action that was created in it, orphan or not, has its view in a legal history that
+  -- replays.
+  pub views :
+      (a : Name) → created (plain_all t) a ≡ true → IsPlainFor objects t a (witness t a)
+  -- No two nodes hold different outcomes of an action.
+  pub agree :
+      (s r : ℕ) (a : Name)
+      → knows_commit (known_by objects t s) a ≡ true → knows_abort (known_by objects t r) a ≡ false
+  -- A log that keeps a node's history gives what the node keeps over a restart.
+  pub restarts :
+      (s : ℕ) (logged : Logged) → KeepsLog objects s (node_history objects t s) logged
+      → IsKept objects t s logged.count logged.know logged.held
+
+-- Each run keeps them,
+abbrev pub RunsKeepPromises : Type 0
+RunsKeepPromises =
+    (objects : List ObjectDecl) (t : List Event) → IsRun objects t → KeepsPromises objects t
+
+-- and so does each run in which nodes halt, with taken events at these positions.
+abbrev pub HaltedRunsKeepPromises : Type 0
+HaltedRunsKeepPromises =
+    (objects : List ObjectDecl) (taken : ℕ → Bool) (t : List Event)
+    → IsRunTaking objects taken t → KeepsPromises objects t
+
 -- What holds of the run of a script in which these inputs are halts.
 pub record HasHaltedRun (script : Script) (halts : Halting) : Type 0 where
   -- The run by what nodes hold, which the program makes, is the run by the pasts of events: events,
@@ -84,33 +122,8 @@ pub record HasHaltedRun (script : Script) (halts : Halting) : Type 0 where
   -- It is a run: each event is the next one by the step rules, for an input that may come then, or
   -- what was taken of it where its node halted.
   pub is_run : IsHaltedRun script (halted_run script halts)
-  -- The deeds of all its events are a legal history of plain nested transactions.
-  pub legal : Legal script.objects (plain_all (halted_events script halts))
-  -- The operations of committed top actions replay in order of the commits.
-  pub committed :
-      Replays script.objects (serial script.objects (plain_all (halted_events script halts)) None)
-  -- Each answer that an action got which has committed with all its ancestors is that of its
-  -- operation in this list.
-  pub kept :
-      (a : Name) → all_committed (plain_all (halted_events script halts)) a ≡ true
-      → Covers (serial script.objects (plain_all (halted_events script halts)) None)
-      (plain_all (halted_events script halts)) a
-  -- Each action that was created in it, orphan or not, has its view in a legal history that
-  -- replays.
-  pub views :
-      (a : Name) → created (plain_all (halted_events script halts)) a ≡ true
-      → IsPlainFor script.objects (halted_events script halts) a
-      (witness (halted_events script halts) a)
-  -- No two nodes hold different outcomes of an action.
-  pub agree :
-      (s r : ℕ) (a : Name)
-      → knows_commit (known_by script.objects (halted_events script halts) s) a ≡ true
-      → knows_abort (known_by script.objects (halted_events script halts) r) a ≡ false
-  -- A log that keeps a node's history gives what the node keeps over a restart.
-  pub restarts :
-      (s : ℕ) (logged : Logged)
-      → KeepsLog script.objects s (node_history script.objects (halted_events script halts) s) logged
-      → IsKept script.objects (halted_events script halts) s logged.count logged.know logged.held
+  -- So it keeps what each run promises.
+  pub promises : KeepsPromises script.objects (halted_events script halts)
   -- The report of the record that the program has is the report of this run.
   pub reported :
       record_report script (held_record script halts)

@@ -16,7 +16,7 @@ ghost use Rattle.cam_headline.specs.Counters.{CountersAreReported};
 ghost use Rattle.cam_headline.specs.Halted.{HaltedCommitNeeds, HaltedDecidedOnce, HaltedEventsAgree, HaltedReplay, HaltedStays, HaltedViews};
 ghost use Rattle.cam_headline.specs.HaltedHeld.{HaltedCommittedIsCovered, HaltedCommittedIsSecured, HaltedCrashKeepsOthers, HaltedCrashKeepsSecured, HaltedHeldIsThePast, HaltedHeldWasDecided, HaltedNodesAgree, HaltedNoneIsAborted, HaltedSecuredStays};
 ghost use Rattle.cam_headline.specs.HaltedRows.{AreWorked};
-ghost use Rattle.cam_headline.specs.Headline.{HaltedHeadline, Headline, NoStopIsTheRun};
+ghost use Rattle.cam_headline.specs.Headline.{HaltedHeadline, HaltedRunsKeepPromises, Headline, NoStopIsTheRun, RunsKeepPromises};
 ghost use Rattle.cam_headline.specs.KeptLog.{LogsKeep, LogsKeepKnowledge, LogsKeepOrder, LogsKeepSecured};
 ghost use Rattle.cam_headline.specs.Outcomes.{CommitNeedsSecured, CommittedIsSecured, EachIsDecidedOnce, HeldWasDecided, NoTwoEventsDiffer, NoTwoNodesDiffer};
 ghost use Rattle.cam_headline.specs.Scene.{IsWorked};
@@ -31,6 +31,14 @@ ghost use Rattle.cam_headline.specs.Recovery.{CommittedIsCovered, CommittedStays
 pub fn headline()
     ensures holds { Headline }
     ensures none { NoStopIsTheRun }
+{}
+
+/// Each run keeps what runs promise, whatever made it: its deeds are a legal history, committed top
+/// actions replay serially in commit order, each action has its view in a legal history in which it
+/// is no orphan, no two nodes hold different outcomes, and logs give what nodes keep.
+pub fn promises_of_runs()
+    ensures runs { RunsKeepPromises }
+    ensures halted { HaltedRunsKeepPromises }
 {}
 
 /// In a run each action is decided once at most, no two events and no two nodes differ on it, and

@@ -46,7 +46,7 @@ halted_kept script may_read is_script one keep s low high halted =
         → KeepsHistoryOf script s (halted_run script by_stops) logged
         ⊎ KeepsHistoryOf script s other logged
         → IsKeptIn script (events script) s logged ⊎ IsKeptIn script other.running.trace s logged
-    by logged other is (inl log) = inl (one.restarts s logged log)
+    by logged other is (inl log) = inl (one.promises.restarts s logged log)
     by logged other is (inr log) =
         inr (logs_keep script.objects (has_number other.taken) other.running.trace s logged is log)
 
@@ -62,7 +62,7 @@ leaves_disks tells moment left_since script run first rest many is_script one is
       subst (λ (disks : List _). AreLogs tells moment left_since disks)
       (sym (take_at first rest script.nodes many)) logs;
   kept = λ s logged low high awake reads.
-      one.restarts s logged
+      one.promises.restarts s logged
       (keep s logged low high awake (of_run s logged low high reads));
   halted = λ s low high on.
       let of =
