@@ -1,4 +1,4 @@
-"""Compares the second implementation with the expected texts of all examples. It runs no program."""
+"""Compares the second implementation with the texts of all examples. It runs no program."""
 
 import glob
 import os
@@ -13,7 +13,7 @@ from timed import TimedExpected
 
 
 def text_of(words, data):
-    """The text that the second implementation has for a command, or None where only its parts are judged."""
+    """The text of the second implementation, or None where only parts of it are judged."""
     if words[0] in ("inspect", "upgrade"):
         return told(words[0], data)[1].decode("latin-1")
     if words[0] == "gen":

@@ -527,7 +527,7 @@ def size_of(random):
 
 
 def script_and_run(random, timed=False, run=Run):
-    """A script as bytes, with its run where taking its lines has made the whole of it, else None."""
+    """A script as bytes, with its run if taking its lines has made the whole of it."""
     if not timed and random.random() < 0.001:
         return at_an_end(random), None
     generator = Generator(random, timed, run)

@@ -49,7 +49,8 @@ def judged(program, data):
     return wrong, (
         f"{expected.events} events, {len(expected.run.letters) - 1} letters, "
         f"{len(expected.texts.views())} witnesses, "
-        f"{len(expected.texts.stops())} stops; views against {'all cuts' if small else 'their pasts'}"
+        f"{len(expected.texts.stops())} stops; "
+        f"views against {'all cuts' if small else 'their pasts'}"
     )
 
 

@@ -15,67 +15,82 @@ from generator import Generator
 from hunting import Expected
 from images import NoLog, BadRecord, entries_of, records_of, told
 from program import HUNT, NoProgram, Program, find
-from reading import Refused
+from texts import name_text
 
 USAGE = """usage: hunt/files [TIMES] [SEED] [--program FILE]
 
 Kills runs over files, 500 where TIMES is left out, each by `kill -9` at a random moment. Each file
-that was begun must then be read by `inspect` as a log whose records are those of the first events
-of the run, in order. Then the program is given files that it cannot use: a full file system, a file
-without rights, a folder in its place, a file that shrinks under the run.
+that was begun must then be read by `inspect` as a log that says just what its node keeps after some
+first part of the run. Then the program is given files that it cannot use: a full file system, a
+file without rights, a folder in its place, a file that shrinks under the run.
 
 Status 0: all is as it must be. Status 1: something is not; a line says what. Status 2: nothing was
 tried."""
 
 
-def logged(run, node):
-    """The records that a node logs in a run, one list of lines for each event that has an entry."""
-    entries, seen = [["version 2"]], {}
+class Kept:
+    """What a node keeps: its count, outcomes as it learnt them, counts, families."""
+
+    def __init__(self):
+        self.count, self.outcomes, self.seen, self.secured = 1, [], {}, []
+
+    def note(self, words):
+        """Takes one record, as `inspect` writes it."""
+        if words[0] == "count":
+            self.count = int(words[1])
+        elif words[0] in ("abort", "commit"):
+            self.outcomes.append((words[0], words[1]))
+        elif words[0] == "seen":
+            self.seen[words[1]] = int(words[2])
+        elif words[0] == "secure":
+            self.secured.append(tuple(words[1:3]))
+
+    def said(self):
+        return (
+            self.count,
+            tuple(self.outcomes),
+            tuple(sorted(self.seen.items())),
+            tuple(self.secured),
+        )
+
+
+def kept_by(run, node):
+    """What a node keeps at the beginning of a run, and after each of its events."""
+    kept = Kept()
+    found = [kept.said()]
     for event in run.events:
         if event.node != node:
             continue
-        lines = []
         for deed in event.deeds:
             if deed[0] == "inform":
-                lines.append(
-                    ("commit " if deed[2] else "abort ")
-                    + "/".join(".".join(map(str, part)) for part in deed[3])
-                )
+                kept.note(["commit" if deed[2] else "abort", name_text(deed[3])])
             elif deed[0] == "secure":
-                lines.append(f"secure {'.'.join(map(str, deed[1][0]))} {deed[3]}")
+                kept.note(["secure", name_text(deed[1]), str(deed[3])])
             elif deed[0] == "crash":
-                lines.append("count")
+                kept.note(["count", kept.count + 1])
         for other in range(1, run.script.nodes + 1):
             count = run.known_count(event.past, other)
-            if other != node and count > seen.get(other, 1):
-                seen[other] = count
-                lines.append(f"seen {other} {count}")
-        if lines:
-            entries.append(sorted(lines))
-    return entries
+            if other != node and count > 1:
+                kept.note(["seen", str(other), count])
+        found.append(kept.said())
+    return found
 
 
-def is_prefix(lines, entries):
-    """Whether the lines of `inspect` are those of the first entries of a node that did not
-    restart."""
-    found = []
+def kept_in(lines):
+    """What the lines of `inspect` say that a node keeps."""
+    kept = Kept()
     for line in lines:
-        if line.startswith("entry "):
-            found.append([])
-            continue
-        words = line.split()
-        kept = {"commit": 2, "abort": 2, "secure": 3, "seen": 3, "version": 2, "count": 1}[words[0]]
-        found[-1].append(" ".join(words[:kept]))
-    return [sorted(one) for one in found] == entries[: len(found)]
+        kept.note(line.split())
+    return kept.said()
 
 
 def a_script(source):
-    """A script without stops and restarts, whose logs only grow."""
+    """A script in which no disk stops."""
     generator = Generator(source)
     generator.weights = {
         word: weight
         for word, weight in generator.weights.items()
-        if word not in ("restart", "stop", "start", "go", "play")
+        if word not in ("stop", "start", "go", "play")
     }
     generator.weights["begin"] = generator.weights.get("begin", 3)
     return generator.make(source.choice([40, 80, 160, 300]))
@@ -110,7 +125,7 @@ class Killing:
             process.communicate()
         self.note("killed" if process.returncode == -signal.SIGKILL else "ended before")
         for node in range(1, run.script.nodes + 1):
-            self.look(number, node, logged(run, node))
+            self.look(number, node, kept_by(run, node))
 
     def whole_time(self, data):
         """How long the run takes when it is left alone: the middle of three."""
@@ -145,10 +160,10 @@ class Killing:
             self.wrong.append(f"run {number}, node {node}: bad record {fault}")
             return None
         self.note("a log")
-        if not is_prefix(lines, entries):
+        if kept_in(lines) not in entries:
             self.wrong.append(
-                f"run {number}, node {node}: the log is not of a first part of the run: "
-                f"{lines}, {entries}"
+                f"run {number}, node {node}: no first part of the run keeps what "
+                f"the log says: {lines}"
             )
         return None
 
@@ -217,16 +232,35 @@ def unusable(path):
 
 
 def full_system(path):
-    """A file system with room for a few pages, or the limit of a file's size, where none can be
-    mounted."""
-    command = 'ulimit -f 0 && trap "" XFSZ && exec "$0" run files'
+    """A limit on the size of files, and file systems of few pages if they can be mounted."""
+    wrong = []
     with tempfile.TemporaryDirectory() as folder:
-        done = subprocess.run(
-            ["sh", "-c", command, path], input=SCRIPT, cwd=folder, capture_output=True, check=False
-        )
-    print(f"no room for a byte (ulimit -f 0): status {done.returncode}, {done.stdout.decode()!r}")
-    fits = done.returncode == 6 and done.stdout.startswith(b"disk fault ")
-    return [] if fits else [f"no room: status {done.returncode}, {done.stdout!r}"]
+        command = 'ulimit -f 0 && trap "" XFSZ && exec "$0" run files'
+        wrong += full_in(folder, ["sh", "-c", command, path], SCRIPT, "no room for a byte")
+        many = b"".join(b"begin B%d 1\nabort B%d\n" % (n, n) for n in range(150)) + b"drain\n"
+        for pages, data in ((1, SCRIPT), (3, SCRIPT + many)):
+            mounted = os.path.join(folder, f"pages{pages}")
+            os.mkdir(mounted)
+            options = ["-t", "tmpfs", "-o", f"size={4 * pages}k", "none", mounted]
+            if subprocess.run(
+                ["mount", *options], stderr=subprocess.DEVNULL, check=False
+            ).returncode:
+                print("no file system can be mounted here")
+                return wrong
+            try:
+                what = f"a file system of {pages} pages"
+                wrong += full_in(mounted, [path, "run", "files"], data, what)
+            finally:
+                subprocess.run(["umount", mounted], check=True)
+    return wrong
+
+
+def full_in(folder, command, data, what):
+    done = subprocess.run(command, input=data, cwd=folder, stdout=subprocess.PIPE, check=False)
+    said = done.stdout.decode("latin-1")
+    print(f"{what}: status {done.returncode}, {said.splitlines()[:1]}")
+    fits = done.returncode == 6 and said in ("disk fault 1\n", "disk fault 2\n")
+    return [] if fits else [f"{what}: status {done.returncode}, {said[:80]!r}"]
 
 
 def shrinking(path):
@@ -269,9 +303,8 @@ def shrinking(path):
                     else [f"a file that shrinks: status {done.returncode}, {said[:80]!r}"]
                 )
             cutter.kill()
-    print(
-        f"a file that shrinks under the run: {', '.join(f'status {key} {count}' for key, count in sorted(met.items()))}"
-    )
+    said = ", ".join(f"status {key} {count}" for key, count in sorted(met.items()))
+    print(f"a file that shrinks under the run: {said}")
     return wrong[:5]
 
 
