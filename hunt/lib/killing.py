@@ -31,8 +31,8 @@ tried."""
 class Kept:
     """What a node keeps: its count, outcomes as it learnt them, counts, families."""
 
-    def __init__(self):
-        self.count, self.outcomes, self.seen, self.secured = 1, [], {}, []
+    def __init__(self, node):
+        self.node, self.count, self.outcomes, self.seen, self.secured = node, 1, [], {}, []
 
     def note(self, words):
         """Takes one record, as `inspect` writes it."""
@@ -40,7 +40,7 @@ class Kept:
             self.count = int(words[1])
         elif words[0] in ("abort", "commit"):
             self.outcomes.append((words[0], words[1]))
-        elif words[0] == "seen":
+        elif words[0] == "seen" and words[1] != str(self.node):
             self.seen[words[1]] = int(words[2])
         elif words[0] == "secure":
             self.secured.append(tuple(words[1:3]))
@@ -56,7 +56,7 @@ class Kept:
 
 def kept_by(run, node):
     """What a node keeps at the beginning of a run, and after each of its events."""
-    kept = Kept()
+    kept = Kept(node)
     found = [kept.said()]
     for event in run.events:
         if event.node != node:
@@ -76,9 +76,9 @@ def kept_by(run, node):
     return found
 
 
-def kept_in(lines):
+def kept_in(lines, node):
     """What the lines of `inspect` say that a node keeps."""
-    kept = Kept()
+    kept = Kept(node)
     for line in lines:
         kept.note(line.split())
     return kept.said()
@@ -160,7 +160,7 @@ class Killing:
             self.wrong.append(f"run {number}, node {node}: bad record {fault}")
             return None
         self.note("a log")
-        if kept_in(lines) not in entries:
+        if kept_in(lines, node) not in entries:
             self.wrong.append(
                 f"run {number}, node {node}: no first part of the run keeps what "
                 f"the log says: {lines}"
@@ -237,8 +237,8 @@ def full_system(path):
     with tempfile.TemporaryDirectory() as folder:
         command = 'ulimit -f 0 && trap "" XFSZ && exec "$0" run files'
         wrong += full_in(folder, ["sh", "-c", command, path], SCRIPT, "no room for a byte")
-        many = b"".join(b"begin B%d 1\nabort B%d\n" % (n, n) for n in range(150)) + b"drain\n"
-        for pages, data in ((1, SCRIPT), (3, SCRIPT + many)):
+        many = b"".join(b"begin B%d 1\nabort B%d\n" % (n, n) for n in range(240)) + b"drain\n"
+        for pages, data in ((1, SCRIPT), (2, SCRIPT + many)):
             mounted = os.path.join(folder, f"pages{pages}")
             os.mkdir(mounted)
             options = ["-t", "tmpfs", "-o", f"size={4 * pages}k", "none", mounted]
