@@ -10,7 +10,7 @@ import sys
 import tempfile
 
 from hunting import Expected
-from lines import LineRefused
+from lines import Run
 from program import HUNT, NoProgram, find
 from reading import parse
 
@@ -123,9 +123,6 @@ def appending_nodes(data):
     run = CountingRun(parse(data))
     run.run()
     return run.appending
-
-
-from lines import Run
 
 
 class CountingRun(Run):

@@ -2,7 +2,6 @@
 letters wait and which actions are open."""
 
 from lines import Run
-from machine import wrapped
 from reading import Body, Object, Script, Step
 
 FIRST, LAST = -(2**63), 2**63 - 1

@@ -14,7 +14,7 @@ import time
 from generator import Generator
 from hunting import Expected
 from images import NoLog, BadRecord, entries_of, records_of, told
-from program import HUNT, NoProgram, Program, find
+from program import NoProgram, Program, find
 from texts import name_text
 
 USAGE = """usage: hunt/files [TIMES] [SEED] [--program FILE]
@@ -211,9 +211,6 @@ def unusable(path):
 
     def of_another_node(folder):
         os.mkdir(os.path.join(folder, "cam7.log"))
-
-    def a_read_only_folder(folder):
-        os.chmod(folder, 0o555)
 
     cases = [
         ("without rights", no_rights, "disk fault 2"),

@@ -9,12 +9,11 @@ import sys
 import tempfile
 import time
 
-from hunting import Expected
 from images import entries_of, records_of
 from lines import Run
 from made import Draws
 from program import NoProgram, find
-from reading import Body, Object, Script
+from reading import Object, Script
 
 USAGE = """usage: hunt/storms [COUNT] [SEED] [--program FILE] [--stress]
 

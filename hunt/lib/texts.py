@@ -1,7 +1,5 @@
 """The texts of a run as docs/RULES.md tells them: report, trace, witness and why."""
 
-from machine import apply
-
 
 def name_text(name):
     return "/".join(f"{node}.{count}.{number}" for node, count, number in name)
@@ -174,10 +172,3 @@ class Texts:
             if found:
                 letters[number] = min(found)
         return letters.get(last)
-
-
-def value_of(start, ops):
-    state = start
-    for op in ops:
-        state = apply(state, op)[0]
-    return state
