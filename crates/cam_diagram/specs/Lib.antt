@@ -1,0 +1,7 @@
+pub mod Picture
+pub mod Places
+pub mod Marks
+pub mod Stubs
+pub mod Lanes
+pub mod Dots
+pub mod Diagram
