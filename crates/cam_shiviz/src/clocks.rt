@@ -1,4 +1,6 @@
 //! The vector clocks of the events of a run.
+ghost use Rattle.std.specs.Prelude.{◌≡◌, IfOk, length};
+
 use cam_base::NoMemory;
 use cam_event::{Event, Trace};
 use std::alloc::Global;
@@ -52,8 +54,10 @@ fn clock_of(clocks: &[Clock], last: &Clock, event: &Event) -> Clock {
     before.risen(event.node)
 }
 
-/// The clocks of the events of a trace, in order.
-pub(crate) fn clocks_of(alloc: Global, trace: &Trace) -> Result<Vec<Clock>, NoMemory> {
+/// The clocks of the events of a trace, in order: one for each.
+pub(crate) fn clocks_of(alloc: Global, trace: &Trace) -> Result<Vec<Clock>, NoMemory>
+    ensures { IfOk result (λ clocks. length clocks.items ≡ length trace.now) }
+{
     let mut clocks = Vec::new(alloc);
     let mut last = [START; 8];
     for event in trace.as_slice() {
