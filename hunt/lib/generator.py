@@ -109,6 +109,10 @@ FLAVOURS = {
             tell=1,
         ),
     ),
+    "nested": (
+        10,
+        dict(begin=1, ask=6, call=9, commit=7, abort=1, drain=14, deliver=2, tell=1),
+    ),
     "bodies": (
         10,
         dict(
@@ -176,6 +180,7 @@ class Generator:
         script.nodes = random.choice([1, 2, 2, 2, 3, 3, 3, 4, 4, 5, 8])
         self.write(f"nodes {script.nodes}")
         count = random.choice([1, 1, 2, 2, 3, 4]) if random.random() < 0.99 else 64
+        count = 1 if self.flavour == "nested" else count
         for place in range(count):
             kind = random.choice(["register", "register", "queue", "counter"])
             start = () if kind == "queue" else self.value()
@@ -288,6 +293,8 @@ class Generator:
         """A variable, most often one that is still open."""
         if not self.variables:
             return None
+        if self.flavour == "nested" and self.random.random() < 0.6:
+            return self.deepest()
         if self.random.random() < 0.75:
             run, open_ones = self.run, []
             for one in self.variables[-12:]:
@@ -298,6 +305,17 @@ class Generator:
             if open_ones:
                 return self.random.choice(open_ones)
         return self.random.choice(self.variables)
+
+    def deepest(self):
+        """One of the open actions with the longest names."""
+        run, best, longest = self.run, [self.variables[-1]], 0
+        for one in self.variables[-12:]:
+            name = run.bound.get(one)
+            action = run.actions.get(name)
+            if action is None or action.ended or not run.here(name) or len(name) < longest:
+                continue
+            best, longest = best * (len(name) == longest) + [one], len(name)
+        return self.random.choice(best)
 
     def make_begin(self):
         node, until = self.node(), self.until()
@@ -334,7 +352,9 @@ class Generator:
         one = self.random.choice(self.script.objects)
 
         def value():
-            number = self.value()
+            # A sum is brought to its ends more often than a value is.
+            at_an_end = one.kind == "counter" and self.random.random() < 0.5
+            number = self.random.choice([FIRST, LAST]) if at_an_end else self.value()
             return number, str(number)
 
         op, text = self.operation(one, value)
