@@ -140,7 +140,7 @@ class Hunter:
     def __init__(self, path, seed, environment=None):
         self.program, self.seed, self.done = Program(path, environment=environment), seed, 0
         self.calls, self.events, self.lawful, self.counts, self.found = 0, 0, 0, {}, []
-        self.backlog = []
+        self.backlog, self.begun = [], time.time()
 
     def hunt(self, until, most=None):
         """Hunts up to that moment, or through so many scripts."""
@@ -205,17 +205,20 @@ class Hunter:
         while self.backlog:
             self.judge(*self.backlog.pop(0))
         os.makedirs(FOUND, exist_ok=True)
-        small = shrunk(data, lambda one: self.is_wrong(one, words)) if len(self.found) < 3 else data
+        took, small = time.time() - self.begun, data
+        if len(self.found) < 3:
+            small = shrunk(data, lambda one: self.difference(one, words))
+            wrong = self.difference(small, words) or wrong
         path = os.path.join(FOUND, name)
         with open(path + ".cam", "wb") as file:
             file.write(small)
         with open(path + ".txt", "w", encoding="utf-8") as file:
             file.write(f"{' '.join(words)}: {wrong}\n")
-        self.found.append((name, words, wrong))
+        self.found.append((name, words, wrong, took))
 
-    def is_wrong(self, data, words):
+    def difference(self, data, words):
         expected = MadeExpected() if words[0] == "gen" else Expected(data)
-        return expected.differs(words, self.program.run(words, data)) is not None
+        return expected.differs(words, self.program.run(words, data))
 
 
 def shrunk(data, is_wrong):

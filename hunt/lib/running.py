@@ -116,9 +116,11 @@ def say(whole, seed, took, timed):
     rates = [round(whole[key] / took) for key in ("scripts", "calls", "events")]
     print("{} scripts, {} runs of the program and {} events a second; ".format(*rates), end="")
     print(f"{whole['lawful']} scripts judged by laws")
-    for name, words, wrong in whole["found"][:20]:
+    for name, words, wrong, _ in whole["found"][:20]:
         print(f"hunt/found/{name}.cam, {' '.join(words)}: {wrong}")
     differences = f"{len(whole['found'])} differences"
+    if whole["found"]:
+        differences += f", the first after {min(one[3] for one in whole['found']):.0f} s"
     print(f"hunt seed {seed}: {whole['scripts']} scripts, {whole['calls']} runs", end="")
     print(f" in {took:.0f} s, {differences}")
     return 1 if whole["found"] else 0

@@ -216,5 +216,5 @@ class TimedHunter(Hunter):
         while len(self.backlog) > 2 or len(data) > 4000 and self.backlog:
             self.judge(*self.backlog.pop(0))
 
-    def is_wrong(self, data, words):
-        return TimedExpected(data).differs(words, self.program.run(words, data)) is not None
+    def difference(self, data, words):
+        return TimedExpected(data).differs(words, self.program.run(words, data))
