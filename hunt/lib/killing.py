@@ -128,13 +128,10 @@ class Killing:
             self.look(number, node, kept_by(run, node))
 
     def whole_time(self, data):
-        """How long the run takes when it is left alone: the middle of three."""
-        times = []
-        for _ in range(3):
-            began = time.time()
-            self.program.run(["run", "files"], data)
-            times.append(time.time() - began)
-        return sorted(times)[1]
+        """How long the run takes when it is left alone."""
+        began = time.time()
+        self.program.run(["run", "files"], data)
+        return time.time() - began
 
     def look(self, number, node, entries):
         path = f"cam{node}.log"
