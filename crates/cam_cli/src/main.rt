@@ -1,5 +1,5 @@
 //! The program `camelot`: it hands the words after its name, the standard streams, eight disks and the data servers to the top call of
-//! `cam_run`, which reads a script, runs it over the disks, and writes the report of the run.
+//! `cam_run`, which reads a script, runs it over the disks, and writes the report of the run; or it lets threads run a storm over them.
 #![tactic(auto)]
 
 ghost use Rattle.std.specs.Prelude.{◌≡◌, IfOk, length};
@@ -8,7 +8,7 @@ use cam_base::NoMemory;
 use cam_cluster::Servers;
 use cam_disk::{FileDisk, HostDisk, MemoryDisk};
 use cam_io::{StdSink, StdSource};
-use cam_run::{Status, camelot, runs_script};
+use cam_run::{Status, camelot, uses_disks};
 use cam_type::{CounterServer, QueueServer, RegisterServer};
 use std::env;
 use std::io::ErrorKind;
@@ -37,15 +37,15 @@ enum Place {
     Files,
 }
 
-/// Whether the word `files` stands after words that run a script.
+/// Whether the word `files` stands after words that go over disks.
 fn asks_for_files(rt: &HostRuntime, words: &[String]) -> Result<bool, NoMemory> {
     match words.split_last() {
-        Some((last, before)) if last.as_str() == "files" => runs_script(rt.alloc(), before),
+        Some((last, before)) if last.as_str() == "files" => uses_disks(rt.alloc(), before),
         _ => Ok(false),
     }
 }
 
-/// Where the disks are to be: in files where the word `files` stands after words that run a script,
+/// Where the disks are to be: in files where the word `files` stands after words that go over disks,
 /// where it is taken off, and in memory else. After other words it stays, and they are no form.
 fn take_place(rt: &HostRuntime, words: &mut Vec<String>) -> Result<Place, NoMemory> {
     if asks_for_files(rt, words)? {
@@ -102,6 +102,7 @@ fn main(rt: HostRuntime) -> ExitCode {
     let mut source = StdSource::new(rt.stdin());
     let mut sink = StdSink::new(rt.stdout());
     let status = camelot(
+        &rt,
         rt.alloc(),
         &words,
         &mut source,

@@ -6,37 +6,39 @@ use Rattle.std.proofs.lemmas.Result.{IfOk-weaker}
 use Rattle.cam_base.specs.Told.{IfTold}
 use Rattle.cam_args.specs.declared.Command.{Command}
 use Rattle.cam_args.specs.declared.Command.TheVariants.{Gen}
-use Rattle.cam_args.specs.Forms.{Finds}
+use Rattle.cam_args.specs.Forms.{IsForm, Finds}
 use Rattle.cam_script.specs.declared.Script.{Script}
 use Rattle.cam_script.specs.Grammar.{read_script}
 use Rattle.cam_words.specs.declared.fault.ScriptFault.{ScriptFault}
+use Rattle.cam_event.specs.declared.Event.{Event}
 use Rattle.cam_gen.specs.Script.{script_of as generated}
+use Rattle.cam_gen.specs.Storms.{Words}
 use Rattle.cam_gen.proofs.AllAccepted.{each_is_accepted}
 use Rattle.cam_run.specs.declared.answer.Answer.{Answer}
 use Rattle.cam_run.specs.Status.{number}
 use Rattle.cam_run.specs.declared.question.Question.TheVariants.{Summary}
-use Rattle.cam_run.specs.Commands.{IsFormFor}
 use Rattle.cam_run.specs.Answer.{Failing, IsOfCommand, IsOfScript}
 use Rattle.cam_run.proofs.Commanded.{same_command, of_unread}
 
 -- `gen` answers by the script of its seed, and leaves the source as it is
 pub answers_seed : {E : Type 0} (command : Command) (seed size : ℕ) (failing : Failing)
-    (left : Option (List ℕ)) (r : Result Answer E)
+    (keep : Words → List Event → Type 0) (left : Option (List ℕ)) (r : Result Answer E)
     → command ≡ Gen seed size
     → IfOk r
     (λ a. IsOfScript (Summary size) (read_script (generated seed size)) failing.disk
     (number a.status) a.text.items)
     → IfTold left left
-    (λ input _. IfOk r (λ a. IsOfCommand command failing input (number a.status) a.text.items))
-answers_seed command seed size failing left r is told =
+    (λ input _.
+    IfOk r (λ a. IsOfCommand command failing keep input (number a.status) a.text.items))
+answers_seed command seed size failing keep left r is told =
     subst
     (λ (c : Command).
     IfTold left left
-    (λ input _. IfOk r (λ a. IsOfCommand c failing input (number a.status) a.text.items)))
+    (λ input _. IfOk r (λ a. IsOfCommand c failing keep input (number a.status) a.text.items)))
     (sym is)
     (of_unread left
     (λ (input : List ℕ).
-    IfOk r (λ a. IsOfCommand (Gen seed size) failing input (number a.status) a.text.items))
+    IfOk r (λ a. IsOfCommand (Gen seed size) failing keep input (number a.status) a.text.items))
     (λ input. IfOk-weaker r _ _ (λ a answer. inr answer) told))
 
 -- the script of a seed is accepted, so its summary is answered, or a disk failed
@@ -65,7 +67,7 @@ pub generated_words : {E : Type 0} (words : List (List ℕ)) (command : Command)
     → Finds words (Ok command)
     → ((seed size : ℕ) → command ≡ Gen seed size → size ≤ 400
     → IfOk r (λ a. (number a.status ≡ 0) ⊎ (number a.status ≡ 6)))
-    → (seed size : ℕ) → IsFormFor words (Gen seed size)
+    → (seed size : ℕ) → IsForm words (Gen seed size)
     → IfOk r (λ a. (number a.status ≡ 0) ⊎ (number a.status ≡ 6))
 generated_words words command r finds done seed size form =
-    done seed size (same_command words command (Gen seed size) finds form) form.form.is.1.1
+    done seed size (same_command words command (Gen seed size) finds form) form.is.1.1

@@ -3,6 +3,8 @@ use Rattle.std.proofs.Common.{◌≡◌, inl, inr, ℕ, Bool, true, false, if◌
 use Rattle.std.proofs.Common.{Some, None, Result, Ok, Err, is_some}
 use Rattle.cam_know.specs.declared.Reason.{Reason}
 use Rattle.cam_names.specs.declared.name.Name.{Name}
+use Rattle.cam_event.specs.declared.Event.{Event}
+use Rattle.cam_gen.specs.Storms.{Words}
 use Rattle.cam_args.specs.declared.Command.{Command}
 use Rattle.cam_script.specs.declared.Script.{Script}
 use Rattle.cam_script.specs.Grammar.{read_script}
@@ -17,7 +19,7 @@ use Rattle.cam_run.specs.Told.{IsOfAction, IsOfStop, IsTold, has_action, stop_of
 use Rattle.cam_image.specs.declared.fault.ImageFault.{ImageFault}
 use Rattle.cam_image.specs.declared.fault.ImageFault.TheVariants.{NotALog, BadRecord}
 use Rattle.cam_image.specs.declared.fault.ImageFault.TheVariants.{NoMemory as NoMemoryOfImage}
-use Rattle.cam_run.specs.Commands.{Asked, asked_by, by_time, bytes_for, nothing, of_image, of_run}
+use Rattle.cam_run.specs.Commands.{Asked, asked_by, by_time, bytes_for, of_image, of_run, of_storm}
 use Rattle.cam_run.specs.Image.{IsOfImage, image_status, made}
 use Rattle.cam_run.specs.Disks.{OneFailed}
 use Rattle.cam_run.specs.Answer.{Failing, IsAsked, IsOfCommand, IsOfScript, IsOfTimed, IsRefused}
@@ -76,15 +78,15 @@ image_has_status (Err NoMemoryOfImage) status text told = absurd told
 
 -- the status of the answer to a command, where neither the source nor a disk of the script's nodes
 -- failed
-pub command_has_status : (command : Command) (failing : Failing) (input : List ℕ) (status : ℕ)
-    (text : List ℕ)
-    → IsOfCommand command failing input status text
+pub command_has_status : (command : Command) (failing : Failing)
+    (keep : Words → List Event → Type 0) (input : List ℕ) (status : ℕ) (text : List ℕ)
+    → IsOfCommand command failing keep input status text
     → (failing.source → ⊥) → (OneFailed (nodes_for command input) failing.disk → ⊥)
     → status ≡ command_status command input
-command_has_status command failing input status text told whole none =
+command_has_status command failing keep input status text told whole none =
     by (asked_by command) told none
   where
-    by : (asked : Asked) → IsAsked asked command failing input status text
+    by : (asked : Asked) → IsAsked asked command failing keep input status text
         → (OneFailed (asked_nodes asked command input) failing.disk → ⊥)
         → status ≡ asked_status asked command input
     by (of_run question) (inl (reading, failed, told)) none = absurd (whole failed)
@@ -95,4 +97,5 @@ command_has_status command failing input status text told whole none =
     by (of_image making) (inr answer) none = image_has_status (made making input) status text answer
     by by_time (inl (failed, told)) none = absurd (whole failed)
     by by_time (inr answer) none = timed_has_status (read_timed input) status text answer
-    by nothing answer none = answer.0
+    by (of_storm storm) (inl of_disk) none = absurd (none of_disk.one)
+    by (of_storm storm) (inr told) none = told.1.is

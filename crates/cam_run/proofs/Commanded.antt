@@ -1,26 +1,28 @@
 -- The answer to words, by the command of which they are the form.
-use Rattle.std.proofs.Common.{◌≡◌, ◌↔◌, inl, inr, ℕ, List, Option, Some, None, Result, Ok, Err}
-use Rattle.std.proofs.Common.{IfOk, refl, sym, ap, ◌∙◌, subst}
-use mathlib.Core.Bool.{true≢false}
+use Rattle.std.proofs.Common.{◌≡◌, ◌↔◌, ◌⊎◌, inl, inr, ℕ, Bool, List, [], Option, Some, None, Result, Ok, Err}
+use Rattle.std.proofs.Common.{IfOk, refl, sym, ap, subst}
 use Rattle.std.proofs.lemmas.Result.{IfOk-weaker}
 use Rattle.cam_base.specs.Told.{IfTold}
 use Rattle.cam_base.proofs.Told.{if_told_weaker}
 use Rattle.cam_args.specs.declared.Command.{Command}
+use Rattle.cam_args.specs.declared.Command.TheVariants.{Storm}
 use Rattle.cam_args.specs.declared.ArgsFault.{ArgsFault}
-use Rattle.cam_args.specs.Forms.{IsForm as IsFormOf, Finds}
+use Rattle.cam_args.specs.declared.ArgsFault.TheVariants.{Usage, NoMemory}
+use Rattle.cam_args.specs.Forms.{IsCommand, IsForm, IsFrom, Finds, IsNoForm, UnlessNoMemory}
+use Rattle.cam_event.specs.declared.Event.{Event}
+use Rattle.cam_gen.specs.Storms.{Words}
 use Rattle.cam_script.specs.declared.Script.{Script}
 use Rattle.cam_run.specs.declared.answer.Answer.{Answer}
 use Rattle.cam_run.specs.Status.{number}
 use Rattle.cam_run.specs.declared.question.Question.{Question}
 use Rattle.cam_run.specs.Told.{IsTold}
-use Rattle.cam_run.specs.Commands.{Asked, IsBuilt, IsForm, IsFormFor, asked_by, asks_something}
-use Rattle.cam_run.specs.Commands.{by_time, nothing, of_image, of_run}
 use Rattle.cam_cluster.specs.declared.fault.RunFault.TheVariants as faults
 use Rattle.cam_run.specs.declared.status.Status.TheVariants as statuses
 use Rattle.cam_run.specs.Texts.{disk_fault_text}
 use Rattle.cam_run.specs.Disks.{IsCaused, OneFailed}
-use Rattle.cam_run.specs.Answer.{Failing, IsAnswer, IsAsked, IsOfCommand, IsOfRun, command_status}
-use Rattle.cam_run.specs.Answer.{nodes_for}
+use Rattle.cam_run.specs.Answer.{Failing, IsAnswer, IsOfCommand, IsOfDisk, IsOfRun, IsOfStorm}
+use Rattle.cam_run.specs.Answer.{command_status, nodes_for}
+use Rattle.cam_run.specs.Commands.{storm_of}
 use Rattle.cam_run.proofs.CommandStatus.{command_has_status}
 
 -- the command that words are the form of is one alone
@@ -29,54 +31,20 @@ command_of (Ok command) other = command
 command_of (Err fault) other = other
 
 pub same_command : (words : List (List ℕ)) (command other : Command)
-    → Finds words (Ok command) → IsFormFor words other → command ≡ other
+    → Finds words (Ok command) → IsForm words other → command ≡ other
 unfolding command_of
 same_command words command other finds form =
-    ap (λ (r : Result Command ArgsFault). command_of r other) (finds other form.form)
+    ap (λ (r : Result Command ArgsFault). command_of r other) (finds other form)
 
--- the words are a form just where their command is built
-pub built_is_form : (words : List (List ℕ)) (command : Command)
-    → IsFormOf words command → Finds words (Ok command)
-    → IsBuilt command ↔ IsForm words
-built_is_form words command form finds = (
-  λ built. (command, record { form = form; built = built }),
-  λ other.
-      subst (λ (c : Command). IsBuilt c)
-      (sym (same_command words command other.0 finds other.1)) other.1.built,
-)
-
--- the answer to the command is that to the words
-pub is_answer : (words : List (List ℕ)) (command : Command) (failing : Failing) (input : List ℕ)
-    (status : ℕ) (text : List ℕ)
-    → IsFormOf words command → Finds words (Ok command)
-    → IsOfCommand command failing input status text
-    → IsAnswer words failing input status text
-is_answer words command failing input status text form finds told = by (asked_by command) refl told
-  where
-    by : (asked : Asked) → asked_by command ≡ asked
-        → IsAsked asked command failing input status text
-        → IsAnswer words failing input status text
-    by (of_run question) is answer =
-        inr (command, record { form = form; built = ap asks_something is }, told)
-    by (of_image making) is answer =
-        inr (command, record { form = form; built = ap asks_something is }, told)
-    by by_time is answer =
-        inr (command, record { form = form; built = ap asks_something is }, told)
-    by nothing is answer = inl (
-      λ other.
-          true≢false (sym ((built_is_form words command form finds).1 other) ∙ ap asks_something is),
-      answer,
-    )
-
--- the answer where the disk of a node failed
-pub of_disk : {E : Type 0} (question : Question) (script : Script) (failed : ℕ → Type 0) (node : ℕ)
+-- the answer where the disk of one of so many nodes failed
+pub of_disk : {E : Type 0} (nodes : ℕ) (failed : ℕ → Type 0) (node : ℕ) (Else : Answer → Type 0)
     (r : Result Answer E)
-    → IsCaused script.nodes failed (faults.DiskFault node)
+    → IsCaused nodes failed (faults.DiskFault node)
     → IfOk r (λ a. a.status ≡ statuses.DiskFault)
     → IfOk r (λ a. a.text.items ≡ disk_fault_text node)
-    → IfOk r (λ a. IsOfRun question script failed (number a.status) a.text.items)
-of_disk question script failed node (Err e) cause status text = tt
-of_disk question script failed node (Ok a) cause status text =
+    → IfOk r (λ a. IsOfDisk nodes failed (number a.status) a.text.items ⊎ Else a)
+of_disk nodes failed node Else (Err e) cause status text = tt
+of_disk nodes failed node Else (Ok a) cause status text =
     inl (record {
       one = record { node = node; high = cause.0; did = cause.1 };
       first = cause.2;
@@ -96,7 +64,7 @@ of_told question script failed r none told = IfOk-weaker r _ _ (λ a is. inr (no
 pub of_words : (words : List (List ℕ)) (command : Command) (P : Command → List ℕ → Type 0)
     (old new : Option (List ℕ))
     → Finds words (Ok command) → IfTold old new (λ input _. P command input)
-    → IfTold old new (λ input _. (other : Command) → IsFormFor words other → P other input)
+    → IfTold old new (λ input _. (other : Command) → IsForm words other → P other input)
 of_words words command P old new finds told =
     if_told_weaker old new
     (λ input rest said other form.
@@ -106,33 +74,31 @@ of_words words command P old new finds told =
 -- the answer to a command, from what is told of it before it is known whether it was made, and
 -- whether the source tells its bytes
 pub answers_words : {E : Type 0} (words : List (List ℕ)) (command : Command) (failing : Failing)
-    (old new : Option (List ℕ)) (r : Result Answer E)
-    → IsFormOf words command → Finds words (Ok command)
+    (keep : Words → List Event → Type 0) (old new : Option (List ℕ)) (r : Result Answer E)
+    → IsForm words command
     → IfTold old new
-    (λ input _. IfOk r (λ a. IsOfCommand command failing input (number a.status) a.text.items))
+    (λ input _.
+    IfOk r (λ a. IsOfCommand command failing keep input (number a.status) a.text.items))
     → IfTold old new
-    (λ input _. IfOk r (λ a. IsAnswer words failing input (number a.status) a.text.items))
-answers_words words command failing old new r form finds told =
+    (λ input _. IfOk r (λ a. IsAnswer words failing keep input (number a.status) a.text.items))
+answers_words words command failing keep old new r form told =
     if_told_weaker old new
-    (λ input rest said.
-    IfOk-weaker r _ _
-    (λ a is.
-    is_answer words command failing input (number a.status) a.text.items form finds is)
-    said)
+    (λ input rest said. IfOk-weaker r _ _ (λ a is. inr (command, form, is)) said)
     told
 
 -- and its status
 pub completes_words : {E : Type 0} (words : List (List ℕ)) (command : Command) (failing : Failing)
-    (old new : Option (List ℕ)) (r : Result Answer E)
+    (keep : Words → List Event → Type 0) (old new : Option (List ℕ)) (r : Result Answer E)
     → Finds words (Ok command)
     → IfTold old new
-    (λ input _. IfOk r (λ a. IsOfCommand command failing input (number a.status) a.text.items))
+    (λ input _.
+    IfOk r (λ a. IsOfCommand command failing keep input (number a.status) a.text.items))
     → IfTold old new
-    (λ input _. (other : Command) → IsFormFor words other
+    (λ input _. (other : Command) → IsForm words other
     → IfOk r
     (λ a. (failing.source → ⊥) → (OneFailed (nodes_for other input) failing.disk → ⊥)
     → number a.status ≡ command_status other input))
-completes_words words command failing old new r finds told =
+completes_words words command failing keep old new r finds told =
     of_words words command
     (λ (c : Command) (input : List ℕ).
     IfOk r
@@ -143,9 +109,54 @@ completes_words words command failing old new r finds told =
     (λ input rest said.
     IfOk-weaker r _ _
     (λ a is.
-    command_has_status command failing input (number a.status) a.text.items is)
+    command_has_status command failing keep input (number a.status) a.text.items is)
     said)
     told)
+
+-- the answer to the words of a storm is that to the command that asks for it
+pub storm_answers : {E : Type 0} (command : Command) (storm : Words) (threads : ℕ)
+    (failing : Failing) (keep : Words → List Event → Type 0) (r : Result Answer E)
+    → command ≡ Storm storm.seed storm.actions threads storm.calm
+    → IfOk r (λ a. IsOfStorm storm failing.disk (keep storm) (number a.status) a.text.items)
+    → (input : List ℕ)
+    → IfOk r (λ a. IsOfCommand command failing keep input (number a.status) a.text.items)
+storm_answers command storm threads failing keep r is told input =
+    subst
+    (λ (c : Command).
+    IfOk r (λ a. IsOfCommand c failing keep input (number a.status) a.text.items))
+    (sym is) told
+
+-- its numbers are in their ranges
+pub storm_in_range : (words : List (List ℕ)) (command : Command) (storm : Words) (threads : ℕ)
+    → IsForm words command → command ≡ Storm storm.seed storm.actions threads storm.calm
+    → IsFrom 1 64 storm.actions × IsFrom 1 4 threads
+storm_in_range words command storm threads form is =
+    let range : IsCommand (Storm storm.seed storm.actions threads storm.calm) =
+    subst IsCommand is form.is in
+    (range.1, range.2)
+
+-- words that are the form of a storm are those of the command that was read
+pub storm_words : {E : Type 0} (words : List (List ℕ)) (command : Command) (failing : Failing)
+    (keep : Words → List Event → Type 0) (r : Result Answer E)
+    → Finds words (Ok command)
+    → IfOk r (λ a. IsOfCommand command failing keep [] (number a.status) a.text.items)
+    → (seed actions threads : ℕ) (calm : Bool) → IsForm words (Storm seed actions threads calm)
+    → IfOk r
+    (λ a. IsOfStorm (storm_of seed actions calm) failing.disk (keep (storm_of seed actions calm))
+    (number a.status) a.text.items)
+storm_words words command failing keep r finds told seed actions threads calm form =
+    subst
+    (λ (c : Command).
+    IfOk r (λ a. IsOfCommand c failing keep [] (number a.status) a.text.items))
+    (same_command words command (Storm seed actions threads calm) finds form) told
+
+-- words of which none was read are the form of no command
+pub no_words : {P : Type 0} (words : List (List ℕ)) (fault : ArgsFault) → fault ≡ Usage
+    → UnlessNoMemory (Err fault)
+    (◌≡◌ {A = Result Command ArgsFault} (Err fault) (Err Usage) ↔ IsNoForm words)
+    → (command : Command) → IsForm words command → P
+no_words words Usage is told command form = absurd (told.0 refl command form)
+no_words words NoMemory is told command form = absurd cc
 
 -- what holds whatever the input is holds of an input that the source has still
 pub of_unread : (left : Option (List ℕ)) (P : List ℕ → Type 0) → ((input : List ℕ) → P input)

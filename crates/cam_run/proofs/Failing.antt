@@ -1,14 +1,14 @@
 -- What is answered where the disk of a node failed, and what is left of the disks where none did.
-use Rattle.std.proofs.Common.{◌≡◌, ◌≤◌, ◌⊎◌, inl, inr, ℕ, Bool, true, false, List, Option, Some, None}
-use Rattle.std.proofs.Common.{Result, Ok, Err, IfOk, refl, sym, ap, ◌∙◌, subst, arith, if◌then◌else◌}
+use Rattle.std.proofs.Common.{◌≡◌, ◌⊎◌, inl, inr, ℕ, Bool, true, false, List, Option, Some, None}
+use Rattle.std.proofs.Common.{Result, Ok, Err, IfOk, subst, arith, if◌then◌else◌}
 use Rattle.std.proofs.Common.{is_some}
 use Rattle.std.proofs.lemmas.Result.{IfOk-weaker}
 use Rattle.cam_base.specs.Told.{IfTold}
 use Rattle.cam_base.proofs.Told.{if_told_weaker}
 use Rattle.cam_args.specs.declared.Command.{Command}
-use Rattle.cam_args.specs.declared.ArgsFault.{ArgsFault}
-use Rattle.cam_args.specs.Forms.{Finds}
-use Rattle.cam_know.specs.declared.Reason.{Reason}
+use Rattle.cam_args.specs.Forms.{IsForm, Finds}
+use Rattle.cam_event.specs.declared.Event.{Event}
+use Rattle.cam_gen.specs.Storms.{Words}
 use Rattle.cam_script.specs.declared.Script.{Script}
 use Rattle.cam_script.specs.Grammar.{read_script}
 use Rattle.cam_words.specs.declared.fault.ScriptFault.{ScriptFault}
@@ -16,7 +16,7 @@ use Rattle.cam_run.specs.declared.answer.Answer.{Answer}
 use Rattle.cam_run.specs.declared.question.Question.{Question}
 use Rattle.cam_run.specs.declared.question.Question.TheVariants.{Report, Trace, Witness, Why, Summary}
 use Rattle.cam_run.specs.declared.status.Status.{Status}
-use Rattle.cam_run.specs.Commands.{Asked, IsFormFor, asked_by, bytes_for, of_run}
+use Rattle.cam_run.specs.Commands.{Asked, asked_by, bytes_for, of_run, of_storm}
 use Rattle.cam_run.specs.Disks.{OneFailed}
 use Rattle.cam_run.specs.Status.{number}
 use Rattle.cam_run.specs.Told.{IsTelling, has_action, stop_of, told_status}
@@ -42,34 +42,37 @@ script_fails question (Err fault) failed status text never told one =
     absurd (none_of_none failed never one)
 
 -- the status of the answer to a command, where the disk of a node of its script failed
-command_fails : (command : Command) (failing : Failing) (input : List ℕ) (status : ℕ)
-    (text : List ℕ)
-    → (failing.disk 0 → ⊥) → IsOfCommand command failing input status text
+pub command_fails : (command : Command) (failing : Failing) (keep : Words → List Event → Type 0)
+    (input : List ℕ) (status : ℕ) (text : List ℕ)
+    → (failing.disk 0 → ⊥) → IsOfCommand command failing keep input status text
     → OneFailed (nodes_for command input) failing.disk
     → (status ≡ 4) ⊎ (status ≡ 6)
-command_fails command failing input status text never told one = by (asked_by command) told one
+command_fails command failing keep input status text never told one = by (asked_by command) told one
   where
-    by : (asked : Asked) → IsAsked asked command failing input status text
+    by : (asked : Asked) → IsAsked asked command failing keep input status text
         → OneFailed (asked_nodes asked command input) failing.disk
         → (status ≡ 4) ⊎ (status ≡ 6)
     by (of_run question) (inl (reading, failed, told)) one = inl told.0
     by (of_run question) (inr answer) one =
         inr (script_fails question (read_script (bytes_for command input)) failing.disk status text
         never answer one)
+    by (of_storm storm) (inl of_disk) one = inr of_disk.is
+    by (of_storm storm) (inr told) one = absurd (told.0 one)
     by _ answer one = absurd (none_of_none failing.disk never one)
 
 -- so it is of the words
 pub fails_words : {E : Type 0} (words : List (List ℕ)) (command : Command) (failing : Failing)
-    (old new : Option (List ℕ)) (r : Result Answer E)
+    (keep : Words → List Event → Type 0) (old new : Option (List ℕ)) (r : Result Answer E)
     → (failing.disk 0 → ⊥) → Finds words (Ok command)
     → IfTold old new
-    (λ input _. IfOk r (λ a. IsOfCommand command failing input (number a.status) a.text.items))
+    (λ input _.
+    IfOk r (λ a. IsOfCommand command failing keep input (number a.status) a.text.items))
     → IfTold old new
-    (λ input _. (other : Command) → IsFormFor words other
+    (λ input _. (other : Command) → IsForm words other
     → IfOk r
     (λ a. OneFailed (nodes_for other input) failing.disk
     → (number a.status ≡ 4) ⊎ (number a.status ≡ 6)))
-fails_words words command failing old new r never finds told =
+fails_words words command failing keep old new r never finds told =
     of_words words command
     (λ (c : Command) (input : List ℕ).
     IfOk r
@@ -79,7 +82,7 @@ fails_words words command failing old new r never finds told =
     (if_told_weaker old new
     (λ input rest said.
     IfOk-weaker r _ _
-    (λ a is. command_fails command failing input (number a.status) a.text.items never is)
+    (λ a is. command_fails command failing keep input (number a.status) a.text.items never is)
     said)
     told)
 

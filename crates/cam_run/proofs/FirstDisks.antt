@@ -1,10 +1,10 @@
 -- A run over the first disks of a list, and what it says of the whole list, of which the rest stays.
-use Rattle.std.proofs.Common.{◌≡◌, ◌≤◌, ◌<◌, ◌+◌, ◌-◌, ℕ, zero, suc, Bool, List, [], ◌∷◌, ◌++◌, length, take, drop, Some, Result, Ok, Err, refl, sym, ap, ◌∙◌, subst, arith}
+use Rattle.std.proofs.Common.{◌≡◌, ◌≤◌, ◌<◌, ◌-◌, ℕ, zero, suc, Bool, List, [], ◌∷◌, ◌++◌, length, take, drop, Some, Result, Ok, Err, refl, sym, ap, ◌∙◌, subst, arith}
 use Rattle.std.specs.Prelude.{reverse, slice_get, IfErr, OnOk}
 use Rattle.std.proofs.lemmas.List.{drop_at, take-append-drop, length-take-le}
 use Rattle.cam_cluster.specs.declared.fault.RunFault.{RunFault}
 use Rattle.cam_cluster.specs.declared.fault.RunFault.TheVariants.{DiskFault, NoMemory}
-use Rattle.cam_cluster.specs.HandedBack.{AreHandedBack, FindsFailed, HasFailed, IsLater, disk_named}
+use Rattle.cam_cluster.specs.HandedBack.{AreHandedBack, FindsFailed, HasFailed, disk_named}
 use Rattle.cam_run.specs.Disks.{FailedAt, IsCaused, OneFailed}
 
 -- disks that nothing happened to are handed back

@@ -50,6 +50,19 @@ halted_kept script may_read is_script one keep s low high halted =
     by logged other is (inr log) =
         inr (logs_keep script.objects (has_number other.taken) other.running.trace s logged is log)
 
+-- what may be read from a disk of the whole list is what may be read from it among the first ones
+pub reads_first : {D : Type 0} (tells : D → Bool) (moment : D → ℕ)
+    (left_since : D → ℕ → List ℕ → Type 0) (n : ℕ) (first rest : List D) (s : ℕ) (logged : Logged)
+    → length first ≡ n → 1 ≤ s → s ≤ n
+    → MayReadDisk tells moment left_since (first ++ rest) s logged
+    → MayReadDisk tells moment left_since first s logged
+reads_first tells moment left_since n first rest s logged many low high reads = record {
+  disk = reads.disk;
+  at = of_first first rest (s - 1) reads.disk (omega (arith, low, high, many)) reads.at;
+  told = reads.told;
+  reads = reads.reads;
+}
+
 leaves_disks : {D : Type 0} (tells : D → Bool) (moment : D → ℕ)
     (left_since : D → ℕ → List ℕ → Type 0) (script : Script) (run : RunRecord)
     (first rest : List D)
@@ -76,12 +89,8 @@ leaves_disks tells moment left_since script run first rest many is_script one is
     of_run : (s : ℕ) (logged : Logged) → 1 ≤ s → s ≤ script.nodes
         → MayReadDisk tells moment left_since (first ++ rest) s logged
         → MayReadDisk tells moment left_since first s logged
-    of_run s logged low high reads = record {
-      disk = reads.disk;
-      at = of_first first rest (s - 1) reads.disk (omega (arith, low, high, many)) reads.at;
-      told = reads.told;
-      reads = reads.reads;
-    }
+    of_run s logged low high reads =
+        reads_first tells moment left_since script.nodes first rest s logged many low high reads
 
     keep : Keep script (MayReadDisk tells moment left_since first) (halted_run script by_stops)
     keep = subst (Keep script (MayReadDisk tells moment left_since first)) is.recorded.one is.logs

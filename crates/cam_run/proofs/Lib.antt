@@ -2,10 +2,11 @@ pub mod Recorded
 pub mod CommandStatus
 pub mod Commanded
 pub mod AnswersSeed
-pub mod WordsForRuns
+pub mod WordsForDisks
 pub mod Written
 pub mod WorkedAnswers
 pub mod Imaged
 pub mod FirstDisks
 pub mod LeftDisks
+pub mod Stormed
 pub mod Failing

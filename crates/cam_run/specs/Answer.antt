@@ -1,15 +1,19 @@
 -- What the program answers: a status and a text, by its words and by the input.
 --
--- 0 the text of the command, of the run of the script, of its run by time, or of the image of a log
+-- 0 the text of the command, of the run of the script, of its run by time, of the image of a log, or of a storm
 -- 2 the usage text, where the words are no form
 -- 3 where the script or the image is refused: the line of its first fault
 -- 4 `read fault`, where the source failed
 -- 5 a prefix of one of these texts, where the sink failed
--- 6 `disk fault NODE`, where the disk of that node failed by itself in the run
+-- 6 `disk fault NODE`, where the disk of that node failed by itself in the run, or in the storm
 -- 7 nothing, where memory ran out
 -- 8 where the run has no such action, or no such stop: a line that says so
-use Rattle.std.specs.Prelude.{ℕ, ◌≡◌, ◌≤◌, ◌⊎◌, true, List, ◌++◌, length, take, Result, Ok, Err, IfOk}
+use Rattle.std.specs.Prelude.{ℕ, ◌≡◌, ◌≤◌, ◌⊎◌, true, List, ◌++◌, length, take, Option, Result, Ok, Err, IfOk}
 use Rattle.cam_args.specs.declared.Command.{Command}
+use Rattle.cam_args.specs.Forms.{IsForm as IsFormOf}
+use Rattle.cam_base.specs.Told.{IfTold}
+use Rattle.cam_event.specs.declared.Event.{Event}
+use Rattle.cam_gen.specs.Storms.{Words}
 use Rattle.cam_script.specs.declared.Script.{Script}
 use Rattle.cam_words.specs.declared.fault.ScriptFault.{ScriptFault}
 use Rattle.cam_words.specs.declared.fault.ScriptFault.TheVariants.{Bad, NoMemory}
@@ -20,10 +24,11 @@ use Rattle.cam_timed.specs.TimedGrammar.{read_timed}
 use Rattle.cam_timed.specs.TimedReport.{timed_text}
 use Rattle.cam_run.specs.declared.question.Question.{Question}
 use Rattle.cam_run.specs.Texts.{usage_text, read_fault_text, disk_fault_text, refused_text}
-use Rattle.cam_run.specs.Commands.{Asked, IsForm, IsFormFor, asked_by, bytes_for}
-use Rattle.cam_run.specs.Commands.{by_time, nothing, of_image, of_run, reads}
+use Rattle.cam_run.specs.Commands.{Asked, IsForm, asked_by, bytes_for}
+use Rattle.cam_run.specs.Commands.{by_time, of_image, of_run, of_storm, reads}
 use Rattle.cam_run.specs.Disks.{NoneBefore, OneFailed}
 use Rattle.cam_run.specs.Image.{IsOfImage, image_status, made}
+use Rattle.cam_run.specs.Storm.{IsToldOfStorm}
 use Rattle.cam_run.specs.Told.{IsTold, told_status}
 
 -- what failed in a call: the source, and of the disks that of the node of a number
@@ -37,10 +42,10 @@ IsRefused (Bad line column cause) status text =
     (status ≡ 3) × (text ≡ refused_text line column (cause_number cause))
 IsRefused NoMemory status text = ⊥
 
--- the answer where the disk of a node of the script failed: it names the first of them
-pub record IsOfDisk (script : Script) (failed : ℕ → Type 0) (status : ℕ) (text : List ℕ) : Type 0
+-- the answer where the disk of one of so many nodes failed: it names the first of them
+pub record IsOfDisk (nodes : ℕ) (failed : ℕ → Type 0) (status : ℕ) (text : List ℕ) : Type 0
   where
-    pub one : OneFailed script.nodes failed
+    pub one : OneFailed nodes failed
     pub first : NoneBefore failed one.node
     pub is : status ≡ 6
     pub names : text ≡ disk_fault_text one.node
@@ -48,7 +53,7 @@ pub record IsOfDisk (script : Script) (failed : ℕ → Type 0) (status : ℕ) (
 -- the answer to a question about a script: what is told of its run just where no disk failed in it
 abbrev pub IsOfRun : Question → Script → (ℕ → Type 0) → ℕ → List ℕ → Type 0
 IsOfRun question script failed status text =
-    IsOfDisk script failed status text
+    IsOfDisk script.nodes failed status text
     ⊎ ((OneFailed script.nodes failed → ⊥) × IsTold question script status text)
 
 -- the answer to a question, by what the bytes spell: a script, or a refusal
@@ -60,6 +65,12 @@ IsOfScript question (Err fault) failed status text = IsRefused fault status text
 abbrev pub IsOfTimed : Result TimedScript ScriptFault → ℕ → List ℕ → Type 0
 IsOfTimed (Ok script) status text = (status ≡ 0) × (text ≡ timed_text script)
 IsOfTimed (Err fault) status text = IsRefused fault status text
+
+-- the answer to the words of a storm: what is told of it just where no disk failed in it
+abbrev pub IsOfStorm : Words → (ℕ → Type 0) → (List Event → Type 0) → ℕ → List ℕ → Type 0
+IsOfStorm storm failed keeps status text =
+    IsOfDisk 4 failed status text
+    ⊎ ((OneFailed 4 failed → ⊥) × IsToldOfStorm storm keeps status text)
 
 -- the answer where the source failed
 abbrev pub IsOfFault : ℕ → List ℕ → Type 0
@@ -75,40 +86,46 @@ IsOfInput question failing input status text =
 abbrev pub IsOfWords : ℕ → List ℕ → Type 0
 IsOfWords status text = (status ≡ 2) × (text ≡ usage_text)
 
--- the answer to a command, by what it asks: the source may have failed to give what it reads; one
--- that is not built is no form
-abbrev pub IsAsked : Asked → Command → Failing → List ℕ → ℕ → List ℕ → Type 0
-IsAsked (of_run question) command failing input status text =
+-- The answer to a command, by what it asks: the source may have failed to give what it reads. `keep` says whether the disks keep a run of a
+-- storm.
+abbrev pub IsAsked : Asked → Command → Failing → (Words → List Event → Type 0) → List ℕ → ℕ → List ℕ
+    → Type 0
+IsAsked (of_run question) command failing keep input status text =
     ((reads command ≡ true) × failing.source × IsOfFault status text)
     ⊎ IsOfScript question (read_script (bytes_for command input)) failing.disk status text
-IsAsked (of_image making) command failing input status text =
+IsAsked (of_image making) command failing keep input status text =
     (failing.source × IsOfFault status text) ⊎ IsOfImage (made making input) status text
-IsAsked by_time command failing input status text =
+IsAsked by_time command failing keep input status text =
     (failing.source × IsOfFault status text) ⊎ IsOfTimed (read_timed input) status text
-IsAsked nothing command failing input status text = IsOfWords status text
+IsAsked (of_storm storm) command failing keep input status text =
+    IsOfStorm storm failing.disk (keep storm) status text
 
-abbrev pub IsOfCommand : Command → Failing → List ℕ → ℕ → List ℕ → Type 0
-IsOfCommand command failing input status text =
-    IsAsked (asked_by command) command failing input status text
+abbrev pub IsOfCommand : Command → Failing → (Words → List Event → Type 0) → List ℕ → ℕ → List ℕ
+    → Type 0
+IsOfCommand command failing keep input status text =
+    IsAsked (asked_by command) command failing keep input status text
 
 -- The answer to words and an input, which a source may have failed to give.
-abbrev pub IsAnswer : List (List ℕ) → Failing → List ℕ → ℕ → List ℕ → Type 0
-IsAnswer words failing input status text =
+abbrev pub IsAnswer : List (List ℕ) → Failing → (Words → List Event → Type 0) → List ℕ → ℕ → List ℕ
+    → Type 0
+IsAnswer words failing keep input status text =
     ((¬ IsForm words) × IsOfWords status text)
-    ⊎ ((command : Command) × IsFormFor words command × IsOfCommand command failing input status text)
+    ⊎ ((command : Command) × IsFormOf words command
+    × IsOfCommand command failing keep input status text)
 
--- What was written after what stood there: the whole text of the answer; where the sink failed a
--- prefix of some answer's text; where memory ran out nothing.
-pub record IsWritten (words : List (List ℕ)) (failing : Failing) (input : List ℕ) (status : ℕ)
-    (before after : List ℕ) : Type 0 where
+-- What was written after what stood there, by which statuses and texts are answers: the whole text of
+-- one; where the sink failed a prefix of some answer's text; where memory ran out nothing.
+pub record IsWritten (answers : ℕ → List ℕ → Type 0) (status : ℕ)
+    (before after : Option (List ℕ)) : Type 0 where
   pub whole :
       (status ≡ 5 → ⊥) → (status ≡ 7 → ⊥)
-      → (text : List ℕ) × IsAnswer words failing input status text × (after ≡ before ++ text)
+      → (text : List ℕ) × answers status text
+      × IfTold before after (λ old new. new ≡ old ++ text)
   pub front :
       status ≡ 5
-      → (meant : ℕ) × (text : List ℕ) × (n : ℕ) × IsAnswer words failing input meant text
-      × (n ≤ length text) × (after ≡ before ++ take n text)
-  pub nothing : status ≡ 7 → after ≡ before
+      → (meant : ℕ) × (text : List ℕ) × answers meant text
+      × IfTold before after (λ old new. (n : ℕ) × (n ≤ length text) × (new ≡ old ++ take n text))
+  pub nothing : status ≡ 7 → IfTold before after (λ old new. new ≡ old)
 
 -- the status of a script that is refused; of a question about a script that was read, of a script by
 -- time, and of a command, where nothing fails
@@ -128,19 +145,20 @@ abbrev pub asked_status : Asked → Command → List ℕ → ℕ
 asked_status (of_run question) command input = status_of question (read_script (bytes_for command input))
 asked_status (of_image making) command input = image_status (made making input)
 asked_status by_time command input = timed_status (read_timed input)
-asked_status nothing command input = 2
+asked_status (of_storm storm) command input = 0
 
 abbrev pub command_status : Command → List ℕ → ℕ
 command_status command input = asked_status (asked_by command) command input
 
--- how many nodes has the script that was read, and the one that a command runs over disks: so many
--- of them serve its run
+-- how many nodes has the script that was read, and what a command runs over disks: so many of them
+-- serve its run
 abbrev pub nodes_of : Result Script ScriptFault → ℕ
 nodes_of (Ok script) = script.nodes
 nodes_of (Err fault) = 0
 
 abbrev pub asked_nodes : Asked → Command → List ℕ → ℕ
 asked_nodes (of_run question) command input = nodes_of (read_script (bytes_for command input))
+asked_nodes (of_storm storm) command input = 4
 asked_nodes _ command input = 0
 
 abbrev pub nodes_for : Command → List ℕ → ℕ

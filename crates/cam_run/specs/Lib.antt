@@ -4,5 +4,6 @@ pub mod Told
 pub mod Commands
 pub mod Disks
 pub mod Image
+pub mod Storm
 pub mod Answer
 pub mod Worked

@@ -88,7 +88,9 @@ IsTelling status = (status ≡ Done) ⊎ (status ≡ Missing)
 abbrev pub ComesOfRun : Status → Type 0
 ComesOfRun status = IsTelling status ⊎ (status ≡ DiskFault)
 
--- a status with which words are answered
+-- a status with which a command but a storm is answered, and one with which words are
+abbrev pub MayObey : Status → Type 0
+MayObey status = ComesOfRun status ⊎ ((status ≡ Refused) ⊎ (status ≡ ReadFault))
+
 abbrev pub MayAnswer : Status → Type 0
-MayAnswer status =
-    ComesOfRun status ⊎ ((status ≡ Usage) ⊎ ((status ≡ Refused) ⊎ (status ≡ ReadFault)))
+MayAnswer status = MayObey status ⊎ (status ≡ Usage)

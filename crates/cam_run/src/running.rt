@@ -47,7 +47,11 @@ pub(crate) fn run<D: TellingDisk, R: DataType, Q: DataType, C: DataType>(
 }
 
 /// Takes all but the first so many disks off their list, the last first. Where memory runs out they stay.
-fn set_aside<D: Drop>(alloc: Global, disks: &mut Vec<D>, first: usize) -> Result<Vec<D>, NoMemory>
+pub(crate) fn set_aside<D: Drop>(
+    alloc: Global,
+    disks: &mut Vec<D>,
+    first: usize,
+) -> Result<Vec<D>, NoMemory>
     requires { first ≤ vec_len disks.old }
     ensures first { OnOk result (disks.new.items ≡ take first disks.old.items) }
     ensures further { IfOk result
@@ -66,7 +70,7 @@ fn set_aside<D: Drop>(alloc: Global, disks: &mut Vec<D>, first: usize) -> Result
 }
 
 /// Puts disks that were set aside back after the others. It takes no memory.
-fn put_back<D: Drop>(disks: &mut Vec<D>, further: &mut Vec<D>)
+pub(crate) fn put_back<D: Drop>(disks: &mut Vec<D>, further: &mut Vec<D>)
     requires { vec_len disks.old + vec_len further.old ≤ vec_capacity disks.old }
     ensures { disks.new.items ≡ disks.old.items ++ reverse further.old.items }
 {

@@ -1,9 +1,10 @@
 //! What the program answers to words, a source and a sink, over disks and data servers.
-ghost use Rattle.std.specs.Prelude.{◌≡◌, ◌≤◌, ◌⊎◌, ◌↔◌, ℕ, false, true, List, [], IfOk, drop, length, map, string_bytes};
+ghost use Rattle.std.specs.Prelude.{◌≡◌, ◌≤◌, ◌⊎◌, ◌↔◌, ℕ, Bool, List, [], IfOk, drop, length, map, string_bytes};
 ghost use Rattle.cam_base.specs.Causes.{Rose};
 ghost use Rattle.cam_base.specs.Told.{IfTold};
 ghost use Rattle.cam_args.specs.declared.Command.{Command as Commands};
-ghost use Rattle.cam_args.specs.declared.Command.TheVariants.{Gen};
+ghost use Rattle.cam_args.specs.declared.Command.TheVariants.{Gen, Storm as StormWords};
+ghost use Rattle.cam_args.specs.Forms.{IsForm as IsFormOf};
 ghost use Rattle.cam_cluster.specs.HandedBack.{AreHandedBack};
 ghost use Rattle.cam_cluster.specs.Servers.{AreServers};
 ghost use Rattle.cam_headline.specs.Headline.{HasOneRun};
@@ -14,36 +15,47 @@ ghost use Rattle.cam_timed.specs.TimedHeadline.{HasTimedRun};
 ghost use Rattle.cam_run.specs.declared.status.Status.TheVariants as statuses;
 ghost use Rattle.cam_run.specs.Status.{number};
 ghost use Rattle.cam_run.specs.Told.{IsTelling, MayAnswer};
-ghost use Rattle.cam_run.specs.Commands.{IsBuilt, IsForm, IsFormFor, Reads, Runs, reads, runs};
+ghost use Rattle.cam_run.specs.Commands.{IsForm, Reads, UsesDisks, storm_of};
 ghost use Rattle.cam_run.specs.Disks.{FailedAt, LeavesDisks, OneFailed};
-ghost use Rattle.cam_run.specs.Answer.{IfRuns, IsAnswer, IsOfCommand, IsWritten, command_status, nodes_for};
+ghost use Rattle.cam_run.specs.Answer.{IfRuns, IsAnswer, IsOfStorm, IsWritten, command_status, nodes_for};
+ghost use Rattle.cam_run.specs.Storm.{KeepStorm, StormsKeepPromises};
 
+use crate::alone::obey;
 use crate::answer::{Answer, usage};
-use crate::image::{Making, of_image};
-use crate::question::Question;
-use crate::script::{of_seed, of_source};
 use crate::status::Status;
-use crate::timed::of_timed;
-use cam_args::{ArgsFault, Command, read_words};
+use crate::storm::{asked_storm, of_storm};
+use cam_args::{ArgsFault, read_words};
 use cam_base::NoMemory;
 use cam_cluster::Servers;
 use cam_disk::TellingDisk;
 use cam_io::{Sink, Source, write_all};
 use cam_type::DataType;
 use std::alloc::Global;
+use std::sync::Wait;
+use std::thread::Threads;
 
 /// Does what the words say, and writes its text to the sink. `run`, `trace`, `witness NAME` and `why EVENT` read a script from the
 /// source and tell of its run; `gen SEED SIZE` reads nothing, and tells of the run of the script that is made from the seed. Such a run
 /// is over the first of the disks, one for each node of the script, which are formatted; the others stay as they are. `timed` reads a
 /// script by time, and reports its run, which has no disks. `inspect` and `upgrade` read the image of a log: the one tells its records, the
-/// other writes the image of the same log in version 2.
+/// other writes the image of the same log in version 2. `storm SEED ACTIONS THREADS MODE` reads nothing: it runs four nodes over the first four
+/// of the disks, with so many threads for each, and reports the run that is gathered from them.
 ///
 /// The answer is the status of the program: 0 the text of the command was written; 2 the words are no form; 3 the script or the image was
-/// refused; 4 the source failed; 5 the sink failed, and a prefix of the text was written; 6 a disk failed by itself, in a run; 7 out of
+/// refused; 4 the source failed; 5 the sink failed, and a prefix of the text was written; 6 a disk failed by itself, in a run or a storm; 7 out of
 /// memory, and nothing was written; 8 the run has no such action, or no such stop. The text is made whole before the first write. What
-/// the run of each accepted script owes is told in `docs/HEADLINE.md`, and the rules of runs by time in `docs/RUNS-BY-TIME.md`.
+/// the run of each accepted script owes, and that of a storm, is told in `docs/HEADLINE.md`, and the rules of runs by time in `docs/RUNS-BY-TIME.md`.
 #[tactic(auto, using(cam_headline::proofs::Whole::headline_holds, cam_timed::proofs::TimedWhole::timed_headline_holds, cam_image::proofs::Again::upgrade_is_migration, cam_image::proofs::Again::upgrade_is_once))]
-pub fn camelot<S: Source, K: Sink, D: TellingDisk, R: DataType, Q: DataType, C: DataType>(
+pub fn camelot<
+    T: Threads + Wait + Sync,
+    S: Source,
+    K: Sink,
+    D: TellingDisk + Send,
+    R: DataType,
+    Q: DataType,
+    C: DataType,
+>(
+    rt: &T,
     alloc: Global,
     words: &[String],
     source: &mut S,
@@ -69,14 +81,14 @@ pub fn camelot<S: Source, K: Sink, D: TellingDisk, R: DataType, Q: DataType, C: 
 
     // What was written, and that nothing else keeps an accepted or a refused script from its answer.
     ensures written { IfTold (S.left source.old) (S.left source.new) (λ input _.
-        IfTold (K.written sink.old) (K.written sink.new) (λ before after.
-        IsWritten (map string_bytes words.now) (record {
+        IsWritten (IsAnswer (map string_bytes words.now) (record {
           source = Rose (S.faults source.old) (S.faults source.new);
           disk = FailedAt D.faults disks.old.items disks.new.items;
         })
-        input result before after)) }
+        (KeepStorm D.tells D.moment D.left_since disks.new.items) input)
+        result (K.written sink.old) (K.written sink.new)) }
     ensures complete { IfTold (S.left source.old) (S.left source.new) (λ input _.
-        (command : Commands) → IsFormFor (map string_bytes words.now) command
+        (command : Commands) → IsFormOf (map string_bytes words.now) command
         → ¬ (Rose (S.faults source.old) (S.faults source.new))
         → ¬ (Rose (K.faults sink.old) (K.faults sink.new))
         → ¬ (OneFailed (nodes_for command input)
@@ -84,12 +96,12 @@ pub fn camelot<S: Source, K: Sink, D: TellingDisk, R: DataType, Q: DataType, C: 
         → (result ≡ command_status command input) ⊎ (result ≡ 7)) }
     // A disk that failed by itself keeps the text of the run from being written.
     ensures failed { IfTold (S.left source.old) (S.left source.new) (λ input _.
-        (command : Commands) → IsFormFor (map string_bytes words.now) command
+        (command : Commands) → IsFormOf (map string_bytes words.now) command
         → OneFailed (nodes_for command input)
         (FailedAt D.faults disks.old.items disks.new.items)
         → (result ≡ 4) ⊎ ((result ≡ 5) ⊎ ((result ≡ 6) ⊎ (result ≡ 7)))) }
     // The script that is made from a seed is never refused.
-    ensures generated { (seed size : ℕ) → IsFormFor (map string_bytes words.now) (Gen seed size)
+    ensures generated { (seed size : ℕ) → IsFormOf (map string_bytes words.now) (Gen seed size)
         → (result ≡ 0) ⊎ ((result ≡ 5) ⊎ ((result ≡ 6) ⊎ (result ≡ 7))) }
 
     // Of every script that is accepted: the run that is told of is the one run of the step rules; each action in it, orphan or not, has
@@ -100,12 +112,12 @@ pub fn camelot<S: Source, K: Sink, D: TellingDisk, R: DataType, Q: DataType, C: 
     // So the disks of its nodes: whatever a crash now leaves of one is a log; what may be recovered of a node that is not halted at the
     // end is what the node kept, and of one that is halted it is that, or what the node would have kept with the event at which it halted.
     ensures recovered { IfTold (S.left source.old) (S.left source.new) (λ input _.
-        (command : Commands) → IsFormFor (map string_bytes words.now) command
+        (command : Commands) → IsFormOf (map string_bytes words.now) command
         → (result ≡ 0) ⊎ (result ≡ 8) → IfRuns command input (λ script.
         LeavesDisks D.tells D.moment D.left_since script disks.new.items)) }
     // So it is where the sink alone failed, since the text is made before the first write.
     ensures recovered_unwritten { IfTold (S.left source.old) (S.left source.new) (λ input _.
-        (command : Commands) → IsFormFor (map string_bytes words.now) command → result ≡ 5
+        (command : Commands) → IsFormOf (map string_bytes words.now) command → result ≡ 5
         → ¬ (Rose (S.faults source.old) (S.faults source.new))
         → ¬ (OneFailed (nodes_for command input)
         (FailedAt D.faults disks.old.items disks.new.items))
@@ -117,6 +129,19 @@ pub fn camelot<S: Source, K: Sink, D: TellingDisk, R: DataType, Q: DataType, C: 
     // list that has each answer of an action that has committed with all its ancestors; and no two nodes were informed of different
     // outcomes of an action.
     ensures headline_by_time { (input : List ℕ) → IfOk (read_timed input) HasTimedRun }
+
+    // Of a storm, whatever the source tells: there is one run of it, settled unless a node has all the events that it can have, whose report
+    // the text is, and which the disks keep; if a disk failed, the line that names it stands in the place of the report. If the sink failed,
+    // a prefix of that was written, and the disks keep the run still.
+    ensures storm { (seed actions threads : ℕ) (calm : Bool)
+        → IsFormOf (map string_bytes words.now) (StormWords seed actions threads calm)
+        → IsWritten (IsOfStorm (storm_of seed actions calm)
+        (FailedAt D.faults disks.old.items disks.new.items)
+        (KeepStorm D.tells D.moment D.left_since disks.new.items (storm_of seed actions calm)))
+        result (K.written sink.old) (K.written sink.new) }
+    // Of each run of a storm: each action in it, orphan or not, has its view in a legal execution in which it is no orphan; committed top
+    // actions replay serially in commit order; no two nodes hold different outcomes; and logs give what nodes keep.
+    ensures headline_of_storms { StormsKeepPromises }
 
     // Of every image that is upgraded: what is written is the migrated log, of which just that is recovered which was recovered of the
     // image; and upgraded again it is left as it is, unless it is then longer than an image may be.
@@ -132,15 +157,15 @@ pub fn camelot<S: Source, K: Sink, D: TellingDisk, R: DataType, Q: DataType, C: 
     // so are all where the words run no script, or the script is refused or the source failed.
     ensures back { AreHandedBack D.tells D.faults disks.old.items disks.new.items }
     ensures others { IfTold (S.left source.old) (S.left source.new) (λ input _.
-        (command : Commands) → IsFormFor (map string_bytes words.now) command
+        (command : Commands) → IsFormOf (map string_bytes words.now) command
         → drop (nodes_for command input) disks.new.items
         ≡ drop (nodes_for command input) disks.old.items) }
-    ensures idle { ¬ (Runs (map string_bytes words.now)) → disks.new ≡ disks.old }
+    ensures idle { ¬ (UsesDisks (map string_bytes words.now)) → disks.new ≡ disks.old }
     ensures untouched { (result ≡ 3) ⊎ (result ≡ 4) → disks.new ≡ disks.old }
     ensures servers { AreServers R.kind Q.kind C.kind
         servers.new.register servers.new.queue servers.new.counter }
 {
-    let Ok(answer) = answer_to(alloc, words, source, disks, servers) else {
+    let Ok(answer) = answer_to(rt, alloc, words, source, disks, servers) else {
         return Status::NoMemory.number();
     };
     match write_all(sink, &answer.text) {
@@ -151,7 +176,15 @@ pub fn camelot<S: Source, K: Sink, D: TellingDisk, R: DataType, Q: DataType, C: 
 
 /// The answer to the words and the input.
 #[tactic(auto, using(crate::proofs::FirstDisks::as_they_were))]
-fn answer_to<S: Source, D: TellingDisk, R: DataType, Q: DataType, C: DataType>(
+fn answer_to<
+    T: Threads + Wait + Sync,
+    S: Source,
+    D: TellingDisk + Send,
+    R: DataType,
+    Q: DataType,
+    C: DataType,
+>(
+    rt: &T,
     alloc: Global,
     words: &[String],
     source: &mut S,
@@ -166,19 +199,26 @@ fn answer_to<S: Source, D: TellingDisk, R: DataType, Q: DataType, C: DataType>(
           source = Rose (S.faults source.old) (S.faults source.new);
           disk = FailedAt D.faults disks.old.items disks.new.items;
         })
+        (KeepStorm D.tells D.moment D.left_since disks.new.items)
         input (number a.status) a.text.items)) }
+    ensures storm { (seed actions threads : ℕ) (calm : Bool)
+        → IsFormOf (map string_bytes words.now) (StormWords seed actions threads calm)
+        → IfOk result (λ a. IsOfStorm (storm_of seed actions calm)
+        (FailedAt D.faults disks.old.items disks.new.items)
+        (KeepStorm D.tells D.moment D.left_since disks.new.items (storm_of seed actions calm))
+        (number a.status) a.text.items) }
     ensures complete { IfTold (S.left source.old) (S.left source.new) (λ input _.
-        (command : Commands) → IsFormFor (map string_bytes words.now) command
+        (command : Commands) → IsFormOf (map string_bytes words.now) command
         → IfOk result (λ a. ¬ (Rose (S.faults source.old) (S.faults source.new))
         → ¬ (OneFailed (nodes_for command input)
         (FailedAt D.faults disks.old.items disks.new.items))
         → number a.status ≡ command_status command input)) }
     ensures failed { IfTold (S.left source.old) (S.left source.new) (λ input _.
-        (command : Commands) → IsFormFor (map string_bytes words.now) command
+        (command : Commands) → IsFormOf (map string_bytes words.now) command
         → IfOk result (λ a. OneFailed (nodes_for command input)
         (FailedAt D.faults disks.old.items disks.new.items)
         → (number a.status ≡ 4) ⊎ (number a.status ≡ 6))) }
-    ensures generated { (seed size : ℕ) → IsFormFor (map string_bytes words.now) (Gen seed size)
+    ensures generated { (seed size : ℕ) → IsFormOf (map string_bytes words.now) (Gen seed size)
         → IfOk result (λ a. (number a.status ≡ 0) ⊎ (number a.status ≡ 6)) }
     ensures statuses { IfOk result (λ a. MayAnswer a.status) }
     ensures usage { IfOk result
@@ -192,82 +232,26 @@ fn answer_to<S: Source, D: TellingDisk, R: DataType, Q: DataType, C: DataType>(
         (λ _ rest. IfOk result (λ a. IsTelling a.status → rest ≡ [])) }
     ensures unread { ¬ (Reads (map string_bytes words.now)) → source.new ≡ source.old }
     ensures recovered { IfTold (S.left source.old) (S.left source.new) (λ input _.
-        (command : Commands) → IsFormFor (map string_bytes words.now) command
+        (command : Commands) → IsFormOf (map string_bytes words.now) command
         → IfOk result (λ a. IsTelling a.status → IfRuns command input (λ script.
         LeavesDisks D.tells D.moment D.left_since script disks.new.items))) }
     ensures back { AreHandedBack D.tells D.faults disks.old.items disks.new.items }
     ensures others { IfTold (S.left source.old) (S.left source.new) (λ input _.
-        (command : Commands) → IsFormFor (map string_bytes words.now) command
+        (command : Commands) → IsFormOf (map string_bytes words.now) command
         → drop (nodes_for command input) disks.new.items
         ≡ drop (nodes_for command input) disks.old.items) }
-    ensures idle { ¬ (Runs (map string_bytes words.now)) → disks.new ≡ disks.old }
+    ensures idle { ¬ (UsesDisks (map string_bytes words.now)) → disks.new ≡ disks.old }
     ensures untouched { IfOk result (λ a. (a.status ≡ statuses.Refused)
         ⊎ (a.status ≡ statuses.ReadFault) → disks.new ≡ disks.old) }
     ensures servers { AreServers R.kind Q.kind C.kind
         servers.new.register servers.new.queue servers.new.counter }
 {
     match read_words(alloc, words) {
-        Ok(command) => obey(alloc, &command, source, disks, servers),
+        Ok(command) => match asked_storm(&command) {
+            Some(asked) => of_storm(rt, alloc, &asked.storm, asked.threads, disks),
+            None => obey(alloc, &command, source, disks, servers),
+        },
         Err(ArgsFault::Usage) => usage(alloc),
         Err(ArgsFault::NoMemory) => Err(NoMemory),
-    }
-}
-
-/// The answer to a command and the input; one that is not built is no form.
-#[tactic(auto, using(crate::proofs::FirstDisks::as_they_were))]
-fn obey<S: Source, D: TellingDisk, R: DataType, Q: DataType, C: DataType>(
-    alloc: Global,
-    command: &Command,
-    source: &mut S,
-    disks: &mut Vec<D>,
-    servers: &mut Servers<R, Q, C>,
-) -> Result<Answer, NoMemory>
-    requires eight { 8 ≤ length disks.old.items }
-    requires servers { AreServers R.kind Q.kind C.kind
-        servers.old.register servers.old.queue servers.old.counter }
-    ensures answer { IfTold (S.left source.old) (S.left source.new) (λ input _.
-        IfOk result (λ a. IsOfCommand command.now (record {
-          source = Rose (S.faults source.old) (S.faults source.new);
-          disk = FailedAt D.faults disks.old.items disks.new.items;
-        })
-        input (number a.status) a.text.items)) }
-    ensures generated { (seed size : ℕ) → command.now ≡ Gen seed size → size ≤ 400
-        → IfOk result (λ a. (number a.status ≡ 0) ⊎ (number a.status ≡ 6)) }
-    ensures statuses { IfOk result (λ a. MayAnswer a.status) }
-    ensures usage { IfOk result
-        (λ a. (a.status ≡ statuses.Usage) ↔ (¬ (IsBuilt command.now))) }
-    ensures read_fault { IfOk result
-        (λ a. a.status ≡ statuses.ReadFault → Rose (S.faults source.old) (S.faults source.new)) }
-    ensures disk_fault { IfOk result (λ a. a.status ≡ statuses.DiskFault
-        → OneFailed 8 (FailedAt D.faults disks.old.items disks.new.items)) }
-    ensures read { reads command.now ≡ true
-        → IfTold (S.left source.old) (S.left source.new)
-        (λ _ rest. IfOk result (λ a. IsTelling a.status → rest ≡ [])) }
-    ensures unread { reads command.now ≡ false → source.new ≡ source.old }
-    ensures recovered { IfTold (S.left source.old) (S.left source.new) (λ input _.
-        IfOk result (λ a. IsTelling a.status → IfRuns command.now input (λ script.
-        LeavesDisks D.tells D.moment D.left_since script disks.new.items))) }
-    ensures back { AreHandedBack D.tells D.faults disks.old.items disks.new.items }
-    ensures others { IfTold (S.left source.old) (S.left source.new) (λ input _.
-        drop (nodes_for command.now input) disks.new.items
-        ≡ drop (nodes_for command.now input) disks.old.items) }
-    ensures idle { runs command.now ≡ false → disks.new ≡ disks.old }
-    ensures untouched { IfOk result (λ a. (a.status ≡ statuses.Refused)
-        ⊎ (a.status ≡ statuses.ReadFault) → disks.new ≡ disks.old) }
-    ensures servers { AreServers R.kind Q.kind C.kind
-        servers.new.register servers.new.queue servers.new.counter }
-{
-    match command {
-        Command::Run => of_source(alloc, &Question::Report, source, disks, servers),
-        Command::Trace => of_source(alloc, &Question::Trace, source, disks, servers),
-        Command::Witness(name) => {
-            of_source(alloc, &Question::Witness(*name), source, disks, servers)
-        }
-        Command::Why(event) => of_source(alloc, &Question::Why(*event), source, disks, servers),
-        Command::Gen { seed, size } => of_seed(alloc, *seed, *size, disks, servers),
-        Command::Inspect => of_image(alloc, Making::Text, source),
-        Command::Upgrade => of_image(alloc, Making::Version2, source),
-        Command::Timed => of_timed(alloc, source),
-        Command::Storm { .. } => usage(alloc),
     }
 }

@@ -4,7 +4,9 @@ ghost use Rattle.std.specs.Prelude.{◌≤◌, length};
 
 mod commands;
 mod failing;
+mod forms;
 mod rows;
+mod storms;
 mod streams;
 
 use crate::check::same;
@@ -17,7 +19,9 @@ use cam_type::{CounterServer, QueueServer, RegisterServer};
 use rows::{COUNT, REFUSED, ROWS};
 use std::alloc::Global;
 use std::process::Abort;
+use std::sync::Wait;
 use std::test::Fail;
+use std::thread::Threads;
 
 /// A write, and a read of another action that is told who holds the register.
 const FIRST_PATH: &str = "nodes 1
@@ -45,9 +49,6 @@ action 1.1.2 open
 value x 0
 ";
 
-const USAGE: &str =
-    "usage: camelot run | trace | witness NAME | gen SEED SIZE | storm SEED ACTIONS THREADS MODE | inspect | upgrade | why EVENT | timed\n";
-
 /// The words between the blanks of a text.
 fn words(alloc: Global, text: &str) -> Result<Vec<String>, Fail> {
     let mut words = Vec::new(alloc);
@@ -62,7 +63,8 @@ fn source(alloc: Global, text: &str, fail: &[u32]) -> Result<MemorySource, Fail>
 }
 
 /// The status of the answer to the words, over these disks.
-fn status_over<S: Source, K: Sink, D: TellingDisk>(
+fn status_over<S: Source, K: Sink, D: TellingDisk + Send>(
+    rt: &(impl Threads + Wait + Sync),
     alloc: Global,
     words: &[String],
     source: &mut S,
@@ -76,7 +78,7 @@ fn status_over<S: Source, K: Sink, D: TellingDisk>(
         queue: QueueServer::new(alloc),
         counter: CounterServer::new(),
     };
-    camelot(alloc, words, source, sink, disks, &mut servers)
+    camelot(rt, alloc, words, source, sink, disks, &mut servers)
 }
 
 /// An answer: its status, and the text that it writes.
@@ -112,7 +114,8 @@ fn check_numbered_answer(rt: &impl Abort, case: u64, answer: &Answer, status: u8
 }
 
 /// The answer to the words, over these disks.
-fn answer_over<S: Source, D: TellingDisk>(
+fn answer_over<S: Source, D: TellingDisk + Send>(
+    rt: &(impl Threads + Wait + Sync),
     alloc: Global,
     words: &[String],
     source: &mut S,
@@ -121,64 +124,78 @@ fn answer_over<S: Source, D: TellingDisk>(
     requires { 8 ≤ length disks.old.items }
 {
     let mut sink = MemorySink::new(alloc, Vec::new(alloc));
-    let status = status_over(alloc, words, source, &mut sink, disks);
+    let status = status_over(rt, alloc, words, source, &mut sink, disks);
     let text = sink.text().to_vec(alloc)?;
     Ok(Answer { status, text })
 }
 
 /// The same over eight disks in memory.
 fn answer_in_memory<S: Source>(
+    rt: &(impl Threads + Wait + Sync),
     alloc: Global,
     words: &[String],
     source: &mut S,
 ) -> Result<Answer, Fail> {
     let mut disks = empty_disks(alloc, 8)?;
-    answer_over(alloc, words, source, &mut disks)
+    answer_over(rt, alloc, words, source, &mut disks)
 }
 
 /// The answer to a command on its input.
-fn answer_to(alloc: Global, command: &str, input: &str) -> Result<Answer, Fail> {
+fn answer_to(
+    rt: &(impl Threads + Wait + Sync),
+    alloc: Global,
+    command: &str,
+    input: &str,
+) -> Result<Answer, Fail> {
     let words = words(alloc, command)?;
     let mut source = source(alloc, input, &[])?;
-    answer_in_memory(alloc, &words, &mut source)
+    answer_in_memory(rt, alloc, &words, &mut source)
 }
 
 /// Fails where the answer to a command on its input has not this status and this text.
 fn check_command(
-    rt: &impl Abort,
+    rt: &(impl Threads + Wait + Sync + Abort),
     alloc: Global,
     command: &str,
     input: &str,
     status: u8,
     text: &str,
 ) -> Result<(), Fail> {
-    let answer = answer_to(alloc, command, input)?;
+    let answer = answer_to(rt, alloc, command, input)?;
     check_answer(rt, command, &answer, status, text.as_bytes());
     Ok(())
 }
 
 /// Fails where the run of a script does not have its report, and tells its title.
 fn check_run(
-    rt: &impl Abort,
+    rt: &(impl Threads + Wait + Sync + Abort),
     alloc: Global,
     title: &str,
     script: &str,
     report: &str,
 ) -> Result<(), Fail> {
-    let answer = answer_to(alloc, "run", script)?;
+    let answer = answer_to(rt, alloc, "run", script)?;
     check_answer(rt, title, &answer, 0, report.as_bytes());
     Ok(())
 }
 
 /// Fails where the run of a row of a topic does not have its report.
-fn check_row(rt: &impl Abort, alloc: Global, row: &str) -> Result<(), Fail> {
+fn check_row(
+    rt: &(impl Threads + Wait + Sync + Abort),
+    alloc: Global,
+    row: &str,
+) -> Result<(), Fail> {
     let (title, run) = row.split_once('\n').ok_or("a row has no script")?;
     let (script, report) = run.split_once("--\n").ok_or("a row has no report")?;
     check_run(rt, alloc, title, script, report)
 }
 
 /// Fails where a run of a topic does not have its report, and counts its runs.
-fn check_topic(rt: &impl Abort, alloc: Global, topic: &str) -> Result<usize, Fail> {
+fn check_topic(
+    rt: &(impl Threads + Wait + Sync + Abort),
+    alloc: Global,
+    topic: &str,
+) -> Result<usize, Fail> {
     let mut count = 0usize;
     for row in topic.split("== ").skip(1) {
         check_row(rt, alloc, row)?;
@@ -207,8 +224,13 @@ fn worked_runs_have_their_reports(rt: HostRuntime) -> Result<(), Fail> {
 }
 
 /// Fails where a script is not refused with this fault.
-fn check_refused(rt: &impl Abort, alloc: Global, script: &str, fault: &str) -> Result<(), Fail> {
-    let answer = answer_to(alloc, "run", script)?;
+fn check_refused(
+    rt: &(impl Threads + Wait + Sync + Abort),
+    alloc: Global,
+    script: &str,
+    fault: &str,
+) -> Result<(), Fail> {
+    let answer = answer_to(rt, alloc, "run", script)?;
     check_answer(rt, script, &answer, 3, fault.as_bytes());
     Ok(())
 }
@@ -222,15 +244,15 @@ fn refused_scripts_have_their_faults(rt: HostRuntime) -> Result<(), Fail> {
 }
 
 /// The answer to `run` of a script of empty lines, a byte longer than a script may be.
-fn answer_to_long_script(alloc: Global) -> Result<Answer, Fail> {
+fn answer_to_long_script(rt: &(impl Threads + Wait + Sync), alloc: Global) -> Result<Answer, Fail> {
     let run = words(alloc, "run")?;
     let mut long = MemorySource::new(vec![in alloc; 10; 262_145]?, Vec::new(alloc));
-    answer_in_memory(alloc, &run, &mut long)
+    answer_in_memory(rt, alloc, &run, &mut long)
 }
 
 #[test]
 fn a_script_that_is_too_long_is_refused(rt: HostRuntime) -> Result<(), Fail> {
-    let answer = answer_to_long_script(rt.alloc())?;
+    let answer = answer_to_long_script(&rt, rt.alloc())?;
     check_answer(
         &rt,
         "a long script",
@@ -238,41 +260,5 @@ fn a_script_that_is_too_long_is_refused(rt: HostRuntime) -> Result<(), Fail> {
         3,
         "refused 1 1 S1\n".as_bytes(),
     );
-    Ok(())
-}
-
-/// Words that are no form.
-const NO_FORMS: &[&str] = &[
-    "",
-    "witness",
-    "run run",
-    "--help",
-    "gen 7 401",
-    "storm 7 1 1 calm",
-    "inspect run",
-    "timed 7",
-    "Run",
-    "run ",
-];
-
-#[test]
-fn words_that_are_no_form(rt: HostRuntime) -> Result<(), Fail> {
-    for &words in NO_FORMS {
-        check_command(&rt, rt.alloc(), words, FIRST_PATH, 2, USAGE)?;
-    }
-    Ok(())
-}
-
-/// The answer where there is no word at all.
-fn answer_to_no_words(alloc: Global) -> Result<Answer, Fail> {
-    let none = Vec::new(alloc);
-    let mut source = source(alloc, FIRST_PATH, &[])?;
-    answer_in_memory(alloc, &none, &mut source)
-}
-
-#[test]
-fn no_words_are_no_form(rt: HostRuntime) -> Result<(), Fail> {
-    let answer = answer_to_no_words(rt.alloc())?;
-    check_answer(&rt, "no words", &answer, 2, USAGE.as_bytes());
     Ok(())
 }

@@ -9,11 +9,13 @@ use crate::check::same;
 use cam_disk::{Disk, DiskError, MemoryDisk, TellingDisk};
 use std::alloc::Global;
 use std::process::Abort;
+use std::sync::Wait;
 use std::test::Fail;
+use std::thread::Threads;
 
 /// A disk that fails by itself once it has done so many calls: it does none any more.
 #[derive(Drop)]
-struct FailingDisk<D> {
+pub(super) struct FailingDisk<D> {
     within: D,
     calls: u32,
     faults: u64,
@@ -161,7 +163,11 @@ value x 5
 };
 
 /// Eight empty disks in memory, each of which has failed so often. The second fails by itself once it has done so many calls.
-fn disks(alloc: Global, calls: u32, faults: u64) -> Result<Vec<FailingDisk<MemoryDisk>>, Fail>
+pub(super) fn disks(
+    alloc: Global,
+    calls: u32,
+    faults: u64,
+) -> Result<Vec<FailingDisk<MemoryDisk>>, Fail>
     ensures { IfOk result (λ disks. length disks.items ≡ 8) }
 {
     let mut disks = Vec::with_capacity(alloc, 8)?;
@@ -176,11 +182,17 @@ fn disks(alloc: Global, calls: u32, faults: u64) -> Result<Vec<FailingDisk<Memor
 }
 
 /// The answer to `run` of a script over such disks.
-fn answer_of(alloc: Global, script: &str, calls: u32, faults: u64) -> Result<Answer, Fail> {
+fn answer_of(
+    rt: &(impl Threads + Wait + Sync),
+    alloc: Global,
+    script: &str,
+    calls: u32,
+    faults: u64,
+) -> Result<Answer, Fail> {
     let run = words(alloc, "run")?;
     let mut script = source(alloc, script, &[])?;
     let mut disks = disks(alloc, calls, faults)?;
-    answer_over(alloc, &run, &mut script, &mut disks)
+    answer_over(rt, alloc, &run, &mut script, &mut disks)
 }
 
 /// What came of a run whose disk may fail.
@@ -206,15 +218,24 @@ fn outcome_of(answer: &Answer, case: Case) -> Outcome {
 }
 
 /// What comes of the run of a case, where the disk of node 2 fails by itself once it has done so many calls.
-fn outcome_after(alloc: Global, case: Case, calls: u32) -> Result<Outcome, Fail> {
-    let answer = answer_of(alloc, case.script, calls, 0)?;
+fn outcome_after(
+    rt: &(impl Threads + Wait + Sync),
+    alloc: Global,
+    case: Case,
+    calls: u32,
+) -> Result<Outcome, Fail> {
+    let answer = answer_of(rt, alloc, case.script, calls, 0)?;
     Ok(outcome_of(&answer, case))
 }
 
 /// How many calls of the disk of node 2 the run takes: with fewer of them it is told that the disk failed. None where that is not so.
-fn calls_taken(alloc: Global, case: Case) -> Result<Option<u32>, Fail> {
+fn calls_taken(
+    rt: &(impl Threads + Wait + Sync),
+    alloc: Global,
+    case: Case,
+) -> Result<Option<u32>, Fail> {
     for calls in 0..64u32 {
-        match outcome_after(alloc, case, calls)? {
+        match outcome_after(rt, alloc, case, calls)? {
             Outcome::Report => return Ok(Some(calls)),
             Outcome::DiskFault => {}
             Outcome::Other => return Ok(None),
@@ -225,8 +246,12 @@ fn calls_taken(alloc: Global, case: Case) -> Result<Option<u32>, Fail> {
 
 /// Fails where the run of a case takes eight calls of the disk of node 2 or fewer, or where with fewer calls than it takes it is not told that the
 /// disk failed.
-fn check_case(rt: &impl Abort, alloc: Global, case: Case) -> Result<(), Fail> {
-    let taken = calls_taken(alloc, case)?;
+fn check_case(
+    rt: &(impl Threads + Wait + Sync + Abort),
+    alloc: Global,
+    case: Case,
+) -> Result<(), Fail> {
+    let taken = calls_taken(rt, alloc, case)?;
     let is_enough = matches!(taken, Some(calls) if 8 < calls);
     same(
         rt,
@@ -245,8 +270,12 @@ fn a_disk_that_fails(rt: HostRuntime) -> Result<(), Fail> {
 }
 
 /// Fails where the run of `COMMIT` over disks that had failed so often does not have its report.
-fn check_disks_that_had_failed(rt: &impl Abort, alloc: Global, faults: u64) -> Result<(), Fail> {
-    let answer = answer_of(alloc, COMMIT.script, u32::MAX, faults)?;
+fn check_disks_that_had_failed(
+    rt: &(impl Threads + Wait + Sync + Abort),
+    alloc: Global,
+    faults: u64,
+) -> Result<(), Fail> {
+    let answer = answer_of(rt, alloc, COMMIT.script, u32::MAX, faults)?;
     check_numbered_answer(rt, faults, &answer, 0, COMMIT.report.as_bytes());
     Ok(())
 }

@@ -10,24 +10,30 @@ use crate::cluster::empty_disks;
 use cam_io::{Failed, Sink, Source};
 use std::alloc::Global;
 use std::process::Abort;
+use std::sync::Wait;
 use std::test::Fail;
+use std::thread::Threads;
 
 /// The answer to `run` of a script of which the read at this call fails.
-fn answer_with_failing_read(alloc: Global, call: u32) -> Result<Answer, Fail> {
+fn answer_with_failing_read(
+    rt: &(impl Threads + Wait + Sync),
+    alloc: Global,
+    call: u32,
+) -> Result<Answer, Fail> {
     let run = words(alloc, "run")?;
     let mut source = source(alloc, FIRST_PATH, &[call])?;
-    answer_in_memory(alloc, &run, &mut source)
+    answer_in_memory(rt, alloc, &run, &mut source)
 }
 
 /// Fails where the answer has not this status and this text when the read at this call fails.
 fn check_failing_read(
-    rt: &impl Abort,
+    rt: &(impl Threads + Wait + Sync + Abort),
     alloc: Global,
     call: u32,
     status: u8,
     text: &str,
 ) -> Result<(), Fail> {
-    let answer = answer_with_failing_read(alloc, call)?;
+    let answer = answer_with_failing_read(rt, alloc, call)?;
     check_numbered_answer(rt, u64::from(call), &answer, status, text.as_bytes());
     Ok(())
 }
@@ -64,6 +70,7 @@ impl Sink for Narrow {
 
 /// The answer to the words into a sink that takes so many bytes, over eight disks in memory.
 fn answer_into<S: Source>(
+    rt: &(impl Threads + Wait + Sync),
     alloc: Global,
     words: &[String],
     source: &mut S,
@@ -75,7 +82,7 @@ fn answer_into<S: Source>(
         room,
         faults: 0,
     };
-    let status = status_over(alloc, words, source, &mut sink, &mut disks);
+    let status = status_over(rt, alloc, words, source, &mut sink, &mut disks);
     Ok(Answer {
         status,
         text: sink.text,
@@ -83,16 +90,25 @@ fn answer_into<S: Source>(
 }
 
 /// The answer to `run` of a script into a sink that takes so many bytes.
-fn answer_in_room(alloc: Global, room: usize) -> Result<Answer, Fail> {
+fn answer_in_room(
+    rt: &(impl Threads + Wait + Sync),
+    alloc: Global,
+    room: usize,
+) -> Result<Answer, Fail> {
     let run = words(alloc, "run")?;
     let mut source = source(alloc, FIRST_PATH, &[])?;
-    answer_into(alloc, &run, &mut source, room)
+    answer_into(rt, alloc, &run, &mut source, room)
 }
 
 /// Fails where a sink that takes as many bytes as this text has is not left with it, or where the answer has not this status.
-fn check_room(rt: &impl Abort, alloc: Global, text: &[u8], status: u8) -> Result<(), Fail> {
+fn check_room(
+    rt: &(impl Threads + Wait + Sync + Abort),
+    alloc: Global,
+    text: &[u8],
+    status: u8,
+) -> Result<(), Fail> {
     let room = text.len();
-    let answer = answer_in_room(alloc, room)?;
+    let answer = answer_in_room(rt, alloc, room)?;
     check_numbered_answer(rt, room as u64, &answer, status, text);
     Ok(())
 }

@@ -9,9 +9,9 @@ use Rattle.cam_run.proofs.question.Question.answer.Goals as goal
 pub returns-in-Err-DiskFault-clause-answer : goal.returns-in-Err-DiskFault-clause-answer
 returns-in-Err-DiskFault-clause-answer g c =
     let is : c.in-Err-DiskFault.field-0 ≡ DiskFault c.in-Err-DiskFault.node = cc in
-    of_disk c.args.self.now c.args.script.now
+    of_disk c.args.script.now.nodes
     (FailedAt g.D.Disk.faults c.args.disks.now.items c.run.new.disks.items)
-    c.in-Err-DiskFault.node c.disk_fault.result
+    c.in-Err-DiskFault.node _ c.disk_fault.result
     (subst
     (λ (fault : RunFault).
     IsCaused c.args.script.now.nodes

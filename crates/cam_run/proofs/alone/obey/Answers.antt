@@ -4,10 +4,11 @@ use Rattle.cam_args.specs.declared.Command.{Command}
 use Rattle.cam_base.specs.Causes.{Rose}
 use Rattle.cam_run.specs.Told.{IsTelling}
 use Rattle.cam_run.specs.Disks.{FailedAt, LeavesDisks}
+use Rattle.cam_run.specs.Storm.{KeepStorm}
 use Rattle.cam_run.specs.Answer.{IfRuns, nodes_for}
 use Rattle.cam_run.proofs.Commanded.{of_unread}
 use Rattle.cam_run.proofs.AnswersSeed.{answers_seed}
-use Rattle.cam_run.proofs.top.obey.Goals as goal
+use Rattle.cam_run.proofs.alone.obey.Goals as goal
 
 pub returns-in-Gen-clause-answer : goal.returns-in-Gen-clause-answer
 returns-in-Gen-clause-answer g c =
@@ -16,6 +17,7 @@ returns-in-Gen-clause-answer g c =
       source = Rose (g.S.Source.faults c.args.source.now) (g.S.Source.faults c.args.source.now);
       disk = FailedAt g.D.Disk.faults c.args.disks.now.items c.of_seed.new.disks.items;
     })
+    (KeepStorm g.D.Disk.tells g.D.Disk.moment g.D.Disk.left_since c.of_seed.new.disks.items)
     (g.S.Source.left c.args.source.now) c.of_seed.result c.in-Gen.is c.of_seed.ensures.answer
 
 pub returns-in-Gen-clause-others : goal.returns-in-Gen-clause-others
