@@ -11,7 +11,9 @@ use cam_io::{StdSink, StdSource};
 use cam_run::{Status, camelot, uses_disks};
 use cam_type::{CounterServer, QueueServer, RegisterServer};
 use std::env;
+use std::fs::File;
 use std::io::ErrorKind;
+use std::os::fd::AsRawFd;
 use std::process::ExitCode;
 
 /// The words after the program's name. Words that are no text are none: they are no form either.
@@ -35,6 +37,24 @@ enum Place {
     Memory,
     /// The files `cam1.log` to `cam8.log` of the current folder.
     Files,
+    /// Files without a name, which cannot be opened: each call on such a disk fails.
+    Nowhere,
+}
+
+/// Opens a folder under the number of each standard stream that is closed, and holds it, so that no disk
+/// gets that number. A folder gives no bytes and takes none, so the stream fails as before. If no folder
+/// can be opened, no disk is to be opened either.
+fn keep_off_streams(rt: &HostRuntime, held: &mut Vec<File>) -> Result<Place, NoMemory> {
+    for _ in 0..3 {
+        let Ok(folder) = File::open(rt, "/") else {
+            return Ok(Place::Nowhere);
+        };
+        if folder.as_raw_fd() > 2 {
+            break;
+        }
+        held.push(folder)?;
+    }
+    Ok(Place::Files)
 }
 
 /// Whether the word `files` stands after words that go over disks.
@@ -47,10 +67,14 @@ fn asks_for_files(rt: &HostRuntime, words: &[String]) -> Result<bool, NoMemory> 
 
 /// Where the disks are to be: in files where the word `files` stands after words that go over disks,
 /// where it is taken off, and in memory else. After other words it stays, and they are no form.
-fn take_place(rt: &HostRuntime, words: &mut Vec<String>) -> Result<Place, NoMemory> {
+fn take_place(
+    rt: &HostRuntime,
+    words: &mut Vec<String>,
+    held: &mut Vec<File>,
+) -> Result<Place, NoMemory> {
     if asks_for_files(rt, words)? {
         words.pop();
-        Ok(Place::Files)
+        keep_off_streams(rt, held)
     } else {
         Ok(Place::Memory)
     }
@@ -64,6 +88,7 @@ fn disk(rt: &HostRuntime, place: Place, number: u8) -> Result<HostDisk, NoMemory
             let path = format!(in rt.alloc(); "cam{number}.log")?;
             Ok(HostDisk::File(FileDisk::open(rt, rt.alloc(), &path)))
         }
+        Place::Nowhere => Ok(HostDisk::File(FileDisk::open(rt, rt.alloc(), ""))),
     }
 }
 
@@ -79,10 +104,14 @@ fn disks(rt: &HostRuntime, place: Place) -> Result<Vec<HostDisk>, NoMemory>
 }
 
 /// The disks of words, from which `files` is taken off.
-fn disks_for(rt: &HostRuntime, words: &mut Vec<String>) -> Result<Vec<HostDisk>, NoMemory>
+fn disks_for(
+    rt: &HostRuntime,
+    words: &mut Vec<String>,
+    held: &mut Vec<File>,
+) -> Result<Vec<HostDisk>, NoMemory>
     ensures { IfOk result (λ disks. length disks.items ≡ 8) }
 {
-    let place = take_place(rt, words)?;
+    let place = take_place(rt, words, held)?;
     disks(rt, place)
 }
 
@@ -91,7 +120,8 @@ fn main(rt: HostRuntime) -> ExitCode {
     let Ok(mut words) = words(&rt) else {
         return out_of_memory;
     };
-    let Ok(mut disks) = disks_for(&rt, &mut words) else {
+    let mut held = Vec::new(rt.alloc());
+    let Ok(mut disks) = disks_for(&rt, &mut words, &mut held) else {
         return out_of_memory;
     };
     let mut servers = Servers {
