@@ -1,0 +1,169 @@
+#!/bin/sh
+# How many events of a storm the threads make in a second, calm and rough, with 1, 2 and 4 workers for each node: each as a ratio to one worker
+# for each node. And the same with a gate that lets one worker of all at a time take its turn, as if one lock stood round the hall.
+# A figure is such a ratio of one run: the events a second are those of one machine on one day. Each time is the least of several rounds.
+# bench/storm.sh           proves the crates and the program, and runs it
+# bench/storm.sh --quick   runs a build of the same sources that nothing has proved
+. "$(dirname "$0")/common.sh"
+make_program storm_times anyhow cam_base cam_event cam_disk cam_gen cam_hall cam_cluster cam_storm_run
+cp "$top/HANDLES" ../../HANDLES
+cat > src/main.rt <<'PROGRAM'
+//! How many events of a storm there are in a second.
+#![tactic(auto)]
+
+ghost use Rattle.std.specs.Prelude.{◌≡◌, ◌≤◌, IfOk, length};
+
+use anyhow::{Error, anyhow};
+use cam_cluster::RunFault;
+use cam_disk::MemoryDisk;
+use cam_gen::Storm;
+use cam_hall::{Gate, OpenGate};
+use cam_storm_run::run_storm;
+use std::alloc::{AllocFailed, Global};
+use std::sync::Wait;
+use std::sync::atomic::{AtomicU64, Ordering};
+use std::thread::{Threads, yield_now};
+use std::time::Instant;
+
+const ROUNDS: u32 = 5;
+
+const ACTIONS: u32 = 64;
+
+/// How often a worker looks for its turn before it takes it from one that has ended.
+const PATIENCE: u32 = 100_000;
+
+/// Lets one worker of all at a time take its turn: the next begins when it ends. It holds the number
+/// of the worker whose turn it is, from 1, or 0.
+struct OneAtATime {
+    turn: AtomicU64,
+}
+
+impl OneAtATime {
+    fn end(&self, worker: u64) {
+        if self.turn.load(Ordering::SeqCst) == worker {
+            self.turn.store(0, Ordering::SeqCst);
+        }
+    }
+}
+
+impl Gate for OneAtATime {
+    fn before(&self, worker: u32, _step: u32) -> bool {
+        let own = u64::from(worker) + 1;
+        self.end(own);
+        for _ in 0..PATIENCE {
+            let found = self.turn.compare_exchange(0, own, Ordering::SeqCst, Ordering::SeqCst);
+            if found.is_ok() {
+                return true;
+            }
+            yield_now();
+        }
+        self.turn.store(own, Ordering::SeqCst);
+        true
+    }
+
+    fn after(&self, worker: u32, _step: u32) {
+        self.end(u64::from(worker) + 1);
+    }
+}
+
+/// How many events a storm had, and how long it took.
+#[derive(Clone, Copy)]
+struct Times {
+    events: u128,
+    nanoseconds: u128,
+}
+
+impl Times {
+    fn in_a_second(&self) -> u128 {
+        self.events.saturating_mul(1_000_000_000) / self.nanoseconds.max(1)
+    }
+}
+
+fn four_disks(alloc: Global) -> Result<Vec<MemoryDisk>, AllocFailed<MemoryDisk>>
+    ensures { IfOk result (λ disks. length disks.items ≡ 4) }
+{
+    let mut disks = Vec::new(alloc);
+    disks.push(MemoryDisk::new(alloc))?;
+    disks.push(MemoryDisk::new(alloc))?;
+    disks.push(MemoryDisk::new(alloc))?;
+    disks.push(MemoryDisk::new(alloc))?;
+    Ok(disks)
+}
+
+/// One storm of this seed.
+fn storm<G: Gate + Sync>(
+    rt: &HostRuntime,
+    seed: u64,
+    calm: bool,
+    threads: u32,
+    gate: &G,
+) -> Result<Times, Error>
+    requires { (1 ≤ threads) × (threads ≤ 4) }
+{
+    let words = Storm {
+        seed,
+        actions: ACTIONS,
+        calm,
+    };
+    let Ok(mut disks) = four_disks(rt.alloc()) else {
+        return Err(anyhow!("out of memory"));
+    };
+    let start = Instant::now(rt)?;
+    let trace = match run_storm(rt, rt.alloc(), &words, threads, gate, &mut disks) {
+        Ok(trace) => trace,
+        Err(RunFault::DiskFault(_)) => return Err(anyhow!("a disk failed")),
+        Err(RunFault::NoMemory) => return Err(anyhow!("out of memory")),
+    };
+    Ok(Times {
+        events: trace.len() as u128,
+        nanoseconds: start.elapsed(rt)?.as_nanos(),
+    })
+}
+
+/// The most events in a second, of several storms.
+fn most<G: Gate + Sync>(
+    rt: &HostRuntime,
+    calm: bool,
+    threads: u32,
+    gate: &G,
+) -> Result<u128, Error>
+    requires { (1 ≤ threads) × (threads ≤ 4) }
+{
+    let mut most = 0;
+    for seed in 0..ROUNDS {
+        let times = storm(rt, u64::from(seed), calm, threads, gate)?;
+        most = times.in_a_second().max(most);
+    }
+    Ok(most)
+}
+
+fn show(rt: &HostRuntime, what: &str, events: u128, one: u128) -> Result<(), Error> {
+    let hundredths = events.saturating_mul(100) / one.max(1);
+    println!(rt; "  {what}: {events} events a second, {hundredths} hundredths of one worker's")?;
+    Ok(())
+}
+
+fn main(rt: HostRuntime) -> Result<(), Error> {
+    for calm in [true, false] {
+        let mode = if calm { "calm" } else { "rough" };
+        println!(rt; "{mode}")?;
+        let one = most(&rt, calm, 1, &OpenGate)?;
+        show(&rt, "1 worker a node", one, one)?;
+        let two = most(&rt, calm, 2, &OpenGate)?;
+        show(&rt, "2 workers a node", two, one)?;
+        let four = most(&rt, calm, 4, &OpenGate)?;
+        show(&rt, "4 workers a node", four, one)?;
+        let gate = OneAtATime {
+            turn: AtomicU64::new(0),
+        };
+        let in_turn = most(&rt, calm, 4, &gate)?;
+        show(&rt, "4 workers a node, one turn at a time", in_turn, one)?;
+    }
+    Ok(())
+}
+PROGRAM
+if [ "${1-}" = --quick ]; then
+    rt try
+else
+    rt run
+fi
