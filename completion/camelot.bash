@@ -1,4 +1,4 @@
-# camelot.bash   completes the words of camelot in bash; the launcher says which words may come
+# camelot.bash   completes the words of camelot and camscope in bash; the launcher says which words may come
 _camelot() {
     local before=${COMP_LINE:0:COMP_POINT}
     COMPREPLY=()
@@ -11,3 +11,4 @@ _camelot() {
     mapfile -t COMPREPLY < <("${COMP_WORDS[0]}" --complete "$before" "$COMP_LINE" 2>/dev/null | cut -f 1)
 }
 complete -F _camelot camelot
+complete -o default -F _camelot camscope
