@@ -1,4 +1,4 @@
--- What a fault says of the bytes, by what reading them gives: want of memory says nothing.
+-- What a fault says of the bytes, by what reading them gives: running out of memory says nothing.
 use Rattle.std.specs.Prelude.{◌≡◌, Result, Err}
 use Rattle.cam_bytes.specs.declared.WireFault.{WireFault}
 use Rattle.cam_bytes.specs.declared.WireFault.TheVariants.{Short, BadTag, BadNumber, Order, Rest, NoMemory}

@@ -9,7 +9,7 @@ use crate::numbers::{byte_in, number_in, write_byte, write_number};
 use cam_base::NoMemory;
 use cam_names::{Name, Part};
 
-/// A part at a place, and the place behind it.
+/// A part at a place, and the place after it.
 #[tactic(auto, unfolding(crate::specs::Reading::part_at))]
 fn part_at(bytes: &[u8], at: usize) -> Result<(Part, usize), WireFault>
     requires { at ≤ length bytes.now }
@@ -23,7 +23,7 @@ fn part_at(bytes: &[u8], at: usize) -> Result<(Part, usize), WireFault>
     Ok((part, at))
 }
 
-/// The name with so many more parts behind it, and the place behind it.
+/// The name with so many more parts after it, and the place after it.
 #[tactic(auto, unfolding(crate::specs::Reading::parts_from))]
 fn parts_from(bytes: &[u8], at: usize, left: u8, name: Name) -> Result<(Name, usize), WireFault>
     requires place { at ≤ length bytes.now }
@@ -39,7 +39,7 @@ fn parts_from(bytes: &[u8], at: usize, left: u8, name: Name) -> Result<(Name, us
     parts_from(bytes, at, left - 1, longer)
 }
 
-/// A name of at most so many parts at a place, and the place behind it.
+/// A name of at most so many parts at a place, and the place after it.
 #[tactic(auto, unfolding(crate::specs::Reading::name_in))]
 fn name_in(bytes: &[u8], at: usize, most: u8) -> Result<(Name, usize), WireFault>
     requires place { at ≤ length bytes.now }
@@ -52,7 +52,7 @@ fn name_in(bytes: &[u8], at: usize, most: u8) -> Result<(Name, usize), WireFault
     parts_from(bytes, at, parts - 1, Name::top(part))
 }
 
-/// A name at a place, and the place behind it. `Short` where a field of it is not whole; `BadNumber` at the first byte of the field that is
+/// A name at a place, and the place after it. `Short` if a field of it is not whole; `BadNumber` at the first byte of the field that is
 /// out of its range, which may be the number of parts.
 pub fn name_at(bytes: &[u8], at: usize) -> Result<(Name, usize), WireFault>
     requires { at ≤ length bytes.now }
@@ -62,7 +62,7 @@ pub fn name_at(bytes: &[u8], at: usize) -> Result<(Name, usize), WireFault>
     name_in(bytes, at, 8)
 }
 
-/// The name of a family, which has one part, at a place, and the place behind it. `Short`, or `BadNumber`, as `name_at`; another number of
+/// The name of a family, which has one part, at a place, and the place after it. `Short`, or `BadNumber`, as `name_at`; another number of
 /// parts than 1 is `BadNumber` at its byte.
 pub fn family_at(bytes: &[u8], at: usize) -> Result<(Name, usize), WireFault>
     requires { at ≤ length bytes.now }
@@ -72,7 +72,7 @@ pub fn family_at(bytes: &[u8], at: usize) -> Result<(Name, usize), WireFault>
     name_in(bytes, at, 1)
 }
 
-/// A part, written behind what was written.
+/// A part, appended to what was written.
 fn write_part(out: Vec<u8>, part: &Part) -> Result<Vec<u8>, NoMemory>
     ensures ok { IfOk result (λ text. text.items ≡ out.items ++ bytes_of_part part.now) }
     ensures range { OnOk result (IsPartInRange part.now) }
@@ -82,7 +82,7 @@ fn write_part(out: Vec<u8>, part: &Part) -> Result<Vec<u8>, NoMemory>
     write_number(out, part.number)
 }
 
-/// A name, written behind what was written. Fails only where memory runs out.
+/// A name, appended to what was written. Fails only if memory runs out.
 pub fn write_name(out: Vec<u8>, name: &Name) -> Result<Vec<u8>, NoMemory>
     ensures ok { IfOk result (λ text. text.items ≡ out.items ++ bytes_of_name name.now) }
     ensures range { OnOk result (IsName name.now) }
@@ -94,7 +94,7 @@ pub fn write_name(out: Vec<u8>, name: &Name) -> Result<Vec<u8>, NoMemory>
     Ok(out)
 }
 
-/// The name of a family, written behind what was written. It requires that the name has one part. Fails only where memory runs out.
+/// The name of a family, appended to what was written. It requires that the name has one part. Fails only if memory runs out.
 pub fn write_family(out: Vec<u8>, family: &Name) -> Result<Vec<u8>, NoMemory>
     requires { length family.now ≡ 1 }
     ensures ok { IfOk result (λ text. text.items ≡ out.items ++ bytes_of_name family.now) }

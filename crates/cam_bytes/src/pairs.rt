@@ -10,7 +10,7 @@ use cam_base::NoMemory;
 use cam_names::{Deps, Part};
 
 /// The counts with so many more pairs put in, each count at least `least` and each node above the one before, and the place
-/// behind them.
+/// after them.
 #[tactic(auto, unfolding(crate::specs::Reading::pairs_from))]
 fn pairs_from(
     bytes: &[u8],
@@ -36,9 +36,9 @@ fn pairs_from(
     pairs_from(bytes, end, left - 1, least, node, counts)
 }
 
-/// The counts above `base`, 0 or 1, that stand at a place, with `base` for each that is not written, and the place behind them.
+/// The counts above `base`, 0 or 1, at a place, with `base` for each that is not written, and the place after them.
 ///
-/// `Short` where a field is not whole; `BadNumber` at the first byte of a number of pairs, a node or a count out of its range; `Order` at a
+/// `Short` if a field is not whole; `BadNumber` at the first byte of a number of pairs, a node or a count out of its range; `Order` at a
 /// node that is not above the one before.
 #[tactic(auto, unfolding(crate::specs::Reading::pairs_in))]
 pub fn counts_above_at(bytes: &[u8], at: usize, base: u32) -> Result<([u32; 8], usize), WireFault>
@@ -51,7 +51,7 @@ pub fn counts_above_at(bytes: &[u8], at: usize, base: u32) -> Result<([u32; 8], 
     pairs_from(bytes, at, number, base + 1, 0, [base; 8])
 }
 
-/// Dependencies at a place, and the place behind them. `Short`, `BadNumber` and `Order` as `counts_above_at`.
+/// Dependencies at a place, and the place after them. `Short`, `BadNumber` and `Order` as `counts_above_at`.
 pub fn deps_at(bytes: &[u8], at: usize) -> Result<(Deps, usize), WireFault>
     requires { at ≤ length bytes.now }
     ensures value { result ≡ deps_at at bytes.now }
@@ -61,7 +61,7 @@ pub fn deps_at(bytes: &[u8], at: usize) -> Result<(Deps, usize), WireFault>
     Ok((Deps::of(&counts), at))
 }
 
-/// A node with its count, written behind what was written.
+/// A node with its count, appended to what was written.
 fn write_pair(out: Vec<u8>, node: u8, count: u32) -> Result<Vec<u8>, NoMemory>
     ensures { IfOk result (λ text. text.items ≡ out.items ++ pair (node, count)) }
 {
@@ -81,7 +81,7 @@ fn number_above(counts: &[u32; 8], base: u32) -> u8
     number
 }
 
-/// The counts above `base`, written behind what was written. Fails only where memory runs out.
+/// The counts above `base`, appended to what was written. Fails only if memory runs out.
 pub fn write_counts_above(out: Vec<u8>, counts: &[u32; 8], base: u32) -> Result<Vec<u8>, NoMemory>
     ensures { IfOk result (λ text. text.items ≡ out.items ++ counts_above base counts.now) }
 {
@@ -94,7 +94,7 @@ pub fn write_counts_above(out: Vec<u8>, counts: &[u32; 8], base: u32) -> Result<
     Ok(out)
 }
 
-/// Dependencies, written behind what was written. Fails only where memory runs out.
+/// Dependencies, appended to what was written. Fails only if memory runs out.
 pub fn write_deps(out: Vec<u8>, deps: &Deps) -> Result<Vec<u8>, NoMemory>
     ensures ok { IfOk result (λ text. text.items ≡ out.items ++ bytes_of_deps deps.now) }
     ensures range { IsDeps deps.now }

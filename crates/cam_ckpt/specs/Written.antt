@@ -7,7 +7,7 @@ abbrev pub IsAppended : ℕ → List ℕ → List ℕ → List ℕ → Type 0
 IsAppended gate behind old new =
     (mid : List ℕ) × Holds old (gate + 1) behind mid × Holds mid gate (1 ∷ []) new
 
--- A replacement: the other slot's gate closed, where it is open; the new segment; what the other slot has after its gate; and that gate open.
+-- A replacement: the other slot's gate closed, if it is open; the new segment; what the other slot has after its gate; and that gate open.
 pub record IsReplaced (other : ℕ) (closing : List ℕ) (at : ℕ) (text nums old new : List ℕ) : Type 0
   where
     pub shut : List ℕ

@@ -17,7 +17,7 @@ pub trait CheckpointLog: EntryLog {
     /// Where on its disk this list would end, in bytes, if it took the place of the log's own.
     ghost end_of: { Self → List (List ℕ) → ℕ };
 
-    /// Whether a replacement of a log's list by this one made it this other log with just the bytes that the
+    /// Whether a replacement of a log's list by this one made it this other log with exactly the bytes that the
     /// log's format has for it.
     ghost is_rewritten: { Self → List (List ℕ) → Self → Type 0 };
 
@@ -29,7 +29,7 @@ pub trait CheckpointLog: EntryLog {
         ensures { result ≡ can_follow (Self.broken self.now) (Self.generation self.now) };
 
     /// Makes the list of entries this one. At `Ok` a crash leaves a log that has it, and at any moment of
-    /// the call one that has the old list or the new one. It fails with `DiskFault`, as it does where the new
+    /// the call one that has the old list or the new one. It fails with `DiskFault`, as it does if the new
     /// list would reach past 2^62 bytes, or with `NoMemory`, and its own list is then the old one. It is broken
     /// after a `DiskFault`, and after a `NoMemory` of the disk itself.
     fn replace(&mut self, entries: &Entries) -> Result<(), LogFault>
@@ -80,7 +80,7 @@ pub trait CheckpointLog: EntryLog {
         ensures refused_now { IsTrue (Self.tells self.old) → (at : ℕ)
             → IsErrOf result (NotALog at) → Self.reads self.old ≡ NoLog (NotALog at) }
         ensures reads { IsTrue (Self.tells self.old) → Self.reads self.new ≡ Self.reads self.old }
-        // Its list has the number that the disk gives it, and the same as before where the log was
+        // Its list has the number that the disk gives it, and the same as before if the log was
         // not broken.
         ensures disk_generation { IsTrue (Self.tells self.old)
             → OnOk result (Self.disk_generation self.old ≡ Some (Self.generation self.new)) }
@@ -113,7 +113,7 @@ pub trait CheckpointLog: EntryLog {
         ensures later { Self.faults self.old ≤ Self.faults self.new }
         ensures faults_within { Self.faults_within self.old ≤ Self.faults_within self.new };
 
-    /// The number of its list is the one that its disk gives, where it is not broken.
+    /// The number of its list is the one that its disk gives, if it is not broken.
     ghost generation_at_rest: { (log : Self) → IsTrue (Self.tells log) → IsFalse (Self.broken log)
         → disk_generation log ≡ Some (Self.generation log) };
 }

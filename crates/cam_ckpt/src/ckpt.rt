@@ -23,12 +23,12 @@ use cam_disk::Disk;
 use cam_log::{Entries, EntryLog, LogFault, OpenRefused, appended, drop_newest, entry_of};
 use std::alloc::Global;
 
-/// A log with checkpoints over a disk. While it is not broken, a crash leaves just its entries.
+/// A log with checkpoints over a disk. While it is not broken, a crash leaves exactly its entries.
 #[derive(Drop)]
 pub struct Ckpt<D: Disk> {
     alloc: Global,
     pub(crate) disk: D,
-    /// The entries, and where they stand.
+    /// The entries, and where they are.
     state: Opened,
     broken: bool,
     ghost opened: { IsTrue (D.tells disk) → IsFalse broken → IsOpened (D.seen disk) state },

@@ -87,7 +87,7 @@ fn force_two<D: Disk>(
     disk.sync()
 }
 
-/// The first two device calls of a replacement: the other slot's gate is closed, where it is open.
+/// The first two device calls of a replacement: the other slot's gate is closed, if it is open.
 fn close_other<D: Disk>(disk: &mut D, other: u64, is_open: bool) -> Result<(), DiskError>
     requires place { IsTrue (D.tells disk.old) → other ≤ length (D.seen disk.old) }
     ensures written { IsTrue (D.tells disk.old)

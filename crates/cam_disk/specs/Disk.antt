@@ -4,7 +4,7 @@ use Rattle.cam_base.specs.Causes.{Rose}
 use Rattle.cam_disk.specs.declared.error.DiskError.{DiskError}
 use Rattle.cam_disk.specs.declared.error.DiskError.TheVariants.{Failed}
 
--- n bytes were copied: those that stand from `at` on, as many as there are and as fit into `room`
+-- n bytes were copied: those from `at` on, as many as there are and as fit into `room`
 pub record Reads (held : List ℕ) (at room n : ℕ) (bytes : List ℕ) : Type 0 where
   pub count : n ≡ min room (length held - at)
   pub copied : bytes ≡ take n (drop at held)
@@ -43,7 +43,7 @@ pub record Elapses (before now : ℕ) (past since : ℕ → List ℕ → Type 0)
   pub nothing_else : (t : ℕ) (c : List ℕ) → t ≤ before → since t c → past t c ⊎ may_leave c
   pub keeps : (t : ℕ) (c : List ℕ) → t ≤ before → past t c → since t c
 
--- The count of faults never falls, and `Failed` comes only where it rose.
+-- The count of faults never falls, and `Failed` comes only if it rose.
 pub record FailsWithCause {T : Type 0} (before now : ℕ) (result : Result T DiskError) : Type 0 where
   pub later : before ≤ now
   pub failed : IsErrOf result Failed → Rose before now

@@ -1,4 +1,4 @@
--- A disk that is one of two kinds tells what its part in memory does.
+-- A disk of this machine tells what its part in memory holds.
 use Rattle.cam_disk.specs.declared.memory.MemoryDisk.{MemoryDisk}
 use Rattle.cam_disk.specs.declared.host.HostDisk.{HostDisk}
 use Rattle.cam_disk.specs.declared.host.HostDisk.TheVariants.{Memory, File}

@@ -18,20 +18,20 @@ pub record NotDone {T : Type 0} (own_before own_now : ℕ) (same : Type 0)
   pub counted : own_now ≡ min (own_before + 1) (2 ^ 64 - 1)
   pub unchanged : same
 
--- With none left a call is not done. Else it is, and one less is left.
+-- With none left a call is not done. Otherwise it is, and one less is left.
 abbrev pub Stops : {T : Type 0} → Option ℕ → Option ℕ → ℕ → ℕ → Type 0 → Result T DiskError → Type 0
 Stops None left own_before own_now same result = (left ≡ None) × (own_now ≡ own_before)
 Stops (Some zero) left own_before own_now same result =
     (left ≡ Some zero) × NotDone own_before own_now same result
 Stops (Some (suc n)) left own_before own_now same result = (left ≡ Some n) × (own_now ≡ own_before)
 
--- Of the faults that are not the disk's own: their count never falls, and a call that is passed on gives `Failed` only where it rose.
+-- Of the faults that are not the disk's own: their count never falls, and a call that is passed on gives `Failed` only if it rose.
 pub record FailsWithin {T : Type 0} (left : Option ℕ) (before now : ℕ)
     (result : Result T DiskError) : Type 0 where
   pub later : before ≤ now
   pub failed : (left ≡ Some 0 → ⊥) → IsErrOf result Failed → Rose before now
 
--- a call is counted where one is left: one less is left then
+-- a call is counted if one is left: one less is left then
 abbrev pub IsPassed : Option ℕ → Option ℕ → Type 0
 IsPassed None left = left ≡ None
 IsPassed (Some zero) left = ⊥

@@ -1,5 +1,5 @@
--- A disk that can be stopped, as its calls outside those of every disk leave it. All that it tells but for the calls that it passes on is
--- what the disk within tells, with its own faults besides.
+-- What the calls that only a disk which can be stopped has leave of it. It tells what the inner disk tells, with its own faults, and
+-- how many calls it still passes on.
 use Rattle.std.specs.Prelude.{ℕ, Option, None}
 use Rattle.cam_disk.specs.declared.stop.StopDisk.{StopDisk}
 
@@ -7,7 +7,7 @@ use Rattle.cam_disk.specs.declared.stop.StopDisk.{StopDisk}
 abbrev pub passing_on : {D : Type 0} → D → StopDisk D
 passing_on inner = record { inner = inner; passes = None; own_faults = 0 }
 
--- the disk within
+-- the inner disk
 abbrev pub within : {D : Type 0} → StopDisk D → D
 within disk = disk.inner
 

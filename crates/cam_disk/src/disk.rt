@@ -33,17 +33,17 @@ pub trait Disk: Drop {
     /// How many calls it still does. None: no bound.
     ghost passes: { Self → Option ℕ } = { λ _. None };
 
-    /// How many of its faults are its own, where it stands over another disk: those of calls not passed on.
+    /// How many of its faults are its own, if it is over another disk: those of calls not passed on.
     ghost own_faults: { Self → ℕ } = { λ _. 0 };
 
     /// How often a call that it did has failed: of its faults those that are not its own.
     ghost faults_within: { Self → ℕ };
 
-    /// Whether the disk within is the same as before, where it stands over another disk.
+    /// Whether the inner disk is the same as before, if it is over another disk.
     ghost same_within: { Self → Self → Type 0 } = { λ _ _. Unit {0} };
 
-    /// Copies the bytes that stand from `at` on, as many as there are and fit, and answers their number.
-    /// It answers 0 at and past the end.
+    /// Copies the bytes from `at` on, as many as there are and fit, and returns their number.
+    /// It returns 0 at and past the end.
     fn read(&mut self, at: u64, into: &mut [u8]) -> Result<usize, DiskError>
         ensures count { IfOk result (λ n. n ≤ length into.new) }
         ensures bytes { IsTrue (tells self.old) → IfOk result (λ n.
@@ -62,8 +62,8 @@ pub trait Disk: Drop {
         ensures within { FailsWithin (passes self.old)
             (faults_within self.old) (faults_within self.new) result };
 
-    /// Writes over what is there, and past the end. A write that would reach past 2^62 bytes fails. Where
-    /// memory runs out nothing changes.
+    /// Writes over what is there, and past the end. A write that would reach past 2^62 bytes fails. If
+    /// memory runs out, nothing changes.
     fn write_at(&mut self, at: u64, bytes: &[u8]) -> Result<(), DiskError>
         requires { IsTrue (tells self.old) → at ≤ length (seen self.old) }
         ensures written { IsTrue (tells self.old)
@@ -85,7 +85,7 @@ pub trait Disk: Drop {
         ensures within { FailsWithin (passes self.old)
             (faults_within self.old) (faults_within self.new) result };
 
-    /// Cuts the disk to a size, in bytes, that it has at least. Where memory runs out nothing changes.
+    /// Cuts the disk to a size, in bytes, that it has at least. If memory runs out, nothing changes.
     fn cut(&mut self, size: u64) -> Result<(), DiskError>
         requires { IsTrue (tells self.old) → size ≤ length (seen self.old) }
         ensures cut { IsTrue (tells self.old)
@@ -125,7 +125,7 @@ pub trait Disk: Drop {
             (faults_within self.old) (faults_within self.new) result };
 
     /// Says that the disk gave bytes that it cannot have held, which counts as a fault. It is for disks
-    /// that do not tell what they hold; a disk that does tell does nothing here.
+    /// that do not tell what they hold; a disk that tells does nothing here.
     fn spoil(&mut self)
         ensures passes { passes self.new ≡ passes self.old }
         ensures own_faults { own_faults self.new ≡ own_faults self.old }

@@ -14,22 +14,22 @@ use std::io;
 use std::io::{Read, Seek, SeekFrom, Write};
 use std::rt::Files;
 
-/// A file as a disk, with a copy in memory of what it is to hold, by which it tells that.
+/// A file as a disk, with a copy in memory, which tells what the file is to hold.
 ///
 /// It begins empty, whatever the file holds, and opening it changes nothing there: a cut to 0 empties the
-/// file. Until then, and at a file that another one writes to, a call fails that finds the file to be of
-/// another size or to give other bytes than the copy. A file that has failed is not used again, so each
+/// file. Until then, and if another program writes to the file, a call fails that finds another size or
+/// other bytes than the copy has. A file that has failed is not used again, so each
 /// later call fails: what it holds then is not known.
 #[derive(Drop)]
 pub struct FileDisk {
-    /// None where it could not be opened, or has failed.
+    /// None if it could not be opened, or has failed.
     file: Option<File>,
     copy: MemoryDisk,
 }
 
 impl FileDisk {
-    /// The file of this path, which is made where it is not there. Where it cannot be opened, each call
-    /// on the disk fails, from the first on.
+    /// The file of this path, which is made if it is not there. If it cannot be opened, each call on the
+    /// disk fails, from the first on.
     pub fn open<R: Files<File = File>>(rt: &R, alloc: Global, path: &str) -> FileDisk
         ensures seen { ⟦<FileDisk as Disk>⟧.seen result ≡ [] }
         ensures faults { ⟦<FileDisk as Disk>⟧.faults result ≡ 0 }

@@ -5,11 +5,11 @@
 //! trait `Disk` says so of each call, and of each moment inside a call.
 //!
 //! `MemoryDisk` keeps its bytes and a record of its calls, from which the images of a crash follow.
-//! `StopDisk` stops doing calls, as a machine that lost its power. `FileDisk` is a file beside a copy in
-//! memory: it tells what the copy holds, and fails where the file gives anything else. `HostDisk` is one
+//! `StopDisk` stops doing calls, as a machine that lost its power. `FileDisk` is a file with a copy in
+//! memory: it tells what the copy holds, and fails if the file gives anything else. `HostDisk` is one
 //! in memory or a file. Those that always tell what they hold are `TellingDisk`s.
 //!
-//! It stands on `cam_base`. Its main clause is `Disk::sync`, `durable`: at `Ok` a crash leaves what a
+//! It uses `cam_base`. Its main clause is `Disk::sync`, `durable`: at `Ok` a crash leaves what a
 //! read gives, and nothing else.
 #![tactic(auto)]
 

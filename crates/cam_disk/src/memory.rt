@@ -57,7 +57,7 @@ impl MemoryDisk {
         bytes == &held[..room.min(held.len())]
     }
 
-    /// Counts a fault of what stands beside it.
+    /// Counts a fault of the file beside it.
     pub(crate) fn count_fault(&mut self)
         ensures rose { Rose self.old.faults self.new.faults }
         ensures later { self.old.faults ≤ self.new.faults }
@@ -68,8 +68,8 @@ impl MemoryDisk {
     }
 }
 
-/// Writes over the bytes from a place on, and past the end, in the time of what is written. Where memory
-/// runs out nothing changes.
+/// Writes over the bytes from a place on, and past the end, in the time of what is written. If memory
+/// runs out, nothing changes.
 fn put(held: &mut Vec<u8>, at: usize, bytes: &[u8]) -> Result<(), NoMemory>
     requires { at ≤ length held.old.items }
     ensures ok { OnOk result (held.new.items ≡ written held.old.items at bytes.now) }

@@ -29,14 +29,14 @@ impl<D: Disk> StopDisk<D> {
         }
     }
 
-    /// The disk within, to look at.
+    /// The inner disk, to look at.
     pub fn inner(&self) -> &D
         ensures { result.now ≡ within self.now }
     {
         &self.inner
     }
 
-    /// The disk within, as it is.
+    /// The inner disk, as it is.
     pub fn into_inner(self) -> D
         ensures { result ≡ within self }
     {
@@ -57,7 +57,7 @@ impl<D: Disk> StopDisk<D> {
         self.passes = None;
     }
 
-    /// Counts a call, and fails it where none is left.
+    /// Counts a call, and fails it if none is left.
     fn pass(&mut self) -> Result<(), DiskError>
         ensures same { self.new.inner ≡ self.old.inner }
         ensures passed { OnOk result (IsPassed self.old.passes self.new.passes

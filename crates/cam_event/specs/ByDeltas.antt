@@ -1,4 +1,4 @@
--- The event that comes next at one node, where letters carry what their receivers have not acknowledged. What a node does with what a
+-- The event that comes next at one node, if letters carry what their receivers have not acknowledged. What a node does with what a
 -- letter brings is the same as ever; only what letters carry differs.
 use Rattle.std.specs.Prelude.{ℕ, min, max, eqb, Bool, false, not, ◌&&◌, if◌then◌else◌, List, [], ◌∷◌, map, length, Option, Some, None}
 use Rattle.std.specs.List.{list_any}
@@ -60,7 +60,7 @@ acked_of objects (c ∷ before) r =
     (min c.load.have (length (with_load (known objects before) c.load).outcomes))
     else acked_of objects before r
 
--- What a letter carries that the node s sends after its history to the node r. To itself a node tells its counts alone.
+-- What a letter carries that the node s sends after its history to the node r. To itself a node sends only its counts.
 abbrev pub load_for : List ObjectDecl → ℕ → List Received → ℕ → Load
 load_for objects s history r =
     if eqb s r
@@ -113,7 +113,7 @@ abbrev pub next_by_deltas : List ObjectDecl → List Event → Input → Event
 next_by_deltas objects t input =
     step_after objects (received_of objects t) input (node_of t input) (mail_got t (got_of input))
 
--- what a node goes by where an action or a line asks something of it
+-- what a node goes by when an action or a line asks something of it
 abbrev pub sight_by_deltas : List ObjectDecl → List Event → ℕ → Sight
 sight_by_deltas objects t s =
     held_sight objects s (map as_carried (of_node (received_of objects t) s)) nothing

@@ -1,4 +1,4 @@
--- What a letter carries that tells what its receiver has not acknowledged, by the pasts of events alone.
+-- What a letter carries that its receiver has not acknowledged, by the pasts of events alone.
 use Rattle.std.specs.Prelude.{ℕ, max, eqb, Bool, true, false, not, ◌&&◌, if◌then◌else◌, List, [], ◌∷◌, filter, length, Option, Some, None}
 use Rattle.cam_type.specs.declared.ObjectDecl.{ObjectDecl}
 use Rattle.cam_know.specs.declared.Outcome.{Outcome}
@@ -75,12 +75,12 @@ first_with (e ∷ before) s n =
     (if eqb e.node s && eqb (place_at (e ∷ before) (length before)) n then Some (length before)
     else None)
 
--- the outcome stands in the history
+-- the outcome is in the history
 abbrev pub stands_in : List Deed → Outcome → Bool
 stands_in L (Aborted a) = aborted L a
 stands_in L (Committed a counts) = committed L a
 
--- The outcomes in the past of an event without those in the past of the first event with the base; all of them where the base is 0.
+-- The outcomes in the past of an event without those in the past of the first event with the base; all of them if the base is 0.
 abbrev pub without : List Deed → List Outcome → List Outcome
 without M os = filter (λ o. not (stands_in M o)) os
 

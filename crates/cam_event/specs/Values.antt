@@ -11,7 +11,7 @@ use Rattle.cam_event.specs.History.{commit_value}
 abbrev pub HasValues : List Deed → BTreeMap Name ℤ → Type 0
 HasValues L values = (b : Name) → get name_cmp values b ≡ commit_value L b
 
--- the step, where there is one
+-- the step, if there is one
 abbrev pub steps_in : Option ViewStep → List ViewStep
 steps_in None = []
 steps_in (Some step) = step ∷ []

@@ -11,7 +11,7 @@ pub fn pasts()
     ensures closes { SetsWithPastsAreClosed }
 {}
 
-/// A letter that carries all that its sender holds tells the aborts, the commits and the counts in the
+/// A letter that carries all that its sender holds carries the aborts, the commits and the counts in the
 /// past of the event that sent it.
 pub fn letters_carry_their_past()
     ensures aborts { AbortsAgree }
@@ -19,8 +19,8 @@ pub fn letters_carry_their_past()
     ensures counts { CountsAgree }
 {}
 
-/// Where letters carry all that their senders hold, a node does the same by what it holds as by the
-/// pasts of events: on runs what it goes by is what stands in its base, the first Informs and the
+/// If letters carry all that their senders hold, a node does the same by what it holds as by the
+/// pasts of events: in runs what it goes by is what is in its base, the first Informs and the
 /// refusals of requests are the same, and so are the events for which its own deeds are enough.
 pub fn readings()
     ensures knowledge { KnowledgeIsThePast }

@@ -27,14 +27,14 @@ fn note_value(values: &mut Values, deed: &Deed) -> Result<(), NoMemory>
     Ok(())
 }
 
-/// The step, where the deed is of the action itself.
+/// The step, if the deed is of the action itself.
 fn own(name: &Name, action: &Name, step: ViewStep) -> Option<ViewStep>
     ensures { steps_in result ≡ (if name_eq name.now action.now then step ∷ [] else []) }
 {
     if *name == *action { Some(step) } else { None }
 }
 
-/// The step that a deed gives to the view of an action, where it gives one.
+/// The step that a deed adds to the view of an action, if it adds one.
 fn step_of(values: &Values, name: &Name, deed: &Deed) -> Option<ViewStep>
     ensures { (L : List Deed) → HasValues L values.now
         → steps_in result ≡ step_of L deed.now name.now }
@@ -108,7 +108,7 @@ fn add_event(
 }
 
 /// The view of an action in a trace: what it has done and seen, in the order of the trace. The time is
-/// linear in the trace, times the logarithm of how many actions asked to commit. It fails only where
+/// linear in the trace, times the logarithm of how many actions asked to commit. It fails only if
 /// memory runs out.
 pub fn view(alloc: Global, trace: &Trace, name: &Name) -> Result<View, NoMemory>
     ensures exact { IfOk result (λ steps. steps ≡ view (plain_all (reverse trace.now)) name.now) }
@@ -121,7 +121,7 @@ pub fn view(alloc: Global, trace: &Trace, name: &Name) -> Result<View, NoMemory>
     Ok(steps)
 }
 
-/// An equal event. It fails only where memory runs out.
+/// An equal event. It fails only if memory runs out.
 pub fn copy_event(event: &Event) -> Result<Event, NoMemory>
     ensures equal { IfOk result (λ copy. copy ≡ event.now) }
 {

@@ -1,4 +1,4 @@
-//! A source and a sink in memory, which fail the calls that they are told to fail.
+//! A source and a sink in memory, which fail at the calls whose numbers they are given.
 ghost use Rattle.std.specs.Prelude.{◌≡◌, ◌≤◌, ◌<◌, ◌+◌, ◌-◌, ◌^◌, min, ◌++◌, [], Some, drop, length, take, IfOk, OnOk, OnErr, MatchResult, vec_len};
 ghost use Rattle.cam_base.specs.Causes.{HasCause};
 ghost use Rattle.cam_io.specs.Memory.{IsCounted, IsToFail};
@@ -47,7 +47,7 @@ impl Plan {
         Failed
     }
 
-    /// Counts a call, and fails it where it is to fail.
+    /// Counts a call, and fails it if it is to fail.
     fn call(&mut self) -> Result<(), Failed>
         ensures cause { HasCause self.old.faults self.new.faults result }
         ensures steady { OnOk result (self.new.faults ≡ self.old.faults) }

@@ -7,13 +7,13 @@ use crate::fault::Failed;
 
 /// A sink of bytes.
 pub trait Sink {
-    /// The bytes that were written, where the sink tells them.
+    /// The bytes that were written, if contracts see them.
     ghost written: { Self → Option (List ℕ) };
 
     /// How often the sink has failed.
     ghost faults: { Self → ℕ };
 
-    /// Takes the first bytes of the piece, and answers how many: at least one. A write that fails takes
+    /// Takes the first bytes of the piece, and returns how many: at least one. A write that fails takes
     /// nothing.
     fn write(&mut self, piece: &[u8]) -> Result<usize, Failed>
         requires { 0 < length piece.now }
@@ -23,7 +23,7 @@ pub trait Sink {
         ensures cause { HasCause (faults self.old) (faults self.new) result };
 }
 
-/// Writes the whole text. It fails where a write fails, and then only the text before that was written.
+/// Writes the whole text. It fails if a write fails, and then only the text before that was written.
 /// It takes no memory.
 pub fn write_all<K: Sink>(sink: &mut K, text: &[u8]) -> Result<(), Failed>
     ensures all { OnOk result (IfTold (K.written sink.old) (K.written sink.new)

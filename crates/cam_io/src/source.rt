@@ -11,13 +11,13 @@ use std::alloc::Global;
 
 /// A source of bytes.
 pub trait Source {
-    /// The bytes that are left, where the source tells them.
+    /// The bytes that are left, if contracts see them.
     ghost left: { Self → Option (List ℕ) };
 
     /// How often the source has failed.
     ghost faults: { Self → ℕ };
 
-    /// Moves the next bytes to the beginning of `into`, and answers how many: none exactly at the end.
+    /// Moves the next bytes to the beginning of `into`, and returns how many: none exactly at the end.
     /// A read that fails moves nothing. What `into` holds after the moved bytes, and after a failure, is
     /// left open.
     fn read(&mut self, into: &mut [u8]) -> Result<usize, Failed>
@@ -30,7 +30,7 @@ pub trait Source {
 }
 
 /// Reads all bytes that are left. Fails with `TooLarge` once more than `limit` bytes were read, with
-/// `Failed` where a read failed, and with `NoMemory` where memory runs out. After a failure the bytes that
+/// `Failed` if a read failed, and with `NoMemory` if memory runs out. After a failure the bytes that
 /// were not read are left.
 pub fn read_all<S: Source>(
     alloc: Global,

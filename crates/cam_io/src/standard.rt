@@ -8,7 +8,7 @@ use crate::sink::Sink;
 use crate::source::Source;
 use std::io::{Read, Write};
 
-/// A reader of std, as standard input. It tells no content; each error of the reader is a failure.
+/// A reader of std, as standard input. Contracts see no content; each error of the reader is a failure.
 #[derive(Drop)]
 pub struct StdSource<R> {
     inner: R,
@@ -30,7 +30,7 @@ impl<R: Read> Source for StdSource<R> {
 
     ghost faults = { λ s. s.faults };
 
-    /// Moves what the reader moves: of a reader whose bytes are known, just its next ones.
+    /// Moves what the reader moves: of a reader whose bytes are known, exactly its next ones.
     fn read(&mut self, into: &mut [u8]) -> Result<usize, Failed>
         requires { 0 < length into.old }
         ensures count { IfOk result (λ n. n ≤ length into.new) }
@@ -50,7 +50,7 @@ impl<R: Read> Source for StdSource<R> {
     }
 }
 
-/// A writer of std, as standard output. It tells no content; each error of the writer is a failure, and so is taking nothing.
+/// A writer of std, as standard output. Contracts see no content; each error of the writer is a failure, and so is taking nothing.
 #[derive(Drop)]
 pub struct StdSink<W> {
     inner: W,
@@ -72,7 +72,7 @@ impl<W: Write> Sink for StdSink<W> {
 
     ghost faults = { λ s. s.faults };
 
-    /// Writes what the writer writes: one whose bytes are known holds just the bytes of the piece that were taken.
+    /// Writes what the writer writes: one whose bytes are known holds exactly the bytes of the piece that were taken.
     fn write(&mut self, piece: &[u8]) -> Result<usize, Failed>
         requires { 0 < length piece.now }
         ensures count { IfOk result (λ n. (1 ≤ n) × (n ≤ length piece.now)) }

@@ -9,7 +9,7 @@ use Rattle.cam_know.specs.Known.{outcome_eq}
 use Rattle.cam_know.specs.Commits.{HasCommitsOf}
 use Rattle.cam_know.specs.Index.{IsIndexOf}
 
--- no outcome stands twice in the list
+-- no outcome is twice in the list
 abbrev pub NoTwice : List Outcome → Type 0
 NoTwice [] = Unit {0}
 NoTwice (o ∷ os) = (list_any (outcome_eq o) os ≡ false) × NoTwice os

@@ -23,7 +23,7 @@ pub record KnowsAtLeast (more less : Knowledge) : Type 0 where
   pub outcomes : (o : Outcome) → knows less o ≡ true → knows more o ≡ true
   pub counts : (node : ℕ) → known_count less node ≤ known_count more node
 
--- An orphan by what is known stays an orphan, maybe for another reason, where more is known.
+-- An orphan by what is known stays an orphan, maybe for another reason, if more is known.
 abbrev pub OrphanStays : Type 0
 OrphanStays =
     (more less : Knowledge) → KnowsAtLeast more less → (a : Name) (visited : List (ℕ × ℕ))

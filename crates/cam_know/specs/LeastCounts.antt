@@ -1,11 +1,11 @@
--- For each node the least count that some pairs have of it, as eight counts, 0 where there is no pair.
+-- For each node the least count that some pairs have of it, as eight counts, 0 if there is no pair.
 use Rattle.std.specs.Prelude.{ℕ, eqb, min, if◌then◌else◌, List, [], ◌∷◌}
 
 -- the lesser of two counts, where 0 stands for none
 abbrev pub lesser_count : ℕ → ℕ → ℕ
 lesser_count x y = if eqb x 0 then y else (if eqb y 0 then x else min x y)
 
--- the least count that the pairs have of a node, 0 where they have none
+-- the least count that the pairs have of a node, 0 if they have none
 abbrev pub least_count : List (ℕ × ℕ) → ℕ → ℕ
 least_count [] node = 0
 least_count (p ∷ ps) node =

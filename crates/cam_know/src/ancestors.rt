@@ -6,8 +6,8 @@ use crate::know::Know;
 use cam_names::Name;
 
 impl Know {
-    /// The shortest ancestor of the action that is known aborted, where each action is its own
-    /// ancestor. None where none is known aborted.
+    /// The shortest ancestor of the action that is known aborted; each action is its own
+    /// ancestor. None if none is known aborted.
     pub fn aborted_by(&self, name: &Name) -> Option<Name>
         ensures { result ≡ aborted_by self.now name.now }
     {
@@ -20,7 +20,7 @@ impl Know {
         }
     }
 
-    /// The action itself, where it is known aborted.
+    /// The action itself, if it is known aborted.
     fn if_aborted(&self, name: &Name) -> Option<Name>
         ensures { result ≡ (if knows_abort self.now name.now then Some name.now else None) }
     {
@@ -31,7 +31,7 @@ impl Know {
         }
     }
 
-    /// Climbs to the parent while the present action is known committed. None where that goes past
+    /// Climbs to the parent while the present action is known committed. None if that goes past
     /// the top.
     pub fn lift(&self, name: &Name) -> Option<Name>
         ensures { result ≡ known_lift self.now name.now }

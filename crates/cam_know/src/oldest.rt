@@ -6,7 +6,7 @@ ghost use Rattle.cam_know.specs.LeastCounts.{least_counts, lesser_count, lesser_
 use cam_names::Deps;
 use std::marker::Model;
 
-/// For each node the least count that some pairs of a node and a count have of it. Seen as eight
+/// For each node the least count that some pairs of a node and a count have of it. Contracts see eight
 /// counts, 0 for a node of which there is no pair.
 #[derive(Clone, Copy, Debug)]
 pub struct Oldest {
@@ -56,7 +56,7 @@ impl Oldest {
         }
     }
 
-    /// The least count of the node, 1 to 8: 1 to 1,000,000,000, or 0 where there is no pair of it.
+    /// The least count of the node, 1 to 8: 1 to 1,000,000,000, or 0 if there is no pair of it.
     pub fn count_of(&self, node: u8) -> u32
         requires node { (1 ≤ node) × (node ≤ 8) }
         ensures value { result ≡ count_of self.now node }

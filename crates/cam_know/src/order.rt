@@ -8,7 +8,7 @@ use cam_base::{NoMemory, Sequence};
 use std::alloc::Global;
 use std::cmp::Ordering;
 
-/// Less where the first outcome stands before the other, and greater where it stands behind.
+/// Less if the first outcome comes before the other, and greater if it comes after.
 fn compare(one: &Outcome, other: &Outcome) -> Ordering
     ensures less { is_lt result ≡ stands_before one.now other.now }
     ensures greater { is_gt result ≡ stands_before other.now one.now }
@@ -23,7 +23,7 @@ fn compare(one: &Outcome, other: &Outcome) -> Ordering
     }
 }
 
-/// The outcomes in the order in which they are learnt. n of them take the time of n log n, and of n where they stand in it already; a
+/// The outcomes in the order in which they are learnt. n of them take n log n steps, and n if they are in it already; a
 /// letter's bytes give them so.
 pub fn in_order(alloc: Global, outcomes: &[Outcome]) -> Result<Sequence<Outcome>, NoMemory>
     ensures { IfOk result (λ told. told ≡ in_order outcomes.now) }

@@ -1,7 +1,7 @@
 -- How a log is read: its entries, or the first place at which the bytes are no log. That is
 --     the first byte that differs from the header or is missing in it;
 --     or the first byte of a length that is not whole, or that runs past the end;
---     or the end, where a gate is missing.
+--     or the end, if a gate is missing.
 use Rattle.std.specs.Prelude.{ℕ, ◌+◌, ◌==◌, nat_le, zero, suc, List, [], ◌∷◌, ◌++◌, length, take, drop, Result, Ok, Err, if◌then◌else◌}
 use Rattle.std.specs.Int.{w64, from_be_bytes}
 use Rattle.cam_log.specs.declared.fault.LogFault.{LogFault}
@@ -13,13 +13,13 @@ abbrev pub ◌>>=◌ : {A B E : Type 0} → Result A E → (A → Result B E) �
 (Ok x) >>= f = f x
 (Err e) >>= f = Err e
 
--- the place behind the header, where this much of it is still to come and these bytes stand from `at` on
+-- the place after the header, if this much of it is still to come and these bytes are from `at` on
 abbrev pub header_at : List ℕ → ℕ → List ℕ → Result ℕ LogFault
 header_at [] at rest = Ok at
 header_at (h ∷ hs) at [] = Err (NotALog at)
 header_at (h ∷ hs) at (b ∷ rest) = if h == b then header_at hs (at + 1) rest else Err (NotALog at)
 
--- the gate at a place, where the bytes from there on and the end of all bytes are given
+-- the gate at a place, by the bytes from there on and the end of all bytes
 abbrev pub first_gate : ℕ → List ℕ → Result ℕ LogFault
 first_gate end [] = Err (NotALog end)
 first_gate end (b ∷ rest) = Ok b

@@ -20,7 +20,7 @@ pub opens : (entries : List (List ℕ)) (gate : ℕ) (bytes : List ℕ) → gate
 opens entries gate bytes small rests =
     logs_are_read entries bytes (small_entries entries (omega (arith, small, rests.place))) (record { gate = get_or bytes gate 1; is_closed = rests.is_closed; rest = drop (gate + 1) bytes; is = rests.is })
 
--- every image that a crash may leave opens with the entries, where what is seen is at rest and on the disk
+-- every image that a crash may leave opens with the entries, if what is seen is at rest and on the disk
 pub opens_alone : (entries : List (List ℕ)) (gate : ℕ) (seen image : List ℕ)
     (may_leave : List ℕ → Type 0) (opened : Opened) → gate < 18446744073709551616
     → IsAtRest entries gate seen → Only seen may_leave → may_leave image → read_log image ≡ opened

@@ -1,9 +1,9 @@
--- How many calls of a disk were done, where it does a bounded number of them.
+-- How many calls of a disk were done, if it does a bounded number of them.
 use Rattle.std.proofs.Common.{ℕ, zero, suc, ◌≡◌, ◌+◌, Option, Some, None, Result, Ok, subst, arith, OnOk, Err}
 use Rattle.cam_disk.specs.declared.error.DiskError.{DiskError}
 use Rattle.cam_disk.specs.Stop.{Stops}
 
--- This many were done: so many were left, and are left no more. Where there is no bound, there is none later.
+-- This many were done: so many were left, and are left no more. If there is no bound, there is none later.
 abbrev pub Spent : ℕ → Option ℕ → Option ℕ → Type 0
 Spent calls None left = left ≡ None
 Spent calls (Some n) left = (m : ℕ) × (n ≡ calls + m) × (left ≡ Some m)
@@ -32,13 +32,13 @@ stops_at_none (Some zero) left own_before own_now same untouched result stops no
     stops.1.unchanged.1
 stops_at_none (Some (suc n)) left own_before own_now same untouched result stops none = absurd (cc)
 
--- where some were done, there were some
+-- if some were done, there were some
 pub none_spent : (calls : ℕ) (before left : Option ℕ) → Spent (suc calls) before left
     → before ≡ Some 0 → ⊥
 none_spent calls None left spent none = cc
 none_spent calls (Some n) left spent none = let zero_is : n ≡ 0 = cc in omega (arith, spent.1, zero_is)
 
--- where there is no bound, there is none after a call
+-- if there is no bound, there is none after a call
 pub none_left : {T : Type 0} (before left : Option ℕ) (own_before own_now : ℕ) (same : Type 0)
     (result : Result T DiskError) → Stops before left own_before own_now same result
     → before ≡ None → left ≡ None

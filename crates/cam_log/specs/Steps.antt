@@ -2,7 +2,7 @@
 use Rattle.std.specs.Prelude.{◌≡◌, ℕ, suc, ◌+◌, ◌≤◌, List, [], ◌∷◌, ◌++◌, length, take, drop, Option, Some, None, Ok}
 use Rattle.cam_log.specs.Reading.{entries_from}
 
--- With no entry taken, the gate is closed and these are all. Else reading goes on behind the entry that was taken.
+-- With no entry taken, the gate is closed and these are all. Otherwise reading goes on after the entry that was taken.
 abbrev pub Takes : List ℕ → ℕ → List (List ℕ) → List (List ℕ) → Option ℕ → Type 0
 Takes bytes at entries now None =
     ((room : ℕ) → entries_from (suc room) entries at bytes ≡ Ok entries) × (now ≡ entries)

@@ -48,7 +48,7 @@ pub fn force<D: Disk>(disk: &mut D, at: u64, bytes: &[u8]) -> Result<(), DiskErr
     disk.sync()
 }
 
-/// The four device calls of an append: the entry goes behind its closed gate, and then the gate is opened.
+/// The four device calls of an append: the entry goes after its closed gate, and then the gate is opened.
 #[tactic(auto, using(crate::specs::Spent::spent_then, crate::specs::Spent::none_spent))]
 pub fn write_entry<D: Disk>(disk: &mut D, gate: u64, behind: &[u8]) -> Result<(), DiskError>
     requires within { gate < 2 ^ 63 }

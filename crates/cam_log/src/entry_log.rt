@@ -35,7 +35,7 @@ pub fn drop_newest(entries: &mut Entries, alloc: Global)
 }
 
 /// A log of entries, to which entries are appended, and which a crash at any moment leaves with the
-/// entries before or with the new one besides.
+/// entries before, with or without the new one.
 pub trait EntryLog: Drop {
     /// Whether its disk tells what it holds. No call changes it.
     ghost tells: { Self → Bool };
@@ -61,7 +61,7 @@ pub trait EntryLog: Drop {
     /// How often a call that its disk did has failed, as the disk counts it.
     ghost faults_within: { Self → ℕ };
 
-    /// What a read of its disk gives, where the disk tells it.
+    /// What a read of its disk gives, if the disk tells it.
     ghost seen: { Self → List ℕ } = { λ _. [] };
 
     /// How many calls its disk still does. None: no bound.
@@ -71,7 +71,7 @@ pub trait EntryLog: Drop {
     /// another's place has another number.
     ghost generation: { Self → ℕ } = { λ _. 1 };
 
-    /// Whether an append of this entry to a log made it this other one with just the bytes that the log's
+    /// Whether an append of this entry to a log made it this other one with exactly the bytes that the log's
     /// format has for it.
     ghost is_written: { Self → List ℕ → Self → Type 0 } = { λ _ _ _. Unit {0} };
 
@@ -89,12 +89,12 @@ pub trait EntryLog: Drop {
             (opens_since self.old) (opens_since self.new) (seen self.old) (seen self.new) }
         ensures unbounded { passes self.old ≡ None → passes self.new ≡ None }
         // A fault comes because a call that was done failed, or because the append was cut off: then
-        // the log reads with the new entry just where three of its calls were done.
+        // the log reads with the new entry exactly if three of its calls were done.
         ensures cut_off { IsErrOf result DiskFault
             → Rose (faults_within self.old) (faults_within self.new)
             ⊎ IsCutOff 4 (passes self.old) (passes self.new) (λ calls. IsTrue (tells self.old)
             → reads self.new ≡ Ok (entries_after calls (listed self.old) entry.now)) }
-        // A crash at any moment of the call leaves the entries before it, with the new one or without.
+        // A crash at any moment of the call leaves the entries before it, with or without the new one.
         ensures any_moment { IsTrue (tells self.old) → Grows (moment self.old) (moment self.new)
             (opens_since self.old) (opens_since self.new)
             (IsBeforeOrAfter (listed self.old) entry.now) }
@@ -124,7 +124,7 @@ pub trait EntryLog: Drop {
     /// What it reads now is among what a crash now may leave.
     ghost reads_now: { (log : Self) → IsTrue (tells log) → opens_since log (moment log) (reads log) };
 
-    /// A crash now leaves a log of its entries, where it is not broken.
+    /// A crash now leaves a log of its entries, if it is not broken.
     ghost at_rest: { (log : Self) (opened : Opened) → IsTrue (tells log) → IsFalse (broken log)
         → opens_since log (moment log) opened → opened ≡ Ok (listed log) };
 

@@ -16,13 +16,13 @@ use crate::image::{EMPTY, HEADER, appended};
 use cam_disk::{Disk, DiskError};
 use std::alloc::Global;
 
-/// A log over a disk. While it is not broken, a crash leaves just its entries.
+/// A log over a disk. While it is not broken, a crash leaves exactly its entries.
 #[derive(Drop)]
 pub struct Log<D: Disk> {
     alloc: Global,
     pub(crate) disk: D,
     entries: Entries,
-    /// The place of the closed gate behind the last entry.
+    /// The place of the closed gate after the last entry.
     gate: u64,
     broken: bool,
     ghost at_rest: { IsTrue (D.tells disk) → IsFalse broken → IsAtRest entries gate (D.seen disk) },

@@ -1,14 +1,14 @@
 //! Whether an action is an orphan by what a node knows, and why.
 //!
-//! The rule stands in `docs/RULES.md`, at 'The orphan test'. An action is an orphan where an ancestor
-//! is known aborted, by the shortest such ancestor; each action is its own ancestor. Otherwise pairs
+//! The rule is *The orphan test* of `docs/RULES.md`. An action is an orphan if an ancestor is
+//! known aborted, by the shortest such ancestor; each action is its own ancestor. Otherwise pairs
 //! of a node and a count are tested: those that the action itself has visited, and those of each known
-//! commit of a child of one of its ancestors. Where the count of such a pair is below the known
-//! count of its node, what the action stands on was lost in a crash, and it is an orphan, by the least
+//! commit of a child of one of its ancestors. If the count of such a pair is below the known
+//! count of its node, what the action depends on was lost in a crash, and it is an orphan, by the least
 //! such node and then the least such count.
 //!
-//! It stands on `cam_names` and `cam_know`. Its calls are `orphan`, and `orphan_at_home` for an action
-//! that comes to its home. The main clause of each says that the answer is just that rule's. A test
+//! It uses `cam_names` and `cam_know`. Its calls are `orphan`, and `orphan_at_home` for an action
+//! that comes to its home. The main clause of each says that it returns exactly what the rule says. A test
 //! costs a few look-ups for each ancestor, however much is known.
 #![tactic(auto)]
 
@@ -23,9 +23,9 @@ ghost use Rattle.cam_orphan.specs.Stale.{Valid, first_stale};
 use cam_know::{Know, Oldest, Reason};
 use cam_names::{Deps, Name};
 
-/// Why the action is an orphan by this knowledge, or None where it is none. `visited` has the pairs
-/// that it has visited. Each action is its own ancestor. It never answers want of memory. The rule
-/// stands in `docs/RULES.md`, at 'The orphan test'.
+/// Why the action is an orphan by this knowledge, or None if it is none. `visited` has the pairs
+/// that it has visited. Each action is its own ancestor. It takes no memory. The rule is *The orphan
+/// test* of `docs/RULES.md`.
 pub fn orphan(know: &Know, name: &Name, visited: &Deps) -> Option<Reason>
     ensures { result ≡ known_orphan know.now name.now (pairs_of visited.now) }
 {
@@ -33,7 +33,7 @@ pub fn orphan(know: &Know, name: &Name, visited: &Deps) -> Option<Reason>
 }
 
 /// The same test of an action that comes to its home: `visited` has the pairs with which it comes,
-/// and the home is tested beside them. So an older pair of that very node counts too.
+/// and the home is tested with them. So an older pair of that very node counts too.
 pub fn orphan_at_home(know: &Know, name: &Name, visited: &Deps) -> Option<Reason>
     ensures { result ≡ known_orphan know.now name.now
         ((home_node name.now, home_count name.now) ∷ pairs_of visited.now) }

@@ -9,12 +9,12 @@ use Rattle.cam_type.specs.declared.State.{State}
 use Rattle.cam_type.specs.declared.Op.{Op}
 use Rattle.cam_type.specs.Table.{state_after, mode_of, compatible}
 
--- A lift stands in the way of an action where it is neither past the top nor an ancestor of it.
+-- A lift is in the way of an action if it is neither past the top nor an ancestor of it.
 abbrev pub is_in_the_way : Name → Option Name → Bool
 is_in_the_way a None = false
 is_in_the_way a (Some u) = not (is_ancestor u a)
 
--- An operation with a lift conflicts with an op of an action where the lift stands in the way and the modes are not compatible.
+-- An operation with a lift conflicts with an op of an action if the lift is in the way and the modes are not compatible.
 abbrev pub conflicts : Name → Op → Option Name → Op → Bool
 conflicts a op lift done = is_in_the_way a lift && not (compatible (mode_of done) (mode_of op))
 

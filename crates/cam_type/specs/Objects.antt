@@ -7,7 +7,7 @@ use Rattle.cam_type.specs.declared.State.TheVariants.{Register}
 use Rattle.cam_type.specs.declared.Op.{Op}
 use Rattle.cam_type.specs.Table.{kind_of, fits}
 
--- the node where an object stands, and 0 where it is not declared
+-- the node of an object, and 0 if it is not declared
 abbrev pub site_of : List ObjectDecl → ℕ → ℕ
 site_of objects x = option_map_or (λ o. o.node) (slice_get objects x) 0
 
@@ -15,6 +15,6 @@ site_of objects x = option_map_or (λ o. o.node) (slice_get objects x) 0
 abbrev pub is_fit : List ObjectDecl → ℕ → Op → Bool
 is_fit objects x op = option_map_or (λ o. fits (kind_of o.start) op) (slice_get objects x) false
 
--- the start state of an object; what is not declared is a register that begins with 0
+-- the start state of an object; what is not declared is a register that starts at 0
 abbrev pub start_of : List ObjectDecl → ℕ → State
 start_of objects x = option_map_or (λ o. o.start) (slice_get objects x) (Register (pos 0))

@@ -5,7 +5,7 @@ ghost use Rattle.cam_type.specs.Objects.{site_of, is_fit, start_of};
 use crate::{Objects, Op, State, fits};
 use cam_base::NoMemory;
 
-/// The node where an object stands, and 0 where it is not declared.
+/// The node of an object, and 0 if it is not declared.
 pub fn site_of(objects: &Objects, object: u8) -> u8
     ensures { result ≡ site_of objects.now object }
 {
@@ -25,8 +25,8 @@ pub fn is_fit(objects: &Objects, object: u8, op: &Op) -> bool
     }
 }
 
-/// The start state of an object; that of one that is not declared is a register of 0. It fails only
-/// where memory runs out.
+/// The start state of an object; an undeclared object is a register of 0. It fails only
+/// if memory runs out.
 pub fn start_of(objects: &Objects, object: usize) -> Result<State, NoMemory>
     ensures { IfOk result (λ state. state ≡ start_of objects.now object) }
 {

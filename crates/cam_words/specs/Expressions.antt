@@ -7,7 +7,7 @@ use Rattle.cam_words.specs.declared.expressions.Expr.TheVariants.{Fixed, Kept}
 use Rattle.cam_words.specs.Words.{◌>>=◌, refuse, or_refuse, text_of, word_at}
 use Rattle.cam_words.specs.Numbers.{is_digit, number_of, from, below_zero, not_below_zero, value_of}
 
--- the digits in front, and what stands behind them
+-- the digits in front, and what comes after them
 abbrev pub digits_in_front : List ℕ → List ℕ
 digits_in_front [] = []
 digits_in_front (b ∷ bs) = if is_digit b then b ∷ digits_in_front bs else []
@@ -29,7 +29,7 @@ abbrev pub earlier_of : ℕ → ℕ → ℕ → List ℕ → Result ℕ ScriptFa
 earlier_of earlier number at [] = refuse number at causes.InvalidNumber
 earlier_of earlier number at (b ∷ bs) = or_refuse (from 1 (number_of earlier (b ∷ bs))) number at causes.Undeclared
 
--- Behind the `$`. A wrong spelling and a U out of range stand before an earlier statement that is not there.
+-- After the `$`. A wrong spelling and a U out of range come before an earlier statement that is not there.
 unfoldable pub kept_of : ℕ → ℕ → ℕ → List ℕ → Result Expr ScriptFault
 kept_of earlier number at text = do
   add ← or_refuse (added_of (behind_digits text)) number at causes.InvalidNumber
@@ -44,7 +44,7 @@ abbrev pub expression_of : ℕ → ℕ → ℕ → List ℕ → Result Expr Scri
 expression_of earlier number at [] = refuse number at causes.InvalidNumber
 expression_of earlier number at (b ∷ bs) = if b == 36 then kept_of earlier number at bs else fixed_of (value_of (b ∷ bs)) number at
 
--- an expression behind this many earlier statements, and the place behind it
+-- an expression after this many earlier statements, and the place after it
 unfoldable pub expression_at : ℕ → ℕ → ℕ → List ℕ → Result (Expr × ℕ) ScriptFault
 expression_at earlier number at line = do
   word ← word_at number at line

@@ -12,7 +12,7 @@ is_digit b = nat_le 48 b && nat_le b 57
 abbrev pub is_letter : ℕ → Bool
 is_letter b = (nat_le 65 b && nat_le b 90) || (nat_le 97 b && nat_le b 122)
 
--- the number that goes on from n with these digits, where it is no more than `limit`
+-- the number that goes on from n with these digits, if it is no more than `limit`
 abbrev pub digits_on : ℕ → ℕ → List ℕ → Option ℕ
 digits_on limit n [] = Some n
 digits_on limit n (b ∷ bs) =
@@ -27,7 +27,7 @@ abbrev pub from : ℕ → Option ℕ → Option ℕ
 from least None = None
 from least (Some n) = if nat_le least n then Some n else None
 
--- a number of this range, and the place behind it
+-- a number of this range, and the place after it
 unfoldable pub number_at : ℕ → ℕ → ℕ → ℕ → List ℕ → Result (ℕ × ℕ) ScriptFault
 number_at least most number at line = do
   word ← word_at number at line
@@ -60,7 +60,7 @@ value_of [] = None
 value_of (b ∷ bs) =
     if b == 45 then below_zero (number_of 9223372036854775808 bs) else not_below_zero (number_of 9223372036854775807 (b ∷ bs))
 
--- a value, and the place behind it
+-- a value, and the place after it
 unfoldable pub value_at : ℕ → ℕ → List ℕ → Result (ℤ × ℕ) ScriptFault
 value_at number at line = do
   word ← word_at number at line
@@ -83,7 +83,7 @@ new_name_at names number at line = do
   new ← refuse_if (is_some (place_of names (text_of word line))) number word.start causes.DeclaredAgain
   Ok word
 
--- the place of a declared name, and the place behind the word
+-- the place of a declared name, and the place after the word
 unfoldable pub declared_at : List (List ℕ) → ℕ → ℕ → List ℕ → Result (ℕ × ℕ) ScriptFault
 declared_at names number at line = do
   word ← word_at number at line

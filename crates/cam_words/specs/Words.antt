@@ -21,7 +21,7 @@ abbrev pub or_refuse : {A : Type 0} → Option A → ℕ → ℕ → Cause → R
 or_refuse (Some x) number at cause = Ok x
 or_refuse None number at cause = refuse number at cause
 
--- the fault where something is wrong
+-- the fault if something is wrong
 abbrev pub refuse_if : Bool → ℕ → ℕ → Cause → Result (Unit {0}) ScriptFault
 refuse_if true number at cause = refuse number at cause
 refuse_if false number at cause = Ok tt
@@ -30,12 +30,12 @@ refuse_if false number at cause = Ok tt
 abbrev pub is_blank : ℕ → Bool
 is_blank b = (b == 32) || (b == 9)
 
--- the place behind the blanks that stand from `at` on
+-- the place after the blanks from `at` on
 abbrev pub blanks_end : ℕ → List ℕ → ℕ
 blanks_end at [] = at
 blanks_end at (b ∷ bs) = if is_blank b then blanks_end (at + 1) bs else at
 
--- the place behind the word that stands from `at` on
+-- the place after the word from `at` on
 abbrev pub word_end : ℕ → List ℕ → ℕ
 word_end at [] = at
 word_end at (b ∷ bs) = if is_blank b then at else word_end (at + 1) bs
@@ -44,7 +44,7 @@ word_end at (b ∷ bs) = if is_blank b then at else word_end (at + 1) bs
 abbrev pub word_from : ℕ → List ℕ → Word
 word_from start line = record { start = start; end = word_end start (drop start line) }
 
--- the next word from `at` on: an empty one at the line's end where there is none
+-- the next word from `at` on: an empty one at the line's end if there is none
 abbrev pub next_word : ℕ → List ℕ → Word
 next_word at line = word_from (blanks_end at (drop at line)) line
 
@@ -63,21 +63,21 @@ text_of word line = slice_range line word.start word.end
 abbrev pub is_missing : Word → Bool
 is_missing word = word.start == word.end
 
--- The next word behind a word that ends at `at`. Where it is missing, the fault stands one past the line's last word.
+-- The next word after a word that ends at `at`. If it is missing, the fault is one past the line's last word.
 abbrev pub some_word : ℕ → ℕ → Word → Result Word ScriptFault
 some_word number at word = if is_missing word then refuse number at causes.MissingWord else Ok word
 
 abbrev pub word_at : ℕ → ℕ → List ℕ → Result Word ScriptFault
 word_at number at line = some_word number at (next_word at line)
 
--- No word is left. Where there is one, the fault stands at it.
+-- No word is left. If there is one, the fault is at it.
 abbrev pub no_word : ℕ → Word → Result (Unit {0}) ScriptFault
 no_word number word = if is_missing word then Ok tt else refuse number word.start causes.ExtraWord
 
 abbrev pub end_at : ℕ → ℕ → List ℕ → Result (Unit {0}) ScriptFault
 end_at number at line = no_word number (next_word at line)
 
--- the third word behind one that ends at `at`, empty where there is none: the fourth word of a line
+-- the third word after one that ends at `at`, empty if there is none: the fourth word of a line
 abbrev pub third_word : ℕ → List ℕ → Word
 third_word at line = next_word (next_word (next_word at line).end line).end line
 

@@ -10,13 +10,13 @@ use std::fmt;
 pub enum Cause {
     /// The script has more bytes than a script may have.
     TooLong = 1,
-    /// A byte may not stand in a script.
+    /// A byte that no script may have.
     ByteNotAllowed,
     /// A word names no line, kind or operation that is built.
     UnknownWord,
-    /// The line ends where a word is to stand.
+    /// The line ends before a word that it needs.
     MissingWord,
-    /// The line goes on behind its last word.
+    /// The line has a word too many.
     ExtraWord,
     /// A word is no number, node or value in its range.
     InvalidNumber,
@@ -26,7 +26,7 @@ pub enum Cause {
     DeclaredAgain,
     /// A name is not declared above.
     Undeclared,
-    /// A line or a variable stands where it may not, or `nodes` is missing.
+    /// A line or a variable is where it may not be, or `nodes` is missing.
     Misplaced,
     /// The script has no node of this number.
     NoSuchNode,

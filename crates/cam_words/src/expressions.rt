@@ -15,7 +15,7 @@ pub enum Expr {
 }
 
 impl Line<'_> {
-    /// An expression behind this many earlier statements, and the place behind it.
+    /// An expression after this many earlier statements, and the place after it.
     #[tactic(auto, unfolding(crate::specs::Expressions::expression_at))]
     pub fn expression_at(&self, at: usize, earlier: u8) -> Result<(Expr, usize), ScriptFault>
         requires { at ≤ length self.now.bytes.now }
@@ -73,7 +73,7 @@ impl Line<'_> {
     }
 }
 
-/// How many digits stand in front.
+/// How many digits are in front.
 fn digits_len(text: &[u8]) -> usize
     ensures front { take result text.now ≡ digits_in_front text.now }
     ensures behind { drop result text.now ≡ behind_digits text.now }

@@ -1,7 +1,7 @@
 //! The words of a script: its bytes, its lines, their words, and the numbers, values, names and expressions that words spell.
 //!
-//! It stands on `cam_base`. The readers are methods of [`Line`]: each goes on from a place of the line, and its clause `value` says that
-//! it answers what the definition of its name in `specs/` reads there: what the word says with the place behind it, or its fault.
+//! It uses `cam_base`. The readers are methods of [`Line`]: each goes on from a place of the line, and its clause `value` says that
+//! it returns what the definition of its name in `specs/` reads there: what the word says with the place after it, or its fault.
 #![tactic(auto)]
 
 mod cause;

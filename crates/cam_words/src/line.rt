@@ -35,7 +35,7 @@ impl Line<'_> {
         &self.bytes[word.start..word.end]
     }
 
-    /// The next word from this place on: an empty one at the line's end where there is none.
+    /// The next word from this place on: an empty one at the line's end if there is none.
     pub fn next_word(&self, at: usize) -> Word
         requires { at ≤ length self.now.bytes.now }
         ensures value { result ≡ next_word at self.now.bytes.now }
@@ -49,7 +49,7 @@ impl Line<'_> {
         }
     }
 
-    /// The third word from this place on: an empty one at the line's end where there is none.
+    /// The third word from this place on: an empty one at the line's end if there is none.
     pub fn third_word(&self, at: usize) -> Word
         requires { at ≤ length self.now.bytes.now }
         ensures value { result ≡ third_word at self.now.bytes.now }

@@ -1,9 +1,9 @@
-//! The lines of a text, and the bytes that may stand in it.
+//! The lines of a text, and the bytes that it may have.
 ghost use Rattle.std.specs.Prelude.{◌≡◌, ◌≤◌, ◌<◌, ◌+◌, ◌∷◌, length, IfSome};
 ghost use Rattle.cam_words.specs.Lines.{is_allowed, bad_byte, lines_of};
 ghost use Rattle.cam_words.specs.FirstLine.{line_len, without_cr};
 
-/// The first line of a text, and what stands behind it.
+/// The first line of a text, and what comes after it.
 pub fn first_line(text: &[u8]) -> (&[u8], &[u8])
     requires { 0 < length text.now }
     ensures value { lines_of text.now ≡ result.0.now ∷ lines_of result.1.now }
@@ -29,7 +29,7 @@ fn line_len(text: &[u8]) -> usize
     text.len()
 }
 
-/// A line but for a CR at its end.
+/// A line without a CR at its end.
 #[tactic(auto, using(crate::proofs::FirstLine::cr_dropped, crate::proofs::FirstLine::cr_kept, crate::proofs::FirstLine::cr_of_none))]
 fn without_cr(line: &[u8]) -> &[u8]
     ensures value { result.now ≡ without_cr line.now }

@@ -7,7 +7,7 @@ use crate::line::Line;
 use crate::{Cause, ScriptFault};
 
 impl Line<'_> {
-    /// A number of this range, and the place behind it.
+    /// A number of this range, and the place after it.
     #[tactic(auto, unfolding(crate::specs::Numbers::number_at))]
     pub fn number_at(&self, at: usize, least: u32, most: u32) -> Result<(u32, usize), ScriptFault>
         requires { at ≤ length self.now.bytes.now }
@@ -22,7 +22,7 @@ impl Line<'_> {
         }
     }
 
-    /// A node, of which there are this many, and the place behind it.
+    /// A node, of which there are this many, and the place after it.
     #[tactic(auto, unfolding(crate::specs::Numbers::node_at))]
     pub fn node_at(&self, at: usize, nodes: u8) -> Result<(u8, usize), ScriptFault>
         requires { at ≤ length self.now.bytes.now }
@@ -41,7 +41,7 @@ impl Line<'_> {
         }
     }
 
-    /// A value, and the place behind it.
+    /// A value, and the place after it.
     #[tactic(auto, unfolding(crate::specs::Numbers::value_at))]
     pub fn value_at(&self, at: usize) -> Result<(i64, usize), ScriptFault>
         requires { at ≤ length self.now.bytes.now }
@@ -56,7 +56,7 @@ impl Line<'_> {
     }
 }
 
-/// The number that these digits spell, where it is no more than `limit`.
+/// The number that these digits spell, if it is no more than `limit`.
 pub(crate) fn number_of(digits: &[u8], limit: u64) -> Option<u64>
     requires { limit ≤ 9223372036854775808 }
     ensures value { result ≡ number_of limit digits.now }

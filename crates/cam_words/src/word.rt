@@ -1,4 +1,4 @@
-//! Where a word stands.
+//! Where a word is.
 
 ghost use Rattle.std.specs.Prelude.{◌≡◌};
 ghost use Rattle.cam_words.specs.Words.{is_missing};
@@ -11,7 +11,7 @@ pub struct Word {
 }
 
 impl Word {
-    /// Whether there is no word: the line's end was met in its place.
+    /// Whether there is no word: the line ended before it.
     pub fn is_missing(self) -> bool
         ensures { result ≡ is_missing self }
     {
