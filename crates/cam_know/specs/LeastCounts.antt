@@ -1,7 +1,7 @@
 -- For each node the least count that some pairs have of it, as eight counts, 0 if there is no pair.
 use Rattle.std.specs.Prelude.{ℕ, eqb, min, if◌then◌else◌, List, [], ◌∷◌}
 
--- the lesser of two counts, where 0 stands for none
+-- the lesser of two counts, where 0 means none
 abbrev pub lesser_count : ℕ → ℕ → ℕ
 lesser_count x y = if eqb x 0 then y else (if eqb y 0 then x else min x y)
 

@@ -60,7 +60,7 @@ impl Commits {
         Ok(())
     }
 
-    /// One more outcome, for which there is room, so that no memory is wanted.
+    /// One more outcome, for which there is room, so that it takes no memory.
     fn note(&mut self, outcome: &Outcome)
         requires { 1 ≤ commits_room self.old }
         ensures value { (c : CommitValue) →

@@ -92,7 +92,7 @@ impl Index {
         Ok(())
     }
 
-    /// Changes the entry of an action. There is room for it, so that no memory is wanted.
+    /// Changes the entry of an action. There is room for it, so that it takes no memory.
     fn set(&mut self, name: &Name, entry: &Entry)
         requires { 1 ≤ index_room self.old }
         ensures value { (a : NameValue) →

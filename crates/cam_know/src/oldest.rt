@@ -26,7 +26,7 @@ impl Model for Oldest {
     ghost inverse = { λ counts. record { counts = counts } };
 }
 
-/// The lesser of two counts, where 0 stands for none.
+/// The lesser of two counts, where 0 means none.
 fn lesser(one: u32, other: u32) -> u32
     ensures { result ≡ lesser_count one other }
 {

@@ -2,7 +2,7 @@
 use Rattle.std.specs.Prelude.{ℕ, zero, suc, ◌≡◌, ◌<◌, nat_lt, if◌then◌else◌, List, [], ◌∷◌, ◌++◌, Option, Some}
 use Rattle.cam_disk.specs.Disk.{Holds}
 
--- So many calls were wanted of a disk, and fewer were left: those were done, which did this, and none is left.
+-- So many calls of a disk were needed, and fewer were left: those were done, which did this, and none is left.
 pub record IsCutOff (wanted : ℕ) (before left : Option ℕ) (Did : ℕ → Type 0) : Type 0 where
   pub calls : ℕ
   pub had : before ≡ Some calls
