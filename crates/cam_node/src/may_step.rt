@@ -1,4 +1,4 @@
-//! Whether an input may be put to a node now.
+//! Whether a node may get an input now.
 ghost use Rattle.std.specs.Prelude.{◌≡◌, ◌↔◌, IsTrue, IsFalse};
 ghost use Rattle.cam_event.specs.Runs.{IsNode, IsWant};
 ghost use Rattle.cam_node.specs.Calls.{answers};
@@ -15,16 +15,17 @@ use cam_event::{Body, Letter, Request, Want};
 use cam_type::{Op, fits};
 
 impl<L: CheckpointLog> Node<L> {
-    /// What [`Node::step`] wants of an input besides that nothing stands against it
-    /// ([`Node::refusal`]): that numbers are left; of a request, that the node is the home of its
-    /// action, and that the op of a call fits its object; of a letter, that it may be handed to
-    /// this node, and of a Prepare that at most 64 objects are declared. The node is not halted. It
-    /// takes no memory. It does not say whether a restart takes the index that a call gets: it
-    /// takes none above 499,999,999.
+    /// Whether [`Node::step`] takes an input that [`Node::refusal`] allows. Numbers must be left. For
+    /// a request, the node must be the home of its action, and the op of a call must fit its object.
+    /// A letter must be for this node, and for a Prepare at most 64 objects may be declared. The node
+    /// is not halted. It takes no memory.
+    ///
+    /// It does not say whether a restart takes the index that a call gets: a restart takes none above
+    /// 499,999,999.
     pub fn may_step(&self, input: &Input) -> bool
         requires running { IsFalse self.now.log.halted }
         ensures may { IsTrue result ↔ MayStep (answers self.now.core) input.now }
-        // Where nothing stands against it, the clauses of a step speak of it.
+        // If nothing refuses it, the clauses of a step speak of it.
         ensures put { IsTrue result → MayBePutNow (answers self.now.core) input.now }
     {
         self.core.may_step(input)
@@ -32,7 +33,7 @@ impl<L: CheckpointLog> Node<L> {
 }
 
 impl Core {
-    /// Whether an input may be put to the node in this regard.
+    /// Whether the node may get an input in this regard.
     fn may_step(&self, input: &Input) -> bool
         ensures { IsTrue result ↔ MayStep (answers self.now) input.now }
     {
@@ -45,7 +46,7 @@ impl Core {
         }
     }
 
-    /// Whether a request may be put to the node.
+    /// Whether the node may get a request.
     fn may_ask(&self, request: &Request) -> bool
         ensures { IsTrue result ↔ MayAsk (answers self.now) request.now.action request.now.want }
     {

@@ -26,14 +26,14 @@ use cam_type::{Objects, State};
 use std::alloc::Global;
 
 /// One node, 1 to 8, over the declared objects: its parts, and the log that it forces before a
-/// letter leaves. Both stand for one history from `format` on: `step` and `restart` keep that, where
-/// what is put to the node may be put to it. Over a disk its log is a [`Ckpt`].
+/// letter leaves. Both stand for one history from `format` on, and `step` and `restart` keep that
+/// for inputs that may come. Over a disk its log is a [`Ckpt`].
 #[derive(Drop)]
 pub struct Node<L: CheckpointLog> {
     pub(crate) core: Core,
     pub(crate) log: NodeLog<L>,
     pub(crate) objects: Objects,
-    /// What its log may have taken of the event at which it halted; none where it is not halted.
+    /// What its log may have taken of the event at which it halted; none if it is not halted.
     pub(crate) halted_at: Option<Event>,
     ghost numbered: { (1 ≤ core.number) × (core.number ≤ 8) },
     ghost runs_on: { IsFalse log.halted → halted_at ≡ None },
@@ -41,7 +41,7 @@ pub struct Node<L: CheckpointLog> {
 
 impl<D: Disk> Node<Ckpt<D>> {
     /// Makes a node, 1 to 8, to which nothing has happened, and formats a disk for it, whatever the
-    /// disk held. The disk is handed back where it failed, or memory ran out.
+    /// disk held. If the disk fails or memory runs out, the disk is returned.
     pub fn format(
         alloc: Global,
         number: u8,
@@ -74,7 +74,7 @@ impl<D: Disk> Node<Ckpt<D>> {
             ≤ ⟦<Ckpt<D> as EntryLog>⟧.faults_within node.log.log) }
         ensures disk_fault { IfErr result (λ refused. refused.fault ≡ DiskFault
             → Rose (D.faults disk) (D.faults refused.disk)) }
-        // A disk that does all calls fails by a call that it did.
+        // If the disk does all calls, it fails by a call that it did.
         ensures failed_within { D.passes disk ≡ None → IfErr result (λ refused.
             refused.fault ≡ DiskFault
             → Rose (D.faults_within disk) (D.faults_within refused.disk)) }
@@ -144,7 +144,7 @@ impl<L: CheckpointLog> Node<L> {
         &self.log.log
     }
 
-    /// Whether the node is halted: it has to be restarted before the next step.
+    /// Whether the node is halted: it must be restarted before the next step.
     pub fn is_halted(&self) -> bool
         ensures { result ≡ self.now.log.halted }
     {

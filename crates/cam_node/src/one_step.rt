@@ -1,5 +1,5 @@
-//! A step of a node: it learns the letter and applies the rule, makes all growth, appends the
-//! event's entry and forces it; then the event stands, and its letters are handed out.
+//! A step of a node: it learns the letter, applies the rule, makes room, appends the event's entry
+//! and forces it. Then the node takes the event's changes, and returns the event with its letters.
 ghost use Rattle.std.specs.Prelude.{◌≡◌, ◌⊎◌, ◌≤◌, false, Some, None, IsTrue, IsFalse, OnOk, OnErr, IfOk, IsErrOf, All, ◌++◌, Ok as Opens};
 ghost use Rattle.cam_base.specs.Causes.{Rose};
 ghost use Rattle.cam_ckpt.specs.Moments.{IsOldOrNew};
@@ -92,13 +92,12 @@ impl Core {
 }
 
 impl<L: CheckpointLog> Node<L> {
-    /// A step of the node that is not halted: an input is put to it against which nothing stands.
-    /// The event is that of the input's rule, and its letters are those that the rule sends.
+    /// Takes an input that [`Node::refusal`] allows, applies its rule, and returns the event and its
+    /// letters. The node is not halted.
     ///
-    /// Where memory runs out and the node is not halted, nothing has happened. After a fault of the
-    /// disk, and where the disk has no memory, the node is halted: its log may have the event's
-    /// entry, no event is told and no letter is handed out. `DiskFault` comes only where the disk's
-    /// count of faults rose.
+    /// If memory runs out and the node is not halted, nothing has happened. The node halts if its disk
+    /// failed, or had no memory. Then its log may have the event's entry, and no event and no letter is
+    /// returned. `DiskFault` comes only if the disk's count of faults rose.
     ///
     /// A call takes an index up to 999,999,999, and a family may be secured with it; a restart takes
     /// none above 499,999,999.
@@ -121,13 +120,13 @@ impl<L: CheckpointLog> Node<L> {
             (mail_of input.now) (load_of input.now) stepped.event) }
         ensures letters { IfOk result (λ stepped.
             stepped.letters ≡ letters_of (answers self.new.core) stepped.event.sent) }
-        // The log keeps each history that it kept, with the event.
+        // The log keeps each history that it kept, and the event after it.
         ensures keeps { IfOk result (λ stepped. KeepsOn self.old.objects
             (answers self.old.core) (L.listed self.old.log.log)
             (answers self.new.core) (L.listed self.new.log.log)
             (input_of self.old.core.number input.now)
             (mail_of input.now) (load_of input.now) stepped.event) }
-        // The log lists the event's entry, or the same where the event has no record.
+        // The log lists the event's entry, or the same as before if the event has no record.
         ensures entry { IfOk result (λ stepped. HasAppended self.old.objects
             (answers self.old.core) (input_of self.old.core.number input.now) (mail_of input.now)
             (load_of input.now) stepped.event (L.listed self.old.log.log) (L.listed self.new.log.log)
@@ -142,28 +141,28 @@ impl<L: CheckpointLog> Node<L> {
             (L.faults self.old.log.log) (L.faults self.new.log.log)) }
         ensures not_listed { OnErr result
             (L.listed self.new.log.log ≡ L.listed self.old.log.log) }
-        // Whatever a crash leaves of a halted node's disk has the log before, or with what was
-        // taken of the event.
+        // Whatever a crash leaves of a halted node's disk has the old log, or the old log and the
+        // logged part of the event.
         ensures halt { IsTrue (L.tells self.old.log.log) → IsTrue self.new.log.halted
             → IsHalt self.old.objects (answers self.old.core) (L.listed self.old.log.log)
             (input_of self.old.core.number input.now) (mail_of input.now) (load_of input.now)
             (MayRead (L.opens_since self.new.log.log) (L.moment self.new.log.log)) }
-        // A halted node keeps what its log may have taken of the event.
+        // A halted node remembers what its log may have taken of the event.
         ensures halted_at { IsTrue self.new.log.halted → HaltsAt self.old.objects
             (answers self.old.core) (L.listed self.old.log.log)
             (input_of self.old.core.number input.now) (mail_of input.now) (load_of input.now)
             (answers self.new.core) self.new.halted_at }
         ensures no_halt { IsFalse self.new.log.halted → self.new.halted_at ≡ self.old.halted_at }
-        // A crash at any moment of the call leaves the history before, or that with what was taken
-        // of the event.
+        // A crash during the call leaves a log of the old history, or of the old history plus the
+        // logged part of the event.
         ensures any_moment { IsTrue (L.tells self.old.log.log)
             → Grows (L.moment self.old.log.log) (L.moment self.new.log.log)
             (L.opens_since self.old.log.log) (L.opens_since self.new.log.log)
             (OpensAsEither self.old.objects (answers self.old.core) (L.listed self.old.log.log)
             (input_of self.old.core.number input.now) (mail_of input.now) (load_of input.now)) }
-        // A fault comes because a call of the disk that was done failed, or because the append was
-        // cut off, of an event that has a record: then the log reads as that of the history before,
-        // and with what was taken of the event just where three of its calls were done.
+        // A fault comes because a call of the disk that was done failed, or because the append of an
+        // event with a record was cut off. In the second case the log has the logged part of the event
+        // exactly if three of its calls were done.
         ensures cut_off { IsErrOf result DiskFault
             → Rose (L.faults_within self.old.log.log) (L.faults_within self.new.log.log)
             ⊎ IsCutOff 4 (L.passes self.old.log.log) (L.passes self.new.log.log)
@@ -172,9 +171,9 @@ impl<L: CheckpointLog> Node<L> {
             (input_of self.old.core.number input.now) (mail_of input.now) (load_of input.now)
             (L.reads self.new.log.log)) }
         ensures unbounded { L.passes self.old.log.log ≡ None → L.passes self.new.log.log ≡ None }
-        // It halts only where its log has to be opened again.
+        // It halts only if its log must be opened again.
         ensures broken { IsTrue self.new.log.halted → IsTrue (L.broken self.new.log.log) }
-        // With no call of the disk left nothing of it is touched.
+        // With no call of the disk left, nothing of it is touched.
         ensures stopped { L.passes self.old.log.log ≡ Some 0
             → Untouched (L.moment self.old.log.log) (L.moment self.new.log.log)
             (L.opens_since self.old.log.log) (L.opens_since self.new.log.log)
@@ -204,9 +203,9 @@ impl<L: CheckpointLog> Node<L> {
         }
     }
 
-    /// Appends the entry of an event that may stand, and forces it; then the event stands. Where
-    /// the node is halted its log may have the entry, and its parts stand with the event, which is
-    /// not told. After an error without a halt nothing has happened.
+    /// Appends the entry of an event and forces it; then the node takes the event's changes. If the
+    /// node halts, its log may have the entry, and its parts may have the changes of an event that is
+    /// not returned. After an error without a halt nothing has happened.
     #[tactic(auto, using(crate::proofs::TakenMoments::some_records))]
     pub(crate) fn take(&mut self, plan: Plan) -> Result<Stepped, NodeFault>
         requires running { IsFalse self.old.log.halted }

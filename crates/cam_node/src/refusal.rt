@@ -1,6 +1,6 @@
-//! What stands against an input: against a request, a query, or telling a node. A query has nothing
-//! to ask where the node knows how the family ended, or has neither secured the family nor a live
-//! operation of it. A node has nothing to tell itself.
+//! Why an input is refused: a request, a query, or telling a node. A query has nothing to ask if the
+//! node knows how the family ended, or has neither secured the family nor a live operation of it. A
+//! node has nothing to tell itself.
 ghost use Rattle.std.specs.Prelude.{◌≡◌, ◌||◌, List, IsFalse, None};
 ghost use Rattle.cam_type.specs.declared.ObjectDecl.{ObjectDecl};
 ghost use Rattle.cam_event.specs.Refusals.{tell_refusal};
@@ -18,8 +18,7 @@ use cam_event::{LineRefusal, Request};
 use cam_names::Name;
 
 impl Core {
-    /// What stands against a request of an action, if anything does: by the tests of the rule, the first that holds. The node is the action's
-    /// home. It takes no memory.
+    /// Why a request of an action is refused, if it is: the first test of the rule that holds. The node is the action's home. It takes no memory.
     pub(crate) fn refusal(&self, request: &Request) -> Option<LineRefusal>
         ensures rule { (objects : List ObjectDecl)
             → IsRefusal objects (answers self.now) request.now.action request.now.want result }
@@ -29,7 +28,7 @@ impl Core {
         self.actions.refusal(request)
     }
 
-    /// What stands against telling a node what is known, if anything does.
+    /// Why telling a node what is known is refused, if it is.
     fn tell_refusal(&self, to: u8) -> Option<LineRefusal>
         ensures { result ≡ tell_refusal (answers self.now).number to }
     {
@@ -40,7 +39,7 @@ impl Core {
         }
     }
 
-    /// What stands against asking the home of a family how the family ended, if anything does. It takes no memory.
+    /// Why asking the home of a family how the family ended is refused, if it is. It takes no memory.
     pub(crate) fn query_refusal(&self, family: &Name) -> Option<LineRefusal>
         ensures rule { (objects : List ObjectDecl)
             → IsQueryRefusal objects (answers self.now) family.now result }
@@ -56,7 +55,7 @@ impl Core {
         }
     }
 
-    /// Whether the node has secured a family, or has a live operation of it.
+    /// Whether the node takes part in a family: it has secured it, or has a live operation of it.
     fn has_something_of(&self, family: &Name) -> bool
         ensures { result ≡ ((answers self.now).families.is_secured family.now
             || has_family (answers self.now).server.table.site family.now) }
@@ -66,10 +65,9 @@ impl Core {
 }
 
 impl<L: CheckpointLog> Node<L> {
-    /// What stands against an input, if anything does: against a request by the tests of the rule,
-    /// the first that holds, where the node is the action's home; and against a query, or telling a
-    /// node. The node is not halted: the parts of one that is may stand with an event that is not
-    /// told. It takes no memory.
+    /// Why an input cannot be taken now; a letter is never refused. For a request it is the first test
+    /// of the rule that holds, if the node is the action's home. The node is not halted: the parts of a
+    /// halted node may have the changes of an event that was not returned. It takes no memory.
     pub fn refusal(&self, input: &Input) -> Option<LineRefusal>
         requires running { IsFalse self.now.log.halted }
         ensures rule { (objects : List ObjectDecl)

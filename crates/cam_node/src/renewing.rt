@@ -76,8 +76,8 @@ impl Core {
         })
     }
 
-    /// Becomes the node that a restart makes of what its log keeps, and tells what the restart found.
-    /// It fails where memory runs out, and nothing has changed then.
+    /// Becomes the node that a restart makes of what its log keeps, and returns what the restart found.
+    /// It fails only if memory runs out; then nothing has changed.
     fn renew(
         &mut self,
         objects: &Objects,
@@ -109,27 +109,27 @@ impl Core {
 }
 
 impl<L: CheckpointLog> Node<L> {
-    /// Restarts the node, halted or not: it reads its log again, puts all that is kept with the
-    /// raised count in place of what it read, and goes on from that; where the list has the last
-    /// number, the raised count goes after what it read. The event is the restart; no letter is
-    /// sent. It tells what it found: whether the log has what was taken of the event at which the
-    /// node had halted, and how many restarts that failed had reached the log.
+    /// Restarts the node, halted or not. It reads its log again, replaces the list by one entry of all
+    /// that is kept with the raised count, and goes on from that. If the list has the last number, the
+    /// raised count is appended instead. The event is the restart; no letter is sent. The result says
+    /// whether the log has what was taken of the event at which the node had halted, and how many
+    /// failed restarts had reached the log.
     ///
-    /// `DiskFault` comes where what was read cannot be restarted: a count that is the last, an
-    /// operation that is not on an object of the node or does not fit it, an index that stands
-    /// twice or is above 499,999,999, a family that is secured twice, a commit that depends on a
-    /// count above the known one of its node. A disk that does not tell what it holds is spoiled
-    /// then. Of what a history's log holds, just the count and the indices may be such; so over a
-    /// disk of which nothing else can be read `DiskFault` comes only where the disk's count of
-    /// faults rose. After an error the node is halted, and may be restarted again.
+    /// `DiskFault` comes if what was read cannot be restarted: a count that is the last, an operation
+    /// that is not on an object of the node or does not fit it, an index that is there twice or is
+    /// above 499,999,999, a family that is secured twice, a commit that depends on a count above the
+    /// known one of its node. A disk that does not tell what it holds is spoiled then. In what a
+    /// history's log holds, only the count and the indices may be so. If nothing but such logs can be
+    /// read and numbers are left, `DiskFault` comes only if the disk's count of faults rose. After an
+    /// error the node is halted, and may be restarted again.
     pub fn restart(&mut self) -> Result<Restarted, NodeFault>
         ensures restarted { IfOk result (λ restarted. HasRestarted self.old.objects
             self.old.core.number (L.tells self.old.log.log)
             (MayRead (L.opens_since self.old.log.log) (L.moment self.old.log.log))
             (answers self.old.core) self.old.halted_at
             (answers self.new.core) (L.listed self.new.log.log) restarted) }
-        // Of a disk that tells, by what the log reads when it begins: the event is found where that
-        // has it, and none where that has the history before and the event adds to it.
+        // If the disk tells, by what the log reads when it begins: the event is found if that has it,
+        // and not found if that has the history before and the event adds to it.
         ensures found { IsTrue (L.tells self.old.log.log) → IfOk result (λ restarted.
             FindsBy self.old.objects self.old.core.number (answers self.old.core)
             self.old.halted_at (L.reads self.old.log.log) restarted.found) }
@@ -137,8 +137,8 @@ impl<L: CheckpointLog> Node<L> {
         // The log lists one entry then, unless the number of its list is the last.
         ensures one_entry { OnOk result
             (HasOneEntry (L.generation self.new.log.log) (L.listed self.new.log.log)) }
-        // Of a disk that tells its list has the number after that of the list which was read, and
-        // so after the present one where the node was not halted.
+        // If the disk tells, the list has the number after that of the list which was read; if the
+        // node was not halted, that is the one after its own.
         ensures disk_generation { IsTrue (L.tells self.old.log.log) → OnOk result
             (HasNextNumber (L.disk_generation self.old.log.log) (L.generation self.new.log.log)) }
         ensures generation { IsTrue (L.tells self.old.log.log) → IsFalse self.old.log.halted
@@ -154,8 +154,8 @@ impl<L: CheckpointLog> Node<L> {
             (IsRestartHalt self.old.objects self.old.core.number
             (MayRead (L.opens_since self.old.log.log) (L.moment self.old.log.log))
             (MayRead (L.opens_since self.new.log.log) (L.moment self.new.log.log))) }
-        // A crash at any moment of the call leaves what it could leave before, or what the restart of
-        // one of those leaves.
+        // A crash during the call leaves what it could leave before, or what the restart of one of
+        // those leaves.
         ensures any_moment { IsTrue (L.tells self.old.log.log)
             → Grows (L.moment self.old.log.log) (L.moment self.new.log.log)
             (L.opens_since self.old.log.log) (L.opens_since self.new.log.log)
@@ -165,7 +165,7 @@ impl<L: CheckpointLog> Node<L> {
         ensures unbounded { L.passes self.old.log.log ≡ None → L.passes self.new.log.log ≡ None }
         ensures later { L.faults self.old.log.log ≤ L.faults self.new.log.log }
         ensures faults_within { L.faults_within self.old.log.log ≤ L.faults_within self.new.log.log }
-        // Whatever may be read is the log of a history, in which numbers are left.
+        // The premise: whatever may be read is the log of a history in which numbers are left.
         ensures disk_fault { ((logged : Logged) → IsTrue (L.tells self.old.log.log)
             → MayRead (L.opens_since self.old.log.log) (L.moment self.old.log.log) logged
             → IsOfHistory self.old.objects self.old.core.number logged)
