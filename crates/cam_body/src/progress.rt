@@ -109,7 +109,7 @@ impl Progress {
     }
 }
 
-/// The value that a call left; none where it failed.
+/// The value that a call left; none if it failed.
 fn value_seen(seen: &Seen) -> Option<i64>
     ensures { child_result result ≡ seen_result seen.now }
 {

@@ -34,7 +34,7 @@ pub fn next_request(body: &BodyText, view: &View) -> Next
     }
 }
 
-/// The body of the child for which the statement at work asks, as its place among the bodies; none where it asks for no child.
+/// The body of the child for which the statement at work asks, as its place among the bodies; none if it asks for no child.
 pub fn child_body(body: &BodyText, view: &View) -> Option<u8>
     ensures { result ≡ child_body body.now view.now }
 {

@@ -91,7 +91,7 @@ halts_from k (puts.Stood ∷ ends) = halts_from (k + 1) ends
 halts_from k (puts.Halted ∷ ends) =
     halts_from (k + 1) ends ++ record { input = k; took = false } ∷ []
 
--- Halts at inputs before say nothing of this one, so with the halt of its end they say just that.
+-- Halts at inputs before say nothing of this one, so with the halt of its end they say exactly that.
 abbrev pub EndsAreSaid : Type 1
 EndsAreSaid =
     (seen : Seen) (lines : LinesFields) (may_read : ℕ → Logged → Type 0) (step : Step)

@@ -37,7 +37,7 @@ abbrev pub IsOfKnown : Failed → RunFault → Type 0
 IsOfKnown known (run_faults.DiskFault s) = known ≡ failed.Disk s
 IsOfKnown known run_faults.NoMemory = Unit {0}
 
--- What is known to have failed, by what was known before: nothing just where no count of a disk has
+-- What is known to have failed, by what was known before: nothing exactly if no count of a disk has
 -- changed since; a disk only where its count rose.
 abbrev pub IsKnownToFail : Failed → List NodeFields → Failed → List NodeFields → Type 0
 IsKnownToFail before olds failed.Nothing news =
@@ -48,7 +48,7 @@ IsKnownToFail before olds (failed.Disk s) news =
     ⊎ HasFailed (λ (n : NodeFields). n.failures) (λ (n : NodeFields). n.failures) s olds news
 IsKnownToFail before olds failed.Memory news = Unit {0}
 
--- So nodes go on with their disks: each is at its place and tells what it holds just where it did, no
+-- So nodes go on with their disks: each is at its place and tells what it holds exactly if it did, no
 -- count of faults fell, and it is known what failed by itself.
 pub record GoOn (olds : List NodeFields) (before : Failed) (news : List NodeFields)
     (now : Failed) : Type 0 where

@@ -53,7 +53,7 @@ new_works nodes = record {
   marks = [];
 }
 
--- A disk that was taken out of a node: it tells what it holds just where the node's log did, whatever
+-- A disk that was taken out of a node: it tells what it holds exactly if the node's log did, whatever
 -- may be read from it might be read from the log, and whatever a crash now leaves of it is a log of a
 -- node.
 pub record IsTakenOut {N D : Type 0} (tells_node : N → Bool) (node_reads : N → Logged → Type 0)

@@ -44,7 +44,7 @@ is_request (nexts.Request want) = true
 is_request nexts.Wait = false
 is_request nexts.Over = false
 
--- It is said of the request that it ended so, where there is one.
+-- It is said of the request that it ended so, if there is one.
 abbrev pub IsSaidOf : Setting → Standing → Name → Next → Option Put → Type 0
 IsSaidOf c st a (nexts.Request want) (Some done) =
     halt_of c st (Requests (record { action = a; want = want })) ≡ as_halt done

@@ -6,7 +6,7 @@ use Rattle.cam_base.specs.Causes.{Rose}
 use Rattle.cam_cluster.specs.declared.fault.RunFault.{RunFault}
 use Rattle.cam_cluster.specs.declared.fault.RunFault.TheVariants as faults
 
--- A disk later, or what holds it: it tells what it holds just where it did, and its count of faults
+-- A disk later, or what holds it: it tells what it holds exactly if it did, and its count of faults
 -- did not fall.
 pub record IsLater {A B : Type 0} (told_before : A → Bool) (faults_before : A → ℕ)
     (tells : B → Bool) (faults_of : B → ℕ) (old : A) (new : B) : Type 0 where
@@ -23,7 +23,7 @@ AreLater told_before faults_before tells faults_of (old ∷ olds) (new ∷ news)
     IsLater told_before faults_before tells faults_of old new
     × AreLater told_before faults_before tells faults_of olds news
 
--- Disks that are handed back: as many; place by place, each tells what it holds just where it did, and
+-- Disks that are handed back: as many; place by place, each tells what it holds exactly if it did, and
 -- no count of faults fell.
 abbrev pub AreHandedBack : {D : Type 0} → (D → Bool) → (D → ℕ) → List D → List D → Type 0
 AreHandedBack tells faults_of before after =
@@ -51,7 +51,7 @@ pub record IsFirstFailed {A B : Type 0} (faults_before : A → ℕ) (faults_of :
   pub failed : HasFailed faults_before faults_of s before after
   pub first : (k : ℕ) → k < s → HasFailed faults_before faults_of k before after → ⊥
 
--- The first node whose disk failed; none just where none failed.
+-- The first node whose disk failed; none exactly if none failed.
 abbrev pub FindsFailed : {A B : Type 0} → (A → ℕ) → (B → ℕ) → List A → List B → Option ℕ → Type 0
 FindsFailed faults_before faults_of before after (Some s) =
     IsFirstFailed faults_before faults_of s before after

@@ -58,7 +58,7 @@ abbrev pub Making : Type 0
 Making = Setting → List (List Statement) → Standing → Standing
 
 -- THE CLAUSE of inputs that are put one after another. There is a list of how each ended; of each
--- run that was kept, with halts that say just that of these inputs, what they make is kept.
+-- run that was kept, with halts that say exactly that of these inputs, what they make is kept.
 pub record HaveMade (making : Making) (line : ℕ) (bodies : List (List Statement))
     (old : WorksFields) (might_read : ℕ → Logged → Type 0) (old_workers : Workers)
     (new : WorksFields) (may_read : ℕ → Logged → Type 0) (workers : Workers) : Type 0 where

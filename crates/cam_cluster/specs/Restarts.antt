@@ -33,7 +33,7 @@ restart_halt script halts line restarted st s =
     halt_of (held_setting script.objects halts line restarted) (ended_halt st s) (Restarts s)
 
 -- The log has the event at which the node halted: they keep each run in which that halt was taken,
--- with the restart after it. It comes only where the node was halted.
+-- with the restart after it. It comes only if the node was halted.
 pub record HasFoundHalt (place : ℕ) (old : WorksFields) (might_read : ℕ → Logged → Type 0)
     (new : WorksFields) (may_read : ℕ → Logged → Type 0) : Type 0 where
   pub halted :
@@ -61,7 +61,7 @@ HasRestartedAs place old might_read ends.Found new may_read =
     HasFoundHalt place old might_read new may_read
 HasRestartedAs place old might_read ends.Failed new may_read = new.failed ≡ failed.Nothing → ⊥
 
--- While nothing has failed by itself, a restart of a node that is halted finds the event just where
+-- While nothing has failed by itself, a restart of a node that is halted finds the event exactly if
 -- the stop of its disk let three calls pass.
 abbrev pub FindsByStop : Option ℕ → Restart → Type 0
 FindsByStop calls ends.Stood = calls ≡ Some 3 → ⊥

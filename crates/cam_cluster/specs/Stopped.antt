@@ -1,6 +1,6 @@
 -- A node of a run by the lines that stop its disk, while no call of the disk that was done has
 -- failed: it does as many calls more as they say. Where they end at an append the node is halted,
--- and its log has what was taken of the event just where three calls of the append passed.
+-- and its log has what was taken of the event exactly if three calls of the append passed.
 use Rattle.std.specs.Prelude.{◌≡◌, ℕ, true, false, List, Option, Some}
 use Rattle.cam_type.specs.declared.ObjectDecl.{ObjectDecl}
 use Rattle.cam_event.specs.declared.Event.{Event}

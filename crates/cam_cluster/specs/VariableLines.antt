@@ -24,7 +24,7 @@ use Rattle.cam_cluster.specs.declared.LineFault.{LineFault}
 use Rattle.cam_cluster.specs.declared.works.Put.{Put}
 use Rattle.cam_cluster.specs.SoFar.{IsEnded, IsLineOfInput, KeepsLines, LinesFields}
 
--- the action of a variable; none where the line that binds it was refused or halted
+-- the action of a variable; none if the line that binds it was refused or halted
 abbrev pub action_of : List (Option Name) → ℕ → Option Name
 action_of bound v = unwrap_or (slice_get bound v) None
 

@@ -18,8 +18,8 @@ pub enum Arrival {
     Cut(WireFault),
 }
 
-/// Reads the bytes of a letter that was sent, or those before a cut. All of them give just that
-/// letter, with what it carries; fewer end too early, where they were cut. It fails only where
+/// Reads the bytes of a letter that was sent, or those before a cut. All of them give exactly that
+/// letter, with what it carries; fewer end too early, where they were cut. It fails only if
 /// memory runs out.
 pub fn read_arrival(alloc: Global, bytes: &[u8]) -> Result<Arrival, NoMemory>
     ensures whole { IfOk result (GivesWhole bytes.now) }

@@ -151,7 +151,7 @@ pub(crate) fn take_out<D: Disk>(nodes: &mut Vec<Node<Ckpt<StopDisk<D>>>>, disks:
         (λ node. MayRead (⟦<Ckpt<StopDisk<D>> as EntryLog>⟧.opens_since node.log.log)
         (⟦<Ckpt<StopDisk<D>> as EntryLog>⟧.moment node.log.log))
         D.tells D.moment D.left_since nodes.old.items disks.new.items }
-    // Each tells what it holds just where the node's log did, and no count of faults fell.
+    // Each tells what it holds exactly if the node's log did, and no count of faults fell.
     ensures later { AreLater (λ n. n.tells) (λ n. n.failures) D.tells D.faults
         (map (⟦<Node<Ckpt<StopDisk<D>>> as AsPart>⟧.part) nodes.old.items) disks.new.items }
     ensures count { length disks.new.items ≡ length nodes.old.items }

@@ -60,7 +60,7 @@ impl<D: TellingDisk> Run<Ckpt<StopDisk<D>>> {
         ensures count { IfOk result
             (λ run. length run.course.lines.works.nodes.items ≡ length disks.old.items) }
         ensures empty { OnOk result (disks.new.items ≡ []) }
-        // Each node's disk tells what it holds just where it did, and no count of faults fell.
+        // Each node's disk tells what it holds exactly if it did, and no count of faults fell.
         ensures later { IfOk result (λ run. AreLater D.tells D.faults (λ n. n.tells)
             (λ n. n.failures) disks.old.items
             (⟦<Lines<Ckpt<StopDisk<D>>> as AsLines>⟧.fields run.course.lines).works.nodes) }
@@ -88,7 +88,7 @@ impl<D: TellingDisk> Run<Ckpt<StopDisk<D>>> {
             (⟦<Lines<Ckpt<StopDisk<D>>> as AsLines>⟧.may_read self.course.lines)
             self.course.workers
             → IsRunWithLogs script (MayReadDisk D.tells D.moment D.left_since disks.new.items) result }
-        // Each tells what it holds just where the node's log did, and no count of faults fell.
+        // Each tells what it holds exactly if the node's log did, and no count of faults fell.
         ensures later { AreLater (λ n. n.tells) (λ n. n.failures) D.tells D.faults
             (⟦<Lines<Ckpt<StopDisk<D>>> as AsLines>⟧.fields self.course.lines).works.nodes
             disks.new.items }
@@ -229,11 +229,11 @@ fn run_over<D: TellingDisk, R: DataType, Q: DataType, C: DataType>(
 /// Runs a whole script, each node over the disk at its place, which is formatted, whatever it held.
 /// A line that is refused leaves its mark, and the run goes on; so it does where a node halts since
 /// a line has stopped its disk. What it gives is the record of the one run of the script: a node
-/// halts just where such a line cuts its append off. However the run ends, as many disks are back in
+/// halts exactly if such a line cuts its append off. However the run ends, as many disks are back in
 /// their list. Where it gives a record, whatever a crash then leaves of a disk is a log, which keeps
 /// the node's history of the run; that of a node that is halted may have the event of the halt, too.
 ///
-/// The servers do the operations of its objects. The run ends by `DiskFault` just where the disk of a
+/// The servers do the operations of its objects. The run ends by `DiskFault` exactly if the disk of a
 /// node failed by itself in it, in a call that it does: while it is formatted, in a line, or while its
 /// node restarts. That disk's count of faults rose then; of several disks that failed it names the
 /// first, in order of their nodes. How often a disk had failed before does not matter, but at the end
@@ -252,7 +252,7 @@ pub fn run_script<D: TellingDisk, R: DataType, Q: DataType, C: DataType>(
         (MayReadDisk D.tells D.moment D.left_since disks.new.items)) }
     ensures disks { AreHandedBack D.tells D.faults disks.old.items disks.new.items }
     ensures logs { OnOk result (AreLogs D.tells D.moment D.left_since disks.new.items) }
-    // A disk is named just where one failed by itself in the run: the first that did.
+    // A disk is named exactly if one failed by itself in the run: the first that did.
     ensures failed { FindsFailed D.faults D.faults disks.old.items disks.new.items
         (disk_named result) }
     // The list keeps its room.

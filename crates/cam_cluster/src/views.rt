@@ -180,7 +180,7 @@ impl ActionViews {
         note_stop(&mut self.stopped, event)
     }
 
-    /// Takes in these events, the oldest first. Each deed costs a look-up or two by name. Where memory runs out only a part of an
+    /// Takes in these events, the oldest first. Each deed costs a look-up or two by name. If memory runs out only a part of an
     /// event may be taken in, and what is kept is of no more use.
     pub(crate) fn take_events(&mut self, events: &[Event]) -> Result<(), NoMemory>
         ensures { OnOk result ((t : List EventFields) → HasSeen t self.old

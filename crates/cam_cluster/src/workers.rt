@@ -100,7 +100,7 @@ impl Workers {
         Ok(())
     }
 
-    /// Takes in the events that are not taken in. Where memory runs out, none is taken in any more: the next `catch_up` takes in them
+    /// Takes in the events that are not taken in. If memory runs out, none is taken in any more: the next `catch_up` takes in them
     /// all.
     fn take_in(&mut self, events: &[Event]) -> Result<(), NoMemory>
         requires { self.old.events ≤ length events.now }

@@ -118,7 +118,7 @@ fn received_in(input: &Input) -> Option<LetterId>
 impl<L: TellingLog> Works<L> {
     /// Puts an input to the node at a place, against which nothing stands there.
     ///
-    /// Its event stands and its letters are put next; or the node halted, which leaves a mark. Where memory runs out before
+    /// Its event stands and its letters are put next; or the node halted, which leaves a mark. If memory runs out before
     /// that all is as it was, but that letters of the event before may have been put.
     #[tactic(none)]
     pub(crate) fn put<R: DataType, Q: DataType, C: DataType>(

@@ -130,7 +130,7 @@ SecureKeeps =
 abbrev pub families_of : List Held → List Name
 families_of held = map (λ h. h.family) held
 
--- The families that a log recovered: none is preparing, and just these are secured.
+-- The families that a log recovered: none is preparing, and exactly these are secured.
 pub record AreRecovered (secured : List Name) (new : Families) : Type 0 where
   pub preparing : (f : Name) → new.is_preparing f ≡ false
   pub votes : (f : Name) (m c : ℕ) → new.has_vote f m c ≡ false

@@ -145,8 +145,8 @@ abbrev pub brings : (Body → Bool) → Input → Option Mail → Bool
 brings test (Receives letter) mail = is_mail test mail
 brings test _ mail = false
 
--- Of which kind an event of a node is: just a restart crashes it, just a finish of a family begins
--- it, just a prepare secures it; and a node's Secures are its own.
+-- Of which kind an event of a node is: only a restart crashes it, only a finish of a family begins
+-- it, only a prepare secures it; and a node's Secures are its own.
 pub record IsOfKind (s : ℕ) (input : Input) (c : Carried) : Type 0 where
   pub restarts : is_restart c ≡ is_restarting input
   pub begins : (f : Name) → is_preparing_note f c.event.note ≡ true

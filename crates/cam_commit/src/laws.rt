@@ -21,7 +21,7 @@ pub fn one_more_call()
 {}
 
 /// After one more step the families answer as the longer history does: at a finish of a top action,
-/// a prepare and a vote where the node made the call that stands for it, or none where it is late,
+/// a prepare and a vote where the node made the call that stands for it, or none if it is late,
 /// and else where it made none. What a node is preparing is of its present count.
 pub fn one_more_step()
     ensures finish { FinishStepKeeps }
@@ -47,7 +47,7 @@ pub fn calls_are_rules()
     ensures queried { QueriedIsRule }
 {}
 
-/// Just a restart crashes a node, just a finish begins a family there, just a prepare secures one,
+/// Only a restart crashes a node, only a finish begins a family there, only a prepare secures one,
 /// and its Secures are its own.
 pub fn kinds_of_steps()
     ensures { StepsAreOfKind }

@@ -8,7 +8,7 @@
 //!
 //! Its law: after each event of a node the families answer as the node's history does
 //! (`one_more_event`, `one_more_call`, `one_more_step`), and after a restart too (`after_restart`).
-//! It stands on `cam_event` (histories and rules) and `cam_know` (knowledge).
+//! It uses `cam_event` (histories and rules) and `cam_know` (knowledge).
 #![tactic(auto)]
 
 ghost use Rattle.std.specs.Prelude.{◌≡◌, ◌≤◌, false, IfOk, IsOk, OnOk};

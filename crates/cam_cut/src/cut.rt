@@ -12,7 +12,7 @@ use std::alloc::Global;
 /// The deeds of the events that are kept, in the order of the trace. `keep` has a flag for each event:
 /// those whose flag is true are kept. Where the trace is a run, also one in which nodes halt, and the
 /// kept events have with each event its past, these deeds are a legal history of plain nested
-/// transactions. The time is linear in the deeds of the trace; it fails only where memory runs out.
+/// transactions. The time is linear in the deeds of the trace; it fails only if memory runs out.
 pub fn cut_deeds(alloc: Global, trace: &Trace, keep: &[bool]) -> Result<Deeds, NoMemory>
     requires flags { length keep.now ≡ length trace.now }
     ensures exact { IfOk result

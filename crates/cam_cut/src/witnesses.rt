@@ -39,7 +39,7 @@ impl From<NoMemory> for CutFault {
 /// The witness of an action: the deeds in the past of the last event that gives a step of its view, in
 /// the order of the trace. Where the trace is a run, also one in which nodes halt, these are a legal
 /// history of plain nested transactions in which the action is no orphan and has the view that it has
-/// in the whole run. `NoSuchAction` comes exactly where the action was not created in the trace. The
+/// in the whole run. `NoSuchAction` comes exactly if the action was not created in the trace. The
 /// time is linear in the trace, times the logarithm of how many children the action has.
 pub fn witness(alloc: Global, trace: &Trace, name: &Name) -> Result<Deeds, CutFault>
     ensures exact { IfOk result (λ deeds. history deeds ≡ witness (reverse trace.now) name.now) }

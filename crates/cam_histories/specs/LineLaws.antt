@@ -82,7 +82,7 @@ DeliveriesStand =
     → HasDelivered script (held_setting script.objects halts line restarted) st number id sites net
     halted new event
 
--- A loss: the network has the letter just where the run can deliver it.
+-- A loss: the network has the letter exactly if the run can deliver it.
 abbrev pub LossesStand : Type 0
 LossesStand =
     (script : Script) (st : Standing) (number : ℕ) (sites : List Site) (net : List InFlightFields)

@@ -28,7 +28,7 @@ abbrev pub next_whole : List ObjectDecl → List Event → Input → Option Mail
 next_whole objects t input mail load =
     whole_step objects (node_of t input) (history_of objects t (node_of t input)) input mail load
 
--- The event has a record just where it appends an entry,
+-- The event has a record exactly if it appends an entry,
 abbrev pub EntriesAreAppended : Type 0
 EntriesAreAppended =
     (holds : Holding) (objects : List ObjectDecl) (taken : ℕ → Bool) (t : List Event)

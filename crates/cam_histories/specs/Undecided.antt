@@ -39,7 +39,7 @@ abbrev pub received_at : List ObjectDecl → List Event → Undecided → Receiv
 received_at objects trace u = received_behind objects (events_before u.before trace) u.event
 
 -- At first it is what was taken of the node's step. What was put to the node was as good as what
--- the run has of it, so the node halted in just that step, and its log may have it.
+-- the run has of it, so the node halted in exactly that step, and its log may have it.
 abbrev pub step_in : List ObjectDecl → List Event → Input → Received
 step_in objects t input =
     whole_step objects (node_of t input) (history_of objects t (node_of t input)) input
@@ -106,7 +106,7 @@ FoundEventsHaveTheirPlace =
     (objects : List ObjectDecl) (s : ℕ) (before : List Event) (e : Event) (lost found : Standing)
     → IsFound s before e lost found → events_before (length before) lost.running.trace ≡ before
 
--- the history of its node has just that besides,
+-- the history of its node has exactly that besides,
 abbrev pub FoundEventsAreUndecided : Type 0
 FoundEventsAreUndecided =
     (objects : List ObjectDecl) (k s : ℕ) (before : List Event) (e : Event) (lost found : Standing)

@@ -6,7 +6,7 @@ ghost use Rattle.cam_histories.specs.FlightLaws.{LoseStands, NewNetworkStands, P
 ghost use Rattle.cam_histories.specs.FlightLaws.{SomePutStand, UnputMayBeWritten};
 
 /// A network that has the letters of a run, but for those that are put next. It begins empty. What
-/// a node hands out is what its event sent; with one more event just these letters are put next,
+/// a node hands out is what its event sent; with one more event exactly these letters are put next,
 /// one by one, each as the bytes that spell it. It stays so where a letter is lost or delivered,
 /// and where nodes halt or go on.
 pub fn flights()

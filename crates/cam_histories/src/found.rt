@@ -64,7 +64,7 @@ pub fn histories_alike()
 /// A run keeps of each halt that is undecided which event it was and where it stood: at first what
 /// was taken of the step in which its node halted, which the log may have. What that adds to the
 /// history of the node stays the same, whatever comes after. Where the halt is found to be taken,
-/// just that stands in the history besides, at that place, and the halt is undecided no more; the
+/// exactly that stands in the history besides, at that place, and the halt is undecided no more; the
 /// others are what they were, but for the numbers of letters.
 pub fn undecided_halts()
     ensures new { NewHaltsAreUndecided }

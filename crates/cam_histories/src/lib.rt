@@ -78,7 +78,7 @@ pub fn ranges()
 {}
 
 /// Where a network (`cam_net`) has the letters of a run, each with its receiver and whether it was lost or delivered, and the same nodes are
-/// halted, the letter that it names next is the run's least that waits for a node that is not halted, and it has just the letters of the run that
+/// halted, the letter that it names next is the run's least that waits for a node that is not halted, and it has exactly the letters of the run that
 /// are not lost.
 pub fn network()
     ensures next { NextWaits }

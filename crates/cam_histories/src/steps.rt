@@ -37,7 +37,7 @@ pub fn run_inputs()
     ensures stand { InputsStand }
 {}
 
-/// The letter that the network names next is the run's that waits, and none where none waits. A
+/// The letter that the network names next is the run's that waits, and none if none waits. A
 /// delivery that is no halt leaves the nodes, their logs and the network standing for the run, and
 /// so does a loss, and what changes neither events nor letters nor which nodes are halted.
 pub fn run_lines()
@@ -69,7 +69,7 @@ pub fn numbers_left()
     ensures runs { AskedMayRun }
 {}
 
-/// The event of an input has a log entry just where the run says that it appends one. Such an event
+/// The event of an input has a log entry exactly if the run says that it appends one. Such an event
 /// of a node that is not restarted adds to what the log keeps: an outcome, a count or a secured
 /// family that it did not have. So the log tells whether the entry reached it.
 pub fn log_entries()

@@ -7,14 +7,14 @@ use Rattle.cam_recman.specs.Recovery.{recover}
 use Rattle.cam_recman.specs.Migrating.{IsUpgraded, ReadsAndRecovers}
 use Rattle.cam_image.specs.Images.{most_bytes, upgraded}
 
--- Entries are refused by `inspect` just where they cannot be recovered, with the same fault.
+-- Entries are refused by `inspect` exactly if they cannot be recovered, with the same fault.
 abbrev pub ShownIsRecovered : Type 0
 ShownIsRecovered =
     (entries : List (List ℕ)) (fault : RecFault) → (inspect_text entries ≡ Err fault)
     ↔ (recover entries ≡ Err fault)
 
 -- What is written is the migrated log, up to its closed gate; and read as a log it gives the
--- migrated entries, of which just that is recovered which was recovered of the image that was read.
+-- migrated entries, of which exactly that is recovered which was recovered of the image that was read.
 pub record IsUpgrade (image output : List ℕ) : Type 0 where
   pub migrated : IsUpgraded image output
   pub recovers : ReadsAndRecovers migrated.entries migrated.left output

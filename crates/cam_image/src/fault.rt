@@ -36,7 +36,7 @@ impl From<LogFault> for ImageFault {
     fn from(fault: LogFault) -> ImageFault {
         match fault {
             LogFault::NotALog(at) => ImageFault::NotALog(at),
-            // a disk in memory fails only where memory runs out
+            // a disk in memory fails only if memory runs out
             LogFault::DiskFault | LogFault::NoMemory => ImageFault::NoMemory,
         }
     }

@@ -36,7 +36,7 @@ fn add_entry(
 
 /// The records of the entries of a log, in words: each entry with its number, and a line for each of its records.
 ///
-/// `BadRecord` comes as that of [`cam_recman::recover`], and `NoMemory` where memory runs out.
+/// `BadRecord` comes as that of [`cam_recman::recover`], and `NoMemory` if memory runs out.
 pub fn inspect_text(alloc: Global, entries: &Entries) -> Result<String, RecFault>
     ensures shown { IfOk result (λ text. inspect_text entries.now ≡ Shown (string_bytes text)) }
     ensures refused { IfErr result (λ fault. RefusesRecords fault (inspect_text entries.now)) }

@@ -1,7 +1,7 @@
 //! What holds of images.
 ghost use Rattle.cam_image.specs.Laws.{ShownIsRecovered, UpgradeIsMigration, UpgradeIsOnce};
 
-/// Entries are shown just where they can be recovered: a fault is the same.
+/// Entries are shown exactly if they can be recovered: a fault is the same.
 pub fn inspections()
     ensures recovered { ShownIsRecovered }
 {}

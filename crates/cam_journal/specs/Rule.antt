@@ -106,7 +106,7 @@ module _ {E L : Type 0} where
   abbrev pub StartsGathering : {S : Type 0} → Me S (SeatView E L) → Me S (SeatView E L) → Type 0
   StartsGathering me after = after.0 ≡ gatherer me.0
 
-  -- a node with its history behind those that were gathered
+  -- a node with its history after those that were gathered
   abbrev pub with_history : SeatView E L → SeatView E L → SeatView E L
   with_history (Gatherer nodes gathered) (Node node history taken) =
       Gatherer nodes (gathered ++ record { node = node; history = history } ∷ [])

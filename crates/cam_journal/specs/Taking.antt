@@ -82,7 +82,7 @@ module _ {S E L : Type 0} (is_replay : S → ℕ → List (NumberedEvent E L) �
       → IfSome (letter_in input) (λ sent. goes_to sent.letter ≡ node)
       → Steps node history input after result
 
--- The count of faults never falls, and a disk fault comes only where it rose.
+-- The count of faults never falls, and a disk fault comes only if it rose.
 abbrev pub FaultsWithCause : {E : Type 0} → ℕ → ℕ → Result E CoreFault → Type 0
 FaultsWithCause before now (Ok made) = before ≤ now
 FaultsWithCause before now (Err DiskFault) = (before ≤ now) × Rose before now

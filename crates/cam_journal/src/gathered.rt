@@ -28,7 +28,7 @@ impl<C: Core> Model for Gathered<C> {
 }
 
 impl<C: Core> Gathered<C> {
-    /// Hands out the first event with its number; none exactly where none is left. It takes no memory.
+    /// Hands out the first event with its number; none exactly if none is left. It takes no memory.
     pub fn take(&mut self) -> Option<(u64, C::Event)>
         ensures { MatchOption result ((self.old ≡ []) × (self.new ≡ []))
             (λ first. self.old ≡ first ∷ self.new) }

@@ -1,11 +1,11 @@
 //! The numbered run of several threads.
 //!
 //! A `Journal` numbers the events of up to eight nodes by one atomic word. Each node has a `NodeSeat`, which goes to the thread that
-//! works for it. `record` puts an event under the next number behind the history of its seat. A `Note` stands for a letter that an
+//! works for it. `record` puts an event under the next number after the history of its seat. A `Note` stands for a letter that an
 //! event sent; another node takes it, and may record its receipt. `gather` gives the events of all seats in one order. What events
 //! and letters are, and which event is lawful, a `Core` says.
 //!
-//! It stands on `atomic_table`, whose rule each step keeps (`specs/Rule.antt`), and on `cam_base`. Its main clause is that of
+//! It uses `atomic_table`, whose rule each step keeps (`specs/Rule.antt`), and `cam_base`. Its main clause is that of
 //! `Journal::gather`: the events of all seats are one run, numbered from 0 by the places of its steps; each step is lawful after its
 //! node's history, and each received letter was sent under a smaller number.
 #![tactic(auto)]

@@ -47,7 +47,7 @@ pub trait Core: Drop {
     /// Whether the core has nothing to do with an input.
     ghost is_idle: { Self → CoreInput Self.Letter → Bool };
 
-    /// Takes a step: an event that answers the input, or none exactly where there is nothing to do.
+    /// Takes a step: an event that answers the input, or none exactly if there is nothing to do.
     /// After none and after a fault the core is the replay of its history as before.
     fn step(&mut self, input: CoreInput<Self::Letter>) -> Result<Option<Self::Event>, CoreFault>
         requires { CanStep is_replay sends goes_to lawful self.old input }

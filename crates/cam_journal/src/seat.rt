@@ -41,7 +41,7 @@ impl<C: Core> NodeSeat<C> {
         self.entries.len() as u64
     }
 
-    /// The event at a place of the history, from 0, with its number; none exactly where the history has no such place. Its letters are
+    /// The event at a place of the history, from 0, with its number; none exactly if the history has no such place. Its letters are
     /// those that were sent under its number. It takes no memory.
     pub fn get(&self, at: u64) -> Option<(u64, &C::Event)>
         ensures entry { MatchOption result (length self.now.history ≤ at)

@@ -34,7 +34,7 @@ impl Ledger {
         }
     }
 
-    /// Takes one more deed over. The deeds may be any list. It fails only where memory runs out, and the
+    /// Takes one more deed over. The deeds may be any list. It fails only if memory runs out, and the
     /// ledger then keeps what it kept.
     pub fn note(&mut self, objects: &Objects, deed: &Deed) -> Result<(), NoMemory>
         ensures noted { OnOk result ((L : List Deed) → Keeps objects.now L self.old
@@ -56,7 +56,7 @@ impl Ledger {
     }
 
     /// Climbs from the action to its parent while the site was informed of the commit of the present
-    /// one. None where that goes past the top.
+    /// one. None if that goes past the top.
     pub fn lift(&self, site: u8, action: &Name) -> Option<Name>
         ensures { (objects : List ObjectDecl) (L : List Deed) → Keeps objects L self.now
             → result ≡ lift L site action.now }
@@ -136,7 +136,7 @@ fn ledger_of(alloc: Global, deeds: &Deeds, objects: &Objects) -> Result<Ledger, 
 }
 
 /// The operations that are live after the deeds, of all objects, in the order in which they were
-/// performed. The deeds may be any list. It fails only where memory runs out.
+/// performed. The deeds may be any list. It fails only if memory runs out.
 pub fn live(alloc: Global, deeds: &Deeds, objects: &Objects) -> Result<Operations, NoMemory>
     ensures { IfOk result (λ operations. operations ≡ live objects.now (after [] deeds.now)) }
 {
@@ -146,7 +146,7 @@ pub fn live(alloc: Global, deeds: &Deeds, objects: &Objects) -> Result<Operation
 }
 
 /// The live operations that are handed up past the top after the deeds, as [`live`] has them: what
-/// they make of the objects stays whatever runs on. It fails only where memory runs out.
+/// they make of the objects stays whatever runs on. It fails only if memory runs out.
 pub fn settled(alloc: Global, deeds: &Deeds, objects: &Objects) -> Result<Operations, NoMemory>
     ensures { IfOk result (λ operations.
         operations ≡ settled_operations objects.now (after [] deeds.now)) }

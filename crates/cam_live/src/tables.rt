@@ -62,7 +62,7 @@ impl Tables {
         }
     }
 
-    /// Keeps what one more deed says. Where memory runs out, the tables say what they said.
+    /// Keeps what one more deed says. If memory runs out, the tables say what they said.
     pub(crate) fn note(&mut self, deed: &Deed) -> Result<(), NoMemory>
         ensures noted { OnOk result ((L : List Deed) → Tells L self.old
             → Tells (deed.now ∷ L) self.new) }
@@ -185,7 +185,7 @@ pub(crate) fn has_ancestor(names: &SiteNames, site: u8, action: &Name) -> bool
     }
 }
 
-/// Climbs to the parent while the set has the present action at the site. None where that goes past
+/// Climbs to the parent while the set has the present action at the site. None if that goes past
 /// the top.
 pub(crate) fn lift(names: &SiteNames, site: u8, action: &Name) -> Option<Name>
     ensures { result ≡ lift_by (λ u. contains site_name_cmp names.now (site, u)) action.now }

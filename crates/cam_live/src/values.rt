@@ -7,7 +7,7 @@ use cam_base::NoMemory;
 use cam_type::{Objects, State, apply, start_of};
 
 /// The state of an object after those of the operations that are its own, applied in their order
-/// from its start state. It fails only where memory runs out.
+/// from its start state. It fails only if memory runs out.
 pub fn value_after(
     objects: &Objects,
     object: usize,

@@ -24,7 +24,7 @@ live_of slots = map (λ s. s.operation) (filter (λ s. not s.is_dropped) slots)
 abbrev pub AreInOrder : List Slot → Type 0
 AreInOrder slots = (next : ℕ) × IndicesRise 0 (all_of slots) next
 
--- The set has just the operations that are not dropped.
+-- The set has exactly the operations that are not dropped.
 pub record IsLive (slots : List Slot) (by_name : BTreeSet Placed) (next : ℕ) : Type 0 where
   pub rising : IndicesRise 0 (all_of slots) next
   pub bound : next ≤ 1000000000

@@ -17,7 +17,7 @@ use Rattle.cam_locks.specs.Site.{Site, fits_here}
 abbrev pub of_family : Name → HeldOp → LiveOp
 of_family f h = record { index = h.index; action = f; object = h.object; op = h.op }
 
--- the operations of a held family, and none where its abort is known
+-- the operations of a held family, and none if its abort is known
 abbrev pub ops_of : Knowledge → Held → List LiveOp
 ops_of know held = if knows_abort know held.family then [] else map (of_family held.family) held.ops
 
@@ -36,7 +36,7 @@ abbrev pub EachOnce : List LiveOp → Type 0
 EachOnce [] = Unit {0}
 EachOnce (o ∷ os) = (has_op os o.index ≡ false) × EachOnce os
 
--- one above the greatest index of the held operations, and 0 where there is none
+-- one above the greatest index of the held operations, and 0 if there is none
 abbrev pub next_of : List HeldOp → ℕ
 next_of [] = 0
 next_of (h ∷ hs) = max (h.index + 1) (next_of hs)

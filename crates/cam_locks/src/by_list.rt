@@ -26,7 +26,7 @@ pub(crate) fn holder(live: &[LiveOp], committed: &Names, asked: &LiveOp) -> Opti
     lift_of(committed, &first_conflict(live, committed, asked))
 }
 
-/// The lift of an operation, where there is one.
+/// The lift of an operation, if there is one.
 pub(crate) fn lift_of(committed: &Names, operation: &Option<LiveOp>) -> Option<Name>
     ensures { result ≡ option_and_then (λ o. lift_in committed.now.names o.action) operation.now }
 {

@@ -39,7 +39,7 @@ fn leads(live: &Live, committed: &Names, leader: &LiveOp, lift: &Option<Name>) -
     is_same_lift(&committed.lift(&leader.action), lift) && live.has(leader.index)
 }
 
-/// The holder of a lock. There is none where the lock has ended: it is dead or past the top.
+/// The holder of a lock. There is none if the lock has ended: it is dead or past the top.
 fn holder(live: &Live, committed: &Names, leader: &LiveOp) -> Option<Name>
     ensures { result ≡ holder_in committed.now.names live.now.ops leader.now }
 {
@@ -50,7 +50,7 @@ fn holder(live: &Live, committed: &Names, leader: &LiveOp) -> Option<Name>
     }
 }
 
-/// The depth of a holder, and 0 where there is none.
+/// The depth of a holder, and 0 if there is none.
 fn depth_of(holder: &Option<Name>) -> usize
     ensures value { result ≡ depth_of holder.now }
     ensures range { result ≤ 8 }
@@ -110,7 +110,7 @@ fn drop_ended(leaders: &mut VecDeque<LiveOp>, live: &Live, committed: &Names)
     leaders.retain(|leader| !has_ended(live, committed, leader));
 }
 
-/// Makes room for one more lock. Where there is none, the locks that have ended are left out, and then room is made for as many as are
+/// Makes room for one more lock. If there is none, the locks that have ended are left out, and then room is made for as many as are
 /// left: the next time comes only after as many more.
 pub(crate) fn make_room(
     leaders: &mut VecDeque<LiveOp>,

@@ -94,7 +94,7 @@ impl Names {
         })
     }
 
-    /// Climbs from the name to the parent while the present one is among the names. None where that goes past the top.
+    /// Climbs from the name to the parent while the present one is among the names. None if that goes past the top.
     pub(crate) fn lift(&self, name: &Name) -> Option<Name>
         ensures { result ≡ lift_by (has_name self.now.names) name.now }
     {

@@ -16,7 +16,7 @@ use cam_type::{CounterServer, DataType, HeldList, Kind, Objects, QueueServer, Re
 use std::alloc::Global;
 
 impl LockTable {
-    /// The table that a restart makes of what was secured, by what is known. It wants what [`crate::may_restore`] accepts.
+    /// The table that a restart makes of what was secured, by what is known. It requires what [`crate::may_restore`] accepts.
     pub fn restore(
         alloc: Global,
         objects: &Objects,

@@ -112,7 +112,7 @@ fn add_if_aborted(names: &mut Names, outcome: &Outcome) -> Result<(), NoMemory>
     }
 }
 
-/// One above the greatest index of the held operations, and 0 where there is none.
+/// One above the greatest index of the held operations, and 0 if there is none.
 pub(crate) fn next_of(held: &[Held]) -> u32
     requires { InRange (all_held held.now) }
     ensures value { result ≡ next_of (all_held held.now) }

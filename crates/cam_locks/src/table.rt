@@ -62,7 +62,7 @@ impl LockTable {
 
     /// Does an operation of an action on an object, unless a live operation conflicts: then the lift of the first one is named, and
     /// nothing changes. The handed-in server does it, at the value that it is given to hold, and holds the state after it then; a
-    /// server that wants memory leaves the table as it was. It wants a server of the object's kind ([`LockTable::kind`]),
+    /// server that wants memory leaves the table as it was. It requires a server of the object's kind ([`LockTable::kind`]),
     /// what [`LockTable::takes`] accepts, and a next index of at most 999,999,999. The rule stands in `specs/Moss.antt`: Moss,
     /// *Nested Transactions*, 1985.
     pub fn try_lock_and_apply<T: DataType>(
@@ -149,7 +149,7 @@ impl LockTable {
         self.aborted.reserve(outcomes as usize)
     }
 
-    /// The site was informed of the commit of an action. It wants a spare of 1 ([`LockTable::reserve`]), and takes no memory.
+    /// The site was informed of the commit of an action. It requires a spare of 1 ([`LockTable::reserve`]), and takes no memory.
     pub fn commit(&mut self, name: &Name)
         requires { 1 ≤ self.old.spare }
         ensures site { self.new.site ≡ with_commit self.old.site name.now }
@@ -158,7 +158,7 @@ impl LockTable {
         self.kept.committed.put(name);
     }
 
-    /// The site was informed of the abort of an action: the operations of the action and of all below it are dropped. It wants a spare
+    /// The site was informed of the abort of an action: the operations of the action and of all below it are dropped. It requires a spare
     /// of 1 ([`LockTable::reserve`]), and takes no memory.
     pub fn abort(&mut self, name: &Name)
         requires { 1 ≤ self.old.spare }
@@ -228,7 +228,7 @@ impl LockTable {
         self.kept.live.has_family(family)
     }
 
-    /// The value of an object that is handed up past the top. It wants what [`LockTable::has_object`] accepts.
+    /// The value of an object that is handed up past the top. It requires what [`LockTable::has_object`] accepts.
     pub fn value(&self, object: u8) -> Result<State, NoMemory>
         requires { IsTrue (is_here self.now.site.objects self.now.site.node object) }
         ensures { IfOk result (λ state. state ≡ settled self.now.site object) }

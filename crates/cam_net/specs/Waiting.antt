@@ -8,7 +8,7 @@ use Rattle.cam_net.specs.Letters.{InFlightFields}
 abbrev pub is_waiting : InFlightFields → Bool
 is_waiting letter = not (letter.lost || letter.delivered)
 
--- whether a node is halted; a node behind the end of the list is not
+-- whether a node is halted; a node after the end of the list is not
 abbrev pub is_halted : List Bool → ℕ → Bool
 is_halted halted node = unwrap_or (slice_get halted (node - 1)) false
 
@@ -33,7 +33,7 @@ waits_for node letter = eqb letter.receiver node && is_waiting letter
 abbrev pub first_for : ℕ → List InFlightFields → ℕ
 first_for node letters = position_or_len (waits_for node) letters
 
--- of each node at most that place, and just that place
+-- of each node at most that place, and exactly that place
 abbrev pub NoneAfterFirst : List ℕ → List InFlightFields → Type 0
 NoneAfterFirst places letters = (place : ℕ) → place < 8 → slice_index places place ≤ first_for (suc place) letters
 

@@ -45,7 +45,7 @@ impl InFlight {
     }
 }
 
-/// The place of the first letter that waits for a node, or how many letters there are. It is looked for from a place that is not behind it.
+/// The place of the first letter that waits for a node, or how many letters there are. It is looked for from a place that is not after it.
 fn first_for(letters: &[InFlight], node: u8, from: usize) -> usize
     requires { from ≤ first_for node letters.now }
     ensures { result ≡ first_for node letters.now }

@@ -6,7 +6,7 @@
 //!
 //! An [`Outbox`] is a network with the letters of an event that are put next, so that an event that stands has its letters.
 //!
-//! Its main clauses are those of [`Net::whole`], [`Net::cut`], [`Net::next`] and [`Outbox::put_all`]. It stands on `cam_wire` (spelling) and `cam_event` (letters).
+//! Its main clauses are those of [`Net::whole`], [`Net::cut`], [`Net::next`] and [`Outbox::put_all`]. It uses `cam_wire` (spelling) and `cam_event` (letters).
 #![tactic(auto)]
 
 mod in_flight;

@@ -71,7 +71,7 @@ impl Net {
         Ok(self.letters.len() as u32)
     }
 
-    /// All bytes of a letter; none just where no such letter was put or it is lost.
+    /// All bytes of a letter; none exactly if no such letter was put or it is lost.
     pub fn whole(&self, number: u32) -> Option<&[u8]>
         ensures { option_map (λ bytes. bytes.now) result ≡ whole_of self.now number }
     {
@@ -79,7 +79,7 @@ impl Net {
         Some(letter.bytes.as_slice())
     }
 
-    /// The first bytes of a letter, or all where it has no more; none just where no such letter was put or it is lost.
+    /// The first bytes of a letter, or all where it has no more; none exactly if no such letter was put or it is lost.
     pub fn cut(&self, number: u32, bytes: usize) -> Option<&[u8]>
         ensures { option_map (λ first. first.now) result ≡ cut_of self.now number bytes }
     {
@@ -87,7 +87,7 @@ impl Net {
         Some(&all[..bytes.min(all.len())])
     }
 
-    /// Loses a letter for good. False just where no such letter was put or it is lost, and then nothing changes.
+    /// Loses a letter for good. False exactly if no such letter was put or it is lost, and then nothing changes.
     pub fn lose(&mut self, number: u32) -> bool
         ensures answer { result ≡ has_letter self.old number }
         ensures lost { self.new ≡ changed as_lost self.old number }

@@ -12,7 +12,7 @@ use std::alloc::Global;
 use std::marker::Model;
 
 /// A network, and the letters of an event that are still to be put there. To hand them over takes no memory, so an event that stands has its
-/// letters, even where there is no memory for their bytes yet.
+/// letters, even if there is no memory for their bytes yet.
 #[derive(Drop)]
 pub struct Outbox {
     net: Net,
@@ -100,7 +100,7 @@ impl Outbox {
         Ok(())
     }
 
-    /// Loses a letter of the network for good. False just where no such letter was put or it is lost, and then nothing changes.
+    /// Loses a letter of the network for good. False exactly if no such letter was put or it is lost, and then nothing changes.
     pub fn lose(&mut self, number: u32) -> bool
         ensures answer { result ≡ has_letter self.old.net number }
         ensures lost { self.new

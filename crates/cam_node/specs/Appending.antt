@@ -18,7 +18,7 @@ use Rattle.cam_node.specs.Opened.{with_entry_of}
 use Rattle.cam_node.specs.Planned.{HasEntry}
 use Rattle.cam_node.specs.Represents.{Node}
 
--- An entry takes four calls of the disk. Where there is no record, none is done.
+-- An entry takes four calls of the disk. If there is no record, none is done.
 abbrev pub SpentFor : List Record → Option ℕ → Option ℕ → Type 0
 SpentFor [] before left = left ≡ before
 SpentFor (one ∷ rest) before left = Spent 4 before left

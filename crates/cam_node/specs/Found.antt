@@ -137,7 +137,7 @@ pub data Adds (objects : List ObjectDecl) (history : List Received) (whole : Rec
       → Adds objects history whole
   Secures : list_any is_any_secure (taken whole).event.deeds ≡ true → Adds objects history whole
 
--- BY WHAT THE LOG READS the event is found just where that has it: where it keeps the history with
+-- BY WHAT THE LOG READS the event is found exactly if that has it: where it keeps the history with
 -- the taken event, restarts after it or not. Where it keeps the history before, and the event adds
 -- to it, none is found.
 abbrev pub FindsBy : List ObjectDecl → ℕ → Node → Option Event → Opened → Found → Type 0

@@ -1,5 +1,5 @@
 -- A node without its disk as a restart makes it of what its log keeps: nothing runs, nothing is
--- noted, just the families that were held are
+-- noted, exactly the families that were held are
 -- secured, and the site has their operations.
 use Rattle.std.specs.Prelude.{◌≡◌, ℕ, List, [], ◌∷◌, None}
 use Rattle.cam_type.specs.declared.ObjectDecl.{ObjectDecl}

@@ -1,5 +1,5 @@
 -- What the deeds of a rule may be: none, one that neither decides nor informs, or a decision and the Inform of it. So an event decides one
--- outcome at most; and a node was informed of just what it knows.
+-- outcome at most; and a node was informed of exactly what it knows.
 use Rattle.std.specs.Prelude.{◌≡◌, ℕ, Bool, true, false, List, [], ◌∷◌, map, Option}
 use Rattle.cam_names.specs.declared.name.Name.{Name}
 use Rattle.cam_type.specs.declared.ObjectDecl.{ObjectDecl}

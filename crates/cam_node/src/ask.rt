@@ -21,7 +21,7 @@ use cam_names::{Deps, Name, Part};
 
 impl Core {
     /// An action whose home is this node asks for a child at a node, 1 to 8. Nothing stands against the request, and it has asked for fewer
-    /// than 1,000,000,000. It fails where memory runs out, and is then as it was.
+    /// than 1,000,000,000. It fails if memory runs out, and is then as it was.
     pub(crate) fn ask(&mut self, action: &Name, node: u8) -> Result<Stepped, NoMemory>
         requires node { (1 ≤ node) × (node ≤ 8) }
         requires free { IsFree (answers self.old).actions action.now (wants.Ask node) }

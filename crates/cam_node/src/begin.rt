@@ -18,7 +18,7 @@ use cam_event::{Deed, Deeds, Event, Note, SentList};
 use cam_names::Name;
 
 impl Core {
-    /// A top action is begun. Fewer than 1,000,000,000 were begun in this count. It fails where memory runs out, and is then as it was.
+    /// A top action is begun. Fewer than 1,000,000,000 were begun in this count. It fails if memory runs out, and is then as it was.
     pub(crate) fn begin(&mut self) -> Result<Stepped, NoMemory>
         requires { (answers self.old).actions.tops < 1000000000 }
         ensures step { (objects : List ObjectDecl) → IfOk result (λ stepped. IsStepThrough objects

@@ -27,7 +27,7 @@ use cam_type::Op;
 impl Core {
     /// An action whose home is this node calls an object, which stands at one of the eight nodes.
     /// Nothing stands against the request, and it has made fewer than 1,000,000,000 calls. It fails
-    /// where memory runs out, and is then as it was.
+    /// if memory runs out, and is then as it was.
     pub(crate) fn call(&mut self, action: &Name, object: u8, op: &Op) -> Result<Stepped, NoMemory>
         requires site { IsNode (site_of (answers self.old).server.table.site.objects object) }
         requires free { IsFree (answers self.old).actions action.now (wants.Call object op.now) }

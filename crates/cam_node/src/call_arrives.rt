@@ -58,7 +58,7 @@ impl Called {
 impl Core {
     /// A letter Call of a node, 1 to 8, comes: the event that may stand. The object stands here and
     /// fits the op, the next index at the site is at most 999,999,999, and the handed-in server is
-    /// of the object's kind. It fails where memory runs out, and what is answered is then the same.
+    /// of the object's kind. It fails if memory runs out, and what is answered is then the same.
     /// Where the event does not come to stand what went ahead has to be taken back (`forgotten`).
     pub(crate) fn call_comes<T: DataType>(
         &mut self,

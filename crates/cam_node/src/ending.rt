@@ -20,7 +20,7 @@ use cam_event::{Body, Deed, Note, Sent};
 use cam_names::Name;
 
 impl Core {
-    /// An action whose home is this node asks to commit with a value. Nothing stands against the request. It fails where memory runs out, and
+    /// An action whose home is this node asks to commit with a value. Nothing stands against the request. It fails if memory runs out, and
     /// is then as it was.
     pub(crate) fn commit(&mut self, action: &Name, value: i64) -> Result<Stepped, NoMemory>
         requires { IsFree (answers self.old).actions action.now (wants.Commit value) }
@@ -53,7 +53,7 @@ impl Core {
         }
     }
 
-    /// An action whose home is this node asks to abort. Nothing stands against the request. It fails where memory runs out, and is then as it
+    /// An action whose home is this node asks to abort. Nothing stands against the request. It fails if memory runs out, and is then as it
     /// was.
     pub(crate) fn abort(&mut self, action: &Name) -> Result<Stepped, NoMemory>
         requires { IsFree (answers self.old).actions action.now wants.Abort }

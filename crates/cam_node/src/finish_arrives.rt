@@ -31,7 +31,7 @@ use cam_names::{Deps, Name};
 use cam_orphan::orphan;
 
 impl Core {
-    /// A letter Finish of an action, which depends on these, comes from a node, 1 to 8: the event that may stand. It fails where memory runs out.
+    /// A letter Finish of an action, which depends on these, comes from a node, 1 to 8: the event that may stand. It fails if memory runs out.
     /// What is answered stays the same until the event stands.
     pub(crate) fn finish_comes(
         &mut self,
@@ -55,7 +55,7 @@ impl Core {
         self.child_finishes(id, letter, action, &parent, deps)
     }
 
-    /// A letter Finish of a child, which depends on these, comes from a node, 1 to 8: the event that may stand. It fails where memory runs out.
+    /// A letter Finish of a child, which depends on these, comes from a node, 1 to 8: the event that may stand. It fails if memory runs out.
     /// What is answered stays the same until the event stands.
     fn child_finishes(
         &mut self,

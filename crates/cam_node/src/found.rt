@@ -21,7 +21,7 @@ use cam_type::Held;
 /// What a restart found in the log.
 #[derive(Drop)]
 pub struct Found {
-    /// What the log has of the event at which the node had halted; None where it has nothing of it,
+    /// What the log has of the event at which the node had halted; None if it has nothing of it,
     /// and where the node had not halted. Of an event that adds nothing to what the log keeps either
     /// answer is right.
     pub event: Option<Event>,

@@ -25,7 +25,7 @@ use cam_log::{EntryLog, StopLog};
 use cam_recman::{Record, Records, encode_entry};
 use std::alloc::Global;
 
-/// The log of one node. While the node is not halted, a crash leaves just its entries. A node halts where its disk failed, or had no memory,
+/// The log of one node. While the node is not halted, a crash leaves exactly its entries. A node halts where its disk failed, or had no memory,
 /// in an append; then its log is read again before the next one. Wherever the disk tells what it holds, whatever a crash leaves is read.
 #[derive(Drop)]
 pub(crate) struct NodeLog<L: CheckpointLog> {
@@ -164,9 +164,9 @@ impl<L: CheckpointLog> NodeLog<L> {
     }
 
     /// Appends one entry of these records and forces it, which four calls of the disk do; where there are no records, nothing is done. At Ok
-    /// a crash leaves a log that has the entry, and at any moment of the call one without it or with it. It wants a node that is not halted,
+    /// a crash leaves a log that has the entry, and at any moment of the call one without it or with it. It requires a node that is not halted,
     /// and records that may be written where the format has version 2. The node is halted after a `DiskFault`, and where the disk itself is
-    /// out of memory; where memory runs out elsewhere nothing has happened.
+    /// out of memory; if memory runs out elsewhere nothing has happened.
     pub(crate) fn append(&mut self, records: &Records) -> Result<(), NodeFault>
         requires running { IsFalse self.old.halted }
         requires writable { All IsWritable records.now }
@@ -176,12 +176,12 @@ impl<L: CheckpointLog> NodeLog<L> {
         ensures says { (r : Recovery) → Says (L.listed self.old.log) r
             → OnOk result (Says (L.listed self.new.log) (with_records r records.now)) }
         ensures runs { OnOk result (IsFalse self.new.halted) }
-        // It halts only where its log has to be opened again.
+        // It halts only if its log has to be opened again.
         ensures broken { IsTrue self.new.halted → IsTrue (L.broken self.new.log) }
         ensures spent { OnOk result
             (SpentFor records.now (L.passes self.old.log) (L.passes self.new.log)) }
         ensures unbounded { L.passes self.old.log ≡ None → L.passes self.new.log ≡ None }
-        // A fault comes because a call that was done failed, or because the append was cut off: then the log reads with the entry just where
+        // A fault comes because a call that was done failed, or because the append was cut off: then the log reads with the entry exactly if
         // three of its calls were done.
         ensures cut_off { IsErrOf result DiskFault
             → Rose (L.faults_within self.old.log) (L.faults_within self.new.log)

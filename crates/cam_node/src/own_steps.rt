@@ -48,7 +48,7 @@ impl Core {
         }
     }
 
-    /// A request of an action whose home the node is. It fails where memory runs out, and is then
+    /// A request of an action whose home the node is. It fails if memory runs out, and is then
     /// as it was.
     fn request(&mut self, request: &Request) -> Result<Stepped, NoMemory>
         requires unlogged { IsFalse (gives_up request.now.want) }

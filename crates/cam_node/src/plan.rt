@@ -24,7 +24,7 @@ use cam_server::Server;
 #[derive(Drop)]
 pub(crate) struct Plan {
     pub(crate) stepped: Stepped,
-    /// What its letter brought. None where no letter came.
+    /// What its letter brought. None if no letter came.
     pub(crate) heard: Option<Heard>,
     /// What it does to the parts of the node besides.
     pub(crate) change: Change,

@@ -25,7 +25,7 @@ use cam_names::Name;
 use cam_recman::Record;
 
 impl Core {
-    /// A letter Prepare of a node, 1 to 8, comes: the event that may stand. It fails where memory runs out. What is answered stays the same
+    /// A letter Prepare of a node, 1 to 8, comes: the event that may stand. It fails if memory runs out. What is answered stays the same
     /// until the event stands.
     pub(crate) fn prepare_comes(
         &mut self,

@@ -15,7 +15,7 @@ use cam_event::Body;
 use cam_names::Name;
 
 impl Core {
-    /// It asks the home of a family how the family ended. It fails where memory runs out. What is answered stays the same.
+    /// It asks the home of a family how the family ended. It fails if memory runs out. What is answered stays the same.
     pub(crate) fn query(&mut self, family: &Name) -> Result<Stepped, NoMemory>
         ensures step { (objects : List ObjectDecl) → IfOk result (λ stepped. IsStepThrough objects
             (answers self.old) (answers self.new) (Queries self.old.number family.now) None no_load stepped.event) }

@@ -21,7 +21,7 @@ use cam_know::Outcome;
 use cam_names::Name;
 
 impl Core {
-    /// A letter Quit of an action comes from a node, 1 to 8: the event that may stand. It fails where memory runs out. What is answered stays
+    /// A letter Quit of an action comes from a node, 1 to 8: the event that may stand. It fails if memory runs out. What is answered stays
     /// the same until the event stands.
     pub(crate) fn quit_comes(
         &mut self,
@@ -44,7 +44,7 @@ impl Core {
         self.child_quits(id, letter, action, &parent)
     }
 
-    /// A letter Quit of a child comes from a node, 1 to 8: the event that may stand. It fails where memory runs out. What is answered stays
+    /// A letter Quit of a child comes from a node, 1 to 8: the event that may stand. It fails if memory runs out. What is answered stays
     /// the same until the event stands.
     fn child_quits(
         &mut self,
@@ -78,7 +78,7 @@ impl Core {
         }
     }
 
-    /// A letter Quit of a top action of this node comes from a node, 1 to 8: the event that may stand. It fails where memory runs out. What
+    /// A letter Quit of a top action of this node comes from a node, 1 to 8: the event that may stand. It fails if memory runs out. What
     /// is answered stays the same until the event stands.
     fn top_quits(&mut self, id: &LetterId, letter: &Letter, action: &Name) -> Result<Plan, NoMemory>
         requires from { (1 ≤ letter.now.from) × (letter.now.from ≤ 8) }

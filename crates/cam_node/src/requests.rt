@@ -17,7 +17,7 @@ use cam_names::{Deps, Name};
 use cam_orphan::orphan;
 
 impl Core {
-    /// What an action depends on, as eight counts; none where it was not created here.
+    /// What an action depends on, as eight counts; none if it was not created here.
     pub(crate) fn deps_of(&self, action: &Name) -> Deps
         ensures { result ≡ deps (answers self.now).actions action.now }
     {

@@ -171,7 +171,7 @@ impl<L: CheckpointLog> NodeLog<L> {
     /// At any moment of the call a crash leaves a log as it could leave it before, or as the restart of one of those. `DiskFault` comes where
     /// what was read cannot be restarted: a count that is the last, an operation that is not on an object of the node or does not fit it, an
     /// index that stands twice or is above 499,999,999, a family that is secured twice, a commit that depends on a count above the known one
-    /// of its node. A disk that does not tell what it holds is spoiled then. Over a disk of which nothing such can be read it comes only where
+    /// of its node. A disk that does not tell what it holds is spoiled then. Over a disk of which nothing such can be read it comes only if
     /// the disk's count of faults rose. After an error the node is halted.
     pub(crate) fn restart(&mut self, objects: &Objects, node: u8) -> Result<Reread, NodeFault>
         requires node { (1 ≤ node) × (node ≤ 8) }

@@ -12,7 +12,7 @@ use cam_base::NoMemory;
 use cam_event::Body;
 
 impl Core {
-    /// It tells another node, 1 to 8, what it knows. It fails where memory runs out. What is answered stays the same.
+    /// It tells another node, 1 to 8, what it knows. It fails if memory runs out. What is answered stays the same.
     pub(crate) fn tell(&mut self, to: u8) -> Result<Stepped, NoMemory>
         requires { (1 ≤ to) × (to ≤ 8) }
         ensures step { (objects : List ObjectDecl) → IfOk result (λ stepped. IsStepThrough objects

@@ -129,7 +129,7 @@ fn has_below(live: &Live, object: usize, name: &Name) -> bool
     }
 }
 
-/// Drops the operations of an action and of all below it at an object: where there is none the
+/// Drops the operations of an action and of all below it at an object: if there is none the
 /// table stays.
 fn drop_at(live: &mut Live, alloc: Global, object: usize, name: &Name) -> Result<(), NoMemory>
     ensures { OnOk result (Puts object

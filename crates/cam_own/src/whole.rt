@@ -69,7 +69,7 @@ impl Whole {
         nodes_in(&self.depending, action)
     }
 
-    /// The live operations on an object of a site: none where the object stands elsewhere.
+    /// The live operations on an object of a site: none if the object stands elsewhere.
     pub fn live_on(&self, objects: &Objects, site: u8, object: u8) -> &Operations
         requires { 1 ≤ site }
         ensures { (L : List DeedValue) → KeepsWhole objects.now L self.now

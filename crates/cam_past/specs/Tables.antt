@@ -10,7 +10,7 @@ abbrev pub node_at : List Event → ℕ → Option ℕ
 node_at [] i = None
 node_at (e ∷ before) i = if eqb i (length before) then Some e.node else node_at before i
 
--- what a function has at an event, 0 where there is no event
+-- what a function has at an event, 0 if there is no event
 abbrev pub at_or_zero : (ℕ → ℕ) → Option ℕ → ℕ
 at_or_zero f None = 0
 at_or_zero f (Some j) = f j
@@ -35,7 +35,7 @@ table_of s = seat s / 8
 abbrev pub place_of : ℕ → ℕ
 place_of s = seat s % 8
 
--- what the clock of an event has at a place, 0 where there is no such event
+-- what the clock of an event has at a place, 0 if there is no such event
 abbrev pub latest_by : Option Clock → ℕ → ℕ
 latest_by None place = 0
 latest_by (Some clock) place = get_or clock.latest place 0

@@ -83,7 +83,7 @@ fn walk(alloc: Global, trace: &Trace, table: usize) -> Result<Walked, NoMemory>
     })
 }
 
-/// The clock of the event that comes behind those of `clocks`, where `last` is the last event of its
+/// The clock of the event that comes after those of `clocks`, where `last` is the last event of its
 /// node among them.
 fn next(clocks: &[Clock], table: usize, last: Option<usize>, event: &Event) -> Clock
     requires room { length clocks.now + 1 < 2 ^ 64 }
@@ -100,7 +100,7 @@ fn next(clocks: &[Clock], table: usize, last: Option<usize>, event: &Event) -> C
     clock
 }
 
-/// The clock of an event, where there is one.
+/// The clock of an event, if there is one.
 fn clock_of(clocks: &[Clock], event: Option<usize>) -> Clock
     ensures { (place : ℕ) → get_or result.latest place 0 ≡ latest_of clocks.now event place }
 {

@@ -66,7 +66,7 @@ abbrev pub AfterAttempt : List ObjectDecl → List Deed → ℕ → Name → ℕ
 AfterAttempt objects L s a n answer None site = KeepsSite objects (Perform a n answer ∷ L) s site
 AfterAttempt objects L s a n answer (Some u) site = KeepsSite objects L s site
 
--- the operations of an action, where there is one, and of all below it are dropped
+-- the operations of an action, if there is one, and of all below it are dropped
 abbrev pub with_abort_of : Option Name → locks.Site → locks.Site
 with_abort_of None site = site
 with_abort_of (Some u) site = with_abort site u

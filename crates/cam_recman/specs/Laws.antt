@@ -33,7 +33,7 @@ RecoveryIsOfTheRecords =
     (entries : List (List Record)) → AllByRecursion AreRecords entries → AreOf 1 (all_records entries)
     → recover (map entry_bytes entries) ≡ Ok (with_records fresh (all_records entries))
 
--- An outcome is recovered just where a record says it.
+-- An outcome is recovered exactly if a record says it.
 abbrev pub says : Outcome → Record → Bool
 says o (Count c) = false
 says o (Abort a) = outcome_eq o (Aborted a)
@@ -96,7 +96,7 @@ OneMoreEntryAdds =
 abbrev pub adding : Result Recovered RecFault → List Record → Result Recovered RecFault
 adding before records = before >>= (λ r. Ok (with_records r records))
 
--- the records may stand behind the entries
+-- the records may stand after the entries
 abbrev pub MayFollow : List (List ℕ) → List Record → Type 0
 MayFollow entries records = (s : SoFar) → said_by entries ≡ Ok s → AreOf s.version records
 

@@ -1,4 +1,4 @@
--- A log that is brought to version 2. Where no entry has a Version, an entry of a Version alone comes behind the others; it says nothing
+-- A log that is brought to version 2. Where no entry has a Version, an entry of a Version alone comes after the others; it says nothing
 -- that is recovered.
 use Rattle.std.specs.Prelude.{◌≡◌, ℕ, ◌==◌, List, [], ◌∷◌, ◌++◌, map, flat_map, Result, Ok, Err, if◌then◌else◌}
 use Rattle.std.specs.List.{AllByRecursion}
@@ -25,7 +25,7 @@ use Rattle.cam_recman.specs.Recovery.{all_records, said_by, recover}
 abbrev pub version_entry : List ℕ
 version_entry = entry_bytes (Version ∷ [])
 
--- what is left of entries behind which the format has this version
+-- what is left of entries after which the format has this version
 abbrev pub with_version : ℕ → List (List ℕ) → List (List ℕ)
 with_version version entries = if version == 1 then entries ++ version_entry ∷ [] else entries
 
@@ -36,7 +36,7 @@ migrated entries = said_by entries >>= (λ s. Ok (with_version s.version entries
 abbrev pub outcome_of : ℕ → Migrated
 outcome_of version = if version == 1 then Done else Already
 
--- The entries were migrated: they had this version behind them.
+-- The entries were migrated: they had this version after them.
 pub record IsMigrated (old : List (List ℕ)) (which : Migrated) (new : List (List ℕ)) : Type 0 where
   pub said : SoFar
   pub is : said_by old ≡ Ok said
@@ -55,7 +55,7 @@ MigrationKeepsRecovery = (entries left : List (List ℕ)) → migrated entries �
 abbrev pub MigrationHasTheFault : Type 0
 MigrationHasTheFault = (entries : List (List ℕ)) (fault : RecFault) → recover entries ≡ Err fault → migrated entries ≡ Err fault
 
--- Behind it the format has version 2, and once is enough.
+-- After it the format has version 2, and once is enough.
 abbrev pub MigratedIsVersion2 : Type 0
 MigratedIsVersion2 = (entries left : List (List ℕ)) (s : SoFar) → migrated entries ≡ Ok left → said_by left ≡ Ok s → s.version ≡ 2
 
@@ -89,7 +89,7 @@ pub record IsUpgraded (input output : List ℕ) : Type 0 where
   pub is_closed : gate ≡ 1 → ⊥
   pub is : output ≡ header ++ flat_map gated left ++ gate ∷ []
 
--- Read as a log, an image gives just these entries, and what is recovered of them is what is recovered of others.
+-- Read as a log, an image gives exactly these entries, and what is recovered of them is what is recovered of others.
 pub record ReadsAndRecovers (others entries : List (List ℕ)) (image : List ℕ) : Type 0 where
   pub reads : read_log image ≡ Ok entries
   pub recovers : recover entries ≡ recover others

@@ -13,7 +13,7 @@ use Rattle.cam_recman.specs.Recovery.{fresh, with_records, said_by, recover}
 use Rattle.cam_recman.specs.Migrating.{version_entry, IsMigrated}
 use Rattle.cam_recman.specs.Snapshot.{snapshot, CanBeKept}
 
--- The entries say this, and behind them the format has version 2.
+-- The entries say this, and after them the format has version 2.
 abbrev pub Says : List (List ℕ) → Recovered → Type 0
 Says entries r = said_by entries ≡ Ok (record { version = 2; recovered = r })
 

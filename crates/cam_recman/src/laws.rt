@@ -10,7 +10,7 @@ pub fn entries()
     ensures exactly { ReadIsWritten }
 {}
 
-/// Recovered is what the records of all entries say, and nothing else: the last count, just the outcomes that a record says, of each node
+/// Recovered is what the records of all entries say, and nothing else: the last count, exactly the outcomes that a record says, of each node
 /// the greatest count that a record has seen, and what was secured, in order. One more entry adds what its records say, so a log that opens
 /// as it was or with that entry (as `cam_log` says of one that was stopped while it appended) recovers as before or with it. A fault is that
 /// of the first entry that is no list of records.
@@ -45,7 +45,7 @@ pub fn snapshots()
     ensures keeps { SnapshotKeepsAll }
 {}
 
-/// Entries of version 2 can be recovered, and are left by a migration, behind which all are such. A Version alone says nothing, one more entry
+/// Entries of version 2 can be recovered, and are left by a migration, after which all are such. A Version alone says nothing, one more entry
 /// adds what its records say, and the entry that keeps all says all, alone.
 pub fn version2()
     ensures first { FirstSays }

@@ -1,6 +1,6 @@
 //! What a node forces to its log, as records, and what it knows again after a restart.
 //!
-//! An entry of the log is a list of records, one behind another. All numbers are big-endian; number, name, family, dependencies,
+//! An entry of the log is a list of records, one after another. All numbers are big-endian; number, name, family, dependencies,
 //! object and operation are the fields of `cam_bytes`.
 //!
 //! | Tag | Record | Fields |
@@ -10,16 +10,16 @@
 //! | 3 | Commit | name, dependencies |
 //! | 4 | Seen | node (one byte), its count (number, 2 or more) |
 //! | 5 | Secure | family, count (number), how many operations (four bytes), then of each its index (four bytes, 0 to 999,999,999), object and operation |
-//! | 6 | Version | the version behind it, 2 (one byte) |
+//! | 6 | Version | the version after it, 2 (one byte) |
 //!
-//! A log begins with version 1. Version may stand once; before it an Add is not known, and behind it the version is 2. Recovery takes
+//! A log begins with version 1. Version may stand once; before it an Add is not known, and after it the version is 2. Recovery takes
 //! nothing from it.
 //!
 //! Recovered are the last count, every outcome, of each node the greatest count, and what each secured family holds, and nothing else.
 //! One more entry adds what its records say, and nothing else.
 //!
 //! Its main clauses are `read`, `refused`, `said` and `first` of [`recover`] (what the entries say, or the first entry that is no list of
-//! records), and those of the law [`recovery`]. It stands on `cam_bytes` (fields), `cam_log` (logs), `cam_know` (knowledge) and `cam_type`
+//! records), and those of the law [`recovery`]. It uses `cam_bytes` (fields), `cam_log` (logs), `cam_know` (knowledge) and `cam_type`
 //! (what a secured family holds).
 #![tactic(auto)]
 
@@ -61,7 +61,7 @@ pub enum Record {
     Seen(u8, u32),
     /// A family was secured here with these operations.
     Secure(Held),
-    /// What stands behind this is of version 2.
+    /// What stands after this is of version 2.
     Version,
 }
 

@@ -83,7 +83,7 @@ fn answer_text(alloc: Global, trace: &Trace, event: u32, why: &Why) -> Result<St
 
 /// Why an event stopped an action: its line of the report, the event that was the cause, and a chain
 /// of letters that led from there to the stop, each by its number in order of sending. No chain has
-/// fewer letters. `NoSuchStop` comes exactly where the run has no such event or the event stopped no
+/// fewer letters. `NoSuchStop` comes exactly if the run has no such event or the event stopped no
 /// action. This holds of each trace that is a run, also one in which nodes halt.
 pub fn why_text(alloc: Global, run: &RunRecord, event: u32) -> Result<String, WhyFault>
     ensures text { IfOk result (λ text. IsWhole (reverse run.now.trace)

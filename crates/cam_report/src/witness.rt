@@ -31,7 +31,7 @@ fn history_text(alloc: Global, labels: &Labels, deeds: &Deeds) -> Result<String,
 }
 
 /// The text of an action's witness: the deeds that explain what the action saw, in order, and
-/// `legal`. `NoSuchAction` comes exactly where the action was not created in the run.
+/// `legal`. `NoSuchAction` comes exactly if the action was not created in the run.
 pub fn witness_text(
     alloc: Global,
     script: &Script,

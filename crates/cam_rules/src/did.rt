@@ -1,4 +1,4 @@
-//! What an event has behind its first Informs.
+//! What an event has after its first Informs.
 ghost use Rattle.std.specs.Prelude.{◌≡◌, ◌∷◌, [], IfOk};
 ghost use Rattle.cam_event.specs.Runs.{IsNode};
 ghost use Rattle.cam_event.specs.Rules.{answers, did, nothing_but, send, one as single};
@@ -8,7 +8,7 @@ use cam_event::{Body, Deed, Deeds, Note, Sent, SentList};
 use std::alloc::Global;
 use std::marker::Model;
 
-/// What an event has behind its first Informs: deeds, letters and a note. Each letter goes to one of the
+/// What an event has after its first Informs: deeds, letters and a note. Each letter goes to one of the
 /// eight nodes.
 #[derive(Drop)]
 pub struct Did {

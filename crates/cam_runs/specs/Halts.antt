@@ -67,7 +67,7 @@ calls_left (Input m line appends restarted ∷ before) s =
 calls_left (Stop m calls ∷ before) s = if eqb m s then Some calls else calls_left before s
 calls_left (Restart m ∷ before) s = if eqb m s then None else calls_left before s
 
--- That append is the halt of the stop. It is taken just where its first three calls passed and a
+-- That append is the halt of the stop. It is taken exactly if its first three calls passed and a
 -- later line restarts the node.
 abbrev pub stopped_append : Option ℕ → Bool → Option Bool
 stopped_append None restarted = None

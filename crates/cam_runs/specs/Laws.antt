@@ -21,7 +21,7 @@ AcceptedAreInRange = (script : Script) → IsScript script → IsInRange script
 abbrev pub IsNext : Script → Running → Step → Type 0
 IsNext script r step = slice_get script.steps (length r.bound) ≡ Some step
 
--- What stands at first is under way, and so is what stands behind the next line, by the pasts.
+-- What stands at first is under way, and so is what comes after the next line, by the pasts.
 abbrev pub StartIsUnderWay : Type 0
 StartIsUnderWay = (script : Script) → IsUnderWay script start
 

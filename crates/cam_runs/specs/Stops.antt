@@ -125,7 +125,7 @@ LaterHaltsAgree =
     → AllByRecursion (λ (h : Halt). accepted st.turns ≤ h.input) more
     → Agrees (given halts) st → Agrees (given (more ++ halts)) st
 
--- Behind each line the last inputs tell just which nodes the steps that are still to come restart.
+-- After each line the last inputs tell exactly which nodes the steps that are still to come restart.
 -- So of a node that is restarted its last input told it; and the halt of a stop there was taken just
 -- where three calls were left to it.
 abbrev pub AreTold : List Turn → List Step → Type 0

@@ -1,6 +1,6 @@
--- What stands while the lines of a script are taken, behind a line or within one.
+-- What stands while the lines of a script are taken, after a line or within one.
 --
--- It is a run. An action that works at a body has at most one call or one child open, and it has one just where the last of its tries is
+-- It is a run. An action that works at a body has at most one call or one child open, and it has one exactly if the last of its tries is
 -- open; the body nests no deeper than the action's name leaves room for. A variable that other lines may use stands for an action
 -- without a body.
 use Rattle.std.specs.Prelude.{◌≡◌, ◌⊎◌, ℕ, ◌-◌, Bool, true, false, List, [], ◌∷◌, length, Some, None, slice_get}

@@ -36,11 +36,11 @@ depth sizes statements.Abort = 0
 abbrev pub size_with : List Size → Size → Statement → Size
 size_with sizes size s = record { cost = size.cost + weight sizes s; nesting = max size.nesting (depth sizes s) }
 
--- the size of the body at this place; 0 where there is none
+-- the size of the body at this place; 0 if there is none
 abbrev pub size_at : List Size → ℕ → Size
 size_at sizes body = record { cost = cost_at sizes body; nesting = nesting_at sizes body }
 
--- the size of the body of this name; 0 where there is none
+-- the size of the body of this name; 0 if there is none
 abbrev pub size_named : Bodies → List ℕ → Size
 size_named t name =
     record {

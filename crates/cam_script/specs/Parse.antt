@@ -12,7 +12,7 @@ Gives (Ok x) read = read ≡ Ok x
 Gives (Err (Bad line column cause)) read = read ≡ Err (Bad line column cause)
 Gives (Err NoMemory) read = Unit {0}
 
--- The same of a call behind which `next` is what stands after some lines.
+-- The same of a call after which `next` is what stands after some lines.
 abbrev pub Leads : {A : Type 0} → Result (Unit {0}) ScriptFault → A → Result A ScriptFault → Type 0
 Leads (Ok done) next read = read ≡ Ok next
 Leads (Err (Bad line column cause)) next read = read ≡ Err (Bad line column cause)

@@ -111,14 +111,14 @@ impl BodyTable {
         bodies
     }
 
-    /// The size of the body at this place; 0 where there is none.
+    /// The size of the body at this place; 0 if there is none.
     pub fn size_at(&self, body: usize) -> Size
         ensures { result ≡ capped (size_at self.now.sizes body) }
     {
         size_at(self.sizes.as_slice(), body)
     }
 
-    /// The size of the body of this name; 0 where there is none.
+    /// The size of the body of this name; 0 if there is none.
     pub fn size_named(&self, name: &[u8]) -> Size
         ensures { result ≡ capped (size_named self.now name.now) }
     {
@@ -149,7 +149,7 @@ impl BodyTable {
     }
 }
 
-/// The size at this place; 0 where there is none.
+/// The size at this place; 0 if there is none.
 fn size_at(sizes: &[Size], body: usize) -> Size
     ensures { (all : List AnySize) → sizes.now ≡ map capped all
         → result ≡ capped (size_at all body) }

@@ -31,7 +31,7 @@ impl SoFar {
         Ok(Act::Call { action, object, op })
     }
 
-    /// In a body `call TRIES OBJECT OP`, TRIES 1 to 9, behind this many earlier statements.
+    /// In a body `call TRIES OBJECT OP`, TRIES 1 to 9, after this many earlier statements.
     #[tactic(auto, unfolding(crate::specs::Statements::call_statement))]
     pub fn call_statement(
         &self,

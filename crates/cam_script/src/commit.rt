@@ -24,7 +24,7 @@ impl SoFar {
     }
 }
 
-/// In a body `commit E`, behind this many earlier statements.
+/// In a body `commit E`, after this many earlier statements.
 #[tactic(auto, unfolding(crate::specs::Statements::commit_statement))]
 pub(crate) fn commit_statement(
     line: &Line,

@@ -118,7 +118,7 @@ pub(crate) fn new_name_at(line: &Line, at: usize, names: &NameTable) -> Result<W
     Ok(word)
 }
 
-/// The place of one of these names, and the place behind the word.
+/// The place of one of these names, and the place after the word.
 #[tactic(auto, unfolding(cam_words::specs::Numbers::declared_at))]
 pub(crate) fn declared_at(
     line: &Line,

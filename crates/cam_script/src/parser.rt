@@ -16,13 +16,13 @@ pub const MOST_BYTES: usize = 262_144;
 
 /// The script that the bytes spell, or its first fault.
 ///
-/// It answers `NoMemory` where memory runs out, and else `Bad`, with the cause of the first fault by lines, then by words. At one word the
+/// It answers `NoMemory` if memory runs out, and else `Bad`, with the cause of the first fault by lines, then by words. At one word the
 /// first of 3, 10, 12, 4, 6, 7, 8, 9, 11, 5 counts:
 ///
 /// 1. more than 262,144 bytes, at line 1, column 1, before all other causes;
 /// 2. a byte that is not allowed, before the words of its line: each is 9, 10, 13 or 32 to 126;
 /// 3. an unknown line, kind or operation;
-/// 4. a word is missing, at the place behind the last one;
+/// 4. a word is missing, at the place after the last one;
 /// 5. a word too many;
 /// 6. a wrong number, value or expression;
 /// 7. a new name that is not a letter and up to 15 letters or digits;

@@ -59,7 +59,7 @@ impl SoFar {
         self.read_form(form, line, first.end)
     }
 
-    /// Reads a line of this form, behind its first word.
+    /// Reads a line of this form, after its first word.
     fn read_form(&mut self, form: Form, line: &Line, at: usize) -> Result<(), ScriptFault>
         requires within { IsWithin self.old }
         requires room { IsFalse (is_too_many self.old form at line.now.bytes.now) }
@@ -103,7 +103,7 @@ impl SoFar {
         }
     }
 
-    /// The statement of a line in a body, behind this many earlier ones.
+    /// The statement of a line in a body, after this many earlier ones.
     fn statement_of(
         &self,
         form: Form,
@@ -125,7 +125,7 @@ impl SoFar {
         }
     }
 
-    /// Reads a line outside bodies, of this form, behind its first word. It answers the fault of the grammar, or `NoMemory`.
+    /// Reads a line outside bodies, of this form, after its first word. It answers the fault of the grammar, or `NoMemory`.
     pub fn read_outside(&mut self, form: Form, line: &Line, at: usize) -> Result<(), ScriptFault>
         requires within { IsWithin self.old }
         requires outside { self.old.writing ≡ None }
@@ -190,7 +190,7 @@ impl SoFar {
         }
     }
 
-    /// The step of a line that binds no variable, behind its first word. It answers the fault of the grammar.
+    /// The step of a line that binds no variable, after its first word. It answers the fault of the grammar.
     pub fn act_line(&self, form: Form, line: &Line, at: usize) -> Result<Act, ScriptFault>
         requires within { IsWithin self.now }
         requires place { at ≤ length line.now.bytes.now }

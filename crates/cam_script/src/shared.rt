@@ -23,7 +23,7 @@ impl SoFar {
         new_name_at(line, at, self.variables.names())
     }
 
-    /// The step of a variable that may be used so, and the place behind its word.
+    /// The step of a variable that may be used so, and the place after its word.
     pub fn variable_at(
         &self,
         line: &Line,
@@ -38,7 +38,7 @@ impl SoFar {
         variable_at(line, at, &self.variables, used)
     }
 
-    /// A node of those that were declared, and the place behind its word.
+    /// A node of those that were declared, and the place after its word.
     pub fn node_at(&self, line: &Line, at: usize) -> Result<(u8, usize), ScriptFault>
         requires { at ≤ length line.now.bytes.now }
         ensures value { result

@@ -76,7 +76,7 @@ impl Variables {
     }
 }
 
-/// The step of a variable that may be used so, and the place behind its word.
+/// The step of a variable that may be used so, and the place after its word.
 #[tactic(auto, unfolding(crate::specs::Variables::variable_at))]
 pub(crate) fn variable_at(
     line: &Line,

@@ -3,7 +3,7 @@
 //! The serial list of a history has the operations that committed up to the top, those of one top
 //! action after those of another, in order of their Commits ([`serial`] with no name). For an action
 //! whose top action has not committed, what the action may see of its own family comes last
-//! (`Serial`). A list replays where applying its operations from the start states gives just its
+//! (`Serial`). A list replays where applying its operations from the start states gives exactly its
 //! answers, which [`replays`] tells.
 //!
 //! The law is a clause of [`serial`], in two parts, and holds of every legal list of deeds, whether or

@@ -20,7 +20,7 @@ use std::alloc::Global;
 /// The serial list of a list of deeds: the operations of the actions that committed up to the top,
 /// grouped by top action in order of their Commits. With the name of an action whose top action has
 /// not committed, the operations of its own family that it may see come last. The deeds may be
-/// any list; the law holds of legal ones. It fails only where memory runs out.
+/// any list; the law holds of legal ones. It fails only if memory runs out.
 pub fn serial(
     alloc: Global,
     deeds: &Deeds,

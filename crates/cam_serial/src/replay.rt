@@ -43,7 +43,7 @@ fn answers(objects: &Objects, states: &mut States, operation: &Operation) -> Res
 
 /// Whether the list replays: applied in order from the start states, each of its operations answers
 /// as the list says. The operations may be on objects that are not declared, or not fit theirs. It
-/// fails only where memory runs out.
+/// fails only if memory runs out.
 pub fn replays(alloc: Global, list: &SerialList, objects: &Objects) -> Result<bool, NoMemory>
     ensures { IfOk result (λ yes. IsTrue yes ↔ Replays objects.now list.now) }
 {

@@ -82,7 +82,7 @@ pub record IsServing (s : ℕ) (c : Carried) (first : List Deed) (asked : Asked)
       (m : Mail) × (c.mail ≡ Some m) × (m.body
       ≡ bodies.Call asked.action asked.number asked.object asked.op asked.count asked.visited)
 
--- The lock table did it, just where the call was performed.
+-- The lock table did it, exactly if the call was performed.
 abbrev pub PerformKeeps : Type 0
 PerformKeeps =
     (objects : List ObjectDecl) (s : ℕ) (before : List Carried) (c : Carried) (first : List Deed)

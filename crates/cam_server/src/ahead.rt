@@ -1,5 +1,5 @@
 //! A call that goes ahead of the news that came with it: whether it may, and how what was done with
-//! it is taken back where memory runs out after it.
+//! it is taken back if memory runs out after it.
 ghost use Rattle.std.specs.Prelude.{◌≡◌, None, not};
 ghost use Rattle.std.specs.List.{list_all};
 ghost use Rattle.cam_know.specs.Knowledge.{Knowledge};

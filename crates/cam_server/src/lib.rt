@@ -7,7 +7,7 @@
 //! (`one_more_event`), and after a restart too (`after_restart`); what it answers a call is what
 //! the node does by the step rules (`calls_are_rules`).
 //!
-//! It stands on `cam_locks` (the table), `cam_orphan` (the test) and `cam_event` (histories and
+//! It uses `cam_locks` (the table), `cam_orphan` (the test) and `cam_event` (histories and
 //! rules).
 #![tactic(auto)]
 
@@ -79,7 +79,7 @@ pub fn news_are_informs()
 
 /// Where the news that came with a call speak of no family with live operations here, the call may
 /// be performed before the site is informed of them: all is as if it had been informed first. So
-/// want of memory in [`Server::perform`] leaves all as before, without a copy.
+/// running out of memory in [`Server::perform`] leaves all as before, without a copy.
 pub fn calls_go_ahead()
     ensures { CallsGoAhead }
 {}

@@ -89,7 +89,7 @@ impl Server {
 
     /// What comes of a call before the lock table is asked, addressed to the site at `count`; `visited` has the pairs that its action has visited.
     /// The first of four tests that holds decides, in the order of [`Performed`]: another count, a known commit of an ancestor, a call that was
-    /// answered before, an orphan. None where the lock table decides.
+    /// answered before, an orphan. None if the lock table decides.
     pub fn tested(
         &self,
         know: &Know,
@@ -168,7 +168,7 @@ impl Server {
         self.serve(&call, object, op, server)
     }
 
-    /// The site is informed of these outcomes. It wants a spare of their number
+    /// The site is informed of these outcomes. It requires a spare of their number
     /// ([`Server::reserve`]), and takes no memory.
     pub fn informed(&mut self, news: &Know)
         requires { length news.now.outcomes ≤ (answers self.old).table.spare }
@@ -179,7 +179,7 @@ impl Server {
         self.inform_all(news.outcomes());
     }
 
-    /// The site is informed of an outcome that the node has decided. It wants a spare of 1, and
+    /// The site is informed of an outcome that the node has decided. It requires a spare of 1, and
     /// takes no memory.
     pub fn decided(&mut self, outcome: &Outcome)
         requires { 1 ≤ (answers self.old).table.spare }

@@ -60,7 +60,7 @@ SitesHoldTheirLive =
     → (timed_sight objects (events t) s got).live
     ≡ held_live (call_of (plain_all (events t))) (timed_sight objects (events t) s got).deeds s
 
--- A node knows just the outcomes of which it was informed.
+-- A node knows exactly the outcomes of which it was informed.
 abbrev pub NodesKnowWhatTheyHold : Type 0
 NodesKnowWhatTheyHold =
     (objects : List ObjectDecl) (t : List TimedEvent) (s : ℕ) (got : Option LetterId) (a : Name)
@@ -77,7 +77,7 @@ pub record BringsWhatWasHeld (t : List Event) (letter : LetterId) (mail : Mail)
       aborted (letter_past (abort_paths t) (carrier t (Some letter))) a
       ≡ (brings_aborts mail.body && informed (own_until t letter.event) mail.from a false)
 
--- A letter brings just the commits of which its sender was informed at the end of the event that
+-- A letter brings exactly the commits of which its sender was informed at the end of the event that
 -- sent it, and, if it brings aborts, the aborts.
 abbrev pub LettersBringWhatWasHeld : Type 0
 LettersBringWhatWasHeld =

@@ -98,7 +98,7 @@ impl Course {
         }
     }
 
-    /// Takes the next line. Where memory runs out the run is over.
+    /// Takes the next line. If memory runs out the run is over.
     pub(crate) fn take(&mut self, objects: &Objects, step: &TimedStep) -> Result<(), NoMemory>
         requires some { IsCourse objects.now self.old }
         requires may { MayTake objects.now self.old.bound step.now.act }

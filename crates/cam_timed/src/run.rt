@@ -10,7 +10,7 @@ use cam_base::NoMemory;
 use std::alloc::Global;
 
 /// The run by time of a script in the grammar's ranges, as each accepted script is: its events, the
-/// oldest first, and its marks. It fails only where memory runs out.
+/// oldest first, and its marks. It fails only if memory runs out.
 pub fn timed(alloc: Global, script: &TimedScript) -> Result<TimedRecord, NoMemory>
     requires { IsTimedInRange script.now }
     ensures run { IfOk result (IsRecordOf script.now) }

@@ -20,7 +20,7 @@ use std::alloc::Global;
 /// The witness of an action: the deeds in the past of the last event that gives a step of its view, in
 /// order. Where the record is a run by time, these are a legal history of plain nested transactions in
 /// which the action is no orphan and has the view that it has in the whole run, and whose serial list
-/// for it replays and has each answer that it got. `NoSuchAction` comes exactly where the action was not
+/// for it replays and has each answer that it got. `NoSuchAction` comes exactly if the action was not
 /// created in the run.
 pub fn timed_witness(alloc: Global, run: &TimedRecord, name: &Name) -> Result<Deeds, CutFault>
     ensures exact { IfOk result (λ deeds. history deeds ≡ witness (events (reverse run.now.trace)) name.now) }

@@ -44,7 +44,7 @@ call_to objects n x op c = record {
   count = c;
 }
 
--- What a deed does: just what one call does. The commit or abort of a top action does nothing here.
+-- What a deed does: exactly what one call does. The commit or abort of a top action does nothing here.
 abbrev pub begins : Bool → Name → Option Mail → Actions → Actions
 begins true a mail actions = begun actions
 begins false a mail actions = begun_child a (start_counts mail) actions

@@ -95,7 +95,7 @@ MayBeAsked s g (Tells m to) mail = Unit {0}
 MayBeAsked s g (Queries m f) mail = Unit {0}
 MayBeAsked s g (Restarts m) mail = Unit {0}
 
--- such a step where a halt came and just its log entry was taken
+-- such a step where a halt came and only its log entry was taken
 abbrev pub taken : Carried → Carried
 taken c = record c { event = taken_of c.event }
 

@@ -65,7 +65,7 @@ impl Homed {
         }
     }
 
-    /// What an action depends on. None where it was not created here.
+    /// What an action depends on. None if it was not created here.
     pub fn deps(&self, action: &Name) -> Option<Deps>
         ensures { result ≡ option_map (λ kept. kept.deps) ((answers self.now).action action.now) }
     {

@@ -8,7 +8,7 @@
 //! growth before a step; a call that has room takes no memory.
 //!
 //! Its laws: the calls are the rules (`calls_are_rules`), and after each step of a node the actions
-//! answer as the node's history does (`one_more_step`), after a restart too. It stands on
+//! answer as the node's history does (`one_more_step`), after a restart too. It uses
 //! `cam_event` (histories and rules).
 #![tactic(auto)]
 

@@ -1,5 +1,5 @@
 //! The steps of actions at their home, each one change of what is kept. A step that may want memory
-//! leaves all as it was where there is none; where there is room ([`Homed::reserve`]) it wants
+//! leaves all as it was if there is none; where there is room ([`Homed::reserve`]) it requires
 //! none.
 ghost use Rattle.std.specs.Prelude.{◌≡◌, ◌≤◌, ◌<◌, true, Some, None, OnOk, OnErr, IsOk, IfOk};
 ghost use Rattle.cam_names.specs.Names.{home_node, home_count};

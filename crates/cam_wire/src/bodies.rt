@@ -27,7 +27,7 @@ pub(crate) const QUERY: u8 = 8;
 
 pub(crate) const NEWS: u8 = 9;
 
-/// The fields of a Start, and the place behind them.
+/// The fields of a Start, and the place after them.
 #[tactic(auto, unfolding(crate::specs::ReadingBodies::start_at))]
 fn start_at(bytes: &[u8], at: usize) -> Result<(Body, usize), WireFault>
     requires { at ≤ length bytes.now }
@@ -40,7 +40,7 @@ fn start_at(bytes: &[u8], at: usize) -> Result<(Body, usize), WireFault>
     Ok((body, at))
 }
 
-/// The fields of a Call, and the place behind them.
+/// The fields of a Call, and the place after them.
 #[tactic(auto, unfolding(crate::specs::ReadingBodies::call_at))]
 fn call_at(bytes: &[u8], at: usize) -> Result<(Body, usize), WireFault>
     requires { at ≤ length bytes.now }
@@ -64,7 +64,7 @@ fn call_at(bytes: &[u8], at: usize) -> Result<(Body, usize), WireFault>
     Ok((body, at))
 }
 
-/// The fields of an Answer, and the place behind them.
+/// The fields of an Answer, and the place after them.
 #[tactic(auto, unfolding(crate::specs::ReadingBodies::answer_at))]
 fn answer_at(bytes: &[u8], at: usize) -> Result<(Body, usize), WireFault>
     requires { at ≤ length bytes.now }
@@ -82,7 +82,7 @@ fn answer_at(bytes: &[u8], at: usize) -> Result<(Body, usize), WireFault>
     Ok((body, at))
 }
 
-/// The fields of a Finish, and the place behind them.
+/// The fields of a Finish, and the place after them.
 #[tactic(auto, unfolding(crate::specs::ReadingBodies::finish_at))]
 fn finish_at(bytes: &[u8], at: usize) -> Result<(Body, usize), WireFault>
     requires { at ≤ length bytes.now }
@@ -100,7 +100,7 @@ fn finish_at(bytes: &[u8], at: usize) -> Result<(Body, usize), WireFault>
     Ok((body, at))
 }
 
-/// The fields of a Quit, and the place behind them.
+/// The fields of a Quit, and the place after them.
 #[tactic(auto, unfolding(crate::specs::ReadingBodies::quit_at))]
 fn quit_at(bytes: &[u8], at: usize) -> Result<(Body, usize), WireFault>
     requires { at ≤ length bytes.now }
@@ -112,7 +112,7 @@ fn quit_at(bytes: &[u8], at: usize) -> Result<(Body, usize), WireFault>
     Ok((body, at))
 }
 
-/// The fields of a Prepare, and the place behind them.
+/// The fields of a Prepare, and the place after them.
 #[tactic(auto, unfolding(crate::specs::ReadingBodies::prepare_at))]
 fn prepare_at(bytes: &[u8], at: usize) -> Result<(Body, usize), WireFault>
     requires { at ≤ length bytes.now }
@@ -125,7 +125,7 @@ fn prepare_at(bytes: &[u8], at: usize) -> Result<(Body, usize), WireFault>
     Ok((body, at))
 }
 
-/// The fields of a Vote, and the place behind them.
+/// The fields of a Vote, and the place after them.
 #[tactic(auto, unfolding(crate::specs::ReadingBodies::vote_at))]
 fn vote_at(bytes: &[u8], at: usize) -> Result<(Body, usize), WireFault>
     requires { at ≤ length bytes.now }
@@ -143,7 +143,7 @@ fn vote_at(bytes: &[u8], at: usize) -> Result<(Body, usize), WireFault>
     Ok((body, at))
 }
 
-/// The fields of a Query, and the place behind them.
+/// The fields of a Query, and the place after them.
 #[tactic(auto, unfolding(crate::specs::ReadingBodies::query_at))]
 fn query_at(bytes: &[u8], at: usize) -> Result<(Body, usize), WireFault>
     requires { at ≤ length bytes.now }
@@ -155,7 +155,7 @@ fn query_at(bytes: &[u8], at: usize) -> Result<(Body, usize), WireFault>
     Ok((body, at))
 }
 
-/// A body whose tag, which stands at `at`, was read, and the place behind it.
+/// A body whose tag, which stands at `at`, was read, and the place after it.
 #[tactic(auto, unfolding(crate::specs::ReadingBodies::body_of))]
 fn body_of(bytes: &[u8], at: usize, tag: u8, behind: usize) -> Result<(Body, usize), WireFault>
     requires { behind ≤ length bytes.now }
@@ -176,7 +176,7 @@ fn body_of(bytes: &[u8], at: usize, tag: u8, behind: usize) -> Result<(Body, usi
     }
 }
 
-/// A body at a place, and the place behind it.
+/// A body at a place, and the place after it.
 #[tactic(auto, unfolding(crate::specs::ReadingBodies::body_at))]
 pub fn body_at(bytes: &[u8], at: usize) -> Result<(Body, usize), WireFault>
     requires { at ≤ length bytes.now }

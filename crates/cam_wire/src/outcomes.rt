@@ -35,7 +35,7 @@ fn is_above_last_commit(commits: &[(Name, Deps)], name: &Name) -> bool
     }
 }
 
-/// Takes the abort that stands at a place, and answers the place behind it.
+/// Takes the abort that stands at a place, and answers the place after it.
 #[tactic(auto, unfolding(crate::specs::Reading::aborts_from))]
 fn take_abort(bytes: &[u8], at: usize, aborts: &mut Aborts) -> Result<usize, WireFault>
     requires { at ≤ length bytes.now }
@@ -53,7 +53,7 @@ fn take_abort(bytes: &[u8], at: usize, aborts: &mut Aborts) -> Result<usize, Wir
     Ok(end)
 }
 
-/// The aborts at a place, and the place behind them.
+/// The aborts at a place, and the place after them.
 pub fn aborts_at(alloc: Global, bytes: &[u8], at: usize) -> Result<(Aborts, usize), WireFault>
     requires { at ≤ length bytes.now }
     ensures read { IfOk result (λ read. aborts_at at bytes.now ≡ Ok read) }
@@ -70,7 +70,7 @@ pub fn aborts_at(alloc: Global, bytes: &[u8], at: usize) -> Result<(Aborts, usiz
     Ok((aborts, at))
 }
 
-/// Takes the commit that stands at a place, and answers the place behind it.
+/// Takes the commit that stands at a place, and answers the place after it.
 #[tactic(auto, unfolding(crate::specs::Reading::commits_from))]
 fn take_commit(bytes: &[u8], at: usize, commits: &mut Commits) -> Result<usize, WireFault>
     requires { at ≤ length bytes.now }
@@ -89,7 +89,7 @@ fn take_commit(bytes: &[u8], at: usize, commits: &mut Commits) -> Result<usize, 
     Ok(end)
 }
 
-/// The commits at a place, and the place behind them.
+/// The commits at a place, and the place after them.
 pub fn commits_at(alloc: Global, bytes: &[u8], at: usize) -> Result<(Commits, usize), WireFault>
     requires { at ≤ length bytes.now }
     ensures read { IfOk result (λ read. commits_at at bytes.now ≡ Ok read) }

@@ -21,7 +21,7 @@ const MISSED: u8 = 5;
 
 const REFUSED: u8 = 6;
 
-/// A reply whose tag, which stands at `at`, was read, and the place behind it.
+/// A reply whose tag, which stands at `at`, was read, and the place after it.
 #[tactic(auto, unfolding(crate::specs::ReadingBodies::reply_of))]
 fn reply_of(bytes: &[u8], at: usize, tag: u8, behind: usize) -> Result<(Reply, usize), WireFault>
     requires { behind ≤ length bytes.now }
@@ -45,7 +45,7 @@ fn reply_of(bytes: &[u8], at: usize, tag: u8, behind: usize) -> Result<(Reply, u
     }
 }
 
-/// A reply at a place, and the place behind it.
+/// A reply at a place, and the place after it.
 #[tactic(auto, unfolding(crate::specs::ReadingBodies::reply_at))]
 pub fn reply_at(bytes: &[u8], at: usize) -> Result<(Reply, usize), WireFault>
     requires { at ≤ length bytes.now }
@@ -56,7 +56,7 @@ pub fn reply_at(bytes: &[u8], at: usize) -> Result<(Reply, usize), WireFault>
     reply_of(bytes, at, tag, behind)
 }
 
-/// A reply, written behind what was written.
+/// A reply, written after what was written.
 pub fn write_reply(out: Vec<u8>, reply: &Reply) -> Result<Vec<u8>, NoMemory>
     ensures ok { IfOk result (λ text. text.items ≡ out.items ++ bytes_of_reply reply.now) }
     ensures range { OnOk result (IsReply reply.now) }

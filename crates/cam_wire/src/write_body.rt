@@ -18,7 +18,7 @@ use cam_event::{Body, Reply};
 use cam_names::{Deps, Name};
 use cam_type::Op;
 
-/// A tag and the name behind it, written behind what was written.
+/// A tag and the name after it, written after what was written.
 fn write_tagged_name(out: Vec<u8>, tag: u8, named: &Name) -> Result<Vec<u8>, NoMemory>
     ensures ok { IfOk result (λ text. text.items ≡ out.items ++ tag ∷ name named.now) }
     ensures range { OnOk result (IsName named.now) }
@@ -26,7 +26,7 @@ fn write_tagged_name(out: Vec<u8>, tag: u8, named: &Name) -> Result<Vec<u8>, NoM
     write_name(write_byte(out, tag)?, named)
 }
 
-/// A tag and the name of the family behind it, written behind what was written.
+/// A tag and the name of the family after it, written after what was written.
 fn write_tagged_family(out: Vec<u8>, tag: u8, family: &Name) -> Result<Vec<u8>, NoMemory>
     requires { length family.now ≡ 1 }
     ensures ok { IfOk result (λ text. text.items ≡ out.items ++ tag ∷ name family.now) }
@@ -35,7 +35,7 @@ fn write_tagged_family(out: Vec<u8>, tag: u8, family: &Name) -> Result<Vec<u8>, 
     write_family(write_byte(out, tag)?, family)
 }
 
-/// A Start, written behind what was written.
+/// A Start, written after what was written.
 fn write_start(out: Vec<u8>, child: &Name, deps: &Deps) -> Result<Vec<u8>, NoMemory>
     ensures ok { IfOk result (λ text. text.items ≡ out.items ++ bytes_of_body (bodies.Start child.now deps.now)) }
     ensures range { OnOk result (IsBody (bodies.Start child.now deps.now)) }
@@ -44,7 +44,7 @@ fn write_start(out: Vec<u8>, child: &Name, deps: &Deps) -> Result<Vec<u8>, NoMem
     write_deps(out, deps)
 }
 
-/// A Call, written behind what was written.
+/// A Call, written after what was written.
 fn write_call(
     out: Vec<u8>,
     action: &Name,
@@ -66,7 +66,7 @@ fn write_call(
     write_deps(out, deps)
 }
 
-/// An Answer, written behind what was written.
+/// An Answer, written after what was written.
 fn write_answer(
     out: Vec<u8>,
     action: &Name,
@@ -82,7 +82,7 @@ fn write_answer(
     write_reply(out, reply)
 }
 
-/// A Finish, written behind what was written.
+/// A Finish, written after what was written.
 fn write_finish(out: Vec<u8>, action: &Name, value: i64, deps: &Deps) -> Result<Vec<u8>, NoMemory>
     ensures ok { IfOk result (λ text. text.items ≡ out.items ++ bytes_of_body (bodies.Finish action.now value deps.now)) }
     ensures range { OnOk result (IsBody (bodies.Finish action.now value deps.now)) }
@@ -92,7 +92,7 @@ fn write_finish(out: Vec<u8>, action: &Name, value: i64, deps: &Deps) -> Result<
     write_deps(out, deps)
 }
 
-/// A Prepare, written behind what was written.
+/// A Prepare, written after what was written.
 fn write_prepare(out: Vec<u8>, family: &Name, count: u32) -> Result<Vec<u8>, NoMemory>
     requires { IsWritableBody (bodies.Prepare family.now count) }
     ensures ok { IfOk result (λ text. text.items ≡ out.items ++ bytes_of_body (bodies.Prepare family.now count)) }
@@ -102,7 +102,7 @@ fn write_prepare(out: Vec<u8>, family: &Name, count: u32) -> Result<Vec<u8>, NoM
     write_number(out, count)
 }
 
-/// A Vote, written behind what was written.
+/// A Vote, written after what was written.
 fn write_vote(out: Vec<u8>, family: &Name, count: u32, yes: bool) -> Result<Vec<u8>, NoMemory>
     requires { IsWritableBody (bodies.Vote family.now count yes) }
     ensures ok { IfOk result (λ text. text.items ≡ out.items ++ bytes_of_body (bodies.Vote family.now count yes)) }
@@ -113,7 +113,7 @@ fn write_vote(out: Vec<u8>, family: &Name, count: u32, yes: bool) -> Result<Vec<
     write_byte(out, if yes { 1 } else { 0 })
 }
 
-/// A body, written behind what was written.
+/// A body, written after what was written.
 pub fn write_body(out: Vec<u8>, body: &Body) -> Result<Vec<u8>, NoMemory>
     requires { IsWritableBody body.now }
     ensures ok { IfOk result (λ text. text.items ≡ out.items ++ bytes_of_body body.now) }

@@ -14,7 +14,7 @@ use cam_base::NoMemory;
 use cam_type::DataType;
 
 impl<L: TellingLog> Lines<L> {
-    /// Drains the network. Where memory runs out some letters were handed over, each event whole.
+    /// Drains the network. If memory runs out some letters were handed over, each event whole.
     #[tactic(none)]
     pub(crate) fn drain<R: DataType, Q: DataType, C: DataType>(
         &mut self,

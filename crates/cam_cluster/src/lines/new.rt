@@ -31,7 +31,7 @@ impl<D: Disk> Lines<Ckpt<StopDisk<D>>> {
             (⟦<Lines<Ckpt<StopDisk<D>>> as AsLines>⟧.may_read lines)) }
         ensures count { IfOk result
             (λ lines. length lines.works.nodes.items ≡ length disks.old.items) }
-        // Each node's disk tells what it holds just where it did, and no count of faults fell.
+        // Each node's disk tells what it holds exactly if it did, and no count of faults fell.
         ensures later { IfOk result (λ lines. AreLater D.tells D.faults (λ n. n.tells)
             (λ n. n.failures) disks.old.items
             (⟦<Lines<Ckpt<StopDisk<D>>> as AsLines>⟧.fields lines).works.nodes) }

@@ -18,7 +18,7 @@ use cam_node::Input;
 use cam_type::DataType;
 
 impl<L: TellingLog> Lines<L> {
-    /// The action that a variable stands for; none where its line was refused or halted.
+    /// The action that a variable stands for; none if its line was refused or halted.
     pub(crate) fn action_of(&self, variable: u32) -> Option<Name>
         ensures { result ≡ action_of self.now.bound.items variable }
     {
@@ -28,7 +28,7 @@ impl<L: TellingLog> Lines<L> {
         }
     }
 
-    /// The action that the newest variable stands for; none where its line was refused or halted.
+    /// The action that the newest variable stands for; none if its line was refused or halted.
     pub(crate) fn newest(&self) -> Option<Name>
         ensures { result ≡ action_of self.now.bound.items (length self.now.bound.items - 1) }
     {

@@ -15,7 +15,7 @@ use cam_script::Bodies;
 use cam_type::DataType;
 
 impl<L: TellingLog> Lines<L> {
-    /// Plays the rounds. Where memory runs out some of its inputs were put, each event whole.
+    /// Plays the rounds. If memory runs out some of its inputs were put, each event whole.
     #[tactic(none)]
     pub(crate) fn play<R: DataType, Q: DataType, C: DataType>(
         &mut self,

@@ -12,7 +12,7 @@ use cam_base::NoMemory;
 use cam_log::EntryLog;
 
 impl<L: TellingLog> Lines<L> {
-    /// Restarts a node, halted or not. Where memory runs out before the node restarts the lines are those before.
+    /// Restarts a node, halted or not. If memory runs out before the node restarts the lines are those before.
     ///
     /// Where the log has the event at which the node had halted, what is kept from then on is the run in which that halt was taken.
     /// Where the restart fails nothing is said of what is kept.
@@ -27,7 +27,7 @@ impl<L: TellingLog> Lines<L> {
             (⟦<Lines<L> as AsLines>⟧.fields self.old) (⟦<Lines<L> as AsLines>⟧.may_read self.old)
             (⟦<Lines<L> as AsLines>⟧.fields self.new) (⟦<Lines<L> as AsLines>⟧.may_read self.new)
             result) }
-        // It finds the event just where a stop let three calls pass.
+        // It finds the event exactly if a stop let three calls pass.
         ensures by_stop { IfOk result (HasFoundByStop (node - 1)
             (⟦<Lines<L> as AsLines>⟧.fields self.old).works
             (⟦<Lines<L> as AsLines>⟧.may_read self.old)) }

@@ -13,7 +13,7 @@ use cam_base::NoMemory;
 use cam_type::DataType;
 
 impl<L: TellingLog> Works<L> {
-    /// Hands over the least letter that waits for a node that is not halted; none where none waits.
+    /// Hands over the least letter that waits for a node that is not halted; none if none waits.
     #[tactic(none)]
     pub(crate) fn deliver_next<R: DataType, Q: DataType, C: DataType>(
         &mut self,
@@ -48,7 +48,7 @@ impl<L: TellingLog> Works<L> {
         Ok(Some(done))
     }
 
-    /// Hands over the letters that wait, the least first, until none waits for a node that is not halted. Where memory runs out some of
+    /// Hands over the letters that wait, the least first, until none waits for a node that is not halted. If memory runs out some of
     /// them were handed over, each event whole.
     #[tactic(none)]
     pub(crate) fn drain<R: DataType, Q: DataType, C: DataType>(

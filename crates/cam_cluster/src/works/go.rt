@@ -38,7 +38,7 @@ pub(crate) fn give_body(workers: &mut Workers, action: Option<Name>, body: Optio
 }
 
 impl<L: TellingLog> Works<L> {
-    /// An action makes the next request of its body, if it makes one now. Where memory runs out, the works and the workers stand as
+    /// An action makes the next request of its body, if it makes one now. If memory runs out, the works and the workers stand as
     /// before.
     #[tactic(none)]
     pub(crate) fn go<R: DataType, Q: DataType, C: DataType>(

@@ -118,7 +118,7 @@ impl<L: TellingLog> Works<L> {
         }
     }
 
-    /// Hands a letter to its node, which is not halted. Where memory runs out the works keep what
+    /// Hands a letter to its node, which is not halted. If memory runs out the works keep what
     /// they kept; so they do where the letter goes to no node of the script.
     #[tactic(none)]
     pub(crate) fn hand_over<R: DataType, Q: DataType, C: DataType>(

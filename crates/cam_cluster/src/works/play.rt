@@ -29,7 +29,7 @@ impl<L: TellingLog> Works<L> {
     }
 
     /// The actions that play on have their turns, in order of their names: all with a body, but for some that are over, which comes to
-    /// the turns of all. Where memory runs out, the first of them had theirs.
+    /// the turns of all. If memory runs out, the first of them had theirs.
     #[tactic(none)]
     fn take_all_turns<R: DataType, Q: DataType, C: DataType>(
         &mut self,
@@ -62,7 +62,7 @@ impl<L: TellingLog> Works<L> {
         self.take_turns(line, names.as_slice(), bodies, workers, servers)
     }
 
-    /// One round, and whether an input was put in it: each makes an event, or leaves the mark of a halt. Where memory runs out, the
+    /// One round, and whether an input was put in it: each makes an event, or leaves the mark of a halt. If memory runs out, the
     /// first actions had their turns, and some letters were handed over after them.
     #[tactic(none)]
     fn play_round<R: DataType, Q: DataType, C: DataType>(
@@ -98,7 +98,7 @@ impl<L: TellingLog> Works<L> {
         Ok(self.has_more(events, marks))
     }
 
-    /// Rounds until the first without an input. Where memory runs out, some rounds are whole, and a part of the next one.
+    /// Rounds until the first without an input. If memory runs out, some rounds are whole, and a part of the next one.
     #[tactic(none)]
     pub(crate) fn play<R: DataType, Q: DataType, C: DataType>(
         &mut self,

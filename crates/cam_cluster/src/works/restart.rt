@@ -33,7 +33,7 @@ pub(crate) enum Restart {
     Failed,
 }
 
-/// The event that a restart found of the halt before it: none where the node was not halted.
+/// The event that a restart found of the halt before it: none if the node was not halted.
 fn of_halted(was_halted: bool, found: Option<Event>) -> Option<Event>
     ensures { result ≡ (if was_halted then found else None) }
 {
@@ -68,7 +68,7 @@ impl<L: TellingLog> Works<L> {
     ///
     /// Where its disk tells what it holds, and the restart stands: the node is not halted, and its event is added to the events. If the
     /// log has the event at which the node had halted, that stands at its place before, and the mark of the halt says that it was
-    /// taken. Where memory runs out before the node restarts all is as it was, but that letters of the event before may have been put.
+    /// taken. If memory runs out before the node restarts all is as it was, but that letters of the event before may have been put.
     #[tactic(none)]
     pub(crate) fn restart(&mut self, place: usize) -> Result<Restart, NoMemory>
         requires place { place < 8 }
@@ -78,7 +78,7 @@ impl<L: TellingLog> Works<L> {
             (λ node. IsTrue (L.tells node.log.log) → HasRestartedAs place
             (⟦<Works<L> as AsWorks>⟧.fields self.old) (⟦<Works<L> as AsWorks>⟧.may_read self.old) done
             (⟦<Works<L> as AsWorks>⟧.fields self.new) (⟦<Works<L> as AsWorks>⟧.may_read self.new))) }
-        // It finds the event just where a stop let three calls pass.
+        // It finds the event exactly if a stop let three calls pass.
         ensures by_stop { IfOk result (HasFoundByStop place
             (⟦<Works<L> as AsWorks>⟧.fields self.old) (⟦<Works<L> as AsWorks>⟧.may_read self.old)) }
         ensures disks { DisksGoOn (⟦<Works<L> as AsWorks>⟧.fields self.old)

@@ -59,7 +59,7 @@ impl<L: TellingLog> Works<L> {
     }
 
     /// An action has its turn in a round: it makes the next request of its body, if it may go on and makes one now. One that is over
-    /// does not play on. Where memory runs out, the works and the workers stand as before.
+    /// does not play on. If memory runs out, the works and the workers stand as before.
     #[tactic(none)]
     pub(crate) fn take_turn<R: DataType, Q: DataType, C: DataType>(
         &mut self,
@@ -100,7 +100,7 @@ impl<L: TellingLog> Works<L> {
         }
     }
 
-    /// These actions have their turns, in order. Where memory runs out, the first of them had theirs.
+    /// These actions have their turns, in order. If memory runs out, the first of them had theirs.
     #[tactic(none)]
     pub(crate) fn take_turns<R: DataType, Q: DataType, C: DataType>(
         &mut self,
