@@ -35,7 +35,7 @@ pub fn read_arrival(alloc: Global, bytes: &[u8]) -> Result<Arrival, NoMemory>
     }
 }
 
-/// A letter with this fault was cut, unless memory ran out: then nothing is said of it.
+/// A letter with this fault was cut, unless memory ran out; then nothing is said of the letter.
 fn cut_by(fault: WireFault) -> Result<Arrival, NoMemory>
     ensures { IfOk result (λ a. (a ≡ Cut fault) × (fault ≡ OutOfMemory → ⊥)) }
 {

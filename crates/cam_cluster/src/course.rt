@@ -60,9 +60,9 @@ impl From<NoMemory> for CourseFault {
 }
 
 impl<L: TellingLog> Course<L> {
-    /// Takes the next line of the script, by its kind: it leads on, and the fault of a letter that it cut short is told; or it is
-    /// refused, by the first test that fails; or memory runs out, and what was kept is kept, but that some inputs of a drain or a play
-    /// may stand; or a restart fails, and it is known what has failed by itself.
+    /// Takes the next line of the script, by its kind. It leads on, and returns the fault of a letter that it cut short. Or it is
+    /// refused, by the first test that fails. Or memory runs out, and all is as before, except that some inputs of a drain or a play may
+    /// have been taken. Or a restart fails, and it is known what has failed by itself.
     #[tactic(none)]
     pub(crate) fn take<R: DataType, Q: DataType, C: DataType>(
         &mut self,
@@ -154,8 +154,8 @@ impl<L: TellingLog> Course<L> {
         Ok(None)
     }
 
-    /// `play`: rounds, in each of which the actions at bodies make their next requests and the letters that wait are handed over, until
-    /// the first without an input.
+    /// `play`: rounds, in each of which the actions at bodies make their next requests and the letters that wait are delivered, until the
+    /// first without an input.
     #[tactic(none)]
     fn play<R: DataType, Q: DataType, C: DataType>(
         &mut self,
@@ -201,8 +201,8 @@ impl<L: TellingLog> Course<L> {
         Ok(None)
     }
 
-    /// `restart`: a node goes on from what its log keeps. Where the log has the event at which the node had halted, that event stands
-    /// among the others from then on, and the actions at bodies take in all events again.
+    /// `restart`: a node goes on from what its log keeps. If the log has the event at which the node had halted, that event is inserted
+    /// among the others, and the actions at bodies take in all events again.
     #[tactic(none)]
     fn restart(&mut self, line: u32, node: u8) -> Result<Option<WireFault>, CourseFault>
         requires next { IsNextOfSome line (acts.Restart node)

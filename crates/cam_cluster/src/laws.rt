@@ -11,9 +11,9 @@ pub fn all_lines()
     ensures run { AllLinesAreTheRun }
 {}
 
-/// A node is halted since its last input, and a restart finds that its log took the event of it:
-/// this changes the halts at that input alone, and what the lines so far have left by that event
-/// and the mark of the halt alone. Both are under way. Halts at later inputs change nothing of them.
+/// A node is halted since its last input, and a restart finds that its log took that event. This
+/// changes only the halts at that input, the event, and the mark of the halt. Both runs are under
+/// way. Halts at later inputs change nothing of them.
 pub fn found_halts()
     ensures differ { FoundHaltsDiffer }
     ensures lines { FoundLinesPutIn }
@@ -22,7 +22,7 @@ pub fn found_halts()
 {}
 
 /// An action is over once it has asked to commit or to abort, or was stopped at its home, or its home
-/// has crashed. It stays so, and makes no request in a round: so a round may leave out those that are
+/// has crashed. It stays so, and makes no request in a round. So a round may leave out those that are
 /// over before it.
 pub fn over_for_good()
     ensures stays { OverStays }

@@ -1,5 +1,5 @@
-//! The lines of a script so far: the works, and the action that the variable of each line stands for. A line of one input puts it to its
-//! node; a line that is refused leaves its mark.
+//! The lines of a script so far: the works, and the action that the variable of each line means. A line of one input gives it to its
+//! node; a refused line leaves its mark.
 ghost use Rattle.std.specs.Prelude.{◌≡◌, ◌<◌, ◌++◌, ◌∷◌, [], IfOk, IfSome, IsErrOf, IsFalse, IsTrue, OnErr, OnOk, length, reverse, slice_get};
 ghost use Rattle.std.specs.List.{AllByRecursion};
 ghost use Rattle.cam_event.specs.declared.Deed.{Deed};
@@ -42,7 +42,7 @@ use cam_names::Name;
 use cam_node::Input;
 use cam_type::DataType;
 
-/// The works of a cluster, and for each line so far the action that its variable stands for.
+/// The works of a cluster, and for each line so far the action that its variable means.
 #[derive(Drop)]
 pub(crate) struct Lines<L: CheckpointLog> {
     pub(crate) works: Works<L>,
@@ -126,8 +126,8 @@ pub(crate) fn bound_after(done: Put, input: &Input, events: &[Event]) -> Option<
 }
 
 impl<L: TellingLog> Lines<L> {
-    /// Puts the input of a line to the node at a place, against which nothing stands there, and binds the line's variable. Where
-    /// memory runs out the lines are those before.
+    /// Gives the input of a line to the node at a place, which does not refuse it, and binds the line's variable. If memory runs out,
+    /// the lines are as before.
     #[tactic(none)]
     pub(crate) fn lead<R: DataType, Q: DataType, C: DataType>(
         &mut self,
@@ -162,7 +162,7 @@ impl<L: TellingLog> Lines<L> {
         Ok(done)
     }
 
-    /// The line is refused by this test: it leaves a mark, and its variable stands for nothing.
+    /// The line is refused by this test: it leaves a mark, and its variable means nothing.
     #[tactic(none)]
     pub(crate) fn refuse(&mut self, line: u32, refusal: LineRefusal) -> Result<(), NoMemory>
         ensures refused { OnOk result (HasRefused line refusal

@@ -104,7 +104,7 @@ impl<D: TellingDisk> Run<Ckpt<StopDisk<D>>> {
 }
 
 impl<L: TellingLog> Run<L> {
-    /// Fails where something has failed by itself.
+    /// Fails if something has failed by itself.
     fn unfailing(&self) -> Result<(), RunFault>
         ensures unfailing { OnOk result (IsUnfailing
             (⟦<Lines<L> as AsLines>⟧.fields self.now.course.lines).works.failed
@@ -114,8 +114,8 @@ impl<L: TellingLog> Run<L> {
         self.course.lines.works.failed.unfailing()
     }
 
-    /// Takes the next line of the script, which may be refused. It fails where something failed by
-    /// itself in it.
+    /// Takes the next line of the script, which may be refused. It fails if something failed by itself
+    /// in it.
     fn take_next<R: DataType, Q: DataType, C: DataType>(
         &mut self,
         script: &Script,
@@ -148,8 +148,8 @@ impl<L: TellingLog> Run<L> {
         }
     }
 
-    /// Takes all lines of the script, of which none is taken yet. It fails at once where something
-    /// fails by itself.
+    /// Takes all lines of the script, of which none is taken yet. It fails as soon as something fails
+    /// by itself.
     fn take_all<R: DataType, Q: DataType, C: DataType>(
         &mut self,
         script: &Script,
@@ -197,7 +197,7 @@ impl<L: TellingLog> Run<L> {
     }
 }
 
-/// Runs a whole script over the disks. A fault names a disk only where that one failed by itself.
+/// Runs a whole script over the disks. A fault names a disk only if that one failed by itself.
 fn run_over<D: TellingDisk, R: DataType, Q: DataType, C: DataType>(
     alloc: Global,
     script: &Script,
@@ -227,17 +227,17 @@ fn run_over<D: TellingDisk, R: DataType, Q: DataType, C: DataType>(
 }
 
 /// Runs a whole script, each node over the disk at its place, which is formatted, whatever it held.
-/// A line that is refused leaves its mark, and the run goes on; so it does where a node halts since
-/// a line has stopped its disk. What it gives is the record of the one run of the script: a node
-/// halts exactly if such a line cuts its append off. However the run ends, as many disks are back in
-/// their list. Where it gives a record, whatever a crash then leaves of a disk is a log, which keeps
-/// the node's history of the run; that of a node that is halted may have the event of the halt, too.
+/// A refused line leaves its mark, and the run goes on. It also goes on if a node halts because a
+/// line has stopped its disk. It returns the record of the one run of the script: a node halts
+/// exactly if such a line cuts its append off. However the run ends, as many disks are back in their
+/// list. If it returns a record, whatever a crash then leaves of a disk is a log that keeps the
+/// node's history of the run; the log of a halted node may also have the event of the halt.
 ///
-/// The servers do the operations of its objects. The run ends by `DiskFault` exactly if the disk of a
-/// node failed by itself in it, in a call that it does: while it is formatted, in a line, or while its
-/// node restarts. That disk's count of faults rose then; of several disks that failed it names the
-/// first, in order of their nodes. How often a disk had failed before does not matter, but at the end
-/// of the count's type. It ends by `NoMemory` where memory ran out, and no disk failed.
+/// The servers do the operations of its objects. The run ends with `DiskFault` exactly if the disk of
+/// a node failed by itself, in a call that it does: while it is formatted, in a line, or while its
+/// node restarts. That disk's count of faults rose then; the fault names the first such disk, in
+/// order of nodes. How often a disk had failed before does not matter, except at the end of the
+/// count's type. The run ends with `NoMemory` if memory ran out, and no disk failed.
 pub fn run_script<D: TellingDisk, R: DataType, Q: DataType, C: DataType>(
     alloc: Global,
     script: &Script,

@@ -1,5 +1,5 @@
-//! The nodes of a cluster, the letters between them, and what they did. An input is put to one node: its event is added to the
-//! events and its letters are put next, or the node halts.
+//! The nodes of a cluster, the letters between them, and what they did. An input goes to one node: its event is added to the events
+//! and its letters are put next, or the node halts.
 ghost use Rattle.std.specs.Prelude.{◌≡◌, ◌+◌, ◌≤◌, ◌<◌, ◌++◌, ◌∷◌, [], IfOk, IfSome, IsFalse, OnErr, OnOk, length, set, slice_get, suc, true, false, vec_capacity, vec_len};
 ghost use Rattle.cam_event.specs.declared.Mark.TheVariants as marks;
 ghost use Rattle.std.specs.List.{AllByRecursion};
@@ -45,10 +45,10 @@ pub(crate) use restart::Restart;
 pub(crate) use undecided::OpenHalt;
 use undecided::open;
 
-/// How an input ended that was put to a node.
+/// How an input of a node ended.
 #[derive(Clone, Copy, Debug)]
 pub(crate) enum Put {
-    /// Its event stands.
+    /// Its event is in the run.
     Stood,
     /// The node halted. What its disk has of the event is read when it restarts.
     Halted,
@@ -62,7 +62,7 @@ pub(crate) struct Works<L: CheckpointLog> {
     pub(crate) halted: [bool; 8],
     /// What has failed by itself.
     pub(crate) failed: Failed,
-    /// The halts of which no restart has told yet whether they are taken, the newest first.
+    /// The halts whose nodes have not restarted, so that nobody knows whether they are taken; the newest first.
     pub(crate) undecided: Vec<OpenHalt>,
     pub(crate) events: NumberedEvents,
     pub(crate) marks: Vec<Mark>,
@@ -116,10 +116,10 @@ fn received_in(input: &Input) -> Option<LetterId>
 }
 
 impl<L: TellingLog> Works<L> {
-    /// Puts an input to the node at a place, against which nothing stands there.
+    /// Gives an input to the node at a place, which does not refuse it.
     ///
-    /// Its event stands and its letters are put next; or the node halted, which leaves a mark. If memory runs out before
-    /// that all is as it was, but that letters of the event before may have been put.
+    /// Its event is added and its letters are put next; or the node halted, which leaves a mark. If memory runs out before that,
+    /// nothing changes, except that pending letters may already be on the network.
     #[tactic(none)]
     pub(crate) fn put<R: DataType, Q: DataType, C: DataType>(
         &mut self,
@@ -200,7 +200,7 @@ impl<L: TellingLog> Works<L> {
         Ok(())
     }
 
-    /// The event stands, and its letters are put next.
+    /// The event is added, and its letters are put next.
     fn stand(&mut self, stepped: Stepped)
         requires room { (vec_len self.old.events.events < vec_capacity self.old.events.events)
             × (vec_len self.old.events.counts < vec_capacity self.old.events.counts) }
@@ -217,7 +217,7 @@ impl<L: TellingLog> Works<L> {
         self.outbox.send(stepped.letters);
     }
 
-    /// The node at a place is halted in a step in which it received this letter, and no event of it stands: its log may have it.
+    /// The node at a place is halted in a step in which it received this letter. No event of the step is added; the node's log may have it.
     fn halt(&mut self, line: u32, place: usize, got: Option<LetterId>, fault: NodeFault)
         requires place { place < 8 }
         requires room { vec_len self.old.marks < vec_capacity self.old.marks }
