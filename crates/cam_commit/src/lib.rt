@@ -2,9 +2,9 @@
 //! those that it has secured as a site.
 //!
 //! Each call is one rule: `vote` counts a vote, `asked` answers a home that prepares a family,
-//! `query` answers a site that asks after one. What a family depends on is handed to `vote`, since
+//! `query` answers a site that asks about one. What a family depends on is an argument of `vote`, since
 //! the actions' layer keeps it. `reserve` makes all growth before a step; what follows takes no
-//! memory. Tables of hashes, so that a call costs some look-ups and not what is kept.
+//! memory. It keeps tables of hashes, so a call costs some look-ups and not what is kept.
 //!
 //! Its law: after each event of a node the families answer as the node's history does
 //! (`one_more_event`, `one_more_call`, `one_more_step`), and after a restart too (`after_restart`).

@@ -1,13 +1,13 @@
-//! Letters that tell only what their receivers have not acknowledged, and why that is enough.
+//! Letters that carry only what their receivers have not acknowledged, and why that is enough.
 //!
 //! Each node keeps the outcomes that it knows as a list, in the order in which it learnt them. A
 //! letter carries the outcomes from the place on that its receiver has acknowledged, all counts,
 //! the length of the sender's list, and how much of the receiver's list the sender has. Here it is
-//! proved that so each node knows the same as where letters carry all ([`same_knowledge`]), hence
+//! proved that so each node knows the same as if letters carried all ([`same_knowledge`]), hence
 //! goes by the same and does the same, and that no letter claims more than there is ([`places`]).
-//! What letters carry is told by pasts too, and is the same ([`loads`]).
+//! What letters carry is defined by pasts too, and is the same ([`loads`]).
 //!
-//! Laws alone. They stand on `cam_agree`, which says the same of letters that carry all.
+//! Laws alone. They use `cam_agree`, which says the same of letters that carry all.
 #![tactic(auto)]
 
 ghost use Rattle.cam_delta.specs.Halted.{HaltedEventsAgree, HaltedKnownIsThePast, HaltedLettersSpelledAlike, HaltedLoadsAreThoseOfPasts, HaltedQueryRefusalsAgree, HaltedRefusalsAgree};

@@ -2,9 +2,9 @@
 //! may come.
 //!
 //! A node's step has a precondition over its own history (`cam_node`). Here it is proved that a run meets it: the history of each node is
-//! lawful ([`histories`]), each letter that was sent may be put to its receiver, whenever it comes ([`letters`]), and each input that may
-//! come may be put to its node ([`inputs`]). A network that has the letters of the run goes on to have them ([`flights`]), and with one more
-//! input all nodes stand for the run again ([`run_inputs`]). Laws alone; they stand on `cam_node`, whose definitions they speak of, and on `cam_agree`,
+//! lawful ([`histories`]), each letter that was sent may be delivered to its receiver, whenever it comes ([`letters`]), and each input that may
+//! come may be given to its node ([`inputs`]). A network that has the letters of the run goes on to have them ([`flights`]), and with one more
+//! input all nodes stand for the run again ([`run_inputs`]). Laws alone; they use `cam_node`, whose definitions they speak of, and `cam_agree`,
 //! `cam_delta` and `cam_runs`, which say the same of runs by what nodes hold and by pasts.
 #![tactic(auto)]
 

@@ -1,7 +1,7 @@
 //! The numbered run of several threads.
 //!
 //! A `Journal` numbers the events of up to eight nodes by one atomic word. Each node has a `NodeSeat`, which goes to the thread that
-//! works for it. `record` puts an event under the next number after the history of its seat. A `Note` stands for a letter that an
+//! works for it. `record` puts an event under the next number after the history of its seat. A `Note` names a letter that an
 //! event sent; another node takes it, and may record its receipt. `gather` gives the events of all seats in one order. What events
 //! and letters are, and which event is lawful, a `Core` says.
 //!

@@ -1,19 +1,19 @@
 //! The operations that are live after a list of deeds.
 //!
-//! A performed operation is live where no ancestor of its action has aborted so far as its site was
+//! A performed operation is live if no ancestor of its action has aborted so far as its site was
 //! informed, and no crash of the site has removed it: each came after the family was secured there
-//! (`cam_event/specs/Live`). [`live`] answers exactly these, in the order in which they were
-//! performed, for every list of deeds, legal or not. [`settled`] answers those of them that are
+//! (`cam_event/specs/Live`). [`live`] returns exactly these, in the order in which they were
+//! performed, for every list of deeds, legal or not. [`settled`] returns those of them that are
 //! handed up past the top, which stay whatever runs on.
 //!
 //! It goes over the deeds once, and takes each into a [`Ledger`]: `tables` keeps what the deeds say of
 //! calls, counts of sites, secured families and informs; `performed` keeps each operation with the
 //! count of its site at that time. A crash so costs one step and not a look at all operations: at the
-//! end an operation stands if its count is still that of the site, or if the family was first secured
-//! there at no later count (`Counted`). With n deeds it takes about n times the logarithm of n. Who
-//! needs the live operations deed by deed keeps a ledger.
+//! end an operation is live if its count is still that of the site, or if the family was first secured
+//! there at no later count (`Counted`). With n deeds it takes about n times the logarithm of n. A
+//! caller may also keep a ledger deed by deed.
 //!
-//! Stands on `cam_event` (deeds, live operations), `cam_type` (declarations), `cam_names` and
+//! It uses `cam_event` (deeds, live operations), `cam_type` (declarations), `cam_names` and
 //! `cam_base`.
 #![tactic(auto)]
 

@@ -2,7 +2,7 @@
 //! ([`Own`]), and of all nodes together their calls, live operations and dependencies ([`Whole`]).
 //!
 //! Each table has what the deeds say of whatever list of deeds, so a caller needs no law of runs to keep
-//! one. Stands on `cam_live` (the ledger of calls, informs and live operations) and `cam_event`.
+//! one. It uses `cam_live` (the ledger of calls, informs and live operations) and `cam_event`.
 #![tactic(auto)]
 
 mod actions;

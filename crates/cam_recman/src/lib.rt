@@ -12,7 +12,7 @@
 //! | 5 | Secure | family, count (number), how many operations (four bytes), then of each its index (four bytes, 0 to 999,999,999), object and operation |
 //! | 6 | Version | the version after it, 2 (one byte) |
 //!
-//! A log begins with version 1. Version may stand once; before it an Add is not known, and after it the version is 2. Recovery takes
+//! A log begins with version 1. Version may be there once; before it an Add is not known, and after it the version is 2. Recovery takes
 //! nothing from it.
 //!
 //! Recovered are the last count, every outcome, of each node the greatest count, and what each secured family holds, and nothing else.

@@ -1,11 +1,11 @@
-//! The step rules where no node tests for orphans: what a node does with an input, by what it is asked.
+//! The step rules without orphan tests: what a node does with an input, by what it is asked.
 //!
 //! [`Sighted`] is what a rule asks of a node at an event. [`begin`], [`request`], [`arrive`], [`tell`],
 //! [`query`] and [`abort_family`] are the rules of an input each; [`refusal`], [`query_refusal`] and
-//! [`end_refusal`] say what stands against a line. Each answers what the definition of the rules says of
-//! what the node goes by, whatever that is: so who keeps it in tables needs no second look at the rules.
+//! [`end_refusal`] say why a line is refused. Each returns what the definition of the rules says of what
+//! the node goes by, whatever that is. So a caller that keeps it in tables needs no second look at the rules.
 //!
-//! Stands on `cam_event` (the rules), `cam_type` (operations) and `cam_names`.
+//! It uses `cam_event` (the rules), `cam_type` (operations) and `cam_names`.
 #![tactic(auto)]
 
 mod arrivals;

@@ -3,20 +3,20 @@
 //! The serial list of a history has the operations that committed up to the top, those of one top
 //! action after those of another, in order of their Commits ([`serial`] with no name). For an action
 //! whose top action has not committed, what the action may see of its own family comes last
-//! (`Serial`). A list replays where applying its operations from the start states gives exactly its
+//! (`Serial`). A list replays if applying its operations from the start states gives exactly its
 //! answers, which [`replays`] tells.
 //!
 //! The law is a clause of [`serial`], in two parts, and holds of every legal list of deeds, whether or
 //! not a run made it: the list for no action replays, and that for any action, orphan or not; and
-//! where a created action is no orphan its list has each answer that it got, and that for no action
+//! if a created action is no orphan its list has each answer that it got, and that for no action
 //! has those of each action that has committed with all its ancestors (`Law`).
 //! Of the operations the proof uses two things: those of compatible modes commute, and each leaves
-//! the kind of its object. How it goes stands in `docs/SERIAL-LAW.md`.
+//! the kind of its object. `docs/SERIAL-LAW.md` tells how it goes.
 //!
 //! Both calls make a few passes over their list, with tables in order of names and objects, so with n
 //! deeds they take about n times the logarithm of n. Taking from a queue costs what is after it.
 //!
-//! Stands on `cam_live` (live operations), `cam_plain` (legal lists and their laws), `cam_cut` (when
+//! It uses `cam_live` (live operations), `cam_plain` (legal lists and their laws), `cam_cut` (when
 //! an action gains nothing more), `cam_event`, `cam_type`, `cam_know`, `cam_names` and `cam_base`.
 #![tactic(auto)]
 
