@@ -19,10 +19,10 @@ from texts import name_text
 
 USAGE = """usage: hunt/files [TIMES] [SEED] [--program FILE]
 
-Kills runs over files, 500 where TIMES is left out, each by `kill -9` at a random moment. Each file
-that was begun must then be read by `inspect` as a log that says just what its node keeps after some
-first part of the run. Then the program is given files that it cannot use: a full file system, a
-file without rights, a folder in its place, a file that shrinks under the run.
+Kills runs over files by `kill -9` at random moments, until 500, or TIMES, were killed before their
+end. Each file that was begun must then be read by `inspect` as a log that says just what its node
+keeps after some first part of the run. Then the program is given files that it cannot use: a full
+file system, a file without rights, a folder in its place, a file that shrinks under the run.
 
 Status 0: all is as it must be. Status 1: something is not; a line says what. Status 2: nothing was
 tried."""
@@ -120,7 +120,7 @@ class Killing:
         with open("script", "rb") as file, subprocess.Popen(
             [self.path, "run", "files"], stdin=file, stdout=subprocess.PIPE
         ) as process:
-            time.sleep(self.source.random() * took)
+            time.sleep(self.source.random() * took * 0.7)
             process.send_signal(signal.SIGKILL)
             process.communicate()
         self.note("killed" if process.returncode == -signal.SIGKILL else "ended before")
@@ -323,10 +323,12 @@ def main(words):
             path = find(named)
             os.chdir(room)
             killing = Killing(path, seed)
-            for number in range(times):
+            number = 0
+            while killing.kinds.get("killed", 0) < times:
+                number += 1
                 killing.kill_one(number)
             print(
-                f"{times} runs: "
+                f"{number} runs: "
                 + ", ".join(f"{kind} {count}" for kind, count in sorted(killing.kinds.items()))
             )
             wrong = killing.wrong + unusable(path)
