@@ -14,7 +14,7 @@ enum Asked {
 }
 
 /// What words ask for, which are written with blanks between them.
-fn asked(alloc: Global, text: &str) -> Result<Asked, Fail> {
+fn request_of(alloc: Global, text: &str) -> Result<Asked, Fail> {
     let mut words = Vec::new(alloc);
     for word in text.split_whitespace() {
         words.push(String::from_str(alloc, word)?)?;
@@ -48,7 +48,7 @@ const FORMS: [(&str, Asked); 14] = [
 #[test]
 fn words_ask_for_what_their_form_says(rt: HostRuntime) -> Result<(), Fail> {
     for (text, wanted) in &FORMS {
-        same(&rt, asked(rt.alloc(), text)?, *wanted);
+        same(&rt, request_of(rt.alloc(), text)?, *wanted);
     }
     Ok(())
 }
