@@ -56,7 +56,7 @@ struct Happened {
 }
 
 /// What happened: events of each node, and top actions that were created and committed.
-fn happened(trace: &Trace) -> Happened {
+fn count(trace: &Trace) -> Happened {
     let mut happened = Happened {
         events: [0; 4],
         created: 0,
@@ -85,7 +85,7 @@ fn happened(trace: &Trace) -> Happened {
 /// How often nodes restart in a rough storm with these events: each at its events 64 and 128.
 fn restarts(trace: &Trace) -> u64 {
     let mut restarts: u64 = 0;
-    for events in happened(trace).events {
+    for events in count(trace).events {
         if events > 64 {
             restarts = restarts.wrapping_add(1);
         }
@@ -111,7 +111,7 @@ fn four_workers_do_the_work_of_a_calm_storm_at_once(rt: HostRuntime) -> Result<(
         committed: 4,
         crashed: 0,
     };
-    same(&rt, happened(&trace), all);
+    same(&rt, count(&trace), all);
     let counted = Counted {
         alone: 0,
         steps: [14; 4],
@@ -134,7 +134,7 @@ fn two_workers_for_each_node_commit_four_actions(rt: HostRuntime) -> Result<(), 
         committed: 4,
         crashed: 0,
     };
-    same(&rt, happened(&trace), all);
+    same(&rt, count(&trace), all);
     Ok(())
 }
 
@@ -150,7 +150,7 @@ fn a_storm_without_memory_hands_its_disks_back(rt: HostRuntime) -> Result<(), Fa
     same(&rt, disks.len(), 4);
     // With memory enough it has the events of the storm; run with `--fail-alloc N` it may have none.
     if let Ok(trace) = storm {
-        same(&rt, happened(&trace).committed, 4);
+        same(&rt, count(&trace).committed, 4);
     }
     Ok(())
 }
@@ -163,7 +163,7 @@ fn a_rough_storm_ends_with_all_its_top_actions(rt: HostRuntime) -> Result<(), Fa
         calm: false,
     };
     let trace = events(&rt, rt.alloc(), &words, 4, &OpenGate)?;
-    same(&rt, happened(&trace).created, 16);
-    same(&rt, happened(&trace).crashed, restarts(&trace));
+    same(&rt, count(&trace).created, 16);
+    same(&rt, count(&trace).crashed, restarts(&trace));
     Ok(())
 }
