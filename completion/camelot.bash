@@ -2,10 +2,10 @@
 _camelot() {
     local before=${COMP_LINE:0:COMP_POINT}
     COMPREPLY=()
-    # Behind < and --try comes the name of a file.
-    if [[ $before =~ \<[[:space:]]*([^[:space:]]*)$ || (${COMP_WORDS[1]} == --try && $before =~ --try.*[[:space:]]([^[:space:]]*)$) ]]; then
+    # Behind <, --page and --try comes the name of a file.
+    if [[ $before =~ \<[[:space:]]*([^[:space:]]*)$ || (${COMP_WORDS[1]} == --@(page|try) && $before =~ --(page|try).*[[:space:]]([^[:space:]]*)$) ]]; then
         compopt -o filenames 2>/dev/null
-        mapfile -t COMPREPLY < <(compgen -f -- "${BASH_REMATCH[1]}")
+        mapfile -t COMPREPLY < <(compgen -f -- "${BASH_REMATCH[-1]}")
         return
     fi
     mapfile -t COMPREPLY < <("${COMP_WORDS[0]}" --complete "$before" "$COMP_LINE" 2>/dev/null | cut -f 1)

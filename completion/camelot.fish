@@ -4,6 +4,6 @@ function __camelot_words
     $command --complete (commandline -pc | string collect) (commandline -p | string collect) 2>/dev/null
 end
 complete -c camelot -f -a '(__camelot_words)'
-complete -c camelot -n 'string match -q -- "* --try *" (commandline -pc)' -F
+complete -c camelot -n 'string match -qr -- " --(page|try) " (commandline -pc)' -F
 complete -c camscope -f -a '(__camelot_words)'
 complete -c camscope -n 'not string match -qr -- " (--action|--stop) [^ ]*\$" (commandline -pc)' -F
