@@ -1,5 +1,6 @@
 // Letters as bytes. What is expected was worked out from the format's text.
 mod changes;
+mod kinds;
 
 ghost use Rattle.std.specs.Prelude.{◌<◌};
 ghost use Rattle.cam_wire.specs.Writable.{IsWritable, IsWritableBody};
