@@ -18,8 +18,8 @@ from texts import name_text
 USAGE = """usage: hunt/faults [PART..] [--program FILE]
 
 Runs the program on the twenty scripts of hunt/scripts, which meet all rules, and makes things fail.
-Each answer must be the one that README.md's table of statuses says. The parts are these, and
-without a word all of them:
+Each answer must be the one that the table of statuses in docs/COMMANDS.md says. The parts are
+these, and without a word all of them:
 
   allocations  each allocation fails: alone, and with all later ones. Status 7 and no text, or the
                whole text
