@@ -5,7 +5,7 @@
 # A figure is such a ratio: the nanoseconds are those of one machine on one day. Each time is the least of several rounds.
 # bench/know.sh           proves the crates and the program, and runs it
 # bench/know.sh --quick   runs a build of the same sources that nothing has proved
-# The figures in README.md come from the first, which has run to its end.
+# The figures in RESULTS.md come from the first, which has run to its end.
 . "$(dirname "$0")/common.sh"
 make_program know_times anyhow cam_base cam_names cam_know cam_orphan
 cat > src/main.rt <<'PROGRAM'

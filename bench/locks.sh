@@ -7,7 +7,7 @@
 # Where one round took more than a second, greater numbers are left out, and a line says so.
 # bench/locks.sh           proves the crates and the program, and runs it
 # bench/locks.sh --quick   runs a build of the same sources that nothing has proved
-# The figures in crates/cam_locks/README.md come from the first, which has run to its end.
+# The figures in RESULTS.md come from the first, which has run to its end.
 . "$(dirname "$0")/common.sh"
 make_program lock_times anyhow cam_base cam_names cam_type cam_know cam_locks
 cat > src/main.rt <<'PROGRAM'

@@ -5,7 +5,7 @@
 # name among all before them, and comments behind the 512th.
 # bench/script.sh           proves the crates and the program, and runs it
 # bench/script.sh --quick   runs a build of the same sources that nothing has proved
-# The figures in crates/cam_script/README.md come from the first, which has run to its end.
+# The figures in RESULTS.md come from the first, which has run to its end.
 . "$(dirname "$0")/common.sh"
 make_program script_times anyhow cam_script
 cat > src/main.rt <<'PROGRAM'

@@ -7,7 +7,7 @@
 # commit, and two other nodes crash.
 # bench/serial.sh           proves the crates and the program, and runs it
 # bench/serial.sh --quick   runs a build of the same sources that nothing has proved
-# The figures in README.md come from the first, which has run to its end.
+# The figures in RESULTS.md come from the first, which has run to its end.
 . "$(dirname "$0")/common.sh"
 make_program serial_times anyhow cam_base cam_names cam_type cam_event cam_serial
 cat > src/main.rt <<'PROGRAM'
