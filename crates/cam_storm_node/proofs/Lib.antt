@@ -4,6 +4,8 @@ pub mod Counted
 pub mod Wanted
 pub mod Running
 pub mod Requests
+pub mod Numbers
+pub mod Puts
 pub mod Requested
 pub mod Restarted
 pub mod Answered
@@ -13,5 +15,6 @@ pub mod Working
 pub mod Played
 pub mod Stepped
 pub mod Steps
+pub mod Handed
 pub mod Cores
 pub mod Least

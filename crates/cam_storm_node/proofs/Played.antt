@@ -2,7 +2,7 @@
 -- and when it begins.
 use Rattle.std.proofs.Common.{◌∷◌, ◌≡◌, ◌⊎◌, inl, inr, ℕ, suc, ◌+◌, ◌≤◌, Bool, true, false, ◌&&◌, ◌||◌, [], length, Option, Some, None, refl, sym, ap, ◌∙◌, subst, arith}
 use Rattle.std.specs.Prelude.{nat_le, option_map, is_none}
-use Rattle.std.proofs.lemmas.Bool.{true≢false}
+use Rattle.std.proofs.lemmas.Bool.{le-leb, true≢false}
 use Rattle.cam_names.specs.declared.name.Name.{Name}
 use Rattle.cam_names.specs.Names.{home_node}
 use Rattle.cam_event.specs.declared.Request.{Request}
@@ -53,6 +53,23 @@ busy_runs storm_node Drive busy = first (is_over storm_node) _ busy
     first : (b c : Bool) → (b || c) ≡ false → b ≡ false
     first true c e = e
     first false c e = refl
+
+-- one that has created its top actions and has something to do by itself has a request
+pub has_next : (storm_node : StormNodeFields) (item : CoreInput Copied) → item ≡ Drive
+    → storm_node.tops ≤ storm_node.events → storm_node.next ≡ None
+    → is_idle_by storm_node item ≡ false → ⊥
+has_next storm_node item is all none busy =
+    true≢false (sym idle ∙ ap (is_idle_by storm_node) (sym is) ∙ busy)
+  where
+    by : (b : Bool) → (b || true) ≡ true
+    by true = refl
+    by false = refl
+
+    idle : is_idle_by storm_node Drive ≡ true
+    idle =
+        (λ i. is_over storm_node
+        || (le-leb storm_node.tops storm_node.events all i && is_none (none i)))
+        ∙ by (is_over storm_node)
 
 -- so it keeps all that a storm node keeps
 pub runs_of : (words : Words) (storm_node : StormNodeFields) (s : ℕ) (history : SeatHistory)

@@ -1,5 +1,5 @@
 -- The step that the node of a storm node takes for an item.
-use Rattle.std.specs.Prelude.{◌≡◌, ℕ, ℤ, List, ◌∷◌, length, map, Option, None, option_map, IfSome}
+use Rattle.std.specs.Prelude.{◌≡◌, ℕ, ◌<◌, ◌≤◌, ℤ, List, ◌∷◌, length, map, Option, None, option_map, IfSome}
 use Rattle.cam_type.specs.declared.ObjectDecl.{ObjectDecl}
 use Rattle.cam_event.specs.declared.Event.{Event}
 use Rattle.cam_event.specs.declared.Letter.{Letter as EventLetter}
@@ -8,18 +8,22 @@ use Rattle.cam_event.specs.Inputs.{Input, Restarts}
 use Rattle.cam_event.specs.ByKnowledge.{node_step}
 use Rattle.cam_event.specs.ByDeltas.{Received, as_carried}
 use Rattle.cam_event.specs.Loads.{no_load}
+use Rattle.cam_event.specs.Runs.{IsNode}
 use Rattle.cam_know.specs.Known.{nothing}
 use Rattle.cam_know.specs.Order.{told_in_order}
 use Rattle.cam_node.specs.declared.Input.{Input as Put}
 use Rattle.cam_node.specs.Calls.{input_of, letters_of, load_of, mail_of}
 use Rattle.cam_node.specs.Keeping.{KeepsNode}
+use Rattle.cam_node.specs.Lawful.{IsLawful, IsLetter}
+use Rattle.cam_node.specs.MayStep.{MayStep}
+use Rattle.cam_node.specs.Refused.{IsNotRefused}
 use Rattle.cam_node.specs.Represents.{Node}
 use Rattle.cam_journal.specs.declared.entry.SentLetter.{SentLetter as Taken}
 use Rattle.cam_journal.specs.declared.input.CoreInput.{CoreInput}
 use Rattle.cam_journal.specs.Taking.{letter_in, received_of}
 use Rattle.cam_gen.specs.Storms.{Words, objects_of, tops_of}
 use Rattle.cam_storm.specs.Events.{Copied}
-use Rattle.cam_storm.specs.Lawful.{goes_to, load_in, mail_in, named, step_at}
+use Rattle.cam_storm.specs.Lawful.{goes_to, letter_load, letter_mail, load_in, mail_in, named, step_at}
 use Rattle.cam_storm.specs.Own.{finish_value}
 use Rattle.cam_storm.specs.Core.{IsAnswer, IsLeastDrive}
 use Rattle.cam_storm_node.specs.Playing.{StormNodeFields, IsNextRequest}
@@ -57,6 +61,29 @@ pub record MayTake (words : Words) (s : ℕ) (own : List Received) (storm_node :
   pub node : KeepsNode (objects_of words) own storm_node.node storm_node.entries
   pub drive : IsLeastDrive words s own (option_map (λ (r : Request). r.action) storm_node.next)
   pub next : IsNextRequest words s own storm_node.next
+
+-- the letter of an item may be handed to the node
+abbrev pub MayReceive : Words → ℕ → Option (Taken Copied) → Type 0
+MayReceive words s received =
+    IfSome received (λ sent. IsNode sent.letter.letter.from
+    × IsLetter (objects_of words) s (letter_mail sent.letter.letter)
+    (letter_load sent.letter.letter))
+
+-- A storm node may take a step with an item: its node answers for a lawful history with room for
+-- one more event, and a letter may be handed to it.
+pub record CanTake (words : Words) (item : CoreInput Copied) (storm_node : StormNodeFields)
+    : Type 0 where
+  pub node : ℕ
+  pub own : List Received
+  pub may : MayTake words node own storm_node
+  pub few : words.actions ≤ 64
+  pub lawful : IsLawful (objects_of words) node own
+  pub room : length own < 500000000
+  pub letter : MayReceive words node (letter_in item)
+
+-- an input is not refused, and the node has numbers left for it
+abbrev pub IsAllowed : Node → Put → Type 0
+IsAllowed node input = IsNotRefused node input × MayStep node input
 
 -- The node took a step for an input: the event is the definition's, its letters are those that the
 -- rule sends, and the node and its log go on with it.

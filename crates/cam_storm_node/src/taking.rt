@@ -3,12 +3,14 @@ ghost use Rattle.std.specs.Prelude.{◌≡◌, ◌≤◌, ℕ, List, IfOk, OnOk,
 ghost use Rattle.cam_base.specs.Causes.{Rose};
 ghost use Rattle.cam_journal.specs.declared.input.CoreFault.TheVariants.{DiskFault};
 ghost use Rattle.cam_event.specs.ByDeltas.{Received};
-ghost use Rattle.cam_node.specs.Calls.{mail_of};
+ghost use Rattle.cam_node.specs.Calls.{answers, mail_of};
 ghost use Rattle.cam_node.specs.Keeping.{KeepsNode};
+ghost use Rattle.cam_node.specs.MayStep.{MayStep};
+ghost use Rattle.cam_node.specs.Refused.{IsNotRefused};
 ghost use Rattle.cam_gen.specs.Storms.{Words};
 ghost use Rattle.cam_storm.specs.Own.{finish_value};
 ghost use Rattle.cam_storm_node.specs.Playing.{is_busy};
-ghost use Rattle.cam_storm_node.specs.Taking.{HasPut, HasRestarted, HasTaken, IsItem, MayTake, OnlyNode};
+ghost use Rattle.cam_storm_node.specs.Taking.{CanTake, HasPut, HasRestarted, HasTaken, IsItem, MayTake, OnlyNode};
 
 use crate::storm_node::{AsStormNode, StormNode};
 use crate::storming::Storming;
@@ -58,10 +60,11 @@ impl<L: TellingLog, W: Storming> StormNode<L, W> {
         }
     }
 
-    /// Puts an input to the node. No input of a storm is refused or finds its numbers used up; if
-    /// one did, the step would fail as if memory ran out.
+    /// Puts an input to the node.
     fn put(&mut self, input: &Input) -> Result<Taken, CoreFault>
         requires running { IsFalse self.old.node.log.halted }
+        requires free { IsNotRefused (answers self.old.node.core) input.now }
+        requires may { MayStep (answers self.old.node.core) input.now }
         ensures put { IfOk result (λ taken. (own : List Received)
             → KeepsNode self.old.node.objects own
             (⟦<StormNode<L, W> as AsStormNode>⟧.fields self.old).node
@@ -80,9 +83,6 @@ impl<L: TellingLog, W: Storming> StormNode<L, W> {
             → Rose (L.faults_within self.old.node.log.log)
             (L.faults_within self.new.node.log.log) }
     {
-        if self.node.refusal(input).is_some() || !self.node.may_step(input) {
-            return Err(CoreFault::NoMemory);
-        }
         let before = self.failures();
         match self.node.step(
             input,
@@ -134,6 +134,8 @@ impl<L: TellingLog, W: Storming> StormNode<L, W> {
     pub(crate) fn take(&mut self, item: CoreInput<Copied>) -> Result<Taken, CoreFault>
         requires running { IsFalse self.old.node.log.halted }
         requires busy { IsTrue (is_busy (⟦<StormNode<L, W> as AsStormNode>⟧.fields self.old) item) }
+        requires can { CanTake W.words item
+            (⟦<StormNode<L, W> as AsStormNode>⟧.fields self.old) }
         ensures taken { IfOk result (λ taken. (words : Words) (s : ℕ) (own : List Received)
             → MayTake words s own (⟦<StormNode<L, W> as AsStormNode>⟧.fields self.old)
             → IsItem s item

@@ -9,11 +9,33 @@ use Rattle.cam_storm_node.specs.declared.receipts.Receipts.{Receipts}
 use Rattle.cam_storm_node.specs.Playing.{StormNodeFields}
 use Rattle.cam_storm_node.specs.Receipts.{times_in}
 use Rattle.cam_storm_node.specs.Taking.{HasTaken}
+use Rattle.cam_storm_node.proofs.Handed.{can_take}
 use Rattle.cam_storm_node.proofs.Played.{busy_runs, may_take}
 use Rattle.cam_storm_node.proofs.Stepped.{may_follow, stepped}
 use Rattle.cam_storm_node.proofs.Steps.{few_times, goes_there, not_true, own_length, sent_to}
 use Rattle.cam_storm_node.proofs.TookInput.{few_taken}
 use Rattle.cam_storm_node.proofs.storm_node.StormNode.try_step.Goals as goal
+
+pub take-requires-clause-can : goal.take-requires-clause-can
+take-requires-clause-can g c =
+    let can = c.requires.can in
+    let old : StormNodeFields = record {
+      storm = c.args.self.now.storm;
+      node = answers c.args.self.now.node.core;
+      objects = c.args.self.now.node.objects;
+      entries = g.L.EntryLog.listed c.args.self.now.node.log.log;
+      halted = c.args.self.now.node.log.halted;
+      faults = g.L.EntryLog.faults_within c.args.self.now.node.log.log;
+      lost = c.args.self.now.lost;
+      events = c.args.self.now.events;
+      tops = c.args.self.now.tops;
+      copies = c.args.self.now.copies;
+      works = c.args.self.now.works;
+      next = c.args.self.now.next;
+      receipts = c.args.self.now.receipts;
+    } in
+    can_take g.W.Storming.words old can.node can.history c.args.item can.replay.plays
+    (not_true _ c.requires.busy) can.room can.letter
 
 pub follow-requires-clause-events : goal.follow-requires-clause-events
 follow-requires-clause-events g c =
