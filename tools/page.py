@@ -7,6 +7,7 @@ program over the script, and the answer is {"status", "text", "said"}, what came
 taken than those of FORMS, none of which names a file. Requests that came by another name of this machine, or from another page, are refused.
 """
 import base64
+import glob
 import hashlib
 import hmac
 import http.server
@@ -46,18 +47,19 @@ def read(path):
 
 
 def scenes():
-    """The scenes of examples/, as its README.md lists them: those of the orphan first."""
-    topic = None
+    """The scripts of examples/ that end by themselves, in the order in which its README.md names them, but for the scene of the orphan, which is
+    first. Of each is told what the first sentence of its comment says."""
+    readme = read("examples/README.md")
     found = []
-    for line in read("examples/README.md").splitlines():
-        if line.startswith("## "):
-            topic = line[3:].strip()
-        for path, about in re.findall(r"^\| \[[^]]*\]\(([\w/-]+)\.cam\) \| (.*?) \|$", line):
+    for folder in sorted(os.listdir(f"{TOP}/examples")):
+        for name in sorted(glob.glob("*.cam", root_dir=f"{TOP}/examples/{folder}")):
+            path = f"{folder}/{name.removesuffix('.cam')}"
             words = f"examples/{path}.words"
             if not os.path.exists(f"{TOP}/{words}") or read(words).split() in (["run"], ["timed"]):
-                found.append({"topic": topic, "name": path, "about": about, "script": read(f"examples/{path}.cam")})
-    # (the sort keeps the order of what is equal)
-    return sorted(found, key=lambda scene: (scene["name"] != "orphans/caught", not scene["name"].startswith("orphans/")))
+                script = read(f"examples/{path}.cam")
+                about = re.match(r"(?:#+ *(.*?)(?:[.:] .*|[.:])?$)?", script, re.M)[1] or ""
+                found.append({"topic": folder.replace("-", " ").capitalize(), "name": path, "about": about, "script": script})
+    return sorted(found, key=lambda scene: (scene["name"] != "orphans/caught", scene["topic"] != "Orphans", readme.find(f"({scene['name']}.")))
 
 
 def hash_of(text):
