@@ -125,9 +125,13 @@ class Picture {
       const node = Number(title.match(/ at node (\d+)/)[1]);
       return { mark, number: Number(mark.dataset.event), node, line, title, words: words.textContent, action: words.dataset.action, sent: [], received: null };
     });
-    this.letters = [...this.svg.querySelectorAll("[data-letter]")].map((mark) => {
-      const to = mark.dataset.to === undefined ? null : Number(mark.dataset.to);
-      return { mark, number: Number(mark.dataset.letter), from: Number(mark.dataset.from), to, label: mark.querySelector(".word").textContent };
+    // (the words of a letter stand in its element, or in one of their own)
+    const words = Map.groupBy(this.svg.querySelectorAll("[data-letter] .word"), (word) => word.closest("[data-letter]").dataset.letter);
+    this.letters = [...this.svg.querySelectorAll(".letter")].map((mark) => {
+      const { letter, from, to } = mark.dataset;
+      const own = words.get(letter);
+      const marks = [mark, ...own.map((word) => word.closest("[data-letter]")).filter((label) => label === mark || !label.matches(".letter"))];
+      return { marks, number: Number(letter), from: Number(from), to: to === undefined ? null : Number(to), label: own[0].textContent };
     });
     for (const letter of this.letters) {
       this.events[letter.from].sent.push(letter);
@@ -189,17 +193,22 @@ let scene = null;
 
 /** Work of one kind that waits for the programs: what was begun earlier gives way to what was begun later. */
 class Turns {
+  static waiting = 0;
   last = 0;
 
   /** Does the work, which is handed a test whether it is still the last one. What fails is said. */
   async take(work) {
     const mine = ++this.last;
     const isLast = () => mine === this.last;
+    Turns.waiting++;
+    document.body.setAttribute("aria-busy", "true");
     try {
       await work(isLast);
     } catch (error) {
       if (isLast()) say(error.message, true);
       if (error.name !== "Error") throw error;
+    } finally {
+      if (--Turns.waiting === 0) document.body.setAttribute("aria-busy", "false");
     }
   }
 }
@@ -326,7 +335,7 @@ function light({ events = [], letters = [], at = null }) {
   picture.svg.classList.toggle("focus", events.length + letters.length > 0);
   for (const mark of picture.svg.querySelectorAll(".lit, .now")) mark.classList.remove("lit", "now");
   for (const number of events) picture.events[number].mark.classList.add("lit");
-  for (const letter of letters) letter.mark.classList.add("lit");
+  for (const mark of letters.flatMap((letter) => letter.marks)) mark.classList.add("lit");
   for (const { mark, number } of picture.events) mark.setAttribute("aria-selected", number === at);
   if (at === null) $("canvas").removeAttribute("aria-activedescendant");
   else {
@@ -723,4 +732,3 @@ function wire() {
 wire();
 if (contents.record) askProgram = await openRecord(contents.record);
 await recall();
-document.documentElement.dataset.ready = "";

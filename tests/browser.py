@@ -93,7 +93,11 @@ class Browser:
     def open(self, address):
         self.send("Page.navigate", url="about:blank")
         self.send("Page.navigate", url=address)
-        self.until("document.documentElement?.dataset.ready !== undefined")
+        self.settle()
+
+    def settle(self):
+        """Waits until the page waits for nothing."""
+        self.until("document.body?.getAttribute('aria-busy') === 'false'")
 
     def size(self, width, height):
         self.send("Emulation.setDeviceMetricsOverride", width=width, height=height, deviceScaleFactor=1, mobile=False)
