@@ -50,6 +50,10 @@ class Run {
     this.script = script;
     this.lines = script.split("\n");
     this.answers = new Map();
+    this.stops = [];
+    this.marks = new Map();
+    this.actions = new Map();
+    this.paragraphs = [];
   }
 
   ask(program, ...words) {
@@ -70,7 +74,6 @@ class Run {
     this.drawn = this.isRefused ? null : drawn;
     this.stops = [...this.report.matchAll(/^stop (\d+) /gm)].map((found) => Number(found[1]));
     this.marks = new Map([...this.report.matchAll(/^(refused|cut|halted) (\d+) .*$/gm)].map((found) => [Number(found[2]), found[0]]));
-    this.actions = new Map();
     for (const paragraph of this.paragraphs) {
       const head = paragraph[0].match(/^(\S+) = (\S+) .*:$/);
       if (head && !this.isRefused) this.actions.set(head[1], { name: head[2], paragraph });
@@ -227,7 +230,12 @@ function runScript(pick = null, said = "") {
   const next = new Run($("script").value);
   return runs.take(async (isLast) => {
     showGutter();
-    await next.begin();
+    try {
+      await next.begin();
+    } catch (error) {
+      if (isLast()) showNothing(next, error.message);
+      throw error;
+    }
     if (!isLast()) return;
     run = next;
     plain = run.drawn?.status === 0 ? new Picture(run.drawn.text) : null;
@@ -240,8 +248,19 @@ function runScript(pick = null, said = "") {
   });
 }
 
+/** Shows that a script has no run, so that none of another script is seen beside it. */
+function showNothing(of, reason) {
+  run = of;
+  plain = picture = picked = null;
+  $("canvas").replaceChildren(make("pre", {}, reason));
+  $("text-panel").replaceChildren(reason);
+  $("side").replaceChildren();
+  for (const id of ["save-report", "save-picture", "next-stop"]) $(id).disabled = true;
+  remember();
+}
+
 function summary() {
-  if (run.place) return run.paragraphs.flatMap((paragraph) => paragraph.slice(paragraph.findIndex((line) => /^ *\^$/.test(line)) + 1)).join(" ") || run.report;
+  if (run.place) return run.paragraphs.flatMap((paragraph) => paragraph.slice(paragraph.findIndex((line) => /^ *\^$/.test(line)) + 1)).join(" ").trim() || run.report;
   if (run.isTimed) return "A script by time: it has a report, and no picture.";
   if (!plain) return run.drawn.said || run.drawn.text;
   const letters = new Set(plain.letters.map((letter) => letter.number));
@@ -496,6 +515,8 @@ function legend() {
 
 // ---- What if: the script with other lines -----------------------------------------------------------------------------------------------------
 
+const stepOf = (line) => run.lines[line - 1].trim();
+
 /**
  * The script with a line before or after an event. If the event's line made several events, because it delivers letters until none is left, the
  * deliveries up to there are written out, and the rest of the line follows.
@@ -503,43 +524,43 @@ function legend() {
 function withLine(event, where, line) {
   const lines = run.lines.slice();
   const at = event.line - 1;
-  const step = lines[at].trim();
   const before = plain.eventsOf(event.line).filter((other) => other.number < event.number || (where === "after" && other === event));
   const isWhole = before.length === (where === "after" ? plain.eventsOf(event.line).length : 0);
   let made;
-  if (step === "drain" && !isWhole) made = [...before.map((other) => `deliver ${other.received.number}`), line, "drain"];
+  if (stepOf(event.line) === "drain" && !isWhole) made = [...before.map((other) => `deliver ${other.received.number}`), line, "drain"];
   else made = where === "after" ? [lines[at], line] : [line, lines[at]];
   lines.splice(at, 1, ...made);
   return { script: lines.join("\n"), line: at + 1 + made.indexOf(line) };
 }
 
-/** What may be changed at an event. */
+/** What may be changed at an event. What happens within a `play` has no lines of its own, so there a change comes before the line. */
 function ifEvent(event) {
-  const isPlayed = run.lines[event.line - 1].trim() === "play" ? " (the line plays on: before it)" : "";
-  const restart = isPlayed ? "before" : "after";
-  const target = isPlayed ? plain.eventsOf(event.line)[0] : event;
+  const { node, line } = event;
+  const isPlayed = stepOf(line) === "play";
+  const first = isPlayed ? plain.eventsOf(line)[0] : event;
+  const here = isPlayed ? `before line ${line}` : "before this event";
+  const restart = isPlayed ? [`Restart node ${node} ${here}`, "before"] : [`Restart node ${node} after this event`, "after"];
   return [
-    [`Restart node ${event.node} ${isPlayed ? "before line" : "after this event"}${isPlayed && ` ${event.line}`}`, () => withLine(target, restart, `restart ${event.node}`)],
-    [`Stop the disk of node ${event.node} before ${isPlayed ? `line ${event.line}` : "this event"}`, () => withLine(target, "before", `stop ${event.node} 0`)],
+    [restart[0], () => withLine(first, restart[1], `restart ${node}`)],
+    [`Stop the disk of node ${node} ${here}`, () => withLine(first, "before", `stop ${node} 0`)],
   ];
 }
 
-/** What may be changed of a letter, by its arrows. */
+/** What may be changed of a letter that was received, by its arrows. */
 function ifLetter(arrows) {
-  const letter = arrows[0].number;
-  const first = arrows[0].to === null ? null : plain.events[arrows[0].to];
-  if (!first) return [];
-  const step = run.lines[first.line - 1].trim();
-  const isSentInPlay = step === "play" && plain.events[arrows[0].from].line === first.line;
-  if (isSentInPlay) return [];
+  const [{ number, from, to }] = arrows;
+  if (to === null) return [];
+  const received = plain.events[to];
+  const step = stepOf(received.line);
+  const isPlayed = step === "play";
+  if (isPlayed && plain.events[from].line === received.line) return [];
   const lose = () => {
-    if (numbers(step.replace(/^deliver/, "") || "0")[0] !== letter || !step.startsWith("deliver")) return withLine(step === "play" ? plain.eventsOf(first.line)[0] : first, "before", `lose ${letter}`);
-    const lines = run.lines.with(first.line - 1, `lose ${letter}`);
-    return { script: lines.join("\n"), line: first.line };
+    if (!/^deliver\s/.test(step)) return withLine(isPlayed ? plain.eventsOf(received.line)[0] : received, "before", `lose ${number}`);
+    return { script: run.lines.with(received.line - 1, `lose ${number}`).join("\n"), line: received.line };
   };
   return [
     ["Lose it", lose],
-    ["Deliver it once more", () => withLine(first, "after", `deliver ${letter}`)],
+    ["Deliver it once more", () => withLine(received, "after", `deliver ${number}`)],
   ];
 }
 
@@ -589,7 +610,7 @@ const lineOfCaret = () => $("script").value.slice(0, $("script").selectionStart)
 function remember() {
   const state = new URLSearchParams();
   if (scene) state.set("scene", scene);
-  else state.set("script", btoa(String.fromCharCode(...new TextEncoder().encode($("script").value))).replace(/\+/g, "-").replace(/\//g, "_").replace(/=+$/, ""));
+  else state.set("script", btoa(Array.from(new TextEncoder().encode($("script").value), (byte) => String.fromCharCode(byte)).join("")).replace(/\+/g, "-").replace(/\//g, "_").replace(/=+$/, ""));
   if (picked) state.set(...Object.entries(picked)[0]);
   if (tab !== "picture") state.set("tab", tab);
   history.replaceState(null, "", `#${state}`);
