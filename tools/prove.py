@@ -287,23 +287,19 @@ def libraries(proof):
 
 
 def build(proof, screen):
-    """Proves and builds the program in its own folder, where the kit looks at every library once more; an empty script has the status 0."""
+    """Proves and builds the program in its own folder, where the kit looks at every library once more, and runs it once as the gate does."""
     told, program = f"{ROOMS}/{proof.program}.told", proof.program
     proof.running[program] = time.monotonic()
     statuses = []
 
     def run():
-        with open(told, "w", encoding="utf-8") as it:
-            given = {"stdin": subprocess.PIPE, "stdout": subprocess.DEVNULL, "stderr": it}
-            statuses.append(proof.call(program, TOP, ["run", "--", "run"], **given))
+        folder = f"{TOP}/crates/{program}"
+        with open(f"{folder}/args", encoding="utf-8") as words, open(f"{folder}/stdin", "rb") as text, open(told, "w", encoding="utf-8") as it:
+            given = {"stdin": text, "stdout": subprocess.DEVNULL, "stderr": it}
+            statuses.append(proof.call(program, TOP, ["run", "--", *words.read().split()], **given))
 
     hand = threading.Thread(target=run, daemon=True)
     hand.start()
-    while program not in proof.calls and hand.is_alive():
-        time.sleep(0.05)
-    with contextlib.suppress(OSError, KeyError):
-        proof.calls[program].stdin.write(b"nodes 1\n")
-        proof.calls[program].stdin.close()
     while hand.is_alive():
         screen.show()
         time.sleep(0.2)
