@@ -18,13 +18,13 @@ use Rattle.cam_locks.specs.declared.Grant.{Grant}
 use Rattle.cam_locks.specs.declared.LiveOp.{LiveOp}
 use Rattle.cam_locks.specs.Names.{has_name}
 use Rattle.cam_locks.specs.Site.{Site}
-use Rattle.cam_locks.specs.Moss.{holder, holder_of, value_of}
+use Rattle.cam_locks.specs.Moss.{holder, holder_of, value, value_of}
 use Rattle.cam_locks.specs.Calls.{with_operation, site_by, grant_by, grant}
 use Rattle.cam_server.specs.declared.Performed.{Performed}
 use Rattle.cam_server.specs.declared.Performed.TheVariants as performed
 use Rattle.cam_server.specs.Server.{Server}
-use Rattle.cam_server.specs.Calls.{Asked, performed_by, again_or, orphan_or, granted, is_served}
-use Rattle.cam_server.specs.Ahead.{CallsGoAhead}
+use Rattle.cam_server.specs.Calls.{Asked, performed_by, again_or, orphan_or, granted, is_served, AfterPerformed, IsInformedOf}
+use Rattle.cam_server.specs.Ahead.{AreApart, CallsGoAhead}
 use Rattle.cam_server.proofs.Untouched.{live_stay, holder_stays}
 
 -- What comes as far as the table is no orphan.
@@ -167,3 +167,23 @@ calls_go_ahead news k asked done old mid new known apart value after informed =
         replies = λ a n. informed.replies a n ∙ after.replies a n;
       };
     }
+
+-- The news leave the value of each object as it is after the call.
+pub value_ahead : (news k : Knowledge) (asked : Asked) (done : Performed) (old mid new : Server) (x : ℕ)
+    → ((u : Name) → knows_abort news u ≡ true → knows_abort k u ≡ true) → AreApart news old.table.site
+    → done ≡ performed_by k old asked → AfterPerformed asked done old mid → IsInformedOf news mid new
+    → value new.table.site x ≡ value mid.table.site x
+value_ahead news k asked done old mid new x known apart done_is after informed = λ i. value_of (informed.objects i) (live i) x
+  where
+    site : Site
+    site = old.table.site
+
+    none : is_served done ≡ true → list_any (knows_abort news) (ancestors asked.action) ≡ false
+    none served = not_dropped news k old asked known (ap is_served (sym done_is) ∙ served)
+
+    live : new.table.site.live ≡ mid.table.site.live
+    live =
+        informed.live ∙ ap (λ (s : Site). stay news s.live) after.site
+        ∙ (live_then news (is_served done) (holder site asked.action asked.object asked.op) site site asked
+        (sym (live_stay news site apart)) refl none).0
+        ∙ sym (ap (λ (s : Site). s.live) after.site)

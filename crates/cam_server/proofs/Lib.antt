@@ -18,3 +18,4 @@ pub mod Untouched
 pub mod GoingAhead
 pub mod Tested
 pub mod TakenBack
+pub mod HeldValues

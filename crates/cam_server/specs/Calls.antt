@@ -150,6 +150,12 @@ held_after result asked old state =
     if is_served result then served old.table.site asked.action asked.object asked.op state
     else state
 
+-- By the value that the object has at the site then: it holds that value after a call that was
+-- performed, else what it held.
+abbrev pub held_by : Performed → State → State → State
+held_by (performed.Done answer) value held = value
+held_by _ value held = held
+
 -- both answer the same
 pub record AreSame (one other : Server) : Type 0 where
   pub count : other.count ≡ one.count

@@ -8,9 +8,10 @@ ghost use Rattle.cam_type.specs.Objects.{start_of};
 ghost use Rattle.cam_know.specs.Known.{knows_commit};
 ghost use Rattle.cam_locks.specs.Site.{fits_here};
 ghost use Rattle.cam_locks.specs.Calls.{grant, after_grant};
+ghost use Rattle.cam_locks.specs.Moss.{value};
 ghost use Rattle.cam_locks.specs.Served.{served};
 ghost use Rattle.cam_server.specs.Calls.{answers, reply_in, call, granted, tested_by, performed_by};
-ghost use Rattle.cam_server.specs.Calls.{is_served, reply_of, held_after};
+ghost use Rattle.cam_server.specs.Calls.{is_served, reply_of, held_after, held_by};
 ghost use Rattle.cam_server.specs.declared.server.CallName.{CallName as CallValue};
 ghost use Rattle.cam_server.specs.Calls.{AfterPerformed, IsInformedOf, IsInformedOfAll, AreSame};
 ghost use Rattle.cam_server.specs.Calls.{IsNew, IsNoted, informed_of};
@@ -156,6 +157,9 @@ impl Server {
         ensures served { IfOk result (λ done. T.held server.new
             ≡ held_after done (call action.now number object op.now count visited.now)
             (answers self.old) (T.held server.old)) }
+        // After a call that was performed that is the value of the object.
+        ensures holds { IfOk result (λ done. T.held server.new
+            ≡ held_by done (value (answers self.new).table.site object) (T.held server.old)) }
         ensures kind_stays { T.kind server.new ≡ T.kind server.old }
     {
         if let Some(done) = self.tested(know, action, number, count, visited) {
@@ -250,6 +254,8 @@ impl Server {
         ensures spare { self.new.table.spare ≡ self.old.table.spare }
         ensures served { OnOk result (T.held server.new
             ≡ served self.old.table.site call.now.action object op.now (T.held server.old)) }
+        ensures holds { IfOk result (λ done. T.held server.new
+            ≡ held_by done (value self.new.table.site object) (T.held server.old)) }
         ensures kind_stays { T.kind server.new ≡ T.kind server.old }
     {
         self.performed.reserve(1)?;

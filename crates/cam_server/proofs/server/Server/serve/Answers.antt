@@ -1,9 +1,11 @@
 -- Room changes no reply.
-use Rattle.std.proofs.Common.{if◌then◌else◌, Option, sym, ap₂, ◌∙◌, refl}
+use Rattle.std.proofs.Common.{if◌then◌else◌, Option, sym, ap, ap₂, ◌∙◌, refl}
 use Rattle.cam_event.specs.declared.Reply.{Reply}
+use Rattle.cam_locks.specs.Site.{TableView}
 use Rattle.cam_server.specs.declared.Performed.{Performed}
 use Rattle.cam_server.specs.declared.server.Server.{Server as Tables}
-use Rattle.cam_server.specs.Calls.{answers, call_eq, reply_by, reply_of, AreSame}
+use Rattle.cam_server.specs.Calls.{answers, call_eq, granted, reply_by, reply_of, AreSame}
+use Rattle.cam_server.proofs.HeldValues.{granted_holds}
 use Rattle.cam_server.proofs.Noting.{on_err}
 use Rattle.cam_server.proofs.server.Server.serve.Goals as goal
 
@@ -40,3 +42,11 @@ returns-clause-replies g c = λ d.
     c.note.ensures.replies d
     ∙ ap₂ (λ (r : Performed) (o : Option Reply). if call_eq c.args.call.now d then reply_of r else o)
     (sym c.note.ensures.value) (ap₂ reply_by (c.reserve.ensures.entries.2 d) (c.reserve-2.ensures.entries.2 d))
+
+pub returns-clause-holds : goal.returns-clause-holds
+returns-clause-holds g c =
+    granted_holds c.args.self.now.table.site c.note.new.self.table.site c.args.call.now.action c.args.object
+    c.args.op.now (g.T.DataType.held c.args.server.now) (g.T.DataType.held c.try_lock_and_apply.new.server) c.note.result
+    (c.note.ensures.value ∙ ap granted c.in_ok-grant.ensures.grant)
+    (ap (λ (t : TableView). t.site) c.note.ensures.table ∙ c.in_ok-grant.ensures.ok)
+    c.in_ok-grant.ensures.served
