@@ -52,6 +52,15 @@ any_of_left {X} p q (x ∷ xs) h = by (q x) (any_of_left p q xs) h
     by true rest k = first_or (p x) rest k
     by false rest k = behind (p x) (rest k)
 
+-- so of the news no abort is that was not known
+pub ahead_known : (letter : Letter) (first core : Core) (learnt : Learnt)
+    → HasReceived letter first core learnt
+    → (u : Name) → knows_abort learnt.heard.news u ≡ true → knows_abort core.knowing.known u ≡ true
+ahead_known letter first core learnt received u is =
+    any_of_left (is_abort_of u) (λ (o : Outcome). not (knows (answers first).know o))
+    core.knowing.known.outcomes
+    (subst (λ (k : Knowledge). knows_abort k u ≡ true) received.news is)
+
 -- its event
 pub ahead_event : (id : LetterId) (letter : Letter) (first core now : Core) (learnt : Learnt)
     (asked : Asked) (plan : Plan) → HasReceived letter first core learnt
@@ -105,7 +114,8 @@ ahead_then id letter first core now learnt asked plan call received apart gone n
         came_before learnt.heard.news core.knowing.known asked gone.done old.server
         (answers core).server new.server received.same.server
         (calls_go_ahead learnt.heard.news core.knowing.known asked gone.done
-        (answers core).server (answers now).server new.server new_known apart
+        (answers core).server (answers now).server new.server
+        (ahead_known letter first core learnt received) apart
         gone.value gone.after has.server);
   };
 }
@@ -118,10 +128,3 @@ ahead_then id letter first core now learnt asked plan call received apart gone n
 
     known_is : now.knowing.known ≡ core.knowing.known
     known_is = λ i. (gone.knowing i).known
-
-    new_known : (u : Name) → knows_abort learnt.heard.news u ≡ true
-        → knows_abort core.knowing.known u ≡ true
-    new_known u is =
-        any_of_left (is_abort_of u) (λ (o : Outcome). not (knows old.know o))
-        core.knowing.known.outcomes
-        (subst (λ (k : Knowledge). knows_abort k u ≡ true) received.news is)

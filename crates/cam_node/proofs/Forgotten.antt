@@ -1,5 +1,5 @@
 -- An event of a call that does not come to stand can be forgotten: the node then answers as before.
-use Rattle.std.proofs.Common.{◌≡◌, Result, Ok, Err, OnErr, inl, inr, refl, sym, ◌∙◌, subst}
+use Rattle.std.proofs.Common.{◌≡◌, Result, Ok, Err, IfOk, OnErr, inl, inr, refl, sym, ◌∙◌, subst}
 use Rattle.cam_know.specs.Knowledge.{Knowledge}
 use Rattle.cam_event.specs.declared.LetterId.{LetterId}
 use Rattle.cam_server.specs.declared.Performed.{Performed}
@@ -73,3 +73,8 @@ pub both_err : {T E : Type 0} (r : Result T E) (P Q R : Type 0) → (P → Q →
     → OnErr r Q → OnErr r R
 both_err (Ok x) P Q R f p q = tt
 both_err (Err e) P Q R f p q = f p q
+
+pub both_ok : {T E : Type 0} (r : Result T E) (P Q R : T → Type 0) → ((x : T) → P x → Q x → R x)
+    → IfOk r P → IfOk r Q → IfOk r R
+both_ok (Ok x) P Q R f p q = f x p q
+both_ok (Err e) P Q R f p q = tt

@@ -1,5 +1,5 @@
 -- What a node's log opens as while it is restarted.
-use Rattle.std.proofs.Common.{◌≡◌, ◌⊎◌, inl, inr, ℕ, ◌≤◌, Bool, true, false, IsTrue, List, [], ◌∷◌, ◌++◌, Result, Ok, refl, sym, ap, ◌∙◌, subst, arith}
+use Rattle.std.proofs.Common.{◌≡◌, ◌⊎◌, inl, inr, ℕ, ◌≤◌, Bool, true, false, IsTrue, List, [], ◌∷◌, ◌++◌, length, Option, Some, None, IfSome, Result, Ok, refl, sym, ap, ◌∙◌, subst, arith}
 use Rattle.std.proofs.lemmas.Bool.{true≢false}
 use Rattle.cam_base.specs.Causes.{Rose}
 use Rattle.cam_names.specs.Dependencies.{AreCounts}
@@ -20,17 +20,18 @@ use Rattle.cam_recman.specs.Recovery.{with_records, recover}
 use Rattle.cam_recman.specs.Snapshot.{snapshot}
 use Rattle.cam_recman.specs.Says.{Says}
 use Rattle.cam_recman.proofs.Said.{entry_says, snapshot_says}
-use Rattle.cam_node.specs.Opened.{is_readable, kept_entries, kept_by, raised, IsReadOrKept, IsReplaced, CanRestart, Restarts, OpensRestarted}
+use Rattle.cam_node.specs.Opened.{is_readable, kept_entries, kept_by, raised, HasOneEntry, IsReadOrKept, IsReplaced, CanRestart, Restarts, OpensRestarted}
 use Rattle.cam_node.proofs.Moments.{says_readable, added_then, now_was}
 
 -- What a restart reads could be opened before, and what it leaves is the restart of that.
 pub restart_grows : (objects : List ObjectDecl) (s b m n : ℕ) (past mid since : ℕ → Opened → Type 0) (read : List (List ℕ)) (r : Recovered) (replaced : Bool)
+    (number : Option ℕ) (generation : ℕ) → number ≡ Some generation → replaced ≡ can_follow false generation
     → Says read r → CanRestart objects s r → past b (Ok read) → ((t : ℕ) → t ≤ b → past b (Ok read) → past t (Ok read))
-    → AddsNothing b m past mid → Grows m n mid since (IsReadOrKept replaced read r (raised s r)) → Grows b n past since (OpensRestarted objects s (past b))
-restart_grows objects s b m n past mid since read r replaced says can was back none grows =
-    added_then b m n past mid since (IsReadOrKept replaced read r (raised s r)) (OpensRestarted objects s (past b)) none grows (λ t o le is. by t o le is)
+    → AddsNothing b m past mid → Grows m n mid since (IsReadOrKept replaced read r (raised s r)) → Grows b n past since (OpensRestarted objects s number (past b))
+restart_grows objects s b m n past mid since read r replaced number generation numbered fixed says can was back none grows =
+    added_then b m n past mid since (IsReadOrKept replaced read r (raised s r)) (OpensRestarted objects s number (past b)) none grows (λ t o le is. by t o le is)
   where
-    by : (t : ℕ) (o : Opened) → t ≤ b → IsReadOrKept replaced read r (raised s r) o → past t o ⊎ OpensRestarted objects s (past b) o
+    by : (t : ℕ) (o : Opened) → t ≤ b → IsReadOrKept replaced read r (raised s r) o → past t o ⊎ OpensRestarted objects s number (past b) o
     by t o le (inl old) = inl (subst (λ (x : Opened). past t x) (sym old) (back t le was))
     by t o le (inr kept) = inr (record {
       now = kept_entries replaced read (raised s r);
@@ -41,22 +42,28 @@ restart_grows objects s b m n past mid since read r replaced says can was back n
         was = λ tells. was;
         restarted = record { recovered = r; says = says; can = can; is = refl; replaced = replaced; left = refl; says_now = kept.1 };
       };
+      generation = generation;
+      numbered = numbered;
+      replaced = fixed;
     })
 
-pub restart_grows_as : (objects : List ObjectDecl) (s b m n : ℕ) (past mid since : ℕ → Opened → Type 0) (read : List (List ℕ)) (r kept : Recovered) (replaced : Bool)
+pub restart_grows_as : (objects : List ObjectDecl) (s b m n : ℕ) (past mid since : ℕ → Opened → Type 0) (read : List (List ℕ)) (r kept : Recovered) (broken : Bool)
+    (number : Option ℕ) (generation : ℕ) → number ≡ Some generation → broken ≡ false
     → kept ≡ raised s r → Says read r → CanRestart objects s r → past b (Ok read) → ((t : ℕ) → t ≤ b → past b (Ok read) → past t (Ok read))
-    → AddsNothing b m past mid → Grows m n mid since (IsReadOrKept replaced read r kept) → Grows b n past since (OpensRestarted objects s (past b))
-restart_grows_as objects s b m n past mid since read r kept replaced is says can was back none grows =
-    restart_grows objects s b m n past mid since read r replaced says can was back none
+    → AddsNothing b m past mid → Grows m n mid since (IsReadOrKept (can_follow broken generation) read r kept)
+    → Grows b n past since (OpensRestarted objects s number (past b))
+restart_grows_as objects s b m n past mid since read r kept broken number generation numbered whole is says can was back none grows =
+    let replaced = can_follow broken generation in
+    restart_grows objects s b m n past mid since read r replaced number generation numbered (ap (λ f. can_follow f generation) whole) says can was back none
     (subst (λ (q : Recovered). Grows m n mid since (IsReadOrKept replaced read r q)) is grows)
 
 -- All of it is readable, where all was.
-pub restarted_readable : (objects : List ObjectDecl) (s b n : ℕ) (past since : ℕ → Opened → Type 0) (o : Opened)
-    → Grows b n past since (OpensRestarted objects s (past b)) → ((p : Opened) → past b p → IsTrue (is_readable p))
+pub restarted_readable : (objects : List ObjectDecl) (s b n : ℕ) (number : Option ℕ) (past since : ℕ → Opened → Type 0) (o : Opened)
+    → Grows b n past since (OpensRestarted objects s number (past b)) → ((p : Opened) → past b p → IsTrue (is_readable p))
     → (since n o → since b o) → since n o → IsTrue (is_readable o)
-restarted_readable objects s b n past since o grows each back left = by (now_was b n past since (OpensRestarted objects s (past b)) o grows back left)
+restarted_readable objects s b n number past since o grows each back left = by (now_was b n past since (OpensRestarted objects s number (past b)) o grows back left)
   where
-    by : past b o ⊎ OpensRestarted objects s (past b) o → IsTrue (is_readable o)
+    by : past b o ⊎ OpensRestarted objects s number (past b) o → IsTrue (is_readable o)
     by (inl was) = each o was
     by (inr is) =
         let done = is.restarts.restarted in
@@ -130,3 +137,20 @@ pub not_replaced : (broken : Bool) (generation now : ℕ) (kept : Recovered)
 not_replaced true generation now kept entries whole follows same can = cc
 not_replaced false generation now kept entries whole follows same can =
     absurd (true≢false (sym can ∙ ap (can_follow false) same ∙ follows))
+
+-- The list was replaced unless its number, by which it was read, is the last.
+pub replaced_after : (broken : Bool) (generation : ℕ) (number : Option ℕ)
+    (read now : List (List ℕ)) (kept : Recovered) → broken ≡ false → number ≡ Some generation
+    → now ≡ kept_entries (can_follow broken generation) read kept
+    → IfSome number (λ n. IsReplaced n kept now)
+replaced_after broken generation number read now kept whole numbered left =
+    subst (λ (o : Option ℕ). IfSome o (λ n. IsReplaced n kept now)) (sym numbered)
+    (λ less. left
+    ∙ ap (λ (b : Bool). kept_entries b read kept)
+    (ap (λ (b : Bool). can_follow b generation) whole ∙ less))
+
+pub one_entry_after : (number : Option ℕ) (kept : Recovered) (now : List (List ℕ))
+    → IfSome number (λ n. IsReplaced n kept now) → IfSome number (λ n. HasOneEntry n now)
+one_entry_after None kept now replaced = tt
+one_entry_after (Some n) kept now replaced = λ less.
+    ap (λ (entries : List (List ℕ)). length entries) (replaced less)

@@ -80,17 +80,18 @@ node_restarted objects old halted_at tells past b now reread new restarted node 
           done.can.0 done.is read.counts found_is;
     }
 
-pub restart_halts : (objects : List ObjectDecl) (s b n : ℕ) (past since : ℕ → Opened → Type 0) → (1
-    ≤ s) × (s ≤ 8) → Grows b n past since (OpensRestarted objects s (past b))
+pub restart_halts : (objects : List ObjectDecl) (s : ℕ) (number : Option ℕ) (b n : ℕ)
+    (past since : ℕ → Opened → Type 0) → (1 ≤ s) × (s ≤ 8)
+    → Grows b n past since (OpensRestarted objects s number (past b))
     → ((o : Opened) → since n o → since b o) → IsRestartHalt objects s (MayRead past b) (MayRead
     since n)
-restart_halts objects s b n past since node grows back = record {
+restart_halts objects s number b n past since node grows back = record {
   either = λ one read. by one read (grows.nothing_else b (Ok read.entries) (omega arith) (back (Ok
       read.entries) read.opens));
 }
   where
     by : (one : Logged) (read : MayRead since n one) → past b (Ok read.entries) ⊎ OpensRestarted
-        objects s (past b) (Ok read.entries)
+        objects s number (past b) (Ok read.entries)
         → MayRead past b one ⊎ IsRestartOf objects s (MayRead past b) one
     by one read (inl was) = inl (record {
       entries = read.entries;

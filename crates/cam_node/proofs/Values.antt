@@ -13,17 +13,18 @@ use Rattle.cam_event.specs.declared.Deed.{Deed}
 use Rattle.cam_event.specs.declared.Operation.{Operation}
 use Rattle.cam_event.specs.History.{informed}
 use Rattle.cam_event.specs.Live as live
+use Rattle.cam_event.specs.Rules.{on_object}
 use Rattle.cam_event.specs.Settled.{is_past_top}
 use Rattle.cam_event.specs.HeldSites.{site}
 use Rattle.cam_event.specs.Carried.{deeds_of}
 use Rattle.cam_event.specs.ByDeltas.{Received, as_carried}
 use Rattle.cam_locks.specs.declared.LiveOp.{LiveOp}
 use Rattle.cam_locks.specs.Moss as locks
-use Rattle.cam_locks.specs.Moss.{is_settled_on, settled}
+use Rattle.cam_locks.specs.Moss.{is_on, is_settled_on, settled}
 use Rattle.cam_locks.specs.Names.{has_name}
 use Rattle.cam_server.specs.Server.{AreLive}
 use Rattle.cam_node.specs.Represents.{Node, Represents}
-use Rattle.cam_node.specs.Values.{handed_up, is_handed_up}
+use Rattle.cam_node.specs.Values.{handed_up, is_handed_up, ValuesAreMet}
 
 past_top : (o : Option Name) → is_none o ≡ is_past_top o
 past_top None = refl
@@ -85,3 +86,38 @@ pub value_by_history : (objects : List ObjectDecl) (node : Node) (x : ℕ)
 value_by_history objects node x (Ok state) is =
     λ history rep. is ∙ hands_up objects history node x rep
 value_by_history objects node x (Err fault) is = tt
+
+-- The live operations of both on an object leave the same state.
+met_same : (x : ℕ) (ks : List LiveOp) (os : List Operation) (state : State) → AreLive ks os
+    → locks.replay state (filter (is_on x) ks) ≡ live.replay state (on_object x os)
+met_same x [] [] state are = refl
+met_same x [] (o ∷ os) state are = absurd are
+met_same x (k ∷ ks) [] state are = absurd are
+met_same x (k ∷ ks) (o ∷ os) state are =
+    by (eqb k.object x) (eqb o.object x) (ap (λ n. eqb n x) are.0.object)
+    (λ after. met_same x ks os after are.1)
+  where
+    mine : List LiveOp
+    mine = filter (is_on x) ks
+
+    theirs : List Operation
+    theirs = on_object x os
+
+    by : (b c : Bool) → b ≡ c
+        → ((after : State) → locks.replay after mine ≡ live.replay after theirs)
+        → locks.replay state (cond b (k ∷ mine) mine)
+        ≡ live.replay state (cond c (o ∷ theirs) theirs)
+    by true true is rest =
+        ap (λ (op : Op). locks.replay (state_after state op) mine) are.0.op
+        ∙ rest (state_after state o.op)
+    by false false is rest = rest state
+    by true false is rest = absurd (true≢false is)
+    by false true is rest = absurd (true≢false (sym is))
+
+pub values_are_met : ValuesAreMet
+values_are_met objects history node x rep =
+    let at = node.server.table.site in
+    ap (λ (ds : List ObjectDecl). locks.replay (start_of ds x) (filter (is_on x) at.live))
+    rep.serves.site.objects_are
+    ∙ met_same x at.live (map (λ p. p.operation) (site (map as_carried history)).live)
+    (start_of objects x) rep.serves.site.operations

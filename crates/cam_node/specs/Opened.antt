@@ -1,5 +1,5 @@
 -- What a node's log opens as: entries from which a restart recovers what a history keeps.
-use Rattle.std.specs.Prelude.{◌≡◌, ◌⊎◌, ℕ, ◌+◌, ◌<◌, Bool, true, false, List, [], ◌∷◌, ◌++◌, length, IsTrue, Ok, Err}
+use Rattle.std.specs.Prelude.{◌≡◌, ◌⊎◌, ℕ, ◌+◌, ◌<◌, Bool, true, false, List, [], ◌∷◌, ◌++◌, length, IsTrue, Ok, Err, Option, Some}
 use Rattle.cam_names.specs.Dependencies.{AreCounts}
 use Rattle.cam_type.specs.declared.ObjectDecl.{ObjectDecl}
 use Rattle.cam_know.specs.Knowledge.{Knowledge}
@@ -107,9 +107,14 @@ pub record Rereads (objects : List ObjectDecl) (s : ℕ) (tells : Bool) (before 
   pub restarts : Restarts objects s tells before now reread.kept
   pub counts : reread.counts ≡ counts_raised restarts.restarted.recovered.know.counts s restarts.restarted.recovered.count
 
--- it opens as a restart leaves it that read one of these
-pub record OpensRestarted (objects : List ObjectDecl) (s : ℕ) (before : Opened → Type 0) (opened : Opened) : Type 0 where
+-- It opens as a restart leaves it that read one of these, of a list with this number: with the one
+-- entry in place of that list, or, if the number is the last, with the raised count after it.
+pub record OpensRestarted (objects : List ObjectDecl) (s : ℕ) (number : Option ℕ)
+    (before : Opened → Type 0) (opened : Opened) : Type 0 where
   pub now : List (List ℕ)
   pub opens : opened ≡ Ok now
   pub kept : Recovered
   pub restarts : Restarts objects s true before now kept
+  pub generation : ℕ
+  pub numbered : number ≡ Some generation
+  pub replaced : restarts.restarted.replaced ≡ can_follow false generation

@@ -1,5 +1,5 @@
 -- What stands against an input, before it is put to a node.
-use Rattle.std.specs.Prelude.{◌≡◌, not, ◌||◌, List, Option, None}
+use Rattle.std.specs.Prelude.{◌≡◌, not, ◌||◌, Bool, if◌then◌else◌, List, Option, Some, None}
 use Rattle.cam_names.specs.declared.name.Name.{Name}
 use Rattle.cam_type.specs.declared.ObjectDecl.{ObjectDecl}
 use Rattle.cam_event.specs.declared.LineRefusal.{LineRefusal}
@@ -7,7 +7,7 @@ use Rattle.cam_event.specs.declared.LineRefusal.TheVariants as refusals
 use Rattle.cam_event.specs.Refusals.{tell_refusal, where_so}
 use Rattle.cam_commit.specs.Calls.{is_decided}
 use Rattle.cam_locks.specs.Calls.{has_family}
-use Rattle.cam_tranman.specs.Calls.{IsFree}
+use Rattle.cam_tranman.specs.Calls.{IsFree, refusal_by}
 use Rattle.cam_node.specs.declared.Input.{Input}
 use Rattle.cam_node.specs.declared.Input.TheVariants as inputs
 use Rattle.cam_node.specs.Halting.{IsRefusal, IsQueryRefusal}
@@ -29,6 +29,19 @@ query_refusal_by node f =
     (is_decided node.know f
     || not (node.families.is_secured f || has_family node.server.table.site f))
     refusals.NothingToDo
+
+-- What stands against an input, as the node's parts answer. Of a request it is the first test that
+-- holds, whatever the home of its action.
+abbrev pub refused_by : Node → Input → Option LineRefusal
+refused_by node (inputs.Request request) = refusal_by node.actions request.action request.want
+refused_by node (inputs.Tell to) = tell_refusal node.number to
+refused_by node (inputs.Query family) = query_refusal_by node family
+refused_by node _ = None
+
+-- A halted node takes no input.
+abbrev pub refusal_of : Bool → Node → Input → Option LineRefusal
+refusal_of halted node input =
+    if halted then Some refusals.Halted else refused_by node input
 
 -- nothing stands against the input, as the node's parts answer
 abbrev pub IsNotRefused : Node → Input → Type 0

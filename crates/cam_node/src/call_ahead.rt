@@ -5,10 +5,12 @@
 //! back.
 ghost use Rattle.std.specs.Prelude.{◌≡◌, IfOk, OnErr};
 ghost use Rattle.cam_comman.specs.Letters.{IsWithin};
+ghost use Rattle.cam_locks.specs.Moss.{value};
 ghost use Rattle.cam_server.specs.Calls.{AreSame as ServeSame};
 ghost use Rattle.cam_node.specs.Ahead.{HasGoneAhead, IsAheadPlan, IsForgotten, IsTakenBack};
 ghost use Rattle.cam_node.specs.Ahead.{ahead_of};
 ghost use Rattle.cam_node.specs.Calls.{answers};
+ghost use Rattle.cam_node.specs.Holdings.{held_ahead};
 ghost use Rattle.cam_node.specs.Served.{asked_of, MayBeServed};
 
 use crate::call_arrives::{Called, did_performed};
@@ -45,6 +47,8 @@ impl Core {
             (answers self.old).server }
         ensures ahead { IfOk result (λ plan.
             HasGoneAhead self.old self.new id.now learnt (asked_of call.now) plan) }
+        ensures held { IfOk result (λ plan. T.held server.new ≡ held_ahead plan.change
+            (value (answers self.new).server.table.site call.now.object) (T.held server.old)) }
         ensures err { OnErr result (ServeSame (answers self.old).server (answers self.new).server) }
         ensures err_rest { OnErr result
             (answers self.new ≡ record (answers self.old) { server = (answers self.new).server }) }

@@ -6,6 +6,7 @@ ghost use Rattle.std.specs.Prelude.{◌≡◌, ◌≤◌, List, None, IfOk, OnEr
 ghost use Rattle.cam_type.specs.declared.ObjectDecl.{ObjectDecl};
 ghost use Rattle.cam_type.specs.Objects.{start_of};
 ghost use Rattle.cam_type.specs.Table.{kind_of};
+ghost use Rattle.cam_locks.specs.Moss.{value};
 ghost use Rattle.cam_locks.specs.Site.{fits_here};
 ghost use Rattle.cam_event.specs.Rules as rules;
 ghost use Rattle.cam_event.specs.declared.Body.TheVariants as bodies;
@@ -13,6 +14,7 @@ ghost use Rattle.cam_server.specs.declared.Performed.{Performed as PerformedValu
 ghost use Rattle.cam_server.specs.Steps.{did_performed};
 ghost use Rattle.cam_node.specs.Ahead.{MayBeForgotten};
 ghost use Rattle.cam_node.specs.Calls.{answers, AreSame, AreToNodes};
+ghost use Rattle.cam_node.specs.Holdings.{held_then, site_with, HoldsThen};
 ghost use Rattle.cam_node.specs.Plans.{IsPlanFor};
 ghost use Rattle.cam_node.specs.Standing.{MayStand};
 ghost use Rattle.cam_node.specs.Served.{asked_of, IsCallOn, MayBeServed, IsDone};
@@ -80,6 +82,9 @@ impl Core {
             IsPlanFor objects id.now letter.now self.old self.new plan) }
         ensures may { IfOk result (λ plan. MayStand plan self.new) }
         ensures adds { IfOk result (λ plan. plan.adds ≡ None) }
+        // Where the event stands the server holds the value of the object, if the call is performed.
+        ensures held { IfOk result (λ plan. HoldsThen call.now.object plan self.new.knowing.known
+            (answers self.new) (T.held server.old) (T.held server.new)) }
         ensures kind_stays { T.kind server.new ≡ T.kind server.old }
     {
         let learnt = self.receive(letter)?;
@@ -102,6 +107,9 @@ impl Core {
         ensures done { IfOk result (λ doing. (done : PerformedValue) × IsDone heard.now.news
             self.now.knowing.known (asked_of call.now) (answers self.now).server doing done) }
         ensures nodes { IfOk result (λ doing. AreToNodes doing.did.sent) }
+        ensures held { IfOk result (λ doing. T.held server.new ≡ held_then doing.did.deeds
+            (value (site_with doing.change (answers self.now).server) call.now.object)
+            (T.held server.old)) }
         ensures kind_stays { T.kind server.new ≡ T.kind server.old }
     {
         let know = self.knowing.know();

@@ -1,9 +1,12 @@
 //! Which data server does a call: that of the object's kind.
-ghost use Rattle.std.specs.Prelude.{◌≡◌, ◌≤◌, List, None, IfOk, OnErr};
+ghost use Rattle.std.specs.Prelude.{◌≡◌, ◌≤◌, List, None, IfOk, IsFalse, OnErr};
 ghost use Rattle.cam_type.specs.declared.Kind.TheVariants as kinds;
 ghost use Rattle.cam_type.specs.declared.ObjectDecl.{ObjectDecl};
+ghost use Rattle.cam_type.specs.Objects.{start_of};
+ghost use Rattle.cam_type.specs.Table.{kind_of};
 ghost use Rattle.cam_node.specs.Ahead.{MayBeForgotten};
 ghost use Rattle.cam_node.specs.Calls.{answers, AreSame};
+ghost use Rattle.cam_node.specs.Holdings.{holdings, performs, HasChanged, HoldThen};
 ghost use Rattle.cam_node.specs.Plans.{IsPlanFor};
 ghost use Rattle.cam_node.specs.Standing.{MayStand};
 ghost use Rattle.cam_node.specs.Served.{asked_of, IsCallOn, IsElsewhere};
@@ -45,6 +48,15 @@ impl Core {
             IsPlanFor objects id.now letter.now self.old self.new plan) }
         ensures may { IfOk result (λ plan. MayStand plan self.new) }
         ensures adds { IfOk result (λ plan. plan.adds ≡ None) }
+        ensures held { IfOk result (λ plan. HoldThen
+            (kind_of (start_of (answers self.old).server.table.site.objects call.now.object))
+            call.now.object plan self.new.knowing.known (answers self.new)
+            (holdings (R.held register.old) (Q.held queue.old) (C.held counter.old))
+            (holdings (R.held register.new) (Q.held queue.new) (C.held counter.new))) }
+        ensures others { HasChanged
+            (kind_of (start_of (answers self.old).server.table.site.objects call.now.object))
+            (holdings (R.held register.old) (Q.held queue.old) (C.held counter.old))
+            (holdings (R.held register.new) (Q.held queue.new) (C.held counter.new)) }
         ensures register_stays { R.kind register.new ≡ R.kind register.old }
         ensures queue_stays { Q.kind queue.new ≡ Q.kind queue.old }
         ensures counter_stays { C.kind counter.new ≡ C.kind counter.old }
@@ -72,6 +84,7 @@ impl Core {
             IsPlanFor objects id.now letter.now self.old self.new plan) }
         ensures may { IfOk result (λ plan. MayStand plan self.new) }
         ensures adds { IfOk result (λ plan. plan.adds ≡ None) }
+        ensures quiet { IfOk result (λ plan. IsFalse (performs plan.stepped.event.deeds)) }
     {
         let learnt = self.receive(letter)?;
         self.planned(id, learnt, Doing::nothing_but(self.alloc, &Note::Plain))

@@ -11,6 +11,7 @@ ghost use Rattle.cam_node.specs.Appending.{HasAppended, OpensAfter, OpensAsEithe
 ghost use Rattle.cam_node.specs.Calls.{answers, letters_of, AreSame};
 ghost use Rattle.cam_node.specs.Found.{HaltsAt};
 ghost use Rattle.cam_node.specs.Halting.{IsStepThrough};
+ghost use Rattle.cam_node.specs.Holdings.{HasStood};
 ghost use Rattle.cam_node.specs.Keeping.{IsHalt, KeepsOn};
 ghost use Rattle.cam_node.specs.Opened.{MayRead};
 ghost use Rattle.cam_node.specs.Planned.{ForEachInput, MayBeAdded};
@@ -36,6 +37,8 @@ impl<L: CheckpointLog> Node<L> {
         requires running { IsFalse self.old.log.halted }
         requires may { MayStand plan self.old.core }
         requires adds { MayBeAdded plan.adds }
+        ensures stood { IfOk result (λ stepped. HasStood plan self.old.core.knowing.known
+            (answers self.old.core) stepped (answers self.new.core)) }
         ensures step { ForEachInput self.old.objects plan self.old.core.knowing.known
             (answers self.old.core) (λ input mail load before. IfOk result (λ stepped.
             IsStepThrough self.old.objects before (answers self.new.core) input mail load

@@ -151,9 +151,9 @@ impl<L: CheckpointLog> Node<L> {
         self.log.is_halted()
     }
 
-    /// The value of an object of the node that is handed up past the top. The node is not halted.
+    /// The value of an object of the node that is handed up past the top. The parts of a halted node
+    /// may have the changes of the event at which it halted.
     pub fn value(&self, object: u8) -> Result<State, NoMemory>
-        requires running { IsFalse self.now.log.halted }
         requires here { IsTrue (is_here (answers self.now.core).server.table.site.objects
             (answers self.now.core).server.table.site.node object) }
         ensures table { IfOk result (λ state.

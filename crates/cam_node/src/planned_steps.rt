@@ -15,6 +15,7 @@ ghost use Rattle.cam_node.specs.declared.fault.NodeFault.TheVariants.{DiskFault}
 ghost use Rattle.cam_node.specs.Appending.{HasAppended, OpensAfter, OpensAsEither};
 ghost use Rattle.cam_node.specs.Calls.{answers, letters_of, mail_on, AreSame};
 ghost use Rattle.cam_node.specs.Found.{HaltsAt};
+ghost use Rattle.cam_node.specs.Holdings.{holdings, held_after_letter, LeavesOthersOf};
 ghost use Rattle.cam_node.specs.GivingUp.{giving_up};
 ghost use Rattle.cam_node.specs.Halting.{IsStepThrough};
 ghost use Rattle.cam_node.specs.Keeping.{IsHalt, KeepsOn};
@@ -107,6 +108,14 @@ impl<L: CheckpointLog> Node<L> {
             → Rose (L.faults self.old.log.log) (L.faults self.new.log.log)
             × IsTrue self.new.log.halted }
         ensures objects { self.new.objects ≡ self.old.objects }
+        ensures served { IfOk result (λ stepped.
+            holdings (R.held register.new) (Q.held queue.new) (C.held counter.new)
+            ≡ held_after_letter (answers self.old.core).server.table.site
+            (answers self.new.core).server.table.site letter.now.body stepped.event.deeds
+            (holdings (R.held register.old) (Q.held queue.old) (C.held counter.old))) }
+        ensures others { LeavesOthersOf (answers self.old.core).server.table.site letter.now.body
+            (holdings (R.held register.old) (Q.held queue.old) (C.held counter.old))
+            (holdings (R.held register.new) (Q.held queue.new) (C.held counter.new)) }
         ensures register_stays { R.kind register.new ≡ R.kind register.old }
         ensures queue_stays { Q.kind queue.new ≡ Q.kind queue.old }
         ensures counter_stays { C.kind counter.new ≡ C.kind counter.old }

@@ -1,6 +1,6 @@
-//! Why an input is refused: a request, a query, or telling a node. A query has nothing to ask if the
-//! node knows how the family ended, or has neither secured the family nor a live operation of it. A
-//! node has nothing to tell itself.
+//! Why an input is refused. A halted node takes none. A query has nothing to ask if the node knows
+//! how the family ended, or has neither secured the family nor a live operation of it. A node has
+//! nothing to tell itself.
 ghost use Rattle.std.specs.Prelude.{◌≡◌, ◌||◌, List, IsFalse, None};
 ghost use Rattle.cam_type.specs.declared.ObjectDecl.{ObjectDecl};
 ghost use Rattle.cam_event.specs.Refusals.{tell_refusal};
@@ -8,7 +8,8 @@ ghost use Rattle.cam_locks.specs.Calls.{has_family};
 ghost use Rattle.cam_tranman.specs.Calls.{refusal_by};
 ghost use Rattle.cam_node.specs.Calls.{answers};
 ghost use Rattle.cam_node.specs.Halting.{IsQueryRefusal, IsRefusal};
-ghost use Rattle.cam_node.specs.Refused.{IsNotRefused, IsRefusalOf, query_refusal_by};
+ghost use Rattle.cam_node.specs.Refused.{refusal_of, refused_by, IsNotRefused, IsRefusalOf};
+ghost use Rattle.cam_node.specs.Refused.{query_refusal_by};
 
 use crate::Input;
 use crate::node::Node;
@@ -18,7 +19,8 @@ use cam_event::{LineRefusal, Request};
 use cam_names::Name;
 
 impl Core {
-    /// Why a request of an action is refused, if it is: the first test of the rule that holds. The node is the action's home. It takes no memory.
+    /// Why a request of an action is refused, if it is: the first test of the rule that holds. It
+    /// takes no memory.
     pub(crate) fn refusal(&self, request: &Request) -> Option<LineRefusal>
         ensures rule { (objects : List ObjectDecl)
             → IsRefusal objects (answers self.now) request.now.action request.now.want result }
@@ -26,6 +28,20 @@ impl Core {
             ≡ refusal_by (answers self.now).actions request.now.action request.now.want }
     {
         self.actions.refusal(request)
+    }
+
+    /// Why an input is refused, if it is, of a node that is not halted. It takes no memory.
+    fn stands_against(&self, input: &Input) -> Option<LineRefusal>
+        ensures value { result ≡ refused_by (answers self.now) input.now }
+        ensures rule { (objects : List ObjectDecl)
+            → IsRefusalOf objects (answers self.now) input.now result }
+    {
+        match input {
+            Input::Request(request) => self.refusal(request),
+            Input::Tell(to) => self.tell_refusal(*to),
+            Input::Query(family) => self.query_refusal(family),
+            Input::Begin | Input::Letter(_, _) => None,
+        }
     }
 
     /// Why telling a node what is known is refused, if it is.
@@ -65,20 +81,22 @@ impl Core {
 }
 
 impl<L: CheckpointLog> Node<L> {
-    /// Why an input cannot be taken now; a letter is never refused. For a request it is the first test
-    /// of the rule that holds, if the node is the action's home. The node is not halted: the parts of a
-    /// halted node may have the changes of an event that was not returned. It takes no memory.
+    /// Why an input cannot be taken now. Nothing is taken by a halted node. Of a node that is not
+    /// halted it is, for a request, the first test of the rule that holds; a letter and a begin are
+    /// never refused. It takes no memory.
     pub fn refusal(&self, input: &Input) -> Option<LineRefusal>
-        requires running { IsFalse self.now.log.halted }
-        ensures rule { (objects : List ObjectDecl)
+        ensures exactly { result
+            ≡ refusal_of self.now.log.halted (answers self.now.core) input.now }
+        // By the history it is the refusal of the rules, for a request if the node is the action's home.
+        ensures rule { IsFalse self.now.log.halted → (objects : List ObjectDecl)
             → IsRefusalOf objects (answers self.now.core) input.now result }
+        ensures runs { result ≡ None → IsFalse self.now.log.halted }
         ensures free { result ≡ None → IsNotRefused (answers self.now.core) input.now }
     {
-        match input {
-            Input::Request(request) => self.core.refusal(request),
-            Input::Tell(to) => self.core.tell_refusal(*to),
-            Input::Query(family) => self.core.query_refusal(family),
-            Input::Begin | Input::Letter(_, _) => None,
+        if self.log.is_halted() {
+            Some(LineRefusal::Halted)
+        } else {
+            self.core.stands_against(input)
         }
     }
 }

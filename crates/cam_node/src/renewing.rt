@@ -1,5 +1,5 @@
 //! The restart of a node: it reads its log again, and goes on from what that keeps.
-ghost use Rattle.std.specs.Prelude.{◌≡◌, ◌≤◌, [], None, IsTrue, IsFalse, IfOk, OnOk, OnErr, IsErrOf};
+ghost use Rattle.std.specs.Prelude.{◌≡◌, ◌≤◌, [], None, IsTrue, IsFalse, IfOk, IfSome, OnOk, OnErr, IsErrOf};
 ghost use Rattle.cam_base.specs.Causes.{Rose};
 ghost use Rattle.cam_ckpt.specs.Opening.{HasNextNumber, next_number};
 ghost use Rattle.cam_locks.specs.Restored.{CanRestore};
@@ -134,7 +134,12 @@ impl<L: CheckpointLog> Node<L> {
             FindsBy self.old.objects self.old.core.number (answers self.old.core)
             self.old.halted_at (L.reads self.old.log.log) restarted.found) }
         ensures letters { IfOk result (λ restarted. restarted.stepped.letters ≡ []) }
-        // The log lists one entry then, unless the number of its list is the last.
+        // If the disk tells, the log lists one entry then, unless the list that was read has the last
+        // number.
+        ensures replaced { IsTrue (L.tells self.old.log.log) → OnOk result
+            (IfSome (L.disk_generation self.old.log.log) (λ number.
+            HasOneEntry number (L.listed self.new.log.log))) }
+        // Of any disk it lists one, unless its list has the last number then.
         ensures one_entry { OnOk result
             (HasOneEntry (L.generation self.new.log.log) (L.listed self.new.log.log)) }
         // If the disk tells, the list has the number after that of the list which was read; if the
@@ -155,11 +160,12 @@ impl<L: CheckpointLog> Node<L> {
             (MayRead (L.opens_since self.old.log.log) (L.moment self.old.log.log))
             (MayRead (L.opens_since self.new.log.log) (L.moment self.new.log.log))) }
         // A crash during the call leaves what it could leave before, or what the restart of one of
-        // those leaves.
+        // those leaves: the old list or the one entry, unless the list has the last number.
         ensures any_moment { IsTrue (L.tells self.old.log.log)
             → Grows (L.moment self.old.log.log) (L.moment self.new.log.log)
             (L.opens_since self.old.log.log) (L.opens_since self.new.log.log)
             (OpensRestarted self.old.objects self.old.core.number
+            (L.disk_generation self.old.log.log)
             (L.opens_since self.old.log.log (L.moment self.old.log.log))) }
         ensures tells { L.tells self.new.log.log ≡ L.tells self.old.log.log }
         ensures unbounded { L.passes self.old.log.log ≡ None → L.passes self.new.log.log ≡ None }

@@ -1,5 +1,5 @@
 // What a restart reads of a node's log, and what it puts in its place.
-ghost use Rattle.std.specs.Prelude.{◌≡◌, ◌≤◌, ◌<◌, true, [], ◌∷◌, IsTrue, IsFalse, OnOk, OnErr, IfOk, IsErrOf, Ok as Opens, Some, None};
+ghost use Rattle.std.specs.Prelude.{◌≡◌, ◌≤◌, ◌<◌, true, [], ◌∷◌, IsTrue, IsFalse, OnOk, OnErr, IfOk, IfSome, IsErrOf, Ok as Opens, Some, None};
 ghost use Rattle.std.specs.List.{AllByRecursion};
 ghost use Rattle.cam_base.specs.Causes.{Rose};
 ghost use Rattle.cam_bytes.specs.Ranges.{IsFrom};
@@ -185,6 +185,10 @@ impl<L: CheckpointLog> NodeLog<L> {
         // Unless the log's list has the last number, what is kept is the one entry that it lists.
         ensures replaced { IfOk result (λ reread.
             IsReplaced (L.generation self.new.log) reread.kept (L.listed self.new.log)) }
+        // So it is unless the list that was read has the last number.
+        ensures replaced_after { IsTrue (L.tells self.old.log) → IfOk result (λ reread.
+            IfSome (L.disk_generation self.old.log) (λ number.
+            IsReplaced number reread.kept (L.listed self.new.log))) }
         ensures disk_generation { IsTrue (L.tells self.old.log) → OnOk result
             (HasNextNumber (L.disk_generation self.old.log) (L.generation self.new.log)) }
         ensures generation { IsTrue (L.tells self.old.log) → IsFalse self.old.halted
@@ -195,7 +199,8 @@ impl<L: CheckpointLog> NodeLog<L> {
         ensures any_moment { IsTrue (L.tells self.old.log)
             → Grows (L.moment self.old.log) (L.moment self.new.log)
             (L.opens_since self.old.log) (L.opens_since self.new.log)
-            (OpensRestarted objects.now node (L.opens_since self.old.log (L.moment self.old.log))) }
+            (OpensRestarted objects.now node (L.disk_generation self.old.log)
+            (L.opens_since self.old.log (L.moment self.old.log))) }
         ensures tells { L.tells self.new.log ≡ L.tells self.old.log }
         ensures later { L.faults self.old.log ≤ L.faults self.new.log }
         ensures faults_within { L.faults_within self.old.log ≤ L.faults_within self.new.log }

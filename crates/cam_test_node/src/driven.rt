@@ -1,4 +1,7 @@
 //! A node that is driven by lines. One function alone owns it, since what a function does with a node of its own is long to prove.
+ghost use Rattle.std.specs.Prelude.{◌≡◌};
+ghost use Rattle.cam_type.specs.declared.Kind.TheVariants as kinds;
+
 use crate::inputs::Line;
 use crate::words::{event_text, letter_text};
 use cam_base::NoMemory;
@@ -6,14 +9,14 @@ use cam_ckpt::{CheckpointLog, Ckpt};
 use cam_disk::{Disk, MemoryDisk, StopDisk};
 use cam_event::{Event, Letter, LineRefusal, Sent};
 use cam_node::{Found, Input, Node, NodeFault, Restarted, Stepped};
-use cam_type::{CounterServer, ObjectDecl, Objects, QueueServer, RegisterServer, State};
+use cam_type::{CounterServer, DataType, ObjectDecl, Objects, QueueServer, RegisterServer, State};
 use std::alloc::Global;
 use std::fmt::Write;
 use std::test::Fail;
 
 /// What came of an input.
 #[derive(Drop)]
-enum Reaction {
+pub(crate) enum Reaction {
     Stepped(Stepped),
     Fault(NodeFault),
     /// Nothing was put to it: this stands against it.
@@ -22,9 +25,7 @@ enum Reaction {
 
 /// Why an input was not put to a node.
 #[derive(Clone, Copy)]
-enum Refusal {
-    /// It halted before.
-    Halted,
+pub(crate) enum Refusal {
     /// The node refuses it.
     Line(LineRefusal),
     /// `may_step` is false of it.
@@ -79,7 +80,7 @@ fn check_row<D: Disk>(
 }
 
 /// Fails where the line of a table does not come to this, and tells what it comes to, and of which table it is.
-fn check_told(table: &str, line: &str, told: &str, want: &str) -> Result<(), Fail> {
+pub(crate) fn check_told(table: &str, line: &str, told: &str, want: &str) -> Result<(), Fail> {
     if told == want {
         return Ok(());
     }
@@ -118,12 +119,12 @@ fn cleared<D: Disk>(alloc: Global, node: &mut Node<Ckpt<StopDisk<D>>>) -> Result
 }
 
 /// These words, as they stand.
-fn owned(alloc: Global, text: &str) -> Result<String, Fail> {
+pub(crate) fn owned(alloc: Global, text: &str) -> Result<String, Fail> {
     Ok(String::from_str(alloc, text)?)
 }
 
 /// The two objects.
-fn two_objects(alloc: Global) -> Result<Objects, NoMemory> {
+pub(crate) fn two_objects(alloc: Global) -> Result<Objects, NoMemory> {
     let mut objects = Objects::new(alloc);
     objects.push(ObjectDecl {
         node: 1,
@@ -138,19 +139,28 @@ fn two_objects(alloc: Global) -> Result<Objects, NoMemory> {
 
 /// Puts an input to a node, where nothing stands against it.
 fn put<L: CheckpointLog>(alloc: Global, node: &mut Node<L>, input: &Input) -> Reaction {
-    if node.is_halted() {
-        return Reaction::Refused(Refusal::Halted);
-    }
+    put_with(alloc, node, input, &mut RegisterServer::new())
+}
+
+/// The same with this server of registers.
+pub(crate) fn put_with<L: CheckpointLog, R: DataType>(
+    alloc: Global,
+    node: &mut Node<L>,
+    input: &Input,
+    register: &mut R,
+) -> Reaction
+    requires { R.kind register.old ≡ kinds.Register }
+    ensures { R.kind register.new ≡ R.kind register.old }
+{
     if let Some(refusal) = node.refusal(input) {
         return Reaction::Refused(Refusal::Line(refusal));
     }
     if !node.may_step(input) {
         return Reaction::Refused(Refusal::MayNotStep);
     }
-    let mut register = RegisterServer::new();
     let mut queue = QueueServer::new(alloc);
     let mut counter = CounterServer::new();
-    match node.step(input, &mut register, &mut queue, &mut counter) {
+    match node.step(input, register, &mut queue, &mut counter) {
         Ok(stepped) => Reaction::Stepped(stepped),
         Err(fault) => Reaction::Fault(fault),
     }
@@ -224,7 +234,7 @@ fn first_letter_text(alloc: Global, stepped: &Stepped) -> Result<String, Fail> {
 }
 
 /// An event of node 1, whose letters are those that it says.
-fn stepped_text(alloc: Global, stepped: &Stepped) -> Result<String, Fail> {
+pub(crate) fn stepped_text(alloc: Global, stepped: &Stepped) -> Result<String, Fail> {
     if stepped.event.node != 1 || !are_of_event(stepped) {
         return Err(Fail::new("letters of another event, or of another node"));
     }
@@ -232,15 +242,14 @@ fn stepped_text(alloc: Global, stepped: &Stepped) -> Result<String, Fail> {
 }
 
 /// What stands against an input.
-fn refusal_text(alloc: Global, refusal: Refusal) -> Result<String, Fail> {
+pub(crate) fn refusal_text(alloc: Global, refusal: Refusal) -> Result<String, Fail> {
     match refusal {
-        Refusal::Halted => owned(alloc, "halted before"),
         Refusal::Line(refusal) => Ok(format!(in alloc; "refused {refusal:?}")?),
         Refusal::MayNotStep => owned(alloc, "may not be put to a node"),
     }
 }
 
-fn fault_text(alloc: Global, fault: NodeFault, is_halted: bool) -> Result<String, Fail> {
+pub(crate) fn fault_text(alloc: Global, fault: NodeFault, is_halted: bool) -> Result<String, Fail> {
     match fault {
         NodeFault::DiskFault if is_halted => owned(alloc, "disk fault, halted"),
         NodeFault::DiskFault => owned(alloc, "disk fault"),

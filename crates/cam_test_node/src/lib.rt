@@ -21,6 +21,8 @@ mod not_taken;
 #[cfg(test)]
 mod requests;
 #[cfg(test)]
+mod servers;
+#[cfg(test)]
 mod stops;
 #[cfg(test)]
 mod words;

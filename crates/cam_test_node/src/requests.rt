@@ -57,12 +57,13 @@ fn a_child_is_given_up(rt: HostRuntime) -> Result<(), Fail> {
     check_rows(rt.alloc(), GIVEN_UP)
 }
 
-/// Line refusals: of an action that has ended, of one that was not created, of telling itself, and of asking for a family of which it has nothing.
+/// Line refusals: of an action that has ended, of one that was not created, of one of another home, of telling itself, and of asking for a family of which it has nothing.
 const REFUSED: &str = "begin | plain, create 1.1.1
 begin | plain, create 1.1.2
 abort 1.1.2 | plain, ask abort 1.1.2, to 1 quit 1.1.2
 ask 1.1.2 2 | refused Ended
 ask 1.1.3 2 | refused NotOpen
+ask 2.1.1 2 | refused NotOpen
 tell 1 | refused NothingToDo
 query 1.1.1 | refused NothingToDo
 ask 1.1.1 2 | plain, ask 1.1.1/2.1.1, to 2 start 1.1.1/2.1.1 deps 1:1

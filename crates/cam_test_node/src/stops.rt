@@ -8,7 +8,7 @@ use std::test::Fail;
 /// The first call of an append fails: the event is lost.
 const FIRST: &str = "stop 0 | stopped
 from 2 aborted 2.1.1 news | disk fault, halted
-begin | halted before
+begin | refused Halted
 clear | cleared
 restart | plain, crash 1
 told 2 | to 2 count 2 have 0 place 0 knows 1 2 news";
@@ -21,7 +21,7 @@ fn an_append_is_lost_at_the_first_call(rt: HostRuntime) -> Result<(), Fail> {
 /// The second call of an append fails: the event is lost.
 const SECOND: &str = "stop 1 | stopped
 from 2 aborted 2.1.1 news | disk fault, halted
-begin | halted before
+begin | refused Halted
 clear | cleared
 restart | plain, crash 1
 told 2 | to 2 count 2 have 0 place 0 knows 1 2 news";
@@ -34,7 +34,7 @@ fn an_append_is_lost_at_the_second_call(rt: HostRuntime) -> Result<(), Fail> {
 /// The third call of an append fails: the event is lost.
 const THIRD: &str = "stop 2 | stopped
 from 2 aborted 2.1.1 news | disk fault, halted
-begin | halted before
+begin | refused Halted
 clear | cleared
 restart | plain, crash 1
 told 2 | to 2 count 2 have 0 place 0 knows 1 2 news";
@@ -47,7 +47,7 @@ fn an_append_is_lost_at_the_third_call(rt: HostRuntime) -> Result<(), Fail> {
 /// The fourth call of an append fails, which comes after the entry: the event was taken, and a restart finds it.
 const FOURTH: &str = "stop 3 | stopped
 from 2 aborted 2.1.1 news | disk fault, halted
-begin | halted before
+begin | refused Halted
 clear | cleared
 restart | plain, crash 1; found plain, inform 1 2.1.1 aborted
 told 2 | to 2 count 2 have 0 place 1 aborted 2.1.1 knows 1 2 news";

@@ -3,7 +3,7 @@ use Rattle.cam_ckpt.specs.Opening.{can_follow}
 use Rattle.cam_recman.proofs.Said.{said_is_recovered}
 use Rattle.cam_node.specs.Opened.{is_readable, kept_by, CanRestart}
 use Rattle.cam_node.proofs.Moments.{says_readable}
-use Rattle.cam_node.proofs.Reopened.{spoiled_rose, restart_grows_as, not_both}
+use Rattle.cam_node.proofs.Reopened.{spoiled_rose, restart_grows_as, not_both, replaced_after}
 use Rattle.cam_node.proofs.log.NodeLog.restart.Goals as goal
 
 pub returns-then-not-branch-clause-disk_fault : goal.returns-then-not-branch-clause-disk_fault
@@ -28,7 +28,8 @@ returns-in_err-keep-clause-any_moment g c = λ tells.
     let there : IsTrue (g.L.EntryLog.tells mid) = c.read_again.ensures.tells ∙ tells in
     restart_grows_as c.args.objects.now c.args.node (g.L.EntryLog.moment old) (g.L.EntryLog.moment mid) (g.L.EntryLog.moment new)
     (g.L.EntryLog.opens_since old) (g.L.EntryLog.opens_since mid) (g.L.EntryLog.opens_since new) read c.in_ok-recovered.recovered c.raise-kept.result
-    (can_follow (g.L.EntryLog.broken mid) (g.L.EntryLog.generation mid)) c.raise-kept.ensures c.in_ok-recovered.ensures.says
+    (g.L.EntryLog.broken mid) (g.L.CheckpointLog.disk_generation old) (g.L.EntryLog.generation mid)
+    (c.in_ok-recovered.ensures.disk_generation tells) c.in_ok-recovered.ensures.whole c.raise-kept.ensures c.in_ok-recovered.ensures.says
     (c.in_ok-can_restart.ensures.0 c.if-not-branch.false) (c.in_ok-recovered.ensures.was tells)
     (λ t le is. g.met.L.EntryLog.counts_now old t (Ok read) tells le is) (c.read_again.ensures.any_moment tells)
     (c.keep.ensures.any_moment c.in_ok-recovered.recovered there c.in_ok-recovered.ensures.says)
@@ -42,7 +43,8 @@ returns-clause-any_moment g c = λ tells.
     let there : IsTrue (g.L.EntryLog.tells mid) = c.read_again.ensures.tells ∙ tells in
     restart_grows_as c.args.objects.now c.args.node (g.L.EntryLog.moment old) (g.L.EntryLog.moment mid) (g.L.EntryLog.moment new)
     (g.L.EntryLog.opens_since old) (g.L.EntryLog.opens_since mid) (g.L.EntryLog.opens_since new) read c.in_ok-recovered.recovered c.raise-kept.result
-    (can_follow (g.L.EntryLog.broken mid) (g.L.EntryLog.generation mid)) c.raise-kept.ensures c.in_ok-recovered.ensures.says
+    (g.L.EntryLog.broken mid) (g.L.CheckpointLog.disk_generation old) (g.L.EntryLog.generation mid)
+    (c.in_ok-recovered.ensures.disk_generation tells) c.in_ok-recovered.ensures.whole c.raise-kept.ensures c.in_ok-recovered.ensures.says
     (c.in_ok-can_restart.ensures.0 c.if-not-branch.false) (c.in_ok-recovered.ensures.was tells)
     (λ t le is. g.met.L.EntryLog.counts_now old t (Ok read) tells le is) (c.read_again.ensures.any_moment tells)
     (c.keep.ensures.any_moment c.in_ok-recovered.recovered there c.in_ok-recovered.ensures.says)
@@ -106,3 +108,12 @@ returns-clause-read_now g c =
       };
       counts = c.known_counts-counts.ensures;
     }
+
+-- the list that was read had the number of the disk
+pub returns-clause-replaced_after : goal.returns-clause-replaced_after
+returns-clause-replaced_after g c = λ tells.
+    let mid = c.read_again.new.log in
+    replaced_after (g.L.EntryLog.broken mid) (g.L.EntryLog.generation mid)
+    (g.L.CheckpointLog.disk_generation c.args.self.now.log) (g.L.EntryLog.listed mid)
+    (g.L.EntryLog.listed c.keep.new.log) c.raise-kept.result c.in_ok-recovered.ensures.whole
+    (c.in_ok-recovered.ensures.disk_generation tells) c.in_ok-keep.ensures.kept

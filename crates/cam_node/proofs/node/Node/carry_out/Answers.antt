@@ -149,3 +149,9 @@ returns-in-Err-clause-cut_off g c = λ is.
     (c.take.ensures.halted_range halted) (c.take.ensures.halted_version halted) says)
     (c.take.ensures.halted_stands halted) (did tells) may)
     (c.take.ensures.cut_off failed)
+
+pub returns-in-Ok-clause-stood : goal.returns-in-Ok-clause-stood
+returns-in-Ok-clause-stood g c = record {
+  planned = c.in-Ok.ensures.stepped;
+  stands = c.in-Ok.ensures.stands;
+}

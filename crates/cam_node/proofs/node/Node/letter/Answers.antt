@@ -1,12 +1,15 @@
 -- A letter comes.
-use Rattle.std.proofs.Common.{Some, refl, sym, ◌∙◌, subst}
+use Rattle.std.proofs.Common.{rules, ◌≡◌, false, Some, refl, sym, ◌∙◌, subst}
 use Rattle.cam_comman.specs.Letters.{load_on}
 use Rattle.cam_event.specs.Inputs.{Receives}
 use Rattle.cam_node.specs.Ahead.{CanForget}
 use Rattle.cam_node.specs.Calls.{answers, mail_on, AreSame}
+use Rattle.cam_node.specs.Holdings.{held_after_letter, holdings}
 use Rattle.cam_node.specs.Planned.{MayBeTaken}
 use Rattle.cam_node.specs.Represents.{Node}
+use Rattle.cam_node.specs.Served.{is_call}
 use Rattle.cam_node.proofs.CutOffs.{cut_as}
+use Rattle.cam_node.proofs.Unasked.{letter_unasked, of_each, others_unasked}
 use Rattle.cam_node.proofs.node.Node.letter.Goals as goal
 
 -- A call that may have gone ahead.
@@ -113,6 +116,9 @@ returns-in_ok-plan-in_default g c =
       goes_on = refl;
     } in
     let then = c.carry_out-in_default.ensures in
+    let no : is_call c.args.letter.now.body ≡ false = search rules in
+    let all = holdings (g.R.DataType.held c.args.register.now) (g.Q.DataType.held c.args.queue.now)
+    (g.C.DataType.held c.args.counter.now) in
     record {
       step = then.step _ _ _ old may;
       letters = then.letters (Receives c.args.id.now) _ (load_on c.args.letter.now) old may;
@@ -142,6 +148,14 @@ returns-in_ok-plan-in_default g c =
       faults_within = then.faults_within;
       disk_fault = then.disk_fault;
       objects = then.objects;
+      served = of_each c.carry_out-in_default.result
+          (λ stepped. all ≡ held_after_letter old.server.table.site
+          (answers c.carry_out-in_default.new.self.core).server.table.site
+          c.args.letter.now.body stepped.event.deeds all)
+          (λ stepped. letter_unasked old.server.table.site
+          (answers c.carry_out-in_default.new.self.core).server.table.site
+          c.args.letter.now.body stepped.event.deeds all no);
+      others = others_unasked old.server.table.site c.args.letter.now.body all no;
       register_stays = refl;
       queue_stays = refl;
       counter_stays = refl;

@@ -4,6 +4,7 @@ use Rattle.cam_node.specs.Calls.{answers}
 use Rattle.cam_node.specs.Keeping.{IsRestartHalt}
 use Rattle.cam_node.specs.Opened.{MayRead}
 use Rattle.cam_node.proofs.FoundByReads.{finds_by}
+use Rattle.cam_node.proofs.Reopened.{one_entry_after}
 use Rattle.cam_node.proofs.RestartTaken.{may_restart}
 use Rattle.cam_node.proofs.RestartedNodes.{node_restarted, restart_halts, restart_range}
 use Rattle.cam_node.proofs.Steps.{failed}
@@ -30,7 +31,8 @@ returns-in_err-reread-clause-failed g c = λ tells.
     let grows = c.restart.ensures.any_moment tells in
     let there : IsTrue (g.L.EntryLog.tells after) = c.restart.ensures.tells ∙ tells in
     failed c.from_residual.result _
-    (restart_halts c.args.self.now.objects c.args.self.now.core.number (g.L.EntryLog.moment log)
+    (restart_halts c.args.self.now.objects c.args.self.now.core.number
+    (g.L.CheckpointLog.disk_generation log) (g.L.EntryLog.moment log)
     (g.L.EntryLog.moment after) (g.L.EntryLog.opens_since log)
     (g.L.EntryLog.opens_since after) c.args.self.now.numbered grows (λ o is.
     g.met.L.EntryLog.counts_now after (g.L.EntryLog.moment log) o there grows.later is))
@@ -62,7 +64,8 @@ returns-in-Err-clause-failed g c = λ tells.
     subst (λ now. IsRestartHalt c.args.self.now.objects c.args.self.now.core.number (MayRead
     (g.L.EntryLog.opens_since log) (g.L.EntryLog.moment log))
     (MayRead (g.L.EntryLog.opens_since now) (g.L.EntryLog.moment now))) (sym c.halt.ensures.log)
-    (restart_halts c.args.self.now.objects c.args.self.now.core.number (g.L.EntryLog.moment log)
+    (restart_halts c.args.self.now.objects c.args.self.now.core.number
+    (g.L.CheckpointLog.disk_generation log) (g.L.EntryLog.moment log)
     (g.L.EntryLog.moment after) (g.L.EntryLog.opens_since log)
     (g.L.EntryLog.opens_since after) c.args.self.now.numbered grows (λ o is.
     g.met.L.EntryLog.counts_now after (g.L.EntryLog.moment log) o there grows.later is))
@@ -80,3 +83,10 @@ returns-in_err-reread-clause-disk_fault g c = λ of is.
 pub returns-in-Ok-clause-one_entry : goal.returns-in-Ok-clause-one_entry
 returns-in-Ok-clause-one_entry g c = λ less.
     ap (λ (entries : List (List ℕ)). length entries) (c.in_ok-reread.ensures.replaced less)
+
+-- so it does by the number of the list that was read
+pub returns-in-Ok-clause-replaced : goal.returns-in-Ok-clause-replaced
+returns-in-Ok-clause-replaced g c = λ tells.
+    one_entry_after (g.L.CheckpointLog.disk_generation c.args.self.now.log.log)
+    c.in_ok-reread.reread.kept (g.L.EntryLog.listed c.restart.new.self.log)
+    (c.in_ok-reread.ensures.replaced_after tells)

@@ -5,13 +5,15 @@ use Rattle.cam_server.specs.Calls as server
 use Rattle.cam_node.specs.declared.plan.Change.{Change}
 use Rattle.cam_node.specs.Calls.{answers, AreSame}
 use Rattle.cam_node.specs.Ahead.{HasGoneAhead, MayBeForgotten}
+use Rattle.cam_node.specs.Holdings.{HoldsThen}
 use Rattle.cam_node.specs.Plans.{IsPlanFor}
 use Rattle.cam_node.specs.Standing.{MayStand}
 use Rattle.cam_node.specs.Planning.{IsMade}
 use Rattle.cam_node.specs.Served.{asked_of}
 use Rattle.cam_node.proofs.CallPlan.{call_plan, call_may}
 use Rattle.cam_node.proofs.AheadPlan.{ahead_may, ahead_plan}
-use Rattle.cam_node.proofs.Forgotten.{both_err, ahead_err, ahead_forgotten, waiting_forgotten}
+use Rattle.cam_node.proofs.Forgotten.{both_err, both_ok, ahead_err, ahead_forgotten, waiting_forgotten}
+use Rattle.cam_node.proofs.HandedIn.{ahead_held, waiting_held}
 use Rattle.cam_node.proofs.state.Core.call_comes.Goals as goal
 
 pub returns-then-is_apart-clause-err : goal.returns-then-is_apart-clause-err
@@ -121,4 +123,29 @@ returns-clause-adds g c =
     (λ plan. IsMade c.receive.new.self c.args.id.now c.in_ok-learnt.learnt c.in_ok-doing.doing plan)
     (λ plan. plan.adds ≡ None)
     (λ plan made. made.adds ∙ c.in_ok-doing.ensures.done.1.adds)
+    c.planned.ensures
+
+pub returns-then-is_apart-clause-held : goal.returns-then-is_apart-clause-held
+returns-then-is_apart-clause-held g c =
+    both_ok c.call_goes_ahead.result _ _ _
+    (λ plan gone held.
+    ahead_held c.args.letter.now c.args.self.now c.receive.new.self c.call_goes_ahead.new.self
+    c.in_ok-learnt.learnt c.args.id.now (asked_of c.args.call.now) plan c.args.call.now.object
+    (g.T.DataType.held c.args.server.now) (g.T.DataType.held c.call_goes_ahead.new.server)
+    c.in_ok-learnt.ensures.received (sym c.is_apart.ensures ∙ c.if-is_apart.true) gone held)
+    c.call_goes_ahead.ensures.ahead c.call_goes_ahead.ensures.held
+
+pub returns-clause-held : goal.returns-clause-held
+returns-clause-held g c =
+    IfOk-weaker c.planned.result
+    (λ plan. IsMade c.receive.new.self c.args.id.now c.in_ok-learnt.learnt c.in_ok-doing.doing plan)
+    (λ plan. HoldsThen c.args.call.now.object plan c.receive.new.self.knowing.known
+    (answers c.receive.new.self) (g.T.DataType.held c.args.server.now)
+    (g.T.DataType.held c.serve.new.server))
+    (λ plan made.
+    waiting_held c.args.letter.now c.args.self.now c.receive.new.self c.in_ok-learnt.learnt
+    c.args.id.now c.in_ok-doing.doing plan (asked_of c.args.call.now)
+    c.in_ok-doing.ensures.done.0 c.args.call.now.object (g.T.DataType.held c.args.server.now)
+    (g.T.DataType.held c.serve.new.server) c.in_ok-learnt.ensures.received made
+    c.in_ok-doing.ensures.done.1 c.in_ok-doing.ensures.held)
     c.planned.ensures

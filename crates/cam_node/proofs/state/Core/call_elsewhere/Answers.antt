@@ -1,13 +1,15 @@
 -- A call comes that is not for the node.
-use Rattle.std.proofs.Common.{◌≡◌, None, sym, ap, ◌∙◌, subst}
+use Rattle.std.proofs.Common.{◌≡◌, false, None, sym, ap, ◌∙◌, subst}
 use Rattle.std.proofs.lemmas.Result.{IfOk-weaker}
 use Rattle.cam_node.specs.declared.did.Doing.{Doing}
 use Rattle.cam_node.specs.declared.plan.Change.{Change}
 use Rattle.cam_node.specs.Ahead.{MayBeForgotten}
 use Rattle.cam_node.specs.Calls.{answers, AreSame}
+use Rattle.cam_node.specs.Holdings.{performs}
 use Rattle.cam_node.specs.Plans.{IsPlanFor}
 use Rattle.cam_node.specs.Planning.{IsMade}
 use Rattle.cam_node.proofs.Elsewhere.{elsewhere_plan}
+use Rattle.cam_node.proofs.HandedIn.{plan_performs}
 use Rattle.cam_node.proofs.state.Core.call_elsewhere.Goals as goal
 
 pub returns-clause-forgotten : goal.returns-clause-forgotten
@@ -41,3 +43,13 @@ returns-clause-adds c =
     (λ plan. IsMade c.receive.new.self c.args.id.now c.in_ok-learnt.learnt c.nothing_but.result plan)
     (λ plan. plan.adds ≡ None)
     (λ plan made. made.adds ∙ ap (λ (d : Doing). d.adds) c.nothing_but.ensures) c.planned.ensures
+
+pub returns-clause-quiet : goal.returns-clause-quiet
+returns-clause-quiet c =
+    IfOk-weaker c.planned.result
+    (λ plan. IsMade c.receive.new.self c.args.id.now c.in_ok-learnt.learnt c.nothing_but.result plan)
+    (λ plan. performs plan.stepped.event.deeds ≡ false)
+    (λ plan made.
+    plan_performs c.args.letter.now c.args.self.now c.receive.new.self c.receive.new.self
+    c.in_ok-learnt.learnt c.args.id.now c.nothing_but.result plan c.in_ok-learnt.ensures.received made
+    ∙ ap (λ (d : Doing). performs d.did.deeds) c.nothing_but.ensures) c.planned.ensures
