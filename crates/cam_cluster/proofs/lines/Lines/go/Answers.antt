@@ -65,29 +65,6 @@ index-requires g c =
     c.requires.go c.in-Some.name (sym c.in-Some.ensures) c.home.result _ c.home.ensures in
     first_of (search rules, grind (arith, common_steps, item))
 
--- the home is not halted
-pub refusal-requires : goal.refusal-requires
-refusal-requires g c =
-    let old = lines_of g.L.CheckpointLog g.L.EntryLog c.args.self.now in
-    let might = reads_of g.L.CheckpointLog g.L.EntryLog c.args.self.now.works in
-    let home =
-    home_at c.args.line c.args.action c.args.bodies.now c.args.self.now c.args.workers.now
-    c.requires.go c.in-Some.name (sym c.in-Some.ensures) c.home.result _ c.home.ensures in
-    let runs =
-    home_halted c.args.line c.args.action c.args.bodies.now c.args.self.now c.args.workers.now
-    c.requires.go c.in-Some.name (sym c.in-Some.ensures) c.home.result _ c.home.ensures
-    c.is_halted.result false c.is_halted.ensures c.if-is_halted.false in
-    let seen =
-    home_seen c.args.line c.args.action c.args.bodies.now c.args.self.now c.args.workers.now
-    c.requires.go c.in-Some.name (sym c.in-Some.ensures) c.home.result _ c.home.ensures
-    c.index.result.now c.index.ensures in
-    record {
-      running =
-          go_runs c.args.line c.args.action c.args.bodies.now old old might might
-          c.args.workers.now c.requires.go c.in-Some.name (sym c.in-Some.ensures)
-          (c.home.result.0 - 1) home runs _ seen;
-    }
-
 pub returns-in-Some-refusal : goal.returns-in-Some-refusal
 returns-in-Some-refusal g c =
     let old = lines_of g.L.CheckpointLog g.L.EntryLog c.args.self.now in
@@ -105,11 +82,14 @@ returns-in-Some-refusal g c =
     home_seen c.args.line c.args.action c.args.bodies.now c.args.self.now c.args.workers.now
     c.requires.go c.in-Some.name (sym c.in-Some.ensures) c.home.result _ c.home.ensures
     c.index.result.now c.index.ensures in
+    let free = go_runs c.args.line c.args.action c.args.bodies.now old old might might
+    c.args.workers.now c.requires.go c.in-Some.name (sym c.in-Some.ensures)
+    (c.home.result.0 - 1) home runs _ seen in
     record {
       line =
           go_refused c.args.line c.args.action c.args.bodies.now old new might may
           c.args.workers.now c.requires.go c.in-Some.name (sym c.in-Some.ensures)
-          (c.home.result.0 - 1) home runs _ seen (pos 0) _ c.in-Some-refusal.ensures.rule
+          (c.home.result.0 - 1) home runs _ seen (pos 0) _ (c.in-Some-refusal.ensures.rule free)
           c.in-Some-refusal.refusal refl c.refused-in-Some-refusal.result
           c.refused-in-Some-refusal.ensures.refused;
       servers = c.requires.servers;
@@ -148,11 +128,14 @@ go-requires g c =
     home_seen c.args.line c.args.action c.args.bodies.now c.args.self.now c.args.workers.now
     c.requires.go c.in-Some.name (sym c.in-Some.ensures) c.home.result _ c.home.ensures
     c.index.result.now c.index.ensures in
+    let free = go_runs c.args.line c.args.action c.args.bodies.now old old might might
+    c.args.workers.now c.requires.go c.in-Some.name (sym c.in-Some.ensures)
+    (c.home.result.0 - 1) home runs _ seen in
     record {
       goes =
           goes_of_some c.args.line c.args.action c.args.bodies.now old old might might
           c.args.workers.now c.requires.go c.in-Some.name (sym c.in-Some.ensures)
-          (c.home.result.0 - 1) home runs _ seen (pos 0) None c.in_default-refusal.ensures.rule
+          (c.home.result.0 - 1) home runs _ seen (pos 0) None (c.in_default-refusal.ensures.rule free)
           refl;
       servers = c.requires.servers;
     }
@@ -202,11 +185,14 @@ returns g c =
     home_seen c.args.line c.args.action c.args.bodies.now c.args.self.now c.args.workers.now
     c.requires.go c.in-Some.name (sym c.in-Some.ensures) c.home.result _ c.home.ensures
     c.index.result.now c.index.ensures in
+    let free = go_runs c.args.line c.args.action c.args.bodies.now old old might might
+    c.args.workers.now c.requires.go c.in-Some.name (sym c.in-Some.ensures)
+    (c.home.result.0 - 1) home runs _ seen in
     record {
       line =
           gone_line c.args.line c.args.action c.args.bodies.now old new might may
           c.args.workers.now c.requires.go c.in-Some.name (sym c.in-Some.ensures)
-          (c.home.result.0 - 1) home runs _ seen (pos 0) None c.in_default-refusal.ensures.rule refl
+          (c.home.result.0 - 1) home runs _ seen (pos 0) None (c.in_default-refusal.ensures.rule free) refl
           c.go.new.workers c.in_ok-done.done c.in_ok-done.ensures.gone
           (c.push_reserved.ensures ∙ ap (λ bs. bs ++ None ∷ []) c.reserve_one.ensures.same);
       servers = c.go.ensures.servers;

@@ -41,23 +41,6 @@ index-requires g c =
     c.args.place within in
     first_of (search rules, grind (arith, common_steps, item))
 
--- the node is not halted
-pub refusal-requires : goal.refusal-requires
-refusal-requires g c =
-    let old = lines_of g.L.CheckpointLog g.L.EntryLog c.args.self.now in
-    let might = reads_of g.L.CheckpointLog g.L.EntryLog c.args.self.now.works in
-    let within = tried_there c.args.place c.args.input.now old might c.requires.to in
-    let item = place_of (part g.L.CheckpointLog g.L.EntryLog) c.args.self.now.works.nodes.items
-    c.args.place within in
-    let taken = taken_there c.args.self.now.works.nodes.items c.args.place c.index.result.now item
-    c.index.ensures in
-    let seen = seen_there (part g.L.CheckpointLog g.L.EntryLog) c.args.self.now.works.nodes.items
-    c.args.place c.index.result.now taken in
-    let some = tried_lines (c.args.place + 1) c.args.input.now old might c.requires.to in
-    let runs = ap (is_halted c.args.self.now.works.halted) (after_is c.args.place) ∙ sym
-    c.is_halted.ensures ∙ c.if-is_halted.false in
-    record { running = (begin_may old might c.args.place some within runs _ seen).0 }
-
 pub lead-requires-clause-place : goal.lead-requires-clause-place
 lead-requires-clause-place g c =
     let old = lines_of g.L.CheckpointLog g.L.EntryLog c.args.self.now in
@@ -84,7 +67,8 @@ lead-requires-clause-may g c =
       (begin_may old might c.args.place some within runs _ seen).0,
       c.in-None.ensures.free refl,
       tried_may c.args.line c.args.place c.args.input.now old old might might within
-          c.requires.to runs _ seen c.in-None.ensures.rule,
+          c.requires.to runs _ seen
+          (c.in-None.ensures.rule (begin_may old might c.args.place some within runs _ seen).0),
     )
 
 pub lead-requires-clause-servers : goal.lead-requires-clause-servers
@@ -143,10 +127,13 @@ returns-in-Some-clause-line g c =
     c.index.ensures in
     let seen = seen_there (part g.L.CheckpointLog g.L.EntryLog) c.args.self.now.works.nodes.items
     c.args.place c.index.result.now taken in
+    let some = tried_lines (c.args.place + 1) c.args.input.now old might c.requires.to in
     let runs = ap (is_halted c.args.self.now.works.halted) (after_is c.args.place) ∙ sym
     c.is_halted.ensures ∙ c.if-is_halted.false in
     tried_refused c.args.line c.args.place c.args.input.now old new might may within
-    c.in-Some.refusal runs _ seen c.in-Some.ensures.rule c.refused-in-Some.result
+    c.in-Some.refusal runs _ seen
+    (c.in-Some.ensures.rule (begin_may old might c.args.place some within runs _ seen).0)
+    c.refused-in-Some.result
     c.refused-in-Some.ensures.refused
 
 pub returns-in-Some-clause-servers : goal.returns-in-Some-clause-servers
@@ -170,10 +157,13 @@ returns-in_ok-lead-in-None-clause-line g c =
     c.index.ensures in
     let seen = seen_there (part g.L.CheckpointLog g.L.EntryLog) c.args.self.now.works.nodes.items
     c.args.place c.index.result.now taken in
+    let some = tried_lines (c.args.place + 1) c.args.input.now old might c.requires.to in
     let runs = ap (is_halted c.args.self.now.works.halted) (after_is c.args.place) ∙ sym
     c.is_halted.ensures ∙ c.if-is_halted.false in
     tried_led c.args.line c.args.place c.args.input.now old new might may within
-    c.in_ok-lead-in-None.field-0 runs _ seen c.in-None.ensures.rule c.in_ok-lead-in-None.ensures.led
+    c.in_ok-lead-in-None.field-0 runs _ seen
+    (c.in-None.ensures.rule (begin_may old might c.args.place some within runs _ seen).0)
+    c.in_ok-lead-in-None.ensures.led
 
 pub returns-in_ok-lead-in-None-clause-servers : goal.returns-in_ok-lead-in-None-clause-servers
 returns-in_ok-lead-in-None-clause-servers g c =

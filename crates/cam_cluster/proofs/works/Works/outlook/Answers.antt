@@ -47,25 +47,6 @@ index-requires g c =
     place within in
     first_of (search rules, grind (arith, common_steps, item))
 
--- the home is not halted
-pub refusal-requires : goal.refusal-requires
-refusal-requires g c =
-    let works = works_of g.L.CheckpointLog g.L.EntryLog c.args.self.now in
-    let reads = reads_of g.L.CheckpointLog g.L.EntryLog c.args.self.now in
-    let some = c.requires.home in
-    let home = sym (home_place c.home.result _ _ c.home.ensures some.placed.0) in
-    let place = c.home.result.0 - 1 in
-    let within = outlook_there c.args.name.now works reads some place home in
-    let item = place_of (part g.L.CheckpointLog g.L.EntryLog) c.args.self.now.nodes.items
-    place within in
-    let taken = taken_there c.args.self.now.nodes.items place c.index.result.now item
-    c.index.ensures in
-    let seen = seen_there (part g.L.CheckpointLog g.L.EntryLog) c.args.self.now.nodes.items
-    place c.index.result.now taken in
-    let awake = ap (is_halted c.args.self.now.halted) (after_is place) ∙ sym c.is_halted.ensures
-    ∙ c.if-is_halted.false in
-    record { running = (some.keeps.nodes place _ seen).is_halted ∙ awake }
-
 pub returns-in-None : goal.returns-in-None
 returns-in-None g c =
     let works = works_of g.L.CheckpointLog g.L.EntryLog c.args.self.now in
@@ -84,7 +65,7 @@ returns-in-None g c =
     ∙ c.if-is_halted.false in
     goes_where_free c.args.name.now works reads some place home c.args.workers.now awake
     (λ st caught. sym c.if-was_stopped.false ∙ c.was_stopped.ensures st caught) _ seen
-    c.refusal.result c.refusal.ensures.rule c.in-None.is
+    c.refusal.result (c.refusal.ensures.rule ((some.keeps.nodes place _ seen).is_halted ∙ awake)) c.in-None.is
 
 pub returns-in-Some-Ended : goal.returns-in-Some-Ended
 returns-in-Some-Ended g c =
@@ -104,7 +85,7 @@ returns-in-Some-Ended g c =
     ∙ c.if-is_halted.false in
     over_where_ended c.args.name.now works reads some place home c.args.workers.now awake
     (λ st caught. sym c.if-was_stopped.false ∙ c.was_stopped.ensures st caught) _ seen
-    c.refusal.result c.refusal.ensures.rule
+    c.refusal.result (c.refusal.ensures.rule ((some.keeps.nodes place _ seen).is_halted ∙ awake))
     (c.in-Some-Ended.is ∙ ap Some c.in-Some-Ended.field-0-is)
 
 pub returns : goal.returns
@@ -125,4 +106,4 @@ returns g c =
     ∙ c.if-is_halted.false in
     waits_where_refused c.args.name.now works reads some place home c.args.workers.now awake
     (λ st caught. sym c.if-was_stopped.false ∙ c.was_stopped.ensures st caught) _ seen
-    c.refusal.result c.refusal.ensures.rule c.in-Some.field-0 c.in-Some.is
+    c.refusal.result (c.refusal.ensures.rule ((some.keeps.nodes place _ seen).is_halted ∙ awake)) c.in-Some.field-0 c.in-Some.is
