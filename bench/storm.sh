@@ -1,25 +1,30 @@
 #!/bin/sh
 # How many events of a storm the threads make in a second, calm and rough, with 1, 2 and 4 workers for each node: each as a ratio to one worker
-# for each node. And the same with a gate that lets one worker of all at a time take its turn, as if one lock stood round the hall.
-# A figure is such a ratio of one run: the events a second are those of one machine on one day. Each time is the least of several rounds.
+# for each node. And the same with a gate that lets one worker of all at a time take its turn, as if one lock stood round the hall; and a run of a
+# script that has as many events as a calm storm, without threads.
+# A figure is such a ratio of one run: the events a second are those of one machine on one day. Each is the most of several rounds.
 # bench/storm.sh           proves the crates and the program, and runs it
 # bench/storm.sh --quick   runs a build of the same sources that nothing has proved
 . "$(dirname "$0")/common.sh"
-make_program storm_times anyhow cam_base cam_event cam_disk cam_gen cam_hall cam_cluster cam_storm_run
+make_program storm_times anyhow cam_base cam_type cam_event cam_disk cam_script cam_gen cam_hall cam_cluster cam_storm_run
 cp "$top/HANDLES" ../../HANDLES
 cat > src/main.rt <<'PROGRAM'
 //! How many events of a storm there are in a second.
 #![tactic(auto)]
 
 ghost use Rattle.std.specs.Prelude.{◌≡◌, ◌≤◌, IfOk, length};
+ghost use Rattle.cam_script.specs.Law.{IsScript};
 
 use anyhow::{Error, anyhow};
-use cam_cluster::RunFault;
+use cam_cluster::{RunFault, Servers, run_script};
 use cam_disk::MemoryDisk;
 use cam_gen::Storm;
 use cam_hall::{Gate, OpenGate};
+use cam_script::{Script, parse};
 use cam_storm_run::run_storm;
+use cam_type::{CounterServer, QueueServer, RegisterServer};
 use std::alloc::{AllocFailed, Global};
+use std::fmt::Write;
 use std::sync::Wait;
 use std::sync::atomic::{AtomicU64, Ordering};
 use std::thread::{Threads, yield_now};
@@ -29,11 +34,15 @@ const ROUNDS: u32 = 5;
 
 const ACTIONS: u32 = 64;
 
+/// How many actions the script has.
+const SCRIPT_ACTIONS: u32 = 32;
+
 /// How often a worker looks for its turn before it takes it from one that has ended.
 const PATIENCE: u32 = 100_000;
 
 /// Lets one worker of all at a time take its turn: the next begins when it ends. It holds the number
 /// of the worker whose turn it is, from 1, or 0.
+#[derive(Drop)]
 struct OneAtATime {
     turn: AtomicU64,
 }
@@ -91,8 +100,9 @@ fn four_disks(alloc: Global) -> Result<Vec<MemoryDisk>, AllocFailed<MemoryDisk>>
 }
 
 /// One storm of this seed.
-fn storm<G: Gate + Sync>(
+fn storm<R: Threads + Wait + Sync, G: Gate + Sync>(
     rt: &HostRuntime,
+    handle: &R,
     seed: u64,
     calm: bool,
     threads: u32,
@@ -109,7 +119,7 @@ fn storm<G: Gate + Sync>(
         return Err(anyhow!("out of memory"));
     };
     let start = Instant::now(rt)?;
-    let trace = match run_storm(rt, rt.alloc(), &words, threads, gate, &mut disks) {
+    let trace = match run_storm(handle, rt.alloc(), &words, threads, gate, &mut disks) {
         Ok(trace) => trace,
         Err(RunFault::DiskFault(_)) => return Err(anyhow!("a disk failed")),
         Err(RunFault::NoMemory) => return Err(anyhow!("out of memory")),
@@ -121,8 +131,9 @@ fn storm<G: Gate + Sync>(
 }
 
 /// The most events in a second, of several storms.
-fn most<G: Gate + Sync>(
+fn most<R: Threads + Wait + Sync, G: Gate + Sync>(
     rt: &HostRuntime,
+    handle: &R,
     calm: bool,
     threads: u32,
     gate: &G,
@@ -131,7 +142,7 @@ fn most<G: Gate + Sync>(
 {
     let mut most = 0;
     for seed in 0..ROUNDS {
-        let times = storm(rt, u64::from(seed), calm, threads, gate)?;
+        let times = storm(rt, handle, u64::from(seed), calm, threads, gate)?;
         most = times.in_a_second().max(most);
     }
     Ok(most)
@@ -143,21 +154,84 @@ fn show(rt: &HostRuntime, what: &str, events: u128, one: u128) -> Result<(), Err
     Ok(())
 }
 
+/// A script of so many actions, each of which calls a counter of each of four nodes and commits, in a
+/// play of its own: 30 events each.
+fn script_text(alloc: Global, actions: u32) -> Result<String, Error> {
+    let mut text = String::new(alloc);
+    text.push_str("nodes 4\n")?;
+    for at in 1..=4 {
+        write!(text, "object c{at} {at} counter 0\n")?;
+    }
+    text.push_str("body calls\n")?;
+    for at in 1..=4 {
+        write!(text, "call 2 c{at} add 1\n")?;
+    }
+    text.push_str("commit 0\nend\n")?;
+    for action in 0..actions {
+        let at = action % 4 + 1;
+        write!(text, "start A{action} {at} calls\nplay\n")?;
+    }
+    Ok(text)
+}
+
+/// A run of a script.
+fn run(rt: &HostRuntime, script: &Script) -> Result<Times, Error>
+    requires script { IsScript script.now }
+{
+    let Ok(mut disks) = four_disks(rt.alloc()) else {
+        return Err(anyhow!("out of memory"));
+    };
+    if script.nodes != 4 {
+        return Err(anyhow!("the script is of other nodes"));
+    }
+    let mut servers = Servers {
+        register: RegisterServer::new(),
+        queue: QueueServer::new(rt.alloc()),
+        counter: CounterServer::new(),
+    };
+    let start = Instant::now(rt)?;
+    let Ok(record) = run_script(rt.alloc(), script, &mut disks, &mut servers) else {
+        return Err(anyhow!("the run failed"));
+    };
+    Ok(Times {
+        events: record.trace.len() as u128,
+        nanoseconds: start.elapsed(rt)?.as_nanos(),
+    })
+}
+
+/// The most events in a second, of several runs of a script.
+fn most_of_runs(rt: &HostRuntime) -> Result<Times, Error> {
+    let text = script_text(rt.alloc(), SCRIPT_ACTIONS)?;
+    let script = parse(rt.alloc(), text.as_bytes())?;
+    let mut best = run(rt, &script)?;
+    for _ in 0..ROUNDS {
+        let times = run(rt, &script)?;
+        if times.in_a_second() > best.in_a_second() {
+            best = times;
+        }
+    }
+    Ok(best)
+}
+
 fn main(rt: HostRuntime) -> Result<(), Error> {
     for calm in [true, false] {
         let mode = if calm { "calm" } else { "rough" };
-        println!(rt; "{mode}")?;
-        let one = most(&rt, calm, 1, &OpenGate)?;
+        println!(&rt; "{mode}")?;
+        let one = most(&rt, &rt, calm, 1, &OpenGate)?;
         show(&rt, "1 worker a node", one, one)?;
-        let two = most(&rt, calm, 2, &OpenGate)?;
+        let two = most(&rt, &rt, calm, 2, &OpenGate)?;
         show(&rt, "2 workers a node", two, one)?;
-        let four = most(&rt, calm, 4, &OpenGate)?;
+        let four = most(&rt, &rt, calm, 4, &OpenGate)?;
         show(&rt, "4 workers a node", four, one)?;
         let gate = OneAtATime {
             turn: AtomicU64::new(0),
         };
-        let in_turn = most(&rt, calm, 4, &gate)?;
+        let in_turn = most(&rt, &rt, calm, 4, &gate)?;
         show(&rt, "4 workers a node, one turn at a time", in_turn, one)?;
+        let run = most_of_runs(&rt)?;
+        let events = run.events;
+        println!(&rt; "  a run of a script of {events} events")?;
+        show(&rt, "the run", run.in_a_second(), one)?;
     }
     Ok(())
 }
