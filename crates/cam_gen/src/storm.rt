@@ -187,14 +187,15 @@ impl Storm {
     }
 
     /// The body of an action, which follows from its name: a child's from its top action and its own
-    /// node. No storm has more than 64 top actions: where the name is of a later one, there is no
-    /// memory for its body.
+    /// node. No storm has more than 64 top actions: an action of a later one has an empty body.
     pub fn body_of(&self, alloc: Global, name: &Name) -> Result<BodyText, NoMemory>
-        ensures { IfOk result (λ body. body ≡ body_of self.now name.now) }
+        ensures first { IfOk result (λ body. action_number name.now ≤ 64
+            → body ≡ body_of self.now name.now) }
+        ensures later { IfOk result (λ body. 64 < action_number name.now → body ≡ []) }
     {
         let number = top_number(name);
         if number > 64 {
-            return Err(NoMemory);
+            return Ok(BodyText::new(alloc));
         }
         if name.depth() == 1 {
             self.top_body(alloc, number)

@@ -144,7 +144,7 @@ outcome_known objects s None load a counts p is there i = absurd (subst (λ (l :
 outcome_known objects s (Some m) load a counts p is there i = covered load.know counts p (in_all (is_known_outcome load.know) load.know.outcomes (Committed a counts) is.outcomes_known (ordered_in (Committed a counts) load.know.outcomes there)) i
 
 -- no rule of a storm but a restart crashes
-pub comes_from : (words : Words) (s : ℕ) (own : List Received) (taken : Option (Taken Copied)) (input : Input) (g : Sight) → IsPut words s own taken input → MayBePut (objects_of words) s g input (mail_in taken) (load_in taken) → ComesFrom (mail_in taken)
+pub comes_from : (words : Words) (s : ℕ) (own : List Received) (taken : Option (Taken Copied)) (input : Input) (g : Sight) → IsPut words s own taken input → MayBePut (objects_of words) s g input (mail_in taken) (load_in taken) → ComesFrom words (mail_in taken)
 comes_from words s own None input g so may = tt
 comes_from words s own (Some k) (Receives letter) g so may = so.1
 comes_from words s own (Some k) (Begins m) g so may = absurd (no_mail may.1.0)

@@ -20,7 +20,7 @@ use Rattle.cam_storm.specs.Lawful.{carried_in, own_history, IsStormHistory}
 use Rattle.cam_storm.specs.Core.{Cell, Keeps, IsReplay, IsLeastDrive, MakesRequest, IsDriven}
 use Rattle.cam_storm.specs.Laws.{HistoriesAreLawful, IdleIsQuiet, IdleHasReceived, BusyHasAnswer}
 
-lawful_own : (words : Words) (s : ℕ) (h : List (NumberedEvent Stepped Copied)) → IsStormHistory words s h → IsLawful (objects_of words) s (map carried_in h)
+pub lawful_own : (words : Words) (s : ℕ) (h : List (NumberedEvent Stepped Copied)) → IsStormHistory words s h → IsLawful (objects_of words) s (map carried_in h)
 lawful_own words s [] all = all
 lawful_own words s (entry ∷ before) all =
     (record { input = all.0.input; may = all.0.may; is_next = all.0.is_next }, lawful_own words s before all.1)

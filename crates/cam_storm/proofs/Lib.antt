@@ -20,6 +20,10 @@ pub mod Rules
 pub mod Making
 pub mod Covered
 pub mod SoundSteps
+pub mod Numbers
+pub mod NearPairs
+pub mod OwnNear
+pub mod OwnSends
 pub mod Sound
 pub mod SoundLetters
 pub mod Near

@@ -24,14 +24,14 @@ use Rattle.cam_event.specs.Rules.{Did, did, nothing_but, answers, send, one, sto
 use Rattle.cam_event.specs.Loads.{Load}
 use Rattle.cam_node.specs.Lawful.{IsForNode, IsLetter, MayBePut}
 use Rattle.cam_cut.proofs.TopGood.{parent_top}
-use Rattle.cam_storm.specs.Lawful.{IsFrom, ComesFrom}
+use Rattle.cam_storm.specs.Names.{IsFrom}
 use Rattle.cam_storm.proofs.Driving.{named_at}
 use Rattle.cam_storm.proofs.Rules.{StartOf, LetterFine, Fine, if_fine, none_fine, stopped_fine, one_sent, answers_fine, deed_fine, both_fine, aborts_deeds, commits_deeds, news_one, news_fine, prepares_sent, wanted_fine}
 
 module _ (objects : List ObjectDecl) (g : Sight) (mail : Option Mail) (input : Input) where
   -- a call
-  reply_fine : (a : Name) (n : ℕ) (reply : Reply) → LetterFine objects g (send (home_node a) (bodies.Answer a n reply))
-  reply_fine a n reply = record { for_node = refl; counts = inl refl; from = tt }
+  reply_fine : (a : Name) (n : ℕ) (reply : Reply) → LetterFine objects g input (send (home_node a) (bodies.Answer a n reply))
+  reply_fine a n reply = record { for_node = refl; counts = inl refl; from = tt; names = tt }
 
   bounced_fine : (a : Name) (n : ℕ) (o : Option Name) → Fine objects g mail input (bounced a n o)
   bounced_fine a n None = none_fine objects g mail input notes.Plain
@@ -78,17 +78,17 @@ module _ (objects : List ObjectDecl) (g : Sight) (mail : Option Mail) (input : I
   decided_fine b None = record { deeds = commits_deeds objects g mail input b; sent = λ m i. absurd i }
   decided_fine b (Some reason) = record { deeds = aborts_deeds objects g mail input b; sent = λ m i. absurd i }
 
-  prepares_fine : (a : Name) (o : Option Reason) → is_top a ≡ true → Fine objects g mail input (prepares g a o)
-  prepares_fine a None top = record { deeds = λ x i. absurd i; sent = λ m i. prepares_sent objects g mail input a (pairs_of (g.deps a)) m top i }
-  prepares_fine a (Some reason) top = record { deeds = aborts_deeds objects g mail input a; sent = news_fine objects g mail input a }
+  prepares_fine : (a : Name) (o : Option Reason) → is_top a ≡ true → home_node a ≡ g.node → Fine objects g mail input (prepares g a o)
+  prepares_fine a None top home = record { deeds = λ x i. absurd i; sent = λ m i. prepares_sent objects g mail input a (pairs_of (g.deps a)) m top home i }
+  prepares_fine a (Some reason) top home = record { deeds = aborts_deeds objects g mail input a; sent = news_fine objects g mail input a }
 
-  finish_fine : (b : Name) (p : Option Name) (counts : List ℕ) → (p ≡ None → is_top b ≡ true) → Fine objects g mail input (finish_comes g b p counts)
+  finish_fine : (b : Name) (p : Option Name) (counts : List ℕ) → (p ≡ None → (is_top b ≡ true) × (home_node b ≡ g.node)) → Fine objects g mail input (finish_comes g b p counts)
   finish_fine b (Some p) counts top =
       let rest : Did = commits_or_aborts g b (g.orphan b (pairs_of counts)) in
       if_fine objects g mail input (not (decides_child g p b)) (nothing_but notes.Late) (stopped_by p (g.orphan p (pairs_of (g.deps p))) rest) (λ e. none_fine objects g mail input notes.Late)
       (λ e. stopped_fine objects g mail input p (g.orphan p (pairs_of (g.deps p))) rest (decided_fine b (g.orphan b (pairs_of counts))))
   finish_fine b None counts top =
-      if_fine objects g mail input (not (is_present g b) || knows_outcome g b || is_preparing g b) (nothing_but notes.Late) (prepares g b (g.orphan b (pairs_of (g.deps b)))) (λ e. none_fine objects g mail input notes.Late) (λ e. prepares_fine b (g.orphan b (pairs_of (g.deps b))) (top refl))
+      if_fine objects g mail input (not (is_present g b) || knows_outcome g b || is_preparing g b) (nothing_but notes.Late) (prepares g b (g.orphan b (pairs_of (g.deps b)))) (λ e. none_fine objects g mail input notes.Late) (λ e. prepares_fine b (g.orphan b (pairs_of (g.deps b))) (top refl).0 (top refl).1)
 
   quit_fine : (b : Name) (p : Option Name) → Fine objects g mail input (quit_comes g b p)
   quit_fine b (Some p) =
@@ -98,8 +98,8 @@ module _ (objects : List ObjectDecl) (g : Sight) (mail : Option Mail) (input : I
       if_fine objects g mail input (not (is_present g b) || knows_outcome g b) (nothing_but notes.Late) (did (aborts g b) (news g b)) (λ e. none_fine objects g mail input notes.Late) (λ e. record { deeds = aborts_deeds objects g mail input b; sent = news_fine objects g mail input b })
 
   -- a prepare, a vote, a query
-  vote_one : (f : Name) (c : ℕ) (agrees : Bool) → LetterFine objects g (send (home_node f) (bodies.Vote f c agrees))
-  vote_one f c agrees = record { for_node = refl; counts = inl refl; from = tt }
+  vote_one : (f : Name) (c : ℕ) (agrees : Bool) → LetterFine objects g input (send (home_node f) (bodies.Vote f c agrees))
+  vote_one f c agrees = record { for_node = refl; counts = inl refl; from = tt; names = tt }
 
   prepare_fine : (f : Name) (c : ℕ) → Fine objects g mail input (prepare_comes g f c)
   prepare_fine f c =
@@ -130,7 +130,7 @@ module _ (objects : List ObjectDecl) (g : Sight) (mail : Option Mail) (input : I
   start_fine from b counts decides starts =
       let last : Did = stopped_by b (g.orphan b (with_home counts b)) (did (one (Create b)) []) in
       let second : Did = if created g.deeds b then nothing_but notes.Again else last in
-      if_fine objects g mail input (not (is_present g b)) (answers notes.Missed (one (send from (bodies.Quit b)))) second (λ e. answers_fine objects g mail input notes.Missed _ (record { for_node = decides; counts = inl refl; from = tt }))
+      if_fine objects g mail input (not (is_present g b)) (answers notes.Missed (one (send from (bodies.Quit b)))) second (λ e. answers_fine objects g mail input notes.Missed _ (record { for_node = decides; counts = inl refl; from = tt; names = tt }))
       (λ e. if_fine objects g mail input (created g.deeds b) (nothing_but notes.Again) last (λ x. none_fine objects g mail input notes.Again)
       (λ x. stopped_fine objects g mail input b (g.orphan b (with_home counts b)) (did (one (Create b)) []) (deed_fine objects g mail input (Create b) (inr (starts (not_not (is_present g b) e))))))
     where
@@ -139,14 +139,14 @@ module _ (objects : List ObjectDecl) (g : Sight) (mail : Option Mail) (input : I
       not_not false h = cc
 
 -- a letter that may be handed to the node
-arrives_fine : (objects : List ObjectDecl) (g : Sight) (m : Mail) (input : Input) (s : ℕ) (load : Load) → 1 ≤ s → IsLetter objects s m load → IsFrom m.from m.body → Fine objects g (Some m) input (arrives objects g m.from m.body)
-arrives_fine objects g m input s load low is from = by m.body refl from
+arrives_fine : (objects : List ObjectDecl) (g : Sight) (m : Mail) (input : Input) (s : ℕ) (load : Load) → 1 ≤ s → g.node ≡ s → IsLetter objects s m load → IsFrom m.from m.body → Fine objects g (Some m) input (arrives objects g m.from m.body)
+arrives_fine objects g m input s load low node is from = by m.body refl from
   where
-    -- a finish of an action without a parent is of a top action
-    top_of : (b : Name) (v : ℤ) (counts : List ℕ) → m.body ≡ bodies.Finish b v counts → parent b ≡ None → is_top b ≡ true
+    -- a finish of an action without a parent is of a top action that is at home here
+    top_of : (b : Name) (v : ℤ) (counts : List ℕ) → m.body ≡ bodies.Finish b v counts → parent b ≡ None → (is_top b ≡ true) × (home_node b ≡ g.node)
     top_of b v counts at alone =
         let home : home_node b ≡ s = ap (decider_of b) (sym alone) ∙ subst (IsForNode objects s) at is.for_node in
-        parent_top b (named_at b (subst (λ (n : ℕ). 1 ≤ n) (sym home) low)) alone
+        (parent_top b (named_at b (subst (λ (n : ℕ). 1 ≤ n) (sym home) low)) alone, home ∙ sym node)
 
     by : (body : Body) → m.body ≡ body → IsFrom m.from body → Fine objects g (Some m) input (arrives objects g m.from body)
     by (bodies.Start b counts) at decides = start_fine objects g (Some m) input m.from b counts decides (λ here. (counts, at, here))
@@ -159,15 +159,20 @@ arrives_fine objects g m input s load low is from = by m.body refl from
     by (bodies.Query f) at h = query_fine objects g (Some m) input m.from f
     by bodies.News at h = none_fine objects g (Some m) input notes.Plain
 
+-- the start of a child comes from the node that decides it
+abbrev pub StartComes : Option Mail → Type 0
+StartComes None = Unit {0}
+StartComes (Some mail) = IsFrom mail.from mail.body
+
 -- Each rule of an input that may be put to a node of a storm.
-pub rule_fine : (objects : List ObjectDecl) (s : ℕ) (g h : Sight) (mail : Option Mail) (load : Load) (input : Input) → 1 ≤ s → g.node ≡ s → MayBePut objects s h input mail load → ComesFrom mail
+pub rule_fine : (objects : List ObjectDecl) (s : ℕ) (g h : Sight) (mail : Option Mail) (load : Load) (input : Input) → 1 ≤ s → g.node ≡ s → MayBePut objects s h input mail load → StartComes mail
     → ((m to : ℕ) → input ≡ Tells m to → ⊥) → ((m : ℕ) (f : Name) → input ≡ Queries m f → ⊥) → Fine objects g mail input (rule objects g mail input)
-rule_fine objects s g h mail load (Begins m) low node may from no_tell no_query = deed_fine objects g mail (Begins m) (Create (top_name g)) (inl refl)
+rule_fine objects s g h mail load (Begins m) low node may from no_tell no_query = deed_fine objects g mail (Begins m) (Create (top_name g)) (inl (refl, refl))
 rule_fine objects s g h mail load (Requests r) low node may from no_tell no_query =
     stopped_fine objects g mail (Requests r) r.action (g.orphan r.action (pairs_of (g.deps r.action))) (wanted objects g r.action r.want)
-    (wanted_fine objects g mail (Requests r) r.action r.want (omega (arith, low, node)) (may.0 ∙ sym node) may.2)
+    (wanted_fine objects g mail (Requests r) r.action r.want (omega (arith, low, node)) (may.0 ∙ sym node) may.2 (λ m e. (m, e, refl)))
 rule_fine objects s g h None load (Receives letter) low node may from no_tell no_query = absurd may
-rule_fine objects s g h (Some m) load (Receives letter) low node may from no_tell no_query = arrives_fine objects g m (Receives letter) s load low may from
+rule_fine objects s g h (Some m) load (Receives letter) low node may from no_tell no_query = arrives_fine objects g m (Receives letter) s load low node may from
 rule_fine objects s g h mail load (Tells m to) low node may from no_tell no_query = absurd (no_tell m to refl)
 rule_fine objects s g h mail load (Queries m f) low node may from no_tell no_query = absurd (no_query m f refl)
 rule_fine objects s g h mail load (Restarts m) low node may from no_tell no_query = deed_fine objects g mail (Restarts m) (Crash g.node) refl

@@ -27,10 +27,11 @@ use Rattle.cam_cut.proofs.Pairs.{pairs_in}
 use Rattle.cam_cut.proofs.Places.{PlacedAt, AllPlaced}
 use Rattle.cam_cut.proofs.Step.{run_holds}
 use Rattle.cam_gen.specs.Storms.{Words, numbers, register_at, objects_of}
+use Rattle.cam_storm.specs.Names.{Near}
 use Rattle.cam_storm.specs.Runs.{StormRun}
 use Rattle.cam_storm.proofs.GatheredInputs.{storm_is_run}
 use Rattle.cam_storm.proofs.Naming.{all_named}
-use Rattle.cam_storm.proofs.Near.{Near, DepsNear}
+use Rattle.cam_storm.proofs.Near.{DepsNear}
 
 -- each object of a storm stands at one of the four nodes
 slice_map : {X Y : Type 0} (f : X → Y) (xs : List X) (k : ℕ) → slice_get (map f xs) k ≡ option_map f (slice_get xs k)

@@ -40,11 +40,11 @@ use Rattle.cam_event.specs.Loads.{Load}
 use Rattle.cam_event.specs.ByDeltas.{Received, as_carried}
 use Rattle.cam_storm.specs.Events.{Copied}
 use Rattle.cam_storm.specs.Events.{Stepped}
-use Rattle.cam_storm.specs.Runs.{is_restart}
+use Rattle.cam_storm.specs.Runs.{is_begin, is_restart}
 use Rattle.cam_storm.specs.Lawful.{mail_in, load_in, carried, IsStormStep}
 use Rattle.cam_storm.proofs.Rules.{StartOf, DeedFine}
 use Rattle.cam_storm.proofs.Covered.{Covers, Sound, learned_grow, learned_long, greater_long, learned_informs, Brings, start_known, finish_known, outcome_known}
-use Rattle.cam_storm.proofs.SoundSteps.{Next, next_of, first_inform, deed_of, present_is, no_crash}
+use Rattle.cam_storm.proofs.SoundSteps.{Next, next_of, put_of, first_inform, deed_of, present_is, no_crash}
 
 pub sound_more : (words : Words) (s : ℕ) (own : List Received) (taken : Option (Taken Copied)) (e : Stepped) → 1 ≤ s → s ≤ 8 → IsStormStep words s own taken e → Sound (objects_of words) s (map as_carried own) → Sound (objects_of words) s (map as_carried (carried e taken ∷ own))
 sound_more words s own taken e low high step was = record { long = long; present = now; calls = calls; pairs = pairs; outcomes = outcomes }
@@ -80,7 +80,7 @@ sound_more words s own taken e low high step was = record { long = long; present
     held_after = learned_by objects past mail with_brought ds
 
     n : Next words s past mail load step.input ds (rule objects g mail step.input)
-    n = next_of words s own taken e low step
+    n = next_of words s own taken e.event low (put_of words s own taken e step)
 
     from_old : (p : ℕ × ℕ) → Covers held_before p → Covers held_after p
     from_old p h = let one = (join_knows_at_least held_before brought).0.counts p.0 in let more = learned_grow objects past mail with_brought ds p.0 in omega (arith, h, one, more)
@@ -97,8 +97,8 @@ sound_more words s own taken e low high step was = record { long = long; present
         let known = was.present in
         subst (λ (m : ℕ). home_count b ≤ known_count held_after m) (sym node) (from_old (s, home_count b) (omega (arith, is, known)))
 
-    created_home : (b : Name) → ((b ≡ top_name g) ⊎ StartOf g mail b) → Covers held_after (home b)
-    created_home b (inl top) = own_home b (ap home_node top) (ap home_count top)
+    created_home : (b : Name) → ((b ≡ top_name g) × (is_begin step.input ≡ true)) ⊎ StartOf g mail b → Covers held_after (home b)
+    created_home b (inl top) = own_home b (ap home_node top.0) (ap home_count top.0)
     created_home b (inr start) = by mail n.comes start
       where
         by : (o : Option Mail) → Brings objects s o load → StartOf g o b → Covers held_after (home b)
@@ -173,7 +173,7 @@ sound_more words s own taken e low high step was = record { long = long; present
       where
         by : IsInformAt s (Call a k x op c) ⊎ DeedFine objects g mail step.input (Call a k x op c) → c ≤ known_count held_after (site_of objects x)
         by (inl h) = let y = h.is in absurd (cc)
-        by (inr h) = let more = learned_grow objects past mail with_brought ds (site_of objects x) in omega (arith, h, more)
+        by (inr h) = let known = h.0 in let more = learned_grow objects past mail with_brought ds (site_of objects x) in omega (arith, known, more)
 
     stays : is_restart step.input ≡ false → count (after (deeds_of past) ds) s ≤ known_count held_after s
     stays no_restart =

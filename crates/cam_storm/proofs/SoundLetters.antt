@@ -16,6 +16,7 @@ use Rattle.cam_event.specs.declared.Event.{Event}
 use Rattle.cam_event.specs.declared.Sent.{Sent}
 use Rattle.cam_event.specs.declared.Body.{Body}
 use Rattle.cam_event.specs.Sights.{Sight}
+use Rattle.cam_event.specs.Rules.{rule}
 use Rattle.cam_event.specs.ByKnowledge.{own_pairs, held_sight}
 use Rattle.cam_event.proofs.Members.{In}
 use Rattle.cam_node.specs.Lawful.{IsForNode, body_counts, are_known, is_known_outcome}
@@ -29,13 +30,16 @@ use Rattle.cam_event.specs.ByDeltas.{Received, as_carried, known, acked_of, load
 use Rattle.cam_delta.proofs.DeltaLists.{in_drop}
 use Rattle.cam_storm.specs.Events.{Copied}
 use Rattle.cam_storm.specs.Events.{Stepped}
+use Rattle.cam_storm.specs.Names.{IsOfStorm, Near}
 use Rattle.cam_storm.specs.Own.{own_sent}
-use Rattle.cam_storm.specs.Lawful.{mail_in, load_in, carried, carried_in, own_history, IsCopied, IsFrom, IsStormStep, IsStormHistory}
+use Rattle.cam_storm.specs.Lawful.{mail_in, load_in, carried, carried_in, own_history, IsCopied, IsStormStep, IsStormHistory}
 use Rattle.cam_storm.specs.Laws.{LettersMayCome}
 use Rattle.cam_storm.proofs.Letters.{copied_at}
 use Rattle.cam_storm.proofs.Rules.{LetterFine}
 use Rattle.cam_storm.proofs.Covered.{Covers, Sound, learned_grow, covers_all}
-use Rattle.cam_storm.proofs.SoundSteps.{next_of}
+use Rattle.cam_storm.proofs.SoundSteps.{IsPutStep, next_of, put_of}
+use Rattle.cam_storm.proofs.OwnNear.{OwnNear, own_near}
+use Rattle.cam_storm.proofs.OwnSends.{sent_near, sent_of_storm}
 use Rattle.cam_storm.proofs.Sound.{sound_more}
 
 one_known : (s : ℕ) → 1 ≤ s → s ≤ 8 → 1 ≤ known_count nothing s
@@ -69,7 +73,7 @@ load_within objects s h r o = by (eqb_tells s r)
 -- So each letter of a lawful event may be handed to the node to which it goes.
 pub letters_may_come : LettersMayCome
 letters_may_come words s history taken e place c allowed at =
-    (record { addressed = refl; for_node = for_node; body_known = body_known; outcomes_known = outcomes_known }, from)
+    (record { addressed = refl; for_node = for_node; body_known = body_known; outcomes_known = outcomes_known }, near, of_storm)
   where
     objects : List ObjectDecl
     objects = objects_of words
@@ -98,8 +102,14 @@ letters_may_come words s history taken e place c allowed at =
     is : IsCopied words s (carried e taken ∷ own) (own_sent own + place) found.0 c
     is = found.2
 
-    fine : LetterFine objects g found.0
-    fine = (next_of words s own taken e step.here.0 step).fine.sent found.0 (subst (λ (l : List Sent). In found.0 l) (ap (λ (x : Event). x.sent) step.is_next) (slice_in e.event.sent place found.0 found.1))
+    put : IsPutStep words s own taken e.event
+    put = put_of words s own taken e step
+
+    there : In found.0 (rule objects g (mail_in taken) step.input).sent
+    there = subst (λ (l : List Sent). In found.0 l) (ap (λ (x : Event). x.sent) step.is_next) (slice_in e.event.sent place found.0 found.1)
+
+    fine : LetterFine objects g step.input found.0
+    fine = (next_of words s own taken e.event step.here.0 put).fine.sent found.0 there
 
     K : Knowledge
     K = known objects (carried e taken ∷ own)
@@ -138,5 +148,11 @@ letters_may_come words s history taken e place c allowed at =
             let there : In (Committed a counts) K.outcomes = load_within objects s (carried e taken ∷ own) found.0.to (Committed a counts) (subst (λ (l : Load). In (Committed a counts) l.know.outcomes) is.load i) in
             covers_all c.letter.know counts (λ p j. with_letter p (now.outcomes a counts p there j))
 
-    from : IsFrom c.letter.from c.letter.body
-    from = subst (λ (b : Body). IsFrom c.letter.from b) (sym is.body) (subst (λ (r : ℕ). IsFrom r found.0.body) (sym is.from) fine.from)
+    kept : OwnNear words s own
+    kept = own_near words s (reverse history) allowed.0
+
+    near : Near c.letter.to
+    near = subst Near (sym is.to) (sent_near words s own taken e.event put kept found.0 there)
+
+    of_storm : IsOfStorm words c.letter.from c.letter.body
+    of_storm = subst (λ (b : Body). IsOfStorm words c.letter.from b) (sym is.body) (subst (λ (r : ℕ). IsOfStorm words r found.0.body) (sym is.from) (sent_of_storm words s own taken e.event put kept found.0 there))

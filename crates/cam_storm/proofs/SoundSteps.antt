@@ -1,6 +1,7 @@
 -- What is known of one more event of a storm's node: its deeds, and that no other than a restart has
 -- a crash.
-use Rattle.std.proofs.Common.{◌≡◌, ◌⊎◌, inl, inr, ℕ, ◌≤◌, true, false, List, ◌++◌, map, Option, refl, sym, ap, ◌∙◌, subst}
+use Rattle.std.proofs.Common.{◌≡◌, ◌⊎◌, inl, inr, ℕ, ◌≤◌, true, false, List, ◌++◌, map, length, Option, Some, None, refl, sym, ap, ◌∙◌, subst}
+use Rattle.std.specs.Prelude.{nat_lt}
 use Rattle.std.specs.List.{list_any}
 use Rattle.std.proofs.lemmas.Bool.{true≢false, false_from_ne_true}
 use Rattle.cam_names.specs.declared.name.Name.{Name}
@@ -18,17 +19,20 @@ use Rattle.cam_event.specs.ByKnowledge.{held, held_informs, held_sight}
 use Rattle.cam_event.specs.Carried.{Carried, deeds_of}
 use Rattle.cam_event.proofs.Members.{In, in_append, any_in}
 use Rattle.cam_cut.proofs.Informs.{IsInformAt, in_informs, keep_informs}
+use Rattle.cam_node.specs.Lawful.{MayBePut}
 use Rattle.cam_journal.specs.declared.entry.SentLetter.{SentLetter as Taken}
-use Rattle.cam_gen.specs.Storms.{Words, objects_of}
+use Rattle.cam_gen.specs.Storms.{Words, objects_of, tops_of}
 use Rattle.cam_know.specs.Order.{told_in_order}
 use Rattle.cam_event.specs.Loads.{Load}
 use Rattle.cam_event.specs.ByDeltas.{Received, as_carried}
 use Rattle.cam_storm.specs.Events.{Copied}
 use Rattle.cam_storm.specs.Events.{Stepped}
-use Rattle.cam_storm.specs.Runs.{is_restart}
-use Rattle.cam_storm.specs.Lawful.{mail_in, load_in, IsStormStep}
+use Rattle.cam_storm.specs.Names.{Near}
+use Rattle.cam_storm.specs.Own.{sight_at}
+use Rattle.cam_storm.specs.Runs.{is_begin, is_restart}
+use Rattle.cam_storm.specs.Lawful.{mail_in, load_in, step_at, ComesFrom, IsPut, IsStormStep}
 use Rattle.cam_storm.proofs.Rules.{DeedFine, Fine}
-use Rattle.cam_storm.proofs.Making.{rule_fine}
+use Rattle.cam_storm.proofs.Making.{StartComes, rule_fine}
 use Rattle.cam_storm.proofs.Covered.{Brings, brings, comes_from, no_tell, no_query}
 
 -- what is known of one more event
@@ -38,14 +42,30 @@ pub record Next (words : Words) (s : ℕ) (own : List Carried) (mail : Option Ma
   pub comes : Brings (objects_of words) s mail load
   pub is_rule : did ≡ rule (objects_of words) (held_sight (objects_of words) s own (told_in_order load.know)) mail input
 
-pub next_of : (words : Words) (s : ℕ) (own : List Received) (taken : Option (Taken Copied)) (e : Stepped) → 1 ≤ s → (step : IsStormStep words s own taken e)
-    → Next words s (map as_carried own) (mail_in taken) (load_in taken) step.input e.event.deeds (rule (objects_of words) (held_sight (objects_of words) s (map as_carried own) (told_in_order (load_in taken).know)) (mail_in taken) step.input)
-next_of words s own taken e low step =
+starts_come : (words : Words) (mail : Option Mail) → ComesFrom words mail → StartComes mail
+starts_come words None comes = tt
+starts_come words (Some mail) comes = comes.starts
+
+-- an event that a storm's node may make, whatever copies its letters draw
+pub record IsPutStep (words : Words) (s : ℕ) (own : List Received) (taken : Option (Taken Copied)) (event : Event) : Type 0 where
+  pub input : Input
+  pub here : Near s
+  pub may : MayBePut (objects_of words) s (sight_at words s own) input (mail_in taken) (load_in taken)
+  pub so : IsPut words s own taken input
+  pub tops_first : is_begin input ≡ nat_lt (length own) (tops_of words s)
+  pub is_next : event ≡ step_at words s own input taken
+
+abbrev pub put_of : (words : Words) (s : ℕ) (own : List Received) (taken : Option (Taken Copied)) (e : Stepped) → IsStormStep words s own taken e → IsPutStep words s own taken e.event
+put_of words s own taken e step = record { input = step.input; here = step.here; may = step.may; so = step.so; tops_first = step.tops_first; is_next = step.is_next }
+
+pub next_of : (words : Words) (s : ℕ) (own : List Received) (taken : Option (Taken Copied)) (event : Event) → 1 ≤ s → (step : IsPutStep words s own taken event)
+    → Next words s (map as_carried own) (mail_in taken) (load_in taken) step.input event.deeds (rule (objects_of words) (held_sight (objects_of words) s (map as_carried own) (told_in_order (load_in taken).know)) (mail_in taken) step.input)
+next_of words s own taken event low step =
     let objects : List ObjectDecl = objects_of words in
     let h : Sight = held_sight objects s (map as_carried own) nothing in
     record {
       deeds = ap (λ (x : Event). x.deeds) step.is_next;
-      fine = rule_fine objects s (held_sight objects s (map as_carried own) (told_in_order (load_in taken).know)) h (mail_in taken) (load_in taken) step.input low refl step.may (comes_from words s own taken step.input h step.so step.may)
+      fine = rule_fine objects s (held_sight objects s (map as_carried own) (told_in_order (load_in taken).know)) h (mail_in taken) (load_in taken) step.input low refl step.may (starts_come words (mail_in taken) (comes_from words s own taken step.input h step.so step.may))
           (no_tell words s own taken step.input step.so) (no_query words s own taken step.input step.so);
       comes = brings objects s h step.input (mail_in taken) (load_in taken) step.may;
       is_rule = refl;

@@ -10,10 +10,8 @@ use Rattle.cam_event.specs.declared.Event.{Event}
 use Rattle.cam_event.specs.declared.Letter.{Letter}
 use Rattle.cam_event.specs.declared.LetterId.{LetterId}
 use Rattle.cam_event.specs.declared.Sent.{Sent}
-use Rattle.cam_event.specs.declared.Body.{Body}
-use Rattle.cam_event.specs.declared.Body.TheVariants as bodies
 use Rattle.cam_event.specs.History.{count}
-use Rattle.cam_event.specs.Inputs.{Input, Begins, Requests, Receives, Tells, Queries, Restarts, Mail, decider}
+use Rattle.cam_event.specs.Inputs.{Input, Begins, Requests, Receives, Tells, Queries, Restarts, Mail}
 use Rattle.cam_event.specs.Loads.{Load, no_load}
 use Rattle.cam_event.specs.ByKnowledge.{node_step}
 use Rattle.cam_event.specs.Carried.{deeds_of}
@@ -25,6 +23,7 @@ use Rattle.cam_gen.specs.Storms.{Words, objects_of, tops_of, copies_of, restarts
 use Rattle.cam_storm.specs.Events.{Copied}
 use Rattle.cam_storm.specs.Events.{Stepped}
 use Rattle.cam_storm.specs.Runs.{received, is_begin, is_restart}
+use Rattle.cam_storm.specs.Names.{IsOfStorm}
 use Rattle.cam_storm.specs.Own.{event_in, own_sent, sight_at, OwnDrives}
 
 -- the history of a seat of the journal: its events, each with its letters and what it received
@@ -102,22 +101,17 @@ abbrev pub IsLeft : ℕ → Option (Taken Copied) → Type 0
 IsLeft times None = ⊥
 IsLeft times (Some sent) = times < sent.letter.copies
 
--- The start of a child comes from the node that decides it.
-abbrev pub IsFrom : ℕ → Body → Type 0
-IsFrom from (bodies.Start b counts) = decider b ≡ from
-IsFrom from _ = Unit {0}
+abbrev pub ComesFrom : Words → Option Mail → Type 0
+ComesFrom words None = Unit {0}
+ComesFrom words (Some mail) = IsOfStorm words mail.from mail.body
 
-abbrev pub ComesFrom : Option Mail → Type 0
-ComesFrom None = Unit {0}
-ComesFrom (Some mail) = IsFrom mail.from mail.body
-
--- What a storm puts to a node: a letter no more often than its copies, and of an action's requests
--- the one that it has.
+-- What a storm puts to a node: a letter of the storm no more often than its copies, and of an
+-- action's requests the one that it has.
 abbrev pub IsPut : Words → ℕ → List Received → Option (Taken Copied) → Input → Type 0
 IsPut words s history taken (Begins m) = Unit {0}
 IsPut words s history taken (Requests r) = OwnDrives words s history r.action r.want
 IsPut words s history taken (Receives letter) =
-    IsLeft (received (map event_in history) letter) taken × ComesFrom (mail_in taken)
+    IsLeft (received (map event_in history) letter) taken × ComesFrom words (mail_in taken)
 IsPut words s history taken (Tells m to) = ⊥
 IsPut words s history taken (Queries m f) = ⊥
 IsPut words s history taken (Restarts m) = Unit {0}

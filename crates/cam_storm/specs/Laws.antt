@@ -24,8 +24,9 @@ use Rattle.cam_gen.specs.Storms.{Words, objects_of, tops_of}
 use Rattle.cam_storm.specs.Events.{Copied}
 use Rattle.cam_storm.specs.Events.{Stepped}
 use Rattle.cam_storm.specs.Runs.{received, copies, Drives, StormRun, Settled}
+use Rattle.cam_storm.specs.Names.{IsOfStorm, Near}
 use Rattle.cam_storm.specs.Own.{event_in, OwnRequest}
-use Rattle.cam_storm.specs.Lawful.{SeatHistory, names, sends, goes_to, letter_mail, letter_load, IsFrom, IsStormHistory, lawful, own_history}
+use Rattle.cam_storm.specs.Lawful.{SeatHistory, names, sends, goes_to, letter_mail, letter_load, IsStormHistory, lawful, own_history}
 use Rattle.cam_storm.specs.Core.{Cell, IsReplay, is_idle, IsAnswer, Answers}
 
 -- the seats of the nodes, and what is gathered from them: the events with their numbers
@@ -79,8 +80,9 @@ RequestsMayCome =
     → (refusal (sight (objects_of words) t (home_node a) None) a want ≡ None)
     × IsWant (objects_of words) want
 
--- A letter of a lawful event may be handed to the node to which it goes: it is for that node, comes
--- from the node that it names, and knows each count on which it or one of its commits depends.
+-- A letter of a lawful event may be handed to the node to which it goes, which is one of the four:
+-- it is for that node, knows each count on which it or one of its commits depends, and speaks of the
+-- storm's actions and nodes alone.
 abbrev pub LettersMayCome : Type 0
 LettersMayCome =
     (words : Words) (s : ℕ) (history : SeatHistory) (taken : Option (Taken Copied))
@@ -88,7 +90,8 @@ LettersMayCome =
     → lawful words s history taken e
     → slice_get (sends e) place ≡ Some c
     → IsLetter (objects_of words) (goes_to c) (letter_mail c.letter) (letter_load c.letter)
-    × IsFrom c.letter.from c.letter.body
+    × Near (goes_to c)
+    × IsOfStorm words c.letter.from c.letter.body
 
 -- In a run of a storm each letter goes to one of the four nodes.
 abbrev pub LettersStayInside : Type 0

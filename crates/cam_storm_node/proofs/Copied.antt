@@ -1,8 +1,8 @@
 -- The letters that a node sends, with the copies that they draw, are those of its event.
-use Rattle.std.proofs.Common.{◌≡◌, ℕ, ◌+◌, ◌≤◌, List, [], ◌∷◌, map, refl, sym, ap, ◌∙◌, arith}
-use Rattle.std.specs.List.{AllByRecursion}
+use Rattle.std.proofs.Common.{◌≡◌, inl, inr, ℕ, ◌+◌, ◌≤◌, List, [], ◌∷◌, map, refl, sym, ap, ◌∙◌, arith}
 use Rattle.cam_event.specs.declared.Sent.{Sent}
 use Rattle.cam_event.specs.History.{count}
+use Rattle.cam_event.proofs.Members.{In}
 use Rattle.cam_event.specs.Carried.{deeds_of}
 use Rattle.cam_event.specs.Loads.{load_to}
 use Rattle.cam_event.specs.ByDeltas.{Received, as_carried, known, load_for}
@@ -10,8 +10,9 @@ use Rattle.cam_node.specs.Calls.{letter_as, letters_of}
 use Rattle.cam_node.specs.Represents.{Node, Represents}
 use Rattle.cam_node.proofs.Learnt.{loads_go_on}
 use Rattle.cam_gen.specs.Storms.{Words, objects_of, copies_of}
+use Rattle.cam_storm.specs.Names.{Near}
 use Rattle.cam_storm.specs.Lawful.{IsCopied, AreCopied}
-use Rattle.cam_storm_node.specs.Copying.{copied_from, IsInside}
+use Rattle.cam_storm_node.specs.Copying.{copied_from}
 
 module _ (words : Words) (s : ℕ) (own : List Received) (node : Node) (is : node.number ≡ s)
     (rep : Represents (objects_of words) own node) where
@@ -25,8 +26,7 @@ module _ (words : Words) (s : ℕ) (own : List Received) (node : Node) (is : nod
       ∙ ap (λ ps. load_to s (known (objects_of words) own) ps sent.to) rep.places
       ∙ sym (loads_go_on (objects_of words) s sent.to own low high)
 
-  one : (number : ℕ) (sent : Sent)
-      → IsInside (letter_as node.know node.places node.number node.count sent)
+  one : (number : ℕ) (sent : Sent) → Near sent.to
       → IsCopied words s own number sent
       (record {
         letter = letter_as node.know node.places node.number node.count sent;
@@ -45,8 +45,10 @@ module _ (words : Words) (s : ℕ) (own : List Received) (node : Node) (is : nod
 
   -- THE LEMMA
   pub are_copied : (number : ℕ) (sents : List Sent)
-      → AllByRecursion IsInside (letters_of node sents)
+      → ((sent : Sent) → In sent sents → Near sent.to)
       → AreCopied words s own number sents (copied_from words s number (letters_of node sents))
   are_copied number [] inside = tt
-  are_copied number (sent ∷ more) inside =
-      (one number sent inside.0, are_copied (number + 1) more inside.1)
+  are_copied number (sent ∷ more) inside = (
+    one number sent (inside sent (inl refl)),
+    are_copied (number + 1) more (λ m i. inside m (inr i)),
+  )

@@ -1,15 +1,12 @@
 -- Letters draw their copies one after another.
-use Rattle.std.proofs.Common.{◌≡◌, ◌&&◌, true, ◌≤◌, inr, inl, ℕ, ◌+◌, List, [], ◌∷◌, ◌++◌, length, sym, ap, ◌∙◌, subst, append-nil, append_assoc, arith}
-use Rattle.std.specs.Prelude.{nat_le}
-use Rattle.std.proofs.lemmas.Bool.{true≢false, and_parts}
-use Rattle.std.proofs.lemmas.Bool.Decides.{leb_tells}
+use Rattle.std.proofs.Common.{◌≡◌, ℕ, ◌+◌, List, [], ◌∷◌, ◌++◌, length, sym, ap, ◌∙◌, subst, append-nil, append_assoc, arith}
 use Rattle.std.proofs.lemmas.List.{length-append}
 use Rattle.cam_event.specs.declared.Letter.{Letter}
 use Rattle.cam_gen.specs.declared.copies.Copies.{Copies}
 use Rattle.cam_gen.specs.StormDraws.{AreAt}
 use Rattle.cam_gen.specs.Storms.{Words, copies_of}
 use Rattle.cam_storm.specs.Events.{Copied}
-use Rattle.cam_storm_node.specs.Copying.{IsInside, copied_from}
+use Rattle.cam_storm_node.specs.Copying.{copied_from}
 
 pub length_more : {X : Type 0} (xs : List X) (x : X) → length (xs ++ x ∷ []) ≡ length xs + 1
 length_more xs x = length-append xs (x ∷ [])
@@ -19,19 +16,6 @@ plus_zero n = omega arith
 
 plus_one : (n m : ℕ) → n + (m + 1) ≡ n + m + 1
 plus_one n m = omega arith
-
-le_of : (a b : ℕ) → nat_le a b ≡ true → a ≤ b
-le_of a b h = elim (leb_tells a b) [
-  | inl l ↦ l.1
-  | inr r ↦ absurd (true≢false (sym h ∙ r.0))
-]
-
--- a letter that was found to go to one of the four nodes
-pub inside_of : (letter : Letter) → true ≡ (nat_le 1 letter.to && nat_le letter.to 4)
-    → IsInside letter
-inside_of letter is =
-    let parts = and_parts (nat_le 1 letter.to) (nat_le letter.to 4) (sym is) in
-    (le_of 1 letter.to parts.0, le_of letter.to 4 parts.1)
 
 module _ (words : Words) (s number : ℕ) where
   -- none has drawn yet

@@ -4,7 +4,6 @@ pub mod Counted
 pub mod Wanted
 pub mod Running
 pub mod Requests
-pub mod Numbers
 pub mod Puts
 pub mod Requested
 pub mod Restarted
@@ -13,6 +12,7 @@ pub mod Took
 pub mod TookInput
 pub mod Working
 pub mod Played
+pub mod PutTaken
 pub mod Stepped
 pub mod Steps
 pub mod Handed

@@ -33,7 +33,7 @@ use Rattle.cam_gen.specs.Storms.{Words, numbers, objects_of, register_at}
 use Rattle.cam_storm.specs.Lawful.{letter_load, letter_mail}
 use Rattle.cam_storm.specs.Own.{OwnRequest}
 use Rattle.cam_storm_node.specs.Taking.{IsAllowed}
-use Rattle.cam_storm_node.proofs.Numbers.{own_number}
+use Rattle.cam_storm.proofs.Numbers.{own_number}
 use Rattle.cam_storm_node.proofs.Running.{free_runs}
 
 -- a storm has 64 objects at most

@@ -1,5 +1,5 @@
 -- Whether an action has a request, by what a storm node keeps of it.
-use Rattle.std.proofs.Common.{◌≡◌, ℕ, true, false, List, Some, None, sym, ap, ◌∙◌, subst}
+use Rattle.std.proofs.Common.{◌≡◌, ℕ, ◌≤◌, true, false, List, Some, None, sym, ap, ◌∙◌, subst}
 use Rattle.std.specs.BTreeMap.{get}
 use Rattle.std.specs.BTreeSet.{contains}
 use Rattle.cam_names.specs.declared.name.Name.{Name}
@@ -12,13 +12,14 @@ use Rattle.cam_node.specs.Halting.{IsThrough}
 use Rattle.cam_body.specs.declared.Next.{Next}
 use Rattle.cam_body.specs.declared.Next.TheVariants as nexts
 use Rattle.cam_body.specs.Work.{next as next_of_body}
-use Rattle.cam_gen.specs.Storms.{Words, body_of, objects_of}
+use Rattle.cam_gen.specs.Storms.{Words, action_number, body_of, objects_of}
 use Rattle.cam_storm.specs.Own.{OwnRequest, own_view, sight_at}
 use Rattle.cam_storm_node.specs.declared.works.Work.{Work}
 use Rattle.cam_storm_node.specs.Works.{IsWanted, view_of}
 use Rattle.cam_storm_node.specs.Playing.{StormNodeFields}
 use Rattle.cam_storm_node.specs.Following.{Knows}
 use Rattle.cam_storm_node.proofs.Played.{named}
+use Rattle.cam_storm_node.proofs.Running.{free_runs}
 use Rattle.cam_storm_node.proofs.Requests.{own_request, same_want, stopped_has_none}
 
 wanted_is : (n : Next) (w : Want) → IsWanted n (Some w) → n ≡ nexts.Request w
@@ -32,23 +33,30 @@ none_is_some x e = cc
 module _ (words : Words) (s : ℕ) (own : List Received) (a : Name) (work : Work)
     (storm_node : StormNodeFields) (knows : Knows words s own storm_node)
     (found : get name_cmp storm_node.works.works a ≡ Some work) where
-  next_is : home_node a ≡ s
+  next_is : home_node a ≡ s → action_number a ≤ 64
       → next_of_body work.body work.view ≡ next_of_body (body_of words a) (own_view own a)
-  next_is home =
+  next_is home few =
       let view : work.view ≡ own_view own a =
       sym (ap view_of found) ∙ knows.seen.views a (named s a home knows.low) in
-      λ i. next_of_body (knows.seen.bodies a work found i) (view i)
+      λ i. next_of_body (knows.seen.bodies a work found few i) (view i)
 
   asks : (w : Want) → IsWanted (next_of_body work.body work.view) (Some w) → home_node a ≡ s
+      → action_number a ≤ 64
       → next_of_body (body_of words a) (own_view own a) ≡ nexts.Request w
-  asks w is home = sym (next_is home) ∙ wanted_is (next_of_body work.body work.view) w is
+  asks w is home few =
+      sym (next_is home few) ∙ wanted_is (next_of_body work.body work.view) w is
+
+  -- nothing stands against a request of an action that was created alone
+  few : (want : Want) → refusal (sight_at words s own) a want ≡ None → action_number a ≤ 64
+  few want allowed = knows.few a (free_runs words s own a want allowed).is_created
 
   -- it asks for nothing
   pub none_wanted : IsWanted (next_of_body work.body work.view) None → (want : Want)
       → OwnRequest words s own a want → ⊥
   none_wanted is want request =
       none_is_some want
-      (subst (λ (n : Next). IsWanted n None) (next_is request.drives.here ∙ request.drives.next) is)
+      (subst (λ (n : Next). IsWanted n None)
+      (next_is request.drives.here (few want request.allowed) ∙ request.drives.next) is)
 
   -- it was stopped
   pub stopped_here : contains name_cmp storm_node.works.stopped a ≡ true → (want : Want)
@@ -62,7 +70,9 @@ module _ (words : Words) (s : ℕ) (own : List Received) (a : Name) (work : Work
 
   module _ (w : Want) (is : IsWanted (next_of_body work.body work.view) (Some w)) where
     same : (want : Want) → OwnRequest words s own a want → want ≡ w
-    same want request = same_want words s own a w want (asks w is request.drives.here) request
+    same want request =
+        same_want words s own a w want
+        (asks w is request.drives.here (few want request.allowed)) request
 
     -- what it asks for is not in range, or something stands against it
     pub out_of_range : (IsWant (objects_of words) w → ⊥) → (want : Want)
@@ -83,4 +93,4 @@ module _ (words : Words) (s : ℕ) (own : List Received) (a : Name) (work : Work
     has_it home free fits allowed =
         own_request words s own a w
         (subst (λ (n : ℕ). IsThrough (objects_of words) n own) knows.number knows.node.through) home
-        (sym (knows.seen.stopped a) ∙ free) (asks w is home) allowed fits
+        (sym (knows.seen.stopped a) ∙ free) (asks w is home (few w allowed)) allowed fits

@@ -2,7 +2,6 @@
 -- the item and may come next.
 use Rattle.std.proofs.Common.{◌≡◌, inr, ℕ, ℤ, ◌+◌, false, List, [], ◌∷◌, ◌++◌, map, length, Option, sym, ap, ◌∙◌, subst}
 use Rattle.std.specs.Prelude.{reverse, IfSome, Ok}
-use Rattle.std.specs.List.{AllByRecursion}
 use Rattle.std.proofs.lemmas.List.{reverse-append, length-map}
 use Rattle.cam_event.specs.declared.Letter.{Letter as EventLetter}
 use Rattle.cam_event.specs.ByDeltas.{Received}
@@ -20,15 +19,16 @@ use Rattle.cam_storm.specs.Own.{event_in, own_sent, finish_value}
 use Rattle.cam_storm.specs.Core.{Answers, Cell, Keeps, used_by}
 use Rattle.cam_storm.proofs.Answering.{answers_lawful}
 use Rattle.cam_storm.proofs.Idle.{keeps_of}
-use Rattle.cam_storm_node.specs.Copying.{copied_from, IsInside}
+use Rattle.cam_storm_node.specs.Copying.{copied_from}
 use Rattle.cam_storm_node.specs.Playing.{StormNodeFields, IsPlaying, Runs, cell_of, is_idle_by, is_over}
 use Rattle.cam_storm_node.proofs.Copied.{are_copied}
 use Rattle.cam_storm_node.specs.Receipts.{AreReceipts}
 use Rattle.cam_storm_node.specs.Works.{HaveSeen}
 use Rattle.cam_gen.specs.StormDraws.{AreAt}
 use Rattle.cam_storm_node.specs.Taking.{HasTaken, OnlyNode}
-use Rattle.cam_storm_node.specs.Following.{HasFollowed, MayFollow}
+use Rattle.cam_storm_node.specs.Following.{AreOfFew, HasFollowed, MayFollow}
 use Rattle.cam_storm_node.specs.Stepping.{HasStepped}
+use Rattle.cam_storm_node.proofs.PutTaken.{few_more, goes_near}
 use Rattle.cam_storm_node.proofs.Played.{one_more, idle_same, busy_runs, runs_of, named}
 
 module _ (words : Words) (s : ℕ) (history : SeatHistory) (item : CoreInput Copied)
@@ -74,6 +74,11 @@ module _ (words : Words) (s : ℕ) (history : SeatHistory) (item : CoreInput Cop
           copies = subst (AreAt words s plays.sent) (sym only.copies) runs.copies;
           seen = subst (HaveSeen words own) (sym only.works) runs.seen;
           receipts = subst (AreReceipts (map event_in own)) (sym only.receipts) keeps.received;
+          few =
+              subst (λ (from : Option (Taken Copied)). AreOfFew (carried e from ∷ own))
+              took.is_from
+              (few_more words s history item old plays busy sent e.event letters finish mid.node
+              mid.entries took);
         }
 
   module _ (took : HasTaken words s own item e.event letters finish mid.node mid.entries)
@@ -92,7 +97,8 @@ module _ (words : Words) (s : ℕ) (history : SeatHistory) (item : CoreInput Cop
         ∙ λ i. copied_from words s (keeps.sent i) (took.letters_are i)))
         (are_copied words s (c ∷ own) mid.node took.number (stands took).represents (own_sent own)
         e.event.sent
-        (subst (AllByRecursion IsInside) took.letters_are followed.inside))
+        (goes_near words s history item old plays busy sent e.event letters finish mid.node
+        mid.entries took))
 
     pub answer : Answers words s history item e
     answer = record {

@@ -1,7 +1,7 @@
 -- What one more step of a view does to the table of works.
 use Rattle.std.proofs.Common.{◌≡◌, inl, inr, ℕ, ℤ, ◌≤◌, Bool, true, false, ◌&&◌, ◌||◌}
 use Rattle.std.proofs.Common.{if◌then◌else◌, cond, [], ◌∷◌, ◌++◌, length, eqb, eq-eqb}
-use Rattle.std.proofs.Common.{Option, Some, None, refl, sym, ap, ◌∙◌, append-nil}
+use Rattle.std.proofs.Common.{Option, Some, None, refl, sym, ap, ◌∙◌, subst, append-nil}
 use Rattle.std.specs.Ordering.{is_eq}
 use Rattle.std.specs.BTreeMap.{BTreeMap, get}
 use Rattle.std.proofs.lemmas.Bool.{and_left, and_right, cases_Bool, ne_eqb}
@@ -11,7 +11,7 @@ use Rattle.cam_names.proofs.Children.{is_some_name, child_of}
 use Rattle.cam_names.proofs.Names.{name_eq_same, name_ties_back}
 use Rattle.cam_event.specs.declared.ViewStep.{ViewStep}
 use Rattle.cam_event.specs.declared.ViewStep.TheVariants as steps
-use Rattle.cam_gen.specs.Storms.{Words, body_of}
+use Rattle.cam_gen.specs.Storms.{Words, action_number, body_of}
 use Rattle.cam_storm_node.specs.declared.works.Work.{Work}
 use Rattle.cam_storm_node.specs.Works.{HaveBodies, child_end, steps_for, view_in, view_of}
 
@@ -46,14 +46,17 @@ module _ (old gone new : BTreeMap Name Work) (b : Name) (work : Work)
   same_work : {w v : Work} → Some w ≡ Some v → w ≡ v
   same_work e = cc
 
-  pub bodies_put : (words : Words) → work.body ≡ body_of words b → HaveBodies words old
-      → HaveBodies words new
-  bodies_put words body have a w at =
+  pub bodies_put : (words : Words) → (action_number b ≤ 64 → work.body ≡ body_of words b)
+      → HaveBodies words old → HaveBodies words new
+  bodies_put words body have a w at few =
       elim (cases_Bool (name_eq a b)) [
         | inl same ↦
             let is : w ≡ work = same_work (sym at ∙ there a same) in
-            ap (λ (x : Work). x.body) is ∙ body ∙ ap (body_of words) (sym (name_eq_same a b same))
-        | inr other ↦ have a w (sym (elsewhere a other) ∙ at)
+            let named = name_eq_same a b same in
+            ap (λ (x : Work). x.body) is
+            ∙ body (subst (λ (n : Name). action_number n ≤ 64) named few)
+            ∙ ap (body_of words) (sym named)
+        | inr other ↦ have a w (sym (elsewhere a other) ∙ at) few
       ]
 
 -- the end of a child is a step of just its parent's view

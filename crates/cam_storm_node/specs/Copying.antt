@@ -1,5 +1,5 @@
 -- Letters with the copies that they draw, one after another.
-use Rattle.std.specs.Prelude.{ℕ, ◌+◌, ◌≤◌, List, [], ◌∷◌}
+use Rattle.std.specs.Prelude.{ℕ, ◌+◌, List, [], ◌∷◌}
 use Rattle.cam_event.specs.declared.Letter.{Letter}
 use Rattle.cam_gen.specs.Storms.{Words, copies_of}
 use Rattle.cam_storm.specs.Events.{Copied}
@@ -10,7 +10,3 @@ copied_from words s number [] = []
 copied_from words s number (letter ∷ more) =
     record { letter = letter; copies = copies_of words s number }
     ∷ copied_from words s (number + 1) more
-
--- a letter to one of the four nodes
-abbrev pub IsInside : Letter → Type 0
-IsInside letter = (1 ≤ letter.to) × (letter.to ≤ 4)

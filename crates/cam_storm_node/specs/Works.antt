@@ -15,7 +15,7 @@ use Rattle.cam_body.specs.declared.Next.TheVariants as nexts
 use Rattle.cam_event.specs.declared.ViewStep.TheVariants as steps
 use Rattle.cam_event.specs.ByDeltas.{Received}
 use Rattle.cam_runs.specs.Playing.{is_stop_of}
-use Rattle.cam_gen.specs.Storms.{Words, body_of}
+use Rattle.cam_gen.specs.Storms.{Words, action_number, body_of}
 use Rattle.cam_storm.specs.Own.{event_in, own_view}
 use Rattle.cam_storm_node.specs.declared.works.Work.{Work}
 use Rattle.cam_storm_node.specs.declared.works.Works.{Works}
@@ -38,10 +38,11 @@ view_of (Some work) = work.view
 abbrev pub view_in : BTreeMap Name Work → Name → List ViewStep
 view_in works a = view_of (get name_cmp works a)
 
--- each has the body that its name gives
+-- each has the body that its name gives, if its top action is one of the first 64
 abbrev pub HaveBodies : Words → BTreeMap Name Work → Type 0
 HaveBodies words works =
-    (a : Name) (work : Work) → get name_cmp works a ≡ Some work → work.body ≡ body_of words a
+    (a : Name) (work : Work) → get name_cmp works a ≡ Some work → action_number a ≤ 64
+    → work.body ≡ body_of words a
 
 -- what the actions of a node have seen in its own events, and whether one stopped them there
 pub record HaveSeen (words : Words) (own : List Received) (works : Works) : Type 0 where

@@ -1,9 +1,8 @@
 //! The letters of an event, with their copies; and equal letters.
-ghost use Rattle.std.specs.Prelude.{◌≡◌, ◌+◌, ◌&&◌, ℕ, IfOk, OnOk, length, nat_le};
-ghost use Rattle.std.specs.List.{AllByRecursion};
+ghost use Rattle.std.specs.Prelude.{◌≡◌, ◌+◌, ℕ, IfOk, OnOk, length};
 ghost use Rattle.cam_gen.specs.Storms.{Words};
 ghost use Rattle.cam_gen.specs.StormDraws.{AreAt};
-ghost use Rattle.cam_storm_node.specs.Copying.{IsInside, copied_from};
+ghost use Rattle.cam_storm_node.specs.Copying.{copied_from};
 
 use cam_base::{NoMemory, Sequence};
 use cam_event::Letter;
@@ -37,15 +36,7 @@ pub(crate) fn copy_copied(copied: &Copied) -> Result<Copied, NoMemory>
     })
 }
 
-/// Whether a letter goes to one of the four nodes of a storm.
-fn goes_inside(letter: &Letter) -> bool
-    ensures { result ≡ (nat_le 1 letter.now.to && nat_le letter.now.to 4) }
-{
-    1 <= letter.to && letter.to <= 4
-}
-
-/// The letters with the copies that they draw, one after another. Each letter of a storm goes to
-/// one of the four nodes; if one did not, this would fail as if memory ran out.
+/// The letters with the copies that they draw, one after another.
 pub(crate) fn with_copies(
     alloc: Global,
     copies: &mut Copies,
@@ -56,13 +47,9 @@ pub(crate) fn with_copies(
     ensures copies { OnOk result ((words : Words) (s number : ℕ)
         → AreAt words s number copies.old
         → AreAt words s (number + length letters) copies.new) }
-    ensures inside { OnOk result (AllByRecursion IsInside letters) }
 {
     let mut drawn = Sequence::new(alloc);
     for letter in letters.into_vec() {
-        if !goes_inside(&letter) {
-            return Err(NoMemory);
-        }
         drawn.push(Copied {
             letter,
             copies: copies.next(),

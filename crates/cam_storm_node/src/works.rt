@@ -8,7 +8,7 @@ ghost use Rattle.cam_event.specs.Inputs.{Mail};
 ghost use Rattle.cam_event.specs.Loads.{Load};
 ghost use Rattle.cam_event.specs.ByDeltas.{Received};
 ghost use Rattle.cam_body.specs.Work.{next};
-ghost use Rattle.cam_gen.specs.Storms.{Words, body_of};
+ghost use Rattle.cam_gen.specs.Storms.{Words, action_number, body_of};
 ghost use Rattle.cam_runs.specs.Playing.{is_stop_of};
 ghost use Rattle.cam_storm.specs.Own.{finish_value, own_step, value_on};
 ghost use Rattle.cam_storm_node.specs.Works.{HaveBodies, HaveSeen, IsTakenOut, IsWanted, child_end, steps_for, view_in};
@@ -111,7 +111,8 @@ fn step_given(deed: &Deed, finish: Option<i64>) -> Option<(Name, ViewStep)>
 
 /// The work of an action before its first step.
 fn unbegun(alloc: Global, storm: &Storm, action: &Name) -> Result<Work, NoMemory>
-    ensures body { IfOk result (λ work. work.body ≡ body_of storm.now action.now) }
+    ensures body { IfOk result (λ work. action_number action.now ≤ 64
+        → work.body ≡ body_of storm.now action.now) }
     ensures view { IfOk result (λ work. work.view ≡ []) }
 {
     Ok(Work {
@@ -130,7 +131,8 @@ fn take_out(
     ensures out { IsTakenOut works.old works.new action.now }
     ensures view { IfOk result (λ work. work.view ≡ view_in works.old action.now) }
     ensures body { HaveBodies storm.now works.old
-        → IfOk result (λ work. work.body ≡ body_of storm.now action.now) }
+        → IfOk result (λ work. action_number action.now ≤ 64
+        → work.body ≡ body_of storm.now action.now) }
 {
     match works.remove(action) {
         Some(work) => Ok(work),

@@ -1,12 +1,11 @@
 -- One letter more has drawn its copies.
 use Rattle.std.proofs.Common.{◌≡◌, ◌+◌, ◌++◌, List, length, sym, ap, ◌∙◌, subst, arith}
-use Rattle.std.specs.List.{AllByRecursion}
 use Rattle.std.specs.Vec.Iter.{into_iter_items}
 use Rattle.cam_event.specs.declared.Letter.{Letter}
 use Rattle.cam_gen.specs.StormDraws.{AreAt}
 use Rattle.cam_storm.specs.Events.{Copied}
-use Rattle.cam_storm_node.specs.Copying.{IsInside, copied_from}
-use Rattle.cam_storm_node.proofs.Drawn.{at_more, drawn_more, inside_of, length_more}
+use Rattle.cam_storm_node.specs.Copying.{copied_from}
+use Rattle.cam_storm_node.proofs.Drawn.{at_more, drawn_more, length_more}
 use Rattle.cam_storm_node.proofs.copying.with_copies.Goals as goal
 
 pub loop-letter-preserved : goal.loop-letter-preserved
@@ -46,7 +45,4 @@ loop-letter-preserved c =
       count =
           let count = was.count in
           omega (arith, long, count, short);
-      inside = λ all.
-          was.inside (subst (AllByRecursion IsInside) (sym step.0)
-          (inside_of letter c.if-not-goes_inside.ensures, all));
     }

@@ -1,4 +1,4 @@
-use Rattle.std.proofs.Common.{◌≡◌, ◌++◌, ◌∷◌, [], ◌+◌, List, ℕ, map, arith, rules, sym, ap, ◌∙◌}
+use Rattle.std.proofs.Common.{◌≡◌, ◌++◌, ◌+◌, ◌∙◌}
 use Rattle.std.specs.Prelude.{codes, decimal}
 use Rattle.cam_gen.proofs.StormNumbers.{mapped_more}
 use Rattle.cam_gen.proofs.storm.Storm.labels.Goals as goal

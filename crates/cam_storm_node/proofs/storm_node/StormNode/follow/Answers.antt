@@ -13,7 +13,6 @@ returns-clause-followed g c words s sent own k is may =
     HaveSeen words (record { event = e; mail = k.mail; load = k.load } ∷ own) c.take_in-2.new.self)
     (sym is) (c.in_ok-take_in-2.ensures words own k.mail k.load may.finish_is may.seen) in record {
       drawn_are = c.in_ok-letters.ensures.copied words s sent may.copies;
-      inside = c.in_ok-letters.ensures.inside;
       copies = c.in_ok-letters.ensures.copies words s sent may.copies;
       seen = seen;
       receipts =
@@ -25,6 +24,7 @@ returns-clause-followed g c words s sent own k is may =
         number = may.number;
         node = may.node;
         seen = seen;
+        few = may.few;
       });
       next = c.least_request-self.ensures.request words s (k ∷ own) (record {
         low = may.low;
@@ -32,6 +32,7 @@ returns-clause-followed g c words s sent own k is may =
         number = may.number;
         node = may.node;
         seen = seen;
+        few = may.few;
       });
       events = refl;
       node = refl;
