@@ -126,7 +126,8 @@ class Picture {
       const words = mark.querySelector(".words");
       const line = Number(mark.querySelector(".line").textContent);
       const node = Number(title.match(/ at node (\d+)/)[1]);
-      return { mark, number: Number(mark.dataset.event), node, line, title, words: words.textContent, action: words.dataset.action, sent: [], received: null };
+      const { action } = words.dataset;
+      return { mark, number: Number(mark.dataset.event), node, line, title, words: words.textContent, action, sent: [], received: null };
     });
     // (the words of a letter stand in its element, or in one of their own)
     const words = Map.groupBy(this.svg.querySelectorAll("[data-letter] .word"), (word) => word.closest("[data-letter]").dataset.letter);
@@ -259,8 +260,12 @@ function showNothing(of, reason) {
   remember();
 }
 
+/** What is said of a run in short; of a script that is refused what stands below the caret. */
 function summary() {
-  if (run.place) return run.paragraphs.flatMap((paragraph) => paragraph.slice(paragraph.findIndex((line) => /^ *\^$/.test(line)) + 1)).join(" ").trim() || run.report;
+  if (run.place) {
+    const lines = run.paragraphs.flat();
+    return lines.slice(lines.findIndex((line) => /^ *\^$/.test(line)) + 1).join(" ").trim() || run.report;
+  }
   if (run.isTimed) return "A script by time: it has a report, and no picture.";
   if (!plain) return run.drawn.said || run.drawn.text;
   const letters = new Set(plain.letters.map((letter) => letter.number));
@@ -285,8 +290,9 @@ async function showTab() {
   $("text-panel").setAttribute("aria-labelledby", `tab-${tab}`);
   if (tab === "table") $("text-panel").replaceChildren(plain ? tableOf(plain) : "There is no picture.");
   else if (tab !== "picture") {
-    const answer = await tabs[tab].text();
-    $("text-panel").replaceChildren(make("pre", {}, linked(answer.text || answer.said)));
+    const [of, name] = [run, tab];
+    const answer = await tabs[name].text();
+    if (run === of && tab === name) $("text-panel").replaceChildren(make("pre", {}, linked(answer.text || answer.said)));
   }
 }
 
@@ -379,7 +385,8 @@ const asWritten = (command, answer) => [make("p", { class: "fine" }, make("code"
 
 /** An arrow or a stub, as a line of a list. */
 function letterItem(letter) {
-  const way = letter.to === null ? [" from ", button(`event ${letter.from}`, { event: letter.from })] : [": ", button(`event ${letter.from}`, { event: letter.from }), " to ", button(`event ${letter.to}`, { event: letter.to })];
+  const event = (number) => button(`event ${number}`, { event: number });
+  const way = letter.to === null ? [" from ", event(letter.from)] : [": ", event(letter.from), " to ", event(letter.to)];
   return make("li", {}, button(letter.label, { letter: letter.number }), way);
 }
 
@@ -387,9 +394,10 @@ function letterItem(letter) {
 const picks = {
   async run() {
     if (!plain) return { side: [make("p", {}, run.about().join(" "))] };
-    const actions = [...run.actions].map(([word, { paragraph }]) => make("li", {}, button(word, { action: word }), paragraph[0].slice(word.length, -1)));
-    const stops = run.stops.map((event) => make("li", {}, button(`event ${event}`, { event }), `: ${plain.events[event].words}`));
-    const marks = [...run.marks].map(([line, mark]) => make("li", {}, button(`line ${line}`, { line }), `: ${mark.replace(` ${line}`, "")}`));
+    const item = (label, pick, words) => make("li", {}, button(label, pick), words);
+    const actions = [...run.actions].map(([word, { paragraph }]) => item(word, { action: word }, paragraph[0].slice(word.length, -1)));
+    const stops = run.stops.map((event) => item(`event ${event}`, { event }, `: ${plain.events[event].words}`));
+    const marks = [...run.marks].map(([line, mark]) => item(`line ${line}`, { line }, `: ${mark.replace(` ${line}`, "")}`));
     const values = run.report.match(/^value .*$/gm) ?? [];
     const section = (name, items) => (items.length ? [title(name), make("ul", {}, items)] : []);
     return {
@@ -448,7 +456,7 @@ const picks = {
       side: [
         run.told(new RegExp(`^${word.replace(/\W/g, "\\$&")} (=|is stopped)`)).map(text),
         title("Its witness"),
-        make("p", { class: "fine" }, "A legal execution in which it is no orphan and sees the same. In the picture is lit what happened before its last step."),
+        make("p", { class: "fine" }, "A legal execution in which it is no orphan and sees the same. Lit is what happened before its last step."),
         asWritten(`camelot witness ${action.name}`, witness),
       ],
     };
@@ -456,6 +464,7 @@ const picks = {
 
   async line(number) {
     const events = plain?.eventsOf(number) ?? [];
+    const items = events.map((event) => make("li", {}, button(`event ${event.number}`, { event: event.number }), `: ${event.words}`));
     return {
       line: number,
       events: events.map((event) => event.number),
@@ -463,7 +472,7 @@ const picks = {
       side: [
         make("pre", {}, run.lines[number - 1] ?? ""),
         run.told(new RegExp(`^line ${number}\\b`)).map(text),
-        events.length ? make("ul", {}, events.map((event) => make("li", {}, button(`event ${event.number}`, { event: event.number }), `: ${event.words}`))) : make("p", {}, "No event."),
+        events.length ? make("ul", {}, items) : make("p", {}, "No event."),
       ],
     };
   },
@@ -504,7 +513,13 @@ function signPicture(look, shape) {
 
 function legend() {
   const signs = SIGNS.map(([look, shape, about]) => make("li", {}, signPicture(look, shape), about));
-  const keys = [["↓ ↑", "from event to event"], ["→ ←", "along a letter"], ["n p", "from stop to stop"], ["Enter", "the event's action"], ["Esc", "back to the whole run"]];
+  const keys = Object.entries({
+    "↓ ↑": "from event to event",
+    "→ ←": "along a letter",
+    "n p": "from stop to stop",
+    Enter: "the event's action",
+    Esc: "back to the whole run",
+  });
   return [
     title("Signs"),
     make("ul", { class: "signs" }, signs),
@@ -607,10 +622,21 @@ const lineOfCaret = () => $("script").value.slice(0, $("script").selectionStart)
 
 // ---- The address: which scene or script, what is picked, which tab --------------------------------------------------------------------------
 
+/** A text in letters that an address may have. */
+function toBase64(text) {
+  const bytes = Array.from(new TextEncoder().encode(text), (byte) => String.fromCharCode(byte));
+  return btoa(bytes.join("")).replace(/\+/g, "-").replace(/\//g, "_").replace(/=+$/, "");
+}
+
+function fromBase64(letters) {
+  const bytes = atob(letters.replace(/-/g, "+").replace(/_/g, "/"));
+  return new TextDecoder().decode(Uint8Array.from(bytes, (byte) => byte.charCodeAt(0)));
+}
+
 function remember() {
   const state = new URLSearchParams();
   if (scene) state.set("scene", scene);
-  else state.set("script", btoa(Array.from(new TextEncoder().encode($("script").value), (byte) => String.fromCharCode(byte)).join("")).replace(/\+/g, "-").replace(/\//g, "_").replace(/=+$/, ""));
+  else state.set("script", toBase64($("script").value));
   if (picked) state.set(...Object.entries(picked)[0]);
   if (tab !== "picture") state.set("tab", tab);
   history.replaceState(null, "", `#${state}`);
@@ -625,7 +651,7 @@ function recall() {
   const found = contents.scenes.find((it) => it.name === state.get("scene"));
   let script = null;
   try {
-    if (state.has("script")) script = new TextDecoder().decode(Uint8Array.from(atob(state.get("script").replace(/-/g, "+").replace(/_/g, "/")), (it) => it.charCodeAt(0)));
+    if (state.has("script")) script = fromBase64(state.get("script"));
   } catch {
     say("The address has no whole script.", true);
   }
@@ -709,7 +735,10 @@ function wire() {
   const groups = Map.groupBy(contents.scenes, (it) => it.topic);
   $("scenes").append(make("option", { value: "", hidden: true }, "a script of your own"));
   for (const [topic, scenes] of groups) {
-    const options = scenes.map((it) => make("option", { value: it.name }, it.about ? `${it.name.replace(/.*\//, "")}: ${it.about.replace(/`/g, "")}` : it.name));
+    const options = scenes.map(({ name, about }) => {
+      const label = name.replace(/.*\//, "") + (about && `: ${about.replace(/`/g, "")}`);
+      return make("option", { value: name }, label);
+    });
     $("scenes").append(make("optgroup", { label: topic }, options));
   }
   $("tabs").append(...Object.entries(tabs).map(([name, { label }]) => {
