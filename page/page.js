@@ -72,6 +72,7 @@ class Run {
     this.place = this.isRefused && !this.isTimed ? numbers(report.text) : null;
     this.paragraphs = this.isTimed ? [] : paragraphsOf(explained.text);
     this.drawn = this.isRefused ? null : drawn;
+    this.checked = !this.isRefused && this.lines.some((line) => line.startsWith("#=")) ? await this.ask("camscope", "check") : null;
     this.stops = [...this.report.matchAll(/^stop (\d+) /gm)].map((found) => Number(found[1]));
     this.marks = new Map([...this.report.matchAll(/^(refused|cut|halted) (\d+) .*$/gm)].map((found) => [Number(found[2]), found[0]]));
     for (const paragraph of this.paragraphs) {
@@ -242,7 +243,7 @@ function runScript(pick = null, said = "") {
     plain = run.drawn?.status === 0 ? new Picture(run.drawn.text) : null;
     picture = null;
     showPicture(plain);
-    say(said + summary(), Boolean(run.place));
+    say(said + summary(), Boolean(run.place || run.checked?.status));
     for (const id of ["save-report", "save-picture", "next-stop"]) $(id).disabled = id === "save-report" ? Boolean(run.place) : !plain;
     await showTab();
     if (isLast()) await choose(pick);
@@ -260,6 +261,9 @@ function showNothing(of, reason) {
   remember();
 }
 
+/** Whether the run keeps the lines `#= TEXT` of the script. */
+const expected = () => run.checked.text || run.checked.said || "All that the script expects holds.";
+
 /** What is said of a run in short; of a script that is refused what stands below the caret. */
 function summary() {
   if (run.place) {
@@ -269,7 +273,8 @@ function summary() {
   if (run.isTimed) return "A script by time: it has a report, and no picture.";
   if (!plain) return run.drawn.said || run.drawn.text;
   const letters = new Set(plain.letters.map((letter) => letter.number));
-  return `${plural(plain.events.length, "event")}, ${plural(letters.size, "letter")}, ${plural(run.stops.length, "stop")}.`;
+  const counts = `${plural(plain.events.length, "event")}, ${plural(letters.size, "letter")}, ${plural(run.stops.length, "stop")}.`;
+  return run.checked ? `${counts} ${expected()}` : counts;
 }
 
 /** Shows a picture, or what is in its place where there is none. */
@@ -403,6 +408,7 @@ const picks = {
     return {
       side: [
         run.about().length ? make("p", {}, run.about().join(" ")) : [],
+        run.checked ? [title("What the script expects"), text(expected())] : [],
         section("Orphans that were stopped", stops),
         section("Actions", actions),
         section("Lines that were refused, cut or halted", marks),
