@@ -60,17 +60,14 @@ module _ (line v w : ℕ) (old new : LinesFields) (might may : ℕ → Logged �
   pub give_up_makes : (b : Name) → action_of old.bound w ≡ Some b
       → Makes line (acts.GiveUp v w) v (wants.GiveUp b) old might
   give_up_makes b child script st is keeps next =
-      give_up_by script st line is v w b (stands_for script st old might w (Some b) keeps child)
-      next
+      give_up_by _ _ _ is _ _ _ (stands_for _ _ _ _ _ _ keeps child) next
 
   pub give_up_line : (b : Name) → action_of old.bound w ≡ Some b → (result : Result Put LineFault)
       → IsRequestLine line v (wants.GiveUp b) old might new may result
       → IsVariableLine line (acts.GiveUp v w)
       (give_up_of (action_of old.bound v) (action_of old.bound w)) old might new may result
   give_up_line b child result has =
-      subst (λ (o : Option Name). IsVariableLine line (acts.GiveUp v w)
-      (give_up_of (action_of old.bound v) o) old might new may result) (sym child)
-      (makes_line line v (wants.GiveUp b) (acts.GiveUp v w) old new might may
+      rw child (makes_line line v (wants.GiveUp b) (acts.GiveUp v w) old new might may
       (give_up_makes b child) result has)
 
   pub give_up_refused : action_of old.bound w ≡ None → (fault : LineFault)
@@ -92,14 +89,14 @@ module _ (line s to : ℕ) (old new : LinesFields) (might may : ℕ → Logged �
     act_is = acts.Tell s to;
     is_script = some.is_script;
     keeps = some.keeps;
-    is_line = tell_to some.script some.standing line some.is_script s to some.next;
+    is_line = tell_to _ _ _ some.is_script _ _ some.next;
   }
 
   pub tell_line : (result : Result Put LineFault)
       → IsTriedLine line s (inputs.Tell to) old might new may result
       → IsLineOfInput line (acts.Tell s to) (Tells s to) old might new may result
   tell_line result has script st halts later is keeps next =
-      has script st halts (acts.Tell s to) later is keeps next (tell_to script st line is s to next)
+      has script st halts (acts.Tell s to) later is keeps next (tell_to _ _ _ is _ _ next)
 
 -- `query` by what its variable stands for
 module _ (line s v : ℕ) (old new : LinesFields) (might may : ℕ → Logged → Type 0) where
@@ -113,8 +110,8 @@ module _ (line s v : ℕ) (old new : LinesFields) (might may : ℕ → Logged �
     is_script = some.is_script;
     keeps = some.keeps;
     is_line =
-        query_to some.script some.standing line some.is_script s v a
-        (stands_for some.script some.standing old might v (Some a) some.keeps at) some.next;
+        query_to _ _ _ some.is_script _ _ _ (stands_for _ _ _ _ _ _ some.keeps at)
+        some.next;
   }
 
   pub query_line : (a : Name) → action_of old.bound v ≡ Some a → (result : Result Put LineFault)

@@ -62,10 +62,9 @@ module _ (script : Script) (is : IsScript script) (c : Setting) (st : Standing)
 
   request_placed : (x : Name) (want : Want) → LeadsPlaced (take_request d st x want)
   request_placed x want =
-      unless_placed
-      (halted_or st (home_node x) (refusal (home_sight d.reading st.running x) x want))
-      (led_asking st (requested d st x want))
-      (put_placed script.nodes d st (Requests (record { action = x; want = want })) placed)
+      unless_placed (halted_or st (home_node x) (refusal (home_sight d.reading st.running x) x
+      want)) (led_asking st (requested d st x want)) (put_placed _ d st (Requests (record { action
+      = x; want = want })) placed)
 
   asked_placed : (v : ℕ) (want : Want)
       → LeadsPlaced (of_variable (variable st.running v) (λ x. take_request d st x want))
@@ -76,11 +75,10 @@ module _ (script : Script) (is : IsScript script) (c : Setting) (st : Standing)
   begun_placed : (body : Option ℕ) (s : ℕ) → is_node script.nodes s ≡ true
       → LeadsPlaced (unless (is_halted st s) (led_creating body st (put d st (Begins s))))
   begun_placed body s holds =
-      unless_placed (is_halted st s) (led_creating body st (put d st (Begins s)))
-      (given_placed script.nodes body (created_in (made st (put d st (Begins s))))
-      (put d st (Begins s)) (put_placed script.nodes d st (Begins s) placed)
-      (λ n is_n a is_a. subst (λ (m : ℕ). (1 ≤ m) × (m ≤ script.nodes))
-      (sym (created_at script c st s a is_a)) (node_within script.nodes s holds)))
+      unless_placed (is_halted st s) (led_creating body st (put d st (Begins s))) (given_placed _
+      body (created_in (made st (put d st (Begins s)))) (put d st (Begins s)) (put_placed _ d st
+      (Begins s) placed) (λ n is_n a is_a. subst (λ (m : ℕ). (1 ≤ m) × (m ≤ script.nodes)) (sym
+      (created_at script c st _ _ is_a)) (node_within _ _ holds)))
 
   cut_placed : (k bytes : ℕ) (l : LetterId) → HasPlaced script.nodes (cut d st k bytes l)
   cut_placed k bytes l =

@@ -34,9 +34,7 @@ pub no_turns : (line : ℕ) (bodies : List (List Statement)) (works : WorksField
 no_turns line bodies works may before after stay = record {
   requests = 0;
   number = 0;
-  made =
-      made_caught_up (round_part 0 0) line bodies works works may may before after after stay
-      (none_made line bodies works may after);
+  made = made_caught_up _ _ _ _ _ _ _ _ _ _ stay (none_made _ _ _ _ _);
 }
 
 -- The turns of all actions, by their names as the workers that have caught up give them.
@@ -62,11 +60,9 @@ module _ (line : ℕ) (bodies : List (List Statement)) (old : WorksFields)
             keeps = some.keeps.runs;
             are_workers = up.0;
             placed =
-                subst (AllByRecursion (IsAtNode some.script.nodes))
-                (sym (are_names some.standing up.1))
-                (kept_all (IsAtNode some.script.nodes) (plays_on caught)
-                (in_order some.standing.running.bodies)
-                (in_order_placed some.script.nodes some.standing.running.bodies some.placed));
+                subst (AllByRecursion (IsAtNode some.script.nodes)) (sym (are_names some.standing
+                up.1)) (kept_all (IsAtNode some.script.nodes) _ _ (in_order_placed _ _
+                some.placed));
           }
 
       -- Those that do not play on are over, so the turns of all come to the same,
@@ -87,8 +83,7 @@ module _ (line : ℕ) (bodies : List (List Statement)) (old : WorksFields)
           → HaveMade all_turns line bodies old might before new may after
       all_had new may after had =
           made_as (turns_of names) all_turns line bodies old new might may before after same_turns
-          (made_caught_up (turns_of names) line bodies old new might may before caught after stay
-          had)
+          (made_caught_up _ _ _ _ _ _ _ _ _ _ stay had)
 
       -- and the first turns come to the first of all.
       abbrev first_of_all : ℕ → ℕ
@@ -120,7 +115,6 @@ module _ (line : ℕ) (bodies : List (List Statement)) (old : WorksFields)
         number = 0;
         made =
             made_as (turns_of (take had.many names)) (round_part (first_of_all had.many) 0) line
-            bodies old new might may before after (same_first had.many)
-            (made_caught_up (turns_of (take had.many names)) line bodies old new might may before
-            caught after stay had.first);
+            bodies old new might may before after (same_first had.many) (made_caught_up _ _ _ _
+            _ _ _ _ _ _ stay had.first);
       }

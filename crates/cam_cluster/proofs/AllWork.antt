@@ -35,15 +35,12 @@ pub all_work : AllWork
 all_work script st workers under caught = record {
   names = names_are workers workers.bodies.entries ∙ caught.table.names;
   each =
-      all_mapped (worker_of workers) (IsWorker st)
-      (λ (e : Name × ℕ). get name_cmp workers.bodies e.0 ≡ Some e.1)
-      (λ e there.
+      all_mapped _ (IsWorker st) (λ (e : Name × ℕ). get name_cmp workers.bodies e.0 ≡ Some e.1) (λ
+      e there.
       let given = sym (caught.table.at e.0) ∙ there in
       record {
         at = given;
-        saw = caught.seen.views.views e.0 (is_named e.0 (under.works e.0 e.1 given).named);
+        saw = caught.seen.views.views e.0 (is_named _ (under.works e.0 e.1 given).named);
         was_stopped = caught.seen.stopped e.0;
-      }) workers.bodies.entries
-      (by_places _ workers.bodies.entries
-      (All-found name_total workers.bodies caught.table.ordered));
+      }) _ (by_places _ _ (All-found name_total workers.bodies caught.table.ordered));
 }

@@ -56,16 +56,15 @@ module _ {X : Type 0} {g : CkptGhosts X} {h : LogGhosts X} (old mid : Works X g 
   made = part g h new
 
   there_now : place < length mid.nodes.items
-  there_now = there_still old mid nodes place there
+  there_now = there_still old mid nodes _ there
 
   watched : IsAfterCall (place + 1) was.failures made.failures mid.failed known
   watched =
-      watched_there (part g h) mid.nodes.items place asked node new before mid.failed known
-      there_now is_asked is_node is_before after
+      watched_there (part g h) _ _ _ _ _ _ _ _ there_now is_asked is_node is_before after
 
   pub none_before : known ≡ failures.Nothing
       → (mid.failed ≡ failures.Nothing) × (Rose was.failures made.failures → ⊥)
-  none_before = nothing_before (place + 1) was.failures made.failures mid.failed known watched
+  none_before = nothing_before _ _ _ _ _ watched
 
   pub less : HasTellingDisk made → HasTellingDisk was
   less = unfailing_less was made told
@@ -75,9 +74,8 @@ module _ {X : Type 0} {g : CkptGhosts X} {h : LogGhosts X} (old mid : Works X g 
       → (now ≡ failures.Memory) ⊎ (now ≡ known)
       → GoOn (map (part g h) old.nodes.items) old.failed (map (part g h) news) now
   disks_on news now are is =
-      memory_too (map (part g h) old.nodes.items) old.failed (map (part g h) news) known now is
-      (goes_on_in (part g h) old.nodes.items mid.nodes.items news old.failed mid.failed known place
-      node new (ap (λ v. v.items) nodes) failed there_now is_node are told later watched)
+      memory_too _ _ _ _ _ is (goes_on_in _ _ _ _ _ _ _ _ _ _ (ap (λ v. v.items)
+      nodes) failed there_now is_node are told later watched)
 
   module _ (objects : made.objects ≡ was.objects) where
     -- memory ran out, and the node runs

@@ -47,10 +47,9 @@ passed_at : (script : Script) (st : Standing) (line : ℕ) (free : Bool) (passed
     → ((a : Name) → binds_of passed ≡ Some a → IsAtNode script.nodes a)
     → AreAtNodes script.nodes (after_line st line passed).running.bound
 passed_at script st line free (Refused refusal) keeps placed new =
-    one_more script.nodes st.running.bound None placed (λ a. none a)
+    one_more script.nodes st.running.bound None placed (λ a. none _)
 passed_at script st line free (Led now binds) keeps placed new =
-    one_more script.nodes now.running.bound binds
-    (subst (AreAtNodes script.nodes) (sym keeps.1) placed) new
+    one_more _ _ _ (subst (AreAtNodes script.nodes) (sym keeps.1) placed) new
 
 pub lines_stay_at_nodes : LinesStayAtNodes
 lines_stay_at_nodes script st step halts later is under next placed =

@@ -40,7 +40,7 @@ new_node part (Ok n) own objects s same keeps number over running passes = recor
   over = over ∙ same;
   running = running;
   number = number;
-  stands = stands_new own objects s (part n).site same number keeps;
+  stands = stands_new _ _ _ _ same number keeps;
   passes = passes;
 }
 new_node part (Err e) own objects s same keeps number over running passes = tt
@@ -68,8 +68,8 @@ pub new_last : {N : Type 0} (part : N → NodeFields) (objects : List ObjectDecl
     → AreNewNodes part objects 1 nodes → IsNewNode objects s (part node)
     → AreNewNodes part objects 1 all
 new_last part objects s nodes all node place is new last =
-    subst (AreNewNodes part objects 1) (sym is)
-    (new_behind part objects 1 s nodes node (omega (arith, place)) new last)
+    subst (AreNewNodes part objects 1) (sym is) (new_behind _ _ _ _ _ _ (omega (arith, place))
+    new last)
 
 awake : (s : ℕ) → is_halted (false ∷ false ∷ false ∷ false ∷ false ∷ false ∷ false ∷ false ∷ []) s
     ≡ false
@@ -109,10 +109,10 @@ module _ {N : Type 0} (part : N → NodeFields) (objects : List ObjectDecl) wher
       → AreNewNodes part objects s nodes → slice_get (map part nodes) place ≡ Some node
       → IsNodeOf objects (new_works []).halted (place + 1) node
   node_over s [] place node new at =
-      absurd (none_is_not node (sym (slice_get_past [] place (omega arith)) ∙ at))
+      absurd (none_is_not _ (sym (slice_get_past [] place (omega arith)) ∙ at))
   node_over s (n ∷ nodes) zero node new at =
-      subst (IsNodeOf objects (new_works []).halted 1) (same_Some (part n) node at)
-      (record { over = new.0.over; is_halted = new.0.running ∙ sym (awake 1) })
+      subst (IsNodeOf objects (new_works []).halted 1) (same_Some (part n) node at) (record { over =
+      new.0.over; is_halted = new.0.running ∙ sym (awake 1) })
   node_over s (n ∷ nodes) (suc place) node new at =
       let later : IsNodeOf objects (new_works []).halted (place + 1) node =
       node_over (s + 1) nodes place node new.1 at in
@@ -125,7 +125,7 @@ passes_none : {N : Type 0} (part : N → NodeFields) (objects : List ObjectDecl)
     (nodes : List N) (place : ℕ) (node : NodeFields) → AreNewNodes part objects s nodes
     → slice_get (map part nodes) place ≡ Some node → node.passes ≡ None
 passes_none part objects s [] place node new at =
-    absurd (none_is_not node (sym (slice_get_past [] place (omega arith)) ∙ at))
+    absurd (none_is_not _ (sym (slice_get_past [] place (omega arith)) ∙ at))
 passes_none part objects s (n ∷ nodes) zero node new at =
     subst (λ (x : NodeFields). x.passes ≡ None) (same_Some (part n) node at) new.0.passes
 passes_none part objects s (n ∷ nodes) (suc place) node new at =
@@ -158,7 +158,7 @@ new_keeps part script nodes may_read is new many = record {
       stops = λ all. record {
         said = λ s away. refl;
         each = λ place node at away. record {
-          awake = λ runs. passes_none part script.objects 1 nodes place node new at;
+          awake = λ runs. passes_none _ _ _ _ _ _ new at;
           by_stop = λ is_halted. absurd (true≢false (sym is_halted));
         };
       };
@@ -177,6 +177,6 @@ pub new_lines_keep : {N : Type 0} {works : WorksFields} {bound : List (Option Na
     → works ≡ new_works (map part nodes) → bound ≡ []
     → KeepsBetween (before_first script) (record { works = works; bound = bound }) may_read
 new_lines_keep {may_read = may_read} part script nodes is new many works_are bound_are =
-    subst (λ (z : WorksFields × List (Option Name)). KeepsBetween (before_first script)
-    (record { works = z.0; bound = z.1 }) may_read) (sym (λ i. (works_are i, bound_are i)))
-    (new_keeps part script nodes may_read is new many)
+    subst (λ (z : WorksFields × List (Option Name)). KeepsBetween (before_first script) (record {
+    works = z.0; bound = z.1 }) may_read) (sym (λ i. (works_are i, bound_are i))) (new_keeps _ _
+    _ _ is new many)

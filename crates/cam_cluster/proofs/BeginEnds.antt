@@ -24,9 +24,8 @@ module _ (line place node : ℕ) (back : place + 1 ≡ node) (old new : LinesFie
       → HasLed line place inputs.Begin old might done new may
       → IsLineOfInput line (acts.Begin node) (Begins node) old might new may (Ok done)
   begin_led done there runs has =
-      subst (λ (n : ℕ). IsLineOfInput line (acts.Begin n) (Begins n) old might new may (Ok done))
-      back (λ script st halts later is keeps next.
-      begun script st halts later line place old might is keeps there next done new may runs has)
+      rw (← back) (λ script st halts later is keeps next. begun _ _ halts later _ _ _ _ is
+      keeps there next _ _ _ runs has)
 
   pub begin_refused : place < length old.works.nodes
       → is_halted old.works.halted (place + 1) ≡ true
@@ -34,11 +33,8 @@ module _ (line place node : ℕ) (back : place + 1 ≡ node) (old new : LinesFie
       → IsLineOfInput line (acts.Begin node) (Begins node) old might new may
       (Err (line_faults.Refused refusals.Halted))
   begin_refused there stops has =
-      subst (λ (n : ℕ). IsLineOfInput line (acts.Begin n) (Begins n) old might new may
-      (Err (line_faults.Refused refusals.Halted))) back
-      (λ script st halts later is keeps next.
-      begun_refused script st halts later line place old might is keeps there next new may stops
-      has)
+      rw (← back) (λ script st halts later is keeps next. begun_refused _ _ halts later _ _ _
+      _ is keeps there next _ _ stops has)
 
   pub begin_wanting : KeepsLinesAsBefore old might new may
       → IsLineOfInput line (acts.Begin node) (Begins node) old might new may
@@ -52,10 +48,9 @@ pub begin_may : (lines : LinesFields) (might : ℕ → Logged → Type 0) (place
     → slice_get lines.works.nodes place ≡ Some node
     → (node.halted ≡ false) × (node.site.node.actions.tops < 1000000000)
 begin_may lines might place some there awake =
-    node_runs some.script some.standing lines.works might some.is_script some.keeps.runs place there
-    awake
+    node_runs some.script some.standing _ might some.is_script some.keeps.runs _ there awake
 
 pub begin_within : (lines : LinesFields) (might : ℕ → Logged → Type 0) (place : ℕ)
     → AreLinesOfSome lines might → place < length lines.works.nodes → place < 8
 begin_within lines might place some there =
-    within some.script some.standing lines.works might some.is_script some.keeps.runs place there
+    within some.script some.standing lines.works might some.is_script some.keeps.runs _ there

@@ -55,7 +55,7 @@ unput_may_be_written lines may some =
     let keeps = some.keeps.runs in
     (all_may_be_written some.script.objects (has_number st.taken) st lines.works.outbox.net
     lines.works.outbox.unput lines.works.halted keeps.under.run some.is_script.object_limit
-    (few_events some.script st lines.works may keeps) keeps.whole.network).0
+    (few_events _ _ _ _ keeps) keeps.whole.network).0
 
 -- of a halted node the run says so, and of one that is not
 module _ (script : Script) (st : Standing) (works : WorksFields) (may : ℕ → Logged → Type 0)
@@ -92,9 +92,7 @@ pub next_leads : (script : Script) (st : Standing) (step : Step) (halts : Haltin
     → IsUnderHalts script (after_line st step.line (act_by by_knowledge halts later script st step))
 next_leads script st step halts later is under next =
     let range = script_in_range script is in
-    subst (λ (p : Passed). IsUnderHalts script (after_line st step.line p))
-    (sym (halted_lines_agree script st step halts later range under next))
-    (halted_lines_lead_on script st step halts later range under next)
+    rw (halted_lines_agree script st step halts later range under next) (halted_lines_lead_on script st step halts later range under next)
 
 module _ (script : Script) (st : Standing) (halts : Halting) (later : List Step)
     (line place : ℕ) (old : LinesFields) (might : ℕ → Logged → Type 0) (is : IsScript script)
@@ -113,19 +111,15 @@ module _ (script : Script) (st : Standing) (halts : Halting) (later : List Step)
       → IsLed script st c (acts.Begin (place + 1)) (Begins (place + 1)) done new may
   begun done new may runs has = record {
     passed = ap (λ (b : Bool). where_so b refusals.Halted) awake;
-    stands = λ halt.
-        subst (λ (p : Passed). KeepsLines script (after_line st line p) new may) (sym passes)
-        (has script st halts (λ s. list_any (is_restart s) later) is keeps
-        (record {
+    stands = λ halt. subst (λ (p : Passed). KeepsLines script (after_line st line p) new may) (sym
+        passes) (has script st halts (λ s. list_any (is_restart s) later) is keeps (record {
           coming = record { may = node; awake = awake; idle = tt };
           at = refl;
           is_put =
-              own_inputs_are_put script.objects (has_number st.taken) st.running.trace
-              (Begins (place + 1)) keeps.runs.under.run node refl;
-        }) halt
-        (subst (λ (p : Passed). IsUnderHalts script (after_line st line p)) passes
-        (next_leads script st (record { line = line; act = acts.Begin (place + 1) }) halts later is
-        keeps.runs.under next)));
+              own_inputs_are_put script.objects (has_number st.taken) st.running.trace (Begins
+              (place + 1)) keeps.runs.under.run node refl;
+        }) halt (subst (λ (p : Passed). IsUnderHalts script (after_line st line p)) passes
+        (next_leads _ _ _ halts later is keeps.runs.under next)));
   }
     where
       awake : has_number st.halted (place + 1) ≡ false
@@ -148,11 +142,9 @@ module _ (script : Script) (st : Standing) (halts : Halting) (later : List Step)
   begun_refused new may stops has = record {
     test = ap (λ (b : Bool). where_so b refusals.Halted) halted;
     stands =
-        has script st keeps
-        (subst (λ (p : Passed). IsUnderHalts script (after_line st line p))
-        (ap (λ (b : Bool). unless (where_so b refusals.Halted) leads) halted)
-        (next_leads script st (record { line = line; act = acts.Begin (place + 1) }) halts later is
-        keeps.runs.under next));
+        has script st keeps (subst (λ (p : Passed). IsUnderHalts script (after_line st line p)) (ap
+        (λ (b : Bool). unless (where_so b refusals.Halted) leads) halted) (next_leads _ _ _ halts
+        later is keeps.runs.under next));
   }
     where
       halted : has_number st.halted (place + 1) ≡ true

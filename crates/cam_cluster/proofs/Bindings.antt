@@ -56,13 +56,11 @@ bound_whole : (in_deeds : List Deed → Option Name) → in_deeds [] ≡ None
 bound_whole in_deeds no_deeds entered line again st s e w None b h =
     sym (ap in_deeds (longer (length st.running.trace) e.deeds [])) ∙ h
 bound_whole in_deeds no_deeds entered line again st s e w (Some true) b h =
-    none_bound _ b
-    (ap in_deeds (longer (length st.running.trace) (filter is_entered e.deeds) [])
-    ∙ entered e.deeds) h
+    none_bound _ b (ap in_deeds (longer (length st.running.trace) (filter is_entered e.deeds) []) ∙
+    entered e.deeds) h
 bound_whole in_deeds no_deeds entered line again st s e w (Some false) b h =
-    none_bound _ b
-    (ap in_deeds (as_long (length st.running.trace) (newest_deeds st.running.trace) [])
-    ∙ no_deeds) h
+    none_bound _ _ (ap in_deeds (as_long (length st.running.trace) (newest_deeds st.running.trace)
+    []) ∙ no_deeds) h
 
 -- where a child is that is asked for
 abbrev pub IsAskedAt : Want → Name → Type 0
@@ -78,10 +76,10 @@ wanted_asks : (objects : List ObjectDecl) (g : Sight) (a : Name) (want : Want) (
     → asked_in (wanted objects g a want).deeds ≡ Some b → IsAskedAt want b
 wanted_asks objects g a (wants.Ask m) b h =
     ap home_node (sym (same_Some _ b h)) ∙ ap (λ (p : PartFields). p.node) (last_of_child a _)
-wanted_asks objects g a (wants.Call x op) b h = none_bound None b refl h
-wanted_asks objects g a (wants.Commit value) b h = none_bound None b refl h
-wanted_asks objects g a wants.Abort b h = none_bound None b refl h
-wanted_asks objects g a (wants.GiveUp c) b h = none_bound None b refl h
+wanted_asks objects g a (wants.Call x op) b h = none_bound _ _ refl h
+wanted_asks objects g a (wants.Commit value) b h = none_bound _ _ refl h
+wanted_asks objects g a wants.Abort b h = none_bound _ _ refl h
+wanted_asks objects g a (wants.GiveUp c) b h = none_bound _ _ refl h
 
 request_asks : (objects : List ObjectDecl) (g : Sight) (a : Name) (want : Want) (b : Name)
     → asked_in (request objects g a want).deeds ≡ Some b → IsAskedAt want b
@@ -89,8 +87,8 @@ request_asks objects g a want b h = by (g.orphan a (pairs_of (g.deps a))) h
   where
     by : (o : Option Reason) → asked_in (stopped_by a o (wanted objects g a want)).deeds ≡ Some b
         → IsAskedAt want b
-    by None k = wanted_asks objects g a want b k
-    by (Some reason) k = none_bound None b refl k
+    by None k = wanted_asks _ g _ _ _ k
+    by (Some reason) k = none_bound _ _ refl k
 
 module _ (script : Script) (c : Setting) (st : Standing) where
   -- the child of an `ask` is at the node that the line names
@@ -99,12 +97,11 @@ module _ (script : Script) (c : Setting) (st : Standing) where
       ≡ Some b
       → IsAskedAt want b
   asked_at a want b h =
-      request_asks script.objects g a want b
-      (sym (ap (λ (first : List Deed). asked_in
-      (first ++ (request script.objects g a want).deeds)) (first_none t s))
-      ∙ bound_whole asked_in refl (λ ds. (entered_only ds).0) c.line (c.restarted s) st s
-      (next script.objects t input) (appends (by_pasts script.objects) t input)
-      (c.halts st.turns s (appends (by_pasts script.objects) t input) (c.restarted s)) b h)
+      request_asks script.objects g a want b (sym (ap (λ (first : List Deed). asked_in (first ++
+      (request script.objects g a want).deeds)) (first_none t s)) ∙ bound_whole asked_in refl (λ ds.
+      (entered_only ds).0) c.line (c.restarted s) st s (next script.objects t input) (appends
+      (by_pasts script.objects) t input) (c.halts st.turns s (appends (by_pasts script.objects) t
+      input) (c.restarted s)) _ h)
     where
       input : Input
       input = Requests (record { action = a; want = want })
@@ -122,11 +119,11 @@ module _ (script : Script) (c : Setting) (st : Standing) where
   pub created_at : (s : ℕ) (b : Name)
       → created_in (made st (put (pasts script c) st (Begins s))) ≡ Some b → home_node b ≡ s
   created_at s b h =
-      ap home_node (sym (same_Some (top_name g) b
-      (sym (ap (λ (first : List Deed). created_in (first ++ (begins g).deeds)) (first_none t s))
-      ∙ bound_whole created_in refl (λ ds. (entered_only ds).1) c.line (c.restarted s) st s
-      (next script.objects t (Begins s)) (appends (by_pasts script.objects) t (Begins s))
-      (c.halts st.turns s (appends (by_pasts script.objects) t (Begins s)) (c.restarted s)) b h)))
+      ap home_node (sym (same_Some (top_name g) b (sym (ap (λ (first : List Deed). created_in (first
+      ++ (begins g).deeds)) (first_none t s)) ∙ bound_whole created_in refl (λ ds. (entered_only
+      ds).1) c.line (c.restarted s) st s (next script.objects t (Begins s)) (appends (by_pasts
+      script.objects) t (Begins s)) (c.halts st.turns s (appends (by_pasts script.objects) t (Begins
+      s)) (c.restarted s)) _ h)))
     where
       t : List Event
       t = st.running.trace
@@ -140,12 +137,11 @@ module _ (script : Script) (c : Setting) (st : Standing) where
       ≡ Some b
       → IsAskedAt want b
   held_asked_at a want b h =
-      request_asks script.objects
-      (held_sight script.objects s (map as_carried (of_node (received_of script.objects t) s))
-      (told_in_order nothing)) a want b
-      (bound_whole asked_in refl (λ ds. (entered_only ds).0) c.line (c.restarted s) st s
-      (next_by_deltas script.objects t input) (appends (by_knowledge script.objects) t input)
-      (c.halts st.turns s (appends (by_knowledge script.objects) t input) (c.restarted s)) b h)
+      request_asks script.objects (held_sight script.objects s (map as_carried (of_node (received_of
+      script.objects t) s)) (told_in_order nothing)) a want b (bound_whole asked_in refl (λ ds.
+      (entered_only ds).0) c.line (c.restarted s) st s (next_by_deltas script.objects t input)
+      (appends (by_knowledge script.objects) t input) (c.halts st.turns s (appends (by_knowledge
+      script.objects) t input) (c.restarted s)) _ h)
     where
       input : Input
       input = Requests (record { action = a; want = want })

@@ -62,28 +62,20 @@ pub one_given : (st : Standing) (a : Name) (body : ℕ) (old new : Workers)
 one_given st a body old new all placed bodies playing seen events bare are = record {
   given = record {
     all = all ∙ ap (λ (ps : List (Name × ℕ)). ps ++ (a, body) ∷ []) are.given.all;
-    once = once_more st.running.bodies a body are.given.once bare;
+    once = once_more _ _ _ are.given.once bare;
     within =
         let within = are.given.within in
         let long : length (st.running.bodies ++ (a, body) ∷ []) ≡ length st.running.bodies + 1 =
         length-append st.running.bodies ((a, body) ∷ []) in
         omega (arith, within, placed, long);
     table =
-        subst (λ (b : BTreeMap Name ℕ).
-        IsTableOf (take new.placed (st.running.bodies ++ (a, body) ∷ [])) b) (sym bodies)
-        (subst (λ (ps : List (Name × ℕ)). IsTableOf ps old.bodies)
-        (sym
-        (ap (λ n. take n (st.running.bodies ++ (a, body) ∷ [])) placed
-        ∙ take-append-le old.placed st.running.bodies ((a, body) ∷ []) are.given.within))
+        rw bodies (rw (ap (λ n. take n (st.running.bodies ++ (a, body) ∷ [])) placed ∙
+        take-append-le old.placed st.running.bodies ((a, body) ∷ []) are.given.within)
         are.given.table);
   };
-  playing =
-      same_playing (given_body (Some body) (Some a) st) old new bodies playing
-      (given_playing st a body old bare are.playing);
+  playing = same_playing _ _ _ bodies playing (given_playing _ _ _ _ bare are.playing);
   within = let within = are.within in omega (arith, within, events);
-  seen =
-      subst (λ s. HasSeen (first_events new.events st.running.trace) s) (sym seen)
-      (subst (λ n. HasSeen (first_events n st.running.trace) old.seen) (sym events) are.seen);
+  seen = rw seen (rw events are.seen);
 }
 
 -- a table with the same entries is one of the same bodies
@@ -91,11 +83,8 @@ same_table : (given : List (Name × ℕ)) (old new : BTreeMap Name ℕ) → new.
     → IsTableOf given old → IsTableOf given new
 same_table given old new entries is = record {
   names = ap keys_of entries ∙ is.names;
-  ordered =
-      subst (λ (es : List (Name × ℕ)). IsStrictlySortedBy name_cmp (keys_of es)) (sym entries)
-      is.ordered;
-  at = λ a.
-      ap (λ (es : List (Name × ℕ)). lookup (is_at (name_cmp a)) es) entries ∙ is.at a;
+  ordered = rw entries is.ordered;
+  at = λ a. ap (λ (es : List (Name × ℕ)). lookup (is_at (name_cmp a)) es) entries ∙ is.at a;
 }
 
 -- The next of the bodies that were given comes into the table.
@@ -139,9 +128,7 @@ module _ (st : Standing) (old new : Workers) (p : Name × ℕ)
   still_within = let fits = are.within in omega (arith, fits, events)
 
   still_seen : HasSeen (first_events new.events st.running.trace) new.seen
-  still_seen =
-      subst (λ s. HasSeen (first_events new.events st.running.trace) s) (sym seen)
-      (subst (λ n. HasSeen (first_events n st.running.trace) old.seen) (sym events) are.seen)
+  still_seen = rw seen (rw events are.seen)
 
   -- It plays on already;
   pub plays_first : new.placed ≡ old.placed → new.bodies.entries ≡ old.bodies.entries

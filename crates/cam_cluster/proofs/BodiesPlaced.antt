@@ -66,19 +66,19 @@ put_placed nodes c st input placed =
 
 pub delivery_placed : (nodes : ℕ) (c : Setting) (st : Standing) (k : ℕ) (letter : LetterId)
     → HasPlaced nodes st → HasPlaced nodes (deliver c st k letter)
-delivery_placed nodes c st k letter placed = put_placed nodes c st (Receives letter) placed
+delivery_placed nodes c st k letter placed = put_placed _ c st (Receives letter) placed
 
 next_placed : (nodes : ℕ) (c : Setting) (st : Standing) (o : Option (ℕ × LetterId))
     → HasPlaced nodes st → HasPlaced nodes (deliver_waiting c st o)
 next_placed nodes c st None placed = placed
-next_placed nodes c st (Some w) placed = delivery_placed nodes c st w.0 w.1 placed
+next_placed nodes c st (Some w) placed = delivery_placed _ c st w.0 w.1 placed
 
 pub deliveries_placed : (nodes : ℕ) (c : Setting) (n : ℕ) (st : Standing) → HasPlaced nodes st
     → HasPlaced nodes (deliveries c n st)
 deliveries_placed nodes c zero st placed = placed
 deliveries_placed nodes c (suc n) st placed =
-    deliveries_placed nodes c n (deliver_waiting c st (waiting st))
-    (next_placed nodes c st (waiting st) placed)
+    deliveries_placed nodes c n (deliver_waiting c st (waiting st)) (next_placed _ c st (waiting
+    st) placed)
 
 -- The requests of actions by their bodies, where a child that is asked for is at the node that the
 -- request names.
@@ -110,10 +110,9 @@ module _ (script : Script) (is : IsScript script) (c : Setting)
           → (b : Name) → asked_in (made st (requested c st a want)) ≡ Some b
           → IsAtNode script.nodes b
       child_at want work n gives b asked =
-          at_child script.nodes (place_of body seen).values work.statement work.more n want b
-          (at_work_holds (child_placed script.nodes) body seen want work
-          (body_holds (body_number st.running.bodies a)))
-          (sym (ap body_at work.at) ∙ gives) work.asks (asks st a want b asked)
+          at_child _ _ _ _ _ _ _ (at_work_holds _ _ seen want work (body_holds (body_number
+          st.running.bodies a))) (sym (ap body_at work.at) ∙ gives) work.asks (asks st a want b
+          asked)
 
       by : (n : Next) → next body seen ≡ n
           → Stays (make_request c st a (child_body body seen) n)

@@ -53,7 +53,7 @@ after_stays line again st s e appends None workers are =
 after_stays line again st s e appends (Some true) workers are =
     workers_stay st _ workers (taken_of e ∷ []) refl refl are
 after_stays line again st s e appends (Some false) workers are =
-    workers_stay st _ workers [] refl refl are
+    workers_stay _ _ _ [] refl refl are
 
 -- it has the bodies that stood before
 pub after_bodies : (line : ℕ) (again : Bool) (st : Standing) (s : ℕ) (e : Event) (appends : Bool)
@@ -91,15 +91,10 @@ module _ (script : Script) (st : Standing) (a : Name) (is : IsScript script)
       → IsGone script st s a (Some done) new may_read workers
   gone_on want done new may_read workers e keeps are = record {
     made = sym (ap is_request e);
-    runs = λ said.
-        subst (λ (x : Standing). KeepsRun script x new may_read) (sym (go_is (nexts.Request want)
-        e))
-        (given_keeps script child (asked want) (behind want) new may_read
-        (subst (IsUnderHalts script) (go_is (nexts.Request want) e)
-        (gone_under script st a is under may halts line restarted)) (keeps (said_of said)));
-    workers = λ said.
-        subst (λ (x : Standing). AreWorkers x workers) (sym (go_is (nexts.Request want) e))
-        (are (said_of said));
+    runs = λ said. rw (go_is (nexts.Request want) e) (given_keeps _ _ _ _ _ _ (subst
+        (IsUnderHalts script) (go_is (nexts.Request want) e) (gone_under script st a is under may
+        halts line restarted)) (keeps (said_of said)));
+    workers = λ said. rw (go_is (nexts.Request want) e) (are (said_of said));
   }
     where
       said_of : IsSaidOf s st a (next_of script.bodies st a) (Some done)
@@ -117,8 +112,8 @@ module _ (script : Script) (st : Standing) (a : Name) (is : IsScript script)
       → AreWorkers st workers → IsGone script st s a None new may_read workers
   stayed n new may_read workers e idle keeps are = record {
     made = sym (ap is_request e ∙ idle);
-    runs = λ said. subst (λ (x : Standing). KeepsRun script x new may_read) (sym stays) keeps;
-    workers = λ said. subst (λ (x : Standing). AreWorkers x workers) (sym stays) are;
+    runs = λ said. rw stays keeps;
+    workers = λ said. rw stays are;
   }
     where
       stays : go s script.bodies st a ≡ st

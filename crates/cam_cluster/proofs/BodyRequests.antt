@@ -60,41 +60,32 @@ module _ (script : Script) (st : Standing) (a : Name) (is : IsScript script)
   -- the tests say the same by the pasts
   running_by_pasts : has_ended (home_sight (by_pasts script.objects) st.running a) a ≡ None
   running_by_pasts =
-      sym
-      (ap (λ g. has_ended g a) (nodes_go_by_the_same script.objects st.running.trace (home_node a)
-      (ran_addressed script.objects st.running.trace (ran script st under.run)))
-      ∙ λ i. has_ended (plain_sight (home_node a) (entries_same script.objects st.running.trace
-      (home_node a) i) (ran_informs script.objects st.running.trace (home_node a) None (ran
-      script st under.run) tt i)) a)
-      ∙ may.running
+      sym (ap (λ g. has_ended g a) (nodes_go_by_the_same script.objects st.running.trace (home_node
+      a) (ran_addressed _ _ (ran script st under.run))) ∙ λ i. has_ended (plain_sight (home_node
+      a) (entries_same script.objects st.running.trace (home_node a) i) (ran_informs _ _
+      (home_node a) None (ran script st under.run) tt i)) a) ∙ may.running
 
   open_by_pasts : is_not_open (home_sight (by_pasts script.objects) st.running a) a ≡ None
   open_by_pasts =
-      sym
-      (ap (λ g. is_not_open g a) (nodes_go_by_the_same script.objects st.running.trace (home_node
-      a) (ran_addressed script.objects st.running.trace (ran script st under.run)))
-      ∙ λ i. is_not_open (plain_sight (home_node a) (entries_same script.objects st.running.trace
-      (home_node a) i) (ran_informs script.objects st.running.trace (home_node a) None (ran
-      script st under.run) tt i)) a)
-      ∙ may.is_open
+      sym (ap (λ g. is_not_open g a) (nodes_go_by_the_same script.objects st.running.trace
+      (home_node a) (ran_addressed _ _ (ran script st under.run))) ∙ λ i. is_not_open (plain_sight
+      (home_node a) (entries_same script.objects st.running.trace (home_node a) i) (ran_informs _
+      _ (home_node a) None (ran script st under.run) tt i)) a) ∙ may.is_open
 
   pub asks_by_body : (want : Want) → next_of script.bodies st a ≡ nexts.Request want
       → BodyRequest script st.running a want
   asks_by_body want e =
-      body_request_by script st.running a want (script_in_range script is)
-      (ran_holds script.objects st.running.trace (ran script st under.run)) under.works
-      running_by_pasts open_by_pasts e
+      body_request_by _ _ _ _ (script_in_range script is) (ran_holds _ _ (ran script st
+      under.run)) under.works running_by_pasts open_by_pasts e
 
   -- nothing stands against it at its home
   pub asks_freely : (want : Want) → next_of script.bodies st a ≡ nexts.Request want
       → refusal (home_sight (by_knowledge script.objects) st.running a) a want ≡ None
   asks_freely want e =
-      ap (λ g. refusal g a want) (nodes_go_by_the_same script.objects st.running.trace (home_node
-      a) (ran_addressed script.objects st.running.trace (ran script st under.run)))
-      ∙ (λ i. refusal (plain_sight (home_node a) (entries_same script.objects st.running.trace
-      (home_node a) i) (ran_informs script.objects st.running.trace (home_node a) None (ran
-      script st under.run) tt i)) a want)
-      ∙ (asks_by_body want e).may.0
+      ap (λ g. refusal g a want) (nodes_go_by_the_same script.objects st.running.trace (home_node a)
+      (ran_addressed _ _ (ran script st under.run))) ∙ (λ i. refusal (plain_sight (home_node a)
+      (entries_same script.objects st.running.trace (home_node a) i) (ran_informs _ _ (home_node
+      a) None (ran script st under.run) tt i)) a want) ∙ (asks_by_body want e).may.0
 
   -- the request may be put to its home
   pub request_put : (place : ℕ) (want : Want) → home_node a ≡ place + 1
@@ -121,7 +112,7 @@ module _ (script : Script) (st : Standing) (a : Name) (is : IsScript script)
     pub gone_under : IsUnderHalts script (go c script.bodies st a)
     gone_under =
         let both =
-        go_both script c st a (script_in_range script is) under may.awake running_by_pasts
+        go_both _ c _ _ (script_in_range script is) under may.awake running_by_pasts
         open_by_pasts in
         subst (IsUnderHalts script) (sym both.same) both.under
 

@@ -30,8 +30,7 @@ asks_placed : (nodes : ℕ) (objects : List ObjectDecl) (b earlier : ℕ) (s : S
     → asks_rightly nodes objects b earlier s ≡ true → child_placed nodes s ≡ true
 asks_placed nodes objects b earlier (statements.Call tries x op) h = refl
 asks_placed nodes objects b earlier (statements.Child tries m body) h =
-    left (is_node nodes m) (nat_lt body b)
-    (right (nat_le 1 tries && nat_le tries 9) (is_node nodes m && nat_lt body b) h)
+    left (is_node nodes m) (nat_lt body b) (right _ _ h)
 asks_placed nodes objects b earlier (statements.Commit e) h = refl
 asks_placed nodes objects b earlier statements.Abort h = refl
 
@@ -47,25 +46,16 @@ body_placed : (nodes : ℕ) (objects : List ObjectDecl) (b earlier : ℕ) (ss : 
 body_placed nodes objects b earlier [] h = refl
 body_placed nodes objects b earlier (s ∷ []) h = both (closes_placed nodes earlier s h) refl
 body_placed nodes objects b earlier (s ∷ t ∷ ss) h =
-    both
-    (asks_placed nodes objects b earlier s
-    (left (asks_rightly nodes objects b earlier s)
-    (is_whole_body nodes objects b (earlier + 1) (t ∷ ss)) h))
-    (body_placed nodes objects b (earlier + 1) (t ∷ ss)
-    (right (asks_rightly nodes objects b earlier s)
-    (is_whole_body nodes objects b (earlier + 1) (t ∷ ss)) h))
+    both (asks_placed nodes objects b earlier s (left _ (is_whole_body nodes objects b (earlier +
+    1) (t ∷ ss)) h)) (body_placed nodes objects b (earlier + 1) (t ∷ ss) (right _ _ h))
 
 pub bodies_placed : (nodes : ℕ) (objects : List ObjectDecl) (b : ℕ) (bs : List (List Statement))
     → are_bodies nodes objects b bs ≡ true
     → list_all (λ body. list_all (child_placed nodes) body) bs ≡ true
 bodies_placed nodes objects b [] h = refl
 bodies_placed nodes objects b (x ∷ bs) h =
-    both
-    (body_placed nodes objects b 0 x
-    (left (is_whole_body nodes objects b 0 x) (nat_le (length x) 32)
-    (left (is_body nodes objects b x) (are_bodies nodes objects (b + 1) bs) h)))
-    (bodies_placed nodes objects (b + 1) bs
-    (right (is_body nodes objects b x) (are_bodies nodes objects (b + 1) bs) h))
+    both (body_placed nodes objects b 0 x (left _ (nat_le (length x) 32) (left _ (are_bodies nodes
+    objects (b + 1) bs) h))) (bodies_placed nodes objects (b + 1) bs (right _ _ h))
 
 -- a child that a statement at work asks for
 pub at_child : (nodes : ℕ) (values : List ℤ) (s : Statement) (more : List Statement) (n : ℕ)
@@ -74,8 +64,8 @@ pub at_child : (nodes : ℕ) (values : List ℤ) (s : Statement) (more : List St
 at_child nodes values s more n want b holds at (inl aborts) asked =
     absurd (subst (λ (w : Want). IsAskedAt w b) aborts asked)
 at_child nodes values (statements.Child tries m body) more n want b holds at (inr its) asked =
-    subst (λ (k : ℕ). (1 ≤ k) × (k ≤ nodes))
-    (sym (subst (λ (w : Want). IsAskedAt w b) its asked)) (node_within nodes m holds)
+    subst (λ (k : ℕ). (1 ≤ k) × (k ≤ nodes)) (sym (subst (λ (w : Want). IsAskedAt w b) its asked))
+    (node_within _ _ holds)
 at_child nodes values (statements.Call tries x op) more n want b holds at (inr its) asked = cc
 at_child nodes values (statements.Commit e) more n want b holds at (inr its) asked = cc
 at_child nodes values statements.Abort more n want b holds at (inr its) asked = cc

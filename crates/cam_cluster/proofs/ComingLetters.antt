@@ -76,14 +76,10 @@ trace_is script st works may keeps =
 module _ (script : Script) (st : Standing) (works : WorksFields) (may : ℕ → Logged → Type 0)
     (keeps : KeepsRun script st works may) (none_left : works.outbox.unput ≡ []) where
   pub network_is : IsNetworkOf script.objects st works.outbox.net [] works.halted
-  network_is =
-      subst (λ (u : List Letter). IsNetworkOf script.objects st works.outbox.net u works.halted)
-      none_left keeps.whole.network
+  network_is = rw (← none_left) keeps.whole.network
 
   stands : StandsFor st works.outbox.net works.halted
-  stands =
-      subst (λ (xs : List InFlightFields). StandsFor st xs works.halted)
-      (append-nil works.outbox.net) network_is.stands
+  stands = rw (← (append-nil works.outbox.net)) network_is.stands
 
   pub has_it : (number : ℕ)
       → has_letter works.outbox.net number ≡ is_some (letter_of st.running number)
@@ -91,17 +87,15 @@ module _ (script : Script) (st : Standing) (works : WorksFields) (may : ℕ → 
 
   pub there : (number : ℕ) (id : LetterId) → letter_of st.running number ≡ Some id
       → IsThere st id
-  there number id is = by (letter_at st.running.trace id) refl
-      (letters_sent st.running.trace id (letter_numbered st.running number id is))
+  there number id is = by (letter_at st.running.trace id) refl (letters_sent st.running.trace id
+      (letter_numbered st.running number _ is))
     where
       by : (o : Option Mail) → letter_at st.running.trace id ≡ o → is_some o ≡ true → IsThere st id
       by None at has = absurd (true≢false (sym has))
       by (Some mail) at has = record {
         mail = mail;
         at = at;
-        travels =
-            travels script.objects st.running.trace (has_number st.taken, keeps.under.run) id mail
-            at;
+        travels = travels _ _ (has_number st.taken, keeps.under.run) _ _ at;
       }
 
   numbered_in : (number : ℕ)
@@ -109,7 +103,7 @@ module _ (script : Script) (st : Standing) (works : WorksFields) (may : ℕ → 
       ≡ (if eqb number 0 then None else slice_get (letters st.running.trace) (number - 1))
   numbered_in number =
       ap (λ (t : List Event). if eqb number 0 then None else slice_get (letters t) (number - 1))
-      (trace_is script st works may keeps)
+      (trace_is _ _ _ _ keeps)
 
   -- it is the letter of that number, unless it is lost
   pub is_numbered : (number : ℕ) (o : Option LetterId)
@@ -122,26 +116,21 @@ module _ (script : Script) (st : Standing) (works : WorksFields) (may : ℕ → 
 
   pub found_lost : (number : ℕ) → has_letter works.outbox.net number ≡ false
       → IsFound number st None
-  found_lost number has = none_is (letter_of st.running number) (sym (has_it number) ∙ has)
+  found_lost number has = none_is _ (sym (has_it number) ∙ has)
 
   -- the node to which it was sent
   pub no_receiver : (number : ℕ) (id : LetterId) → letter_of st.running number ≡ Some id
       → None ≡ option_map (λ (m : Mail). m.to) (letter_at (reverse works.events) id) → ⊥
   no_receiver number id is none =
       let here : IsThere st id = there number id is in
-      no_some (option_map (λ (m : Mail). m.to) (letter_at (reverse works.events) id)) here.mail.to
-      (sym none)
-      (ap (λ (t : List Event). option_map (λ (m : Mail). m.to) (letter_at t id))
-      (trace_is script st works may keeps)
-      ∙ ap (option_map (λ (m : Mail). m.to)) here.at)
+      no_some _ _ (sym none) (ap (λ (t : List Event). option_map (λ (m : Mail). m.to) (letter_at t
+      id)) (trace_is _ _ _ _ keeps) ∙ ap (option_map (λ (m : Mail). m.to)) here.at)
 
   pub receiver_is : (number : ℕ) (id : LetterId) (to : ℕ) → letter_of st.running number ≡ Some id
       → Some to ≡ option_map (λ (m : Mail). m.to) (letter_at (reverse works.events) id)
       → (1 ≤ to) × (to ≤ 8) × (addressee st id ≡ to)
-  receiver_is number id to is at = (
-    subst (λ (n : ℕ). 1 ≤ n) (sym to_is) here.travels.to.0,
-    subst (λ (n : ℕ). n ≤ 8) (sym to_is) here.travels.to.1,
-    ap (λ (o : Option Mail). option_map_or (λ (m : Mail). m.to) o 0) here.at ∙ sym to_is,
+  receiver_is number id to is at = ( rw to_is here.travels.to.0, rw to_is here.travels.to.1, ap (λ
+    (o : Option Mail). option_map_or (λ (m : Mail). m.to) o 0) here.at ∙ sym to_is,
   )
     where
       here : IsThere st id
@@ -149,11 +138,9 @@ module _ (script : Script) (st : Standing) (works : WorksFields) (may : ℕ → 
 
       to_is : to ≡ here.mail.to
       to_is =
-          same_Some to here.mail.to
-          (at
-          ∙ ap (λ (t : List Event). option_map (λ (m : Mail). m.to) (letter_at t id))
-          (trace_is script st works may keeps)
-          ∙ ap (option_map (λ (m : Mail). m.to)) here.at)
+          same_Some to here.mail.to (at ∙ ap (λ (t : List Event). option_map (λ (m : Mail). m.to)
+          (letter_at t id)) (trace_is _ _ _ _ keeps) ∙ ap (option_map (λ (m : Mail). m.to))
+          here.at)
 
   pub found_there : (number place : ℕ) (id : LetterId) (to : ℕ)
       → has_letter works.outbox.net number ≡ true → Some id ≡ numbered works.events number

@@ -150,10 +150,8 @@ module _ (c : Setting) (st : Standing) (line : ℕ) where
       by : (o : Option Name) → o ≡ Some a → test_variable o tests ≡ None
           → Counts (of_variable o (λ b. unless (tests b) (Led (go c bodies st b) None)))
       by (Some b) at none =
-          unless_counts (tests b) (Led (go c bodies st b) None) none
-          (made_counts b _ (next_of bodies st b)
-          (subst (λ (x : Name). is_request (next_of bodies st x) ≡ true) (sym (same_Some b a at))
-          makes))
+          unless_counts (tests b) (Led (go c bodies st b) None) none (made_counts b _ (next_of
+          bodies st b) (rw (same_Some b a at) makes))
       by None at none = cc
 
   -- a letter of which all bytes arrive

@@ -75,12 +75,10 @@ there (e ∷ t) k p few low less more =
             ∙ last_count t
 
         before_is : count_before (letter_counts (e ∷ t)) p ≡ length (letters t)
-        before_is =
-            capped
-            ∙ min_is most_letters (length (letters t)) k (subst (λ (n : ℕ). n ≤ k) capped more) few
+        before_is = capped ∙ min_is _ _ _ (rw (← capped) more) few
 
         past : length (letters t) ≤ k
-        past = subst (λ (n : ℕ). n ≤ k) before_is more
+        past = rw (← before_is) more
 
         inside : k - length (letters t) < length e.sent
         inside =
@@ -99,7 +97,7 @@ pub none_there : (t : List Event) (k : ℕ) → k < most_letters
     → count_before (letter_counts t) (length t) ≤ k → slice_get (letters t) k ≡ None
 none_there t k few low =
     let small = subst (λ (n : ℕ). n ≤ k) (last_count t) low in
-    let all = min_is most_letters (length (letters t)) k small few in
+    let all = min_is _ _ _ small few in
     slice_get_past (letters t) k (omega (arith, small, all))
 
 pub numbered_is : (events : List Event) (number : ℕ) → 1 ≤ number
@@ -132,15 +130,12 @@ module _ (events : List Event) (counts : List ℕ) (number earlier place : ℕ)
 
   pub before_number : count_before counts place ≤ earlier
   before_number =
-      before_low counts place earlier
-      (λ j less. let below : get_or counts j 0 < number =
+      before_low _ _ _ (λ j less. let below : get_or counts j 0 < number =
       (Decides-ltb (get_or counts j 0) number).0 (point.0 j 0 (omega arith) less) in
       omega (arith, below, is))
 
   so_far : count_before (letter_counts (reverse events)) place ≤ number - 1
-  so_far =
-      subst (λ (xs : List ℕ). count_before xs place ≤ number - 1) are
-      (subst (λ (n : ℕ). count_before counts place ≤ n) is before_number)
+  so_far = rw (← are) (rw (← is) before_number)
 
   pub none_found : place ≡ length events → None ≡ numbered events number
   none_found past =
@@ -175,10 +170,9 @@ module _ (events : List Event) (counts : List ℕ) (number earlier place : ℕ)
 
       above : number - 1 < get_or (letter_counts (reverse events)) place 0
       above =
-          subst (λ (xs : List ℕ). number - 1 < get_or xs place 0) are
-          (let not_below : (get_or counts place 0 < number → ⊥) =
-          λ less. true≢false (sym ((Decides-ltb (get_or counts place 0) number).1 less)
-          ∙ point.1 place 0 (omega arith) (omega (arith, many, within))) in
+          rw (← are) (let not_below : (get_or counts place 0 < number → ⊥) =
+          λ less. true≢false (sym ((Decides-ltb (get_or counts place 0) number).1 less) ∙ point.1
+          place 0 (omega arith) (omega (arith, many, within))) in
           elim (leb_tells number (get_or counts place 0)) [
             | inl at ↦ let up = at.1 in omega (arith, up, low)
             | inr at ↦ absurd (not_below at.1)

@@ -92,14 +92,7 @@ after_counted line again st s e w puts.Halted = record {
 
 pub put_counted : (c : Setting) (st : Standing) (input : Input) (done : Put)
     → halt_of c st input ≡ as_halt done → AreCounted st (put c st input) (done ∷ [])
-put_counted c st input done said =
-    let s = node_of st.running.trace input in
-    subst (λ (o : Option Bool). AreCounted st
-    (after_input c.line (c.restarted s) st s (c.reading.next st.running.trace input)
-    (appends c.reading st.running.trace input) o) (done ∷ []))
-    (sym said)
-    (after_counted c.line (c.restarted s) st s (c.reading.next st.running.trace input)
-    (appends c.reading st.running.trace input) done)
+put_counted c st input done said = rw said (after_counted _ _ _ _ _ _ _)
 
 -- a body that is given is no input
 pub given_counted : (a b : Standing) (ends : List Put) (body : Option ℕ) (child : Option Name)
@@ -112,16 +105,13 @@ given_counted a b ends None child one = one
 -- letters that were handed over
 pub deliveries_counted : (c : Setting) (ends : List Put) (st : Standing) → AreDue c ends st
     → AreSaid c ends st → AreCounted st (deliveries c (length ends) st) ends
-deliveries_counted c [] st due said = none_counted st
+deliveries_counted c [] st due said = none_counted _
 deliveries_counted c (end ∷ ends) st due said =
-    counted_on st (deliver_waiting c st (waiting st))
-    (deliveries c (length ends) (deliver_waiting c st (waiting st))) (end ∷ []) ends
-    (first (waiting st) due.0 said.0)
-    (deliveries_counted c ends (deliver_waiting c st (waiting st)) due.1 said.1)
+    counted_on _ _ _ _ _ (first (waiting st) due.0 said.0) (deliveries_counted c ends
+    (deliver_waiting c st (waiting st)) due.1 said.1)
   where
     first : (o : Option (ℕ × LetterId)) → is_some o ≡ true → IsSaid c st o end
         → AreCounted st (deliver_waiting c st o) (end ∷ [])
     first None some said_so = absurd (true≢false (sym some))
     first (Some w) some said_so =
-        counted_as st (put c st (Receives w.1)) (deliver c st w.0 w.1) (end ∷ []) refl refl refl
-        (put_counted c st (Receives w.1) end said_so)
+        counted_as _ _ _ _ refl refl refl (put_counted c _ _ _ said_so)

@@ -57,55 +57,39 @@ stop_keeps script st works might may place calls old nodes less there are keeps 
     decided = keeps.under.decided;
   };
   one_each =
-      ap (λ (ns : List NodeFields). length ns) are ∙ length-set works.nodes place new
-      ∙ keeps.one_each;
+      ap (λ (ns : List NodeFields). length ns) are ∙ length-set works.nodes place new ∙
+      keeps.one_each;
   eight = keeps.eight;
-  nodes = λ q n at. by_node q n (tells q n at)
-      (λ q n at. IsNodeOf script.objects works.halted (q + 1) n)
-      (record {
+  nodes = λ q n at. by_node q n (tells q n at) (λ q n at. IsNodeOf script.objects works.halted (q +
+      1) n) (record {
         over = (keeps.nodes place old there).over;
         is_halted = (keeps.nodes place old there).is_halted;
-      })
-      (λ at. keeps.nodes q n at);
+      }) (λ at. keeps.nodes q n at);
   whole =
-      subst (λ (sites : List Site). IsWhole script.objects now sites works.outbox.net
-      works.outbox.unput works.halted) (sym same_sites)
-      (others_stand script.objects st now (sites_of works.nodes) works.outbox.net
-      works.outbox.unput works.halted
-      (record { trace = refl; lost = refl; delivered = refl }) refl keeps.whole);
-  halts = λ q n at said. by_node q n (tells q n at)
-      (λ q n at. has_number st.halted (q + 1) ≡ true
-      → IsHaltOf script.objects st.running.trace st.undecided (q + 1) n (may (q + 1)))
-      (λ said. with_node (halt_read script.objects st.running.trace st.undecided (place + 1) old
-      (might (place + 1)) (may (place + 1))
-      (λ logged read. less (place + 1) logged (omega arith) read)
-      (keeps.halts place old there said)))
-      (λ at said. halt_read script.objects st.running.trace st.undecided (q + 1) n
-      (might (q + 1)) (may (q + 1)) (λ logged read. less (q + 1) logged (omega arith) read)
-      (keeps.halts q n at said))
-      said;
+      rw same_sites (others_stand script.objects st now (sites_of works.nodes) works.outbox.net
+      works.outbox.unput works.halted (record { trace = refl; lost = refl; delivered = refl }) refl
+      keeps.whole);
+  halts = λ q n at said. by_node q n (tells q n at) (λ q n at. has_number st.halted (q + 1) ≡ true
+      → IsHaltOf script.objects st.running.trace st.undecided (q + 1) n (may (q + 1))) (λ said.
+      with_node (halt_read _ _ _ _ _ (might (place + 1)) (may (place + 1)) (λ logged read. less
+      (place + 1) logged (omega arith) read) (keeps.halts place old there said))) (λ at said.
+      halt_read _ _ _ _ _ (might (q + 1)) (may (q + 1)) (λ logged read. less (q + 1) logged
+      (omega arith) read) (keeps.halts q n at said)) said;
   undecided = keeps.undecided;
   sent = keeps.sent;
   events = keeps.events;
   all_marks = keeps.all_marks;
   few = keeps.few;
   stops = λ all.
-      let before = keeps.stops
-      (unfailing_before works.failed works.nodes nodes place old new there are (λ u. u) all) in
-      nodes_stopped script.objects st.running.trace st.running.trace st.halted st.halted st.turns
-      now.turns place works.nodes nodes old new there are (λ m away. refl) (λ m away. refl)
-      (λ m away. rw (ne_eqb (place + 1) m (λ e. away (sym e))) refl) (λ m away. refl) no_node
-      (λ m away. refl) (λ s. as_before (has_number st.halted s) s (before.said s refl))
-      (record {
+      let before = keeps.stops (unfailing_before _ _ _ _ _ _ there are (λ u. u) all) in
+      nodes_stopped _ _ _ _ _ _ _ _ _ _ old _ there are (λ m away. refl) (λ m away. refl)
+      (λ m away. rw (ne_eqb (place + 1) m (λ e. away (sym e))) refl) (λ m away. refl) _ (λ m away.
+      refl) (λ s. as_before (has_number st.halted s) s (before.said s refl)) (record {
         awake = λ runs. sym (rw (eq-eqb (place + 1) (place + 1) refl) refl);
         by_stop = λ said.
             let halt = (before.each place old there refl).by_stop said in
-            halt_alike script.objects
-            (history_of script.objects st.running.trace (place + 1)) st.turns (place + 1)
-            old.site.node old.halted_at old.reads halt
-            (history_of script.objects st.running.trace (place + 1)) now.turns refl refl;
-      })
-      before;
+            halt_alike _ _ _ _ _ _ _ halt _ _ refl refl;
+      }) before;
 }
   where
     new : NodeFields
@@ -128,8 +112,8 @@ stop_keeps script st works might may place calls old nodes less there are keeps 
     tells : (q : ℕ) (n : NodeFields) → slice_get nodes q ≡ Some n
         → ((q ≡ place) × (new ≡ n)) ⊎ ((q ≡ place → ⊥) × (slice_get works.nodes q ≡ Some n))
     tells q n at =
-        set_tells works.nodes place q new n (slice_get_within works.nodes place old there)
-        (ap (λ (ns : List NodeFields). slice_get ns q) (sym are) ∙ at)
+        set_tells _ _ _ _ _ (slice_get_within works.nodes place old there) (ap (λ (ns : List
+        NodeFields). slice_get ns q) (sym are) ∙ at)
 
     by_node : (q : ℕ) (n : NodeFields)
         → ((q ≡ place) × (new ≡ n)) ⊎ ((q ≡ place → ⊥) × (slice_get works.nodes q ≡ Some n))
@@ -163,16 +147,11 @@ module _ {N : Type 0} (part : N → NodeFields) (tells : N → Bool) (may : N �
       (seen part tells may now o h v u e m) (MayReadAt tells may now)
   stopped_in place calls nodes now o h v u e m old new there is_old set_is same told less script st
       is keeps =
-      subst (λ (ns : List N). KeepsRun script (with_stop (place + 1) calls st)
-      (seen part tells may ns o h v u e m) (MayReadAt tells may ns)) (sym set_is)
-      (stop_keeps script st (seen part tells may nodes o h v u e m) (MayReadAt tells may nodes)
-      (MayReadAt tells may (set nodes place new)) place calls (part old)
-      (map part (set nodes place new))
-      (λ s logged low read. back s logged low read (eqb_tells s (place + 1)))
-      (seen_there part nodes place old (taken_there nodes place old there is_old))
-      (map-set part nodes place new
-      ∙ ap (λ (n : NodeFields). set (map part nodes) place n) same)
-      keeps)
+      subst (λ (ns : List N). KeepsRun script (with_stop (place + 1) calls st) (seen part tells may
+      ns o h v u e m) (MayReadAt tells may ns)) (sym set_is) (stop_keeps _ _ _ _ _ _ _ _ _
+      (λ s logged low read. back s logged low read (eqb_tells s (place + 1))) (seen_there part nodes
+      place _ (taken_there _ _ _ there is_old)) (map-set part nodes place new ∙ ap (λ (n :
+      NodeFields). set (map part nodes) place n) same) keeps)
     where
       back : (s : ℕ) (logged : Logged) → 1 ≤ s → MayReadAt tells may (set nodes place new) s logged
           → ((eqb s (place + 1) ≡ true) × (s ≡ place + 1))
@@ -181,14 +160,14 @@ module _ {N : Type 0} (part : N → NodeFields) (tells : N → Bool) (may : N �
       back s logged low read (inr other) =
           reads_elsewhere tells may nodes place new s logged low other.1 read
       back s logged low read (inl here) =
-          let own = reads_there tells may nodes place new logged there
-          (subst (λ (n : ℕ). MayReadAt tells may (set nodes place new) n logged) here.1 read) in
+          let own = reads_there _ may _ _ _ _ there (subst (λ (n : ℕ). MayReadAt tells may (set
+          nodes place new) n logged) here.1 read) in
           let at : s - 1 ≡ place = (let is = here.1 in omega (arith, is)) in
           record {
             node = old;
             at =
-                subst (λ (p : ℕ). slice_get nodes p ≡ Some old) (sym at)
-                (taken_there nodes place old there is_old);
+                subst (λ (p : ℕ). slice_get nodes p ≡ Some old) (sym at) (taken_there _ _ _ there
+                is_old);
             told = sym told ∙ own.0;
             reads = less logged own.1;
           }

@@ -30,7 +30,7 @@ known_same failed.Memory olds news same = tt
 -- as they are
 pub goes_on_still : {nodes : List NodeFields} {now : Failed} → GoOn nodes now nodes now
 goes_on_still {nodes = nodes} {now = now} =
-    record { later = all_same tells count nodes; known = known_still now nodes }
+    record { later = all_same _ _ _; known = known_still _ _ }
 
 pub goes_on_same : (olds : List NodeFields) (before : Failed) (news : List NodeFields)
     (now : Failed) → news ≡ olds → now ≡ before → GoOn olds before news now
@@ -52,11 +52,9 @@ known_then first next (failed.Disk s) olds mids news low high one (inl same) =
         → (first ≡ failed.Disk s) ⊎ HasFailed count count s olds news
     by (inl was) = inl was
     by (inr fell) =
-        inr (failed_between tells count tells count tells count tells count s olds olds mids news
-        (all_same tells count olds) fell high)
+        inr (failed_between tells _ _ _ _ _ _ _ _ _ _ _ _ (all_same _ _ _) fell high)
 known_then first next (failed.Disk s) olds mids news low high one (inr fell) =
-    inr (failed_between tells count tells count tells count tells count s olds mids news news low
-    fell (all_same tells count news))
+    inr (failed_between _ _ _ _ tells _ _ _ _ _ _ _ _ low fell (all_same _ _ _))
 known_then first next failed.Memory olds mids news low high one two = tt
 
 -- They go on, and on.
@@ -64,8 +62,6 @@ pub goes_on_then : {olds mids news : List NodeFields} {first next last : Failed}
     → GoOn olds first mids next → GoOn mids next news last → GoOn olds first news last
 goes_on_then {olds = olds} {mids = mids} {news = news} {first = first} {next = next} {last = last}
     one two = record {
-      later =
-          then_later tells count tells count tells count olds mids news one.later two.later;
-      known =
-          known_then first next last olds mids news one.later two.later one.known two.known;
+      later = then_later _ _ _ _ _ _ _ _ _ one.later two.later;
+      known = known_then _ _ _ _ _ _ one.later two.later one.known two.known;
     }

@@ -51,23 +51,20 @@ module _ (line : ℕ) (old new : WorksFields) (might may : ℕ → Logged → Ty
   drain_line has is_now = record {
     ends = has.ends;
     drained = λ script st halts later is keeps next said.
-        let c = setting (by_knowledge script.objects) halts
-        (record { line = line; act = acts.Drain }) later in
-        let so = has.drained script st halts (λ s. list_any (is_restart s) later) is keeps.runs
-        said in record {
+        let c = setting (by_knowledge script.objects) halts (record { line = line; act = acts.Drain
+        }) later in
+        let so = has.drained script st halts (λ s. list_any (is_restart s) later) is keeps.runs said
+        in record {
           due = so.due;
           over = so.over;
           stands = record {
             runs =
-                keeps_others script (drain c st) (after_line st line (Led (drain c st) None)) new
-                new.marks may (record { trace = refl; lost = refl; delivered = refl }) refl refl
-                refl so.stands.all_marks
-                (next_leads script st (record { line = line; act = acts.Drain }) halts later is
+                keeps_others _ _ _ _ _ _ (record { trace = refl; lost = refl; delivered = refl
+                }) refl refl refl so.stands.all_marks (next_leads _ _ _ halts later is
                 keeps.runs.under next) so.stands;
             variables =
-                is_now
-                ∙ ap (λ (bs : List (Option Name)). bs ++ None ∷ [])
-                (keeps.variables ∙ sym (bound_drain c st));
+                is_now ∙ ap (λ (bs : List (Option Name)). bs ++ None ∷ []) (keeps.variables ∙ sym
+                (bound_drain c st));
           };
         };
   }

@@ -37,9 +37,7 @@ module _ (line : ℕ) (old new : LinesFields) (might may : ℕ → Logged → Ty
 
     all_said : KeepsBetween seen old might → AreSaid c ends seen.standing
     all_said keeps =
-        deliveries_said c (accepted seen.standing.turns) ends seen.standing refl
-        (given_said (more ++ seen.halts) seen.halts (accepted seen.standing.turns) ends refl
-        keeps.past)
+        deliveries_said c _ _ seen.standing refl (given_said _ _ _ _ refl keeps.past)
 
   pub drain_taken : IsLineOfDrain line old might new may
       → IsStepTaken step old might new may (Ok None)

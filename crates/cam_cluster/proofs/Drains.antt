@@ -127,11 +127,8 @@ and_over line old mid new might mays may some none = record {
         due = so.due;
         over = over.0;
         stands =
-            subst (λ (z : Standing). KeepsRun script z new may)
-            (sym (drain_is c
-            (λ z w waits. (halted_drains_go_on script.objects).1 halts line restarted z w waits)
-            some.ends st so.due over.0))
-            over.1;
+            rw (drain_is c (λ z w waits. (halted_drains_go_on script.objects).1 halts line restarted
+            z w waits) some.ends st so.due over.0) over.1;
       };
 }
 

@@ -27,25 +27,19 @@ pub from_low : (k : ℕ) (ends : List Put)
     → AllByRecursion (λ (h : Halt). k ≤ h.input) (halts_from k ends)
 from_low k [] = tt
 from_low k (puts.Stood ∷ ends) =
-    all_so (λ (h : Halt). k + 1 ≤ h.input) (λ (h : Halt). k ≤ h.input) (halts_from (k + 1) ends)
-    (λ h low. omega (arith, low)) (from_low (k + 1) ends)
+    all_so (λ (h : Halt). k + 1 ≤ h.input) (λ (h : Halt). k ≤ h.input) (halts_from (k + 1) ends) (λ
+    h low. omega (arith, low)) (from_low (k + 1) ends)
 from_low k (puts.Halted ∷ ends) =
-    all_behind (λ (h : Halt). k ≤ h.input) (halts_from (k + 1) ends)
-    (record { input = k; took = false } ∷ [])
-    (all_so (λ (h : Halt). k + 1 ≤ h.input) (λ (h : Halt). k ≤ h.input) (halts_from (k + 1) ends)
-    (λ h low. omega (arith, low)) (from_low (k + 1) ends))
-    (omega arith, tt)
+    all_behind (λ (h : Halt). k ≤ h.input) _ _ (all_so (λ (h : Halt). k + 1 ≤ h.input) (λ (h :
+    Halt). k ≤ h.input) _ (λ h low. omega (arith, low)) (from_low (k + 1) ends)) (omega arith, tt)
 
 -- as many as there are,
 pub from_high : (k n : ℕ) (ends : List Put) → k + length ends ≤ n
     → AllByRecursion (λ (h : Halt). h.input < n) (halts_from k ends)
 from_high k n [] most = tt
-from_high k n (puts.Stood ∷ ends) most =
-    from_high (k + 1) n ends (omega (arith, most))
+from_high k n (puts.Stood ∷ ends) most = from_high (k + 1) n ends (omega (arith, most))
 from_high k n (puts.Halted ∷ ends) most =
-    all_behind (λ (h : Halt). h.input < n) (halts_from (k + 1) ends)
-    (record { input = k; took = false } ∷ [])
-    (from_high (k + 1) n ends (omega (arith, most)))
+    all_behind (λ (h : Halt). h.input < n) _ _ (from_high (k + 1) n ends (omega (arith, most)))
     (omega (arith, most), tt)
 
 -- lost so far,
@@ -54,8 +48,7 @@ pub from_lost : (k : ℕ) (ends : List Put)
 from_lost k [] = tt
 from_lost k (puts.Stood ∷ ends) = from_lost (k + 1) ends
 from_lost k (puts.Halted ∷ ends) =
-    all_behind (λ (h : Halt). h.took ≡ false) (halts_from (k + 1) ends)
-    (record { input = k; took = false } ∷ []) (from_lost (k + 1) ends) (refl, tt)
+    all_behind (λ (h : Halt). h.took ≡ false) _ _ (from_lost (k + 1) ends) (refl, tt)
 
 -- the newest first.
 pub from_newest : (k : ℕ) (ends : List Put) → AreNewestFirst (halts_from k ends)
@@ -95,11 +88,10 @@ known_past : (k : ℕ) (end : Put) (old : List Halt)
     → AllByRecursion (λ (h : Halt). h.input < k) old
     → AllByRecursion (λ (h : Halt). h.input < k + 1) (known_then k end old)
 known_past k puts.Stood old past =
-    all_so (λ (h : Halt). h.input < k) (λ (h : Halt). h.input < k + 1) old
-    (λ h less. omega (arith, less)) past
-known_past k puts.Halted old past = (
-  omega arith,
-  all_so (λ (h : Halt). h.input < k) (λ (h : Halt). h.input < k + 1) old
+    all_so (λ (h : Halt). h.input < k) (λ (h : Halt). h.input < k + 1) old (λ h less. omega (arith,
+    less)) past
+known_past k puts.Halted old past = ( omega arith, all_so (λ (h : Halt). h.input < k) (λ (h : Halt).
+  h.input < k + 1) _
       (λ h less. omega (arith, less)) past,
 )
 
@@ -117,22 +109,18 @@ one_handed c st w =
 -- where none waits nothing has to be said
 none_said : (c : Setting) (ends : List Put) (st : Standing) → waiting st ≡ None → AreSaid c ends st
 none_said c [] st none = tt
-none_said c (end ∷ ends) st none = (
-  subst (λ (o : Option (ℕ × LetterId)). IsSaid c st o end) (sym none) tt,
-  subst (λ (o : Option (ℕ × LetterId)). AreSaid c ends (deliver_waiting c st o)) (sym none)
-      (none_said c ends st none),
+none_said c (end ∷ ends) st none = ( rw none tt, rw none (none_said c ends st none),
 )
 
 -- So the halts of the ends say of each input how it ended.
 pub given_said : (all old : List Halt) (k : ℕ) (ends : List Put) → all ≡ halts_from k ends ++ old
     → AllByRecursion (λ (h : Halt). h.input < k) old → AreSaidFrom (given all) k ends
 given_said all old k [] is past = tt
-given_said all old k (end ∷ ends) is past = (
-  λ turns s appends restarted at.
-      ap (halt_at all) at ∙ ap (λ (hs : List Halt). halt_at hs k) is
-      ∙ first_said k end ends old past,
-  given_said all (known_then k end old) (k + 1) ends (is ∙ known_on k end ends old)
-      (known_past k end old past),
+given_said all old k (end ∷ ends) is past = ( λ turns s appends restarted at.
+      ap (halt_at all) at ∙ ap (λ (hs : List Halt). halt_at hs k) is ∙ first_said _ end ends _
+      past,
+  given_said all (known_then k end old) (k + 1) ends (is ∙ known_on k end ends old) (known_past _
+      _ _ past),
 )
 
 -- What is said of the inputs is said of the letters that wait.
@@ -153,15 +141,9 @@ deliveries_said c k (end ∷ ends) st at given_so =
     said : (o : Option (ℕ × LetterId)) → waiting st ≡ o
         → ((w : ℕ × LetterId) → AreSaid c ends (deliver c st w.0 w.1))
         → IsSaid c st (waiting st) end × AreSaid c ends (deliver_waiting c st (waiting st))
-    said None none on = (
-      subst (λ (o : Option (ℕ × LetterId)). IsSaid c st o end) (sym none) tt,
-      subst (λ (o : Option (ℕ × LetterId)). AreSaid c ends (deliver_waiting c st o)) (sym none)
-          (none_said c ends st none),
+    said None none on = ( rw none tt, rw none (none_said c _ _ none),
     )
-    said (Some w) waits on = (
-      subst (λ (o : Option (ℕ × LetterId)). IsSaid c st o end) (sym waits) (of_first w),
-      subst (λ (o : Option (ℕ × LetterId)). AreSaid c ends (deliver_waiting c st o)) (sym waits)
-          (on w),
+    said (Some w) waits on = ( rw waits (of_first w), rw waits (on w),
     )
 
 -- So many letters were handed over.

@@ -37,8 +37,7 @@ lost_as : (old new : Standing) (halts : List Halt) (s : ℕ) → new.turns ≡ o
     → (has_number old.halted s ≡ true → IsLostSoFar old.turns halts s)
     → has_number new.halted s ≡ true → IsLostSoFar new.turns halts s
 lost_as old new halts s turns halted lost is =
-    subst (λ (ts : List Turn). IsLostSoFar ts halts s) (sym turns)
-    (lost (ap (λ (hs : List ℕ). has_number hs s) (sym halted) ∙ is))
+    rw turns (lost (ap (λ (hs : List ℕ). has_number hs s) (sym halted) ∙ is))
 
 pub same_extends : (halts : List Halt) (old new : Standing)
     → new.running.trace ≡ old.running.trace → new.turns ≡ old.turns → new.halted ≡ old.halted
@@ -48,12 +47,11 @@ same_extends halts old new trace turns halted = record {
   trace = trace;
   more = [];
   turns = turns;
-  lost = λ none lost s is. lost_as old new halts s turns halted (lost s) is;
-  stopped = λ so.
-      subst (λ (z : List ℕ × List Turn). AreAsStopped z.0 z.1) (λ i. (halted i, turns i)) so;
-  agrees = λ none so agrees.
-      subst (λ (z : List ℕ × List Turn). AgreesWithStops (given halts) z.1 (has_number z.0))
-      (sym (λ i. (halted i, turns i))) agrees;
+  lost = λ none lost s is. lost_as old new _ _ turns halted (lost s) is;
+  stopped = λ so. subst (λ (z : List ℕ × List Turn). AreAsStopped z.0 z.1) (λ i. (halted i, turns
+      i)) so;
+  agrees = λ none so agrees. subst (λ (z : List ℕ × List Turn). AgreesWithStops (given halts) z.1
+      (has_number z.0)) (sym (λ i. (halted i, turns i))) agrees;
 }
 
 pub extends_on : (halts : List Halt) (a b d : Standing) → Extends halts a b → Extends halts b d

@@ -32,10 +32,10 @@ module _ {D : Type 0} (tells : D → Bool) (faults_of : D → ℕ) (before after
       → HasFailed faults_of faults_of s before after
   failed_since s failed =
       let was =
-      was_at tells faults_of tells faults_of before after (s - 1) failed.new back failed.is in
+      was_at _ _ _ _ _ _ _ _ back failed.is in
       let same : failed.old ≡ faults_of was.old =
-      same_Some failed.old (faults_of was.old)
-      (sym failed.was ∙ count_at faults_of before counts (s - 1) was.old taken was.at) in
+      same_Some failed.old (faults_of was.old) (sym failed.was ∙ count_at _ _ _ _ _ taken
+      was.at) in
       let within = slice_get_within before (s - 1) was.old was.at in
       record {
         low = failed.low;
@@ -44,13 +44,13 @@ module _ {D : Type 0} (tells : D → Bool) (faults_of : D → ℕ) (before after
         new = failed.new;
         was = was.at;
         is = failed.is;
-        rose = subst (λ (n : ℕ). Rose n (faults_of failed.new)) same failed.rose;
+        rose = rw (← same) failed.rose;
       }
 
   failed_by_count : (s : ℕ) → HasFailed faults_of faults_of s before after
       → HasFailed (λ (count : ℕ). count) faults_of s counts after
   failed_by_count s failed =
-      let was = count_at faults_of before counts (s - 1) failed.old taken failed.was in
+      let was = count_at _ _ _ _ _ taken failed.was in
       let within = slice_get_within counts (s - 1) (faults_of failed.old) was in
       record {
         low = failed.low;
@@ -79,10 +79,8 @@ pub found_since : {D : Type 0} (tells : D → Bool) (faults_of : D → ℕ) (bef
     → FindsFailed (λ (count : ℕ). count) faults_of counts left found
     → FindsFailed faults_of faults_of before after found
 found_since tells faults_of before after given left counts found is_before is_after taken back is =
-    first_since tells faults_of before after counts
-    (subst (λ (xs : List _). take (length xs) counts ≡ map faults_of xs) is_before taken) back found
-    (subst (λ (xs : List _). FindsFailed (λ (count : ℕ). count) faults_of counts xs found) is_after
-    is)
+    first_since tells faults_of before after counts (rw (← is_before) taken) back found (rw (←
+    is_after) is)
 
 -- and where none did, what a run gives names none.
 pub none_named : {D T : Type 0} (faults_of : D → ℕ) (before after : List D)
@@ -111,12 +109,8 @@ rises_at faults_of counts disks place disk within there is rose none = record {
     high = omega (arith, within);
     old = get_or counts place 0;
     new = disk;
-    was =
-        subst (λ (k : ℕ). slice_get counts k ≡ Some (get_or counts place 0)) back
-        (slice_get-get_or counts place 0 within);
-    is =
-        subst (λ (k : ℕ). slice_get disks k ≡ Some disk) back
-        (slice_get_read disks (length disks) place disk refl there is);
+    was = rw (← back) (slice_get-get_or counts place 0 within);
+    is = rw (← back) (slice_get_read disks (length disks) place disk refl there is);
     rose = rose;
   };
   first = λ k less failed. none k (omega (arith, less)) failed;

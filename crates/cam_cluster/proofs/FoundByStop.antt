@@ -52,13 +52,13 @@ module _ (script : Script) (st : Standing) (place : ℕ) (works : WorksFields)
   finds_here : FindsBy script.objects (place + 1) old.site.node old.halted_at old.reads found
   finds_here =
       subst (λ (z : List ObjectDecl × ℕ). FindsBy z.0 z.1 old.site.node old.halted_at old.reads
-      found) (λ i. ((keeps.nodes place old there).over i, site_here.number i))
-      (finds (unfailing_there works.failed works.nodes place old there sound))
+      found) (λ i. ((keeps.nodes place old there).over i, site_here.number i)) (finds
+      (unfailing_there _ _ _ _ there sound))
 
   three : is_some found.event ≡ eqb halt.calls 3
   three =
-      finds_by_stop script.objects (history_of script.objects st.running.trace (place + 1))
-      st.turns (place + 1) old.site.node old.halted_at old.reads halt found finds_here
+      finds_by_stop _ (history_of script.objects st.running.trace (place + 1)) st.turns _ _ _ _
+      halt _ finds_here
 
   pub none_found : found.event ≡ None → stopped_at st.turns (place + 1) ≡ Some 3 → ⊥
   none_found none is =

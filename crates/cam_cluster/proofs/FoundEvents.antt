@@ -57,8 +57,8 @@ module _ (script : Script) (st found : Standing) (place : ℕ) (k : ℕ) (before
 
       pub event_is : taken_with e.got event ≡ e
       event_is =
-          taken_is event halt.whole (received_at script.objects st.running.trace u) told.0
-          (taken_alike script st found s k before e node (might s) beyond halt)
+          taken_is _ halt.whole _ told.0 (taken_alike script st found s k before e node (might s)
+          beyond halt)
 
       pub log_is : IsLogOf script.objects s (history_of script.objects found.running.trace s) logged
-      log_is = taken_log script st found s k before e node (might s) beyond halt logged told.1
+      log_is = taken_log script st _ _ k before e node (might s) beyond halt _ told.1

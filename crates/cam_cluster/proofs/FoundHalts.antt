@@ -46,7 +46,7 @@ line_stands script k losing taking lost found step later both (inl before) =
     ]
 line_stands script k losing taking lost found step later both (inr (inl b)) =
     elim (cases_Bool (is_restart_act b.node step.act)) [
-      | inl again ↦ inr (inr (restart_over script k losing lost found step later b again))
+      | inl again ↦ inr (inr (restart_over script _ losing lost found step later b again))
       | inr other ↦ inr (inl (record {
         node = b.node;
         before = b.before;
@@ -57,9 +57,8 @@ line_stands script k losing taking lost found step later both (inr (inl b)) =
       }))
     ]
 line_stands script k losing taking lost found step later both (inr (inr over)) =
-    inr (inr (over_stays k lost (after_step losing later script lost step)
-    (act_runs (setting (by_pasts script.objects) losing step later) losing losing script.bodies lost
-    step.line step.act).grows over))
+    inr (inr (over_stays _ _ _ (act_runs (setting (by_pasts script.objects) losing step later)
+    losing losing script.bodies _ step.line step.act).grows over))
 
 -- all lines so far
 module _ (script : Script) (range : IsInRange script) (k : ℕ) (losing taking : Halting)

@@ -23,11 +23,7 @@ pub nodes_as_many : {N : Type 0} (part : N → NodeFields) (olds news : List N)
     → AreHandedBack (λ (n : NodeFields). n.tells) (λ (n : NodeFields). n.failures) (map part olds)
     (map part news)
     → length news ≡ length olds
-nodes_as_many part olds news later =
-    as_many_nodes part olds news
-    (as_many (λ (n : NodeFields). n.tells) (λ (n : NodeFields). n.failures)
-    (λ (n : NodeFields). n.tells) (λ (n : NodeFields). n.failures) (map part olds) (map part news)
-    later)
+nodes_as_many part olds news later = as_many_nodes _ _ _ (as_many _ _ _ _ _ _ later)
 
 -- what stands before the last stands at its place, and so does the last
 at_front : {X : Type 0} (xs ys : List X) (k : ℕ) (x : X) → slice_get xs k ≡ Some x
@@ -74,8 +70,8 @@ module _ {D : Type 0} (tells : D → Bool) (faults_of : D → ℕ) where
       → now ≡ front ++ new ∷ [] → IsLater tells faults_of tells faults_of old new
       → AreHandedBack tells faults_of all now
   refused_back front all now old new all_is now_is here =
-      later_last tells faults_of tells faults_of front all front now old new all_is now_is
-      (all_same tells faults_of front) here
+      later_last tells faults_of tells faults_of front all front now old new all_is now_is (all_same
+      _ _ _) here
 
   -- a disk that failed, the last
   last_failed : (front : List D) (old new : D) (s : ℕ) → s ≡ length front + 1
@@ -89,12 +85,8 @@ module _ {D : Type 0} (tells : D → Bool) (faults_of : D → ℕ) where
         high = omega (arith, place, many);
         old = old;
         new = new;
-        was =
-            subst (λ (k : ℕ). slice_get (front ++ old ∷ []) k ≡ Some old) back
-            (at_last front old);
-        is =
-            subst (λ (k : ℕ). slice_get (front ++ new ∷ []) k ≡ Some new) back
-            (at_last front new);
+        was = rw (← back) (at_last front old);
+        is = rw (← back) (at_last front new);
         rose = rose;
       }
 
@@ -118,8 +110,8 @@ module _ {D : Type 0} (tells : D → Bool) (faults_of : D → ℕ) where
       → all ≡ front ++ old ∷ [] → now ≡ lower ++ new ∷ [] → NamesFailed faults_of front lower fault
       → NamesFailed faults_of all now fault
   cause_front fault front lower all now old new all_is now_is cause =
-      subst (λ (z : List D × List D). NamesFailed faults_of z.0 z.1 fault)
-      (sym (λ i. (all_is i, now_is i))) (by fault cause)
+      subst (λ (z : List D × List D). NamesFailed faults_of z.0 z.1 fault) (sym (λ i. (all_is i,
+      now_is i))) (by fault cause)
     where
       by : (f : RunFault) → NamesFailed faults_of front lower f
           → NamesFailed faults_of (front ++ old ∷ []) (lower ++ new ∷ []) f
@@ -131,8 +123,8 @@ module _ {D : Type 0} (tells : D → Bool) (faults_of : D → ℕ) where
             high = omega (arith, high, many);
             old = failed.old;
             new = failed.new;
-            was = at_front front (old ∷ []) (s - 1) failed.old failed.was;
-            is = at_front lower (new ∷ []) (s - 1) failed.new failed.is;
+            was = at_front front (old ∷ []) _ _ failed.was;
+            is = at_front lower (new ∷ []) _ _ failed.is;
             rose = failed.rose;
           }
       by faults.NoMemory failed = tt

@@ -77,10 +77,9 @@ bound_made c st a child nexts.Over = refl
 go_free : (g : Sight) (a : Name) → go_refusal g a ≡ None
     → (has_ended g a ≡ None) × (is_not_open g a ≡ None)
 go_free g a none =
-    let one = first_two (has_ended g a)
-    (first_of_two (has_call g a) (first_of_two (has_child g a) (is_not_open g a))) none in
-    let two = first_two (has_call g a) (first_of_two (has_child g a) (is_not_open g a)) one.1 in
-    let three = first_two (has_child g a) (is_not_open g a) two.1 in
+    let one = first_two _ _ none in
+    let two = first_two _ _ one.1 in
+    let three = first_two _ _ two.1 in
     (one.0, three.1)
 
 -- the node of its home says this of it

@@ -26,7 +26,7 @@ module _ (line v : ℕ) (bodies : List (List Statement)) (old new : LinesFields)
     (might may : ℕ → Logged → Type 0) (before : Workers) where
   still_at_work : (st : Standing) (why : LineRefusal) → AreWorkers st before
       → AreWorkers (after_line st line (Refused why)) before
-  still_at_work st why are = workers_stay st _ before [] refl refl are
+  still_at_work st why are = workers_stay _ _ _ [] refl refl are
 
   -- a line that is refused
   pub refused_so : (why : LineRefusal) (fault : LineFault)

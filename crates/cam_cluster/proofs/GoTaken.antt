@@ -116,9 +116,7 @@ module _ (line v : ℕ) (bodies : List (List Statement)) (old new : LinesFields)
         led = record { passed = gone.passed; stands = λ halt. gone_so.lines }
 
         counts : accepted (held more).turns ≡ accepted seen.standing.turns + 1
-        counts =
-            go_counts (c more) seen.standing line seen.script.bodies v gone.name gone.at gone.passed
-            (sym gone.made)
+        counts = go_counts (c more) seen.standing line _ _ _ gone.at gone.passed (sym gone.made)
 
     -- and where the action makes none.
     none_led : HasGoneOn seen.script seen.standing (c []) v None new may behind

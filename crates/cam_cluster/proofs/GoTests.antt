@@ -65,12 +65,11 @@ module _ (line v : ℕ) (bodies : List (List Statement)) (old new : LinesFields)
     pub placed : (script : Script) (st : Standing) → KeepsLinesAtWork script st old might before
         → AreAtNodes script.nodes st.running.bound
     placed script st keeps =
-        placed_in_each some.script script some.standing st old might some.keeps.lines keeps.lines
-        some.placed
+        placed_in_each _ _ _ _ _ _ some.keeps.lines keeps.lines some.placed
 
     pub named : (script : Script) (st : Standing) → KeepsLinesAtWork script st old might before
         → variable st.running v ≡ Some a
-    named script st keeps = stands_for script st old might v (Some a) keeps.lines at
+    named script st keeps = stands_for _ _ _ _ _ _ keeps.lines at
 
     -- what the tests say of the line
     abbrev pub says : Script → Standing → Option LineRefusal

@@ -58,10 +58,10 @@ pub newest_behind : (n : ℕ) (more halts : List Halt) → AreNewestFirst more �
     → AllByRecursion (λ (h : Halt). n ≤ h.input) more
     → AllByRecursion (λ (h : Halt). h.input < n) halts → AreNewestFirst (more ++ halts)
 newest_behind n [] halts new old low high = old
-newest_behind n (h ∷ more) halts new old low high = (
-  all_behind (λ (g : Halt). g.input < h.input) more halts new.0
-      (all_so (λ (g : Halt). g.input < n) (λ (g : Halt). g.input < h.input) halts
-      (λ g less. let least = low.0 in omega (arith, less, least)) high),
+newest_behind n (h ∷ more) halts new old low high = ( all_behind (λ (g : Halt). g.input < h.input)
+  _ _ new.0
+      (all_so (λ (g : Halt). g.input < n) (λ (g : Halt). g.input < h.input) _ (λ g less. let least
+      = low.0 in omega (arith, less, least)) high),
   newest_behind n more halts new.1 old low.1 high,
 )
 
@@ -93,8 +93,8 @@ module _ (seen : Seen) (step : Step) (more : List Halt) (new : LinesFields)
   accepts_one : length (after_step seen step more).standing.running.bound
       ≡ length st.running.bound + 1
   accepts_one =
-      line_counts seen.script (given all) st step (later_steps seen)
-      (script_in_range seen.script keeps.is_script) keeps.under next
+      line_counts _ (given all) _ _ (later_steps seen) (script_in_range seen.script
+      keeps.is_script) keeps.under next
 
   grown : accepted st.turns ≤ accepted (after_step seen step more).standing.turns
   grown =
@@ -105,10 +105,8 @@ module _ (seen : Seen) (step : Step) (more : List Halt) (new : LinesFields)
 
   before : run_of_lines by_pasts seen.script all (length st.running.bound) ≡ st
   before =
-      later_halts_stay by_pasts seen.script more seen.halts (length st.running.bound)
-      (subst (λ (x : Standing). AllByRecursion (λ (h : Halt). accepted x.turns ≤ h.input) more)
-      keeps.between halts.low)
-      ∙ sym keeps.between
+      later_halts_stay by_pasts seen.script more seen.halts (length st.running.bound) (rw (←
+      keeps.between) halts.low) ∙ sym keeps.between
 
   stands : (after_step seen step more).standing
       ≡ run_of_lines by_pasts seen.script all

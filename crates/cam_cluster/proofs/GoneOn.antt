@@ -84,9 +84,9 @@ module _ (line : ℕ) (bodies : List (List Statement)) (a : Name) (old : WorksFi
   pub idle_gone : is_request intention.next ≡ false
       → HasGone line a bodies old might before None old might caught
   idle_gone idle script st halts restarted is bodies_are keeps are may =
-      stayed script st a is keeps.under may halts line restarted intention.next old might caught
-      (is_next bodies a old before caught intention caught_up intends script st bodies_are
-      keeps.events are) idle keeps (caught_up st keeps.events are).0
+      stayed _ _ _ is keeps.under may halts line restarted _ _ _ _ (is_next bodies a old
+      before caught intention caught_up intends script st bodies_are keeps.events are) idle keeps
+      (caught_up st keeps.events are).0
 
   -- It makes a request, which was put.
   pub request_gone : (want : Want) (place : ℕ) (done : Put) (new : WorksFields)
@@ -133,7 +133,7 @@ module _ (line : ℕ) (bodies : List (List Statement)) (a : Name) (old : WorksFi
 
       put_so : IsPutAt script st place (input_of (place + 1) (inputs.Request request))
           (mail_of (inputs.Request request)) (load_of (inputs.Request request))
-      put_so = request_put script st a is keeps.under may place want home asks
+      put_so = request_put _ _ _ is keeps.under may _ _ home asks
 
       bodies_stay : now.running.bodies ≡ st.running.bodies
       bodies_stay =
@@ -143,8 +143,4 @@ module _ (line : ℕ) (bodies : List (List Statement)) (a : Name) (old : WorksFi
           (halt_of c st (Requests request))
 
       still : AreWorkers now caught
-      still =
-          after_stays line (restarted (home_node a)) st (home_node a)
-          (c.reading.next st.running.trace (Requests request))
-          (appends c.reading st.running.trace (Requests request))
-          (halt_of c st (Requests request)) caught (caught_up st keeps.events are).0
+      still = after_stays _ _ _ _ _ _ _ _ (caught_up st keeps.events are).0

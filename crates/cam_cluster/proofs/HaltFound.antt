@@ -50,7 +50,7 @@ module _ (script : Script) (st found : Standing) (place : ℕ) (k : ℕ) (before
 
   -- the works' own record of the halt
   newest : open_halt_of s works.undecided ≡ Some (open_halt u)
-  newest = ap (open_halt_of s) keeps.undecided ∙ newest_open s st.undecided u beyond.undecided
+  newest = ap (open_halt_of s) keeps.undecided ∙ newest_open s st.undecided _ beyond.undecided
 
   trace_is : found.running.trace ≡ put_in beyond.stands.behind e before
   trace_is = ap (λ (z : Standing). z.running.trace) beyond.stands.is
@@ -93,17 +93,14 @@ module _ (script : Script) (st found : Standing) (place : ℕ) (k : ℕ) (before
 
     events_are : events_found o event works.events ≡ reverse found.running.trace
     events_are =
-        ap (λ (x : Option OpenHalt). events_found x event works.events) newest
-        ∙ (λ i. put_in_at p
+        ap (λ (x : Option OpenHalt). events_found x event works.events) newest ∙ (λ i. put_in_at p
         (event_is script st found place k before e works might keeps beyond node there logged answer
-        event read says which i)
-        ((keeps.events ∙ ap (λ (t : List Event). reverse t) beyond.stands.was) i))
-        ∙ put_in_reversed (length st.running.trace) beyond.stands.behind e before
-        (sent_front (length st.running.trace) beyond.stands.behind before
-        (subst (AllByRecursion (λ (x : Event). IsSentBefore (length st.running.trace) x.got))
-        beyond.stands.was
-        (run_sent script.objects (has_number st.taken) st.running.trace keeps.under.run))) few
-        ∙ ap (λ (t : List Event). reverse t) (sym trace_is)
+        event read says which i) ((keeps.events ∙ ap (λ (t : List Event). reverse t)
+        beyond.stands.was) i)) ∙ put_in_reversed _ beyond.stands.behind e before (sent_front
+        (length st.running.trace) beyond.stands.behind before (subst (AllByRecursion (λ (x : Event).
+        IsSentBefore (length st.running.trace) x.got)) beyond.stands.was (run_sent script.objects
+        (has_number st.taken) _ keeps.under.run))) few ∙ ap (λ (t : List Event). reverse t) (sym
+        trace_is)
 
     pub found_kept : length works.events + 2 < 1000000000
         → KeepsBut script found place
@@ -120,60 +117,49 @@ module _ (script : Script) (st found : Standing) (place : ℕ) (k : ℕ) (before
         halts = λ q n at away said.
             let off : s ≡ q + 1 → ⊥ =
             λ is. away (let back : q ≡ place = omega (arith, is) in back) in
-            halt_stays script.objects st found (q + 1) n (might (q + 1)) (might (q + 1))
-            (other_histories_stay script.objects s (q + 1) before e st found beyond.stands off)
-            (λ v is. others_stay_undecided script.objects k s (q + 1) before e st found v beyond
-            keeps.under.placed off is) (λ logged was. was)
-            (keeps.halts q n at
-            (ap (λ (hs : List ℕ). has_number hs (q + 1)) (sym halted_are) ∙ said));
+            halt_stays _ _ _ _ _ (might (q + 1)) (might (q + 1)) (other_histories_stay
+            script.objects s (q + 1) before e st found beyond.stands off) (λ v is.
+            others_stay_undecided script.objects k s (q + 1) before e st found v beyond
+            keeps.under.placed off is) (λ logged was. was) (keeps.halts q n at (ap (λ (hs : List ℕ).
+            has_number hs (q + 1)) (sym halted_are) ∙ said));
       };
       eight = keeps.eight;
       whole =
           wholes_stand script.objects s before e st found _ works.outbox.net works.outbox.unput
           works.halted beyond.stands keeps.whole;
       undecided =
-          ap (λ (x : Option OpenHalt). open_without s (halts_found s x works.undecided)) newest
-          ∙ ap (λ (hs : List OpenHalt). open_without s (open_beside s p hs)) keeps.undecided
-          ∙ ap (open_without s)
-          (beside_open s p (length st.running.trace) (length st.running.trace) st.undecided
-          keeps.sent keeps.under.placed
-          (let low : length st.running.trace ≤ length st.running.trace = omega arith in low) few)
-          ∙ sym (others_open s (undecided_beside s p st.undecided))
-          ∙ ap (λ (us : List Undecided). map open_halt (without_node s us)) (sym undecided_are);
+          ap (λ (x : Option OpenHalt). open_without s (halts_found s x works.undecided)) newest ∙ ap
+          (λ (hs : List OpenHalt). open_without s (open_beside s p hs)) keeps.undecided ∙ ap
+          (open_without s) (beside_open s p _ _ _ keeps.sent keeps.under.placed (let low : length
+          st.running.trace ≤ length st.running.trace = omega arith in low) few) ∙ sym (others_open s
+          (undecided_beside s p st.undecided)) ∙ ap (λ (us : List Undecided). map open_halt
+          (without_node s us)) (sym undecided_are);
       sent =
-          subst (λ (z : ℕ × List Undecided).
-          AllByRecursion (λ (v : Undecided). IsSentBefore z.0 v.event.got) (without_node s z.1))
-          (λ i. (sym long i, sym undecided_are i))
-          (others_all (λ (v : Undecided). IsSentBefore (length st.running.trace + 1) v.event.got) s
-          (undecided_beside s p st.undecided)
-          (beside_sent s p (length st.running.trace) st.undecided keeps.sent));
+          subst (λ (z : ℕ × List Undecided). AllByRecursion (λ (v : Undecided). IsSentBefore z.0
+          v.event.got) (without_node s z.1)) (λ i. (sym long i, sym undecided_are i)) (others_all (λ
+          (v : Undecided). IsSentBefore (length st.running.trace + 1) v.event.got) _ _
+          (beside_sent _ _ _ _ keeps.sent));
       events = events_are;
       all_marks =
-          ap (λ (x : Option OpenHalt). marks_found s x works.marks) newest
-          ∙ ap (with_mark_taken s) keeps.all_marks
-          ∙ sym marks_are;
+          ap (λ (x : Option OpenHalt). marks_found s x works.marks) newest ∙ ap (with_mark_taken s)
+          keeps.all_marks ∙ sym marks_are;
       few =
-          let many = ap (λ (es : List Event). length es) events_are
-          ∙ length-reverse found.running.trace in
+          let many = ap (λ (es : List Event). length es) events_are ∙ length-reverse
+          found.running.trace in
           let more = long in
-          let old = ap (λ (es : List Event). length es) keeps.events
-          ∙ length-reverse st.running.trace in
+          let old = ap (λ (es : List Event). length es) keeps.events ∙ length-reverse
+          st.running.trace in
           omega (arith, room, many, more, old);
       stops = λ all.
           let was = keeps.stops all in record {
-            said = λ m away.
-                subst (λ (z : List ℕ × List Turn). IsAsStopped (has_number z.0 m) z.1 m)
-                (λ i. (sym halted_are i, sym turns_are i)) (was.said m refl);
+            said = λ m away. subst (λ (z : List ℕ × List Turn). IsAsStopped (has_number z.0 m) z.1
+                m) (λ i. (sym halted_are i, sym turns_are i)) (was.said m refl);
             each = λ q n at away.
                 let off : s ≡ q + 1 → ⊥ =
                 λ is. true≢false (sym (eq-eqb s (q + 1) is) ∙ away) in
-                stopped_alike script.objects st.running.trace found.running.trace st.halted
-                found.halted st.turns found.turns (q + 1) n
-                (other_histories_stay script.objects s (q + 1) before e st found beyond.stands
-                off)
-                (ap (λ (hs : List ℕ). has_number hs (q + 1)) halted_are)
-                (ap (λ (ts : List Turn). calls_left ts (q + 1)) turns_are)
-                (ap (λ (ts : List Turn). stopped_at ts (q + 1)) turns_are)
-                (was.each q n at refl);
+                stopped_alike _ _ _ _ _ _ _ _ n (other_histories_stay script.objects s (q +
+                1) before e st found beyond.stands off) (ap (λ (hs : List ℕ). has_number hs (q + 1))
+                halted_are) (ap (λ (ts : List Turn). calls_left ts (q + 1)) turns_are) (ap (λ (ts :
+                List Turn). stopped_at ts (q + 1)) turns_are) (was.each q n at refl);
           };
     }

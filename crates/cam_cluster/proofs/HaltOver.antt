@@ -50,18 +50,16 @@ pub restart_over : (script : Script) (k : ℕ) (halts : Halting) (lost found : S
 restart_over script k halts lost found step later b is = record {
   node = s;
   at =
-      ap (λ t. input_node t k) turns
-      ∙ node_stays (newest ∷ Restart s ∷ []) lost.turns k b.beyond.passed
-      ∙ last_node lost.turns s k b.beyond.last;
+      ap (λ t. input_node t k) turns ∙ node_stays (newest ∷ Restart s ∷ []) lost.turns _
+      b.beyond.passed ∙ last_node lost.turns _ _ b.beyond.last;
   accepts =
       let same = ap accepted turns in
       let passed = b.beyond.passed in
       omega (arith, same, passed);
   number = accepted lost.turns;
   last =
-      ap (λ t. last_input t s) turns
-      ∙ ap (λ c. if c then Some (accepted lost.turns) else last_input lost.turns s)
-      (eq-eqb s s refl);
+      ap (λ t. last_input t s) turns ∙ ap (λ c. if c then Some (accepted lost.turns) else last_input
+      lost.turns s) (eq-eqb s s refl);
   later = b.beyond.passed;
 }
   where

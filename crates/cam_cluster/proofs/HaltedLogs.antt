@@ -57,9 +57,7 @@ module _ (seen : Seen) (lines : LinesFields) (may : ℕ → Logged → Type 0)
     here = omega (arith, low)
 
     there : IsAt lines.works.nodes (s - 1)
-    there =
-        within_at lines.works.nodes (s - 1)
-        (let many = keeps.keeps.runs.one_each in omega (arith, low, high, many))
+    there = within_at _ _ (let many = keeps.keeps.runs.one_each in omega (arith, low, high, many))
 
     halt : IsHaltOf seen.script.objects seen.standing.running.trace seen.standing.undecided s
         there.node (may s)

@@ -45,7 +45,7 @@ too_few_is (Some n) calls is = by (lt_cases n 4) is
 
 ends_few : (before : List Turn) (s calls : ℕ) (w : Bool) → ends_by before s w ≡ Some calls
     → calls < 4
-ends_few before s calls true is = too_few_is (calls_left before s) calls is
+ends_few before s calls true is = too_few_is (calls_left before s) _ is
 ends_few before s calls false is = cc
 
 -- what the run by stops says of the halt
@@ -67,7 +67,7 @@ of_append (Some n) again calls is = by (lt_cases n 4) is
 
 said_at : (before : List Turn) (s calls : ℕ) (w again : Bool) → ends_by before s w ≡ Some calls
     → by_stops before s w again ≡ Some (eqb calls 3 && again)
-said_at before s calls true again is = of_append (calls_left before s) again calls is
+said_at before s calls true again is = of_append (calls_left before s) again _ is
 said_at before s calls false again is = cc
 
 pub record IsSaidOf (turns : List Turn) (s calls : ℕ) : Type 0 where
@@ -83,9 +83,8 @@ stopped_said (Input m line w again ∷ before) s calls is = elim (eqb_tells m s)
       ≡ (if runs_on before s then ends_by before s w else None) = rw y.0 refl in
       let ends = run_of (runs_on before s) (sym here ∙ is) in
       let says : by_stops before m w again ≡ Some (eqb calls 3 && again) =
-      subst (λ (n : ℕ). by_stops before n w again ≡ Some (eqb calls 3 && again)) (sym y.1)
-      (said_at before s calls w again ends) in
-      record { few = ends_few before s calls w ends; said = rw y.0 says }
+      rw y.1 (said_at before s _ w again ends) in
+      record { few = ends_few before s _ w ends; said = rw y.0 says }
   | inr other ↦
       let older : stopped_at (Input m line w again ∷ before) s ≡ stopped_at before s =
       rw other.0 refl in
@@ -128,9 +127,8 @@ module _ (objects : List ObjectDecl) (history : List Received) (turns : List Tur
           → is_some found.event ≡ eqb halt.calls 3
       by true is (inl y) opens =
           let less = y.1 in
-          ap (λ (o : Option Event). is_some o)
-          ((told history halt.whole halt.halted).1 opens halt.adds)
-          ∙ sym (off halt.calls less)
+          ap (λ (o : Option Event). is_some o) ((told history halt.whole halt.halted).1 opens
+          halt.adds) ∙ sym (off halt.calls less)
         where
           off : (k : ℕ) → k < 3 → eqb k 3 ≡ false
           off k less = elim (eqb_tells k 3) [
@@ -141,14 +139,13 @@ module _ (objects : List ObjectDecl) (history : List Received) (turns : List Tur
       by false is (inl y) opens = absurd (true≢false (sym y.0 ∙ is))
       by false is (inr n) opens =
           let high = n.1 in
-          let few = (stopped_said turns s halt.calls halt.stopped).few in
-          ap (λ (o : Option Event). is_some o)
-          ((told history halt.whole halt.halted).0 0 opens)
-          ∙ sym (eq-eqb halt.calls 3 (omega (arith, high, few)))
+          let few = (stopped_said turns _ _ halt.stopped).few in
+          ap (λ (o : Option Event). is_some o) ((told history halt.whole halt.halted).0 0 opens) ∙
+          sym (eq-eqb halt.calls 3 (omega (arith, high, few)))
 
   -- as it is said of the halt by the stops
   pub said_by_stop : last_stop turns s ≡ Some (eqb halt.calls 3 && told_last turns s)
-  said_by_stop = (stopped_said turns s halt.calls halt.stopped).said
+  said_by_stop = (stopped_said turns s _ halt.stopped).said
 
   -- Another history that is alike, and turns that say the same of the node.
   pub halt_alike : (other : List Received) (later : List Turn) → AreAlike history other

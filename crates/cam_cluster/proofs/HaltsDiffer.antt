@@ -46,19 +46,18 @@ module _ (turns : List Turn) (s k : ℕ) (last : last_input turns s ≡ Some k) 
       }
         where
           low : h.input ≤ k
-          low = last_latest turns s h.input k (at_node (input_node turns h.input) is) last
+          low = last_latest turns _ _ _ (at_node (input_node turns h.input) is) last
 
           here : h.input ≡ k
           here = elim (eqb_tells h.input k) [
             | inl y ↦ y.1
             | inr off ↦
                 let older : halt_at (h ∷ hs) k ≡ halt_at hs k = rw off.0 refl in
-                absurd (no_halt (sym (none_again hs h.input k newest.0 low) ∙ sym older ∙ lost))
+                absurd (no_halt (sym (none_again _ _ _ newest.0 low) ∙ sym older ∙ lost))
           ]
       by false is rest = record {
         there = rw (is, ne_eqb h.input k off) more.there;
-        others = λ j away.
-            elim (eqb_tells h.input j) [
+        others = λ j away. elim (eqb_tells h.input j) [
               | inl y ↦ rw (is, y.0) refl
               | inr n ↦ rw (is, n.0) (more.others j away)
             ];
@@ -66,9 +65,8 @@ module _ (turns : List Turn) (s k : ℕ) (last : last_input turns s ≡ Some k) 
         where
           off : h.input ≡ k → ⊥
           off e =
-              true≢false (sym (ap (λ o. is_at o s)
-              (ap (input_node turns) e ∙ last_node turns s k last)
-              ∙ eq-eqb s s refl) ∙ is)
+              true≢false (sym (ap (λ o. is_at o s) (ap (input_node turns) e ∙ last_node turns _ _
+              last) ∙ eq-eqb s s refl) ∙ is)
 
           older : halt_at (h ∷ hs) k ≡ halt_at hs k
           older = rw (ne_eqb h.input k off) refl

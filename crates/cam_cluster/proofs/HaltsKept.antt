@@ -30,10 +30,8 @@ undecided_on objects old new s more trace same placed u is = record {
   there = u;
   is = same ∙ is;
   alike =
-      ap nameless
-      (ap (λ t. received_at objects t u) trace
-      ∙ undecided_stay objects more old.running.trace u
-      (placed_within (length old.running.trace) s old.undecided u placed is));
+      ap nameless (ap (λ t. received_at objects t u) trace ∙ undecided_stay objects more
+      old.running.trace u (placed_within _ _ _ _ placed is));
 }
 
 -- What is kept of a halted node goes by its history, by what is undecided of it, and by what may be
@@ -91,7 +89,7 @@ pub all_sent_still : (n m : ℕ) → n ≤ m → (us : List Undecided)
     → AllByRecursion (λ (u : Undecided). IsSentBefore m u.event.got) us
 all_sent_still n m low [] sent = tt
 all_sent_still n m low (u ∷ us) sent =
-    (sent_still n m low u.event.got sent.0, all_sent_still n m low us sent.1)
+    (sent_still _ _ low _ sent.0, all_sent_still n m low us sent.1)
 
 -- the halts of the other nodes, where those of one are taken out
 pub others_all : (P : Undecided → Type 0) (s : ℕ) (us : List Undecided) → AllByRecursion P us

@@ -19,13 +19,11 @@ pub one_later : {D : Type 0} (tells : D → Bool) (faults_of : D → ℕ) (disks
     → IsLater tells faults_of tells faults_of old new
     → AreHandedBack tells faults_of disks (set disks place new)
 one_later tells faults_of [] place old new at is = tt
-one_later tells faults_of (disk ∷ disks) zero old new at is = (
-  subst (λ d. IsLater tells faults_of tells faults_of d new) (sym (same_Some disk old at)) is,
-  all_same tells faults_of disks,
+one_later tells faults_of (disk ∷ disks) zero old new at is = ( rw (same_Some disk old at) is,
+  all_same _ _ _,
 )
 one_later tells faults_of (disk ∷ disks) (suc place) old new at is = (
-  record { told = refl; later = omega arith },
-  one_later tells faults_of disks place old new at
+  record { told = refl; later = omega arith }, one_later tells faults_of disks place old new at
       is,
 )
 
@@ -85,9 +83,7 @@ module _ {A B : Type 0} (told_before : A → Bool) (faults_before : A → ℕ) (
   is_at (o ∷ olds) (n ∷ news) zero old later at = record {
     new = n;
     at = refl;
-    is =
-        subst (λ d. IsLater told_before faults_before tells faults_of d n) (same_Some o old at)
-        later.0;
+    is = rw (← (same_Some o old at)) later.0;
   }
   is_at (o ∷ olds) (n ∷ news) (suc place) old later at =
       let now = is_at olds news place old later.1 at in
@@ -130,8 +126,8 @@ module _ {A B C D : Type 0} (told_first : A → Bool) (faults_first : A → ℕ)
   failed_between s first next now last one failed two =
       let was = was_at told_first faults_first told_next faults_next first next (s - 1) failed.old
       one failed.was in
-      let is = is_at told_now faults_now tells faults_of now last (s - 1) failed.new two
-      failed.is in record {
+      let is = is_at told_now faults_now tells faults_of now last (s - 1) failed.new two failed.is
+      in record {
         low = failed.low;
         high =
             let high = failed.high in
@@ -141,7 +137,5 @@ module _ {A B C D : Type 0} (told_first : A → Bool) (faults_first : A → ℕ)
         new = is.new;
         was = was.at;
         is = is.at;
-        rose =
-            rose_between (faults_first was.old) (faults_next failed.old) (faults_now failed.new)
-            (faults_of is.new) was.is.later failed.rose is.is.later;
+        rose = rose_between _ _ _ _ was.is.later failed.rose is.is.later;
       }

@@ -46,12 +46,9 @@ same_sites objects old new first [] trace halted are = tt
 same_sites objects old new first (site ∷ sites) trace halted are = (
   record {
     number = are.0.number;
-    stands = λ awake.
-        subst (λ (t : List Event). StandsAt objects first (history_of objects t first) site)
-        (sym trace)
-        (are.0.stands (ap (λ (hs : List ℕ). has_number hs first) (sym halted) ∙ awake));
-  },
-  same_sites objects old new (first + 1) sites trace halted are.1,
+    stands = λ awake. rw trace (are.0.stands (ap (λ (hs : List ℕ). has_number hs first) (sym halted)
+        ∙ awake));
+  }, same_sites objects old new (first + 1) sites trace halted are.1,
 )
 
 -- a letter counts as delivered
@@ -80,9 +77,7 @@ counts_as_delivered script st works may number low high keeps = record {
   eight = keeps.eight;
   nodes = keeps.nodes;
   whole = record {
-    nodes =
-        same_sites script.objects st (has_delivered number st) 1 (sites_of works.nodes) refl refl
-        keeps.whole.nodes;
+    nodes = same_sites _ _ _ _ _ refl refl keeps.whole.nodes;
     network =
         delivered_stands script.objects st works.outbox.net works.outbox.unput works.halted number
         low high keeps.whole.network;
@@ -113,13 +108,12 @@ module _ (line number : ℕ) (coming : Coming) (letter : Letter) (old : WorksFie
       record {
         coming = record {
           may =
-              letters_sent st.running.trace coming.letter
-              (letter_numbered st.running number coming.letter f.0);
+              letters_sent st.running.trace coming.letter (letter_numbered st.running number _
+              f.0);
           awake =
-              ap (has_number st.halted) f.1
-              ∙ sym (keeps.whole.network.stands.nodes (coming.place + 1) (omega arith)
-              (omega (arith, within)))
-              ∙ ap (is_halted old.halted) (after_is coming.place) ∙ awake;
+              ap (has_number st.halted) f.1 ∙ sym (keeps.whole.network.stands.nodes (coming.place +
+              1) (omega arith) (omega (arith, within))) ∙ ap (is_halted old.halted) (after_is
+              coming.place) ∙ awake;
           idle = tt;
         };
         at = f.1;
@@ -143,23 +137,11 @@ module _ (line number : ℕ) (coming : Coming) (letter : Letter) (old : WorksFie
       let f = found script st is keeps in
       let same : coming.letter ≡ id = same_Some coming.letter id (sym f.0 ∙ numbered) in
       let in_net =
-      has_within old.outbox.net number
-      (has_it script st old might keeps none_left number ∙ ap is_some numbered) in
-      subst (λ (i : LetterId). KeepsRun script
-      (deliver (held_setting script.objects halts line restarted) st number i)
-      (record mid {
-        outbox =
-            record {
-              net = changed as_delivered mid.outbox.net number;
-              unput = mid.outbox.unput;
-            };
-      }) may) same
-      (counts_as_delivered script
-      (put (held_setting script.objects halts line restarted) st (Receives coming.letter)) mid may
-      number in_net.0 (omega (arith, in_net, more))
-      (has script st halts restarted is keeps (put_so script st is keeps within)
-      (subst (λ (i : LetterId). halt_of (held_setting script.objects halts line restarted) st
-      (Receives i) ≡ as_halt done) (sym same) halt)))
+      has_within old.outbox.net number (has_it script st old might keeps none_left number ∙ ap
+      is_some numbered) in
+      rw (← same) (counts_as_delivered script (put (held_setting script.objects halts line
+      restarted) st (Receives coming.letter)) mid may number in_net.0 (omega (arith, in_net, more))
+      (has script st halts restarted is keeps (put_so script st is keeps within) (rw same halt)))
 
 -- what its node gives for the step
 pub node_awake : (works : WorksFields) (may : ℕ → Logged → Type 0) (place : ℕ)
@@ -172,7 +154,7 @@ node_awake works may place some awake node at =
 pub place_within : (works : WorksFields) (may : ℕ → Logged → Type 0) (place : ℕ)
     → AreWorksOfSome works may → place < length works.nodes → place < 8
 place_within works may place some there =
-    within some.script some.standing works may some.is_script some.keeps place there
+    within some.script some.standing works may some.is_script some.keeps _ there
 
 -- letters that are put next may be written
 pub works_may_be_written : (works : WorksFields) (may : ℕ → Logged → Type 0)
@@ -180,5 +162,4 @@ pub works_may_be_written : (works : WorksFields) (may : ℕ → Logged → Type 
 works_may_be_written works may some =
     (all_may_be_written some.script.objects (has_number some.standing.taken) some.standing
     works.outbox.net works.outbox.unput works.halted some.keeps.under.run
-    some.is_script.object_limit
-    (few_events some.script some.standing works may some.keeps) some.keeps.whole.network).0
+    some.is_script.object_limit (few_events _ _ _ _ some.keeps) some.keeps.whole.network).0

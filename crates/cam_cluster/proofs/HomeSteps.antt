@@ -49,7 +49,7 @@ module _ (a : Name) (bodies : List (List Statement)) (works : WorksFields)
         omega (arith, high, each, home)
 
     pub home_within : place < 8
-    home_within = within goes.script st works may goes.is_script goes.keeps place home_there
+    home_within = within goes.script st works may goes.is_script goes.keeps _ home_there
 
     pub home_awake : is_halted works.halted (place + 1) ≡ false
     home_awake =
@@ -65,8 +65,7 @@ module _ (a : Name) (bodies : List (List Statement)) (works : WorksFields)
           ≡ None
       free =
           ap (λ s. refusal ((by_knowledge goes.script.objects).sight st.running.trace s) a want)
-          (sym home)
-          ∙ asks_freely goes.script st a goes.is_script goes.keeps.under goes.may want asks
+          (sym home) ∙ asks_freely _ _ _ goes.is_script goes.keeps.under goes.may _ asks
 
       pub home_is_free : (node : NodeFields) → slice_get works.nodes place ≡ Some node
           → IsNotRefused node.site.node (inputs.Request (record { action = a; want = want }))
@@ -86,13 +85,11 @@ module _ (a : Name) (bodies : List (List Statement)) (works : WorksFields)
           history = history_of goes.script.objects st.running.trace (place + 1)
 
           rep : Represents goes.script.objects history node.site.node
-          rep =
-              stands goes.script st works may goes.is_script goes.keeps place home_there home_awake
-              node at
+          rep = stands _ st works may goes.is_script goes.keeps place home_there home_awake _ at
 
           number : node.site.node.number ≡ place + 1
-          number = (here goes.script st works may goes.is_script goes.keeps place home_there
-              home_awake node at).number
+          number = (here _ _ works may goes.is_script goes.keeps _ home_there home_awake _
+              at).number
 
       pub home_has_numbers : (node : NodeFields) → slice_get works.nodes place ≡ Some node
           → MayStep node.site.node (inputs.Request (record { action = a; want = want }))
@@ -107,7 +104,7 @@ pub goes_writably : (a : Name) (bodies : List (List Statement)) (works : WorksFi
     (may : ℕ → Logged → Type 0) (workers : Workers) → GoesOfSome a bodies works may workers
     → AllByRecursion IsWritable works.outbox.unput
 goes_writably a bodies works may workers goes =
-    works_may_be_written works may (record {
+    works_may_be_written _ _ (record {
       script = goes.script;
       standing = goes.standing;
       is_script = goes.is_script;

@@ -48,11 +48,10 @@ put_either : (a b : Name) (xs : List Name) → name_eq a b ≡ false
     → put a (put b xs) ≡ put b (put a xs)
 put_either a b xs apart =
     elim (name_three a b) [
-      | inl before ↦ put_before a b xs before
-      | inr (inl behind) ↦ sym (put_before b a xs behind)
+      | inl before ↦ put_before _ _ xs before
+      | inr (inl behind) ↦ sym (put_before _ _ xs behind)
       | inr (inr same) ↦
-          absurd (true≢false
-          (sym (subst (λ (n : Name). name_eq a n ≡ true) same (name_eq_refl a)) ∙ apart))
+          absurd (true≢false (sym (rw (← same) (name_eq_refl a)) ∙ apart))
     ]
 
 -- a name without a body is not the first of the given ones, nor has it one by the others
@@ -71,7 +70,7 @@ pub in_order_more : (given : List (Name × ℕ)) (a : Name) (body : ℕ) → bod
 in_order_more [] a body bare = refl
 in_order_more (p ∷ ps) a body bare =
     let apart = given_apart p ps a bare in
-    ap (put p.0) (in_order_more ps a body apart.1) ∙ put_either p.0 a (in_order ps) apart.0
+    ap (put p.0) (in_order_more ps a body apart.1) ∙ put_either _ _ (in_order ps) apart.0
 
 pub body_number_more : (given : List (Name × ℕ)) (a : Name) (body : ℕ) (q : Name)
     → body_number given a ≡ None
@@ -90,21 +89,17 @@ body_number_more (p ∷ ps) a body q bare =
           let other : name_eq a q ≡ false =
           elim (cases_Bool (name_eq a q)) [
             | inl tied ↦
-                absurd (true≢false (sym (subst (λ (n : Name). name_eq p.0 n ≡ true)
-                (sym (name_eq_same a q tied)) same) ∙ apart.0))
+                absurd (true≢false (sym (subst (λ (n : Name). name_eq p.0 n ≡ true) (sym
+                (name_eq_same _ _ tied)) same) ∙ apart.0))
             | inr away ↦ away
-          ]
-          in
-          ap (λ t. if t then Some p.1 else body_number (ps ++ (a, body) ∷ []) q) same
-          ∙ sym
-          (ap (λ t. cond t (Some body) (if name_eq p.0 q then Some p.1 else body_number ps q))
-          (sym (name_ties a q) ∙ other)
-          ∙ ap (λ t. if t then Some p.1 else body_number ps q) same)
+          ] in
+          ap (λ t. if t then Some p.1 else body_number (ps ++ (a, body) ∷ []) q) same ∙ sym (ap (λ
+          t. cond t (Some body) (if name_eq p.0 q then Some p.1 else body_number ps q)) (sym
+          (name_ties a q) ∙ other) ∙ ap (λ t. if t then Some p.1 else body_number ps q) same)
       | inr other ↦
-          ap (λ t. if t then Some p.1 else body_number (ps ++ (a, body) ∷ []) q) other
-          ∙ body_number_more ps a body q (given_apart p ps a bare).1
-          ∙ ap (λ o. cond (is_eq (name_cmp a q)) (Some body) o)
-          (sym (ap (λ t. if t then Some p.1 else body_number ps q) other))
+          ap (λ t. if t then Some p.1 else body_number (ps ++ (a, body) ∷ []) q) other ∙
+          body_number_more ps a body q (given_apart p ps a bare).1 ∙ ap (λ o. cond (is_eq (name_cmp
+          a q)) (Some body) o) (sym (ap (λ t. if t then Some p.1 else body_number ps q) other))
     ]
 
 -- an action that was given a body has one

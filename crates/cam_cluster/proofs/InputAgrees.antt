@@ -57,11 +57,9 @@ module _ (line : ℕ) (again : Bool) (st : Standing) (s : ℕ) (e : Event) (w : 
       → ((m : ℕ) → IsAsStopped (halted m) now m) → AreAsStopped st.halted st.turns
   stopped_before halted same so m = elim (eqb_tells s m) [
     | inl y ↦
-        subst (λ (n : ℕ). IsAsStopped (has_number st.halted n) st.turns n) y.1
-        (subst (λ (b : Bool). IsAsStopped b st.turns s) (sym awake) (ran_on (halted s) (so s)))
+        rw (← y.1) (rw awake (ran_on (halted s) (so s)))
     | inr away ↦
-        other_was st.turns s line w again (has_number st.halted m) m away.1
-        (subst (λ (b : Bool). IsAsStopped b now m) (same m away.1) (so m))
+        other_was _ _ line w again _ _ away.1 (rw (← (same m away.1)) (so m))
   ]
 
   newly : (m : ℕ) → (s ≡ m → ⊥) → has_number (s ∷ st.halted) m ≡ has_number st.halted m
@@ -88,17 +86,13 @@ module _ (line : ℕ) (again : Bool) (st : Standing) (s : ℕ) (e : Event) (w : 
       → AreAsStopped (after o).halted (after o).turns
       → o ≡ known_of true (by_stops st.turns s w again)
   said_so None never so =
-      none_known (by_stops st.turns s w again)
-      (said_by st.turns s w again
-      ∙ not_so (is_some ends)
-      (runs_there (subst (λ (b : Bool). IsAsStopped b now s) awake (so s))).0)
+      none_known (by_stops st.turns s w again) (said_by st.turns s w again ∙ not_so _ (runs_there
+      (subst (λ (b : Bool). IsAsStopped b now s) awake (so s))).0)
   said_so (Some true) never so = absurd (never refl)
   said_so (Some false) never so =
-      some_known (by_stops st.turns s w again)
-      (said_by st.turns s w again
-      ∙ (stops_there
-      (subst (λ (b : Bool). IsAsStopped b now s)
-      (or_left (eqb s s) (has_number st.halted s) (eq-eqb s s refl)) (so s))).1)
+      some_known (by_stops st.turns s w again) (said_by st.turns s w again ∙ (stops_there (subst (λ
+      (b : Bool). IsAsStopped b now s) (or_left (eqb s s) (has_number st.halted s) (eq-eqb s s
+      refl)) (so s))).1)
 
 -- So halts that agree with the stops go on agreeing.
 pub put_agrees : (c : Setting) (halts : List Halt) → c.halts ≡ given halts → (st : Standing)
@@ -107,14 +101,10 @@ pub put_agrees : (c : Setting) (halts : List Halt) → c.halts ≡ given halts �
     → AreAsStopped (put c st input).halted (put c st input).turns → Agrees (given halts) st
     → Agrees (given halts) (put c st input)
 put_agrees c halts known st input awake none so agrees =
-    subst (λ (h : Halting). Agrees h (put c st input)) known
-    (puts_agree c st input (subst (λ (h : Halting). Agrees h st) (sym known) agrees) awake
-    (said_so c.line (c.restarted s) st s (c.reading.next st.running.trace input) w awake
-    (c.halts st.turns s w (c.restarted s))
-    (λ is.
-    none (accepted st.turns) (omega arith)
-    (sym (ap (λ (h : Halting). h st.turns s w (c.restarted s)) known) ∙ is))
-    so))
+    rw (← known) (puts_agree c st input (rw known agrees) awake (said_so c.line (c.restarted s) st s
+    (c.reading.next st.running.trace input) w awake (c.halts st.turns s w (c.restarted s)) (λ is.
+    none (accepted st.turns) (omega arith) (sym (ap (λ (h : Halting). h st.turns s w (c.restarted
+    s)) known) ∙ is)) so))
   where
     s : ℕ
     s = node_of st.running.trace input

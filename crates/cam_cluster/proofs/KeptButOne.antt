@@ -42,14 +42,14 @@ pub keeps_but : (script : Script) (st : Standing) (place : ℕ) (works : WorksFi
     → KeepsRun script st works might → KeepsBut script st place works might
 keeps_but script st place works might few keeps = record {
   under = keeps.under;
-  kept = kept_nodes script st place works might keeps;
+  kept = kept_nodes _ _ _ _ _ keeps;
   eight = keeps.eight;
   whole = keeps.whole;
   undecided =
       ap (open_without (place + 1)) keeps.undecided ∙ sym (others_open (place + 1) st.undecided);
   sent =
-      others_all (λ (u : Undecided). IsSentBefore (length st.running.trace) u.event.got) (place + 1)
-      st.undecided keeps.sent;
+      others_all (λ (u : Undecided). IsSentBefore (length st.running.trace) u.event.got) _ _
+      keeps.sent;
   events = keeps.events;
   all_marks = keeps.all_marks;
   few = few;

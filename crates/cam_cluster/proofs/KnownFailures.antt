@@ -26,7 +26,7 @@ memory_known failed.Memory new is = inr is
 
 pub halt_is : (fault : NodeFault) (old new : Failed) → IsAfterHalt fault old new
     → (new ≡ failed.Memory) ⊎ (new ≡ old)
-halt_is faults.NoMemory old new is = memory_known old new is
+halt_is faults.NoMemory old new is = memory_known _ _ is
 halt_is faults.DiskFault old new is = inr is
 
 abbrev is_nothing : Failed → Bool
@@ -39,21 +39,20 @@ some_is_not now some none = true≢false (sym (ap is_nothing none) ∙ some)
 -- after something failed, something is known
 pub some_known : (old this new : Failed) → is_nothing this ≡ false → KnownFirst old this new
     → new ≡ failed.Nothing → ⊥
-some_known failed.Nothing this new some is none = some_is_not this some (sym is ∙ none)
-some_known (failed.Disk s) this new some is none =
-    some_is_not (failed.Disk s) refl (sym is ∙ none)
-some_known failed.Memory this new some is none = some_is_not failed.Memory refl (sym is ∙ none)
+some_known failed.Nothing this new some is none = some_is_not _ some (sym is ∙ none)
+some_known (failed.Disk s) this new some is none = some_is_not (failed.Disk s) refl (sym is ∙ none)
+some_known failed.Memory this new some is none = some_is_not _ refl (sym is ∙ none)
 
 -- nothing is known only where nothing was known before
 pub nothing_before : (s before now : ℕ) (old new : Failed) → IsAfterCall s before now old new
     → new ≡ failed.Nothing → (old ≡ failed.Nothing) × (Rose before now → ⊥)
 nothing_before s before now old new after none =
     let still : Rose before now → ⊥ =
-    λ rose. some_known old (failed.Disk s) new refl (after.rose rose) none in
+    λ rose. some_known _ _ _ refl (after.rose rose) none in
     (sym (after.still still) ∙ none, still)
 
 -- where a node halted and nothing is known, its disk was at fault
 pub halt_none : (fault : NodeFault) (old new : Failed) → IsAfterHalt fault old new
     → new ≡ failed.Nothing → (old ≡ failed.Nothing) × (fault ≡ faults.DiskFault)
-halt_none faults.NoMemory old new is none = absurd (some_known old failed.Memory new refl is none)
+halt_none faults.NoMemory old new is none = absurd (some_known _ _ _ refl is none)
 halt_none faults.DiskFault old new is none = (sym is ∙ none, refl)

@@ -19,16 +19,14 @@ use Rattle.cam_cluster.proofs.LastInputs.{accepted_more}
 first_run : (reading : Reading) (f g : Halting) (bodies : List (List Statement)) (n : ℕ)
     (steps : List Step) (st : Standing)
     → Runs f g st (run_first reading f bodies n steps st) (run_first reading g bodies n steps st)
-first_run reading f g bodies zero steps st = stays f g st
-first_run reading f g bodies (suc n) [] st = stays f g st
+first_run reading f g bodies zero steps st = stays _ _ _
+first_run reading f g bodies (suc n) [] st = stays _ _ _
 first_run reading f g bodies (suc n) (step ∷ steps) st =
     let one : Standing =
     after_line st step.line (act (setting reading f step steps) bodies st step.act) in
-    let line = act_runs (setting reading f step steps) f g bodies st step.line step.act in
-    runs_then f g st one
-    (after_line st step.line (act (setting reading g step steps) bodies st step.act))
-    (run_first reading f bodies n steps) (run_first reading g bodies n steps)
-    (record { grows = line.grows; same = λ h. ap (after_line st step.line) (line.same h) })
+    let line = act_runs (setting reading f step steps) _ _ bodies _ step.line step.act in
+    runs_then _ _ _ _ _ (run_first reading f bodies n steps) (run_first reading g bodies n
+    steps) (record { grows = line.grows; same = λ h. ap (after_line st step.line) (line.same h) })
     (first_run reading f g bodies n steps one)
 
 -- A list has nothing to say of an input before all of its own.
@@ -42,8 +40,7 @@ later_says (h ∷ more) halts n k all low =
 
 pub later_halts_stay : LaterHaltsStay
 later_halts_stay reading script more halts n all =
-    sym ((first_run (reading script.objects) (given halts) (given (more ++ halts)) script.bodies n
-    script.steps start).same agree)
+    sym ((first_run (reading script.objects) _ _ script.bodies n script.steps start).same agree)
   where
     end : Standing
     end = run_of_lines reading script halts n

@@ -90,13 +90,11 @@ module _ (c : Setting) (st : Standing) (input : Input) where
   pub made_stood : halt_of c st input ≡ None
       → made st (put c st input) ≡ newest_deeds (put c st input).running.trace
   made_stood none =
-      subst (λ (z : Standing). made st z ≡ newest_deeds z.running.trace) (sym (is_behind None none))
-      (longer (length st.running.trace) (c.reading.next st.running.trace input).deeds [])
+      rw (is_behind None none) (longer (length st.running.trace) (c.reading.next st.running.trace input).deeds [])
 
   pub made_halted : halt_of c st input ≡ Some false → made st (put c st input) ≡ []
   made_halted lost =
-      subst (λ (z : Standing). made st z ≡ []) (sym (is_behind (Some false) lost))
-      (as_long (length st.running.trace) (newest_deeds st.running.trace) [])
+      rw (is_behind (Some false) lost) (as_long (length st.running.trace) (newest_deeds st.running.trace) [])
 
   pub bound_stays : (done : Put) → halt_of c st input ≡ as_halt done
       → (put c st input).running.bound ≡ st.running.bound
@@ -135,15 +133,12 @@ pub led_by : (line place : ℕ) (input : NodeInput) (old new : WorksFields)
 led_by line place input old new might may bound now binds done has binding is_now script st halts
     restarted is keeps put_so halts_so under = record {
       runs =
-          keeps_others script after (after_put input st after) new new.marks may
-          (record { trace = refl; lost = refl; delivered = refl }) refl refl refl runs.all_marks
-          under runs;
+          keeps_others _ _ _ _ _ _ (record { trace = refl; lost = refl; delivered = refl })
+          refl refl refl runs.all_marks under runs;
       variables =
-          is_now
-          ∙ ap (λ (bs : List (Option Name)). bs ++ binds ∷ [])
-          (keeps.variables ∙ sym (bound_stays c st put_as done halts_so))
-          ∙ ap (λ (b : Option Name). after.running.bound ++ b ∷ [])
-          (binding_is input c st put_as new.events done binds halts_so runs.events binding);
+          is_now ∙ ap (λ (bs : List (Option Name)). bs ++ binds ∷ []) (keeps.variables ∙ sym
+          (bound_stays c st put_as done halts_so)) ∙ ap (λ (b : Option Name). after.running.bound ++
+          b ∷ []) (binding_is _ c st put_as _ _ _ halts_so runs.events binding);
     }
   where
     c : Setting
@@ -166,10 +161,9 @@ pub refused_by : (line : ℕ) (refusal : LineRefusal) (works : WorksFields) (ms 
     (record { works = record works { marks = ms }; bound = now }) may
 refused_by line refusal works ms may bound now is_marks is_now script st keeps under = record {
   runs =
-      keeps_others script st (after_line st line (Refused refusal)) works ms may
-      (record { trace = refl; lost = refl; delivered = refl }) refl refl refl
-      (is_marks ∙ ap (λ (x : List Mark). x ++ marks.Refused line refusal ∷ []) keeps.runs.all_marks)
-      under keeps.runs;
+      keeps_others _ _ _ _ _ _ (record { trace = refl; lost = refl; delivered = refl }) refl
+      refl refl (is_marks ∙ ap (λ (x : List Mark). x ++ marks.Refused line refusal ∷ [])
+      keeps.runs.all_marks) under keeps.runs;
   variables = is_now ∙ ap (λ (bs : List (Option Name)). bs ++ None ∷ []) keeps.variables;
 }
 
@@ -186,5 +180,4 @@ unchanged_lines old new might may bound now before is_now script st is keeps = r
 
 pub same_works : (works : WorksFields) (ms : List Mark) (may : ℕ → Logged → Type 0)
     → ms ≡ works.marks → KeepsAsBefore works may (record works { marks = ms }) may
-same_works works ms may same script st is keeps =
-    subst (λ (x : List Mark). KeepsRun script st (record works { marks = x }) may) (sym same) keeps
+same_works works ms may same script st is keeps = rw same keeps

@@ -62,7 +62,7 @@ module _ (script : Script) (many : ℕ) (step : Step) (old new : LinesFields)
   seen = taken.seen
 
   abbrev next : IsNextStep seen step
-  next = next_step script many step old might before taken at
+  next = next_step script many _ old might before taken at
 
   -- The line led on.
   pub led_taken : (bad : Option WireFault) → HasLedAtWork old seen step new may behind bad
@@ -91,7 +91,7 @@ module _ (script : Script) (many : ℕ) (step : Step) (old new : LinesFields)
       more = led.led.more
 
       goes : GoesFrom seen from
-      goes = goes_from step.act seen from old might taken.keeps.between led.is_from
+      goes = goes_from _ _ _ _ _ taken.keeps.between led.is_from
 
   -- It was refused.
   pub refused_taken : (refusal : LineRefusal) → HasRefusedLine seen step new may behind refusal
@@ -101,10 +101,9 @@ module _ (script : Script) (many : ℕ) (step : Step) (old new : LinesFields)
     keeps = refused.stands;
     of_script = taken.of_script;
     taken =
-        line_counts seen.script (given seen.halts) seen.standing step (later_steps seen)
-        (script_in_range seen.script taken.keeps.between.is_script)
-        taken.keeps.between.keeps.runs.under next
-        ∙ ap (λ n. n + 1) taken.taken;
+        line_counts _ (given seen.halts) _ _ (later_steps seen) (script_in_range seen.script
+        taken.keeps.between.is_script) taken.keeps.between.keeps.runs.under next ∙ ap (λ n. n + 1)
+        taken.taken;
     unfailing = unfailing;
     agrees =
         subst (Agrees (given seen.halts)) (sym (refused_is seen step refusal refused.test))
@@ -141,6 +140,5 @@ module _ (script : Script) (step : Step) (old new : LinesFields) (might may : �
       → HasTakenNext script step old might before new may behind
   next_failed fault is line unfailing many taken at =
       absurd (subst (λ (f : CourseFault). IsAtWorkLine step script.bodies old might before new may
-      behind (Err f)) is line taken.seen taken.keeps
-      (next_step script many step old might before taken at)
-      (bodies_are script many step old might before taken at) unfailing.0)
+      behind (Err f)) is line taken.seen taken.keeps (next_step script many _ old might before
+      taken at) (bodies_are script many step old might before taken at) unfailing.0)

@@ -19,10 +19,8 @@ reads_less script st works might may less keeps = record {
   eight = keeps.eight;
   nodes = keeps.nodes;
   whole = keeps.whole;
-  halts = λ place node at said.
-      halt_read script.objects st.running.trace st.undecided (place + 1) node (might (place + 1))
-      (may (place + 1)) (λ logged read. less (place + 1) logged (omega arith) read)
-      (keeps.halts place node at said);
+  halts = λ place node at said. halt_read _ _ _ _ _ (might (place + 1)) (may (place + 1)) (λ
+      logged read. less (place + 1) logged (omega arith) read) (keeps.halts place node at said);
   undecided = keeps.undecided;
   sent = keeps.sent;
   events = keeps.events;
@@ -38,8 +36,7 @@ pub stays_reads : (before now : ℕ) (past since : ℕ → Opened → Type 0) (w
 stays_reads before now past since was is failed fails logged stays read = record {
   entries = read.entries;
   opens =
-      subst (λ (t : ℕ). past t (Ok read.entries)) stays.untouched.moment
-      ((stays.untouched.outcomes now (Ok read.entries)).1 read.opens);
+      rw (← stays.untouched.moment) ((stays.untouched.outcomes now (Ok read.entries)).1 read.opens);
   recovered = read.recovered;
   recovers = read.recovers;
   is = read.is;

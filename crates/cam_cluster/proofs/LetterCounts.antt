@@ -74,10 +74,8 @@ pub counts_low : (t : List Event) (p : ℕ) → p < length t
 counts_low [] p low = absurd (omega (arith, low))
 counts_low (e ∷ t) p low = elim (leb_tells (length t) p) [
   | inl at ↦
-      subst (λ (n : ℕ). n ≤ length (letters (e ∷ t)))
-      (sym (newest_count t (min most_letters (length (letters (e ∷ t)))) p 0
-      (let past = at.1 in omega (arith, low, past))))
-      (min_low most_letters (length (letters (e ∷ t))))
+      rw (newest_count t (min most_letters (length (letters (e ∷ t)))) p 0 (let past = at.1 in omega
+      (arith, low, past))) (min_low most_letters (length (letters (e ∷ t))))
   | inr at ↦
       let stays = count_stays t (min most_letters (length (letters (e ∷ t)))) p at.1 in
       let older = counts_low t p at.1 in
@@ -89,21 +87,20 @@ counts_low (e ∷ t) p low = elim (leb_tells (length t) p) [
 pub counts_rise : (t : List Event) → IsNonDecreasingBy (λ (n : ℕ). n) (letter_counts t)
 counts_rise [] = λ i j d le less. absurd (omega (arith, less))
 counts_rise (e ∷ t) =
-    IsNonDecreasingBy-push (λ (n : ℕ). n) (letter_counts t)
-    (min most_letters (length (letters (e ∷ t)))) (counts_rise t) (last t)
+    IsNonDecreasingBy-push (λ (n : ℕ). n) (letter_counts t) (min most_letters (length (letters (e ∷
+    t)))) (counts_rise t) (last t)
   where
     last : (t' : List Event) → (d : ℕ) → 0 < length (letter_counts t')
         → get_or (letter_counts t') (length (letter_counts t') - 1) d
         ≤ min most_letters (length (letters (e ∷ t')))
     last [] d some = absurd (omega (arith, some))
     last (f ∷ t') d some =
-        let count = newest_count t' (min most_letters (length (letters (f ∷ t'))))
-        (length (letter_counts (f ∷ t')) - 1) d
-        (let many = one_each (f ∷ t') in omega (arith, many)) in
+        let count = newest_count t' (min most_letters (length (letters (f ∷ t')))) (length
+        (letter_counts (f ∷ t')) - 1) d (let many = one_each (f ∷ t') in omega (arith, many)) in
         let more = one_more e (f ∷ t') in
-        let rises = min_rises most_letters (length (letters (f ∷ t')))
-        (length (letters (e ∷ f ∷ t'))) (omega (arith, more)) in
-        subst (λ (n : ℕ). n ≤ min most_letters (length (letters (e ∷ f ∷ t')))) (sym count) rises
+        let rises = min_rises most_letters (length (letters (f ∷ t'))) (length (letters (e ∷ f ∷
+        t'))) (omega (arith, more)) in
+        rw count rises
 
 -- the counts with one more event
 pub counts_with : (events : List Event) (e : Event) (counts : List ℕ) (before count : ℕ)

@@ -46,13 +46,11 @@ pub halted_as : (script : Script) (st : Standing) (works : WorksFields) (may : �
     → has_number st.halted (addressee st coming.letter)
     ≡ net.is_halted works.halted (suc coming.place)
 halted_as script st works may keeps none_left number coming is to =
-    let here : IsThere st coming.letter = there script st works may keeps none_left number
-    coming.letter is in
+    let here : IsThere st coming.letter = there script _ works may keeps none_left _ _ is in
     let high = here.travels.to.1 in
-    ap (has_number st.halted) to
-    ∙ sym (keeps.whole.network.stands.nodes (coming.place + 1) (omega arith)
-    (omega (arith, high, to, to_is here)))
-    ∙ ap (net.is_halted works.halted) (after_is coming.place)
+    ap (has_number st.halted) to ∙ sym (keeps.whole.network.stands.nodes (coming.place + 1) (omega
+    arith) (omega (arith, high, to, to_is here))) ∙ ap (net.is_halted works.halted) (after_is
+    coming.place)
   where
     to_is : (here : IsThere st coming.letter) → addressee st coming.letter ≡ here.mail.to
     to_is here = ap (λ (o : Option Mail). option_map_or (λ (m : Mail). m.to) o 0) here.at
@@ -82,10 +80,9 @@ module _ (line number : ℕ) (old mid : LinesFields) (might mays : ℕ → Logge
       let f = found script st is kept.runs in
       record {
         test =
-            ap (λ (o : Option LetterId). test_letter o
-            (λ (l : LetterId). is_halted st (addressee st l))) f.0
-            ∙ ap (λ (b : Bool). where_so b refusals.Halted)
-            (halted_as script st mid.works mays kept.runs none_left number coming f.0 f.1 ∙ stops);
+            ap (λ (o : Option LetterId). test_letter o (λ (l : LetterId). is_halted st (addressee st
+            l))) f.0 ∙ ap (λ (b : Bool). where_so b refusals.Halted) (halted_as _ _ _ _
+            kept.runs none_left _ _ f.0 f.1 ∙ stops);
         stands = has script st kept;
       }
 
@@ -98,13 +95,11 @@ pub led_letter : (line number : ℕ) (old new : WorksFields) (might may : ℕ �
 led_letter line number old new might may bound now done has is_now script st halts restarted id is
     keeps numbered halt under = record {
       runs =
-          keeps_others script after (after_line st line (Led after None)) new new.marks may
-          (record { trace = refl; lost = refl; delivered = refl }) refl refl refl runs.all_marks
-          under runs;
+          keeps_others _ _ _ _ _ _ (record { trace = refl; lost = refl; delivered = refl })
+          refl refl refl runs.all_marks under runs;
       variables =
-          is_now
-          ∙ ap (λ (bs : List (Option Name)). bs ++ None ∷ [])
-          (keeps.variables ∙ sym (bound_stays c st (Receives id) done halt));
+          is_now ∙ ap (λ (bs : List (Option Name)). bs ++ None ∷ []) (keeps.variables ∙ sym
+          (bound_stays c st (Receives id) _ halt));
     }
   where
     c : Setting
@@ -124,11 +119,9 @@ pub marked_cut : (line number bytes : ℕ) (works : WorksFields) (ms : List Mark
     (record { works = record works { marks = ms }; bound = now }) may
 marked_cut line number bytes works ms may bound now is_marks is_now script st keeps under = record {
   runs =
-      keeps_others script st (after_line st line (Led (with_cut line number bytes st) None)) works
-      ms may (record { trace = refl; lost = refl; delivered = refl }) refl refl refl
-      (is_marks
-      ∙ ap (λ (x : List Mark). x ++ marks.Cut line number Short bytes ∷ []) keeps.runs.all_marks)
-      under keeps.runs;
+      keeps_others _ _ _ _ _ _ (record { trace = refl; lost = refl; delivered = refl }) refl
+      refl refl (is_marks ∙ ap (λ (x : List Mark). x ++ marks.Cut line number Short bytes ∷ [])
+      keeps.runs.all_marks) under keeps.runs;
   variables = is_now ∙ ap (λ (bs : List (Option Name)). bs ++ None ∷ []) keeps.variables;
 }
 
@@ -144,9 +137,7 @@ module _ (script : Script) (st : Standing) (halts : Halting) (later : List Step)
   pub comes_under_way : (p : Passed) → act c script.bodies st act_is ≡ p
       → IsUnderHalts script (after_line st line p)
   comes_under_way p passes =
-      subst (λ (q : Passed). IsUnderHalts script (after_line st line q)) passes
-      (next_leads script st (record { line = line; act = act_is }) halts later is keeps.runs.under
-      next)
+      rw (← passes) (next_leads _ _ _ halts later is keeps.runs.under next)
 
   pub delivered_by : (id : LetterId) (done : Put) (new : LinesFields) (may : ℕ → Logged → Type 0)
       → letter_of st.running number ≡ Some id
@@ -159,9 +150,7 @@ module _ (script : Script) (st : Standing) (halts : Halting) (later : List Step)
     is_letter = numbered;
     led = record {
       passed = passed;
-      stands = λ halt.
-          subst (λ (p : Passed). KeepsLines script (after_line st line p) new may) (sym leads)
-          (has script st halts (λ s. list_any (is_restart s) later) id is keeps numbered halt
-          (comes_under_way (Led (deliver c st number id) None) leads));
+      stands = λ halt. rw leads (has script st halts (λ s. list_any (is_restart s) later) id is
+          keeps numbered halt (comes_under_way (Led (deliver c st number id) None) leads));
     };
   }

@@ -46,7 +46,7 @@ module _ {T : Type 0}
         test = tested script st ∙ (has script st is keeps).test;
         stands = (has script st is keeps).stands;
       })
-  not_taken line_faults.NoMemory before = wanting_ends ends line act_is old new might may before
+  not_taken line_faults.NoMemory before = wanting_ends ends _ _ _ _ _ _ before
 
 -- The line leads to the delivery of the letter that was taken.
 module _ (line number : ℕ) (coming : Coming) (old mid new : LinesFields)
@@ -56,7 +56,7 @@ module _ (line number : ℕ) (coming : Coming) (old mid new : LinesFields)
       → addressee st coming.letter ≡ coming.place + 1
       → has_number st.halted (addressee st coming.letter) ≡ false
   awake script st runs numbered to =
-      halted_as script st mid.works mays runs taken.all number coming numbered to ∙ taken.awake
+      halted_as _ _ _ _ runs taken.all _ _ numbered to ∙ taken.awake
 
   -- nothing stands against it
   passes : (st : Standing) → letter_of st.running number ≡ Some coming.letter
@@ -84,9 +84,8 @@ module _ (line number : ℕ) (coming : Coming) (old mid new : LinesFields)
       let kept = taken.as_before script st is keeps in
       let f = taken.found script st is kept.runs in
       let runs = awake script st kept.runs f.0 f.1 in
-      delivered_by script st halts later line number (acts.Deliver number) mid mays is kept next
-      coming.letter done new may f.0 (passes st f.0 runs)
-      (comes_to st (λ (l : LetterId). deliver (setting (by_knowledge script.objects) halts
+      delivered_by _ _ halts later _ _ _ _ _ is kept next _ _ _ _ f.0 (passes st f.0
+      runs) (comes_to st (λ (l : LetterId). deliver (setting (by_knowledge script.objects) halts
       (record { line = line; act = acts.Deliver number }) later) st number l) f.0 runs) has
 
   -- and so it is where all bytes of the letter arrive
@@ -100,15 +99,14 @@ module _ (line number : ℕ) (coming : Coming) (old mid new : LinesFields)
       let f = taken.found script st is kept.runs in
       let runs = awake script st kept.runs f.0 f.1 in
       let all = (arrived script st is kept.runs).0 in
-      let c = setting (by_knowledge script.objects) halts
-      (record { line = line; act = acts.Cut number bytes }) later in (
-        ap (short_at (by_knowledge script.objects) st bytes) f.0
-            ∙ ap (λ (b : Bool). if b then Some (faults.Short bytes) else None) all,
-        delivered_by script st halts later line number (acts.Cut number bytes) mid mays is kept
-            next coming.letter done new may f.0 (passes st f.0 runs)
-            (comes_to st (λ (l : LetterId). cut c st number bytes l) f.0 runs
-            ∙ ap (λ (b : Bool). Led (if b then with_cut line number bytes st
-            else deliver c st number coming.letter) None) all) has,
+      let c = setting (by_knowledge script.objects) halts (record { line = line; act = acts.Cut
+      number bytes }) later in (
+        ap (short_at (by_knowledge script.objects) st bytes) f.0 ∙ ap (λ (b : Bool). if b then Some
+            (faults.Short bytes) else None) all,
+        delivered_by _ _ halts later _ _ _ _ _ is kept next _ _ _ _ f.0 (passes st f.0
+            runs) (comes_to st (λ (l : LetterId). cut c st number bytes l) f.0 runs ∙ ap (λ (b :
+            Bool). Led (if b then with_cut line number bytes st else deliver c st number
+            coming.letter) None) all) has,
       )
 
   -- where fewer arrive its mark is left
@@ -122,22 +120,18 @@ module _ (line number : ℕ) (coming : Coming) (old mid new : LinesFields)
       let f = taken.found script st is kept.runs in
       let runs = awake script st kept.runs f.0 f.1 in
       let a = arrived script st is kept.runs in
-      let c = setting (by_knowledge script.objects) halts
-      (record { line = line; act = acts.Cut number bytes }) later in
+      let c = setting (by_knowledge script.objects) halts (record { line = line; act = acts.Cut
+      number bytes }) later in
       let leads : act c script.bodies st (acts.Cut number bytes)
       ≡ Led (with_cut line number bytes st) None =
-      comes_to st (λ (l : LetterId). cut c st number bytes l) f.0 runs
-      ∙ ap (λ (b : Bool). Led (if b then with_cut line number bytes st
-      else deliver c st number coming.letter) None) a.0 in (
-        ap (short_at (by_knowledge script.objects) st bytes) f.0
-            ∙ ap (λ (b : Bool). if b then Some (faults.Short bytes) else None) a.0
-            ∙ ap Some (sym a.1),
+      comes_to st (λ (l : LetterId). cut c st number bytes l) f.0 runs ∙ ap (λ (b : Bool). Led (if b
+      then with_cut line number bytes st else deliver c st number coming.letter) None) a.0 in (
+        ap (short_at (by_knowledge script.objects) st bytes) f.0 ∙ ap (λ (b : Bool). if b then Some
+            (faults.Short bytes) else None) a.0 ∙ ap Some (sym a.1),
         record {
           passed = passes st f.0 runs;
           stands =
-              subst (λ (p : Passed). KeepsLines script (after_line st line p) new may) (sym leads)
-              (has script st kept
-              (comes_under_way script st halts later line number (acts.Cut number bytes) mid mays
-              is kept next (Led (with_cut line number bytes st) None) leads));
+              rw leads (has script st kept (comes_under_way _ _ halts later _ number _ mid mays
+              is kept next _ leads));
         },
       )

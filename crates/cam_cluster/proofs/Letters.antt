@@ -53,11 +53,10 @@ event_in_order [] i = refl
 event_in_order (e ∷ t) i =
     elim (eqb_tells i (length t)) [
       | inl y ↦
-          if_so (eqb i (length t)) (Some e) (event_at t i) y.0
-          ∙ sym (turned i ∙ behind_front (reverse t) (e ∷ []) i
-          (omega (arith, y.1, length-reverse t)) ∙ ap (slice_get (e ∷ [])) (no_more y.1))
-      | inr n ↦ if_not (eqb i (length t)) (Some e) (event_at t i) n.0 ∙ event_in_order t i
-          ∙ sym (turned i ∙ other i n.1)
+          if_so _ (Some e) (event_at t i) y.0 ∙ sym (turned i ∙ behind_front _ (e ∷ []) _ (omega
+          (arith, y.1, length-reverse t)) ∙ ap (slice_get (e ∷ [])) (no_more y.1))
+      | inr n ↦ if_not _ (Some e) (event_at t i) n.0 ∙ event_in_order t i ∙ sym (turned i ∙ other i
+          n.1)
     ]
   where
     turned : (k : ℕ) → slice_get (reverse (e ∷ t)) k ≡ slice_get (reverse t ++ e ∷ []) k

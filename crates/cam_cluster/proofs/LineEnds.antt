@@ -48,15 +48,10 @@ module _ {T : Type 0}
       record {
         test = r.test;
         stands =
-            r.stands
-            (subst (λ (p : Passed). IsUnderHalts script (after_line st line p))
-            (refused_is
-            (act (setting (by_knowledge script.objects) halts
-            (record { line = line; act = act_is }) later) script.bodies st act_is) refusal
-            (lines_are_tested (setting (by_knowledge script.objects) halts
-            (record { line = line; act = act_is }) later) script.bodies st act_is ∙ r.test))
-            (next_leads script st (record { line = line; act = act_is }) halts later is
-            keeps.runs.under next));
+            r.stands (subst (λ (p : Passed). IsUnderHalts script (after_line st line p)) (refused_is
+            _ _ (lines_are_tested (setting (by_knowledge script.objects) halts (record { line =
+            line; act = act_is }) later) script.bodies st act_is ∙ r.test)) (next_leads _ _ _
+            halts later is keeps.runs.under next));
       }
 
   pub wanting_ends : KeepsLinesAsBefore old might new may

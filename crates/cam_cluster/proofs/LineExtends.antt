@@ -40,7 +40,7 @@ module _ (c : Setting) (halts : List Halt) (known : c.halts ≡ given halts)
 
   awake_or : (s : ℕ) (other : Option LineRefusal) → halted_or st s other ≡ None
       → has_number st.halted s ≡ false
-  awake_or s other none = awake_by st s (first_none (is_halted st s) other none)
+  awake_or s other none = awake_by st s (first_none _ other none)
 
   refused_leaves : (refusal : LineRefusal) → Left (Refused refusal)
   refused_leaves refusal = record {
@@ -55,9 +55,7 @@ module _ (c : Setting) (halts : List Halt) (known : c.halts ≡ given halts)
 
   led_leaves : (new : Standing) (binds : Option Name) → Extends halts st new
       → Left (Led new binds)
-  led_leaves new binds so =
-      extends_on halts st new (after_line st line (Led new binds)) so
-      (same_extends halts new (after_line st line (Led new binds)) refl refl refl)
+  led_leaves new binds so = extends_on _ _ _ _ so (same_extends _ _ _ refl refl refl)
 
   unless_leaves : (o : Option LineRefusal) (passed : Passed) → (o ≡ None → Left passed)
       → Left (unless o passed)
@@ -79,20 +77,17 @@ module _ (c : Setting) (halts : List Halt) (known : c.halts ≡ given halts)
   creating_leaves s body =
       let after = put c st (Begins s) in
       let binds = created_in (made st after) in
-      unless_leaves (is_halted st s) (led_creating body st after)
-      (λ none. led_leaves (given_body body binds after) binds
-      (extends_on halts st after (given_body body binds after)
-      (put_extends c halts known st (Begins s) (awake_by st s none))
-      (given_extends c halts known after body binds)))
+      unless_leaves (is_halted st s) (led_creating body st after) (λ none. led_leaves (given_body
+      body binds after) binds (extends_on _ _ _ _ (put_extends c _ known _ (Begins s)
+      (awake_by st s none)) (given_extends c _ known _ _ _)))
 
   request_leaves : (a : Name) (want : Want) → Left (take_request c st a want)
   request_leaves a want =
       let after = requested c st a want in
       let test = refusal (home_sight c.reading st.running a) a want in
-      unless_leaves (halted_or st (home_node a) test) (led_asking st after)
-      (λ none. led_leaves after (asked_in (made st after))
-      (put_extends c halts known st (Requests (record { action = a; want = want }))
-      (awake_or (home_node a) test none)))
+      unless_leaves (halted_or st (home_node a) test) (led_asking st after) (λ none. led_leaves
+      after (asked_in (made st after)) (put_extends c _ known _ (Requests (record { action = a;
+      want = want })) (awake_or (home_node a) test none)))
 
   of_variable_leaves : (v : ℕ) (want : Want)
       → Left (of_variable (variable st.running v) (λ a. take_request c st a want))
@@ -118,16 +113,14 @@ module _ (c : Setting) (halts : List Halt) (known : c.halts ≡ given halts)
         stopped = λ so. so;
         agrees = λ none so agrees. agrees;
       }
-      by false = deliver_extends c halts known st k l awake
+      by false = deliver_extends c _ known _ _ _ awake
 
   stop_leaves : (s calls : ℕ) → (b : Bool) → has_number st.halted s ≡ b
       → let stopped : Standing = record st { turns = Stop s calls ∷ st.turns } in
       Extends halts (if b then st else stopped)
       (after_line st line (unless (where_so b refusals.Halted) (Led stopped None)))
   stop_leaves s calls true is = refused_leaves refusals.Halted
-  stop_leaves s calls false is =
-      let stopped : Standing = record st { turns = Stop s calls ∷ st.turns } in
-      same_extends halts stopped (after_line st line (Led stopped None)) refl refl refl
+  stop_leaves s calls false is = same_extends _ _ _ refl refl refl
 
   pub act_extends : (does : Act)
       → Extends halts (begun st does) (after_line st line (act c bodies st does))

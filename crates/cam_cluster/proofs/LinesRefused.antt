@@ -43,9 +43,5 @@ pub refused_step : (seen : Seen) (step : Step) (refusal : LineRefusal)
     → act (setting_in by_knowledge seen seen.halts step) seen.script.bodies seen.standing step.act
     ≡ Refused refusal
 refused_step seen step refusal test =
-    by_refusal
-    (act (setting_in by_knowledge seen seen.halts step) seen.script.bodies seen.standing step.act)
-    refusal
-    (lines_are_tested (setting_in by_knowledge seen seen.halts step) seen.script.bodies
-    seen.standing step.act
-    ∙ test)
+    by_refusal _ _ (lines_are_tested (setting_in by_knowledge seen seen.halts step)
+    seen.script.bodies seen.standing step.act ∙ test)

@@ -36,17 +36,14 @@ pub line_counts : (script : Script) (halts : Halting) (st : Standing) (step : St
     → IsInRange script → IsUnderHalts script st → IsNextStep script st step
     → length (after_step halts later script st step).running.bound ≡ length st.running.bound + 1
 line_counts script halts st step later range under next =
-    passed_counts script st step.line (not (is_start_act step.act))
-    (act c script.bodies st step.act)
-    (act_both script c st step.act range under passes).keeps
+    passed_counts script st step.line (not (is_start_act step.act)) (act c script.bodies st
+    step.act) (act_both _ c _ step.act range under passes).keeps
   where
     c : Setting
     c = setting (by_pasts script.objects) halts step later
 
     passes : is_act script step.act ≡ true
-    passes =
-        step_passes (λ (s : Step). is_act script s.act) script.steps (length st.running.bound) step
-        range.0 next
+    passes = step_passes (λ (s : Step). is_act script s.act) script.steps _ _ range.0 next
 
 -- what stands after the lines so far is under way
 lines_under : (script : Script) → IsInRange script → (halts : Halting) (n : ℕ)
@@ -56,12 +53,10 @@ lines_under : (script : Script) → IsInRange script → (halts : Halting) (n : 
 lines_under script range halts zero done steps st all place under = under
 lines_under script range halts (suc n) done [] st all place under = under
 lines_under script range halts (suc n) done (step ∷ steps) st all place under =
-    lines_under script range halts n (done ++ step ∷ []) steps
-    (after_step halts steps script st step)
-    (all ∙ sym (append_assoc done (step ∷ []) steps))
-    (line_counts script halts st step steps range under next
-    ∙ ap (λ m. m + 1) place ∙ sym (length-append done (step ∷ [])))
-    (halted_lines_lead_on script st step halts steps range under next)
+    lines_under script range halts n (done ++ step ∷ []) steps (after_step halts steps script st
+    step) (all ∙ sym (append_assoc done (step ∷ []) steps)) (line_counts _ halts _ _ steps range
+    under next ∙ ap (λ m. m + 1) place ∙ sym (length-append done (step ∷ []))) (halted_lines_lead_on
+    script st step halts steps range under next)
   where
     next : IsNextStep script st step
     next = (λ i. slice_get (all i) (place i)) ∙ at_end done steps step

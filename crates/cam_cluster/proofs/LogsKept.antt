@@ -28,19 +28,16 @@ pub logs_kept : {N : Type 0} (part : N → NodeFields) (tells : N → Bool)
     → KeepsRun seen.script seen.standing works might
     → KeepsLogs seen (MayReadAt tells reads nodes)
 logs_kept {N} part tells reads rest seen works might nodes are eight keeps s logged low high awake
-    read = subst (λ (n : ℕ). KeepsLog seen.script.objects n
-    (history_of seen.script.objects seen.standing.running.trace n) logged) here
-    (read_awake seen.script seen.standing (s - 1) works might (part read.node) keeps at logged
-    (ap (has_number seen.standing.halted) here ∙ awake)
-    (rest read.node logged read.told runs read.reads)).keeps
+    read = rw (← here) (read_awake _ _ _ works might _ keeps at _ (ap (has_number
+    seen.standing.halted) here ∙ awake) (rest read.node logged read.told runs read.reads)).keeps
   where
     here : s - 1 + 1 ≡ s
     here = omega (arith, low)
 
     at : slice_get works.nodes (s - 1) ≡ Some (part read.node)
     at =
-        ap (λ (ns : List NodeFields). slice_get ns (s - 1)) are
-        ∙ seen_there part nodes (s - 1) read.node read.at
+        ap (λ (ns : List NodeFields). slice_get ns (s - 1)) are ∙ seen_there part nodes _ _
+        read.at
 
     runs : (part read.node).halted ≡ false
     runs =

@@ -43,9 +43,7 @@ lost_keeps script st works may number keeps none_left has = record {
   one_each = keeps.one_each;
   eight = keeps.eight;
   nodes = keeps.nodes;
-  whole =
-      subst (λ (u : List Letter). IsWhole script.objects (lose st number) (sites_of works.nodes)
-      (changed as_lost works.outbox.net number) u works.halted) (sym none_left) lost.1;
+  whole = rw none_left lost.1;
   halts = keeps.halts;
   undecided = keeps.undecided;
   sent = keeps.sent;
@@ -59,9 +57,7 @@ lost_keeps script st works may number keeps none_left has = record {
         (sites_of works.nodes) (changed as_lost works.outbox.net number) [] works.halted
     lost =
         losses_stand script st number (sites_of works.nodes) works.outbox.net works.halted has
-        keeps.under
-        (subst (λ (u : List Letter). IsWhole script.objects st (sites_of works.nodes)
-        works.outbox.net u works.halted) none_left keeps.whole)
+        keeps.under (rw (← none_left) keeps.whole)
 
 some_letter : (o : Option LetterId) (p : Passed) → is_some o ≡ true
     → of_letter o (λ (l : LetterId). p) ≡ p
@@ -95,28 +91,20 @@ module _ (line number : ℕ) (old : LinesFields) (might mays : ℕ → Logged �
   loss_ends has is_now script st halts later is keeps next =
       let kept = before script st is keeps in
       let sent = sym (has_it script st works mays kept.runs none_left number) ∙ has in
-      let c = setting (by_knowledge script.objects) halts
-      (record { line = line; act = acts.Lose number }) later in
+      let c = setting (by_knowledge script.objects) halts (record { line = line; act = acts.Lose
+      number }) later in
       let leads : act c script.bodies st (acts.Lose number) ≡ Led (lose st number) None =
-      some_letter (letter_of st.running number) (Led (lose st number) None) sent in
+      some_letter _ (Led (lose st number) None) sent in
       record {
-        passed = not_refused (letter_of st.running number) sent;
+        passed = not_refused _ sent;
         stands =
-            subst (λ (p : Passed). KeepsLines script (after_line st line p) lost_now mays)
-            (sym leads)
-            (record {
+            rw leads (record {
               runs =
-                  keeps_others script (lose st number)
-                  (after_line st line (Led (lose st number) None)) lost_now.works
-                  lost_now.works.marks mays
-                  (record { trace = refl; lost = refl; delivered = refl }) refl refl refl
-                  kept.runs.all_marks
-                  (comes_under_way script st halts later line number (acts.Lose number)
-                  (record { works = works; bound = bound }) mays is kept next
-                  (Led (lose st number) None) leads)
-                  (lost_keeps script st works mays number kept.runs none_left has);
-              variables =
-                  is_now ∙ ap (λ (bs : List (Option Name)). bs ++ None ∷ []) kept.variables;
+                  keeps_others _ _ _ _ _ _ (record { trace = refl; lost = refl; delivered =
+                  refl }) refl refl refl kept.runs.all_marks (comes_under_way _ _ halts later _
+                  number _ (record { works = works; bound = bound }) mays is kept next _ leads)
+                  (lost_keeps _ _ _ _ _ kept.runs none_left has);
+              variables = is_now ∙ ap (λ (bs : List (Option Name)). bs ++ None ∷ []) kept.variables;
             });
       }
 
@@ -126,11 +114,10 @@ module _ (line number : ℕ) (old : LinesFields) (might mays : ℕ → Logged �
       → IsLineBy line (acts.Lose number) (IsLoss number) old might new may
       (Err (line_faults.Refused refusals.NoLetter))
   loss_refused new may has refused =
-      refusal_ends (IsLoss number) line (acts.Lose number) old new might may refusals.NoLetter
-      (λ script st is keeps.
+      refusal_ends (IsLoss number) _ _ _ _ _ _ _ (λ script st is keeps.
       record {
         test =
-            ap (λ (o : Option LetterId). test_letter o (λ (l : LetterId). None))
-            (found_lost script st works mays (before script st is keeps).runs none_left number has);
+            ap (λ (o : Option LetterId). test_letter o (λ (l : LetterId). None)) (found_lost script
+            _ _ mays (before script st is keeps).runs none_left _ has);
         stands = refused script st (before script st is keeps);
       })

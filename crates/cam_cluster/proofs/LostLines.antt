@@ -27,10 +27,10 @@ use Rattle.cam_cluster.proofs.Begun.{begun}
 pub newest_say : (more halts : List Halt) (n k : ℕ)
     → AllByRecursion (λ (h : Halt). h.input < n) halts
     → n ≤ k → halt_at (more ++ halts) k ≡ halt_at more k
-newest_say [] halts n k past least = none_again halts n k past least
+newest_say [] halts n k past least = none_again _ _ _ past least
 newest_say (h ∷ more) halts n k past least =
-    ap (λ (o : Option Bool). if eqb h.input k then Some h.took else o)
-    (newest_say more halts n k past least)
+    ap (λ (o : Option Bool). if eqb h.input k then Some h.took else o) (newest_say more halts n k
+    past least)
 
 none_of : (more : List Halt) (k : ℕ) → AllByRecursion (λ (h : Halt). h.took ≡ false) more
     → halt_at more k ≡ Some true → ⊥
@@ -47,7 +47,7 @@ none_of (h ∷ more) k lost is = elim (eqb_tells h.input k) [
 pub none_taken : (more halts : List Halt) (n : ℕ) → AllByRecursion (λ (h : Halt). h.input < n) halts
     → AllByRecursion (λ (h : Halt). h.took ≡ false) more → NoneTaken (more ++ halts) n
 none_taken more halts n past lost k least is =
-    none_of more k lost (sym (newest_say more halts n k past least) ∙ is)
+    none_of _ _ lost (sym (newest_say more _ _ _ past least) ∙ is)
 
 -- Another halt's end leaves the others as they were.
 pub ended_lost : (st : Standing) (halts : List Halt) (s : ℕ)
@@ -67,7 +67,7 @@ ended_lost st halts s lost m is = elim (eqb_tells s m) [
 
 pub begun_lost : (does : Act) (st : Standing) (halts : List Halt) → AreLostSoFar st halts
     → AreLostSoFar (begun st does) halts
-begun_lost (acts.Restart s) st halts lost = ended_lost st halts s (λ m away is. lost m is)
+begun_lost (acts.Restart s) st halts lost = ended_lost st _ _ (λ m away is. lost m is)
 begun_lost (acts.Stop s calls) st halts lost = by (has_number st.halted s)
   where
     by : (b : Bool)

@@ -23,12 +23,11 @@ use Rattle.cam_cluster.proofs.EndsSaid.{given_said}
 pub said_parts : (halts : Halting) (k : ℕ) (ends more : List Put)
     → AreSaidFrom halts k (ends ++ more)
     → AreSaidFrom halts k ends × AreSaidFrom halts (k + length ends) more
-said_parts halts k [] more said =
-    (tt, subst (λ n. AreSaidFrom halts n more) (let e : k ≡ k + 0 = omega arith in e) said)
+said_parts halts k [] more said = (tt, rw (← (let e : k ≡ k + 0 = omega arith in e)) said)
 said_parts halts k (end ∷ ends) more said =
     let rest = said_parts halts (k + 1) ends more said.1 in
     let place : k + 1 + length ends ≡ k + length (end ∷ ends) = omega arith in
-    ((said.0, rest.0), subst (λ n. AreSaidFrom halts n more) place rest.1)
+    ((said.0, rest.0), rw (← place) rest.1)
 
 -- No input was put.
 pub none_made : (line : ℕ) (bodies : List (List Statement)) (works : WorksFields)
@@ -37,7 +36,7 @@ pub none_made : (line : ℕ) (bodies : List (List Statement)) (works : WorksFiel
 none_made line bodies works may workers = record {
   ends = [];
   made = λ script st halts restarted is bodies_are keeps said. record {
-    counted = none_counted st;
+    counted = none_counted _;
     keeps = keeps;
   };
 }
@@ -53,16 +52,13 @@ made_on one other line bodies old mid new might mays may before during after fir
   ends = first.ends ++ second.ends;
   made = λ script st halts restarted is bodies_are keeps said.
       let c = held_setting script.objects halts line restarted in
-      let parts = said_parts halts (accepted st.turns) first.ends second.ends said in
+      let parts = said_parts _ _ _ _ said in
       let so = first.made script st halts restarted is bodies_are keeps parts.0 in
       let at = one c script.bodies st in
       let behind =
-      second.made script at halts restarted is bodies_are so.keeps
-      (subst (λ n. AreSaidFrom halts n second.ends) (sym so.counted.inputs) parts.1) in
+      second.made script at halts restarted is bodies_are so.keeps (rw so.counted.inputs parts.1) in
       record {
-        counted =
-            counted_on st at (other c script.bodies at) first.ends second.ends so.counted
-            behind.counted;
+        counted = counted_on _ _ _ _ _ so.counted behind.counted;
         keeps = behind.keeps;
       };
 }
@@ -100,10 +96,8 @@ abbrev pub made_as : (one other : Making) (line : ℕ) (bodies : List (List Stat
     → HaveMade other line bodies old might before new may after
 made_as one other line bodies old new might may before after same some = record {
   ends = some.ends;
-  made = λ script st halts restarted is bodies_are keeps said.
-      subst (λ (z : Standing). HaveBeenPut script st z some.ends new may after)
-      (same script halts restarted st keeps)
-      (some.made script st halts restarted is bodies_are keeps said);
+  made = λ script st halts restarted is bodies_are keeps said. rw (← (same script halts restarted st
+      keeps)) (some.made script st halts restarted is bodies_are keeps said);
 }
 
 -- The workers had caught up before.
@@ -141,6 +135,6 @@ stands_behind making line bodies old new might may before after some script st i
     record {
       halts = given halts;
       put =
-          some.made script st (given halts) (λ s. false) is bodies_are keeps
-          (given_said halts [] (accepted st.turns) some.ends (sym (append-nil halts)) tt);
+          some.made script st (given halts) (λ s. false) is bodies_are keeps (given_said _ _ _ _
+          (sym (append-nil halts)) tt);
     }

@@ -57,32 +57,30 @@ module _ (script : Script) (st : Standing) (a : Name) (under : IsUnderHalts scri
   sees : Sees script.objects past
       (with_first st.running.trace s None (base_of st.running.trace s None)) whole
   sees =
-      sees_so script.objects st.running.trace s None every
-      (ran_holds script.objects st.running.trace (ran script st under.run)) tt
-      (every_part st.running.trace s None)
+      sees_so _ _ _ None _ (ran_holds _ _ (ran script st under.run)) tt (every_part _ _ _)
 
   -- of an action that was created and has not ended the incarnation is the present one
   is_of_present : has_ended past a ≡ None → created past.deeds a ≡ true → is_present past a ≡ true
   is_of_present runs made =
-      let parts = or_parts (ended past.deeds a) (nat_lt (home_count a) (present past))
-      (where_none _ refusals.Ended runs) in
+      let parts = or_parts (ended past.deeds a) (nat_lt (home_count a) (present past)) (where_none _
+      _ runs) in
       let above : present past ≤ home_count a =
       ltb-false (home_count a) (present past) parts.1 in
       let there : created whole a ≡ true = sym (sees.same_created a refl) ∙ made in
       let below : home_count a ≤ count whole s =
-      created_count script.objects whole a sees.legal there in
+      created_count _ _ _ sees.legal there in
       eq-eqb (home_count a) (present past) (omega (arith, above, below, sees.same_count))
 
   runs_where_free : refusal past a wants.Abort ≡ None → is_running past a ≡ true
   runs_where_free free =
-      let parts = first_two (has_ended past a) (is_not_open past a) free in
+      let parts = first_two _ _ free in
       let made : created past.deeds a ≡ true =
-      not_false (created past.deeds a) (where_none _ refusals.NotOpen parts.1) in
-      let ends = or_parts (ended past.deeds a) (nat_lt (home_count a) (present past))
-      (where_none _ refusals.Ended parts.0) in
-      and_from (created past.deeds a && not (ended past.deeds a)) (is_present past a)
-      (and_from (created past.deeds a) (not (ended past.deeds a)) made (ap not ends.0))
-      (is_of_present parts.0 made)
+      not_false _ (where_none _ _ parts.1) in
+      let ends = or_parts (ended past.deeds a) (nat_lt (home_count a) (present past)) (where_none _
+      _ parts.0) in
+      and_from (created past.deeds a && not (ended past.deeds a)) (is_present past a) (and_from
+      (created past.deeds a) (not (ended past.deeds a)) made (ap not ends.0)) (is_of_present parts.0
+      made)
 
   free_where_runs : is_running past a ≡ true → refusal past a wants.Abort ≡ None
   free_where_runs runs =
@@ -112,14 +110,9 @@ module _ (script : Script) (st : Standing) (a : Name) (under : IsUnderHalts scri
   pub known_running : is_running known a ≡ is_none (refusal known a wants.Abort)
   known_running =
       (ap (λ g. is_running g a) (nodes_go_by_the_same script.objects st.running.trace s
-      (ran_addressed script.objects st.running.trace (ran script st under.run)))
-      ∙ λ i. is_running (plain_sight s (entries_same script.objects st.running.trace s i)
-      (ran_informs script.objects st.running.trace s None (ran script st under.run) tt i)) a)
-      ∙ past_running
-      ∙ ap is_none
-      (sym (ap (λ g. refusal g a wants.Abort) (nodes_go_by_the_same script.objects
-      st.running.trace s (ran_addressed script.objects st.running.trace (ran script st
-      under.run)))
-      ∙ λ i. refusal (plain_sight s (entries_same script.objects st.running.trace s i)
-      (ran_informs script.objects st.running.trace s None (ran script st under.run) tt i)) a
-      wants.Abort))
+      (ran_addressed _ _ (ran script st under.run))) ∙ λ i. is_running (plain_sight s
+      (entries_same script.objects st.running.trace s i) (ran_informs _ _ s None (ran script st
+      under.run) tt i)) a) ∙ past_running ∙ ap is_none (sym (ap (λ g. refusal g a wants.Abort)
+      (nodes_go_by_the_same script.objects st.running.trace s (ran_addressed _ _ (ran script st
+      under.run))) ∙ λ i. refusal (plain_sight s (entries_same script.objects st.running.trace s i)
+      (ran_informs _ _ s None (ran script st under.run) tt i)) a wants.Abort))

@@ -34,9 +34,7 @@ use Rattle.cam_cluster.proofs.LetterEnds.{halted_as}
 module _ (script : Script) (st : Standing) (works : WorksFields) (may : ℕ → Logged → Type 0)
     (keeps : KeepsRun script st works may) (none_left : works.outbox.unput ≡ []) where
   whole : IsWhole script.objects st (sites_of works.nodes) works.outbox.net [] works.halted
-  whole =
-      subst (λ (u : List Letter). IsWhole script.objects st (sites_of works.nodes)
-      works.outbox.net u works.halted) none_left keeps.whole
+  whole = rw (← none_left) keeps.whole
 
   pub next_is : (number : ℕ) → Some number ≡ next_of works.halted works.outbox.net
       → HasNext st number
@@ -56,8 +54,7 @@ pub next_found : (works : WorksFields) (may : ℕ → Logged → Type 0) (number
 next_found works may number some none_left is found =
     let st = some.standing in
     let next = (next_is some.script st works may some.keeps none_left number is) in
-    no_some (letter_of st.running number) next.id
-    (found some.script st some.is_script some.keeps) next.next.is_letter
+    no_some _ _ (found some.script st some.is_script some.keeps) next.next.is_letter
 
 pub next_awake : (works : WorksFields) (may : ℕ → Logged → Type 0) (number : ℕ) (coming : Coming)
     → AreWorksOfSome works may → works.outbox.unput ≡ []
@@ -67,10 +64,9 @@ next_awake works may number coming some none_left is found =
     let st = some.standing in
     let next = (next_is some.script st works may some.keeps none_left number is) in
     let f = found some.script st some.is_script some.keeps in
-    sym (halted_as some.script st works may some.keeps none_left number coming f.0 f.1)
-    ∙ ap (λ (l : LetterId). has_number st.halted (addressee st l))
-    (same_Some coming.letter next.id (sym f.0 ∙ next.next.is_letter))
-    ∙ next.next.awake
+    sym (halted_as _ _ _ _ some.keeps none_left _ _ f.0 f.1) ∙ ap (λ (l : LetterId).
+    has_number st.halted (addressee st l)) (same_Some coming.letter next.id (sym f.0 ∙
+    next.next.is_letter)) ∙ next.next.awake
 
 -- so it is the delivery of the run's letter that waits
 pub handed_next : (line number : ℕ) (old mid new : WorksFields)
@@ -117,10 +113,8 @@ pub works_weigh : (script : Script) (st : Standing) (works : WorksFields)
     (may : ℕ → Logged → Type 0) → KeepsRun script st works may
     → works_weight works ≡ waiting_weight st.running
 works_weigh script st works may keeps =
-    ap (λ (t : List Event). net_weight t (letters t)
-    (with_put works.outbox.net works.outbox.unput)) (trace_is script st works may keeps)
-    ∙ weighs st 1 (letters st.running.trace) (with_put works.outbox.net works.outbox.unput)
-    keeps.whole.network.stands.letters
+    ap (λ (t : List Event). net_weight t (letters t) (with_put works.outbox.net works.outbox.unput))
+    (trace_is _ _ _ _ keeps) ∙ weighs _ _ _ _ keeps.whole.network.stands.letters
 
 -- Some run is kept after the delivery too, and what waits weighs less.
 module _ (line : ℕ) (old new : WorksFields) (might may : ℕ → Logged → Type 0) (done : Put)
@@ -149,10 +143,9 @@ module _ (line : ℕ) (old new : WorksFields) (might may : ℕ → Logged → Ty
 
     pub weighs_less : works_weight new < works_weight old
     weighs_less =
-        let before = works_weigh some.script some.standing old might some.keeps in
-        let behind = works_weigh some.script after new may (one.stands refl) in
+        let before = works_weigh _ _ _ _ some.keeps in
+        let behind = works_weigh _ _ _ _ (one.stands refl) in
         let less =
-        (halted_deliveries_lower some.script.objects).1
-        (λ turns s appends restarted. as_halt done) line (λ s. false) some.standing one.next
-        one.waits in
+        (halted_deliveries_lower some.script.objects).1 (λ turns s appends restarted. as_halt done)
+        line (λ s. false) some.standing one.next one.waits in
         omega (arith, before, behind, less)

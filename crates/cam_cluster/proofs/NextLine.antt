@@ -110,7 +110,7 @@ module _ (seen : Seen) (step : Step) (old new : LinesFields) (might may : ℕ �
       record {
         more = [];
         of_line = of_line;
-        passed = sym (refusals_agree seen old might step seen.halts keeps next) ∙ passed;
+        passed = sym (refusals_agree _ _ _ _ seen.halts keeps next) ∙ passed;
         stands = goes_on seen step [] old new might may keeps next of_line stands;
       }
 

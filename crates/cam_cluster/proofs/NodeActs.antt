@@ -28,15 +28,15 @@ module _ (script : Script) (st : Standing) (line : ℕ) (is : IsScript script) w
       → IsLineTo script st (acts.Tell s to) s (inputs.Tell to)
   tell_to s to next =
       let holds = next_holds script st line (acts.Tell s to) is next in
-      let node = node_within script.nodes s
-      (and_parts (law.is_node script.nodes s) (law.is_node script.nodes to) holds.1).0 in
+      let node = node_within _ _ (and_parts (law.is_node script.nodes s) (law.is_node script.nodes
+      to) holds.1).0 in
       record {
         low = node.0;
         high = node.1;
         at = refl;
         own =
-            node_of_test to (and_parts (is_node s) (is_node to)
-            (next_in_range script st line (acts.Tell s to) is next)).1;
+            node_of_test _ (and_parts (is_node s) (is_node to) (next_in_range script st line
+            (acts.Tell s to) is next)).1;
         idle = tt;
         tests = refl;
         takes = λ c. refl;
@@ -48,8 +48,8 @@ module _ (script : Script) (st : Standing) (line : ℕ) (is : IsScript script) w
       → IsLineTo script st (acts.Query s v) s (inputs.Query (family a))
   query_to s v a at next =
       let holds = next_holds script st line (acts.Query s v) is next in
-      let node = node_within script.nodes s
-      (and_parts (law.is_node script.nodes s) (may_use holds.0 uses.Query v) holds.1).0 in
+      let node = node_within _ _ (and_parts (law.is_node script.nodes s) (may_use holds.0
+      uses.Query v) holds.1).0 in
       record {
         low = node.0;
         high = node.1;
@@ -57,12 +57,10 @@ module _ (script : Script) (st : Standing) (line : ℕ) (is : IsScript script) w
         own = tt;
         idle = tt;
         tests =
-            ap (λ o. test_variable o (λ x. halted_or st s
-            (refusal_of (by_knowledge script.objects) st s (inputs.Query (family x))))) at;
-        takes = λ c.
-            ap (λ o. of_variable o (λ x. unless (halted_or st s
-            (refusal_of c.reading st s (inputs.Query (family x))))
-            (led_by c st s (inputs.Query (family x))))) at;
+            ap (λ o. test_variable o (λ x. halted_or st s (refusal_of (by_knowledge script.objects)
+            st s (inputs.Query (family x))))) at;
+        takes = λ c. ap (λ o. of_variable o (λ x. unless (halted_or st s (refusal_of c.reading st s
+            (inputs.Query (family x)))) (led_by c st s (inputs.Query (family x))))) at;
       }
 
   pub query_unbound : (s v : ℕ) → variable st.running v ≡ None

@@ -61,8 +61,8 @@ module _ (script : Script) (st : Standing) (place : ℕ) (works : WorksFields)
       → (q : ℕ) (n : NodeFields) → slice_get nodes q ≡ Some n
       → IsNodeOf script.objects halted (q + 1) n
   nodes_are halted here elsewhere q n at =
-      elim (set_tells works.nodes place q new n (slice_get_within works.nodes place old there)
-      (ap (λ (ns : List NodeFields). slice_get ns q) (sym are) ∙ at)) [
+      elim (set_tells _ _ _ _ _ (slice_get_within works.nodes place old there) (ap (λ (ns :
+      List NodeFields). slice_get ns q) (sym are) ∙ at)) [
         | inl y ↦ subst (IsNodeOf script.objects halted (q + 1)) y.1 (record {
           over = objects ∙ (keeps.nodes place old there).over;
           is_halted = here ∙ ap (λ (p : ℕ). is_halted halted (p + 1)) (sym y.0);
@@ -70,8 +70,8 @@ module _ (script : Script) (st : Standing) (place : ℕ) (works : WorksFields)
         | inr off ↦ record {
           over = (keeps.nodes q n off.1).over;
           is_halted =
-              (keeps.nodes q n off.1).is_halted
-              ∙ elsewhere (q + 1) (omega arith) (λ e. off.0 (omega (arith, e)));
+              (keeps.nodes q n off.1).is_halted ∙ elsewhere (q + 1) (omega arith) (λ e. off.0 (omega
+              (arith, e)));
         }
       ]
 
@@ -89,12 +89,11 @@ module _ (script : Script) (st : Standing) (place : ℕ) (works : WorksFields)
       → IsHaltOf script.objects now.running.trace now.undecided (q + 1) n (may (q + 1))
   halts_are now away same still q n at said =
       let off = away (q + 1) said in
-      elim (set_tells works.nodes place q new n (slice_get_within works.nodes place old there)
-      (ap (λ (ns : List NodeFields). slice_get ns q) (sym are) ∙ at)) [
+      elim (set_tells _ _ _ _ _ (slice_get_within works.nodes place old there) (ap (λ (ns :
+      List NodeFields). slice_get ns q) (sym are) ∙ at)) [
         | inl y ↦ absurd (off.0 (ap (λ (p : ℕ). p + 1) y.0))
         | inr other ↦
-            halt_stays script.objects st now (q + 1) n (might (q + 1)) (may (q + 1))
-            (same (q + 1) (omega arith) off.0) (still (q + 1) off.0)
-            (λ logged read. others (q + 1) logged (omega arith) off.0 read)
-            (keeps.halts q n other.1 other.0 off.1)
+            halt_stays _ _ _ _ _ (might (q + 1)) (may (q + 1)) (same (q + 1) (omega arith)
+            off.0) (still (q + 1) off.0) (λ logged read. others (q + 1) logged (omega arith) off.0
+            read) (keeps.halts q n other.1 other.0 off.1)
       ]

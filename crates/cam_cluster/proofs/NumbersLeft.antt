@@ -97,12 +97,7 @@ module _ (script : Script) (st : Standing) (works : WorksFields) (may : ℕ → 
       → IsLetter node.site.node.server.table.site.objects node.site.node.number (mail_on letter)
       (load_of (inputs.Letter id letter))
   is_letter id letter read to =
-      subst (λ (os : List ObjectDecl). IsLetter os node.site.node.number (mail_on letter)
-      (load_of (inputs.Letter id letter))) (sym stands.represents.serves.site.objects_are)
-      (subst (λ (s : ℕ). IsLetter script.objects s (mail_on letter)
-      (load_of (inputs.Letter id letter)))
-      (to ∙ sym here.number)
-      (letters_are_put script.objects st.running.trace id read.mail letter read.sent read.read).may)
+      rw stands.represents.serves.site.objects_are (rw (← (to ∙ sym here.number)) (letters_are_put script.objects st.running.trace id read.mail letter read.sent read.read).may)
 
   -- THE LEMMA
   pub letter_may_come : (id : LetterId) (letter : Letter) → IsReadOf script st id letter

@@ -37,16 +37,13 @@ known_risen : (nodes : List NodeFields) (place : ℕ) (old new : NodeFields) (wa
     → KnownFirst was (failed.Disk (place + 1)) now
     → IsKnownToFail was nodes now (set nodes place new)
 known_risen nodes place old new failed.Nothing now at rose is =
-    subst (λ (f : Failed). IsKnownToFail failed.Nothing nodes f (set nodes place new)) (sym is)
-    (inr (record {
+    rw is (inr (record {
       low = omega arith;
       high = omega (arith, less);
       old = old;
       new = new;
-      was = subst (λ (k : ℕ). slice_get nodes k ≡ Some old) back at;
-      is =
-          subst (λ (k : ℕ). slice_get (set nodes place new) k ≡ Some new) back
-          (at_set nodes place new less);
+      was = rw (← back) at;
+      is = rw (← back) (at_set _ _ new less);
       rose = rose;
     }))
   where
@@ -58,22 +55,18 @@ known_risen nodes place old new failed.Nothing now at rose is =
 known_risen nodes place old new (failed.Disk s) now at rose is =
     subst (λ (f : Failed). IsKnownToFail (failed.Disk s) nodes f (set nodes place new)) (sym is)
     (inl refl)
-known_risen nodes place old new failed.Memory now at rose is =
-    subst (λ (f : Failed). IsKnownToFail failed.Memory nodes f (set nodes place new)) (sym is) tt
+known_risen nodes place old new failed.Memory now at rose is = rw is tt
 
 known_after : (nodes : List NodeFields) (place : ℕ) (old new : NodeFields) (was now : Failed)
     → slice_get nodes place ≡ Some old → new.tells ≡ old.tells → old.failures ≤ new.failures
     → IsAfterCall (place + 1) old.failures new.failures was now
     → IsKnownToFail was nodes now (set nodes place new)
 known_after nodes place old new was now at told later after =
-    elim (rose_or_still old.failures new.failures) [
-      | inl rose ↦ known_risen nodes place old new was now at rose (after.rose rose)
+    elim (rose_or_still _ _) [
+      | inl rose ↦ known_risen _ _ _ _ _ _ at rose (after.rose rose)
       | inr still ↦
-          subst (λ (f : Failed). IsKnownToFail was nodes f (set nodes place new))
-          (sym (after.still still))
-          (known_same was nodes (set nodes place new)
-          (counts_same count nodes place old new at
-          (not_risen old.failures new.failures later still)))
+          rw (after.still still) (known_same _ _ _ (counts_same _ _ _ _ _ at (not_risen _
+          _ later still)))
     ]
 
 -- One node was called, and its count is watched.
@@ -82,11 +75,9 @@ pub goes_on_at : (nodes : List NodeFields) (before : Failed) (news : List NodeFi
     → news ≡ set nodes place new → new.tells ≡ old.tells → old.failures ≤ new.failures
     → IsAfterCall (place + 1) old.failures new.failures before now → GoOn nodes before news now
 goes_on_at nodes before news now place old new at are told later watched =
-    subst (λ (ns : List NodeFields). GoOn nodes before ns now) (sym are)
-    (record {
-      later =
-          one_later tells count nodes place old new at (record { told = told; later = later });
-      known = known_after nodes place old new before now at told later watched;
+    rw are (record {
+      later = one_later _ _ _ _ _ _ at (record { told = told; later = later });
+      known = known_after _ _ _ _ _ _ at told later watched;
     })
 
 -- so of nodes that are seen so
@@ -98,11 +89,9 @@ pub goes_on_in : {N : Type 0} (part : N → NodeFields) (nodes mids news : List 
     → GoOn (map part nodes) before (map part news) now
 goes_on_in {N} part nodes mids news before known now place old new same same_known there is_old are
     told later watched =
-    subst (λ (z : List N × Failed). GoOn (map part z.0) z.1 (map part news) now)
-    (λ i. (same i, same_known i))
-    (goes_on_at (map part mids) known (map part news) now place (part old) (part new)
-    (seen_there part mids place old (taken_there mids place old there is_old))
-    (ap (map part) are ∙ map-set part mids place new) told later watched)
+    subst (λ (z : List N × Failed). GoOn (map part z.0) z.1 (map part news) now) (λ i. (same i,
+    same_known i)) (goes_on_at _ _ _ _ _ _ _ (seen_there part mids place _ (taken_there _
+    _ _ there is_old)) (ap (map part) are ∙ map-set part mids place new) told later watched)
 
 -- how it was watched, by the count of the disk of the node that was asked
 pub watched_there : {N : Type 0} (part : N → NodeFields) (nodes : List N) (place : ℕ)
@@ -114,12 +103,11 @@ pub watched_there : {N : Type 0} (part : N → NodeFields) (nodes : List N) (pla
     → IsAfterCall (place + 1) (part old).failures (part new).failures known now
 watched_there {N} part nodes place asked old new before known now there is_asked is_old is watched =
     let same : asked ≡ old =
-    same_Some asked old (sym (taken_there nodes place asked there is_asked)
-    ∙ taken_there nodes place old there is_old) in
-    subst (λ (n : ℕ). IsAfterCall (place + 1) n (part new).failures known now)
-    (is ∙ ap (λ (n : N). (part n).failures) same)
-    (holds_there (λ (n : N). IsAfterCall (place + 1) before (part n).failures known now)
-    (set nodes place new) place new (at_set nodes place new there) watched)
+    same_Some asked old (sym (taken_there _ _ _ there is_asked) ∙ taken_there _ _ _ there
+    is_old) in
+    rw (← (is ∙ ap (λ (n : N). (part n).failures) same)) (holds_there (λ (n : N). IsAfterCall (place
+    + 1) before (part n).failures known now) (set nodes place new) place _ (at_set _ _ new there)
+    watched)
 
 -- A node whose count stays goes on, and nothing more is known.
 pub stays_at : {N : Type 0} (part : N → NodeFields) (nodes : List N) (now : Failed) (place : ℕ)
@@ -127,14 +115,8 @@ pub stays_at : {N : Type 0} (part : N → NodeFields) (nodes : List N) (now : Fa
     → (part new).tells ≡ (part old).tells → (part new).failures ≡ (part old).failures
     → GoOn (map part nodes) now (map part (set nodes place new)) now
 stays_at part nodes now place old new there is_old told same =
-    let at = seen_there part nodes place old (taken_there nodes place old there is_old) in
-    subst (λ (ns : List NodeFields). GoOn (map part nodes) now ns now)
-    (sym (map-set part nodes place new))
-    (record {
-      later =
-          one_later tells count (map part nodes) place (part old) (part new) at
-          (record { told = told; later = omega (arith, same) });
-      known =
-          known_same now (map part nodes) (set (map part nodes) place (part new))
-          (counts_same count (map part nodes) place (part old) (part new) at same);
+    let at = seen_there part nodes place _ (taken_there _ _ _ there is_old) in
+    rw (map-set part nodes place new) (record {
+      later = one_later _ _ _ _ _ _ at (record { told = told; later = omega (arith, same) });
+      known = known_same _ _ _ (counts_same _ _ _ _ _ at same);
     })

@@ -66,10 +66,9 @@ refused_is_over : (objects : List ObjectDecl) (t : List Event) (a : Name)
 refused_is_over objects t a told =
     let g : Sight = sight_by_deltas objects t (home_node a) in
     let said : said_over g.deeds a ≡ true =
-    first_ends (ended g.deeds a || nat_lt (home_count a) (present g)) (not (created g.deeds a)) told
-    in
-    or_left (said_over (home_deeds t a) a) (list_any (is_stop_of a) t)
-    (subst (λ (L : List Deed). said_over L a ≡ true) (own_sight objects t (home_node a)) said)
+    first_ends _ _ told in
+    or_left (said_over (home_deeds t a) a) (list_any (is_stop_of a) t) (rw (← (own_sight objects t
+    (home_node a))) said)
 
 -- so it is where it was stopped
 pub stopped_is_over : (a : Name) (works : WorksFields) (may : ℕ → Logged → Type 0)

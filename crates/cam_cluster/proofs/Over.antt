@@ -44,10 +44,10 @@ ended_after L ds a is =
     elim (or_cases (list_any (is_ask_commit a) L) (list_any (is_ask_abort a) L) is) [
       | inl commits ↦
           or_left (list_any (is_ask_commit a) (after L ds)) (list_any (is_ask_abort a) (after L ds))
-          (any_after (is_ask_commit a) L ds commits)
+          (any_after _ _ ds commits)
       | inr aborts ↦
-          or_right (list_any (is_ask_commit a) (after L ds))
-          (list_any (is_ask_abort a) (after L ds)) (any_after (is_ask_abort a) L ds aborts)
+          or_right (list_any (is_ask_commit a) (after L ds)) (list_any (is_ask_abort a) (after L
+          ds)) (any_after _ _ ds aborts)
     ]
 
 -- what is said of a name by the deeds of its home
@@ -72,14 +72,14 @@ pub over_stays : OverStays
 over_stays e t a is =
     elim (or_cases (said_over (home_deeds t a) a) (list_any (is_stop_of a) t) is) [
       | inl said ↦
-          or_left (said_over (home_deeds (e ∷ t) a) a) (list_any (is_stop_of a) (e ∷ t))
-          (elim (cases_Bool (eqb e.node (home_node a))) [
-            | inl own ↦ rw own (said_after (home_deeds t a) e.deeds a said)
+          or_left (said_over (home_deeds (e ∷ t) a) a) (list_any (is_stop_of a) (e ∷ t)) (elim
+          (cases_Bool (eqb e.node (home_node a))) [
+            | inl own ↦ rw own (said_after _ e.deeds _ said)
             | inr other ↦ rw other said
           ])
       | inr stopped ↦
-          or_right (said_over (home_deeds (e ∷ t) a) a) (list_any (is_stop_of a) (e ∷ t))
-          (or_right (is_stop_of a e) (list_any (is_stop_of a) t) stopped)
+          or_right (said_over (home_deeds (e ∷ t) a) a) (list_any (is_stop_of a) (e ∷ t)) (or_right
+          (is_stop_of a e) (list_any (is_stop_of a) t) stopped)
     ]
 
 pub over_later : (more t : List Event) (a : Name) → is_over t a ≡ true
@@ -115,14 +115,9 @@ over_goes_not_on objects halts line restarted st a is =
     let stays : (L : List Deed) → L ≡ home_deeds t a
     → (((created L a && not (ended L a)) && eqb (home_count a) (count L s))
     && not (list_any (is_stop_of a) t)) ≡ false =
-    λ L same. rests (created L a) (ended L a) (nat_lt (home_count a) (count L s))
-    (eqb (home_count a) (count L s)) (list_any (is_stop_of a) t)
-    (apart (home_count a) (count L s))
-    (ap (λ M. said_over M a || list_any (is_stop_of a) t) same ∙ is) in
-    and_left
-    (((created (sight_by_deltas objects t s).deeds a
-    && not (ended (sight_by_deltas objects t s).deeds a))
-    && eqb (home_count a) (count (sight_by_deltas objects t s).deeds s))
-    && not (list_any (is_stop_of a) t))
-    (not (has_number st.halted s))
-    (stays (sight_by_deltas objects t s).deeds (own_sight objects t s))
+    λ L same. rests (created L a) _ _ _ _ (apart _ _) (ap (λ M. said_over M a || list_any
+    (is_stop_of a) t) same ∙ is) in
+    and_left (((created (sight_by_deltas objects t s).deeds a && not (ended (sight_by_deltas objects
+    t s).deeds a)) && eqb (home_count a) (count (sight_by_deltas objects t s).deeds s)) && not
+    (list_any (is_stop_of a) t)) (not (has_number st.halted s)) (stays (sight_by_deltas objects t
+    s).deeds (own_sight objects t s))

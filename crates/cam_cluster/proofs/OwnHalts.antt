@@ -76,38 +76,32 @@ module _ (script : Script) (st : Standing) (place : ℕ) (input : Input) (mail :
     own_halt =
         halt_of_run script.objects (has_number st.taken) st.running.trace input mail load
         st.undecided old.site.node new (may r) keeps.under.run put_so.coming.may put_so.is_put
-        own_number (same_number ∙ own_number) old.site.entries
-        (node_keeps script st place input mail load works might old keeps put_so there)
-        (may_then script st place input mail load works might old keeps put_so there)
-        (record {
-          either = λ h logged kept may_be read.
-              halt.either h logged kept may_be (subst (λ (s : ℕ). may s logged) put_so.at read);
-        })
-        halts_at
+        own_number (same_number ∙ own_number) old.site.entries (node_keeps _ _ place _ mail load
+        works might _ keeps put_so there) (may_then _ _ place _ _ _ works might _ keeps
+        put_so there) (record {
+          either = λ h logged kept may_be read. halt.either h logged kept may_be (rw (← put_so.at)
+              read);
+        }) halts_at
       where
         own_number : old.site.node.number ≡ r
-        own_number =
-            (site_is script st place input mail load works might old keeps put_so there).number
+        own_number = (site_is _ _ place _ mail load works might _ keeps put_so there).number
 
     pub halts_now : (q : ℕ) (n : NodeFields) → slice_get nodes q ≡ Some n
         → has_number behind.halted (q + 1) ≡ true
         → IsHaltOf script.objects behind.running.trace behind.undecided (q + 1) n (may (q + 1))
     halts_now q n at said =
-        elim (set_tells works.nodes place q new n (slice_get_within works.nodes place old there)
-        (ap (λ (ns : List NodeFields). slice_get ns q) (sym are) ∙ at)) [
+        elim (set_tells _ _ _ _ _ (slice_get_within works.nodes place old there) (ap (λ (ns :
+        List NodeFields). slice_get ns q) (sym are) ∙ at)) [
           | inl y ↦
-              subst (λ (z : ℕ × NodeFields). IsHaltOf script.objects st.running.trace
-              (undecided ∷ st.undecided) z.0 z.1 (may z.0))
-              (λ i. ((put_so.at ∙ ap (λ (p : ℕ). p + 1) (sym y.0)) i, y.1 i)) own_halt
+              subst (λ (z : ℕ × NodeFields). IsHaltOf script.objects st.running.trace (undecided ∷
+              st.undecided) z.0 z.1 (may z.0)) (λ i. ((put_so.at ∙ ap (λ (p : ℕ). p + 1) (sym y.0))
+              i, y.1 i)) own_halt
           | inr other ↦
               let away : q + 1 ≡ place + 1 → ⊥ =
               λ e. other.0 (let is : q ≡ place = omega (arith, e) in is) in
               let off : r ≡ q + 1 → ⊥ = λ e. away (sym e ∙ put_so.at) in
-              halt_stays script.objects st behind (q + 1) n (might (q + 1)) (may (q + 1)) refl
-              (undecided_on script.objects st behind (q + 1) [] refl
-              (newest_other (q + 1) undecided st.undecided off) keeps.under.placed)
-              (λ logged read. others (q + 1) logged (omega arith) away read)
-              (keeps.halts q n other.1
-              (ap (λ (b : Bool). b || has_number st.halted (q + 1)) (sym (ne_eqb r (q + 1) off))
-              ∙ said))
+              halt_stays _ st behind _ _ (might (q + 1)) (may (q + 1)) refl (undecided_on _ _
+              _ _ [] refl (newest_other _ _ st.undecided off) keeps.under.placed) (λ logged
+              read. others (q + 1) logged (omega arith) away read) (keeps.halts q n other.1 (ap (λ
+              (b : Bool). b || has_number st.halted (q + 1)) (sym (ne_eqb r (q + 1) off)) ∙ said))
         ]

@@ -48,11 +48,8 @@ request_grows : (c : Setting) (st : Standing) (a : Name) (child : Option ℕ) (n
     → Grows st (make_request c st a child n)
 request_grows c st a child (nexts.Request want) =
     let request = Requests (record { action = a; want = want }) in
-    let t = st.running.trace in
-    let s : ℕ = node_of t request in
-    given_grows st (put c st request) child (asked_in (made st (put c st request)))
-    (input_grows c.line (c.restarted s) st s (c.reading.next t request)
-    (appends c.reading t request) (halt_of c st request))
+    given_grows st (put c st request) child (asked_in (made st (put c st request))) (input_grows _
+    _ _ _ _ _ _)
 request_grows c st a child nexts.Wait = record { events = []; trace = refl }
 request_grows c st a child nexts.Over = record { events = []; trace = refl }
 

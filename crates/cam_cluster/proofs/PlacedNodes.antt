@@ -30,14 +30,13 @@ pub asked_there : {N : Type 0} (P : N → Type 0) (nodes now : List N) (place : 
     → now ≡ nodes → place < length nodes → node ≡ get_or now place node
     → IfSome (slice_get nodes place) P → P node
 asked_there {N} P nodes now place node same within is holds =
-    holds_there P nodes place node
-    (taken_there nodes place node within
-    (is ∙ ap (λ (ns : List N). get_or ns place node) same)) holds
+    holds_there P nodes place _ (taken_there _ _ _ within (is ∙ ap (λ (ns : List N). get_or ns
+    place node) same)) holds
 
 -- what holds of the node that stands at a place
 pub one_there : {N : Type 0} (P : N → Type 0) (nodes : List N) (place : ℕ) (node : N)
     → slice_get nodes place ≡ Some node → P node → IfSome (slice_get nodes place) P
-one_there P nodes place node at holds = subst (λ (o : Option _). IfSome o P) (sym at) holds
+one_there P nodes place node at holds = rw at holds
 
 -- what holds of the node that stands at a place, whichever it is
 pub each_there : {N : Type 0} (P : N → Type 0) (nodes : List N) (place : ℕ)
@@ -51,7 +50,7 @@ each_there {N} P nodes place each = by (slice_get nodes place) refl
 -- as many are seen
 pub sees : {N F : Type 0} (f : N → F) (nodes : List N) (place : ℕ) → place < length nodes
     → place < length (map f nodes)
-sees f nodes place there = subst (λ (n : ℕ). place < n) (sym (length-map nodes f)) there
+sees f nodes place there = rw (length-map nodes f) there
 
 -- the number of a place
 pub after_is : (place : ℕ) → place + 1 ≡ suc place
@@ -68,7 +67,7 @@ pub reads_elsewhere : {N : Type 0} (tells : N → Bool) (may : N → Logged → 
     → MayReadAt tells may (set nodes place node) s logged → MayReadAt tells may nodes s logged
 reads_elsewhere tells may nodes place node s logged low away read = record {
   node = read.node;
-  at = sym (off_set nodes place (s - 1) node (λ e. away (omega (arith, e, low)))) ∙ read.at;
+  at = sym (off_set nodes _ _ node (λ e. away (omega (arith, e, low)))) ∙ read.at;
   told = read.told;
   reads = read.reads;
 }
@@ -79,13 +78,12 @@ pub reads_there : {N : Type 0} (tells : N → Bool) (may : N → Logged → Type
     → MayReadAt tells may (set nodes place node) (place + 1) logged
     → (tells node ≡ true) × may node logged
 reads_there {N} tells may nodes place node logged within read =
-    (ap tells here ∙ read.told, subst (λ (n : N). may n logged) (sym here) read.reads)
+    (ap tells here ∙ read.told, rw here read.reads)
   where
     back : place ≡ place + 1 - 1
     back = omega arith
 
     here : node ≡ read.node
     here =
-        same_Some node read.node
-        (sym (at_set nodes place node within)
-        ∙ ap (slice_get (set nodes place node)) back ∙ read.at)
+        same_Some node read.node (sym (at_set _ _ node within) ∙ ap (slice_get (set nodes place
+        node)) back ∙ read.at)

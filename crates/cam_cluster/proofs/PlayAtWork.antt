@@ -38,5 +38,4 @@ module _ (line : ℕ) (bodies : List (List Statement)) (old new : LinesFields)
       → IsAtWorkLine (play_step line) bodies old might before new may behind
       (Err (faults.Line line_faults.NoMemory))
   play_part_at_work has seen keeps next same =
-      play_part_taken line bodies old new might may before behind has seen keeps.between
-      keeps.workers same
+      play_part_taken _ _ _ _ _ _ _ _ has _ keeps.between keeps.workers same

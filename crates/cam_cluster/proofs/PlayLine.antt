@@ -93,13 +93,11 @@ led_at_work : (script : Script) (st now : Standing) (line : ℕ) (works : WorksF
 led_at_work script st now line works may workers bound under keeps is_bound = record {
   lines = record {
     runs =
-        keeps_others script now (after_line st line (Led now None)) works works.marks may
-        (record { trace = refl; lost = refl; delivered = refl }) refl refl refl keeps.runs.all_marks
-        under keeps.runs;
+        keeps_others _ _ _ _ _ _ (record { trace = refl; lost = refl; delivered = refl }) refl
+        refl refl keeps.runs.all_marks under keeps.runs;
     variables = is_bound;
   };
-  workers =
-      workers_stay now (after_line st line (Led now None)) workers [] refl refl keeps.workers;
+  workers = workers_stay _ _ _ [] refl refl keeps.workers;
 }
 
 module _ (line : ℕ) (bodies : List (List Statement)) (old new : WorksFields)
@@ -164,5 +162,5 @@ none_played line bodies works may workers = record {
   whole = 0;
   requests = 0;
   number = 0;
-  made = none_made line bodies works may workers;
+  made = none_made _ _ _ _ _;
 }

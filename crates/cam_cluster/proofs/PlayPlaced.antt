@@ -40,7 +40,7 @@ pub in_order_placed : (nodes : ℕ) (given : List (Name × ℕ)) → BodiesAreAt
     → AllByRecursion (IsAtNode nodes) (in_order given)
 in_order_placed nodes [] placed = tt
 in_order_placed nodes (p ∷ given) placed =
-    put_placed nodes p.0 (in_order given) placed.0 (in_order_placed nodes given placed.1)
+    put_placed _ _ _ placed.0 (in_order_placed nodes given placed.1)
 
 -- So they are after a round, by what nodes hold.
 pub held_round_placed : (script : Script) (halts : Halting) (line : ℕ) (restarted : ℕ → Bool)

@@ -101,8 +101,8 @@ module _ (line : ℕ) (bodies : List (List Statement)) (old mid new : WorksField
   pub some_behind_turns : AreWorksOfSome mid mays
   some_behind_turns =
       let behind =
-      stands_behind all_turns line bodies old mid might mays before after had some.script
-      some.standing some.is_script some.bodies_are some.keeps in
+      stands_behind all_turns line _ _ _ _ _ _ after had _ _ some.is_script some.bodies_are
+      some.keeps in
       record {
         script = some.script;
         standing =
@@ -137,7 +137,7 @@ module _ (line : ℕ) (bodies : List (List Statement)) (old mid new : WorksField
       → HaveMade round line bodies old might before new may after
   round_made has =
       made_on all_turns (λ c bs st. drain c st) line bodies old mid new might mays may before after
-      after had (drained_made line bodies mid new mays may after has)
+      after had (drained_made _ _ _ _ _ _ _ has)
 
   -- and whether an input was put is told by the events and the marks
   pub round_told : (b : Bool)

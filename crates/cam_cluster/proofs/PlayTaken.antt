@@ -59,9 +59,7 @@ module _ (line : ℕ) (bodies : List (List Statement)) (old new : LinesFields)
 
     all_said : KeepsBetween seen old might
         → AreSaidFrom (given (more ++ seen.halts)) (accepted seen.standing.turns) ends
-    all_said keeps =
-        given_said (more ++ seen.halts) seen.halts (accepted seen.standing.turns) ends refl
-        keeps.past
+    all_said keeps = given_said _ _ _ _ refl keeps.past
 
   pub play_taken : (has : IsLineOfPlay line bodies old might before new may after) (seen : Seen)
       → KeepsBetween seen old might → AreWorkers seen.standing before → IsNextStep seen step
@@ -89,14 +87,11 @@ module _ (line : ℕ) (bodies : List (List Statement)) (old new : LinesFields)
       counted : AreCounted seen.standing (after_step seen step (more seen has.ends)).standing
           has.ends
       counted =
-          subst (λ (z : Standing). AreCounted seen.standing z has.ends) same
-          (led_counted (play (c seen has.ends) seen.script.bodies seen.standing) played.counted)
+          rw (← same) (led_counted (play (c seen has.ends) seen.script.bodies seen.standing) played.counted)
         where
           led_counted : (z : Standing) → AreCounted seen.standing z has.ends
               → AreCounted seen.standing (after_line seen.standing line (Led z None)) has.ends
-          led_counted z one =
-              counted_as seen.standing z (after_line seen.standing line (Led z None)) has.ends refl
-              refl refl one
+          led_counted z one = counted_as _ _ _ _ refl refl refl one
 
       high : accepted seen.standing.turns + length has.ends
           ≤ accepted (after_step seen step (more seen has.ends)).standing.turns
@@ -104,11 +99,9 @@ module _ (line : ℕ) (bodies : List (List Statement)) (old new : LinesFields)
 
       of_line : AreHaltsOfLine seen (after_step seen step (more seen has.ends)) (more seen has.ends)
       of_line = record {
-        newest = from_newest (accepted seen.standing.turns) has.ends;
-        low = from_low (accepted seen.standing.turns) has.ends;
-        high =
-            from_high (accepted seen.standing.turns)
-            (accepted (after_step seen step (more seen has.ends)).standing.turns) has.ends high;
+        newest = from_newest _ has.ends;
+        low = from_low _ has.ends;
+        high = from_high _ _ _ high;
         lost = from_lost (accepted seen.standing.turns) has.ends;
       }
 

@@ -40,7 +40,7 @@ pub no_round : (line : ℕ) (bodies : List (List Statement)) (works : WorksField
     (may : ℕ → Logged → Type 0) (workers : Workers)
     → PlayedRounds 0 line bodies works may workers works may workers
 no_round line bodies works may workers = record {
-  made = none_made line bodies works may workers;
+  made = none_made _ _ _ _ _;
   each = λ script st halts restarted is bodies_are keeps said. tt;
 }
 
@@ -65,15 +65,13 @@ module _ (n line : ℕ) (bodies : List (List Statement)) (old mid new : WorksFie
       ≡ nat_lt 0 (length one.ends)))
   one_behind one script st halts restarted is bodies_are keeps said =
       let c = held_setting script.objects halts line restarted in
-      let parts = said_parts halts (accepted st.turns) some.made.ends one.ends said in
+      let parts = said_parts _ _ _ _ said in
       let so = some.made.made script st halts restarted is bodies_are keeps parts.0 in
       let at = rounds_whole c script.bodies n st in
       let behind =
-      one.made script at halts restarted is bodies_are so.keeps
-      (subst (λ k. AreSaidFrom halts k one.ends) (sym so.counted.inputs) parts.1) in (
-        some.each script st halts restarted is bodies_are keeps parts.0,
-        more_accepted (accepted at.turns) (accepted (round c script.bodies at).turns)
-            (length one.ends) behind.counted.inputs,
+      one.made script at halts restarted is bodies_are so.keeps (rw so.counted.inputs parts.1) in (
+        some.each script st halts restarted is bodies_are keeps parts.0, more_accepted _ _
+            _ behind.counted.inputs,
       )
 
   -- one more was,
@@ -81,17 +79,15 @@ module _ (n line : ℕ) (bodies : List (List Statement)) (old mid new : WorksFie
       → PlayedRounds (n + 1) line bodies old might before new may after
   next_round one =
       let next : suc n ≡ n + 1 = omega arith in
-      subst (λ m. PlayedRounds m line bodies old might before new may after) next (record {
+      rw (← next) (record {
         made =
             made_as (λ c bs st. round c bs (rounds_whole c bs n st)) (whole_rounds (suc n)) line
-            bodies old new might may before after
-            (λ script halts restarted st keeps.
-            one_more (held_setting script.objects halts line restarted) script.bodies n st)
-            (both one.made);
+            bodies old new might may before after (λ script halts restarted st keeps. one_more
+            (held_setting script.objects halts line restarted) script.bodies n st) (both one.made);
         each = λ script st halts restarted is bodies_are keeps said.
             let c = held_setting script.objects halts line restarted in
             let behind = one_behind one.made script st halts restarted is bodies_are keeps said in
-            each_more c script.bodies n st behind.0 (behind.1 ∙ sym one.whether);
+            each_more c script.bodies _ st behind.0 (behind.1 ∙ sym one.whether);
       })
 
   -- and no input was put in it: the play is over.
@@ -104,8 +100,8 @@ module _ (n line : ℕ) (bodies : List (List Statement)) (old mid new : WorksFie
         let behind = one_behind one.made script st halts restarted is bodies_are keeps said in
         let room : 514 ≡ n + suc (513 - n) = omega (arith, few) in
         subst (λ z. HaveBeenPut script st z (some.made.ends ++ one.made.ends) new may after)
-        (ended_by c script.bodies n (513 - n) 514 st room behind.0 (behind.1 ∙ sym one.whether))
-        ((both one.made).made script st halts restarted is bodies_are keeps said);
+        (ended_by c script.bodies _ _ _ st room behind.0 (behind.1 ∙ sym one.whether)) ((both
+        one.made).made script st halts restarted is bodies_are keeps said);
   }
 
   -- Memory ran out in it.
@@ -130,10 +126,8 @@ all_rounds n line bodies old new might may before after some all = record {
   made = λ script st halts restarted is bodies_are keeps said.
       let c = held_setting script.objects halts line restarted in
       let room : 514 ≡ n + 0 = omega (arith, all) in
-      subst (λ z. HaveBeenPut script st z some.made.ends new may after)
-      (sym (rounds_on c script.bodies n 0 514 st room
-      (some.each script st halts restarted is bodies_are keeps said)))
-      (some.made.made script st halts restarted is bodies_are keeps said);
+      rw (rounds_on c script.bodies _ _ _ _ room (some.each script st halts restarted is
+      bodies_are keeps said)) (some.made.made script st halts restarted is bodies_are keeps said);
 }
 
 -- After a round some run is kept whose actions with a body are at nodes of the script.

@@ -27,7 +27,7 @@ use Rattle.cam_cluster.proofs.Over.{over_later}
 
 -- names that are equal in their order are one
 pub tied : (a b : Name) → is_eq (name_cmp a b) ≡ true → a ≡ b
-tied a b same = name_eq_same a b (name_ties a b ∙ same)
+tied a b same = name_eq_same _ _ (name_ties a b ∙ same)
 
 -- Further events leave who is over so.
 pub playing_stay : (old new : Standing) (workers : Workers) (more : List Event)
@@ -35,29 +35,21 @@ pub playing_stay : (old new : Standing) (workers : Workers) (more : List Event)
     → ArePlaying old workers → ArePlaying new workers
 playing_stay old new workers more bodies trace are = record {
   ordered = are.ordered;
-  at_body = λ a plays.
-      ap (λ (given : List (Name × ℕ)). is_some (body_number given a)) bodies ∙ are.at_body a plays;
-  others = λ a out.
-      subst (λ (t : List Event). is_over t a ≡ true) (sym trace)
-      (over_later more old.running.trace a (are.others a out));
+  at_body = λ a plays. ap (λ (given : List (Name × ℕ)). is_some (body_number given a)) bodies ∙
+      are.at_body a plays;
+  others = λ a out. rw trace (over_later more _ a (are.others a out));
 }
 
 -- The same of them play on, of the same table.
 pub same_playing : (st : Standing) (old new : Workers) → new.bodies ≡ old.bodies
     → new.playing ≡ old.playing → ArePlaying st old → ArePlaying st new
 same_playing st old new bodies playing are = record {
-  ordered = subst (λ (s : BTreeSet Name). sets.IsOrdered name_cmp s) (sym playing) are.ordered;
-  at_body = λ a plays.
-      are.at_body a
-      (ap (λ (s : BTreeSet Name). contains name_cmp s a) (sym playing) ∙ plays);
-  others = λ a out.
-      are.others a
-      (ap (λ (s : BTreeSet Name). contains name_cmp s a
-      || not (is_some (get name_cmp old.bodies a)))
-      (sym playing)
-      ∙ ap (λ (m : BTreeMap Name ℕ). contains name_cmp new.playing a
-      || not (is_some (get name_cmp m a))) (sym bodies)
-      ∙ out);
+  ordered = rw playing are.ordered;
+  at_body = λ a plays. are.at_body a (ap (λ (s : BTreeSet Name). contains name_cmp s a) (sym
+      playing) ∙ plays);
+  others = λ a out. are.others a (ap (λ (s : BTreeSet Name). contains name_cmp s a || not (is_some
+      (get name_cmp old.bodies a))) (sym playing) ∙ ap (λ (m : BTreeMap Name ℕ). contains name_cmp
+      new.playing a || not (is_some (get name_cmp m a))) (sym bodies) ∙ out);
 }
 
 -- An action that has no body is given one.
@@ -66,9 +58,8 @@ pub given_playing : (st : Standing) (a : Name) (body : ℕ) (workers : Workers)
     → ArePlaying (given_body (Some body) (Some a) st) workers
 given_playing st a body workers bare are = record {
   ordered = are.ordered;
-  at_body = λ q plays.
-      ap is_some (body_number_more st.running.bodies a body q bare)
-      ∙ by (is_eq (name_cmp a q)) (body_number st.running.bodies q) (are.at_body q plays);
+  at_body = λ q plays. ap is_some (body_number_more _ _ body q bare) ∙ by (is_eq (name_cmp a q))
+      (body_number st.running.bodies q) (are.at_body q plays);
   others = are.others;
 }
   where
@@ -115,18 +106,13 @@ one_plays st a old new there ordered put others are = record {
   ordered = ordered;
   at_body = λ q plays. elim (cases_Bool (is_eq (name_cmp a q))) [
     | inl same ↦
-        subst (λ (n : Name). is_some (body_number st.running.bodies n) ≡ true) (tied a q same) there
+        subst (λ (n : Name). is_some (body_number st.running.bodies n) ≡ true) (tied _ _ same) there
     | inr other ↦
-        are.at_body q
-        (sym (put q ∙ ap (λ (t : Bool). cond t true (contains name_cmp old.playing q)) other)
-        ∙ plays)
+        are.at_body q (sym (put q ∙ ap (λ (t : Bool). cond t true (contains name_cmp old.playing q))
+        other) ∙ plays)
   ];
-  others = λ q out.
-      are.others q
-      (put_in (is_eq (name_cmp a q)) (contains name_cmp new.playing q)
-      (contains name_cmp old.playing q) (is_some (get name_cmp new.bodies q))
-      (is_some (get name_cmp old.bodies q)) (put q)
-      (λ other. ap is_some (others q other)) out);
+  others = λ q out. are.others q (put_in _ _ _ _ _ (put q) (λ other. ap is_some (others q
+      other)) out);
 }
 
 -- One that is over does not play on.
@@ -139,22 +125,18 @@ one_passed_over st a old new bodies ordered taken over are = record {
   ordered = ordered;
   at_body = λ q plays. elim (cases_Bool (is_eq (name_cmp a q))) [
     | inl same ↦
-        absurd (true≢false
-        (sym plays
-        ∙ taken q ∙ ap (λ (t : Bool). cond t false (contains name_cmp old.playing q)) same))
+        absurd (true≢false (sym plays ∙ taken q ∙ ap (λ (t : Bool). cond t false (contains name_cmp
+        old.playing q)) same))
     | inr other ↦
         are.at_body q (sym (stays q other) ∙ plays)
   ];
   others = λ q out. elim (cases_Bool (is_eq (name_cmp a q))) [
     | inl same ↦
-        subst (λ (n : Name). is_over st.running.trace n ≡ true) (tied a q same) over
+        rw (← (tied a q same)) over
     | inr other ↦
-        are.others q
-        (sym
-        (ap (λ (b : Bool). b || not (is_some (get name_cmp new.bodies q))) (stays q other)
-        ∙ ap (λ (m : BTreeMap Name ℕ). contains name_cmp old.playing q
-        || not (is_some (get name_cmp m q))) bodies)
-        ∙ out)
+        are.others q (sym (ap (λ (b : Bool). b || not (is_some (get name_cmp new.bodies q))) (stays
+        q other) ∙ ap (λ (m : BTreeMap Name ℕ). contains name_cmp old.playing q || not (is_some (get
+        name_cmp m q))) bodies) ∙ out)
   ];
 }
   where

@@ -46,9 +46,9 @@ pub names_playing : (st : Standing) (workers : Workers) → HaveCaughtUp st work
     → workers.playing.keys ≡ filter (plays_on workers) (in_order st.running.bodies)
 names_playing st workers caught =
     btree_set_from_contains name_total workers.playing kept caught.playing.ordered
-    (IsStrictlySortedBy-filter name_cmp (plays_on workers) (in_order st.running.bodies)
-    (subst (IsStrictlySortedBy name_cmp) caught.table.names caught.table.ordered))
-    same (λ a b equal. tied a b (ap is_eq equal))
+    (IsStrictlySortedBy-filter name_cmp (plays_on workers) (in_order st.running.bodies) (subst
+    (IsStrictlySortedBy name_cmp) caught.table.names caught.table.ordered)) same (λ a b equal. tied
+    _ _ (ap is_eq equal))
   where
     kept : BTreeSet Name
     kept = record { keys = filter (plays_on workers) (in_order st.running.bodies) }
@@ -61,12 +61,10 @@ names_playing st workers caught =
 
     same : (q : Name) → contains name_cmp workers.playing q ≡ contains name_cmp kept q
     same q =
-        kept_is (contains name_cmp workers.playing q) (is_some (get name_cmp workers.bodies q))
-        (λ plays. ap is_some (caught.table.at q) ∙ caught.playing.at_body q plays)
-        ∙ ap (λ (b : Bool). plays_on workers q && b) (sym (there q))
-        ∙ sym
-        (any-filter_same (is_at (name_cmp q)) (plays_on workers) (plays_on workers q)
-        (λ k equal. ap (plays_on workers) (sym (tied q k equal))) (in_order st.running.bodies))
+        kept_is _ _ (λ plays. ap is_some (caught.table.at q) ∙ caught.playing.at_body q plays) ∙
+        ap (λ (b : Bool). plays_on workers q && b) (sym (there q)) ∙ sym (any-filter_same (is_at
+        (name_cmp q)) (plays_on workers) (plays_on workers q) (λ k equal. ap (plays_on workers) (sym
+        (tied _ _ equal))) (in_order st.running.bodies))
 
 -- what holds of all names holds of those that are kept
 pub kept_all : (P : Name → Type 0) (kept : Name → Bool) (names : List Name)

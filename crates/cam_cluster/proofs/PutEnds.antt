@@ -64,12 +64,9 @@ module _ (script : Script) (st : Standing) (place : ℕ) (input : NodeInput) (wo
   by_place : (P : List ObjectDecl → ℕ → Type 0) → P old.objects old.site.node.number
       → P script.objects (place + 1)
   by_place P is =
-      subst (λ (xs : List ObjectDecl). P xs (place + 1))
-      (over script st place (input_of (place + 1) input) (mail_of input) (load_of input) works might
-      old keeps put_so there)
-      (subst (λ (s : ℕ). P old.objects s)
-      (number script st place (input_of (place + 1) input) (mail_of input) (load_of input) works
-      might old keeps put_so there) is)
+      rw (← (over script st place (input_of (place + 1) input) (mail_of input) (load_of input) works
+      might old keeps put_so there)) (rw (← (number script st place (input_of (place + 1) input)
+      (mail_of input) (load_of input) works might old keeps put_so there)) is)
 
   pub put_stood : (event : Event) (letters : List Letter) → works.outbox.unput ≡ []
       → length works.events + 1 < 1000000000 → new.halted ≡ old.halted

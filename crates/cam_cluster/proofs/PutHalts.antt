@@ -51,7 +51,7 @@ module _ (script : Script) (st : Standing) (place : ℕ) (input : Input) (mail :
   r = node_of st.running.trace input
 
   abbrev kept : KeepsNodes script st place works might
-  kept = kept_nodes script st place works might keeps
+  kept = kept_nodes _ _ _ _ _ keeps
 
   place_is : r - 1 ≡ place
   place_is = let at = put_so.at in omega (arith, at)
@@ -91,27 +91,17 @@ module _ (script : Script) (st : Standing) (place : ℕ) (input : Input) (mail :
       halted_is : (m : ℕ) → 1 ≤ m
           → is_halted now_halted m ≡ (if eqb r m then true else is_halted works.halted m)
       halted_is m low =
-          ap (λ (i : ℕ). is_halted (set works.halted i true) m) (sym place_is)
-          ∙ halted_now works.halted r m true keeps.eight node low
+          ap (λ (i : ℕ). is_halted (set works.halted i true) m) (sym place_is) ∙ halted_now _ _ _
+          true keeps.eight node low
 
       whole :
           IsWhole script.objects behind (sites_of nodes) works.outbox.net works.outbox.unput
           now_halted
       whole =
-          subst (λ (u : List Letter). IsWhole script.objects behind (sites_of nodes)
-          works.outbox.net u now_halted) (sym none_left)
-          (subst (λ (i : ℕ). IsWhole script.objects behind (sites_of nodes) works.outbox.net []
-          (set works.halted i true)) place_is
-          (subst (λ (z : Standing). IsWhole script.objects z (sites_of nodes) works.outbox.net []
-          (set works.halted (r - 1) true)) is
-          (subst (λ (sites : List Site). IsWhole script.objects (put c st input) sites
-          works.outbox.net [] (set works.halted (r - 1) true)) sites_now
-          (lost_halts_stand script halts line restarted st input (sites_of works.nodes)
-          works.outbox.net works.halted new.site lost node keeps.eight
-          (same_number
-          ∙ (site_is script st place input mail load works might old keeps put_so there).number)
-          (subst (λ (u : List Letter). IsWhole script.objects st (sites_of works.nodes)
-          works.outbox.net u works.halted) none_left keeps.whole)))))
+          rw none_left (rw (← place_is) (rw (← is) (rw (← sites_now) (lost_halts_stand script halts
+          line restarted st input (sites_of works.nodes) works.outbox.net works.halted new.site lost
+          node keeps.eight (same_number ∙ (site_is _ _ place _ mail load works might _ keeps
+          put_so there).number) (rw (← none_left) keeps.whole)))))
 
       abbrev now : Option LetterId → WorksFields
       now got = record {

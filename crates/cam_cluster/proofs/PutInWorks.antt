@@ -33,12 +33,12 @@ letter_is place n letter sent few =
     ap (λ (k : ℕ). record {
       event = if nat_lt letter.event place then letter.event else k;
       place = letter.place;
-    }) (next_is letter.event n (omega (arith, sent)) few)
+    }) (next_is _ _ (omega (arith, sent)) few)
 
 pub got_is : (place n : ℕ) (got : Option LetterId) → IsSentBefore n got → n < 1000000000
     → option_map (renumbered place) got ≡ option_map (moved_letter place) got
 got_is place n None sent few = refl
-got_is place n (Some letter) sent few = ap Some (letter_is place n letter sent few)
+got_is place n (Some letter) sent few = ap Some (letter_is place _ _ sent few)
 
 -- and is one of the events then
 moved_low : (place n number : ℕ) → number < n → moved place number < n + 1
@@ -51,21 +51,21 @@ moved_low place n number low = by (nat_lt number place)
 pub moved_sent : (place n : ℕ) (got : Option LetterId) → IsSentBefore n got
     → IsSentBefore (n + 1) (option_map (moved_letter place) got)
 moved_sent place n None sent = tt
-moved_sent place n (Some letter) sent = moved_low place n letter.event sent
+moved_sent place n (Some letter) sent = moved_low _ _ _ sent
 
 -- the events of a run name letters of events before
 next_sent : (objects : List ObjectDecl) (t : List Event) (e : Event) → IsNext objects t e
     → IsSentBefore (length t) e.got
 next_sent objects t e is =
-    subst (IsSentBefore (length t)) (sym (ap (λ (x : Event). x.got) is.is_next))
-    (sent_in objects t is.input is.may)
+    subst (IsSentBefore (length t)) (sym (ap (λ (x : Event). x.got) is.is_next)) (sent_in _ _ _
+    is.may)
 
 may_sent : (objects : List ObjectDecl) (t : List Event) (e : Event) (took : Bool)
     → MayStand objects t e took → IsSentBefore (length t) e.got
 may_sent objects t e true is =
-    subst (IsSentBefore (length t)) (sym (ap (λ (x : Event). x.got) is.taken))
-    (next_sent objects t is.whole is.may)
-may_sent objects t e false is = next_sent objects t e is
+    subst (IsSentBefore (length t)) (sym (ap (λ (x : Event). x.got) is.taken)) (next_sent _ _ _
+    is.may)
+may_sent objects t e false is = next_sent _ _ _ is
 
 abbrev pub AreSent : ℕ → List Event → Type 0
 AreSent n t = AllByRecursion (λ (e : Event). IsSentBefore n e.got) t
@@ -73,16 +73,14 @@ AreSent n t = AllByRecursion (λ (e : Event). IsSentBefore n e.got) t
 pub run_sent : (objects : List ObjectDecl) (taking : ℕ → Bool) (t : List Event)
     → IsRunTaking objects taking t → AreSent (length t) t
 run_sent objects taking [] run = tt
-run_sent objects taking (e ∷ before) run = (
-  sent_still (length before) (length (e ∷ before)) (omega arith) e.got
-      (may_sent objects before e (taking (length before)) run.0),
+run_sent objects taking (e ∷ before) run = ( sent_still _ _ (omega arith) _
+      (may_sent _ _ _ _ run.0),
   up before (run_sent objects taking before run.2),
 )
   where
     up : (es : List Event) → AreSent (length before) es → AreSent (length (e ∷ before)) es
     up [] sent = tt
-    up (x ∷ es) sent =
-        (sent_still (length before) (length (e ∷ before)) (omega arith) x.got sent.0, up es sent.1)
+    up (x ∷ es) sent = (sent_still _ _ (omega arith) _ sent.0, up es sent.1)
 
 pub sent_front : (n : ℕ) (behind before : List Event) → AreSent n (behind ++ before)
     → AreSent n behind
@@ -94,20 +92,19 @@ events_moved : (place n : ℕ) (es : List Event) → AreSent n es → n < 100000
     → map (with_letter_renumbered place) es ≡ map (moved_event place) es
 events_moved place n [] sent few = refl
 events_moved place n (e ∷ es) sent few =
-    λ i. record e { got = got_is place n e.got sent.0 few i } ∷ events_moved place n es sent.1 few i
+    λ i. record e { got = got_is place _ _ sent.0 few i } ∷ events_moved place n es sent.1 few i
 
 -- THE EVENTS, the oldest first, are those of the trace with the event put in.
 pub put_in_reversed : (n : ℕ) (behind : List Event) (e : Event) (before : List Event)
     → AreSent n behind → n < 1000000000
     → put_in_at (length before) e (reverse (behind ++ before)) ≡ reverse (put_in behind e before)
 put_in_reversed n behind e before sent few =
-    (λ i. front i ++ e ∷ map (with_letter_renumbered (length before)) (back i))
-    ∙ ap (λ es. reverse before ++ e ∷ es)
-    (sym (reversed_map (with_letter_renumbered (length before)) behind)
-    ∙ ap (λ es. reverse es) (events_moved (length before) n behind sent few))
-    ∙ joined (reverse before) e (reverse (map (moved_event (length before)) behind))
-    ∙ ap (λ es. es ++ reverse (map (moved_event (length before)) behind)) (sym (newest e before))
-    ∙ sym (reverse-append (map (moved_event (length before)) behind) (e ∷ before))
+    (λ i. front i ++ e ∷ map (with_letter_renumbered (length before)) (back i)) ∙ ap (λ es. reverse
+    before ++ e ∷ es) (sym (reversed_map (with_letter_renumbered (length before)) behind) ∙ ap (λ
+    es. reverse es) (events_moved (length before) _ _ sent few)) ∙ joined (reverse before) e
+    (reverse (map (moved_event (length before)) behind)) ∙ ap (λ es. es ++ reverse (map (moved_event
+    (length before)) behind)) (sym (newest e before)) ∙ sym (reverse-append (map (moved_event
+    (length before)) behind) (e ∷ before))
   where
     parts : reverse (behind ++ before) ≡ reverse before ++ reverse behind
     parts = reverse-append behind before
@@ -178,11 +175,11 @@ beside_sent s place n (u ∷ us) sent =
   where
     up : (us : List Undecided) → AreHaltsSent n us → AreHaltsSent (n + 1) us
     up [] sent = tt
-    up (u ∷ us) sent = (sent_still n (n + 1) (omega arith) u.event.got sent.0, up us sent.1)
+    up (u ∷ us) sent = (sent_still _ _ (omega arith) _ sent.0, up us sent.1)
 
     by : (b : Bool) → AreHaltsSent (n + 1) (undecided_beside s place us)
         → AreHaltsSent (n + 1) us
         → AreHaltsSent (n + 1)
         (if b then us else moved_undecided place u ∷ undecided_beside s place us)
     by true rest all = all
-    by false rest all = (moved_sent place n u.event.got sent.0, rest)
+    by false rest all = (moved_sent _ _ _ sent.0, rest)

@@ -91,7 +91,7 @@ module _ (script : Script) (st : Standing) (place : ℕ) (works : WorksFields)
     (others : (s : ℕ) (logged : Logged) → 1 ≤ s → (s ≡ place + 1 → ⊥) → may s logged
     → might s logged) where
   abbrev kept : KeepsNodes script st place works might
-  kept = kept_nodes script st place works might keeps
+  kept = kept_nodes _ _ _ _ _ keeps
 
   -- It answers as before, and its log lists what it listed.
   module _ (within : place < 8) (ran : old.halted ≡ false) (runs : new.halted ≡ false)
@@ -121,21 +121,17 @@ module _ (script : Script) (st : Standing) (place : ℕ) (works : WorksFields)
         let kept = was.log.keeps in record {
           keeps = record {
             recovered = kept.recovered;
-            says = subst (λ (es : List (List ℕ)). Says es kept.recovered) (sym entries) kept.says;
+            says = rw entries kept.says;
             is_log = kept.is_log;
           };
-          order =
-              subst (λ (table : Site). IsInOrder mine kept.recovered.held table)
-              (sym same.server.site) was.log.order;
+          order = rw same.server.site was.log.order;
         }
 
     site_is : IsSiteOf script.objects st (place + 1) new.site
     site_is = record {
       number = same.number ∙ site_was.number;
       stands = λ still. record {
-        represents =
-            same_represents script.objects mine old.site.node new.site.node same
-            (site_was.stands still).represents;
+        represents = same_represents _ _ _ _ same (site_was.stands still).represents;
         log = log_is (site_was.stands still);
       };
     }

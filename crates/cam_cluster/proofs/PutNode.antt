@@ -31,9 +31,8 @@ module _ (script : Script) (st : Standing) (place : ℕ) (input : Input) (mail :
 
   pub site_is : IsSiteOf script.objects st (node_of st.running.trace input) old.site
   site_is =
-      subst (λ (s : ℕ). IsSiteOf script.objects st s old.site) (same put_so.at)
-      (site_at script.objects st 1 place (sites_of works.nodes) old.site keeps.whole.nodes
-      (site_there works.nodes place old there))
+      rw (← (same put_so.at)) (site_at _ _ _ _ _ _ keeps.whole.nodes (site_there works.nodes
+      place _ there))
     where
       same : node_of st.running.trace input ≡ place + 1 → 1 + place ≡ node_of st.running.trace input
       same at = omega (arith, at)
@@ -68,6 +67,4 @@ module _ (script : Script) (st : Standing) (place : ℕ) (input : Input) (mail :
 
   pub may_then : MayBePutThen script.objects old.site.node.number
       (history_of script.objects st.running.trace (node_of st.running.trace input)) input mail load
-  may_then =
-      subst (λ (s : ℕ). MayBePutThen script.objects s history input mail load)
-      (sym site_is.number) put_so.is_put.may
+  may_then = rw site_is.number put_so.is_put.may

@@ -56,7 +56,7 @@ module _ (script : Script) (st : Standing) (place : ℕ) (input : Input) (mail :
   r = node_of st.running.trace input
 
   abbrev kept : KeepsNodes script st place works might
-  kept = kept_nodes script st place works might keeps
+  kept = kept_nodes _ _ _ _ _ keeps
 
   place_is : r - 1 ≡ place
   place_is = let at = put_so.at in omega (arith, at)
@@ -73,7 +73,7 @@ module _ (script : Script) (st : Standing) (place : ℕ) (input : Input) (mail :
 
   mine : KeepsNode script.objects (history_of script.objects st.running.trace r) old.site.node
       old.site.entries
-  mine = node_keeps script st place input mail load works might old keeps put_so there
+  mine = node_keeps _ _ place _ mail load works might _ keeps put_so there
 
   -- the event stands
   module _ (event : Event) (letters : List Letter) (none_left : works.outbox.unput ≡ [])
@@ -96,18 +96,17 @@ module _ (script : Script) (st : Standing) (place : ℕ) (input : Input) (mail :
 
     keeps_event : KeepsEvent script.objects st.running.trace input mail load event new.site
     keeps_event =
-        subst (λ (s : ℕ). KeepsInOrder script.objects s
-        (record { event = event; mail = mail; load = load }
-        ∷ history_of script.objects st.running.trace r) new.site)
-        (step.number ∙ (site_is script st place input mail load works might old keeps put_so
+        subst (λ (s : ℕ). KeepsInOrder script.objects s (record { event = event; mail = mail; load =
+        load } ∷ history_of script.objects st.running.trace r) new.site) (step.number ∙ (site_is _
+        _ place _ mail load works might _ keeps put_so
         there).number) (record { keeps = goes_on.keeps; order = goes_on.order })
       where
         goes_on : KeepsNode script.objects
             (record { event = event; mail = mail; load = load }
             ∷ history_of script.objects st.running.trace r) new.site.node new.site.entries
         goes_on =
-            on (history_of script.objects st.running.trace r) mine
-            (may_then script st place input mail load works might old keeps put_so there)
+            on (history_of script.objects st.running.trace r) mine (may_then _ _ place _ _ _
+            works might _ keeps put_so there)
 
     has : laws.HasPut script c st input (sites_of works.nodes) works.outbox.net works.halted
         new.site event

@@ -59,11 +59,10 @@ module _ {N : Type 0} (part : N → NodeFields) (tells : N → Bool) (may : N �
       (seen now later halted failed undecided events marks) (MayReadAt tells may now)
   room_made nodes now o later h halted v failed u undecided e events m marks same some is_h is_v
       is_u is_e is_m script st is keeps =
-      subst (λ (z : List N × List Bool × Failed × List OpenHalt × List Event × List Mark).
-      KeepsRun script st (seen z.0 later z.1 z.2 z.3 z.4 z.5) (MayReadAt tells may z.0))
-      (λ i. (sym same i, sym is_h i, sym is_v i, sym is_u i, sym is_e i, sym is_m i))
-      (keeps_as_put script st (seen nodes o h v u e m) later (MayReadAt tells may nodes) is some
-      keeps)
+      subst (λ (z : List N × List Bool × Failed × List OpenHalt × List Event × List Mark). KeepsRun
+      script st (seen z.0 later z.1 z.2 z.3 z.4 z.5) (MayReadAt tells may z.0)) (λ i. (sym same i,
+      sym is_h i, sym is_v i, sym is_u i, sym is_e i, sym is_m i)) (keeps_as_put _ _ _ _ _ is
+      some keeps)
 
   pub seen_as : (script : Script) (st : Standing) (nodes : List N) (o later : OutboxFields)
       (h halted : List Bool) (v failed : Failed) (u undecided : List OpenHalt)
@@ -83,8 +82,7 @@ module _ {N : Type 0} (part : N → NodeFields) (tells : N → Bool) (may : N �
       (u : List OpenHalt) (e : List Event) (m : List Mark) → (w ≡ Nothing → v ≡ Nothing)
       → KeepsAsBefore (seen nodes o h v u e m) (MayReadAt tells may nodes)
       (seen nodes o h w u e m) (MayReadAt tells may nodes)
-  failed_as nodes o h v w u e m less script st is keeps =
-      keeps_failing script st (seen nodes o h v u e m) w (MayReadAt tells may nodes) less keeps
+  failed_as nodes o h v w u e m less script st is keeps = keeps_failing _ _ _ _ _ less keeps
 
   -- One of the nodes was asked for a step.
   module _ (place : ℕ) (nodes : List N) (o : OutboxFields) (h : List Bool) (v : Failed)
@@ -94,7 +92,7 @@ module _ {N : Type 0} (part : N → NodeFields) (tells : N → Bool) (may : N �
       (is_old : old ≡ get_or nodes place old) (now : List N) (set_is : now ≡ set nodes place new)
       (objects : (part new).objects ≡ (part old).objects) where
     at : slice_get (map part nodes) place ≡ Some (part old)
-    at = seen_there part nodes place old (taken_there nodes place old there is_old)
+    at = seen_there part nodes place _ (taken_there _ _ _ there is_old)
 
     are : map part now ≡ set (map part nodes) place (part new)
     are = ap (map part) set_is ∙ map-set part nodes place new
@@ -102,8 +100,8 @@ module _ {N : Type 0} (part : N → NodeFields) (tells : N → Bool) (may : N �
     others : (s : ℕ) (logged : Logged) → 1 ≤ s → (s ≡ place + 1 → ⊥)
         → MayReadAt tells may now s logged → MayReadAt tells may nodes s logged
     others s logged low away read =
-        reads_elsewhere tells may nodes place new s logged low away
-        (subst (λ (ns : List N). MayReadAt tells may ns s logged) set_is read)
+        reads_elsewhere _ may _ _ _ _ _ low away (subst (λ (ns : List N). MayReadAt tells may
+        ns s logged) set_is read)
 
     pub as_before_in : (part old).halted ≡ false → (part new).halted ≡ false
         → AreSame (part old).site.node (part new).site.node

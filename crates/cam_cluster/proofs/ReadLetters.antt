@@ -39,30 +39,29 @@ module _ (script : Script) (st : Standing) (works : WorksFields) (may : ℕ → 
   all = spelling_of (by_knowledge script.objects) st.running.trace id
 
   pub so : IsSpelledSo script.objects st.running.trace id
-  so = spelled_so script st works may keeps none_left number id is
+  so = spelled_so _ _ _ _ keeps none_left _ _ is
 
   -- the network has it
   pub whole_is : whole_of works.outbox.net number
       ≡ Some (spelling_of (by_knowledge script.objects) st.running.trace id)
   whole_is =
-      bytes_are_spellings script.objects st works.outbox.net works.halted number
-      (network_is script st works may keeps none_left)
-      ∙ ap (option_map (spelling_of (by_knowledge script.objects) st.running.trace)) is
+      bytes_are_spellings script.objects st works.outbox.net works.halted number (network_is _ _
+      _ may keeps none_left) ∙ ap (option_map (spelling_of (by_knowledge script.objects)
+      st.running.trace)) is
 
   pub cut_is : (bytes : ℕ) → cut_of works.outbox.net number bytes
       ≡ Some (take bytes (spelling_of (by_knowledge script.objects) st.running.trace id))
   cut_is bytes =
-      cuts_are_fronts script.objects st works.outbox.net works.halted number bytes
-      (network_is script st works may keeps none_left)
-      ∙ ap (option_map (λ (i : LetterId). take bytes
-      (spelling_of (by_knowledge script.objects) st.running.trace i))) is
+      cuts_are_fronts script.objects st works.outbox.net works.halted number bytes (network_is _ _
+      _ may keeps none_left) ∙ ap (option_map (λ (i : LetterId). take bytes (spelling_of
+      (by_knowledge script.objects) st.running.trace i))) is
 
   -- the whole letter is the one that was sent
   pub read_whole : (found : Letter) → IsWholeLetter so.letter (Whole found)
       → IsReadOf script st id found
   read_whole found whole =
       let sent : SentAs script.objects st.running.trace id so.letter =
-      sent_as script.objects st.running.trace id so.letter so.sent in
+      sent_as _ _ _ _ so.sent in
       record {
         mail = sent.mail;
         sent = sent.at;
@@ -141,20 +140,13 @@ module _ (works : WorksFields) (may : ℕ → Logged → Type 0) (number : ℕ) 
   module _ (some : AreWorksOfSome works may) where
     pub no_bytes : None ≡ whole_of works.outbox.net number → ⊥
     no_bytes none =
-        no_some (whole_of works.outbox.net number)
-        (spelling_of (by_knowledge some.script.objects) some.standing.running.trace coming.letter)
-        (sym none)
-        (whole_is some.script some.standing works may some.keeps none_left number coming.letter
-        (found some.script some.standing some.is_script some.keeps).0)
+        no_some _ _ (sym none) (whole_is some.script some.standing works may some.keeps none_left
+        number coming.letter (found some.script some.standing some.is_script some.keeps).0)
 
     pub no_front : (bytes : ℕ) → None ≡ cut_of works.outbox.net number bytes → ⊥
     no_front bytes none =
-        no_some (cut_of works.outbox.net number bytes)
-        (take bytes
-        (spelling_of (by_knowledge some.script.objects) some.standing.running.trace coming.letter))
-        (sym none)
-        (cut_is some.script some.standing works may some.keeps none_left number coming.letter
-        (found some.script some.standing some.is_script some.keeps).0 bytes)
+        no_some _ _ (sym none) (cut_is some.script some.standing works may some.keeps none_left
+        number coming.letter (found some.script some.standing some.is_script some.keeps).0 bytes)
 
     pub no_cut : (arrival : Arrival) (bytes : List ℕ) (fault : WireFault)
         → Some bytes ≡ whole_of works.outbox.net number → GivesWhole bytes arrival

@@ -85,12 +85,9 @@ told_there (Restart m ∷ before) s calls is =
 taken_three : (turns : List Turn) (s calls : ℕ) → stopped_at turns s ≡ Some calls
     → last_stop turns s ≡ Some true → stopped_at turns s ≡ Some 3
 taken_three turns s calls is taken =
-    is
-    ∙ ap (λ (n : ℕ). Some n)
-    (eqb-true calls 3
-    (and_parts (eqb calls 3) (told_last turns s)
-    (same_Some (eqb calls 3 && told_last turns s) true
-    (sym (stopped_said turns s calls is).said ∙ taken))).0)
+    is ∙ ap (λ (n : ℕ). Some n) (eqb-true calls 3 (and_parts (eqb calls 3) (told_last turns s)
+    (same_Some (eqb calls 3 && told_last turns s) true (sym (stopped_said turns s _ is).said ∙
+    taken))).0)
 
 stops_somewhere : (o : Option ℕ) → is_some o ≡ true → (calls : ℕ) × (o ≡ Some calls)
 stops_somewhere None is = absurd (true≢false (sym is))

@@ -38,12 +38,7 @@ pub restarted_was : (objects over : List ObjectDecl) (s n : ℕ) (told tells : B
 restarted_was objects over s n told tells might was node before at halted_at new now r is_o is_s
     is_t
     is_n is_h back has =
-    subst (λ (xs : List ObjectDecl). HasRestarted xs n tells was before halted_at new now r) is_o
-    (subst (λ (m : ℕ). HasRestarted objects m tells was before halted_at new now r) is_s
-    (subst (λ (b : Bool). HasRestarted objects s b was before halted_at new now r) is_t
-    (subst (λ (x : Node). HasRestarted objects s told was x halted_at new now r) is_n
-    (subst (λ (o : Option Event). HasRestarted objects s told was node o new now r) is_h
-    (record {
+    rw (← is_o) (rw (← is_s) (rw (← is_t) (rw (← is_n) (rw (← is_h) (record {
       read = has.read;
       kept = has.kept;
       left = has.left;
@@ -66,9 +61,7 @@ pub rest_reads : (since : ℕ → Opened → Type 0) (t : ℕ) (listed : List (L
 rest_reads since t listed logged rest read = record {
   recovered = read.recovered;
   recovers =
-      subst (λ (es : List (List ℕ)). recover es ≡ Ok read.recovered)
-      (same (Ok read.entries) read.entries listed refl (rest (Ok read.entries) read.opens))
-      read.recovers;
+      rw (← (same (Ok read.entries) read.entries listed refl (rest (Ok read.entries) read.opens))) read.recovers;
   is = read.is;
 }
   where

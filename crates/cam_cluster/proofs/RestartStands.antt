@@ -70,9 +70,8 @@ module _ (script : Script) (st : Standing) (place : ℕ) (works : WorksFields)
       new.site event
   has =
       restarts_stand script halts line restarted st (place + 1) (sites_of works.nodes)
-      works.outbox.net works.halted read new.site event keeps.under node keeps.eight none
-      (subst (λ (u : List Letter). IsWhole script.objects st (sites_of works.nodes)
-      works.outbox.net u works.halted) none_left keeps.whole) is_log restart
+      works.outbox.net works.halted read new.site event keeps.under node keeps.eight none (rw (←
+      none_left) keeps.whole) is_log restart
 
   is : after ≡ plain_put script c (ended_halt st (place + 1)) (Restarts (place + 1))
   is = put_plain script c (ended_halt st (place + 1)) (Restarts (place + 1)) none
@@ -84,8 +83,8 @@ module _ (script : Script) (st : Standing) (place : ℕ) (works : WorksFields)
       → is_halted now_halted m
       ≡ (if eqb (place + 1) m then false else is_halted works.halted m)
   halted_is m low =
-      ap (λ (i : ℕ). is_halted (set works.halted i false) m) (sym back)
-      ∙ halted_now works.halted (place + 1) m false keeps.eight node low
+      ap (λ (i : ℕ). is_halted (set works.halted i false) m) (sym back) ∙ halted_now _ _ _ false
+      keeps.eight node low
 
   -- a node that is halted still is another one, and was halted
   still : (m : ℕ) → has_number after.halted m ≡ true
@@ -127,50 +126,38 @@ module _ (script : Script) (st : Standing) (place : ℕ) (works : WorksFields)
         as_many script st place works might old keeps.kept there new may nodes are objects others;
     eight = length-set works.halted place false ∙ keeps.eight;
     nodes =
-        nodes_are script st place works might old keeps.kept there new may nodes are objects others
-        now_halted
-        (runs ∙ sym (halted_is (place + 1) (omega arith)
-        ∙ ap (λ (b : Bool). if b then false else is_halted works.halted (place + 1))
-        (eq-eqb (place + 1) (place + 1) refl)))
-        (λ m low away. sym (halted_is m low
-        ∙ ap (λ (b : Bool). if b then false else is_halted works.halted m)
-        (ne_eqb (place + 1) m (λ e. away (sym e)))));
+        nodes_are _ st _ _ might old keeps.kept there _ may _ are objects others _ (runs ∙ sym
+        (halted_is (place + 1) (omega arith) ∙ ap (λ (b : Bool). if b then false else is_halted
+        works.halted (place + 1)) (eq-eqb (place + 1) (place + 1) refl))) (λ m low away. sym
+        (halted_is m low ∙ ap (λ (b : Bool). if b then false else is_halted works.halted m) (ne_eqb
+        (place + 1) m (λ e. away (sym e)))));
     whole =
-        subst (λ (u : List Letter). IsWhole script.objects after (sites_of nodes) works.outbox.net
-        u now_halted) (sym sent)
-        (subst (λ (sites : List Site). IsWhole script.objects after sites works.outbox.net
-        (letters_of new.site.node event.sent) now_halted)
-        (sites_are script st place works might old keeps.kept there new may nodes are objects
-        others)
-        (subst (λ (i : ℕ). IsWhole script.objects after (set (sites_of works.nodes) i new.site)
-        works.outbox.net (letters_of new.site.node event.sent) (set works.halted i false)) back
-        has.whole));
-    halts = λ q n at said.
-        halts_are script st place works might old keeps.kept there new may nodes are objects others
-        after (λ m is_still. let away = still m is_still in ((λ e. away.0 (sym e)), away.1))
-        (λ m low away. ap (λ h. map nameless h)
-        (sym (ap (λ (t : List Event). history_of script.objects t m) has.trace
-        ∙ has.stepped.others m (λ e. away (sym e ∙ has.stepped.node)))))
-        (λ m away. undecided_on script.objects st after m (event ∷ []) has.trace
-        (ap (undecided_of m) undecided_is
-        ∙ others_without (place + 1) m st.undecided (λ e. away (sym e))) keeps.under.placed)
-        q n at said;
+        subst (λ (u : List Letter). IsWhole script.objects after (sites_of nodes) works.outbox.net u
+        now_halted) (sym sent) (subst (λ (sites : List Site). IsWhole script.objects after sites
+        works.outbox.net (letters_of new.site.node event.sent) now_halted) (sites_are script st
+        place works might old keeps.kept there new may nodes are objects others) (subst (λ (i : ℕ).
+        IsWhole script.objects after (set (sites_of works.nodes) i new.site) works.outbox.net
+        (letters_of new.site.node event.sent) (set works.halted i false)) back has.whole));
+    halts = λ q n at said. halts_are _ _ _ works might old keeps.kept there new _ _ are objects
+        others after (λ m is_still. let away = still m is_still in ((λ e. away.0 (sym e)), away.1))
+        (λ m low away. ap (λ h. map nameless h) (sym (ap (λ (t : List Event). history_of
+        script.objects t m) has.trace ∙ has.stepped.others m (λ e. away (sym e ∙
+        has.stepped.node))))) (λ m away. undecided_on _ _ _ _ (event ∷ []) has.trace (ap
+        (undecided_of m) undecided_is ∙ others_without _ _ st.undecided (λ e. away (sym e)))
+        keeps.under.placed) _ _ at said;
     undecided = keeps.undecided ∙ ap (λ (us : List Undecided). map open_halt us) (sym undecided_is);
     sent =
-        subst (λ (z : ℕ × List Undecided).
-        AllByRecursion (λ (u : Undecided). IsSentBefore z.0 u.event.got) z.1)
-        (λ i. (sym long i, sym undecided_is i))
-        (all_sent_still (length st.running.trace) (length st.running.trace + 1) (omega arith)
-        (without_node (place + 1) st.undecided) keeps.sent);
+        subst (λ (z : ℕ × List Undecided). AllByRecursion (λ (u : Undecided). IsSentBefore z.0
+        u.event.got) z.1) (λ i. (sym long i, sym undecided_is i)) (all_sent_still _ _ (omega
+        arith) _ keeps.sent);
     events =
-        ap (λ (es : List Event). es ++ event ∷ []) keeps.events
-        ∙ one_longer st.running.trace event
+        ap (λ (es : List Event). es ++ event ∷ []) keeps.events ∙ one_longer st.running.trace event
         ∙ ap (λ (t : List Event). reverse t) (sym has.trace);
     all_marks = keeps.all_marks ∙ ap (λ (z : Standing). z.running.marks) (sym is);
     few =
         let few = keeps.few in
         let more = length-append works.events (event ∷ []) in omega (arith, few, more);
     stops =
-        restart_stops script st place works might old keeps there halts line restarted new nodes are
-        event none has passes less;
+        restart_stops _ st place _ might old keeps there halts line restarted new _ are event
+        none has passes less;
   }

@@ -91,34 +91,21 @@ module _ (script : Script) (st : Standing) (place : ℕ) (works : WorksFields)
   pub restart_stops : IsUnfailing works.failed nodes
       → AreStopped script.objects after.running.trace after.halted after.turns nodes
   restart_stops all =
-      let before = keeps.stops
-      (unfailing_before works.failed works.nodes nodes place old new there are less all) in
+      let before = keeps.stops (unfailing_before _ _ _ _ _ _ there are less all) in
       subst (λ (z : Standing). AreStopped script.objects z.running.trace z.halted z.turns nodes)
-      (sym is)
-      (nodes_stopped script.objects st.running.trace ended.running.trace st.halted ended.halted
-      st.turns ended.turns place works.nodes nodes old new there are
-      (λ m away. ap (λ h. map nameless h)
-      (sym (ap (λ (z : Standing). history_of script.objects z.running.trace m) (sym is)
-      ∙ ap (λ (t : List Event). history_of script.objects t m) has.trace
-      ∙ has.stepped.others m (λ e. away (sym e ∙ has.stepped.node)))))
-      (λ m away. without st.halted (place + 1) m
-      ∙ ap (λ (b : Bool). if b then false else has_number st.halted m) (apart m away))
-      (λ m away. other_calls (Restart (place + 1) ∷ st.turns) (place + 1) line w
-      (restarted (place + 1)) m (λ e. away (sym e)) ∙ ended_calls m (apart m away))
-      (λ m away. other_stopped (Restart (place + 1) ∷ st.turns) (place + 1) line w
-      (restarted (place + 1)) m (λ e. away (sym e)) ∙ ended_stopped m (apart m away))
-      (eqb (place + 1)) (λ m away. apart m away)
-      (stood_as (Restart (place + 1) ∷ st.turns) (place + 1) line w (restarted (place + 1))
-      (has_number ended.halted) awake_now
-      (ended_as st.turns (has_number ended.halted) (place + 1)
-      (λ m away. subst (λ (b : Bool). IsAsStopped b st.turns m)
-      (sym (without st.halted (place + 1) m
-      ∙ ap (λ (b : Bool). if b then false else has_number st.halted m)
-      (ne_eqb (place + 1) m away)))
-      (before.said m (ne_eqb (place + 1) m away))) awake_now)
-      (none_ends (sym own_none)))
-      (record {
+      (sym is) (nodes_stopped _ _ _ _ _ _ _ _ _ _ old _ there are (λ m away. ap (λ h. map
+      nameless h) (sym (ap (λ (z : Standing). history_of script.objects z.running.trace m) (sym is)
+      ∙ ap (λ (t : List Event). history_of script.objects t m) has.trace ∙ has.stepped.others m (λ
+      e. away (sym e ∙ has.stepped.node))))) (λ m away. without st.halted (place + 1) m ∙ ap (λ (b :
+      Bool). if b then false else has_number st.halted m) (apart m away)) (λ m away. other_calls
+      (Restart (place + 1) ∷ st.turns) _ line w (restarted (place + 1)) _ (λ e. away (sym e)) ∙
+      ended_calls m (apart m away)) (λ m away. other_stopped (Restart (place + 1) ∷ st.turns) _
+      line w (restarted (place + 1)) _ (λ e. away (sym e)) ∙ ended_stopped m (apart m away)) _ (λ
+      m away. apart m away) (stood_as _ _ line _ (restarted (place + 1)) _ awake_now (ended_as
+      _ _ _ (λ m away. subst (λ (b : Bool). IsAsStopped b st.turns m) (sym (without st.halted
+      (place + 1) m ∙ ap (λ (b : Bool). if b then false else has_number st.halted m) (ne_eqb (place
+      + 1) m away))) (before.said m (ne_eqb (place + 1) m away))) awake_now) (none_ends (sym
+      own_none))) (record {
         awake = λ runs. passes ∙ sym none_left_now;
         by_stop = λ said. absurd (true≢false (sym said ∙ awake_now));
-      })
-      before)
+      }) before)

@@ -35,10 +35,10 @@ use Rattle.cam_cluster.proofs.WorkersOn.{bodies_same, workers_on}
 pub restarts_within : (line s : ℕ) (lines : LinesFields) (may : ℕ → Logged → Type 0)
     → IsNextOfSome line (acts.Restart s) lines may → (1 ≤ s) × (s ≤ length lines.works.nodes)
 restarts_within line s lines may some =
-    let holds = next_holds some.script some.standing line (acts.Restart s) some.is_script
-    some.next in
-    let within = node_within some.script.nodes s holds.1 in
-    (within.0, subst (λ (n : ℕ). s ≤ n) (sym some.keeps.runs.one_each) within.1)
+    let holds = next_holds some.script some.standing line (acts.Restart s) some.is_script some.next
+    in
+    let within = node_within _ _ holds.1 in
+    (within.0, rw some.keeps.runs.one_each within.1)
 
 -- what follows from what holds of the element that stands there
 pub at_place : {T : Type 0} (xs : List T) (k : ℕ) (P : T → Type 0) (Q : Type 0) → k < length xs
@@ -141,8 +141,7 @@ module _ (line s : ℕ) (bodies : List (List Statement)) (old new : LinesFields)
   restart_wanting at_work fault is seen keeps next same =
       let between = keeps.between in record {
         between =
-            wanting_goes seen step old new might may between next
-            (is seen.script seen.standing (given seen.halts) line (later_steps seen)
-            between.is_script between.keeps next);
+            wanting_goes _ step old _ might _ between next (is seen.script seen.standing (given
+            seen.halts) line (later_steps seen) between.is_script between.keeps next);
         workers = keeps.workers;
       }

@@ -52,14 +52,11 @@ module _ (script : Script) (st : Standing) (halts : Halting) (later : List Step)
       → KeepsLines script (after_line st line (Led after None)) new may
   led done so runs = record {
     runs =
-        keeps_others script after (after_line st line (Led after None)) new.works new.works.marks
-        may (record { trace = refl; lost = refl; delivered = refl }) refl refl refl runs.all_marks
-        (next_leads script st (record { line = line; act = acts.Restart s }) halts later is
-        under next) runs;
+        keeps_others _ _ _ _ _ _ (record { trace = refl; lost = refl; delivered = refl }) refl
+        refl refl runs.all_marks (next_leads _ _ _ halts later is under next) runs;
     variables =
-        bound
-        ∙ ap (λ (bs : List (Option Name)). bs ++ None ∷ [])
-        (variables ∙ sym (bound_stays c (ended_halt st s) (Restarts s) done so));
+        bound ∙ ap (λ (bs : List (Option Name)). bs ++ None ∷ []) (variables ∙ sym (bound_stays c
+        (ended_halt st s) (Restarts s) _ so));
   }
 
 module _ (place s : ℕ) (back : place + 1 ≡ s) (old new : LinesFields)
@@ -73,21 +70,16 @@ module _ (place s : ℕ) (back : place + 1 ≡ s) (old new : LinesFields)
 
   ended : (done : Restart) → HasRestartedAs place old.works might done new.works may
       → IsRestartLine (place + 1) old might new may (Ok done)
-  ended ends.Stood has = λ script st halts line later is keeps next stands.
-      led script st halts later line (place + 1) old new may is keeps.runs.under keeps.variables
-      next bound puts.Stood stands
-      (has script st halts line (λ m. list_any (is_restart m) later) is keeps.runs stands)
+  ended ends.Stood has = λ script st halts line later is keeps next stands. led script st halts
+      later line (place + 1) old new may is keeps.runs.under keeps.variables next bound puts.Stood
+      stands (has script st halts line (λ m. list_any (is_restart m) later) is keeps.runs stands)
   ended ends.Found has = λ script st halts line later is keeps next. record {
     halted = has.halted script st is keeps.runs;
-    stands = λ found k before e under beyond stands.
-        led script found halts later line (place + 1) old new may is under
-        (kept_found script st found k (place + 1) before e beyond keeps.variables)
-        (subst (λ bs. slice_get script.steps (length bs)
-        ≡ Some (record { line = line; act = acts.Restart (place + 1) }))
-        (sym (ap (λ (z : Standing). z.running.bound) beyond.stands.is)) next)
-        bound puts.Stood stands
-        (has.stands script st found k before e halts line (λ m. list_any (is_restart m) later) is
-        keeps.runs under beyond stands);
+    stands = λ found k before e under beyond stands. led script found halts later line (place + 1)
+        old new may is under (kept_found script st found k (place + 1) before e beyond
+        keeps.variables) (rw (ap (λ (z : Standing). z.running.bound) beyond.stands.is) next) bound
+        puts.Stood stands (has.stands script st found k before e halts line (λ m. list_any
+        (is_restart m) later) is keeps.runs under beyond stands);
   }
   ended ends.Failed has = λ script st halts line later is keeps next. has
 

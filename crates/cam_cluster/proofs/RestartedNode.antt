@@ -58,19 +58,17 @@ module _ {X : Type 0} {g : CkptGhosts X} {h : LogGhosts X} (old mid : Works X g 
       mid.undecided.items mid.events.events.items mid.marks.items
 
   there_now : place < length mid.nodes.items
-  there_now = there_still old mid nodes place there
+  there_now = there_still old mid nodes _ there
 
   known_before : KeepsAsBefore (works_of g h old) (reads_of g h old) between (reads_of g h mid)
   known_before =
-      known_too old mid nodes some halted failed undecided events marked known
-      (λ none. (none_before old mid nodes some halted failed undecided events marked place there
-      within asked node new before known is_asked is_node is_before after told later none).0)
+      known_too old mid nodes some halted failed undecided events marked known (λ none. (none_before
+      old mid nodes some halted failed undecided events marked place there within asked node new
+      before _ is_asked is_node is_before after told later none).0)
 
   -- the node that was there
   pub node_there : slice_get old.nodes.items place ≡ Some node
-  node_there =
-      subst (λ (ns : List (Node X g h)). slice_get ns place ≡ Some node) (ap (λ v. v.items) nodes)
-      (taken_there mid.nodes.items place node there_now is_node)
+  node_there = rw (← (ap (λ v. v.items) nodes)) (taken_there _ _ _ there_now is_node)
 
   module _ (objects : made.objects ≡ was.objects)
       (rest : tells_of g h node ≡ true → was.halted ≡ false → (logged : Logged)

@@ -57,9 +57,7 @@ module _ (script : Script) (st : Standing) (place : ℕ) (works : WorksFields)
       → IsReadOf old.site.entries logged
       → IsLogOf script.objects (place + 1) (history_of script.objects st.running.trace (place + 1))
       logged
-  read_awake logged awake read =
-      read_is script.objects (place + 1) (history_of script.objects st.running.trace (place + 1))
-      old.site.entries logged (site_here.stands awake).log.keeps read
+  read_awake logged awake read = read_is _ _ _ _ _ (site_here.stands awake).log.keeps read
 
 module _ {N : Type 0} (part : N → NodeFields) (tells : N → Bool) (may : N → Logged → Type 0)
     (place : ℕ) (nodes : List N) (o : OutboxFields) (h : List Bool) (v : Failed) (u : List OpenHalt)
@@ -76,7 +74,7 @@ module _ {N : Type 0} (part : N → NodeFields) (tells : N → Bool) (may : N �
   might = MayReadAt tells may nodes
 
   at : slice_get (map part nodes) place ≡ Some (part old)
-  at = seen_there part nodes place old (taken_there nodes place old there is_old)
+  at = seen_there part nodes place _ (taken_there _ _ _ there is_old)
 
   are : map part now ≡ set (map part nodes) place (part new)
   are = ap (map part) set_is ∙ map-set part nodes place new
@@ -84,15 +82,15 @@ module _ {N : Type 0} (part : N → NodeFields) (tells : N → Bool) (may : N �
   others : (s : ℕ) (logged : Logged) → 1 ≤ s → (s ≡ place + 1 → ⊥)
       → MayReadAt tells may now s logged → MayReadAt tells may nodes s logged
   others s logged low away read =
-      reads_elsewhere tells may nodes place new s logged low away
-      (subst (λ (ns : List N). MayReadAt tells may ns s logged) set_is read)
+      reads_elsewhere _ may _ _ _ _ _ low away (subst (λ (ns : List N). MayReadAt tells may ns
+      s logged) set_is read)
 
   reads : (logged : Logged) → may old logged → MayReadAt tells may nodes (place + 1) logged
   reads logged read = record {
     node = old;
     at =
-        subst (λ (p : ℕ). slice_get nodes p ≡ Some old) (let x : place ≡ place + 1 - 1 = omega arith
-        in x) (taken_there nodes place old there is_old);
+        rw (← (let x : place ≡ place + 1 - 1 = omega arith
+        in x)) (taken_there _ _ _ there is_old);
     told = told;
     reads = read;
   }
@@ -103,10 +101,7 @@ module _ {N : Type 0} (part : N → NodeFields) (tells : N → Bool) (may : N �
         (part old).site.node.number
         → P script.objects (place + 1)
     by_place P is =
-        subst (λ (xs : List ObjectDecl). P xs (place + 1))
-        (over script st place works might (part old) keeps at)
-        (subst (λ (s : ℕ). P (part old).objects s)
-        (site_here script st place works might (part old) keeps at).number is)
+        rw (← (over script st place works might (part old) keeps at)) (rw (← (site_here script st place works might (part old) keeps at).number) is)
 
     told_halted : is_halted h (place + 1) ≡ has_number st.halted (place + 1)
     told_halted =
@@ -142,9 +137,7 @@ module _ {N : Type 0} (part : N → NodeFields) (tells : N → Bool) (may : N �
     logged = logged_of has.left.recovered
 
     sent : r.stepped.letters ≡ letters_of (part new).site.node r.stepped.event.sent
-    sent =
-        nothing_sent (part new).site.node r.stepped.event.sent r.stepped.letters no_letters
-        (ap (λ (x : Event). x.sent) has.event)
+    sent = nothing_sent (part new).site.node _ _ no_letters (ap (λ (x : Event). x.sent) has.event)
 
     pub restarted_in : length e + 1 < 1000000000
         → (is_halted h (place + 1) ≡ true → r.found.event ≡ None)

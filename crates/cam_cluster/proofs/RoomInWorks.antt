@@ -17,14 +17,11 @@ module _ {X : Type 0} {g : CkptGhosts X} {h : LogGhosts X} (old mid : Works X g 
     (nodes : mid.nodes ≡ old.nodes) where
   -- a node is at its place still
   pub there_still : (place : ℕ) → place < length old.nodes.items → place < length mid.nodes.items
-  there_still place there =
-      subst (λ (n : ℕ). place < n) (ap (λ v. length v.items) (sym nodes)) there
+  there_still place there = rw (← (ap (λ v. length v.items) (sym nodes))) there
 
   pub there_set : (place : ℕ) (new : Node X g h) → place < length old.nodes.items
       → place < length (set mid.nodes.items place new)
-  there_set place new there =
-      subst (λ (n : ℕ). place < n) (sym (length-set mid.nodes.items place new))
-      (there_still place there)
+  there_set place new there = rw (length-set mid.nodes.items place new) (there_still place there)
 
   module _ (some : HasPutSome old.outbox mid.outbox) (halted : mid.halted ≡ old.halted)
       (failed : mid.failed ≡ old.failed)
@@ -34,16 +31,13 @@ module _ {X : Type 0} {g : CkptGhosts X} {h : LogGhosts X} (old mid : Works X g 
     pub made_room : KeepsAsBefore (works_of g h old) (reads_of g h old) (works_of g h mid)
         (reads_of g h mid)
     made_room =
-        room_made (part g h) (tells_of g h) (reads_at g h) old.nodes.items mid.nodes.items
-        old.outbox mid.outbox old.halted mid.halted old.failed mid.failed old.undecided.items
-        mid.undecided.items old.events.events.items mid.events.events.items old.marks.items
-        mid.marks.items (ap (λ v. v.items) nodes) some halted failed undecided events marks
+        room_made (part g h) _ (reads_at g h) _ _ _ _ _ _ _ _ _ _ _ _ _ _ (ap (λ v.
+        v.items) nodes) some halted failed undecided events marks
 
     module _ (known : Failed) (fed : known ≡ Nothing → mid.failed ≡ Nothing) where
       pub known_too : KeepsAsBefore (works_of g h old) (reads_of g h old)
           (seen (part g h) (tells_of g h) (reads_at g h) mid.nodes.items mid.outbox mid.halted known
           mid.undecided.items mid.events.events.items mid.marks.items) (reads_of g h mid)
       known_too script st is keeps =
-          failed_as (part g h) (tells_of g h) (reads_at g h) mid.nodes.items mid.outbox mid.halted
-          mid.failed known mid.undecided.items mid.events.events.items mid.marks.items fed script st
-          is (made_room script st is keeps)
+          failed_as (part g h) _ (reads_at g h) _ _ _ _ _ _ _ _ fed script st is (made_room
+          script st is keeps)

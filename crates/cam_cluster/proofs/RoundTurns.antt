@@ -45,12 +45,12 @@ module _ (c : Setting) (bodies : List (List Statement)) (st : Standing) (a : Nam
       → IsSaidOf c st a n end → AreCounted st (make_request c st a child n) (ends_of end)
   made_counted child (nexts.Request want) (Some done) made said =
       let request : Input = Requests (record { action = a; want = want }) in
-      given_counted st (put c st request) (done ∷ []) child
-      (asked_in (made_by st (put c st request))) (put_counted c st request done said)
+      given_counted st (put c st request) (done ∷ []) child (asked_in (made_by st (put c st
+      request))) (put_counted c _ request _ said)
   made_counted child (nexts.Request want) None made said = absurd (true≢false (sym made))
-  made_counted child nexts.Wait None made said = none_counted st
+  made_counted child nexts.Wait None made said = none_counted _
   made_counted child nexts.Wait (Some done) made said = absurd (true≢false made)
-  made_counted child nexts.Over None made said = none_counted st
+  made_counted child nexts.Over None made said = none_counted _
   made_counted child nexts.Over (Some done) made said = absurd (true≢false made)
 
   turn_counted : (end : Option Put) → is_some end ≡ makes_one c bodies st a
@@ -62,10 +62,9 @@ module _ (c : Setting) (bodies : List (List Statement)) (st : Standing) (a : Nam
           → IsSaidOf c st a (next_of bodies st a) o
           → AreCounted st (if b then go c bodies st a else st) (ends_of o)
       by true o made_so said_so =
-          made_counted
-          (child_body (body_of bodies st.running a) (view (plain_all st.running.trace) a))
-          (next_of bodies st a) o made_so said_so
-      by false None made_so said_so = none_counted st
+          made_counted (child_body (body_of bodies st.running a) (view (plain_all st.running.trace)
+          a)) (next_of bodies st a) o made_so said_so
+      by false None made_so said_so = none_counted _
       by false (Some done) made_so said_so = absurd (true≢false made_so)
 
   -- What is said of the next input is said of its request.
@@ -108,7 +107,7 @@ one_more c bodies a (b ∷ names) st = one_more c bodies a names (after_name c b
 pub no_turn : (line : ℕ) (bodies : List (List Statement)) (works : WorksFields)
     (may : ℕ → Logged → Type 0) (workers : Workers)
     → HaveHadTurns line [] bodies works may workers works may workers
-no_turn line bodies works may workers = none_made line bodies works may workers
+no_turn line bodies works may workers = none_made _ _ _ _ _
 
 module _ (line : ℕ) (names : List Name) (bodies : List (List Statement))
     (old mid new : WorksFields) (might mays may : ℕ → Logged → Type 0)
@@ -119,20 +118,17 @@ module _ (line : ℕ) (names : List Name) (bodies : List (List Statement))
       → HasHadTurn line a bodies mid mays during end new may after
       → HaveHadTurns line (names ++ a ∷ []) bodies old might before new may after
   next_turn a end has =
-      made_as
-      (λ c bs st. go_in_round c bs (a ∷ []) (go_in_round c bs names st))
-      (turns_of (names ++ a ∷ [])) line bodies old new might may before after
-      (λ script halts restarted st keeps.
-      one_more (held_setting script.objects halts line restarted) script.bodies a names st)
-      (made_on (turns_of names) (turns_of (a ∷ [])) line bodies old mid new might mays may before
-      during after some (one_turn line a bodies mid new mays may during after end has))
+      made_as (λ c bs st. go_in_round c bs (a ∷ []) (go_in_round c bs names st)) (turns_of (names ++
+      a ∷ [])) line bodies old new might may before after (λ script halts restarted st keeps.
+      one_more (held_setting script.objects halts line restarted) script.bodies a names st) (made_on
+      (turns_of names) (turns_of (a ∷ [])) line bodies old mid new might mays may before during
+      after some (one_turn _ _ _ _ _ _ _ _ _ _ has))
 
   -- Then memory ran out.
   pub turns_wanting : KeepsAsBefore mid mays new may → KeepsWorkersAsBefore mid mays during after
       → HaveHadTurns line names bodies old might before new may after
   turns_wanting keep workers_keep =
-      made_wanting (turns_of names) line bodies old mid new might mays may before during after some
-      keep workers_keep
+      made_wanting _ _ _ _ _ _ _ _ _ _ _ _ some keep workers_keep
 
 -- what holds of all holds of each
 holds_at : (P : Name → Type 0) (xs : List Name) (k : ℕ) (a : Name) → AllByRecursion P xs
@@ -152,7 +148,7 @@ module _ (names : List Name) (line : ℕ) (a : Name) (bodies : List (List Statem
     bodies_are = some.bodies_are;
     keeps = some.keeps;
     are_workers = some.are_workers;
-    placed = holds_at (IsAtNode some.script.nodes) names i a some.placed at;
+    placed = holds_at (IsAtNode some.script.nodes) _ _ _ some.placed at;
   }
 
   -- Some run is kept after a turn.
@@ -160,11 +156,10 @@ module _ (names : List Name) (line : ℕ) (a : Name) (bodies : List (List Statem
       → HasHadTurn line a bodies old might before end new may after
       → AreTurnsOfSome names bodies new may after
   some_turn_behind end has =
-      let one = one_turn line a bodies old new might may before after end has in
+      let one = one_turn _ _ _ _ _ _ _ _ _ _ has in
       let behind =
-      stands_behind (turns_of (a ∷ [])) line bodies old new might may before after one some.script
-      some.standing some.is_script some.bodies_are
-      (record { runs = some.keeps; workers = some.are_workers }) in
+      stands_behind (turns_of (a ∷ [])) line _ _ _ _ _ _ _ one _ _ some.is_script
+      some.bodies_are (record { runs = some.keeps; workers = some.are_workers }) in
       record {
         script = some.script;
         standing =

@@ -44,11 +44,7 @@ module _ {D : Type 0} (tells : D → Bool) (faults_of : D → ℕ) (before after
       last
       → AreHandedBack tells faults_of before after
   run_back later =
-      then_later tells faults_of (λ (n : NodeFields). n.tells) (λ (n : NodeFields). n.failures)
-      tells faults_of before last after
-      (then_later tells faults_of (λ (n : NodeFields). n.tells) (λ (n : NodeFields). n.failures)
-      (λ (n : NodeFields). n.tells) (λ (n : NodeFields). n.failures) before first last founded
-      later)
+      then_later _ _ _ _ _ _ _ _ _ (then_later _ _ _ _ _ _ _ _ _ founded later)
       taken_out
 
   -- And a disk that the fault of the run names failed by itself.
@@ -61,10 +57,9 @@ module _ {D : Type 0} (tells : D → Bool) (faults_of : D → ℕ) (before after
       by : (start ≡ failed.Disk s) ⊎ HasFailed (λ (n : NodeFields). n.failures)
           (λ (n : NodeFields). n.failures) s first last
           → HasFailed faults_of faults_of s before after
-      by (inl same) = absurd (some_is_not (failed.Disk s) refl (sym same ∙ none))
+      by (inl same) = absurd (some_is_not _ refl (sym same ∙ none))
       by (inr fell) =
-          failed_between tells faults_of (λ (n : NodeFields). n.tells)
-          (λ (n : NodeFields). n.failures) (λ (n : NodeFields). n.tells)
-          (λ (n : NodeFields). n.failures) tells faults_of s before first last after founded fell
-          taken_out
+          failed_between tells faults_of (λ (n : NodeFields). n.tells) (λ (n : NodeFields).
+          n.failures) (λ (n : NodeFields). n.tells) (λ (n : NodeFields). n.failures) tells faults_of
+          s before first last after founded fell taken_out
   run_cause start known faults.NoMemory none on is = tt

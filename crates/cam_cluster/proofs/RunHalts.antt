@@ -39,13 +39,13 @@ letter_within t id some = by (event_at t id.event) refl some
         (slice_get e.sent id.place)) o) ≡ true
         → id.event < length t
     by None is some = absurd (true≢false (sym some))
-    by (Some e) is some = event_below t id.event e is
+    by (Some e) is some = event_below _ _ _ is
 
 pub sent_in : (objects : List ObjectDecl) (trace : List Event) (input : Input)
     → MayCome objects trace input → IsSentBefore (length trace) (got_of input)
 sent_in objects trace (Begins s) may = tt
 sent_in objects trace (Requests r) may = tt
-sent_in objects trace (Receives letter) may = letter_within trace letter may
+sent_in objects trace (Receives letter) may = letter_within _ _ may
 sent_in objects trace (Tells s to) may = tt
 sent_in objects trace (Queries s f) may = tt
 sent_in objects trace (Restarts s) may = tt
@@ -76,18 +76,16 @@ module _ (objects : List ObjectDecl) (taking : ℕ → Bool) (trace : List Event
       by (Some event) is at =
           let put_so : IsNewHalt objects trace input new.site.node event =
           new_halts_are_undecided objects taking trace input mail load new.site.node event run may
-          is_put number_now
-          (subst (λ n. IsHaltedAt objects h (whole_step objects n h input mail load) new.site.node
-          event) number (at h keeps may_be)) in record {
+          is_put number_now (subst (λ n. IsHaltedAt objects h (whole_step objects n h input mail
+          load) new.site.node event) number (at h keeps may_be)) in record {
             whole = step_in objects trace input;
             event = event;
             kept = is;
             halted = put_so.halted;
-            either = λ logged read.
-                new_halts_keep_logs objects trace input mail load logged is_put
+            either = λ logged read. new_halts_keep_logs objects trace input mail load logged is_put
                 (subst (λ n. IsLogOfEither objects n h (taken_step objects n h input mail load)
                 logged) number (halt.either h logged keeps may_be read));
             halt = undecided_in objects trace input;
-            newest = newest_own s (undecided_in objects trace input) undecided refl;
+            newest = newest_own _ _ undecided refl;
             alike = ap nameless put_so.adds;
           }

@@ -21,9 +21,8 @@ use Rattle.cam_event.specs.HeldSites as held
 runs_same : (objects : List ObjectDecl) (s : ℕ) (h : List Carried) (one other : Actions)
     → tranman.AreSame one other → RunsActions objects s h one → RunsActions objects s h other
 runs_same objects s h one other same runs =
-    answers_deeds objects s (deeds_of h) (own_pairs objects h) other
-    (same_answers objects s (deeds_of h) (own_pairs objects h) one other same
-    (runs_by objects s (deeds_of h) (own_pairs objects h) one runs))
+    answers_deeds _ _ _ (own_pairs objects h) _ (same_answers _ _ _ _ _ _ same (runs_by _
+    _ _ _ _ runs))
 
 commits_same : (objects : List ObjectDecl) (s : ℕ) (h : List Carried) (one other : Families)
     → commit.AreSame one other → CommitsFamilies objects s h one → CommitsFamilies objects s h other
@@ -48,15 +47,9 @@ same_represents objects history one other same rep = record {
   own_count = same.count ∙ rep.own_count ∙ ap (count (deeds_of h)) (sym same.number);
   knowledge = same.know ∙ rep.knowledge;
   places = same.places ∙ rep.places;
-  runs =
-      subst (λ (s : ℕ). RunsActions objects s h other.actions) (sym same.number)
-      (runs_same objects one.number h one.actions other.actions same.actions rep.runs);
-  commits =
-      subst (λ (s : ℕ). CommitsFamilies objects s h other.families) (sym same.number)
-      (commits_same objects one.number h one.families other.families same.families rep.commits);
-  serves =
-      subst (λ (s : ℕ). ServesSite objects s h other.server) (sym same.number)
-      (serves_same objects one.number h one.server other.server same.server rep.serves);
+  runs = rw same.number (runs_same _ _ h _ _ same.actions rep.runs);
+  commits = rw same.number (commits_same _ _ _ _ _ same.families rep.commits);
+  serves = rw same.number (serves_same _ _ _ _ _ same.server rep.serves);
 }
   where
     h : List Carried

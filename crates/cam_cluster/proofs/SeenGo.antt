@@ -30,23 +30,22 @@ module _ {X : Type 0} {g : CkptGhosts X} {h : LogGhosts X} (line v : ℕ)
       (reads_of g h old.works) before goes a at
 
   pub home_low : 1 ≤ home.0
-  home_low = subst (λ (n : ℕ). 1 ≤ n) (sym (ap (λ (p : ℕ × ℕ). p.0) is_home)) low
+  home_low = rw (ap (λ (p : ℕ × ℕ). p.0) is_home) low
 
   pub home_at : home_node a ≡ home.0 - 1 + 1
-  home_at = sym (home_place home (home_node a) count is_home low)
+  home_at = sym (home_place _ _ _ is_home low)
 
   pub home_there : home.0 - 1 < length old.works.nodes.items
   home_there =
-      place_of (part g h) old.works.nodes.items (home.0 - 1)
-      (go_there line v bodies (lines_of g h old) (lines_of g h old) (reads_of g h old.works)
-      (reads_of g h old.works) before goes a at (home.0 - 1) home_at)
+      place_of _ _ _ (go_there line v bodies (lines_of g h old) (lines_of g h old) (reads_of g h
+      old.works) (reads_of g h old.works) before goes a at (home.0 - 1) home_at)
 
   -- the node there
   pub home_seen : (node : Node X g h) → node ≡ get_or old.works.nodes.items (home.0 - 1) node
       → slice_get (map (part g h) old.works.nodes.items) (home.0 - 1) ≡ Some (part g h node)
   home_seen node is =
-      seen_there (part g h) old.works.nodes.items (home.0 - 1) node
-      (taken_there old.works.nodes.items (home.0 - 1) node home_there is)
+      seen_there (part g h) old.works.nodes.items (home.0 - 1) _ (taken_there _ _ _ home_there
+      is)
 
   -- and whether it is halted
   pub home_halted : (told b : Bool) → told ≡ is_halted old.works.halted (suc (home.0 - 1))

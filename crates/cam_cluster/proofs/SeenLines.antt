@@ -26,28 +26,25 @@ module _ {X : Type 0} {g : CkptGhosts X} {h : LogGhosts X} (step : Step) (old : 
   IsNext act_is = IsNextOfSome step.line act_is (lines_of g h old) (reads_of g h old.works)
 
   pub next_as : (act_is : Act) → step.act ≡ act_is → IsNext step.act → IsNext act_is
-  next_as act_is is next = subst (λ (a : Act). IsNext a) is next
+  next_as act_is is next = rw (← is) next
 
   pub stands_before : IsNext step.act → AreLinesOfSome (lines_of g h old) (reads_of g h old.works)
-  stands_before next =
-      some_lines step.line step.act (lines_of g h old) (reads_of g h old.works) next
+  stands_before next = some_lines _ _ _ _ next
 
   -- the node of a line that begins an action
   pub begin_node : (s : ℕ) → step.act ≡ acts.Begin s → IsNext step.act
       → (1 ≤ s) × (s ≤ length old.works.nodes.items)
   begin_node s is next =
       let within =
-      begins_within step.line s (lines_of g h old) (reads_of g h old.works)
-      (next_as (acts.Begin s) is next) in
-      (within.0, subst (λ (n : ℕ). s ≤ n) (length-map old.works.nodes.items (part g h)) within.1)
+      begins_within _ _ _ _ (next_as (acts.Begin s) is next) in
+      (within.0, rw (← (length-map old.works.nodes.items (part g h))) within.1)
 
   pub start_node : (s body : ℕ) → step.act ≡ acts.Start s body → IsNext step.act
       → (1 ≤ s) × (s ≤ length old.works.nodes.items)
   start_node s body is next =
       let within =
-      starts_within step.line s body (lines_of g h old) (reads_of g h old.works)
-      (next_as (acts.Start s body) is next) in
-      (within.0, subst (λ (n : ℕ). s ≤ n) (length-map old.works.nodes.items (part g h)) within.1)
+      starts_within _ _ _ _ _ (next_as (acts.Start s body) is next) in
+      (within.0, rw (← (length-map old.works.nodes.items (part g h))) within.1)
 
   module _ (new : Lines X g h) where
     -- a line that was taken
@@ -57,9 +54,7 @@ module _ {X : Type 0} {g : CkptGhosts X} {h : LogGhosts X} (step : Step) (old : 
         (reads_of g h old.works) (lines_of g h new) (reads_of g h new.works) result
         → IsStepTaken step (lines_of g h old) (reads_of g h old.works) (lines_of g h new)
         (reads_of g h new.works) result
-    taken_as act_is result is line =
-        subst (λ (a : Act). IsStepTaken (record { line = step.line; act = a }) (lines_of g h old)
-        (reads_of g h old.works) (lines_of g h new) (reads_of g h new.works) result) (sym is) line
+    taken_as act_is result is line = rw is line
 
     -- one that put an input,
     module _ (result : Result Put LineFault) (puts : PutsInput step.act) where

@@ -30,7 +30,7 @@ carried_at objects t [] [] place id are at = cc
 carried_at objects t [] (i ∷ ids) place id are at = elim are [ ]
 carried_at objects t (kept ∷ net) [] place id are at = cc
 carried_at objects t (kept ∷ net) (i ∷ ids) zero id are at =
-    (kept, subst (λ (x : LetterId). IsCarried objects t x kept) (same_Some i id at) are.0)
+    (kept, rw (← (same_Some i id at)) are.0)
 carried_at objects t (kept ∷ net) (i ∷ ids) (suc place) id are at =
     carried_at objects t net ids place id are.1 at
 
@@ -47,16 +47,14 @@ spelled_so script st works may keeps none_left number id is = record {
   letter = carried.1.letter;
   sent = carried.1.sent;
   spells =
-      subst (IsSpelled carried.1.letter)
-      (carried.1.bytes ∙ sym (ap (λ (o : Option Letter). option_map_or spelled o [])
-      carried.1.sent)) carried.1.spells;
+      subst (IsSpelled carried.1.letter) (carried.1.bytes ∙ sym (ap (λ (o : Option Letter).
+      option_map_or spelled o []) carried.1.sent)) carried.1.spells;
 }
   where
     carried : (kept : InFlightFields) × IsCarried script.objects st.running.trace id kept
     carried =
-        carried_at script.objects st.running.trace works.outbox.net (letters st.running.trace)
-        (number - 1) id (network_is script st works may keeps none_left).flight
-        (at (eqb number 0) (has_number st.running.lost number) is)
+        carried_at _ _ _ _ _ _ (network_is _ _ _ may keeps none_left).flight (at (eqb
+        number 0) (has_number st.running.lost number) is)
       where
         at : (a b : Bool)
             → (if a || b then None else slice_get (letters st.running.trace) (number - 1)) ≡ Some id

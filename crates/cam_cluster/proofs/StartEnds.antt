@@ -29,10 +29,8 @@ module _ (line place node : ℕ) (back : place + 1 ≡ node) (old new : LinesFie
       → HasLed line place inputs.Begin old might done new may
       → IsStart line node old might new may (Ok done)
   start_led done there runs has =
-      subst (λ (n : ℕ). IsStart line n old might new may (Ok done)) back
-      (λ body script st halts later is keeps next.
-      started script st halts later line place body old might is keeps there next done new may runs
-      has)
+      rw (← back) (λ body script st halts later is keeps next. started _ _ halts later _ _ _ _
+      _ is keeps there next _ _ _ runs has)
 
   pub start_halted : place < length old.works.nodes
       → is_halted old.works.halted (place + 1) ≡ true → (fault : LineFault)
@@ -41,12 +39,8 @@ module _ (line place node : ℕ) (back : place + 1 ≡ node) (old new : LinesFie
   start_halted there stops line_faults.NoMemory before =
       λ body script st halts later is keeps next. before script st is keeps
   start_halted there stops (line_faults.Refused told) has =
-      subst (λ (n : ℕ). IsStart line n old might new may (Err (line_faults.Refused told))) back
-      (λ body script st halts later is keeps next.
-      subst (λ (r : LineRefusal). IsRefused script st line (acts.Start (place + 1) body) r new may)
-      (sym has.0)
-      (start_refused script st halts later line place body old might is keeps there next new may
-      stops has.1))
+      rw (← back) (λ body script st halts later is keeps next. rw has.0 (start_refused _ _ halts
+      later _ _ _ _ _ is keeps there next _ _ stops has.1))
 
   pub start_wanting : KeepsLinesAsBefore old might new may
       → IsStart line node old might new may (Err line_faults.NoMemory)

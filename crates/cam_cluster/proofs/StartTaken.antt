@@ -82,28 +82,26 @@ module _ (seen : Seen) (step : Step) (s body : ℕ) (is : step.act ≡ acts.Star
     node : IsNode s
     node =
         let holds =
-        next_holds seen.script seen.standing step.line (acts.Start s body) keeps.is_script
-        (subst (λ (a : Act). IsNextStep seen (record { line = step.line; act = a })) is next) in
+        next_holds seen.script seen.standing step.line (acts.Start s body) keeps.is_script (rw (←
+        is) next) in
         let within =
-        node_within seen.script.nodes s (and_parts (is_node seen.script.nodes s) _ holds.1).0 in (
-          within.0,
-          let most = within.1 in let eight = keeps.is_script.eight_nodes in omega
-              (arith, most, eight),
+        node_within _ _ (and_parts (is_node seen.script.nodes s) _ holds.1).0 in ( within.0,
+          let most = within.1 in let eight = keeps.is_script.eight_nodes in omega (arith, most,
+              eight),
         )
 
     leads : act c seen.script.bodies seen.standing step.act
         ≡ led_creating (Some body) seen.standing after
     leads =
-        ap (act c seen.script.bodies seen.standing) is
-        ∙ led_unless (is_halted seen.standing s) (led_creating (Some body) seen.standing after)
-        awake
+        ap (act c seen.script.bodies seen.standing) is ∙ led_unless _ (led_creating (Some body)
+        seen.standing after) awake
 
     -- The action that it creates has no body yet.
     bare : (a : Name) → binds ≡ Some a → body_number after.running.bodies a ≡ None
     bare a creates =
-        ap (λ given. body_number given a) (put_stays c seen.standing (Begins s))
-        ∙ by (body_number seen.standing.running.bodies a) refl
-        (created_new seen.script c seen.standing s a keeps.keeps.runs.under node creates).0.fresh
+        ap (λ given. body_number given a) (put_stays c seen.standing (Begins s)) ∙ by (body_number
+        seen.standing.running.bodies a) refl (created_new _ c _ _ _ keeps.keeps.runs.under node
+        creates).0.fresh
       where
         by : (o : Option ℕ) → body_number seen.standing.running.bodies a ≡ o
             → (Known (plain_all seen.standing.running.trace) a → ⊥)
@@ -165,7 +163,7 @@ pub start_wanting : (step : Step) (s body : ℕ) (bodies : List (List Statement)
     → IsAtWorkLine step bodies lines may first lines may before
     (Err (faults.Line line_faults.NoMemory))
 start_wanting step s body bodies lines may first before is stay seen keeps next same =
-    subst (λ (a : Act). IsCourseWanting a seen step lines may before) (sym is) (record {
+    rw is (record {
       between = keeps.between;
       workers = stay seen.standing keeps.workers;
     })

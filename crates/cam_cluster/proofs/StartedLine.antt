@@ -50,10 +50,8 @@ given_keeps : (script : Script) (body : ℕ) (a binds : Option Name) (after : St
 given_keeps script body None binds after lines may keeps under = keeps
 given_keeps script body (Some a) binds after lines may keeps under = record {
   runs =
-      keeps_others script (bound_to binds after)
-      (bound_to binds (given_body (Some body) (Some a) after)) lines.works lines.works.marks may
-      (record { trace = refl; lost = refl; delivered = refl }) refl refl refl keeps.runs.all_marks
-      under keeps.runs;
+      keeps_others _ _ _ _ _ _ (record { trace = refl; lost = refl; delivered = refl }) refl
+      refl refl keeps.runs.all_marks under keeps.runs;
   variables = keeps.variables;
 }
 
@@ -78,7 +76,7 @@ module _ (script : Script) (st : Standing) (halts : Halting) (later : List Step)
 
   pub node : IsNode (place + 1)
   node =
-      let few = within script st old.works might is keeps.runs place there in
+      let few = within script st old.works might is keeps.runs _ there in
       (omega arith, omega (arith, few))
 
   -- its variable is one of `start`, so that it may stand for an action with a body
@@ -121,15 +119,13 @@ module _ (script : Script) (st : Standing) (halts : Halting) (later : List Step)
       → IsLed script st c (acts.Start (place + 1) body) (Begins (place + 1)) done new may
   started done new may runs has = record {
     passed = ap (λ (b : Bool). where_so b refusals.Halted) awake;
-    stands = λ halt.
-        subst (λ (p : Passed). KeepsLines script (after_line st line p) new may) (sym passes)
-        (with_body (has script st halts (λ s. list_any (is_restart s) later) is keeps
-        (record {
+    stands = λ halt. rw passes (with_body (has script st halts (λ s. list_any (is_restart s) later)
+        is keeps (record {
           coming = record { may = node; awake = awake; idle = tt };
           at = refl;
           is_put =
-              own_inputs_are_put script.objects (has_number st.taken) st.running.trace
-              (Begins (place + 1)) keeps.runs.under.run node refl;
+              own_inputs_are_put script.objects (has_number st.taken) st.running.trace (Begins
+              (place + 1)) keeps.runs.under.run node refl;
         }) halt (begun_under done awake halt)));
   }
     where
@@ -142,19 +138,14 @@ module _ (script : Script) (st : Standing) (halts : Halting) (later : List Step)
       with_body : KeepsLines script (after_put inputs.Begin st after) new may
           → KeepsLines script (after_line st line leads) new may
       with_body begun =
-          given_keeps script body (created_in (made st after)) (created_in (made st after)) after
-          new
-          may begun
-          (subst (λ (p : Passed). IsUnderHalts script (after_line st line p)) passes
-          (next_leads script st (record { line = line; act = acts.Start (place + 1) body }) halts
-          later is keeps.runs.under next))
+          given_keeps _ _ _ _ _ _ _ begun (subst (λ (p : Passed). IsUnderHalts script
+          (after_line st line p)) passes (next_leads _ _ _ halts later is keeps.runs.under next))
 
   pub start_refused : (new : LinesFields) (may : ℕ → Logged → Type 0)
       → is_halted old.works.halted (place + 1) ≡ true
       → HasRefused line refusals.Halted old might new may
       → IsRefused script st line (acts.Start (place + 1) body) refusals.Halted new may
   start_refused new may stops has =
-      refused_line script st halts later line (acts.Start (place + 1) body) refusals.Halted old new
-      might may is keeps next
-      (ap (λ (b : Bool). where_so b refusals.Halted) (halted_is true stops))
-      (ap (λ (b : Bool). unless (where_so b refusals.Halted) leads) (halted_is true stops)) has
+      refused_line _ _ halts later _ _ _ _ _ _ _ is keeps next (ap (λ (b : Bool). where_so
+      b refusals.Halted) (halted_is true stops)) (ap (λ (b : Bool). unless (where_so b
+      refusals.Halted) leads) (halted_is true stops)) has

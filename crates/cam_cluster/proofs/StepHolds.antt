@@ -22,31 +22,27 @@ pub step_holds : (nodes : ℕ) (objects : List ObjectDecl) (bodies : ℕ) (earli
     → (before : List Step) × (act_holds nodes objects bodies before step.act ≡ true)
 step_holds nodes objects bodies earlier [] k step hold at =
     let gone : ◌≡◌ {A = Option Step} None (Some step) = at in cc
-step_holds nodes objects bodies earlier (s ∷ steps) zero step hold at = (
-  earlier,
-  subst (λ (z : Step). act_holds nodes objects bodies earlier z.act ≡ true) (same_Some s step at)
-      (and_parts (act_holds nodes objects bodies earlier s.act)
+step_holds nodes objects bodies earlier (s ∷ steps) zero step hold at = ( earlier, rw (← (same_Some
+  s step at)) (and_parts (act_holds nodes objects bodies earlier s.act)
       (are_steps nodes objects bodies (earlier ++ s ∷ []) steps) hold).0,
 )
 step_holds nodes objects bodies earlier (s ∷ steps) (suc k) step hold at =
-    step_holds nodes objects bodies (earlier ++ s ∷ []) steps k step
-    (and_parts (act_holds nodes objects bodies earlier s.act)
-    (are_steps nodes objects bodies (earlier ++ s ∷ []) steps) hold).1 at
+    step_holds nodes objects bodies (earlier ++ s ∷ []) steps k step (and_parts (act_holds nodes
+    objects bodies earlier s.act) (are_steps nodes objects bodies (earlier ++ s ∷ []) steps) hold).1
+    at
 
 module _ (script : Script) (st : Standing) (line : ℕ) (act_is : Act) (is : IsScript script)
     (next : IsNextStep script st (record { line = line; act = act_is })) where
   -- The next step is one of the script,
   pub next_holds : (before : List Step)
       × (act_holds script.nodes script.objects (length script.bodies) before act_is ≡ true)
-  next_holds =
-      step_holds script.nodes script.objects (length script.bodies) [] script.steps
-      (length st.running.bound) (record { line = line; act = act_is }) is.steps_hold next
+  next_holds = step_holds _ _ _ [] script.steps (length st.running.bound) _ is.steps_hold next
 
   -- and in the ranges of runs.
   pub next_in_range : is_act script act_is ≡ true
   next_in_range =
-      step_passes (λ (s : Step). is_act script s.act) script.steps (length st.running.bound)
-      (record { line = line; act = act_is }) (script_in_range script is).0 next
+      step_passes (λ (s : Step). is_act script s.act) script.steps (length st.running.bound) _
+      (script_in_range script is).0 next
 
 -- a node of the script
 pub node_within : (nodes s : ℕ) → is_node nodes s ≡ true → (1 ≤ s) × (s ≤ nodes)

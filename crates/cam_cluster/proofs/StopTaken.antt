@@ -32,8 +32,8 @@ stops_within line s calls lines may some =
     let holds =
     next_holds some.script some.standing line (acts.Stop s calls) some.is_script some.next in
     let within =
-    node_within some.script.nodes s (and_parts (is_node some.script.nodes s) _ holds.1).0 in
-    (within.0, subst (λ (n : ℕ). s ≤ n) (sym some.keeps.runs.one_each) within.1)
+    node_within _ _ (and_parts (is_node some.script.nodes s) _ holds.1).0 in
+    (within.0, rw some.keeps.runs.one_each within.1)
 
 -- It tells of no letter.
 abbrev pub stop_told : Result (Unit {0}) LineFault → Result (Option WireFault) CourseFault

@@ -84,9 +84,7 @@ pub ended_as : (turns : List Turn) (halted : ℕ → Bool) (s : ℕ)
     → (m : ℕ) → IsAsStopped (halted m) (Restart s ∷ turns) m
 ended_as turns halted s so awake m = elim (eqb_tells s m) [
   | inl same ↦
-      subst (λ (n : ℕ). IsAsStopped (halted n) (Restart s ∷ turns) n) same.1
-      (subst (λ (b : Bool). IsAsStopped b (Restart s ∷ turns) s) (sym awake)
-      (rw (eq-eqb s s refl) refl))
+      rw (← same.1) (rw awake (rw (eq-eqb s s refl) refl))
   | inr away ↦ by (halted m) away.0 (so m away.1)
 ]
   where
@@ -104,7 +102,7 @@ spent_as [] turns s line false again passes left none is spent =
     (refl, spent ∙ is ∙ sym (own_calls turns s line false again))
 spent_as (one ∷ rest) turns s line false again passes left none is spent = cc
 spent_as (one ∷ rest) turns s line true again passes left none is spent =
-    let done = by (calls_left turns s) (subst (λ (o : Option ℕ). Spent 4 o left) is spent) in
+    let done = by (calls_left turns s) (rw (← is) spent) in
     (done.0, done.1 ∙ sym (own_calls turns s line true again))
   where
     by : (o : Option ℕ) → Spent 4 o left → (too_few o ≡ None) × (left ≡ after_append o)

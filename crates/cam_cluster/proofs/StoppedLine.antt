@@ -54,15 +54,11 @@ module _ (script : Script) (st : Standing) (halts : Halting) (later : List Step)
         subst (λ (p : Passed). KeepsLines script (after_line st line p) new may) (sym passes)
         (record {
           runs =
-              keeps_others script behind (after_line st line leads) new.works new.works.marks may
-              (record { trace = refl; lost = refl; delivered = refl }) refl refl refl
-              kept.all_marks
-              (subst (λ (p : Passed). IsUnderHalts script (after_line st line p)) passes
-              (next_leads script st
-              (record { line = line; act = acts.Stop (place + 1) calls }) halts later is
-              keeps.runs.under next)) kept;
-          variables =
-              bound ∙ ap (λ (bs : List (Option Name)). bs ++ None ∷ []) keeps.variables;
+              keeps_others _ _ _ _ _ _ (record { trace = refl; lost = refl; delivered = refl
+              }) refl refl refl kept.all_marks (subst (λ (p : Passed). IsUnderHalts script
+              (after_line st line p)) passes (next_leads _ _ _ halts later is keeps.runs.under
+              next)) kept;
+          variables = bound ∙ ap (λ (bs : List (Option Name)). bs ++ None ∷ []) keeps.variables;
         });
   }
     where
@@ -84,11 +80,9 @@ module _ (script : Script) (st : Standing) (halts : Halting) (later : List Step)
       (Err fault)
   stop_refused line_faults.NoMemory stops before = before script st is keeps
   stop_refused (line_faults.Refused told) stops has =
-      subst (λ (r : LineRefusal). IsRefused script st line (acts.Stop (place + 1) calls) r new may)
-      (sym has.0)
-      (refused_line script st halts later line (acts.Stop (place + 1) calls) refusals.Halted old new
-      might may is keeps next (ap (λ (b : Bool). where_so b refusals.Halted) (halted_is true stops))
-      (ap (λ (b : Bool). unless (where_so b refusals.Halted) leads) (halted_is true stops)) has.1)
+      rw has.0 (refused_line _ _ halts later _ _ _ _ _ _ _ is keeps next (ap (λ (b : Bool).
+      where_so b refusals.Halted) (halted_is true stops)) (ap (λ (b : Bool). unless (where_so b
+      refusals.Halted) leads) (halted_is true stops)) has.1)
 
 -- how the line ends, at the node of this number
 module _ (line place node calls : ℕ) (back : place + 1 ≡ node) (old new : LinesFields)
@@ -97,11 +91,8 @@ module _ (line place node calls : ℕ) (back : place + 1 ≡ node) (old new : Li
       → HasStopped place calls old.works might new.works may → new.bound ≡ old.bound ++ None ∷ []
       → IsLineBy line (acts.Stop node calls) (IsStop node calls) old might new may (Ok tt)
   stop_done runs before bound =
-      subst (λ (n : ℕ). IsLineBy line (acts.Stop n calls) (IsStop n calls) old might new may
-      (Ok tt)) back
-      (λ script st halts later is keeps next.
-      stopped script st halts later line place calls old new might may is keeps there next runs
-      before bound)
+      rw (← back) (λ script st halts later is keeps next. stopped script st halts later line place
+      calls old new might may is keeps there next runs before bound)
 
   pub stop_halted : (fault : LineFault) → is_halted old.works.halted (place + 1) ≡ true
       → IsRefusedAs line refusals.Halted old might new may fault

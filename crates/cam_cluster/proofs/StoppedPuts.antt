@@ -56,7 +56,7 @@ module _ (script : Script) (st : Standing) (place : ℕ) (input : NodeInput) (ma
   was : (failed : Failed) → (failed ≡ Nothing → works.failed ≡ Nothing) → IsUnfailing failed nodes
       → AreStopped script.objects t st.halted st.turns works.nodes
   was failed fed all =
-      let before = unfailing_before failed works.nodes nodes place old new there are less all in
+      let before = unfailing_before _ _ _ _ _ _ there are less all in
       keeps.stops (fed before.0, before.1)
 
   passes_is : AreStopped script.objects t st.halted st.turns works.nodes
@@ -67,7 +67,7 @@ module _ (script : Script) (st : Standing) (place : ℕ) (input : NodeInput) (ma
       ∙ ap (calls_left st.turns) (sym put_so.at)
 
   own_number : old.site.node.number ≡ r
-  own_number = (site_is script st place input mail load works might old keeps put_so there).number
+  own_number = (site_is _ _ place _ mail load works might _ keeps put_so there).number
 
   away_from : (m : ℕ) → (m ≡ place + 1 → ⊥) → r ≡ m → ⊥
   away_from m away e = away (sym e ∙ put_so.at)
@@ -81,29 +81,19 @@ module _ (script : Script) (st : Standing) (place : ℕ) (input : NodeInput) (ma
       → AreStopped script.objects (next ∷ t) st.halted turns_now nodes
   stood_stops event step appended all =
       let before = was works.failed (λ is. is) all in
-      let done = stood_as_stopped script.objects (has_number st.taken) t input mail load
-      old.site.node old.site.entries keeps.under.run put_so.coming.may put_so.is_put own_number
-      (node_keeps script st place input mail load works might old keeps put_so there)
-      (may_then script st place input mail load works might old keeps put_so there)
-      new.site.node event new.site.entries st.turns line again old.passes new.passes step
-      appended (passes_is before) in
-      nodes_stopped script.objects t (next ∷ t) st.halted st.halted st.turns turns_now place
-      works.nodes nodes old new there are
-      (λ m away. ap (λ h. map nameless h)
-      (sym (history_there script.objects next t m (ne_eqb r m (away_from m away)))))
-      (λ m away. refl)
-      (λ m away. other_calls st.turns r line w again m (away_from m away))
-      (λ m away. other_stopped st.turns r line w again m (away_from m away))
-      no_node (λ m away. refl)
-      (stood_as st.turns r line w again (has_number st.halted) put_so.coming.awake
-      (λ m. before.said m refl) done.0)
-      (record {
+      let done = stood_as_stopped _ (has_number st.taken) t _ _ _ _ _ keeps.under.run
+      put_so.coming.may put_so.is_put own_number (node_keeps _ _ place _ mail load works might _
+      keeps put_so there) (may_then _ _ place _ _ _ works might _ keeps put_so there) _ _ _
+      _ line again _ _ step appended (passes_is before) in
+      nodes_stopped _ _ _ _ _ _ _ _ _ _ old _ there are (λ m away. ap (λ h. map nameless
+      h) (sym (history_there script.objects _ t _ (ne_eqb r m (away_from m away))))) (λ m away.
+      refl) (λ m away. other_calls st.turns _ line w again _ (away_from m away)) (λ m away.
+      other_stopped st.turns _ line w again _ (away_from m away)) _ (λ m away. refl) (stood_as _
+      _ line _ again _ put_so.coming.awake (λ m. before.said m refl) done.0) (record {
         awake = λ runs. done.1 ∙ ap (calls_left turns_now) put_so.at;
-        by_stop = λ said.
-            absurd (true≢false (sym said ∙ ap (has_number st.halted) (sym put_so.at)
-            ∙ put_so.coming.awake));
-      })
-      before
+        by_stop = λ said. absurd (true≢false (sym said ∙ ap (has_number st.halted) (sym put_so.at) ∙
+            put_so.coming.awake));
+      }) before
 
   -- it halted, and its append was cut off by a stop
   pub halted_stops : (failed : Failed) → (failed ≡ Nothing → works.failed ≡ Nothing)
@@ -126,31 +116,22 @@ module _ (script : Script) (st : Standing) (place : ℕ) (input : NodeInput) (ma
           → AreStopped script.objects t (r ∷ st.halted) turns_now nodes
       by before cut =
           nodes_stopped script.objects t t st.halted (r ∷ st.halted) st.turns turns_now place
-          works.nodes nodes old new there are (λ m away. refl)
-          (λ m away. ap (λ (b : Bool). b || has_number st.halted m)
-          (ne_eqb r m (away_from m away)))
-          (λ m away. other_calls st.turns r line w again m (away_from m away))
-          (λ m away. other_stopped st.turns r line w again m (away_from m away))
-          no_node (λ m away. refl)
-          (halted_as st.turns r line w again st.halted cut.calls put_so.coming.awake
-          (λ m. before.said m refl) ends)
-          (record {
-            awake = λ runs.
-                absurd (true≢false (sym (or_left (eqb r (place + 1))
-                (has_number st.halted (place + 1)) (eq-eqb r (place + 1) put_so.at)) ∙ runs));
-            by_stop = λ said.
-                subst (λ (n : ℕ). IsHaltByStop script.objects (history_of script.objects t n)
-                turns_now n new.site.node new.halted_at new.reads) put_so.at halt;
-          })
-          before
+          works.nodes nodes old new there are (λ m away. refl) (λ m away. ap (λ (b : Bool). b ||
+          has_number st.halted m) (ne_eqb r m (away_from m away))) (λ m away. other_calls st.turns
+          _ line w again _ (away_from m away)) (λ m away. other_stopped st.turns _ line w again
+          _ (away_from m away)) no_node (λ m away. refl) (halted_as _ _ line _ again _ _
+          put_so.coming.awake (λ m. before.said m refl) ends) (record {
+            awake = λ runs. absurd (true≢false (sym (or_left (eqb r (place + 1)) (has_number
+                st.halted (place + 1)) (eq-eqb r (place + 1) put_so.at)) ∙ runs));
+            by_stop = λ said. rw (← put_so.at) halt;
+          }) before
         where
           ends : ends_by st.turns r w ≡ Some cut.calls
           ends =
-              ends_there script.objects (has_number st.taken) t input mail load old.site.node
-              old.site.entries keeps.under.run put_so.coming.may put_so.is_put own_number
-              (node_keeps script st place input mail load works might old keeps put_so there)
-              (may_then script st place input mail load works might old keeps put_so there)
-              cut.calls new.reads st.turns old.passes cut.did (passes_is before) cut.had cut.fewer
+              ends_there _ (has_number st.taken) t _ _ _ _ _ keeps.under.run put_so.coming.may
+              put_so.is_put own_number (node_keeps _ _ place _ mail load works might _ keeps
+              put_so there) (may_then _ _ place _ _ _ works might _ keeps put_so there) _ _
+              _ _ cut.did (passes_is before) cut.had cut.fewer
 
           halt : IsHaltByStop script.objects (history_of script.objects t r) turns_now r
               new.site.node new.halted_at new.reads

@@ -91,8 +91,8 @@ module _ (objects : List ObjectDecl) (taking : ℕ → Bool) (trace : List Event
       → passes ≡ calls_left turns s → passes ≡ Some calls → calls < 4
       → ends_by turns s w ≡ Some calls
   ends_there calls reads turns passes after is had fewer =
-      ap (ends_by turns s) (appends_there calls reads after)
-      ∙ cut_as_stopped turns s calls passes is had fewer
+      ap (ends_by turns s) (appends_there calls reads after) ∙ cut_as_stopped turns s _ _ is had
+      fewer
 
   pub halted_by_stop : (calls : ℕ) (reads : Opened) (turns : List Turn) (passes : Option ℕ)
       (line : ℕ) (again : Bool) (new : Node) (halted_at : Option Event)
@@ -115,15 +115,13 @@ module _ (objects : List ObjectDecl) (taking : ℕ → Bool) (trace : List Event
         kept = kept;
         halted = at h keeps may_be;
         adds =
-            subst (λ (c : Received). Adds objects h c) (sym whole_is)
-            (entries_add objects taking trace input mail load run may is_put goes_on
-            (appends_there calls reads after));
+            subst (λ (c : Received). Adds objects h c) (sym whole_is) (entries_add objects taking
+            trace input mail load run may is_put goes_on (appends_there calls reads after));
         calls = calls;
         stopped =
-            own_stopped turns s line w again calls runs
-            (ends_there calls reads turns passes after is had fewer);
+            own_stopped _ s line _ again _ runs (ends_there calls reads turns passes after is had
+            fewer);
         opens =
-            subst (λ (n : ℕ). OpensAs objects n
-            (history_after calls h (taken (whole_step objects old.number h input mail load))) reads)
-            number (after h keeps may_be).opens;
+            subst (λ (n : ℕ). OpensAs objects n (history_after calls h (taken (whole_step objects
+            old.number h input mail load))) reads) number (after h keeps may_be).opens;
       }

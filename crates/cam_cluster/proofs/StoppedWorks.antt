@@ -33,9 +33,8 @@ pub unfailing_before : (failed : Failed) (nodes now : List NodeFields) (place : 
     (old new : NodeFields) → slice_get nodes place ≡ Some old → now ≡ set nodes place new
     → (HasTellingDisk new → HasTellingDisk old) → IsUnfailing failed now
     → IsUnfailing failed nodes
-unfailing_before failed nodes now place old new there are back all = (
-  all.0,
-  all_before HasTellingDisk nodes place old new there back
+unfailing_before failed nodes now place old new there are back all = ( all.0, all_before
+  HasTellingDisk _ _ _ _ there back
       (subst (AllByRecursion HasTellingDisk) are all.1),
 )
 
@@ -80,9 +79,8 @@ pub stopped_alike : (objects : List ObjectDecl) (t now : List Event) (h halted :
     → IsStoppedAs objects now halted turns s node.site.node node.halted_at node.passes node.reads
 stopped_alike objects t now h halted before turns s node alike same calls stops is = record {
   awake = λ runs. is.awake (sym same ∙ runs) ∙ sym calls;
-  by_stop = λ said.
-      halt_alike objects (history_of objects t s) before s node.site.node node.halted_at node.reads
-      (is.by_stop (sym same ∙ said)) (history_of objects now s) turns alike stops;
+  by_stop = λ said. halt_alike _ _ _ _ _ _ _ (is.by_stop (sym same ∙ said)) _ _ alike
+      stops;
 }
 
 -- One node has changed, and the others are said alike.
@@ -103,18 +101,15 @@ module _ (objects : List ObjectDecl) (t now : List Event) (h halted : List ℕ)
       → AreStopped objects now halted turns nodes_now
   nodes_stopped but only said own is = record {
     said = λ s all. said s;
-    each = λ q n at all.
-        elim (set_tells nodes place q new n (slice_get_within nodes place old there)
-        (ap (λ (ns : List NodeFields). slice_get ns q) (sym are) ∙ at)) [
+    each = λ q n at all. elim (set_tells _ _ _ _ _ (slice_get_within nodes place old there) (ap
+        (λ (ns : List NodeFields). slice_get ns q) (sym are) ∙ at)) [
           | inl y ↦
               subst (λ (z : ℕ × NodeFields). IsStoppedAs objects now halted turns (z.0 + 1)
-              z.1.site.node z.1.halted_at z.1.passes z.1.reads)
-              (λ i. (sym y.0 i, y.1 i)) own
+              z.1.site.node z.1.halted_at z.1.passes z.1.reads) (λ i. (sym y.0 i, y.1 i)) own
           | inr other ↦
               let away : q + 1 ≡ place + 1 → ⊥ =
               λ e. other.0 (let back : q ≡ place = omega (arith, e) in back) in
-              stopped_alike objects t now h halted before turns (q + 1) n (alike (q + 1) away)
-              (same (q + 1) away) (calls (q + 1) away) (stops (q + 1) away)
-              (is.each q n other.1 (only (q + 1) away))
+              stopped_alike _ _ _ _ _ _ _ _ n (alike (q + 1) away) (same (q + 1) away)
+              (calls (q + 1) away) (stops (q + 1) away) (is.each q n other.1 (only (q + 1) away))
         ];
   }

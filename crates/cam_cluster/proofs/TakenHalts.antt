@@ -40,12 +40,9 @@ module _ (script : Script) (st found : Standing) (s k : ℕ) (before : List Even
   pub taken_log : (logged : Logged) → IsLogOf script.objects s (taken halt.whole ∷ history) logged
       → IsLogOf script.objects s (history_of script.objects found.running.trace s) logged
   taken_log logged is =
-      subst (λ h. IsLogOf script.objects s h logged)
-      (sym (found_events_are_undecided script.objects k s before e st found u beyond
-      beyond.undecided))
-      (logs_keep_alike script.objects s (taken halt.whole ∷ history)
-      (received_at script.objects st.running.trace u ∷ history) logged
-      (ap (λ r. r ∷ map nameless history) taken_alike) is)
+      rw (found_events_are_undecided script.objects k s before e st found u beyond beyond.undecided)
+      (logs_keep_alike script.objects s (taken halt.whole ∷ history) (received_at script.objects
+      st.running.trace u ∷ history) logged (ap (λ r. r ∷ map nameless history) taken_alike) is)
 
   -- So what may be read of it keeps the history of the one run or of the other.
   pub either_kept : (logged : Logged) → may logged

@@ -156,10 +156,10 @@ module _ (step : Step) (old new : LinesFields) (might may : ℕ → Logged → T
   pub put_taken : (done : Put) → IsInputLine step old might new may (Ok done)
       → IsStepTaken step old might new may (Ok None)
   put_taken done is seen keeps next =
-      (is seen keeps next, sym (told_none seen.script.objects seen.standing step.act puts))
+      (is seen keeps next, sym (told_none seen.script.objects seen.standing _ puts))
 
   pub put_fault : (fault : LineFault) → IsInputLine step old might new may (Err fault)
       → IsStepTaken step old might new may (Err fault)
   put_fault (line_faults.Refused refusal) is seen keeps next = is seen keeps next
   put_fault line_faults.NoMemory is seen keeps next =
-      wanting_so seen step new may step.act puts (is seen keeps next)
+      wanting_so _ _ _ _ _ puts (is seen keeps next)

@@ -14,9 +14,7 @@ pub disk_reads : {left : ℕ → List ℕ → Type 0} {opens : ℕ → Opened �
     → (logged : Logged) → MayRead (OpeningsBy read_ckpt left) now logged → MayRead opens was logged
 disk_reads {opens = opens} {now = now} since same logged read = record {
   entries = read.entries;
-  opens =
-      subst (λ t. opens t (Ok read.entries)) same
-      (subst (opens now) read.opens.2 (since now read.opens.0 read.opens.1));
+  opens = rw (← same) (subst (opens now) read.opens.2 (since now read.opens.0 read.opens.1));
   recovered = read.recovered;
   recovers = read.recovers;
   is = read.is;

@@ -57,8 +57,8 @@ pub begins_within : (line s : ℕ) (lines : LinesFields) (may : ℕ → Logged �
     → (1 ≤ s) × (s ≤ length lines.works.nodes)
 begins_within line s lines may some =
     let holds = next_holds some.script some.standing line (acts.Begin s) some.is_script some.next in
-    let within = node_within some.script.nodes s holds.1 in
-    (within.0, subst (λ (n : ℕ). s ≤ n) (sym some.keeps.runs.one_each) within.1)
+    let within = node_within _ _ holds.1 in
+    (within.0, rw some.keeps.runs.one_each within.1)
 
 pub starts_within : (line s body : ℕ) (lines : LinesFields) (may : ℕ → Logged → Type 0)
     → IsNextOfSome line (acts.Start s body) lines may
@@ -67,8 +67,8 @@ starts_within line s body lines may some =
     let holds =
     next_holds some.script some.standing line (acts.Start s body) some.is_script some.next in
     let within =
-    node_within some.script.nodes s (and_parts (is_node some.script.nodes s) _ holds.1).0 in
-    (within.0, subst (λ (n : ℕ). s ≤ n) (sym some.keeps.runs.one_each) within.1)
+    node_within _ _ (and_parts (is_node some.script.nodes s) _ holds.1).0 in
+    (within.0, rw some.keeps.runs.one_each within.1)
 
 module _ (step : Step) (old new : LinesFields) (might may : ℕ → Logged → Type 0)
     (result : Result Put LineFault) (puts : PutsInput step.act) where

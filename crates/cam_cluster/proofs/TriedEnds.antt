@@ -34,9 +34,8 @@ module _ (line place : ℕ) (input : Input) (old new : LinesFields)
   tried_halted stops line_faults.NoMemory before script st halts act_is later is keeps next to =
       before script st is keeps
   tried_halted stops (line_faults.Refused told) has script st halts act_is later is keeps next to =
-      subst (λ (r : LineRefusal). IsRefused script st line act_is r new may) (sym has.0)
-      (halted_refuses script st halts later line place act_is input old might is keeps there next to
-      new may stops has.1)
+      rw has.0 (halted_refuses _ _ halts later _ _ _ input _ _ is keeps there next to _ _
+      stops has.1)
 
   pub tried_refused : (why : LineRefusal) → is_halted old.works.halted (place + 1) ≡ false
       → (node : NodeFields) → slice_get old.works.nodes place ≡ Some node
@@ -47,11 +46,9 @@ module _ (line place : ℕ) (input : Input) (old new : LinesFields)
       keeps next to = before script st is keeps
   tried_refused why runs node at said (line_faults.Refused told) has script st halts act_is later is
       keeps next to =
-      subst (λ (r : LineRefusal). IsRefused script st line act_is r new may) (sym has.0)
-      (node_refuses script st halts later line place act_is input old might is keeps there next to
-      why new may runs
-      (sym (refuses script st old.works might is keeps.runs place there runs node at input
-      (Some why) to.at (said script.objects))) has.1)
+      rw has.0 (node_refuses _ _ halts later _ _ _ input _ _ is keeps there next to _ _ _
+      runs (sym (refuses _ _ old.works might is keeps.runs _ there runs _ at _ _ to.at (said
+      script.objects))) has.1)
 
   pub tried_led : (done : Put) → is_halted old.works.halted (place + 1) ≡ false
       → (node : NodeFields) → slice_get old.works.nodes place ≡ Some node
@@ -73,10 +70,9 @@ module _ (line place : ℕ) (input : Input) (old new : LinesFields)
       → slice_get old.works.nodes place ≡ Some node → IsSaid node input None
       → MayStep node.site.node input
   tried_may some runs node at said =
-      numbers_left some.script some.standing old.works might some.is_script some.keeps.runs place
-      there runs node at input some.is_line.at some.is_line.own
-      (sym (refuses some.script some.standing old.works might some.is_script some.keeps.runs place
-      there runs node at input None some.is_line.at (said some.script.objects)))
+      numbers_left _ _ old.works might some.is_script some.keeps.runs _ there runs _ at _
+      some.is_line.at some.is_line.own (sym (refuses _ _ old.works might some.is_script
+      some.keeps.runs _ there runs _ at _ _ some.is_line.at (said some.script.objects)))
 
 -- the lines of some run
 pub tried_lines : (s : ℕ) (input : Input) (lines : LinesFields) (may : ℕ → Logged → Type 0)
@@ -98,4 +94,4 @@ tried_there place input lines may some =
 -- a place of the nodes that are seen
 pub place_of : {N F : Type 0} (f : N → F) (nodes : List N) (place : ℕ)
     → place < length (map f nodes) → place < length nodes
-place_of f nodes place there = subst (λ (n : ℕ). place < n) (length-map nodes f) there
+place_of f nodes place there = rw (← (length-map nodes f)) there

@@ -50,10 +50,8 @@ refused_line script st halts later line act_is why old new might may is keeps ne
     record {
       test = test;
       stands =
-          has script st keeps
-          (subst (λ (p : Passed). IsUnderHalts script (after_line st line p)) takes
-          (next_leads script st (record { line = line; act = act_is }) halts later is
-          keeps.runs.under next));
+          has script st keeps (subst (λ (p : Passed). IsUnderHalts script (after_line st line p))
+          takes (next_leads _ _ _ halts later is keeps.runs.under next));
     }
 
 -- an own input that is not refused may come
@@ -123,8 +121,8 @@ module _ (script : Script) (st : Standing) (halts : Halting) (later : List Step)
       → first_of_two (where_so (has_number st.halted (place + 1)) refusals.Halted) says ≡ Some why
       → HasRefused line why old might new may → IsRefused script st line act_is why new may
   refused_by why new may first has =
-      refused_line script st halts later line act_is why old new might may is keeps next
-      (to.tests ∙ first) (to.takes c ∙ ap (λ (o : Option LineRefusal). unless o leads) first) has
+      refused_line _ _ halts later _ _ _ _ _ _ _ is keeps next (to.tests ∙ first) (to.takes
+      c ∙ ap (λ (o : Option LineRefusal). unless o leads) first) has
 
   pub halted_refuses : (new : LinesFields) (may : ℕ → Logged → Type 0)
       → is_halted old.works.halted (place + 1) ≡ true
@@ -168,8 +166,7 @@ module _ (script : Script) (st : Standing) (halts : Halting) (later : List Step)
 
       may_come : MayCome script.objects st.running.trace (input_of (place + 1) input)
       may_come =
-          own_may_come script.objects (has_number st.taken) st (place + 1) input
-          keeps.runs.under.run node to.at to.own free
+          own_may_come _ (has_number st.taken) st _ _ keeps.runs.under.run node to.at to.own free
 
       passes : act c script.bodies st act_is ≡ leads
       passes =

@@ -68,9 +68,7 @@ module _ (script : Script) (st : Standing) (works : WorksFields) (may : ℕ → 
   stands = (here.stands awake).represents
 
   through : IsThrough script.objects node.site.node.number history
-  through =
-      subst (λ (s : ℕ). IsThrough script.objects s history) (sym here.number)
-      ((standings_hold script st keeps.under).through (place + 1) awake)
+  through = rw here.number ((standings_hold script st keeps.under).through (place + 1) awake)
 
   -- The node refuses it as the run does.
   pub refuses : (input : Input) (r : Option LineRefusal)
@@ -89,10 +87,8 @@ module _ (script : Script) (st : Standing) (works : WorksFields) (may : ℕ → 
   -- Where it is not refused a request may be put to the node, and what it makes has a number left.
   numbers : (a : Name) (want : Want) → home_node a ≡ place + 1 → IsWant script.objects want
       → refusal (goes_by (place + 1)) a want ≡ None → MayAsk node.site.node a want
-  numbers a want home in_range free = (
-    home ∙ sym here.number,
-    subst (λ (os : List ObjectDecl). IsWant os want) (sym stands.serves.site.objects_are) in_range,
-    by want,
+  numbers a want home in_range free = ( home ∙ sym here.number, rw stands.serves.site.objects_are
+    in_range, by want,
   )
     where
       own_deeds : MayRunHere (deeds_of (map as_carried history)) (place + 1) a
@@ -105,7 +101,7 @@ module _ (script : Script) (st : Standing) (works : WorksFields) (may : ℕ → 
           node.site.node keeps.under.run here.number stands
 
       few : length st.running.trace < 1000000000
-      few = few_events script st works may keeps
+      few = few_events _ _ _ _ keeps
 
       by : (w : Want) → HasNumber node.site.node a w
       by (wants.Ask m) = let most = counted.children a own_deeds in omega (arith, most, few)
@@ -123,7 +119,7 @@ module _ (script : Script) (st : Standing) (works : WorksFields) (may : ℕ → 
   numbers_left inputs.Begin home own free =
       let tops = (nodes_count_few script.objects (has_number st.taken) st.running.trace (place + 1)
       node.site.node keeps.under.run here.number stands).tops in
-      let few = few_events script st works may keeps in
+      let few = few_events _ _ _ _ keeps in
       omega (arith, tops, few)
   numbers_left (inputs.Letter id letter) home own free = absurd own
   numbers_left (inputs.Tell to) home own free = own

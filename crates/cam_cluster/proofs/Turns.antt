@@ -58,15 +58,14 @@ may_of : (script : Script) (st : Standing) (halts : Halting) (line : ℕ) (resta
     → may_go_on (held_setting script.objects halts line restarted) st a ≡ true
     → MayGo script st a
 may_of script st halts line restarted a placed told =
-    let parts = and_parts
-    (may_go (home_sight (by_knowledge script.objects) st.running a) st.running a)
-    (not (has_number st.halted (home_node a))) told in
+    let parts = and_parts (may_go (home_sight (by_knowledge script.objects) st.running a) st.running
+    a) (not (has_number st.halted (home_node a))) told in
     let goes = may_parts (home_sight (by_knowledge script.objects) st.running a) st.running a
     parts.0 in
     record {
       low = placed.0;
       high = placed.1;
-      awake = is_false (has_number st.halted (home_node a)) parts.1;
+      awake = is_false _ parts.1;
       running = goes.0;
       is_open = goes.1;
     }
@@ -102,9 +101,8 @@ module _ (line : ℕ) (a : Name) (bodies : List (List Statement)) (old : WorksFi
         keeps = some.keeps;
         are_workers = up.0;
         may =
-            may_of some.script some.standing (λ turns s appends restarted. None) line (λ s. false) a
-            some.placed
-            (told some.script some.standing (λ turns s appends restarted. None) line (λ s. false)
+            may_of _ _ (λ turns s appends restarted. None) line (λ s. false) _ some.placed (told
+            some.script some.standing (λ turns s appends restarted. None) line (λ s. false)
             some.is_script some.keeps up.1);
       }
 
@@ -124,8 +122,8 @@ module _ (line : ℕ) (a : Name) (bodies : List (List Statement)) (old : WorksFi
       sym (ap (λ (b : Bool). if b then go c script.bodies st a else st) so.0) in
       record {
         made = sym (ap (λ (b : Bool). b && is_request (next_of script.bodies st a)) so.0);
-        runs = λ said. subst (λ (z : Standing). KeepsRun script z old might) stays keeps;
-        workers = λ said. subst (λ (z : Standing). AreWorkers z after) stays so.1;
+        runs = λ said. rw (← stays) keeps;
+        workers = λ said. rw (← stays) so.1;
       }
 
   pub turn_waits : IsOutlook a old might caught outlooks.Waits
@@ -152,16 +150,12 @@ module _ (line : ℕ) (a : Name) (bodies : List (List Statement)) (old : WorksFi
       let up = caught_up st keeps.events are in
       let goes_on = told script st halts line restarted is keeps up.1 in
       let goes = sym goes_on in
-      let so = has script st halts restarted is bodies_are keeps up.0
-      (may_of script st halts line restarted a (placed_in script st keeps) goes_on) in
+      let so = has script st halts restarted is bodies_are keeps up.0 (may_of _ _ halts line
+      restarted _ (placed_in script st keeps) goes_on) in
       record {
-        made =
-            so.made ∙ ap (λ (b : Bool). b && is_request (next_of script.bodies st a)) goes;
-        runs = λ said. subst (λ (z : Standing). KeepsRun script z new may)
-            (ap (λ (b : Bool). if b then go c script.bodies st a else st) goes) (so.runs said);
-        workers = λ said. subst (λ (z : Standing). AreWorkers z behind)
-            (ap (λ (b : Bool). if b then go c script.bodies st a else st) goes)
-            (so.workers said);
+        made = so.made ∙ ap (λ (b : Bool). b && is_request (next_of script.bodies st a)) goes;
+        runs = λ said. rw (← (ap (λ (b : Bool). if b then go c script.bodies st a else st) goes)) (so.runs said);
+        workers = λ said. rw (← (ap (λ (b : Bool). if b then go c script.bodies st a else st) goes)) (so.workers said);
       }
 
   pub workers_before : (behind : Workers) → KeepsWorkersAsBefore old might caught behind

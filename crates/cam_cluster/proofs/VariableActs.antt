@@ -30,11 +30,11 @@ module _ (script : Script) (st : Standing) (line : ℕ) (is : IsScript script) w
   pub ask_by : (v m : ℕ) → IsNextStep script st (record { line = line; act = acts.Ask v m })
       → IsRequestBy script st (acts.Ask v m) v (wants.Ask m)
   ask_by v m next =
-      let parts = and_parts (is_free script v) (is_node m)
-      (next_in_range script st line (acts.Ask v m) is next) in
+      let parts = and_parts (is_free script v) (is_node m) (next_in_range script st line (acts.Ask v
+      m) is next) in
       record {
         free = parts.0;
-        in_range = node_of_test m parts.1;
+        in_range = node_of_test _ parts.1;
         tests = refl;
         takes = λ c. refl;
       }
@@ -43,13 +43,13 @@ module _ (script : Script) (st : Standing) (line : ℕ) (is : IsScript script) w
       → IsNextStep script st (record { line = line; act = acts.Call v x op })
       → IsRequestBy script st (acts.Call v x op) v (wants.Call x op)
   call_by v x op next =
-      let parts = and_parts (is_free script v) (is_op script.objects x op)
-      (next_in_range script st line (acts.Call v x op) is next) in
-      let fit = and_parts (is_fit script.objects x op) (is_node (site_of script.objects x))
-      parts.1 in
+      let parts = and_parts (is_free script v) (is_op script.objects x op) (next_in_range script st
+      line (acts.Call v x op) is next) in
+      let fit = and_parts (is_fit script.objects x op) (is_node (site_of script.objects x)) parts.1
+      in
       record {
         free = parts.0;
-        in_range = (fit.0, node_of_test (site_of script.objects x) fit.1);
+        in_range = (fit.0, node_of_test _ fit.1);
         tests = refl;
         takes = λ c. refl;
       }
@@ -98,10 +98,10 @@ to_its_home script st act_is v want a under placed by at = record {
   high = (placed v a at).1;
   at = refl;
   own = by.in_range;
-  idle = λ body works. no_body body (sym (bare_at script st v a under by.free at).bare ∙ works);
+  idle = λ body works. no_body body (sym (bare_at _ _ _ _ under by.free at).bare ∙ works);
   tests =
-      by.tests
-      ∙ ap (λ o. test_variable o (λ x. test_request (by_knowledge script.objects) st x want)) at;
+      by.tests ∙ ap (λ o. test_variable o (λ x. test_request (by_knowledge script.objects) st x
+      want)) at;
   takes = λ c. by.takes c ∙ ap (λ o. of_variable o (λ x. take_request c st x want)) at;
 }
   where

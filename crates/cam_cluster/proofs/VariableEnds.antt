@@ -60,12 +60,9 @@ unbound_line line act_is old new might may script st halts later is keeps next u
     line_faults.NoMemory before input = before script st is keeps
 unbound_line line act_is old new might may script st halts later is keeps next unbound
     (line_faults.Refused told) has input =
-    subst (λ (r : LineRefusal). IsRefused script st line act_is r new may) (sym has.0)
-    (refused_line script st halts later line act_is refusals.Unbound old new might may is keeps next
-    unbound.test
-    (unbound.takes
-    (setting (by_knowledge script.objects) halts (record { line = line; act = act_is }) later))
-    has.1)
+    rw has.0 (refused_line _ _ halts later _ _ _ _ _ _ _ is keeps next unbound.test
+    (unbound.takes (setting (by_knowledge script.objects) halts (record { line = line; act = act_is
+    }) later)) has.1)
 
 module _ (line v : ℕ) (want : Want) (old new : LinesFields) (might may : ℕ → Logged → Type 0) where
   pub request_unbound : action_of old.bound v ≡ None → (fault : LineFault)
@@ -82,12 +79,10 @@ module _ (line v : ℕ) (want : Want) (old new : LinesFields) (might may : ℕ �
       might new may result
       → IsRequestLine line v want old might new may result
   request_ended some a at result has script st halts act_is later is keeps next asks input its =
-      subst (λ (i : Input). IsEnded script st c act_is i new may result)
-      (subst (λ (o : Option Name). IsItsInput (request_of o want) input) at its)
-      (has script st halts act_is later is keeps next
-      (to_its_home script st act_is v want a keeps.runs.under
-      (placed_in_each some.script script some.standing st old might some.keeps keeps some.placed)
-      asks (stands_for script st old might v (Some a) keeps at)))
+      subst (λ (i : Input). IsEnded script st c act_is i new may result) (subst (λ (o : Option
+      Name). IsItsInput (request_of o want) input) at its) (has script st halts act_is later is
+      keeps next (to_its_home _ _ _ _ _ _ keeps.runs.under (placed_in_each _ _ _ _ _ _
+      some.keeps keeps some.placed) asks (stands_for _ _ _ _ _ _ keeps at)))
     where
       c : Setting
       c = setting (by_knowledge script.objects) halts (record { line = line; act = act_is }) later
@@ -102,8 +97,8 @@ module _ (line v : ℕ) (want : Want) (old new : LinesFields) (might may : ℕ �
     is_script = some.is_script;
     keeps = some.keeps;
     is_line =
-        to_its_home some.script some.standing some.act_is v want a some.keeps.runs.under some.placed
-        some.is_request (stands_for some.script some.standing old might v (Some a) some.keeps at);
+        to_its_home _ _ _ _ _ _ some.keeps.runs.under some.placed some.is_request (stands_for
+        _ _ _ _ _ _ some.keeps at);
   }
 
 -- the place of a node, and the place of the home of an action

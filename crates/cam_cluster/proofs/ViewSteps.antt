@@ -33,35 +33,29 @@ view_put old gone new b step out put a =
     elim (cases_Bool (name_eq a b)) [
       | inl same ↦
           let tied : is_eq (name_cmp b a) ≡ true = name_ties_back a b ∙ same in
-          ap (λ o. unwrap_or o [])
-          (put a
-          ∙ ap (λ t. cond t (Some (view_in old b ++ step ∷ [])) (get name_cmp gone a)) tied)
-          ∙ ap (λ n. view_in old n ++ step ∷ []) (sym (name_eq_same a b same))
-          ∙ ap (λ t. view_in old a ++ (if t then step ∷ [] else [])) (sym same)
+          ap (λ o. unwrap_or o []) (put a ∙ ap (λ t. cond t (Some (view_in old b ++ step ∷ [])) (get
+          name_cmp gone a)) tied) ∙ ap (λ n. view_in old n ++ step ∷ []) (sym (name_eq_same _ _
+          same)) ∙ ap (λ t. view_in old a ++ (if t then step ∷ [] else [])) (sym same)
       | inr other ↦
           let apart : is_eq (name_cmp b a) ≡ false = name_ties_back a b ∙ other in
-          ap (λ o. unwrap_or o [])
-          (put a
-          ∙ ap (λ t. cond t (Some (view_in old b ++ step ∷ [])) (get name_cmp gone a)) apart
-          ∙ out a ∙ ap (λ t. cond t None (get name_cmp old a)) apart)
-          ∙ sym (append-nil (view_in old a))
-          ∙ ap (λ t. view_in old a ++ (if t then step ∷ [] else [])) (sym other)
+          ap (λ o. unwrap_or o []) (put a ∙ ap (λ t. cond t (Some (view_in old b ++ step ∷ [])) (get
+          name_cmp gone a)) apart ∙ out a ∙ ap (λ t. cond t None (get name_cmp old a)) apart) ∙ sym
+          (append-nil (view_in old a)) ∙ ap (λ t. view_in old a ++ (if t then step ∷ [] else []))
+          (sym other)
     ]
 
 -- the end of a child is a step of just its parent's view
 pub child_has_parent : (a b u : Name) (v : Option ℤ) → 1 ≤ length a → parent b ≡ Some u
     → steps_for a (Some (u, steps.Child b v)) ≡ child_end a b v
 child_has_parent a b u v named is =
-    sym
-    (ap (λ t. if t then steps.Child b v ∷ [] else [])
-    (child_of a b named ∙ ap (is_some_name a) is))
+    sym (ap (λ t. if t then steps.Child b v ∷ [] else []) (child_of _ b named ∙ ap (is_some_name a)
+    is))
 
 pub top_has_none : (a b : Name) (v : Option ℤ) → 1 ≤ length a → parent b ≡ None
     → [] ≡ child_end a b v
 top_has_none a b v named is =
-    sym
-    (ap (λ t. if t then steps.Child b v ∷ [] else [])
-    (child_of a b named ∙ ap (is_some_name a) is))
+    sym (ap (λ t. if t then steps.Child b v ∷ [] else []) (child_of _ b named ∙ ap (is_some_name a)
+    is))
 
 -- a commit is seen with the value that the child asked for, or not at all
 pub committed_with : (L : List Deed) (a b : Name) (v : ℤ) → commit_value L b ≡ Some v

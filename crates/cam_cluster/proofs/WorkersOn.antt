@@ -24,7 +24,7 @@ module _ (seen : Seen) (step : Step) (more : List Halt) where
 
   pub bodies_same : GivesNone step.act
       → (after_step seen step more).standing.running.bodies ≡ seen.standing.running.bodies
-  bodies_same none = bodies_stay c seen.script.bodies seen.standing step.line step.act none
+  bodies_same none = bodies_stay c seen.script.bodies seen.standing step.line _ none
 
   pub workers_on : (at_work : Workers) → GivesNone step.act → AreWorkers seen.standing at_work
       → AreWorkers (after_step seen step more).standing at_work
@@ -42,13 +42,9 @@ module _ (seen : Seen) (step : Step) (refusal : LineRefusal)
       ≡ after_line seen.standing step.line (Refused refusal)
   refused_is =
       let c = setting_in by_pasts seen seen.halts step in
-      ap (after_line seen.standing step.line)
-      (by_refusal (act c seen.script.bodies seen.standing step.act) refusal
-      (lines_are_tested c seen.script.bodies seen.standing step.act ∙ test))
+      ap (after_line seen.standing step.line) (by_refusal _ _ (lines_are_tested c
+      seen.script.bodies seen.standing step.act ∙ test))
 
   pub refused_on : (at_work : Workers) → AreWorkers seen.standing at_work
       → AreWorkers (after_step seen step []).standing at_work
-  refused_on at_work are =
-      subst (λ (st : Standing). AreWorkers st at_work) (sym refused_is)
-      (workers_stay seen.standing (after_line seen.standing step.line (Refused refusal)) at_work []
-      refl refl are)
+  refused_on at_work are = rw refused_is (workers_stay _ _ _ [] refl refl are)

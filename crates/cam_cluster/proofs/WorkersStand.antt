@@ -50,18 +50,14 @@ pub workers_stay : (old new : Standing) (workers : Workers) (more : List Event)
     → new.running.bodies ≡ old.running.bodies → new.running.trace ≡ more ++ old.running.trace
     → AreWorkers old workers → AreWorkers new workers
 workers_stay old new workers more bodies trace are = record {
-  given = subst (λ (given : List (Name × ℕ)). IsGiven given workers) (sym bodies) are.given;
-  playing = playing_stay old new workers more bodies trace are.playing;
+  given = rw bodies are.given;
+  playing = playing_stay _ _ _ _ bodies trace are.playing;
   within =
       let within = are.within in
       let long : length new.running.trace ≡ length more + length old.running.trace =
       ap (λ (t : List Event). length t) trace ∙ length-append more old.running.trace in
       omega (arith, within, long);
-  seen =
-      subst (λ (t : List Event). HasSeen t workers.seen)
-      (sym
-      (ap (first_events workers.events) trace
-      ∙ first_stay workers.events more old.running.trace are.within)) are.seen;
+  seen = rw (ap (first_events workers.events) trace ∙ first_stay _ more _ are.within) are.seen;
 }
 
 -- as many events as are given in order
@@ -82,9 +78,7 @@ same_given given old new items placed bodies is = record {
   all = items ∙ is.all;
   once = is.once;
   within = let within = is.within in omega (arith, within, placed);
-  table =
-      subst (λ (b : BTreeMap Name ℕ). IsTableOf (take new.placed given) b) (sym bodies)
-      (subst (λ n. IsTableOf (take n given) old.bodies) (sym placed) is.table);
+  table = rw bodies (rw placed is.table);
 }
 
 -- The same workers stand, with room for more.
@@ -92,12 +86,10 @@ pub same_workers : (st : Standing) (old new : Workers) → new.given.items ≡ o
     → new.placed ≡ old.placed → new.bodies ≡ old.bodies → new.playing ≡ old.playing
     → new.seen ≡ old.seen → new.events ≡ old.events → AreWorkers st old → AreWorkers st new
 same_workers st old new items placed bodies playing seen events are = record {
-  given = same_given st.running.bodies old new items placed bodies are.given;
-  playing = same_playing st old new bodies playing are.playing;
+  given = same_given _ _ _ items placed bodies are.given;
+  playing = same_playing _ _ _ bodies playing are.playing;
   within = let within = are.within in omega (arith, within, events);
-  seen =
-      subst (λ s. HasSeen (first_events new.events st.running.trace) s) (sym seen)
-      (subst (λ n. HasSeen (first_events n st.running.trace) old.seen) (sym events) are.seen);
+  seen = rw seen (rw events are.seen);
 }
 
 -- One that is over does not play on.
@@ -108,12 +100,10 @@ pub passed_over : (st : Standing) (a : Name) (old new : Workers)
     ≡ cond (is_eq (name_cmp a q)) false (contains name_cmp old.playing q))
     → is_over st.running.trace a ≡ true → AreWorkers st old → AreWorkers st new
 passed_over st a old new items placed bodies seen events ordered taken over are = record {
-  given = same_given st.running.bodies old new items placed bodies are.given;
-  playing = one_passed_over st a old new bodies ordered taken over are.playing;
+  given = same_given _ _ _ items placed bodies are.given;
+  playing = one_passed_over _ _ _ _ bodies ordered taken over are.playing;
   within = let within = are.within in omega (arith, within, events);
-  seen =
-      subst (λ s. HasSeen (first_events new.events st.running.trace) s) (sym seen)
-      (subst (λ n. HasSeen (first_events n st.running.trace) old.seen) (sym events) are.seen);
+  seen = rw seen (rw events are.seen);
 }
 
 -- The events that were missing are taken in.
@@ -129,11 +119,9 @@ taken_in st old new events is items placed bodies playing counted seen are = rec
   playing = same_playing st old new bodies playing are.playing;
   within = let many = as_many events st.running.trace is in omega (arith, many, counted);
   seen =
-      subst (λ (t : List Event). HasSeen t new.seen)
-      (ap (λ (es : List Event). reverse es ++ first_events old.events st.running.trace)
-      (all_behind old.events events)
-      ∙ first_and_others old.events events st.running.trace is
-      ∙ ap (λ n. first_events n st.running.trace) (sym counted)) seen;
+      rw (← (ap (λ (es : List Event). reverse es ++ first_events old.events st.running.trace)
+      (all_behind old.events events) ∙ first_and_others old.events events st.running.trace is ∙ ap
+      (λ n. first_events n st.running.trace) (sym counted))) seen;
 }
 
 -- No event is taken in, and no body is in the table.
@@ -148,14 +136,13 @@ forgotten st old new items placed bare ordered none set_ordered events seen is =
     once = is.once;
     within = omega (arith, placed);
     table =
-        subst (λ n. IsTableOf (take n st.running.bodies) new.bodies) (sym placed) (record {
+        rw placed (record {
           names = ap (λ (es : List (Name × ℕ)). keys_of es) bare;
           ordered = ordered;
           at = λ a. ap (λ (es : List (Name × ℕ)). lookup (is_at (name_cmp a)) es) bare;
         });
   };
-  playing = none_playing st new bare none set_ordered;
+  playing = none_playing _ _ bare none set_ordered;
   within = omega (arith, events);
-  seen =
-      subst (λ n. HasSeen (first_events n st.running.trace) new.seen) (sym events) seen;
+  seen = rw events seen;
 }

@@ -6,7 +6,6 @@ pub mod Arrivals
 pub mod FoundHalts
 pub mod Works
 pub mod Failing
-pub mod Servers
 pub mod Puts
 pub mod OpenHalts
 pub mod SoFar

@@ -5,7 +5,6 @@ ghost use Rattle.cam_script.specs.declared.Act.TheVariants as acts;
 ghost use Rattle.cam_script.specs.declared.Statement.{Statement};
 ghost use Rattle.cam_cluster.specs.Courses.{IsAtWorkLine, IsNextOfCourse, IsStartOf};
 ghost use Rattle.cam_cluster.specs.Failing.{DisksGoOn};
-ghost use Rattle.cam_cluster.specs.Servers.{AreServers};
 ghost use Rattle.cam_cluster.specs.VariableLines.{IsNextOfSome};
 
 use crate::LineFault;
@@ -73,8 +72,6 @@ impl<L: TellingLog> Course<L> {
         requires next { IsNextOfCourse step.now bodies.now
             (⟦<Lines<L> as AsLines>⟧.fields self.old.lines)
             (⟦<Lines<L> as AsLines>⟧.may_read self.old.lines) self.old.workers }
-        requires servers { AreServers R.kind Q.kind C.kind
-            servers.old.register servers.old.queue servers.old.counter }
         ensures line { IsAtWorkLine step.now bodies.now
             (⟦<Lines<L> as AsLines>⟧.fields self.old.lines)
             (⟦<Lines<L> as AsLines>⟧.may_read self.old.lines) self.old.workers
@@ -82,8 +79,6 @@ impl<L: TellingLog> Course<L> {
             (⟦<Lines<L> as AsLines>⟧.may_read self.new.lines) self.new.workers result }
         ensures disks { DisksGoOn (⟦<Lines<L> as AsLines>⟧.fields self.old.lines).works
             (⟦<Lines<L> as AsLines>⟧.fields self.new.lines).works }
-        ensures servers { AreServers R.kind Q.kind C.kind
-            servers.new.register servers.new.queue servers.new.counter }
     {
         match step.act {
             Act::Start { body, .. } => self.start(step, body, servers),
@@ -107,8 +102,6 @@ impl<L: TellingLog> Course<L> {
         requires next { IsNextOfSome step.now.line step.now.act
             (⟦<Lines<L> as AsLines>⟧.fields self.old.lines)
             (⟦<Lines<L> as AsLines>⟧.may_read self.old.lines) }
-        requires servers { AreServers R.kind Q.kind C.kind
-            servers.old.register servers.old.queue servers.old.counter }
         ensures line { (bodies : List (List Statement)) → IsAtWorkLine step.now bodies
             (⟦<Lines<L> as AsLines>⟧.fields self.old.lines)
             (⟦<Lines<L> as AsLines>⟧.may_read self.old.lines) self.old.workers
@@ -116,8 +109,6 @@ impl<L: TellingLog> Course<L> {
             (⟦<Lines<L> as AsLines>⟧.may_read self.new.lines) self.new.workers result }
         ensures disks { DisksGoOn (⟦<Lines<L> as AsLines>⟧.fields self.old.lines).works
             (⟦<Lines<L> as AsLines>⟧.fields self.new.lines).works }
-        ensures servers { AreServers R.kind Q.kind C.kind
-            servers.new.register servers.new.queue servers.new.counter }
     {
         self.workers.reserve()?;
         let bad = self.lines.take(step, servers)?;
@@ -137,8 +128,6 @@ impl<L: TellingLog> Course<L> {
         requires next { IsNextOfCourse (record { line = line; act = acts.Go action }) bodies.now
             (⟦<Lines<L> as AsLines>⟧.fields self.old.lines)
             (⟦<Lines<L> as AsLines>⟧.may_read self.old.lines) self.old.workers }
-        requires servers { AreServers R.kind Q.kind C.kind
-            servers.old.register servers.old.queue servers.old.counter }
         ensures line { IsAtWorkLine (record { line = line; act = acts.Go action }) bodies.now
             (⟦<Lines<L> as AsLines>⟧.fields self.old.lines)
             (⟦<Lines<L> as AsLines>⟧.may_read self.old.lines) self.old.workers
@@ -146,8 +135,6 @@ impl<L: TellingLog> Course<L> {
             (⟦<Lines<L> as AsLines>⟧.may_read self.new.lines) self.new.workers result }
         ensures disks { DisksGoOn (⟦<Lines<L> as AsLines>⟧.fields self.old.lines).works
             (⟦<Lines<L> as AsLines>⟧.fields self.new.lines).works }
-        ensures servers { AreServers R.kind Q.kind C.kind
-            servers.new.register servers.new.queue servers.new.counter }
     {
         self.lines
             .go(line, action, bodies, &mut self.workers, servers)?;
@@ -166,8 +153,6 @@ impl<L: TellingLog> Course<L> {
         requires next { IsNextOfCourse (record { line = line; act = acts.Play }) bodies.now
             (⟦<Lines<L> as AsLines>⟧.fields self.old.lines)
             (⟦<Lines<L> as AsLines>⟧.may_read self.old.lines) self.old.workers }
-        requires servers { AreServers R.kind Q.kind C.kind
-            servers.old.register servers.old.queue servers.old.counter }
         ensures line { IsAtWorkLine (record { line = line; act = acts.Play }) bodies.now
             (⟦<Lines<L> as AsLines>⟧.fields self.old.lines)
             (⟦<Lines<L> as AsLines>⟧.may_read self.old.lines) self.old.workers
@@ -175,8 +160,6 @@ impl<L: TellingLog> Course<L> {
             (⟦<Lines<L> as AsLines>⟧.may_read self.new.lines) self.new.workers result }
         ensures disks { DisksGoOn (⟦<Lines<L> as AsLines>⟧.fields self.old.lines).works
             (⟦<Lines<L> as AsLines>⟧.fields self.new.lines).works }
-        ensures servers { AreServers R.kind Q.kind C.kind
-            servers.new.register servers.new.queue servers.new.counter }
     {
         self.lines.play(line, bodies, &mut self.workers, servers)?;
         Ok(None)

@@ -9,7 +9,6 @@ ghost use Rattle.cam_node.specs.Refused.{IsNotRefused};
 ghost use Rattle.cam_node.specs.Calls.{answers};
 ghost use Rattle.cam_wire.specs.Writable.{IsWritable};
 ghost use Rattle.cam_cluster.specs.Failing.{DisksGoOn};
-ghost use Rattle.cam_cluster.specs.Servers.{AreServers};
 ghost use Rattle.cam_cluster.specs.SoFar.{HasLed, HasRefused, IsBinding, KeepsLinesAsBefore, bound_by};
 
 mod begin;
@@ -140,8 +139,6 @@ impl<L: TellingLog> Lines<L> {
         requires may { IfSome (slice_get self.old.works.nodes.items place) (λ node.
             IsFalse node.log.halted × IsNotRefused (answers node.core) input.now
             × MayStep (answers node.core) input.now) }
-        requires servers { AreServers R.kind Q.kind C.kind
-            servers.old.register servers.old.queue servers.old.counter }
         requires there { place < length self.old.works.nodes.items }
         requires writable { AllByRecursion IsWritable self.old.works.outbox.unput }
         ensures led { IfOk result (λ done. HasLed line place input.now
@@ -152,8 +149,6 @@ impl<L: TellingLog> Lines<L> {
             (⟦<Lines<L> as AsLines>⟧.fields self.new) (⟦<Lines<L> as AsLines>⟧.may_read self.new)) }
         ensures disks { DisksGoOn (⟦<Lines<L> as AsLines>⟧.fields self.old).works
             (⟦<Lines<L> as AsLines>⟧.fields self.new).works }
-        ensures servers { AreServers R.kind Q.kind C.kind
-            servers.new.register servers.new.queue servers.new.counter }
     {
         reserve_one(&mut self.bound)?;
         let done = self.works.put(line, place, input, servers)?;

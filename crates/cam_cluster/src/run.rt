@@ -5,7 +5,6 @@ ghost use Rattle.cam_script.specs.declared.Script.{Script as ScriptFields};
 ghost use Rattle.cam_script.specs.Law.{IsScript};
 ghost use Rattle.cam_cluster.specs.Disks.{AreLogs, MayReadDisk};
 ghost use Rattle.cam_cluster.specs.HandedBack.{AreHandedBack, AreLater, FindsFailed, NamesFailed, disk_named};
-ghost use Rattle.cam_cluster.specs.Servers.{AreServers};
 ghost use Rattle.cam_cluster.specs.Courses.{KeepsCourse};
 ghost use Rattle.cam_cluster.specs.declared.works.failing.Failed.TheVariants.{Nothing};
 ghost use Rattle.cam_cluster.specs.Failing.{DisksGoOn, IsOfKnown};
@@ -125,8 +124,6 @@ impl<L: TellingLog> Run<L> {
         requires next { IsNextOfRun script.now step.now
             (⟦<Lines<L> as AsLines>⟧.fields self.old.course.lines)
             (⟦<Lines<L> as AsLines>⟧.may_read self.old.course.lines) self.old.course.workers }
-        requires servers { AreServers R.kind Q.kind C.kind
-            servers.old.register servers.old.queue servers.old.counter }
         ensures disks { DisksGoOn (⟦<Lines<L> as AsLines>⟧.fields self.old.course.lines).works
             (⟦<Lines<L> as AsLines>⟧.fields self.new.course.lines).works }
         ensures as_many { length self.new.course.lines.works.nodes.items
@@ -137,8 +134,6 @@ impl<L: TellingLog> Run<L> {
             (⟦<Lines<L> as AsLines>⟧.may_read self.old.course.lines) self.old.course.workers
             (⟦<Lines<L> as AsLines>⟧.fields self.new.course.lines)
             (⟦<Lines<L> as AsLines>⟧.may_read self.new.course.lines) self.new.course.workers) }
-        ensures servers { AreServers R.kind Q.kind C.kind
-            servers.new.register servers.new.queue servers.new.counter }
     {
         match self.course.take(step, &script.bodies, servers) {
             Ok(_) => self.unfailing(),
@@ -159,8 +154,6 @@ impl<L: TellingLog> Run<L> {
             (⟦<Lines<L> as AsLines>⟧.fields self.old.course.lines)
             (⟦<Lines<L> as AsLines>⟧.may_read self.old.course.lines) self.old.course.workers }
         requires nothing { self.old.course.lines.works.failed ≡ Nothing }
-        requires servers { AreServers R.kind Q.kind C.kind
-            servers.old.register servers.old.queue servers.old.counter }
         ensures disks { DisksGoOn (⟦<Lines<L> as AsLines>⟧.fields self.old.course.lines).works
             (⟦<Lines<L> as AsLines>⟧.fields self.new.course.lines).works }
         ensures as_many { length self.new.course.lines.works.nodes.items
@@ -169,8 +162,6 @@ impl<L: TellingLog> Run<L> {
         ensures all { OnOk result (HasTakenLines script.now (length script.now.steps)
             (⟦<Lines<L> as AsLines>⟧.fields self.new.course.lines)
             (⟦<Lines<L> as AsLines>⟧.may_read self.new.course.lines) self.new.course.workers) }
-        ensures servers { AreServers R.kind Q.kind C.kind
-            servers.new.register servers.new.queue servers.new.counter }
     {
         for step in script.steps.as_slice() {
             self.take_next(script, step, servers)?;
@@ -206,16 +197,12 @@ fn run_over<D: TellingDisk, R: DataType, Q: DataType, C: DataType>(
 ) -> Result<RunRecord, RunFault>
     requires script { IsScript script.now }
     requires one_each { length disks.old.items ≡ script.now.nodes }
-    requires servers { AreServers R.kind Q.kind C.kind
-        servers.old.register servers.old.queue servers.old.counter }
     ensures run { IfOk result (IsRunWithLogs script.now
         (MayReadDisk D.tells D.moment D.left_since disks.new.items)) }
     ensures disks { AreHandedBack D.tells D.faults disks.old.items disks.new.items }
     ensures logs { OnOk result (AreLogs D.tells D.moment D.left_since disks.new.items) }
     ensures cause { IfErr result (NamesFailed D.faults disks.old.items disks.new.items) }
     ensures capacity { vec_capacity disks.old ≤ vec_capacity disks.new }
-    ensures servers { AreServers R.kind Q.kind C.kind
-        servers.new.register servers.new.queue servers.new.counter }
 {
     let mut run = Run::new(alloc, script, disks)?;
     let taken = run.take_all(script, servers);
@@ -246,8 +233,6 @@ pub fn run_script<D: TellingDisk, R: DataType, Q: DataType, C: DataType>(
 ) -> Result<RunRecord, RunFault>
     requires script { IsScript script.now }
     requires one_each { length disks.old.items ≡ script.now.nodes }
-    requires servers { AreServers R.kind Q.kind C.kind
-        servers.old.register servers.old.queue servers.old.counter }
     ensures run { IfOk result (IsRunWithLogs script.now
         (MayReadDisk D.tells D.moment D.left_since disks.new.items)) }
     ensures disks { AreHandedBack D.tells D.faults disks.old.items disks.new.items }
@@ -257,8 +242,6 @@ pub fn run_script<D: TellingDisk, R: DataType, Q: DataType, C: DataType>(
         (disk_named result) }
     // The list keeps its room.
     ensures capacity { vec_capacity disks.old ≤ vec_capacity disks.new }
-    ensures servers { AreServers R.kind Q.kind C.kind
-        servers.new.register servers.new.queue servers.new.counter }
 {
     let before = FaultCounts::of(disks.as_slice());
     let run = run_over(alloc, script, disks, servers);

@@ -11,7 +11,6 @@ ghost use Rattle.cam_node.specs.Calls.{answers};
 ghost use Rattle.cam_wire.specs.Writable.{IsWritable};
 ghost use Rattle.cam_cluster.specs.Failing.{DisksGoOn, IsAfterHalt};
 ghost use Rattle.cam_cluster.specs.Puts.{HasPut, KeepsAsBefore, letter_of};
-ghost use Rattle.cam_cluster.specs.Servers.{AreServers};
 
 mod drain;
 mod failing;
@@ -131,8 +130,6 @@ impl<L: TellingLog> Works<L> {
         requires place { place < 8 }
         requires may { IfSome (slice_get self.old.nodes.items place) (λ node. IsFalse node.log.halted
             × IsNotRefused (answers node.core) input.now × MayStep (answers node.core) input.now) }
-        requires servers { AreServers R.kind Q.kind C.kind
-            servers.old.register servers.old.queue servers.old.counter }
         requires there { place < length self.old.nodes.items }
         requires writable { AllByRecursion IsWritable self.old.outbox.unput }
         ensures put { IfOk result (λ done. HasPut line place input.now
@@ -144,8 +141,6 @@ impl<L: TellingLog> Works<L> {
         ensures disks { DisksGoOn (⟦<Works<L> as AsWorks>⟧.fields self.old)
             (⟦<Works<L> as AsWorks>⟧.fields self.new) }
         ensures net { length self.old.outbox.net ≤ length self.new.outbox.net }
-        ensures servers { AreServers R.kind Q.kind C.kind
-            servers.new.register servers.new.queue servers.new.counter }
     {
         self.make_room()?;
         let before = self.nodes[place].log().failures();

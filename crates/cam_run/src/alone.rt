@@ -4,7 +4,6 @@ ghost use Rattle.cam_base.specs.Causes.{Rose};
 ghost use Rattle.cam_base.specs.Told.{IfTold};
 ghost use Rattle.cam_args.specs.declared.Command.TheVariants.{Gen};
 ghost use Rattle.cam_cluster.specs.HandedBack.{AreHandedBack};
-ghost use Rattle.cam_cluster.specs.Servers.{AreServers};
 ghost use Rattle.cam_run.specs.declared.status.Status.TheVariants as statuses;
 ghost use Rattle.cam_run.specs.Status.{number};
 ghost use Rattle.cam_run.specs.Told.{IsTelling, MayObey};
@@ -39,8 +38,6 @@ pub fn camelot_alone<S: Source, K: Sink, D: TellingDisk, R: DataType, Q: DataTyp
 ) -> u8
     requires alone { needs_threads command.now ≡ false }
     requires eight { 8 ≤ length disks.old.items }
-    requires servers { AreServers R.kind Q.kind C.kind
-        servers.old.register servers.old.queue servers.old.counter }
 
     // Which statuses there are, and when each comes: that of words that are no form never does.
     ensures statuses { (result ≡ 0) ⊎ ((result ≡ 3) ⊎ ((result ≡ 4) ⊎ ((result ≡ 5)
@@ -97,8 +94,6 @@ pub fn camelot_alone<S: Source, K: Sink, D: TellingDisk, R: DataType, Q: DataTyp
         ≡ drop (nodes_for command.now input) disks.old.items) }
     ensures idle { uses_disks command.now ≡ false → disks.new ≡ disks.old }
     ensures untouched { (result ≡ 3) ⊎ (result ≡ 4) → disks.new ≡ disks.old }
-    ensures servers { AreServers R.kind Q.kind C.kind
-        servers.new.register servers.new.queue servers.new.counter }
 {
     let Ok(answer) = obey(alloc, command, source, disks, servers) else {
         return Status::NoMemory.number();
@@ -120,8 +115,6 @@ pub(crate) fn obey<S: Source, D: TellingDisk, R: DataType, Q: DataType, C: DataT
 ) -> Result<Answer, NoMemory>
     requires alone { needs_threads command.now ≡ false }
     requires eight { 8 ≤ length disks.old.items }
-    requires servers { AreServers R.kind Q.kind C.kind
-        servers.old.register servers.old.queue servers.old.counter }
     ensures answer { IfTold (S.left source.old) (S.left source.new) (λ input _.
         IfOk result (λ a. IsOfCommand command.now (record {
           source = Rose (S.faults source.old) (S.faults source.new);
@@ -150,8 +143,6 @@ pub(crate) fn obey<S: Source, D: TellingDisk, R: DataType, Q: DataType, C: DataT
     ensures idle { uses_disks command.now ≡ false → disks.new ≡ disks.old }
     ensures untouched { IfOk result (λ a. (a.status ≡ statuses.Refused)
         ⊎ (a.status ≡ statuses.ReadFault) → disks.new ≡ disks.old) }
-    ensures servers { AreServers R.kind Q.kind C.kind
-        servers.new.register servers.new.queue servers.new.counter }
 {
     match command {
         Command::Run => of_source(alloc, &Question::Report, source, disks, servers),

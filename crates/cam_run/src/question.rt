@@ -2,7 +2,6 @@
 ghost use Rattle.std.specs.Prelude.{◌≡◌, ◌≤◌, IfOk, drop, length};
 ghost use Rattle.cam_script.specs.Law.{IsScript};
 ghost use Rattle.cam_cluster.specs.HandedBack.{AreHandedBack};
-ghost use Rattle.cam_cluster.specs.Servers.{AreServers};
 ghost use Rattle.cam_headline.specs.Headline.{HasOneRun};
 ghost use Rattle.cam_run.specs.declared.question.Question.TheVariants as questions;
 ghost use Rattle.cam_run.specs.Status.{number};
@@ -54,8 +53,6 @@ impl Question {
         requires script { IsScript script.now }
         requires run { HasOneRun script.now }
         requires enough { script.now.nodes ≤ length disks.old.items }
-        requires servers { AreServers R.kind Q.kind C.kind
-            servers.old.register servers.old.queue servers.old.counter }
         ensures answer { IfOk result (λ a. IsOfRun self.now script.now
             (FailedAt D.faults disks.old.items disks.new.items) (number a.status) a.text.items) }
         ensures statuses { IfOk result (λ a. ComesOfRun a.status) }
@@ -66,8 +63,6 @@ impl Question {
             ≡ drop script.now.nodes disks.old.items }
         ensures recovered { IfOk result (λ a. IsTelling a.status
             → LeavesDisks D.tells D.moment D.left_since script.now disks.new.items) }
-        ensures servers { AreServers R.kind Q.kind C.kind
-            servers.new.register servers.new.queue servers.new.counter }
     {
         match run(alloc, script, disks, servers) {
             Ok(run) => self.tell(alloc, script, &run),

@@ -1,7 +1,6 @@
 //! The run of a script over the first of the disks that are handed in, one for each of its nodes.
 ghost use Rattle.std.specs.Prelude.{◌≡◌, ◌≤◌, ◌+◌, ◌++◌, IfErr, IfOk, OnErr, OnOk, drop, length, reverse, take, vec_capacity, vec_len};
 ghost use Rattle.cam_cluster.specs.HandedBack.{AreHandedBack};
-ghost use Rattle.cam_cluster.specs.Servers.{AreServers};
 ghost use Rattle.cam_headline.specs.Headline.{HasOneRun};
 ghost use Rattle.cam_script.specs.Law.{IsScript};
 ghost use Rattle.cam_run.specs.Disks.{FailedAt, IsCaused, LeavesDisks, OneFailed};
@@ -25,8 +24,6 @@ pub(crate) fn run<D: TellingDisk, R: DataType, Q: DataType, C: DataType>(
     requires script { IsScript script.now }
     requires run { HasOneRun script.now }
     requires enough { script.now.nodes ≤ length disks.old.items }
-    requires servers { AreServers R.kind Q.kind C.kind
-        servers.old.register servers.old.queue servers.old.counter }
     ensures one { IfOk result (IsOneRun script.now) }
     ensures cause { IfErr result (IsCaused script.now.nodes
         (FailedAt D.faults disks.old.items disks.new.items)) }
@@ -37,8 +34,6 @@ pub(crate) fn run<D: TellingDisk, R: DataType, Q: DataType, C: DataType>(
         ≡ drop script.now.nodes disks.old.items }
     ensures recovered { OnOk result (LeavesDisks D.tells D.moment D.left_since script.now
         disks.new.items) }
-    ensures servers { AreServers R.kind Q.kind C.kind
-        servers.new.register servers.new.queue servers.new.counter }
 {
     let mut further = set_aside(alloc, disks, script.nodes as usize)?;
     let run = run_script(alloc, script, disks, servers);

@@ -6,7 +6,6 @@ ghost use Rattle.cam_words.specs.declared.cause.Cause.TheVariants as causes;
 ghost use Rattle.cam_words.specs.declared.fault.ScriptFault.TheVariants.{Bad};
 ghost use Rattle.cam_gen.specs.Script.{script_of as generated};
 ghost use Rattle.cam_cluster.specs.HandedBack.{AreHandedBack};
-ghost use Rattle.cam_cluster.specs.Servers.{AreServers};
 ghost use Rattle.cam_script.specs.Grammar.{read_script};
 ghost use Rattle.cam_run.specs.declared.status.Status.TheVariants as statuses;
 ghost use Rattle.cam_run.specs.declared.question.Question.TheVariants as questions;
@@ -36,8 +35,6 @@ pub(crate) fn of_source<S: Source, D: TellingDisk, R: DataType, Q: DataType, C: 
     servers: &mut Servers<R, Q, C>,
 ) -> Result<Answer, NoMemory>
     requires eight { 8 ≤ length disks.old.items }
-    requires servers { AreServers R.kind Q.kind C.kind
-        servers.old.register servers.old.queue servers.old.counter }
     ensures answer { IfTold (S.left source.old) (S.left source.new) (λ input _.
         IfOk result (λ a. IsOfInput question.now (record {
           source = Rose (S.faults source.old) (S.faults source.new);
@@ -62,8 +59,6 @@ pub(crate) fn of_source<S: Source, D: TellingDisk, R: DataType, Q: DataType, C: 
     ensures recovered { IfTold (S.left source.old) (S.left source.new) (λ input _.
         IfOk result (λ a. IsTelling a.status → IfOk (read_script input) (λ script.
         LeavesDisks D.tells D.moment D.left_since script disks.new.items))) }
-    ensures servers { AreServers R.kind Q.kind C.kind
-        servers.new.register servers.new.queue servers.new.counter }
 {
     match read_all(alloc, source, MOST_BYTES) {
         Ok(bytes) => of_bytes(alloc, question, &bytes, disks, servers),
@@ -83,8 +78,6 @@ pub(crate) fn of_seed<D: TellingDisk, R: DataType, Q: DataType, C: DataType>(
     servers: &mut Servers<R, Q, C>,
 ) -> Result<Answer, NoMemory>
     requires eight { 8 ≤ length disks.old.items }
-    requires servers { AreServers R.kind Q.kind C.kind
-        servers.old.register servers.old.queue servers.old.counter }
     ensures answer { IfOk result
         (λ a. IsOfScript (questions.Summary size) (read_script (generated seed size))
         (FailedAt D.faults disks.old.items disks.new.items) (number a.status) a.text.items) }
@@ -102,8 +95,6 @@ pub(crate) fn of_seed<D: TellingDisk, R: DataType, Q: DataType, C: DataType>(
     ensures recovered { IfOk result (λ a. IsTelling a.status
         → IfOk (read_script (generated seed size)) (λ script.
         LeavesDisks D.tells D.moment D.left_since script disks.new.items)) }
-    ensures servers { AreServers R.kind Q.kind C.kind
-        servers.new.register servers.new.queue servers.new.counter }
 {
     let script = cam_gen::script_of(alloc, seed, size)?;
     of_bytes(
@@ -125,8 +116,6 @@ fn of_bytes<D: TellingDisk, R: DataType, Q: DataType, C: DataType>(
     servers: &mut Servers<R, Q, C>,
 ) -> Result<Answer, NoMemory>
     requires eight { 8 ≤ length disks.old.items }
-    requires servers { AreServers R.kind Q.kind C.kind
-        servers.old.register servers.old.queue servers.old.counter }
     ensures answer { IfOk result
         (λ a. IsOfScript question.now (read_script bytes.now)
         (FailedAt D.faults disks.old.items disks.new.items) (number a.status) a.text.items) }
@@ -142,8 +131,6 @@ fn of_bytes<D: TellingDisk, R: DataType, Q: DataType, C: DataType>(
     ensures recovered { IfOk result (λ a. IsTelling a.status
         → IfOk (read_script bytes.now) (λ script.
         LeavesDisks D.tells D.moment D.left_since script disks.new.items)) }
-    ensures servers { AreServers R.kind Q.kind C.kind
-        servers.new.register servers.new.queue servers.new.counter }
 {
     match parse(alloc, bytes) {
         Ok(script) => question.answer(alloc, &script, disks, servers),

@@ -6,7 +6,6 @@ ghost use Rattle.cam_args.specs.declared.Command.{Command as Commands};
 ghost use Rattle.cam_args.specs.declared.Command.TheVariants.{Gen, Storm as StormWords};
 ghost use Rattle.cam_args.specs.Forms.{IsForm as IsFormOf};
 ghost use Rattle.cam_cluster.specs.HandedBack.{AreHandedBack};
-ghost use Rattle.cam_cluster.specs.Servers.{AreServers};
 ghost use Rattle.cam_headline.specs.Headline.{HasOneRun};
 ghost use Rattle.cam_image.specs.Laws.{UpgradeIsMigration, UpgradeIsOnce};
 ghost use Rattle.cam_script.specs.Grammar.{read_script};
@@ -65,8 +64,6 @@ pub fn camelot<
 ) -> u8
     // As many disks as a script may have nodes, and a server of each kind.
     requires eight { 8 ≤ length disks.old.items }
-    requires servers { AreServers R.kind Q.kind C.kind
-        servers.old.register servers.old.queue servers.old.counter }
 
     // Which statuses there are, and when each comes.
     ensures statuses { (result ≡ 0) ⊎ ((result ≡ 2) ⊎ ((result ≡ 3) ⊎ ((result ≡ 4)
@@ -162,8 +159,6 @@ pub fn camelot<
         ≡ drop (nodes_for command input) disks.old.items) }
     ensures idle { ¬ (UsesDisks (map string_bytes words.now)) → disks.new ≡ disks.old }
     ensures untouched { (result ≡ 3) ⊎ (result ≡ 4) → disks.new ≡ disks.old }
-    ensures servers { AreServers R.kind Q.kind C.kind
-        servers.new.register servers.new.queue servers.new.counter }
 {
     let Ok(answer) = answer_to(rt, alloc, words, source, disks, servers) else {
         return Status::NoMemory.number();
@@ -192,8 +187,6 @@ fn answer_to<
     servers: &mut Servers<R, Q, C>,
 ) -> Result<Answer, NoMemory>
     requires eight { 8 ≤ length disks.old.items }
-    requires servers { AreServers R.kind Q.kind C.kind
-        servers.old.register servers.old.queue servers.old.counter }
     ensures answer { IfTold (S.left source.old) (S.left source.new) (λ input _.
         IfOk result (λ a. IsAnswer (map string_bytes words.now) (record {
           source = Rose (S.faults source.old) (S.faults source.new);
@@ -243,8 +236,6 @@ fn answer_to<
     ensures idle { ¬ (UsesDisks (map string_bytes words.now)) → disks.new ≡ disks.old }
     ensures untouched { IfOk result (λ a. (a.status ≡ statuses.Refused)
         ⊎ (a.status ≡ statuses.ReadFault) → disks.new ≡ disks.old) }
-    ensures servers { AreServers R.kind Q.kind C.kind
-        servers.new.register servers.new.queue servers.new.counter }
 {
     match read_words(alloc, words) {
         Ok(command) => match asked_storm(&command) {

@@ -3,7 +3,6 @@
 ghost use Rattle.cam_script.specs.declared.Act.TheVariants as acts;
 ghost use Rattle.cam_cluster.specs.Failing.{DisksGoOn};
 ghost use Rattle.cam_cluster.specs.LetterLines.{IsDelivery, IsLineBy};
-ghost use Rattle.cam_cluster.specs.Servers.{AreServers};
 ghost use Rattle.cam_cluster.specs.SoFar.{AreLinesOfSome};
 
 use super::{AsLines, Lines};
@@ -24,15 +23,11 @@ impl<L: TellingLog> Lines<L> {
     ) -> Result<Put, LineFault>
         requires stand { AreLinesOfSome (⟦<Lines<L> as AsLines>⟧.fields self.old)
             (⟦<Lines<L> as AsLines>⟧.may_read self.old) }
-        requires servers { AreServers R.kind Q.kind C.kind
-            servers.old.register servers.old.queue servers.old.counter }
         ensures line { IsLineBy line (acts.Deliver letter) (IsDelivery letter)
             (⟦<Lines<L> as AsLines>⟧.fields self.old) (⟦<Lines<L> as AsLines>⟧.may_read self.old)
             (⟦<Lines<L> as AsLines>⟧.fields self.new) (⟦<Lines<L> as AsLines>⟧.may_read self.new) result }
         ensures disks { DisksGoOn (⟦<Lines<L> as AsLines>⟧.fields self.old).works
             (⟦<Lines<L> as AsLines>⟧.fields self.new).works }
-        ensures servers { AreServers R.kind Q.kind C.kind
-            servers.new.register servers.new.queue servers.new.counter }
     {
         let coming = self.take_letter(line, letter)?;
         let whole = self.works.read(letter, &coming)?;

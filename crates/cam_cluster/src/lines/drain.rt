@@ -3,7 +3,6 @@
 ghost use Rattle.std.specs.Prelude.{OnErr, OnOk};
 ghost use Rattle.cam_cluster.specs.Drains.{IsLineOfDrain, IsPartOfDrain};
 ghost use Rattle.cam_cluster.specs.Failing.{DisksGoOn};
-ghost use Rattle.cam_cluster.specs.Servers.{AreServers};
 ghost use Rattle.cam_cluster.specs.SoFar.{AreLinesOfSome};
 
 use super::{AsLines, Lines};
@@ -23,8 +22,6 @@ impl<L: TellingLog> Lines<L> {
     ) -> Result<(), NoMemory>
         requires stand { AreLinesOfSome (⟦<Lines<L> as AsLines>⟧.fields self.old)
             (⟦<Lines<L> as AsLines>⟧.may_read self.old) }
-        requires servers { AreServers R.kind Q.kind C.kind
-            servers.old.register servers.old.queue servers.old.counter }
         ensures line { OnOk result (IsLineOfDrain line
             (⟦<Lines<L> as AsLines>⟧.fields self.old) (⟦<Lines<L> as AsLines>⟧.may_read self.old)
             (⟦<Lines<L> as AsLines>⟧.fields self.new) (⟦<Lines<L> as AsLines>⟧.may_read self.new)) }
@@ -33,8 +30,6 @@ impl<L: TellingLog> Lines<L> {
             (⟦<Lines<L> as AsLines>⟧.fields self.new) (⟦<Lines<L> as AsLines>⟧.may_read self.new)) }
         ensures disks { DisksGoOn (⟦<Lines<L> as AsLines>⟧.fields self.old).works
             (⟦<Lines<L> as AsLines>⟧.fields self.new).works }
-        ensures servers { AreServers R.kind Q.kind C.kind
-            servers.new.register servers.new.queue servers.new.counter }
     {
         reserve_one(&mut self.bound)?;
         self.works.drain(line, servers)?;

@@ -2,7 +2,6 @@
 //! action stands for the variable, where the action's home is halted, and where the action has ended, waits, or is not open there.
 ghost use Rattle.cam_cluster.specs.Failing.{DisksGoOn};
 ghost use Rattle.cam_cluster.specs.GoLines.{IsGoOfSome, IsLineOfGo};
-ghost use Rattle.cam_cluster.specs.Servers.{AreServers};
 
 use super::{AsLines, Lines};
 use crate::LineFault;
@@ -29,8 +28,6 @@ impl<L: TellingLog> Lines<L> {
     ) -> Result<Option<Put>, LineFault>
         requires go { IsGoOfSome line action bodies.now (⟦<Lines<L> as AsLines>⟧.fields self.old)
             (⟦<Lines<L> as AsLines>⟧.may_read self.old) workers.old }
-        requires servers { AreServers R.kind Q.kind C.kind
-            servers.old.register servers.old.queue servers.old.counter }
         ensures line { IsLineOfGo line action bodies.now
             (⟦<Lines<L> as AsLines>⟧.fields self.old) (⟦<Lines<L> as AsLines>⟧.may_read self.old)
             workers.old
@@ -38,8 +35,6 @@ impl<L: TellingLog> Lines<L> {
             workers.new result }
         ensures disks { DisksGoOn (⟦<Lines<L> as AsLines>⟧.fields self.old).works
             (⟦<Lines<L> as AsLines>⟧.fields self.new).works }
-        ensures servers { AreServers R.kind Q.kind C.kind
-            servers.new.register servers.new.queue servers.new.counter }
     {
         let Some(name) = self.action_of(action) else {
             return Err(self.refused(line, LineRefusal::Unbound));

@@ -4,7 +4,6 @@ ghost use Rattle.cam_net.specs.Waiting.{is_halted};
 ghost use Rattle.cam_cluster.specs.Coming.{HasFound, HasRead};
 ghost use Rattle.cam_cluster.specs.Failing.{DisksGoOn};
 ghost use Rattle.cam_cluster.specs.LetterLines.{HasLedLetter, HasTaken};
-ghost use Rattle.cam_cluster.specs.Servers.{AreServers};
 ghost use Rattle.cam_cluster.specs.SoFar.{AreLinesOfSome, KeepsLinesAsBefore};
 
 use super::{AsLines, Lines};
@@ -60,8 +59,6 @@ impl<L: TellingLog> Lines<L> {
         requires awake { is_halted self.old.works.halted (suc coming.now.place) ≡ false }
         requires read { HasRead coming.now.letter (⟦<Lines<L> as AsLines>⟧.fields self.old).works
             (⟦<Lines<L> as AsLines>⟧.may_read self.old) letter }
-        requires servers { AreServers R.kind Q.kind C.kind
-            servers.old.register servers.old.queue servers.old.counter }
         ensures led { IfOk result (λ done. HasLedLetter line number
             (⟦<Lines<L> as AsLines>⟧.fields self.old) (⟦<Lines<L> as AsLines>⟧.may_read self.old) done
             (⟦<Lines<L> as AsLines>⟧.fields self.new) (⟦<Lines<L> as AsLines>⟧.may_read self.new)) }
@@ -70,8 +67,6 @@ impl<L: TellingLog> Lines<L> {
             (⟦<Lines<L> as AsLines>⟧.fields self.new) (⟦<Lines<L> as AsLines>⟧.may_read self.new)) }
         ensures disks { DisksGoOn (⟦<Lines<L> as AsLines>⟧.fields self.old).works
             (⟦<Lines<L> as AsLines>⟧.fields self.new).works }
-        ensures servers { AreServers R.kind Q.kind C.kind
-            servers.new.register servers.new.queue servers.new.counter }
     {
         reserve_one(&mut self.bound)?;
         let done = self.works.hand_over(line, number, coming, letter, servers)?;

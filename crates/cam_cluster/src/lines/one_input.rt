@@ -3,7 +3,6 @@
 ghost use Rattle.std.specs.Prelude.{◌≡◌, ◌+◌, ◌-◌, length};
 ghost use Rattle.cam_cluster.specs.Failing.{DisksGoOn};
 ghost use Rattle.cam_cluster.specs.InputLines.{IsLineToSome, IsRefusedAs, IsTriedLine};
-ghost use Rattle.cam_cluster.specs.Servers.{AreServers};
 ghost use Rattle.cam_cluster.specs.VariableLines.{action_of};
 
 use super::{AsLines, Lines};
@@ -65,16 +64,12 @@ impl<L: TellingLog> Lines<L> {
     ) -> Result<Put, LineFault>
         requires to { IsLineToSome (place + 1) input.now (⟦<Lines<L> as AsLines>⟧.fields self.old)
             (⟦<Lines<L> as AsLines>⟧.may_read self.old) }
-        requires servers { AreServers R.kind Q.kind C.kind
-            servers.old.register servers.old.queue servers.old.counter }
         ensures line { IsTriedLine line (place + 1) input.now
             (⟦<Lines<L> as AsLines>⟧.fields self.old) (⟦<Lines<L> as AsLines>⟧.may_read self.old)
             (⟦<Lines<L> as AsLines>⟧.fields self.new) (⟦<Lines<L> as AsLines>⟧.may_read self.new)
             result }
         ensures disks { DisksGoOn (⟦<Lines<L> as AsLines>⟧.fields self.old).works
             (⟦<Lines<L> as AsLines>⟧.fields self.new).works }
-        ensures servers { AreServers R.kind Q.kind C.kind
-            servers.new.register servers.new.queue servers.new.counter }
     {
         if is_halted(&self.works.halted, place) {
             return Err(self.refused(line, LineRefusal::Halted));

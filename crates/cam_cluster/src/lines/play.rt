@@ -3,7 +3,6 @@
 ghost use Rattle.std.specs.Prelude.{OnErr, OnOk};
 ghost use Rattle.cam_cluster.specs.Failing.{DisksGoOn};
 ghost use Rattle.cam_cluster.specs.Plays.{IsLineOfPlay, IsPartOfPlay, IsPlayOfSome};
-ghost use Rattle.cam_cluster.specs.Servers.{AreServers};
 
 use super::{AsLines, Lines};
 use crate::room::{push_reserved, reserve_one};
@@ -26,8 +25,6 @@ impl<L: TellingLog> Lines<L> {
     ) -> Result<(), NoMemory>
         requires play { IsPlayOfSome bodies.now (⟦<Lines<L> as AsLines>⟧.fields self.old).works
             (⟦<Lines<L> as AsLines>⟧.may_read self.old) workers.old }
-        requires servers { AreServers R.kind Q.kind C.kind
-            servers.old.register servers.old.queue servers.old.counter }
         ensures line { OnOk result (IsLineOfPlay line bodies.now
             (⟦<Lines<L> as AsLines>⟧.fields self.old) (⟦<Lines<L> as AsLines>⟧.may_read self.old)
             workers.old
@@ -40,8 +37,6 @@ impl<L: TellingLog> Lines<L> {
             workers.new) }
         ensures disks { DisksGoOn (⟦<Lines<L> as AsLines>⟧.fields self.old).works
             (⟦<Lines<L> as AsLines>⟧.fields self.new).works }
-        ensures servers { AreServers R.kind Q.kind C.kind
-            servers.new.register servers.new.queue servers.new.counter }
     {
         reserve_one(&mut self.bound)?;
         self.works.play(line, bodies, workers, servers)?;

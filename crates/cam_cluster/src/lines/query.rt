@@ -1,7 +1,6 @@
 //! `query NODE ACTION`: the node asks the home of the action's family how the family ended.
 ghost use Rattle.cam_script.specs.declared.Act.TheVariants as acts;
 ghost use Rattle.cam_cluster.specs.Failing.{DisksGoOn};
-ghost use Rattle.cam_cluster.specs.Servers.{AreServers};
 ghost use Rattle.cam_cluster.specs.VariableLines.{IsVariableLine, IsNextOfSome, action_of, query_of};
 
 use super::{AsLines, Lines};
@@ -26,8 +25,6 @@ impl<L: TellingLog> Lines<L> {
         requires next { IsNextOfSome line (acts.Query node action)
             (⟦<Lines<L> as AsLines>⟧.fields self.old)
             (⟦<Lines<L> as AsLines>⟧.may_read self.old) }
-        requires servers { AreServers R.kind Q.kind C.kind
-            servers.old.register servers.old.queue servers.old.counter }
         ensures line { IsVariableLine line (acts.Query node action)
             (query_of node (action_of self.old.bound.items action))
             (⟦<Lines<L> as AsLines>⟧.fields self.old) (⟦<Lines<L> as AsLines>⟧.may_read self.old)
@@ -35,8 +32,6 @@ impl<L: TellingLog> Lines<L> {
             result }
         ensures disks { DisksGoOn (⟦<Lines<L> as AsLines>⟧.fields self.old).works
             (⟦<Lines<L> as AsLines>⟧.fields self.new).works }
-        ensures servers { AreServers R.kind Q.kind C.kind
-            servers.new.register servers.new.queue servers.new.counter }
     {
         match self.action_of(action) {
             Some(name) => {

@@ -2,7 +2,6 @@
 ghost use Rattle.cam_event.specs.declared.Want.TheVariants as wants;
 ghost use Rattle.cam_script.specs.declared.Act.TheVariants as acts;
 ghost use Rattle.cam_cluster.specs.Failing.{DisksGoOn};
-ghost use Rattle.cam_cluster.specs.Servers.{AreServers};
 ghost use Rattle.cam_cluster.specs.VariableLines.{IsVariableLine, IsNextOfSome, IsRequestBySome};
 ghost use Rattle.cam_cluster.specs.VariableLines.{IsRequestLine, action_of, give_up_of, request_of};
 
@@ -27,16 +26,12 @@ impl<L: TellingLog> Lines<L> {
     ) -> Result<Put, LineFault>
         requires by { IsRequestBySome variable want (⟦<Lines<L> as AsLines>⟧.fields self.old)
             (⟦<Lines<L> as AsLines>⟧.may_read self.old) }
-        requires servers { AreServers R.kind Q.kind C.kind
-            servers.old.register servers.old.queue servers.old.counter }
         ensures line { IsRequestLine line variable want
             (⟦<Lines<L> as AsLines>⟧.fields self.old) (⟦<Lines<L> as AsLines>⟧.may_read self.old)
             (⟦<Lines<L> as AsLines>⟧.fields self.new) (⟦<Lines<L> as AsLines>⟧.may_read self.new)
             result }
         ensures disks { DisksGoOn (⟦<Lines<L> as AsLines>⟧.fields self.old).works
             (⟦<Lines<L> as AsLines>⟧.fields self.new).works }
-        ensures servers { AreServers R.kind Q.kind C.kind
-            servers.new.register servers.new.queue servers.new.counter }
     {
         match self.action_of(variable) {
             Some(action) => {
@@ -60,8 +55,6 @@ impl<L: TellingLog> Lines<L> {
         requires next { IsNextOfSome line (acts.Ask parent node)
             (⟦<Lines<L> as AsLines>⟧.fields self.old)
             (⟦<Lines<L> as AsLines>⟧.may_read self.old) }
-        requires servers { AreServers R.kind Q.kind C.kind
-            servers.old.register servers.old.queue servers.old.counter }
         ensures line { IsVariableLine line (acts.Ask parent node)
             (request_of (action_of self.old.bound.items parent) (wants.Ask node))
             (⟦<Lines<L> as AsLines>⟧.fields self.old) (⟦<Lines<L> as AsLines>⟧.may_read self.old)
@@ -69,8 +62,6 @@ impl<L: TellingLog> Lines<L> {
             result }
         ensures disks { DisksGoOn (⟦<Lines<L> as AsLines>⟧.fields self.old).works
             (⟦<Lines<L> as AsLines>⟧.fields self.new).works }
-        ensures servers { AreServers R.kind Q.kind C.kind
-            servers.new.register servers.new.queue servers.new.counter }
     {
         self.request(line, parent, Want::Ask(node), servers)
     }
@@ -88,8 +79,6 @@ impl<L: TellingLog> Lines<L> {
         requires next { IsNextOfSome line (acts.Call action object op)
             (⟦<Lines<L> as AsLines>⟧.fields self.old)
             (⟦<Lines<L> as AsLines>⟧.may_read self.old) }
-        requires servers { AreServers R.kind Q.kind C.kind
-            servers.old.register servers.old.queue servers.old.counter }
         ensures line { IsVariableLine line (acts.Call action object op)
             (request_of (action_of self.old.bound.items action) (wants.Call object op))
             (⟦<Lines<L> as AsLines>⟧.fields self.old) (⟦<Lines<L> as AsLines>⟧.may_read self.old)
@@ -97,8 +86,6 @@ impl<L: TellingLog> Lines<L> {
             result }
         ensures disks { DisksGoOn (⟦<Lines<L> as AsLines>⟧.fields self.old).works
             (⟦<Lines<L> as AsLines>⟧.fields self.new).works }
-        ensures servers { AreServers R.kind Q.kind C.kind
-            servers.new.register servers.new.queue servers.new.counter }
     {
         self.request(line, action, Want::Call(object, op), servers)
     }
@@ -115,8 +102,6 @@ impl<L: TellingLog> Lines<L> {
         requires next { IsNextOfSome line (acts.Commit action value)
             (⟦<Lines<L> as AsLines>⟧.fields self.old)
             (⟦<Lines<L> as AsLines>⟧.may_read self.old) }
-        requires servers { AreServers R.kind Q.kind C.kind
-            servers.old.register servers.old.queue servers.old.counter }
         ensures line { IsVariableLine line (acts.Commit action value)
             (request_of (action_of self.old.bound.items action) (wants.Commit value))
             (⟦<Lines<L> as AsLines>⟧.fields self.old) (⟦<Lines<L> as AsLines>⟧.may_read self.old)
@@ -124,8 +109,6 @@ impl<L: TellingLog> Lines<L> {
             result }
         ensures disks { DisksGoOn (⟦<Lines<L> as AsLines>⟧.fields self.old).works
             (⟦<Lines<L> as AsLines>⟧.fields self.new).works }
-        ensures servers { AreServers R.kind Q.kind C.kind
-            servers.new.register servers.new.queue servers.new.counter }
     {
         self.request(line, action, Want::Commit(value), servers)
     }
@@ -141,8 +124,6 @@ impl<L: TellingLog> Lines<L> {
         requires next { IsNextOfSome line (acts.Abort action)
             (⟦<Lines<L> as AsLines>⟧.fields self.old)
             (⟦<Lines<L> as AsLines>⟧.may_read self.old) }
-        requires servers { AreServers R.kind Q.kind C.kind
-            servers.old.register servers.old.queue servers.old.counter }
         ensures line { IsVariableLine line (acts.Abort action)
             (request_of (action_of self.old.bound.items action) wants.Abort)
             (⟦<Lines<L> as AsLines>⟧.fields self.old) (⟦<Lines<L> as AsLines>⟧.may_read self.old)
@@ -150,8 +131,6 @@ impl<L: TellingLog> Lines<L> {
             result }
         ensures disks { DisksGoOn (⟦<Lines<L> as AsLines>⟧.fields self.old).works
             (⟦<Lines<L> as AsLines>⟧.fields self.new).works }
-        ensures servers { AreServers R.kind Q.kind C.kind
-            servers.new.register servers.new.queue servers.new.counter }
     {
         self.request(line, action, Want::Abort, servers)
     }
@@ -168,8 +147,6 @@ impl<L: TellingLog> Lines<L> {
         requires next { IsNextOfSome line (acts.GiveUp action child)
             (⟦<Lines<L> as AsLines>⟧.fields self.old)
             (⟦<Lines<L> as AsLines>⟧.may_read self.old) }
-        requires servers { AreServers R.kind Q.kind C.kind
-            servers.old.register servers.old.queue servers.old.counter }
         ensures line { IsVariableLine line (acts.GiveUp action child)
             (give_up_of (action_of self.old.bound.items action)
             (action_of self.old.bound.items child))
@@ -178,8 +155,6 @@ impl<L: TellingLog> Lines<L> {
             result }
         ensures disks { DisksGoOn (⟦<Lines<L> as AsLines>⟧.fields self.old).works
             (⟦<Lines<L> as AsLines>⟧.fields self.new).works }
-        ensures servers { AreServers R.kind Q.kind C.kind
-            servers.new.register servers.new.queue servers.new.counter }
     {
         match self.action_of(child) {
             Some(given_up) => self.request(line, action, Want::GiveUp(given_up), servers),

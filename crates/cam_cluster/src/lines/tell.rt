@@ -2,7 +2,6 @@
 ghost use Rattle.cam_event.specs.Inputs.{Tells};
 ghost use Rattle.cam_script.specs.declared.Act.TheVariants as acts;
 ghost use Rattle.cam_cluster.specs.Failing.{DisksGoOn};
-ghost use Rattle.cam_cluster.specs.Servers.{AreServers};
 ghost use Rattle.cam_cluster.specs.SoFar.{IsLineOfInput};
 ghost use Rattle.cam_cluster.specs.VariableLines.{IsNextOfSome};
 
@@ -27,16 +26,12 @@ impl<L: TellingLog> Lines<L> {
         requires next { IsNextOfSome line (acts.Tell node to)
             (⟦<Lines<L> as AsLines>⟧.fields self.old)
             (⟦<Lines<L> as AsLines>⟧.may_read self.old) }
-        requires servers { AreServers R.kind Q.kind C.kind
-            servers.old.register servers.old.queue servers.old.counter }
         ensures line { IsLineOfInput line (acts.Tell node to) (Tells node to)
             (⟦<Lines<L> as AsLines>⟧.fields self.old) (⟦<Lines<L> as AsLines>⟧.may_read self.old)
             (⟦<Lines<L> as AsLines>⟧.fields self.new) (⟦<Lines<L> as AsLines>⟧.may_read self.new)
             result }
         ensures disks { DisksGoOn (⟦<Lines<L> as AsLines>⟧.fields self.old).works
             (⟦<Lines<L> as AsLines>⟧.fields self.new).works }
-        ensures servers { AreServers R.kind Q.kind C.kind
-            servers.new.register servers.new.queue servers.new.counter }
     {
         self.try_lead(line, node as usize - 1, &Input::Tell(to), servers)
     }

@@ -4,7 +4,6 @@ ghost use Rattle.cam_cluster.specs.Coming.{AreWorksOfSome};
 ghost use Rattle.cam_cluster.specs.Drains.{HasDeliveredSome, HasDrained, HasNextDelivered};
 ghost use Rattle.cam_cluster.specs.Failing.{DisksGoOn};
 ghost use Rattle.cam_cluster.specs.Puts.{KeepsAsBefore};
-ghost use Rattle.cam_cluster.specs.Servers.{AreServers};
 
 use super::{AsWorks, Put, Works};
 use crate::servers::Servers;
@@ -22,8 +21,6 @@ impl<L: TellingLog> Works<L> {
     ) -> Result<Option<Put>, NoMemory>
         requires stand { AreWorksOfSome
             (⟦<Works<L> as AsWorks>⟧.fields self.old) (⟦<Works<L> as AsWorks>⟧.may_read self.old) }
-        requires servers { AreServers R.kind Q.kind C.kind
-            servers.old.register servers.old.queue servers.old.counter }
         ensures next { IfOk result (HasNextDelivered line
             (⟦<Works<L> as AsWorks>⟧.fields self.old) (⟦<Works<L> as AsWorks>⟧.may_read self.old)
             (⟦<Works<L> as AsWorks>⟧.fields self.new) (⟦<Works<L> as AsWorks>⟧.may_read self.new)) }
@@ -32,8 +29,6 @@ impl<L: TellingLog> Works<L> {
             (⟦<Works<L> as AsWorks>⟧.fields self.new) (⟦<Works<L> as AsWorks>⟧.may_read self.new)) }
         ensures disks { DisksGoOn (⟦<Works<L> as AsWorks>⟧.fields self.old)
             (⟦<Works<L> as AsWorks>⟧.fields self.new) }
-        ensures servers { AreServers R.kind Q.kind C.kind
-            servers.new.register servers.new.queue servers.new.counter }
     {
         self.put_letters()?;
         let Some(number) = self.outbox.net().next(&self.halted) else {
@@ -58,8 +53,6 @@ impl<L: TellingLog> Works<L> {
     ) -> Result<(), NoMemory>
         requires stand { AreWorksOfSome
             (⟦<Works<L> as AsWorks>⟧.fields self.old) (⟦<Works<L> as AsWorks>⟧.may_read self.old) }
-        requires servers { AreServers R.kind Q.kind C.kind
-            servers.old.register servers.old.queue servers.old.counter }
         ensures drained { OnOk result (HasDrained line
             (⟦<Works<L> as AsWorks>⟧.fields self.old) (⟦<Works<L> as AsWorks>⟧.may_read self.old)
             (⟦<Works<L> as AsWorks>⟧.fields self.new) (⟦<Works<L> as AsWorks>⟧.may_read self.new)) }
@@ -68,8 +61,6 @@ impl<L: TellingLog> Works<L> {
             (⟦<Works<L> as AsWorks>⟧.fields self.new) (⟦<Works<L> as AsWorks>⟧.may_read self.new)) }
         ensures disks { DisksGoOn (⟦<Works<L> as AsWorks>⟧.fields self.old)
             (⟦<Works<L> as AsWorks>⟧.fields self.new) }
-        ensures servers { AreServers R.kind Q.kind C.kind
-            servers.new.register servers.new.queue servers.new.counter }
     {
         while self.deliver_next(line, servers)?.is_some() {}
         Ok(())

@@ -7,7 +7,6 @@ ghost use Rattle.cam_runs.specs.Standing.{Standing};
 ghost use Rattle.cam_cluster.specs.Failing.{DisksGoOn};
 ghost use Rattle.cam_cluster.specs.Goes.{GoesOfSome, HasGone, KeepsWorkersAsBefore};
 ghost use Rattle.cam_cluster.specs.Puts.{KeepsAsBefore};
-ghost use Rattle.cam_cluster.specs.Servers.{AreServers};
 ghost use Rattle.cam_cluster.specs.Workers.{AreWorkers};
 
 use super::{AsWorks, Put, Works};
@@ -51,8 +50,6 @@ impl<L: TellingLog> Works<L> {
     ) -> Result<Option<Put>, NoMemory>
         requires goes { GoesOfSome name.now bodies.now (⟦<Works<L> as AsWorks>⟧.fields self.old)
             (⟦<Works<L> as AsWorks>⟧.may_read self.old) workers.old }
-        requires servers { AreServers R.kind Q.kind C.kind
-            servers.old.register servers.old.queue servers.old.counter }
         ensures gone { IfOk result (λ done. HasGone line name.now bodies.now
             (⟦<Works<L> as AsWorks>⟧.fields self.old) (⟦<Works<L> as AsWorks>⟧.may_read self.old)
             workers.old done
@@ -66,8 +63,6 @@ impl<L: TellingLog> Works<L> {
             workers.old workers.new) }
         ensures disks { DisksGoOn (⟦<Works<L> as AsWorks>⟧.fields self.old)
             (⟦<Works<L> as AsWorks>⟧.fields self.new) }
-        ensures servers { AreServers R.kind Q.kind C.kind
-            servers.new.register servers.new.queue servers.new.counter }
     {
         workers.catch_up(self.events.as_slice())?;
         workers.reserve()?;

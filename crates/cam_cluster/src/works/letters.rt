@@ -8,7 +8,6 @@ ghost use Rattle.cam_cluster.specs.Coming.{AreWorksOfSome, HasArrived, HasDelive
 ghost use Rattle.cam_cluster.specs.Coming.{HasRead};
 ghost use Rattle.cam_cluster.specs.Failing.{DisksGoOn};
 ghost use Rattle.cam_cluster.specs.Puts.{KeepsAsBefore};
-ghost use Rattle.cam_cluster.specs.Servers.{AreServers};
 
 use super::{AsWorks, Put, Works};
 use crate::arrival::{Arrival, read_arrival};
@@ -139,8 +138,6 @@ impl<L: TellingLog> Works<L> {
         requires read { HasRead coming.now.letter
             (⟦<Works<L> as AsWorks>⟧.fields self.old) (⟦<Works<L> as AsWorks>⟧.may_read self.old)
             letter }
-        requires servers { AreServers R.kind Q.kind C.kind
-            servers.old.register servers.old.queue servers.old.counter }
         ensures delivered { IfOk result (λ done. HasDelivered line number
             (⟦<Works<L> as AsWorks>⟧.fields self.old) (⟦<Works<L> as AsWorks>⟧.may_read self.old) done
             (⟦<Works<L> as AsWorks>⟧.fields self.new) (⟦<Works<L> as AsWorks>⟧.may_read self.new)) }
@@ -149,8 +146,6 @@ impl<L: TellingLog> Works<L> {
             (⟦<Works<L> as AsWorks>⟧.fields self.new) (⟦<Works<L> as AsWorks>⟧.may_read self.new)) }
         ensures disks { DisksGoOn (⟦<Works<L> as AsWorks>⟧.fields self.old)
             (⟦<Works<L> as AsWorks>⟧.fields self.new) }
-        ensures servers { AreServers R.kind Q.kind C.kind
-            servers.new.register servers.new.queue servers.new.counter }
     {
         if coming.place >= self.nodes.len() {
             return Err(NoMemory);

@@ -5,7 +5,6 @@ ghost use Rattle.cam_runs.specs.HaltedPlaying.{play};
 ghost use Rattle.cam_cluster.specs.Failing.{DisksGoOn};
 ghost use Rattle.cam_cluster.specs.Making.{HaveMade};
 ghost use Rattle.cam_cluster.specs.Plays.{HasPlayedPart, HasPlayedRound, HasPlayedSome, IsPlayOfSome, all_turns};
-ghost use Rattle.cam_cluster.specs.Servers.{AreServers};
 
 use super::{AsWorks, Works};
 use crate::servers::Servers;
@@ -40,8 +39,6 @@ impl<L: TellingLog> Works<L> {
     ) -> Result<(), NoMemory>
         requires play { IsPlayOfSome bodies.now (⟦<Works<L> as AsWorks>⟧.fields self.old)
             (⟦<Works<L> as AsWorks>⟧.may_read self.old) workers.old }
-        requires servers { AreServers R.kind Q.kind C.kind
-            servers.old.register servers.old.queue servers.old.counter }
         ensures turns { OnOk result (HaveMade all_turns line bodies.now
             (⟦<Works<L> as AsWorks>⟧.fields self.old) (⟦<Works<L> as AsWorks>⟧.may_read self.old)
             workers.old
@@ -54,8 +51,6 @@ impl<L: TellingLog> Works<L> {
             workers.new) }
         ensures disks { DisksGoOn (⟦<Works<L> as AsWorks>⟧.fields self.old)
             (⟦<Works<L> as AsWorks>⟧.fields self.new) }
-        ensures servers { AreServers R.kind Q.kind C.kind
-            servers.new.register servers.new.queue servers.new.counter }
     {
         workers.catch_up(self.events.as_slice())?;
         let names = workers.names()?;
@@ -74,8 +69,6 @@ impl<L: TellingLog> Works<L> {
     ) -> Result<bool, NoMemory>
         requires play { IsPlayOfSome bodies.now (⟦<Works<L> as AsWorks>⟧.fields self.old)
             (⟦<Works<L> as AsWorks>⟧.may_read self.old) workers.old }
-        requires servers { AreServers R.kind Q.kind C.kind
-            servers.old.register servers.old.queue servers.old.counter }
         ensures round { IfOk result (λ puts_one. HasPlayedRound line bodies.now
             (⟦<Works<L> as AsWorks>⟧.fields self.old) (⟦<Works<L> as AsWorks>⟧.may_read self.old)
             workers.old puts_one
@@ -88,8 +81,6 @@ impl<L: TellingLog> Works<L> {
             workers.new) }
         ensures disks { DisksGoOn (⟦<Works<L> as AsWorks>⟧.fields self.old)
             (⟦<Works<L> as AsWorks>⟧.fields self.new) }
-        ensures servers { AreServers R.kind Q.kind C.kind
-            servers.new.register servers.new.queue servers.new.counter }
     {
         let events = self.events.len();
         let marks = self.marks.len();
@@ -109,8 +100,6 @@ impl<L: TellingLog> Works<L> {
     ) -> Result<(), NoMemory>
         requires play { IsPlayOfSome bodies.now (⟦<Works<L> as AsWorks>⟧.fields self.old)
             (⟦<Works<L> as AsWorks>⟧.may_read self.old) workers.old }
-        requires servers { AreServers R.kind Q.kind C.kind
-            servers.old.register servers.old.queue servers.old.counter }
         ensures played { OnOk result (HaveMade play line bodies.now
             (⟦<Works<L> as AsWorks>⟧.fields self.old) (⟦<Works<L> as AsWorks>⟧.may_read self.old)
             workers.old
@@ -123,8 +112,6 @@ impl<L: TellingLog> Works<L> {
             workers.new) }
         ensures disks { DisksGoOn (⟦<Works<L> as AsWorks>⟧.fields self.old)
             (⟦<Works<L> as AsWorks>⟧.fields self.new) }
-        ensures servers { AreServers R.kind Q.kind C.kind
-            servers.new.register servers.new.queue servers.new.counter }
     {
         for _ in 0..MOST_ROUNDS {
             let puts_one = self.play_round(line, bodies, workers, servers)?;

@@ -4,7 +4,6 @@ ghost use Rattle.cam_cluster.specs.Failing.{DisksGoOn};
 ghost use Rattle.cam_cluster.specs.Goes.{KeepsWorkersAsBefore};
 ghost use Rattle.cam_cluster.specs.Puts.{KeepsAsBefore};
 ghost use Rattle.cam_cluster.specs.Rounds.{AreTurnsOfSome, HasHadTurn, HaveHadSomeTurns, HaveHadTurns, IsAtNodeOfSome, IsOutlook, IsTurnOfSome};
-ghost use Rattle.cam_cluster.specs.Servers.{AreServers};
 
 use super::{AsWorks, Put, Works, is_halted};
 use crate::servers::Servers;
@@ -71,8 +70,6 @@ impl<L: TellingLog> Works<L> {
     ) -> Result<Option<Put>, NoMemory>
         requires turn { IsTurnOfSome name.now bodies.now (⟦<Works<L> as AsWorks>⟧.fields self.old)
             (⟦<Works<L> as AsWorks>⟧.may_read self.old) workers.old }
-        requires servers { AreServers R.kind Q.kind C.kind
-            servers.old.register servers.old.queue servers.old.counter }
         ensures turn { IfOk result (λ done. HasHadTurn line name.now bodies.now
             (⟦<Works<L> as AsWorks>⟧.fields self.old) (⟦<Works<L> as AsWorks>⟧.may_read self.old)
             workers.old done
@@ -86,8 +83,6 @@ impl<L: TellingLog> Works<L> {
             workers.old workers.new) }
         ensures disks { DisksGoOn (⟦<Works<L> as AsWorks>⟧.fields self.old)
             (⟦<Works<L> as AsWorks>⟧.fields self.new) }
-        ensures servers { AreServers R.kind Q.kind C.kind
-            servers.new.register servers.new.queue servers.new.counter }
     {
         workers.catch_up(self.events.as_slice())?;
         match self.outlook(name, workers) {
@@ -113,8 +108,6 @@ impl<L: TellingLog> Works<L> {
         requires turns { AreTurnsOfSome names.now bodies.now
             (⟦<Works<L> as AsWorks>⟧.fields self.old) (⟦<Works<L> as AsWorks>⟧.may_read self.old)
             workers.old }
-        requires servers { AreServers R.kind Q.kind C.kind
-            servers.old.register servers.old.queue servers.old.counter }
         ensures turns { OnOk result (HaveHadTurns line names.now bodies.now
             (⟦<Works<L> as AsWorks>⟧.fields self.old) (⟦<Works<L> as AsWorks>⟧.may_read self.old)
             workers.old
@@ -127,8 +120,6 @@ impl<L: TellingLog> Works<L> {
             workers.new) }
         ensures disks { DisksGoOn (⟦<Works<L> as AsWorks>⟧.fields self.old)
             (⟦<Works<L> as AsWorks>⟧.fields self.new) }
-        ensures servers { AreServers R.kind Q.kind C.kind
-            servers.new.register servers.new.queue servers.new.counter }
     {
         for name in names {
             self.take_turn(line, name, bodies, workers, servers)?;

@@ -19,10 +19,8 @@ of_cut P fault (Err e) is holds = tt
 
 pub returns-in-Ok-clause-whole : goal.returns-in-Ok-clause-whole
 returns-in-Ok-clause-whole c =
-    λ letter spells. (
-      c.in-Ok.ensures.each letter spells,
-      subst (λ (os : List Outcome). NoTwice os) c.outcomes-outcomes.ensures.value
-          c.outcomes-outcomes.ensures.distinct,
+    λ letter spells. ( c.in-Ok.ensures.each letter spells, rw (← c.outcomes-outcomes.ensures.value)
+      c.outcomes-outcomes.ensures.distinct,
     )
 
 pub returns-in-Ok-clause-cut : goal.returns-in-Ok-clause-cut
@@ -31,13 +29,13 @@ returns-in-Ok-clause-cut c =
 
 pub returns-in-Err-clause-whole : goal.returns-in-Err-clause-whole
 returns-in-Err-clause-whole c =
-    of_cut (GivesWhole c.args.bytes.now) c.in-Err.fault c.cut_by.result c.cut_by.ensures
-    (λ off letter spells. absurd (off (c.in-Err.ensures.each letter spells)))
+    of_cut (GivesWhole c.args.bytes.now) _ _ c.cut_by.ensures (λ off letter spells. absurd (off
+    (c.in-Err.ensures.each letter spells)))
 
 pub returns-in-Err-clause-cut : goal.returns-in-Err-clause-cut
 returns-in-Err-clause-cut c =
-    of_cut (GivesFault c.args.bytes.now) c.in-Err.fault c.cut_by.result c.cut_by.ensures
-    (λ off letter more some spells. elim (c.in-Err.ensures.beginning letter more some spells) [
+    of_cut (GivesFault c.args.bytes.now) _ _ c.cut_by.ensures (λ off letter more some spells. elim
+    (c.in-Err.ensures.beginning letter more some spells) [
       | inl short ↦ ap Cut short
       | inr e ↦ absurd (off e)
     ])

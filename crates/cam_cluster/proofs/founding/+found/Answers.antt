@@ -10,23 +10,19 @@ use Rattle.cam_cluster.proofs.founding.+found.Goals as goal
 
 pub returns-in-Err-clause-back : goal.returns-in-Err-clause-back
 returns-in-Err-clause-back g t c =
-    refused_back g.D.Disk.tells g.D.Disk.faults c.pop.new.self.items c.args.disks.now.items
-    c.push_owned.new.list.items c.in-Some.disk c.in-Err.refused.disk c.in-Some.ensures.items
-    c.push_owned.ensures.items c.in-Err.ensures.back
+    refused_back _ _ _ _ _ _ _ c.in-Some.ensures.items c.push_owned.ensures.items
+    c.in-Err.ensures.back
 
 pub returns-in-Err-clause-cause : goal.returns-in-Err-clause-cause
 returns-in-Err-clause-cause g t c =
-    cause_last g.D.Disk.tells g.D.Disk.faults c.fault_at.result c.in-Err.refused.fault
-    (c.len.result + 1) c.pop.new.self.items c.args.disks.now.items c.push_owned.new.list.items
-    c.in-Some.disk c.in-Err.refused.disk c.fault_at.ensures
-    (ap (λ n. n + 1) (c.len.ensures ∙ c.pop.new.self.ok.0)) c.in-Some.ensures.items
-    c.push_owned.ensures.items c.in-Err.ensures.cause
+    cause_last g.D.Disk.tells _ _ _ _ _ _ _ _ _ c.fault_at.ensures (ap (λ n. n + 1)
+    (c.len.ensures ∙ c.pop.new.self.ok.0)) c.in-Some.ensures.items c.push_owned.ensures.items
+    c.in-Err.ensures.cause
 
 pub push_owned-requires-in-Err-found : goal.push_owned-requires-in-Err-found
 push_owned-requires-in-Err-found g t c =
     let many : length c.found.new.disks.items ≡ length c.pop.new.self.items =
-    as_many g.D.Disk.tells g.D.Disk.faults g.D.Disk.tells g.D.Disk.faults c.pop.new.self.items
-    c.found.new.disks.items c.in-Err-found.ensures.back in
+    as_many _ _ _ _ _ _ c.in-Err-found.ensures.back in
     let room = c.in-Err-found.ensures.capacity.0 in
     let same = c.in-Some.ensures.capacity in
     let fewer = c.in-Some.ensures.cases in
@@ -37,25 +33,13 @@ push_owned-requires-in-Err-found g t c =
 
 pub returns-in-Ok-found-clause-new : goal.returns-in-Ok-found-clause-new
 returns-in-Ok-found-clause-new g t c =
-    new_last (λ node. record {
-      site = record { node = answers node.core; entries = node.log.log.state.entries };
-      objects = node.objects;
-      halted = node.log.halted;
-      halted_at = node.halted_at;
-      passes = node.log.log.disk.passes;
-      reads = read_ckpt (g.D.Disk.seen node.log.log.disk.inner);
-      tells = g.D.Disk.tells node.log.log.disk.inner;
-      failures = g.D.Disk.faults node.log.log.disk.inner;
-    }) c.args.objects.now (c.len.result + 1) c.found.new.nodes.items
-    c.push_owned-in-Ok-found.new.list.items c.in-Ok.node
-    (ap (λ n. n + 1) (c.len.ensures ∙ c.pop.new.self.ok.0 ∙ sym c.in-Ok-found.ensures.count))
-    c.push_owned-in-Ok-found.ensures.items c.in-Ok-found.ensures.new c.in-Ok.ensures.new
+    new_last _ _ _ _ _ _ (ap (λ n. n + 1) (c.len.ensures ∙ c.pop.new.self.ok.0 ∙ sym
+    c.in-Ok-found.ensures.count)) c.push_owned-in-Ok-found.ensures.items c.in-Ok-found.ensures.new
+    c.in-Ok.ensures.new
 
 pub returns-in-Ok-found-clause-later : goal.returns-in-Ok-found-clause-later
 returns-in-Ok-found-clause-later g t c =
-    later_last g.D.Disk.tells g.D.Disk.faults (λ n. n.tells) (λ n. n.failures)
-    c.pop.new.self.items c.args.disks.now.items _ _ c.in-Some.disk _ c.in-Some.ensures.items
-    (seen_last (λ node. record {
+    later_last _ _ _ _ _ _ _ _ _ _ c.in-Some.ensures.items (seen_last (λ node. record {
       site = record { node = answers node.core; entries = node.log.log.state.entries };
       objects = node.objects;
       halted = node.log.halted;
@@ -64,29 +48,22 @@ returns-in-Ok-found-clause-later g t c =
       reads = read_ckpt (g.D.Disk.seen node.log.log.disk.inner);
       tells = g.D.Disk.tells node.log.log.disk.inner;
       failures = g.D.Disk.faults node.log.log.disk.inner;
-    }) c.found.new.nodes.items c.push_owned-in-Ok-found.new.list.items
-    c.in-Ok.node c.push_owned-in-Ok-found.ensures.items)
-    c.in-Ok-found.ensures.later c.in-Ok.ensures.later
+    }) _ _ _ c.push_owned-in-Ok-found.ensures.items) c.in-Ok-found.ensures.later
+    c.in-Ok.ensures.later
 
 pub returns-in-Err-found-clause-back : goal.returns-in-Err-found-clause-back
 returns-in-Err-found-clause-back g t c =
-    later_last g.D.Disk.tells g.D.Disk.faults g.D.Disk.tells g.D.Disk.faults
-    c.pop.new.self.items c.args.disks.now.items c.found.new.disks.items
-    c.push_owned-in-Err-found.new.list.items c.in-Some.disk c.into_inner.result
-    c.in-Some.ensures.items c.push_owned-in-Err-found.ensures.items c.in-Err-found.ensures.back
-    (record {
+    later_last _ _ _ _ _ _ _ _ _ _ c.in-Some.ensures.items
+    c.push_owned-in-Err-found.ensures.items c.in-Err-found.ensures.back (record {
       told =
-          ap g.D.Disk.tells c.into_inner.ensures ∙ c.into_disk.ensures.tells
-          ∙ c.in-Ok.ensures.later.told;
+          ap g.D.Disk.tells c.into_inner.ensures ∙ c.into_disk.ensures.tells ∙
+          c.in-Ok.ensures.later.told;
       later =
-          subst (λ n. g.D.Disk.faults c.in-Some.disk ≤ n)
-          (sym c.into_disk.ensures.faults_within ∙ sym (ap g.D.Disk.faults c.into_inner.ensures))
-          c.in-Ok.ensures.later.later;
+          subst (λ n. g.D.Disk.faults c.in-Some.disk ≤ n) (sym c.into_disk.ensures.faults_within ∙
+          sym (ap g.D.Disk.faults c.into_inner.ensures)) c.in-Ok.ensures.later.later;
     })
 
 pub returns-in-Err-found-clause-cause : goal.returns-in-Err-found-clause-cause
 returns-in-Err-found-clause-cause g t c =
-    cause_front g.D.Disk.tells g.D.Disk.faults c.in-Err-found.fault c.pop.new.self.items
-    c.found.new.disks.items c.args.disks.now.items c.push_owned-in-Err-found.new.list.items
-    c.in-Some.disk c.into_inner.result c.in-Some.ensures.items
+    cause_front g.D.Disk.tells _ _ _ _ _ _ _ _ c.in-Some.ensures.items
     c.push_owned-in-Err-found.ensures.items c.in-Err-found.ensures.cause

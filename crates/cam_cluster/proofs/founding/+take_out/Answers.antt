@@ -9,26 +9,19 @@ use Rattle.cam_cluster.proofs.founding.+take_out.Goals as goal
 
 pub returns-in-Some-clause-out : goal.returns-in-Some-clause-out
 returns-in-Some-clause-out g t c =
-    out_last c.pop.new.self.items c.args.nodes.now.items c.take_out.new.disks.items
-    c.push_owned.new.list.items c.in-Some.node c.into_inner.result c.in-Some.ensures.items
-    c.push_owned.ensures.items c.take_out.ensures.out
-    (out_within c.into_disk.result c.into_inner.result c.into_inner.ensures
-    (record {
+    out_last _ _ _ _ _ _ c.in-Some.ensures.items c.push_owned.ensures.items
+    c.take_out.ensures.out (out_within c.into_disk.result _ c.into_inner.ensures (record {
       told = c.into_disk.ensures.tells;
-      less = λ logged read. disk_reads c.into_disk.ensures.opens_since c.into_disk.ensures.moment
-          logged read;
-      readable = λ image told left. c.in-Some.node.log.readable (read_ckpt image)
-          (sym c.into_disk.ensures.tells ∙ told)
-          (subst (λ t. Openings (g.D.Disk.left_since c.in-Some.node.log.log.disk.inner) t
-          (read_ckpt image)) c.into_disk.ensures.moment
+      less = λ logged read. disk_reads c.into_disk.ensures.opens_since c.into_disk.ensures.moment _
+          read;
+      readable = λ image told left. c.in-Some.node.log.readable (read_ckpt image) (sym
+          c.into_disk.ensures.tells ∙ told) (rw (← c.into_disk.ensures.moment)
           (c.into_disk.ensures.opens_since _ image left));
     }))
 
 pub returns-in-Some-clause-later : goal.returns-in-Some-clause-later
 returns-in-Some-clause-later g t c =
-    later_last (λ n. n.tells) (λ n. n.failures) g.D.Disk.tells g.D.Disk.faults _ _
-    c.take_out.new.disks.items c.push_owned.new.list.items _ c.into_inner.result
-    (seen_last (λ node. record {
+    later_last _ _ _ _ _ _ _ _ _ _ (seen_last (λ node. record {
       site = record { node = answers node.core; entries = node.log.log.state.entries };
       objects = node.objects;
       halted = node.log.halted;
@@ -37,10 +30,8 @@ returns-in-Some-clause-later g t c =
       reads = read_ckpt (g.D.Disk.seen node.log.log.disk.inner);
       tells = g.D.Disk.tells node.log.log.disk.inner;
       failures = g.D.Disk.faults node.log.log.disk.inner;
-    }) c.pop.new.self.items c.args.nodes.now.items c.in-Some.node
-    c.in-Some.ensures.items)
-    c.push_owned.ensures.items c.take_out.ensures.later
-    (record {
+    }) _ _ _ c.in-Some.ensures.items) c.push_owned.ensures.items c.take_out.ensures.later (record
+    {
       told = ap g.D.Disk.tells c.into_inner.ensures ∙ c.into_disk.ensures.tells;
       later =
           let same = ap g.D.Disk.faults c.into_inner.ensures ∙ c.into_disk.ensures.faults_within in

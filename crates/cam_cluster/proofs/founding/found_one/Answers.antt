@@ -17,8 +17,7 @@ returns-in-Ok-format-clause-new g c =
       reads = read_ckpt (g.D.Disk.seen node.log.log.disk.inner);
       tells = g.D.Disk.tells node.log.log.disk.inner;
       failures = g.D.Disk.faults node.log.log.disk.inner;
-    }) (Ok c.in-Ok-format.node) c.in-Ok.own c.args.objects.now c.args.number c.in-Ok.ensures
-    c.in-Ok-format.ensures.keeps c.in-Ok-format.ensures.number c.in-Ok-format.ensures.objects
-    c.in-Ok-format.ensures.running
-    (none_spent {E = NodeFault} (λ node. node.log.log.disk.passes) (Ok c.in-Ok-format.node) 7
-    c.new.result.passes (ap (λ disk. disk.passes) c.new.ensures) c.in-Ok-format.ensures.spent)
+    }) (Ok c.in-Ok-format.node) _ _ c.args.number c.in-Ok.ensures c.in-Ok-format.ensures.keeps
+    c.in-Ok-format.ensures.number c.in-Ok-format.ensures.objects c.in-Ok-format.ensures.running
+    (none_spent {E = NodeFault} (λ node. node.log.log.disk.passes) (Ok c.in-Ok-format.node) 7 _ (ap
+    (λ disk. disk.passes) c.new.ensures) c.in-Ok-format.ensures.spent)

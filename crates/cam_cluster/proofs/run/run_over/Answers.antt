@@ -8,16 +8,15 @@ returns-in-Ok-clause-run g c =
 
 pub returns-in-Ok-clause-disks : goal.returns-in-Ok-clause-disks
 returns-in-Ok-clause-disks g c =
-    run_back g.D.Disk.tells g.D.Disk.faults c.args.disks.now.items c.end-record.new.disks.items _ _
-    c.in_ok-run.ensures.later c.end-record.ensures.later c.take_all-taken.ensures.disks.later
+    run_back _ _ _ _ _ _ c.in_ok-run.ensures.later c.end-record.ensures.later
+    c.take_all-taken.ensures.disks.later
 
 pub returns-in-Err-clause-disks : goal.returns-in-Err-clause-disks
 returns-in-Err-clause-disks g c =
-    run_back g.D.Disk.tells g.D.Disk.faults c.args.disks.now.items c.end-record.new.disks.items _ _
-    c.in_ok-run.ensures.later c.end-record.ensures.later c.take_all-taken.ensures.disks.later
+    run_back _ _ _ _ _ _ c.in_ok-run.ensures.later c.end-record.ensures.later
+    c.take_all-taken.ensures.disks.later
 
 pub returns-in-Err-clause-cause : goal.returns-in-Err-clause-cause
 returns-in-Err-clause-cause g c =
-    run_cause g.D.Disk.tells g.D.Disk.faults c.args.disks.now.items c.end-record.new.disks.items _ _
-    c.in_ok-run.ensures.later c.end-record.ensures.later _ _ c.in-Err.fault
-    c.in_ok-run.ensures.nothing c.take_all-taken.ensures.disks c.in-Err.ensures.cause
+    run_cause g.D.Disk.tells _ _ _ _ _ c.in_ok-run.ensures.later c.end-record.ensures.later _ _
+    _ c.in_ok-run.ensures.nothing c.take_all-taken.ensures.disks c.in-Err.ensures.cause

@@ -7,8 +7,7 @@ use Rattle.cam_cluster.proofs.run.run_script.Goals as goal
 pub first_failed-requires : goal.first_failed-requires
 first_failed-requires g c =
     let many =
-    as_many g.D.Disk.tells g.D.Disk.faults g.D.Disk.tells g.D.Disk.faults c.args.disks.now.items
-    c.run_over-run.new.disks.items c.run_over-run.ensures.disks in
+    as_many _ _ _ _ _ _ c.run_over-run.ensures.disks in
     let same = ap length c.as_slice-2.ensures.value in
     let each = c.requires.one_each in
     let eight = c.requires.script.eight_nodes in
@@ -16,17 +15,11 @@ first_failed-requires g c =
 
 pub returns-in-Some-clause-failed : goal.returns-in-Some-clause-failed
 returns-in-Some-clause-failed g c =
-    found_since g.D.Disk.tells g.D.Disk.faults c.args.disks.now.items
-    c.run_over-run.new.disks.items c.as_slice.result.now c.as_slice-2.result.now
-    c.of-before.result.counts (Some c.in-Some.node) c.as_slice.ensures.value
+    found_since _ _ _ _ _ _ _ (Some c.in-Some.node) c.as_slice.ensures.value
     c.as_slice-2.ensures.value c.of-before.ensures c.run_over-run.ensures.disks c.in-Some.ensures
 
 pub returns-in-None-clause-failed : goal.returns-in-None-clause-failed
 returns-in-None-clause-failed g c =
-    none_named g.D.Disk.faults c.args.disks.now.items c.run_over-run.new.disks.items
-    c.run_over-run.result
-    (found_since g.D.Disk.tells g.D.Disk.faults c.args.disks.now.items
-    c.run_over-run.new.disks.items c.as_slice.result.now c.as_slice-2.result.now
-    c.of-before.result.counts None c.as_slice.ensures.value
+    none_named _ _ _ _ (found_since _ _ _ _ _ _ _ None c.as_slice.ensures.value
     c.as_slice-2.ensures.value c.of-before.ensures c.run_over-run.ensures.disks c.in-None.ensures)
     c.run_over-run.ensures.cause

@@ -5,9 +5,8 @@ use Rattle.cam_cluster.proofs.views.child_end.Goals as goal
 
 pub returns-in-Some : goal.returns-in-Some
 returns-in-Some c a named =
-    child_has_parent a c.args.child.now c.in-Some.parent c.args.value named
-    (sym c.parent.ensures.value ∙ c.in-Some.is)
+    child_has_parent _ _ _ c.args.value named (sym c.parent.ensures.value ∙ c.in-Some.is)
 
 pub returns-in-None : goal.returns-in-None
 returns-in-None c a named =
-    top_has_none a c.args.child.now c.args.value named (sym c.parent.ensures.value ∙ c.in-None.is)
+    top_has_none _ _ c.args.value named (sym c.parent.ensures.value ∙ c.in-None.is)

@@ -13,17 +13,14 @@ pub returns-in_ok-insert : goal.returns-in_ok-insert
 returns-in_ok-insert c a =
     let e = c.args.event.now in
     let before = contains name_cmp c.args.stopped.now a in
-    c.in_ok-insert.ensures.updates.0 a
-    ∙ stop_put e.node a c.in-Stopped.action before
-    (c.if-event-home.true ∙ ap (λ p. p.0) c.home.ensures)
-    ∙ ap (λ (n : Note). (eqb e.node (home_node a) && is_stop_note a n) || before)
-    (sym c.in-Stopped.is)
+    c.in_ok-insert.ensures.updates.0 a ∙ stop_put _ a _ before (c.if-event-home.true ∙ ap (λ p.
+    p.0) c.home.ensures) ∙ ap (λ (n : Note). (eqb e.node (home_node a) && is_stop_note a n) ||
+    before) (sym c.in-Stopped.is)
 
 pub returns-else-event-home : goal.returns-else-event-home
 returns-else-event-home c a =
     let e = c.args.event.now in
     let before = contains name_cmp c.args.stopped.now a in
-    stop_elsewhere e.node a c.in-Stopped.action before
-    (λ same. c.if-event-home.false (same ∙ sym (ap (λ p. p.0) c.home.ensures)))
-    ∙ ap (λ (n : Note). (eqb e.node (home_node a) && is_stop_note a n) || before)
+    stop_elsewhere _ a _ before (λ same. c.if-event-home.false (same ∙ sym (ap (λ p. p.0)
+    c.home.ensures))) ∙ ap (λ (n : Note). (eqb e.node (home_node a) && is_stop_note a n) || before)
     (sym c.in-Stopped.is)

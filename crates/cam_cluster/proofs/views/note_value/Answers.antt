@@ -10,9 +10,6 @@ use Rattle.cam_cluster.proofs.views.note_value.Goals as goal
 pub returns-in_ok-insert : goal.returns-in_ok-insert
 returns-in_ok-insert c = λ L before.
     let arm = c.in-AskCommit in
-    let given = to_z w64 (of_z w64 arm.value) in
     let whole : to_z w64 (of_z w64 arm.value) ≡ arm.value = search rules in
-    subst (λ (d : Deed). HasValues (d ∷ L) c.insert.new.self) (sym arm.is)
-    (subst (λ (z : ℤ). HasValues (AskCommit arm.action z ∷ L) c.insert.new.self) whole
-    (values_put L arm.action given c.args.values.now c.insert.new.self before
+    rw arm.is (rw (← whole) (values_put L _ _ c.args.values.now c.insert.new.self before
     c.in_ok-insert.ensures.updates.0))

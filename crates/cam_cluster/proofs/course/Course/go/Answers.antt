@@ -7,16 +7,14 @@ use Rattle.cam_cluster.proofs.AsSeen.{lines_of, reads_of}
 use Rattle.cam_cluster.proofs.GoTaken.{go_at_work, go_of_course}
 use Rattle.cam_cluster.proofs.course.Course.go.Goals as goal
 
-pub go-requires-clause-go : goal.go-requires-clause-go
-go-requires-clause-go g c =
-    let old = lines_of g.L.CheckpointLog g.L.EntryLog c.args.self.now.lines in
-    let might = reads_of g.L.CheckpointLog g.L.EntryLog c.args.self.now.lines.works in
-    go_of_course c.args.line c.args.action c.args.bodies.now old old might might
-    c.args.self.now.workers c.args.self.now.workers c.requires.next
-
-pub go-requires-clause-servers : goal.go-requires-clause-servers
-go-requires-clause-servers g c =
-    c.requires.servers
+pub go-requires : goal.go-requires
+go-requires g c = record {
+  go =
+      let old = lines_of g.L.CheckpointLog g.L.EntryLog c.args.self.now.lines in
+      let might = reads_of g.L.CheckpointLog g.L.EntryLog c.args.self.now.lines.works in
+      go_of_course c.args.line c.args.action c.args.bodies.now old old might might
+      c.args.self.now.workers c.args.self.now.workers c.requires.next;
+}
 
 pub returns-in_err-go-clause-disks : goal.returns-in_err-go-clause-disks
 returns-in_err-go-clause-disks g c =
@@ -34,10 +32,6 @@ returns-in_err-go-clause-line g c =
     (go_at_work c.args.line c.args.action c.args.bodies.now old new might may
     c.args.self.now.workers c.go.new.workers (Err c.in_err-go.field-0.0) c.in_err-go.ensures.line)
 
-pub returns-in_err-go-clause-servers : goal.returns-in_err-go-clause-servers
-returns-in_err-go-clause-servers g c =
-    c.go.ensures.servers
-
 pub returns-clause-disks : goal.returns-clause-disks
 returns-clause-disks g c =
     c.go.ensures.disks
@@ -50,7 +44,3 @@ returns-clause-line g c =
     let may = reads_of g.L.CheckpointLog g.L.EntryLog c.go.new.self.works in
     go_at_work c.args.line c.args.action c.args.bodies.now old new might may
     c.args.self.now.workers c.go.new.workers (Ok c.in_ok-go.field-0) c.in_ok-go.ensures.line
-
-pub returns-clause-servers : goal.returns-clause-servers
-returns-clause-servers g c =
-    c.go.ensures.servers

@@ -9,17 +9,15 @@ use Rattle.cam_cluster.proofs.PlayAtWork.{play_at_work, play_part_at_work}
 use Rattle.cam_cluster.proofs.PlayTaken.{play_of_some}
 use Rattle.cam_cluster.proofs.course.Course.play.Goals as goal
 
-pub play-requires-clause-play : goal.play-requires-clause-play
-play-requires-clause-play g c =
-    let old = lines_of g.L.CheckpointLog g.L.EntryLog c.args.self.now.lines in
-    let might = reads_of g.L.CheckpointLog g.L.EntryLog c.args.self.now.lines.works in
-    let some = c.requires.next in
-    play_of_some some.seen c.args.bodies.now old might c.args.self.now.workers some.keeps.between
-    some.keeps.workers some.bodies_are
-
-pub play-requires-clause-servers : goal.play-requires-clause-servers
-play-requires-clause-servers g c =
-    c.requires.servers
+pub play-requires : goal.play-requires
+play-requires g c = record {
+  play =
+      let old = lines_of g.L.CheckpointLog g.L.EntryLog c.args.self.now.lines in
+      let might = reads_of g.L.CheckpointLog g.L.EntryLog c.args.self.now.lines.works in
+      let some = c.requires.next in
+      play_of_some some.seen c.args.bodies.now old might c.args.self.now.workers some.keeps.between
+      some.keeps.workers some.bodies_are;
+}
 
 pub returns-in_err-play-clause-disks : goal.returns-in_err-play-clause-disks
 returns-in_err-play-clause-disks g c =
@@ -37,10 +35,6 @@ returns-in_err-play-clause-line g c =
     (play_part_at_work c.args.line c.args.bodies.now old new might may c.args.self.now.workers
     c.play.new.workers c.in_err-play.ensures.part)
 
-pub returns-in_err-play-clause-servers : goal.returns-in_err-play-clause-servers
-returns-in_err-play-clause-servers g c =
-    c.play.ensures.servers
-
 pub returns-clause-disks : goal.returns-clause-disks
 returns-clause-disks g c =
     c.play.ensures.disks
@@ -53,7 +47,3 @@ returns-clause-line g c =
     let may = reads_of g.L.CheckpointLog g.L.EntryLog c.play.new.self.works in
     play_at_work c.args.line c.args.bodies.now old new might may c.args.self.now.workers
     c.play.new.workers c.in_ok-play.ensures.line
-
-pub returns-clause-servers : goal.returns-clause-servers
-returns-clause-servers g c =
-    c.play.ensures.servers

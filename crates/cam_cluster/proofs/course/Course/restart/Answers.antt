@@ -14,24 +14,14 @@ use Rattle.cam_cluster.proofs.Takes.{some_lines}
 use Rattle.cam_cluster.proofs.course.Course.restart.Goals as goal
 
 pub restart-requires-clause-low : goal.restart-requires-clause-low
-restart-requires-clause-low g c =
-    let old = lines_of g.L.CheckpointLog g.L.EntryLog c.args.self.now.lines in
-    let might = reads_of g.L.CheckpointLog g.L.EntryLog c.args.self.now.lines.works in
-    (restarts_within c.args.line c.args.node old might c.requires.next).0
+restart-requires-clause-low g c = (restarts_within _ _ _ _ c.requires.next).0
 
 pub restart-requires-clause-node : goal.restart-requires-clause-node
 restart-requires-clause-node g c =
-    let old = lines_of g.L.CheckpointLog g.L.EntryLog c.args.self.now.lines in
-    let might = reads_of g.L.CheckpointLog g.L.EntryLog c.args.self.now.lines.works in
-    subst (λ (n : ℕ). c.args.node ≤ n)
-    (length-map c.args.self.now.lines.works.nodes.items (part g.L.CheckpointLog g.L.EntryLog))
-    (restarts_within c.args.line c.args.node old might c.requires.next).1
+    rw (← (length-map c.args.self.now.lines.works.nodes.items (part g.L.CheckpointLog g.L.EntryLog))) (restarts_within _ _ _ _ c.requires.next).1
 
 pub restart-requires-clause-stand : goal.restart-requires-clause-stand
-restart-requires-clause-stand g c =
-    let old = lines_of g.L.CheckpointLog g.L.EntryLog c.args.self.now.lines in
-    let might = reads_of g.L.CheckpointLog g.L.EntryLog c.args.self.now.lines.works in
-    some_lines c.args.line (acts.Restart c.args.node) old might c.requires.next
+restart-requires-clause-stand g c = some_lines _ _ _ _ c.requires.next
 
 pub returns-in_err-restart : goal.returns-in_err-restart
 returns-in_err-restart g c =
@@ -39,7 +29,7 @@ returns-in_err-restart g c =
     let might = reads_of g.L.CheckpointLog g.L.EntryLog c.args.self.now.lines.works in
     let new = lines_of g.L.CheckpointLog g.L.EntryLog c.restart.new.self in
     let may = reads_of g.L.CheckpointLog g.L.EntryLog c.restart.new.self.works in
-    let within = restarts_within c.args.line c.args.node old might c.requires.next in
+    let within = restarts_within _ _ _ _ c.requires.next in
     let there : c.args.node - 1 < length c.args.self.now.lines.works.nodes.items =
     let low = within.0 in
     let high = within.1 in
@@ -48,17 +38,11 @@ returns-in_err-restart g c =
     omega (arith, low, high, many) in
     let is : c.from_residual.result ≡ Err (faults.Line line_faults.NoMemory) = search rules in
     record {
-      line = λ bodies.
-          subst (λ r. IsAtWorkLine (record { line = c.args.line; act = acts.Restart c.args.node })
-          bodies old might c.args.self.now.workers new may c.args.self.now.workers r) (sym is)
-          (at_place c.args.self.now.lines.works.nodes.items (c.args.node - 1) _
-          (IsAtWorkLine (record { line = c.args.line; act = acts.Restart c.args.node }) bodies old
-          might c.args.self.now.workers new may c.args.self.now.workers
-          (Err (faults.Line line_faults.NoMemory))) there
-          c.in_err-restart.ensures.line
-          (λ node told. restart_wanting c.args.line c.args.node bodies old new might may
-          c.args.self.now.workers c.in_err-restart.field-0.0
-          (told (g.met.L.TellingLog.always node.log.log))));
+      line = λ bodies. rw is (at_place _ _ _ (IsAtWorkLine (record { line = c.args.line; act =
+          acts.Restart c.args.node }) bodies old might c.args.self.now.workers new may
+          c.args.self.now.workers (Err (faults.Line line_faults.NoMemory))) there
+          c.in_err-restart.ensures.line (λ node told. restart_wanting c.args.line _ _ _ _ _ _
+          _ _ (told (g.met.L.TellingLog.always node.log.log))));
       disks = c.restart.ensures.disks;
     }
 
@@ -125,7 +109,7 @@ returns-in-Failed g c =
     let might = reads_of g.L.CheckpointLog g.L.EntryLog c.args.self.now.lines.works in
     let new = lines_of g.L.CheckpointLog g.L.EntryLog c.restart.new.self in
     let may = reads_of g.L.CheckpointLog g.L.EntryLog c.restart.new.self.works in
-    let within = restarts_within c.args.line c.args.node old might c.requires.next in
+    let within = restarts_within _ _ _ _ c.requires.next in
     let there : c.args.node - 1 < length c.args.self.now.lines.works.nodes.items =
     let low = within.0 in
     let high = within.1 in
@@ -133,15 +117,11 @@ returns-in-Failed g c =
     length-map c.args.self.now.lines.works.nodes.items (part g.L.CheckpointLog g.L.EntryLog) in
     omega (arith, low, high, many) in
     record {
-      line = λ bodies.
-          at_place c.args.self.now.lines.works.nodes.items (c.args.node - 1) _
-          (IsAtWorkLine (record { line = c.args.line; act = acts.Restart c.args.node }) bodies old
-          might c.args.self.now.workers new may c.args.self.now.workers
-          (Err faults.RestartFailed)) there
-          c.in_ok-restart.ensures.line
-          (λ node told. failed_at_work c.args.line c.args.node bodies old new might may
-          c.args.self.now.workers c.args.self.now.workers
-          (subst (λ r. IsRestartLine c.args.node old might new may (Ok r)) c.in-Failed.is
-          (told (g.met.L.TellingLog.always node.log.log))));
+      line = λ bodies. at_place _ _ _ (IsAtWorkLine (record { line = c.args.line; act =
+          acts.Restart c.args.node }) bodies old might c.args.self.now.workers new may
+          c.args.self.now.workers (Err faults.RestartFailed)) there c.in_ok-restart.ensures.line (λ
+          node told. failed_at_work c.args.line _ _ _ new _ may _ c.args.self.now.workers
+          (subst (λ r. IsRestartLine c.args.node old might new may (Ok r)) c.in-Failed.is (told
+          (g.met.L.TellingLog.always node.log.log))));
       disks = c.restart.ensures.disks;
     }

@@ -17,30 +17,16 @@ returns-in_err-reserve-clause-disks g c =
 
 pub returns-in_err-reserve-clause-line : goal.returns-in_err-reserve-clause-line
 returns-in_err-reserve-clause-line g c =
-    let old = lines_of g.L.CheckpointLog g.L.EntryLog c.args.self.now.lines in
-    let might = reads_of g.L.CheckpointLog g.L.EntryLog c.args.self.now.lines.works in
     let is : c.from_residual.result ≡ Err (faults.Line line_faults.NoMemory) = search rules in
-    λ bodies.
-    subst (λ r. IsAtWorkLine c.args.step.now bodies old might c.args.self.now.workers old might
-    c.reserve.new.self r) (sym is)
-    (start_wanting c.args.step.now c.requires.start.0 c.args.body bodies old might
-    c.args.self.now.workers c.reserve.new.self c.requires.start.1 c.reserve.ensures.stay)
-
-pub returns-in_err-reserve-clause-servers : goal.returns-in_err-reserve-clause-servers
-returns-in_err-reserve-clause-servers g c =
-    c.requires.servers
+    λ bodies. rw is (start_wanting _ _ _ _ _ _ _ _ c.requires.start.1
+    c.reserve.ensures.stay)
 
 pub take-requires-clause-built : goal.take-requires-clause-built
-take-requires-clause-built g c =
-    subst (λ (a : Act). IsTakenAlone a) (sym c.requires.start.1) tt
+take-requires-clause-built g c = rw c.requires.start.1 tt
 
 pub take-requires-clause-next : goal.take-requires-clause-next
 take-requires-clause-next g c =
     c.requires.next
-
-pub take-requires-clause-servers : goal.take-requires-clause-servers
-take-requires-clause-servers g c =
-    c.requires.servers
 
 pub returns-in_err-bad-clause-disks : goal.returns-in_err-bad-clause-disks
 returns-in_err-bad-clause-disks g c =
@@ -60,10 +46,6 @@ returns-in_err-bad-clause-line g c =
     c.reserve.new.self c.in_err-bad.field-0.0
     (subst (λ (a : Act). IsTakenAlone a) (sym c.requires.start.1) tt) c.reserve.ensures.stay
     c.in_err-bad.ensures.line)
-
-pub returns-in_err-bad-clause-servers : goal.returns-in_err-bad-clause-servers
-returns-in_err-bad-clause-servers g c =
-    c.take.ensures.servers
 
 pub give_body-requires : goal.give_body-requires
 give_body-requires g c =
@@ -86,7 +68,3 @@ returns-clause-line g c =
     (subst (λ o. Gives (Some c.args.body) o c.reserve.new.self c.give_body.new.workers)
     c.newest.ensures c.give_body.ensures)
     c.in_ok-bad.ensures.line
-
-pub returns-clause-servers : goal.returns-clause-servers
-returns-clause-servers g c =
-    c.take.ensures.servers

@@ -10,24 +10,14 @@ use Rattle.cam_cluster.proofs.Takes.{some_lines}
 use Rattle.cam_cluster.proofs.course.Course.stop.Goals as goal
 
 pub stop-requires-clause-low : goal.stop-requires-clause-low
-stop-requires-clause-low g c =
-    let old = lines_of g.L.CheckpointLog g.L.EntryLog c.args.self.now.lines in
-    let might = reads_of g.L.CheckpointLog g.L.EntryLog c.args.self.now.lines.works in
-    (stops_within c.args.line c.args.node c.args.calls old might c.requires.next).0
+stop-requires-clause-low g c = (stops_within _ _ _ _ _ c.requires.next).0
 
 pub stop-requires-clause-node : goal.stop-requires-clause-node
 stop-requires-clause-node g c =
-    let old = lines_of g.L.CheckpointLog g.L.EntryLog c.args.self.now.lines in
-    let might = reads_of g.L.CheckpointLog g.L.EntryLog c.args.self.now.lines.works in
-    subst (λ (n : ℕ). c.args.node ≤ n)
-    (length-map c.args.self.now.lines.works.nodes.items (part g.L.CheckpointLog g.L.EntryLog))
-    (stops_within c.args.line c.args.node c.args.calls old might c.requires.next).1
+    rw (← (length-map c.args.self.now.lines.works.nodes.items (part g.L.CheckpointLog g.L.EntryLog))) (stops_within _ _ _ _ _ c.requires.next).1
 
 pub stop-requires-clause-stand : goal.stop-requires-clause-stand
-stop-requires-clause-stand g c =
-    let old = lines_of g.L.CheckpointLog g.L.EntryLog c.args.self.now.lines in
-    let might = reads_of g.L.CheckpointLog g.L.EntryLog c.args.self.now.lines.works in
-    some_lines c.args.line (acts.Stop c.args.node c.args.calls) old might c.requires.next
+stop-requires-clause-stand g c = some_lines _ _ _ _ c.requires.next
 
 pub returns-in_err-stop : goal.returns-in_err-stop
 returns-in_err-stop g c =

@@ -16,27 +16,16 @@ start-requires g c = record {
       let might = reads_of g.L.CheckpointLog g.L.EntryLog c.args.self.now.lines.works in
       next_of_course c.args.step.now c.args.bodies.now old might c.args.self.now.workers
       c.requires.next;
-  servers = c.requires.servers;
 }
 
 pub go-requires : goal.go-requires
 go-requires g c = record {
-  next =
-      let old = lines_of g.L.CheckpointLog g.L.EntryLog c.args.self.now.lines in
-      let might = reads_of g.L.CheckpointLog g.L.EntryLog c.args.self.now.lines.works in
-      subst (λ (a : Act). IsNextOfCourse (record { line = c.args.step.now.line; act = a })
-      c.args.bodies.now old might c.args.self.now.workers) c.in-Go.is c.requires.next;
-  servers = c.requires.servers;
+  next = rw (← c.in-Go.is) c.requires.next;
 }
 
 pub play-requires : goal.play-requires
 play-requires g c = record {
-  next =
-      let old = lines_of g.L.CheckpointLog g.L.EntryLog c.args.self.now.lines in
-      let might = reads_of g.L.CheckpointLog g.L.EntryLog c.args.self.now.lines.works in
-      subst (λ (a : Act). IsNextOfCourse (record { line = c.args.step.now.line; act = a })
-      c.args.bodies.now old might c.args.self.now.workers) c.in-Play.is c.requires.next;
-  servers = c.requires.servers;
+  next = rw (← c.in-Play.is) c.requires.next;
 }
 
 pub restart-requires : goal.restart-requires
@@ -52,63 +41,35 @@ restart-requires g c =
 
 pub stop-requires : goal.stop-requires
 stop-requires g c =
-    let old = lines_of g.L.CheckpointLog g.L.EntryLog c.args.self.now.lines in
-    let might = reads_of g.L.CheckpointLog g.L.EntryLog c.args.self.now.lines.works in
     record {
-      next =
-          subst (λ (a : Act). IsNextOfSome c.args.step.now.line a old might) c.in-Stop.is
-          (next_of_course c.args.step.now c.args.bodies.now old might c.args.self.now.workers
-          c.requires.next);
+      next = rw (← c.in-Stop.is) (next_of_course _ _ _ _ _ c.requires.next);
     }
 
 pub take-requires : goal.take-requires
 take-requires g c =
-    let old = lines_of g.L.CheckpointLog g.L.EntryLog c.args.self.now.lines in
-    let might = reads_of g.L.CheckpointLog g.L.EntryLog c.args.self.now.lines.works in
     record {
       built =
-          (taken_alone c.args.step.now.act c.in_default.not-Start
-          c.in_default.not-Go c.in_default.not-Play c.in_default.not-Restart
-          c.in_default.not-Stop).0;
-      next =
-          next_of_course c.args.step.now c.args.bodies.now old might c.args.self.now.workers
-          c.requires.next;
-      servers = c.requires.servers;
+          (taken_alone _ c.in_default.not-Start c.in_default.not-Go c.in_default.not-Play
+          c.in_default.not-Restart c.in_default.not-Stop).0;
+      next = next_of_course _ _ _ _ _ c.requires.next;
     }
 
 pub returns-in-Start : goal.returns-in-Start
 returns-in-Start g c = record {
   disks = c.start.ensures.disks;
   line = c.start.ensures.line c.args.bodies.now;
-  servers = c.start.ensures.servers;
 }
 
 pub returns-in-Go : goal.returns-in-Go
 returns-in-Go g c = record {
   disks = c.go.ensures.disks;
-  line =
-      let old = lines_of g.L.CheckpointLog g.L.EntryLog c.args.self.now.lines in
-      let might = reads_of g.L.CheckpointLog g.L.EntryLog c.args.self.now.lines.works in
-      let new = lines_of g.L.CheckpointLog g.L.EntryLog c.go.new.self.lines in
-      let may = reads_of g.L.CheckpointLog g.L.EntryLog c.go.new.self.lines.works in
-      subst (λ (a : Act). IsAtWorkLine (record { line = c.args.step.now.line; act = a })
-      c.args.bodies.now old might c.args.self.now.workers new may c.go.new.self.workers
-      c.go.result) (sym c.in-Go.is) c.go.ensures.line;
-  servers = c.go.ensures.servers;
+  line = rw c.in-Go.is c.go.ensures.line;
 }
 
 pub returns-in-Play : goal.returns-in-Play
 returns-in-Play g c = record {
   disks = c.play.ensures.disks;
-  line =
-      let old = lines_of g.L.CheckpointLog g.L.EntryLog c.args.self.now.lines in
-      let might = reads_of g.L.CheckpointLog g.L.EntryLog c.args.self.now.lines.works in
-      let new = lines_of g.L.CheckpointLog g.L.EntryLog c.play.new.self.lines in
-      let may = reads_of g.L.CheckpointLog g.L.EntryLog c.play.new.self.lines.works in
-      subst (λ (a : Act). IsAtWorkLine (record { line = c.args.step.now.line; act = a })
-      c.args.bodies.now old might c.args.self.now.workers new may c.play.new.self.workers
-      c.play.result) (sym c.in-Play.is) c.play.ensures.line;
-  servers = c.play.ensures.servers;
+  line = rw c.in-Play.is c.play.ensures.line;
 }
 
 pub returns-in-Restart : goal.returns-in-Restart
@@ -122,21 +83,12 @@ returns-in-Restart g c = record {
       subst (λ (a : Act). IsAtWorkLine (record { line = c.args.step.now.line; act = a })
       c.args.bodies.now old might c.args.self.now.workers new may c.restart.new.self.workers
       c.restart.result) (sym c.in-Restart.is) (c.restart.ensures.line c.args.bodies.now);
-  servers = c.requires.servers;
 }
 
 pub returns-in-Stop : goal.returns-in-Stop
 returns-in-Stop g c = record {
   disks = c.stop.ensures.disks;
-  line =
-      let old = lines_of g.L.CheckpointLog g.L.EntryLog c.args.self.now.lines in
-      let might = reads_of g.L.CheckpointLog g.L.EntryLog c.args.self.now.lines.works in
-      let new = lines_of g.L.CheckpointLog g.L.EntryLog c.stop.new.self.lines in
-      let may = reads_of g.L.CheckpointLog g.L.EntryLog c.stop.new.self.lines.works in
-      subst (λ (a : Act). IsAtWorkLine (record { line = c.args.step.now.line; act = a })
-      c.args.bodies.now old might c.args.self.now.workers new may c.stop.new.self.workers
-      c.stop.result) (sym c.in-Stop.is) (c.stop.ensures.line c.args.bodies.now);
-  servers = c.requires.servers;
+  line = rw c.in-Stop.is (c.stop.ensures.line c.args.bodies.now);
 }
 
 pub returns-in_err-take-in_default : goal.returns-in_err-take-in_default
@@ -157,7 +109,6 @@ returns-in_err-take-in_default g c =
           (taken_at_work c.args.step.now c.args.bodies.now old new might may
           c.args.self.now.workers (Err c.in_err-take-in_default.field-0.0) alone.0 alone.1
           c.in_err-take-in_default.ensures.line);
-      servers = c.take.ensures.servers;
       disks = c.take.ensures.disks;
     }
 
@@ -175,6 +126,5 @@ returns-in_ok-take-in_default g c =
           taken_at_work c.args.step.now c.args.bodies.now old new might may
           c.args.self.now.workers (Ok c.in_ok-take-in_default.field-0) alone.0 alone.1
           c.in_ok-take-in_default.ensures.line;
-      servers = c.take.ensures.servers;
       disks = c.take.ensures.disks;
     }

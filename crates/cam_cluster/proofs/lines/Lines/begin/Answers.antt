@@ -27,18 +27,8 @@ returns-in_err-refuse-clause-disks g c =
 pub returns-in_err-refuse-clause-line : goal.returns-in_err-refuse-clause-line
 returns-in_err-refuse-clause-line g c =
     let wants : c.from_residual.result ≡ Err line_faults.NoMemory = search rules in
-    subst (λ r. IsLineOfInput c.args.line (acts.Begin c.args.node) (Begins c.args.node)
-    (lines_of g.L.CheckpointLog g.L.EntryLog c.args.self.now)
-    (reads_of g.L.CheckpointLog g.L.EntryLog c.args.self.now.works)
-    (lines_of g.L.CheckpointLog g.L.EntryLog c.refuse.new.self)
-    (reads_of g.L.CheckpointLog g.L.EntryLog c.refuse.new.self.works) r) (sym wants)
-    (begin_wanting c.args.line (c.args.node - 1) c.args.node
-    (let low = c.requires.low in omega (arith, low))
-    (lines_of g.L.CheckpointLog g.L.EntryLog c.args.self.now)
-    (lines_of g.L.CheckpointLog g.L.EntryLog c.refuse.new.self)
-    (reads_of g.L.CheckpointLog g.L.EntryLog c.args.self.now.works)
-    (reads_of g.L.CheckpointLog g.L.EntryLog c.refuse.new.self.works)
-    c.in_err-refuse.ensures.as_before)
+    rw wants (begin_wanting _ (c.args.node - 1) _ (let low = c.requires.low in omega (arith, low))
+    _ _ _ _ c.in_err-refuse.ensures.as_before)
 
 pub returns-then-is_halted-clause-disks : goal.returns-then-is_halted-clause-disks
 returns-then-is_halted-clause-disks g c =
@@ -46,25 +36,15 @@ returns-then-is_halted-clause-disks g c =
 
 pub returns-then-is_halted-clause-line : goal.returns-then-is_halted-clause-line
 returns-then-is_halted-clause-line g c =
-    begin_refused c.args.line (c.args.node - 1) c.args.node
-    (let low = c.requires.low in omega (arith, low))
-    (lines_of g.L.CheckpointLog g.L.EntryLog c.args.self.now)
-    (lines_of g.L.CheckpointLog g.L.EntryLog c.refuse.new.self)
-    (reads_of g.L.CheckpointLog g.L.EntryLog c.args.self.now.works)
-    (reads_of g.L.CheckpointLog g.L.EntryLog c.refuse.new.self.works)
-    (sees (part g.L.CheckpointLog g.L.EntryLog) c.args.self.now.works.nodes.items (c.args.node - 1)
-    (let low = c.requires.low in let node = c.requires.node in omega (arith, low, node)))
-    (ap (is_halted c.args.self.now.works.halted) (after_is (c.args.node - 1))
-    ∙ sym c.is_halted.ensures ∙ c.if-is_halted.true)
-    c.in_ok-refuse.ensures.refused
+    begin_refused _ _ _ (let low = c.requires.low in omega (arith, low)) _ _ _ _ (sees _ _
+    _ (let low = c.requires.low in let node = c.requires.node in omega (arith, low, node))) (ap
+    (is_halted c.args.self.now.works.halted) (after_is (c.args.node - 1)) ∙ sym c.is_halted.ensures
+    ∙ c.if-is_halted.true) c.in_ok-refuse.ensures.refused
 
 pub lead-requires-clause-place : goal.lead-requires-clause-place
 lead-requires-clause-place g c =
-    begin_within (lines_of g.L.CheckpointLog g.L.EntryLog c.args.self.now)
-    (reads_of g.L.CheckpointLog g.L.EntryLog c.args.self.now.works) (c.args.node - 1)
-    c.requires.stand
-    (sees (part g.L.CheckpointLog g.L.EntryLog) c.args.self.now.works.nodes.items (c.args.node - 1)
-    (let low = c.requires.low in let node = c.requires.node in omega (arith, low, node)))
+    begin_within _ _ _ c.requires.stand (sees _ _ _ (let low = c.requires.low in let node =
+    c.requires.node in omega (arith, low, node)))
 
 pub lead-requires-clause-may : goal.lead-requires-clause-may
 lead-requires-clause-may g c =
@@ -94,17 +74,8 @@ returns-in_err-lead-clause-disks g c =
 pub returns-in_err-lead-clause-line : goal.returns-in_err-lead-clause-line
 returns-in_err-lead-clause-line g c =
     let wants : c.from_residual-in_err-lead.result ≡ Err line_faults.NoMemory = search rules in
-    subst (λ r. IsLineOfInput c.args.line (acts.Begin c.args.node) (Begins c.args.node)
-    (lines_of g.L.CheckpointLog g.L.EntryLog c.args.self.now)
-    (reads_of g.L.CheckpointLog g.L.EntryLog c.args.self.now.works)
-    (lines_of g.L.CheckpointLog g.L.EntryLog c.lead.new.self)
-    (reads_of g.L.CheckpointLog g.L.EntryLog c.lead.new.self.works) r) (sym wants)
-    (begin_wanting c.args.line (c.args.node - 1) c.args.node
-    (let low = c.requires.low in omega (arith, low))
-    (lines_of g.L.CheckpointLog g.L.EntryLog c.args.self.now)
-    (lines_of g.L.CheckpointLog g.L.EntryLog c.lead.new.self)
-    (reads_of g.L.CheckpointLog g.L.EntryLog c.args.self.now.works)
-    (reads_of g.L.CheckpointLog g.L.EntryLog c.lead.new.self.works) c.in_err-lead.ensures.as_before)
+    rw wants (begin_wanting _ (c.args.node - 1) _ (let low = c.requires.low in omega (arith, low))
+    _ _ _ _ c.in_err-lead.ensures.as_before)
 
 pub returns-clause-disks : goal.returns-clause-disks
 returns-clause-disks g c =
@@ -112,34 +83,7 @@ returns-clause-disks g c =
 
 pub returns-clause-line : goal.returns-clause-line
 returns-clause-line g c =
-    begin_led c.args.line (c.args.node - 1) c.args.node
-    (let low = c.requires.low in omega (arith, low))
-    (lines_of g.L.CheckpointLog g.L.EntryLog c.args.self.now)
-    (lines_of g.L.CheckpointLog g.L.EntryLog c.lead.new.self)
-    (reads_of g.L.CheckpointLog g.L.EntryLog c.args.self.now.works)
-    (reads_of g.L.CheckpointLog g.L.EntryLog c.lead.new.self.works) c.in_ok-lead.field-0
-    (sees (part g.L.CheckpointLog g.L.EntryLog) c.args.self.now.works.nodes.items (c.args.node - 1)
-    (let low = c.requires.low in let node = c.requires.node in omega (arith, low, node)))
-    (ap (is_halted c.args.self.now.works.halted) (after_is (c.args.node - 1))
-    ∙ sym c.is_halted.ensures ∙ c.if-is_halted.false)
-    c.in_ok-lead.ensures.led
-
-pub lead-requires-clause-servers : goal.lead-requires-clause-servers
-lead-requires-clause-servers g c =
-    c.requires.servers
-
-pub returns-in_err-refuse-clause-servers : goal.returns-in_err-refuse-clause-servers
-returns-in_err-refuse-clause-servers g c =
-    c.requires.servers
-
-pub returns-then-is_halted-clause-servers : goal.returns-then-is_halted-clause-servers
-returns-then-is_halted-clause-servers g c =
-    c.requires.servers
-
-pub returns-in_err-lead-clause-servers : goal.returns-in_err-lead-clause-servers
-returns-in_err-lead-clause-servers g c =
-    c.lead.ensures.servers
-
-pub returns-clause-servers : goal.returns-clause-servers
-returns-clause-servers g c =
-    c.lead.ensures.servers
+    begin_led _ _ _ (let low = c.requires.low in omega (arith, low)) _ _ _ _ _ (sees _ _
+    _ (let low = c.requires.low in let node = c.requires.node in omega (arith, low, node))) (ap
+    (is_halted c.args.self.now.works.halted) (after_is (c.args.node - 1)) ∙ sym c.is_halted.ensures
+    ∙ c.if-is_halted.false) c.in_ok-lead.ensures.led

@@ -6,17 +6,15 @@ use Rattle.cam_cluster.proofs.AsSeen.{lines_of, reads_of}
 use Rattle.cam_cluster.proofs.VariableActs.{call_by}
 use Rattle.cam_cluster.proofs.lines.Lines.call.Goals as goal
 
-pub request-requires-clause-by : goal.request-requires-clause-by
-request-requires-clause-by g c =
-    let old = lines_of g.L.CheckpointLog g.L.EntryLog c.args.self.now in
-    let might = reads_of g.L.CheckpointLog g.L.EntryLog c.args.self.now.works in
-    makes_some c.args.line c.args.action (wants.Call c.args.object c.args.op) (acts.Call
-    c.args.action c.args.object c.args.op) old old might might (λ script st is keeps next. call_by
-    script st c.args.line is c.args.action c.args.object c.args.op next) c.requires.next
-
-pub request-requires-clause-servers : goal.request-requires-clause-servers
-request-requires-clause-servers g c =
-    c.requires.servers
+pub request-requires : goal.request-requires
+request-requires g c = record {
+  by =
+      let old = lines_of g.L.CheckpointLog g.L.EntryLog c.args.self.now in
+      let might = reads_of g.L.CheckpointLog g.L.EntryLog c.args.self.now.works in
+      makes_some c.args.line c.args.action (wants.Call c.args.object c.args.op) (acts.Call
+      c.args.action c.args.object c.args.op) old old might might (λ script st is keeps next. call_by
+      script st c.args.line is c.args.action c.args.object c.args.op next) c.requires.next;
+}
 
 pub returns-clause-disks : goal.returns-clause-disks
 returns-clause-disks g c =
@@ -24,15 +22,5 @@ returns-clause-disks g c =
 
 pub returns-clause-line : goal.returns-clause-line
 returns-clause-line g c =
-    let old = lines_of g.L.CheckpointLog g.L.EntryLog c.args.self.now in
-    let might = reads_of g.L.CheckpointLog g.L.EntryLog c.args.self.now.works in
-    let new = lines_of g.L.CheckpointLog g.L.EntryLog c.request.new.self in
-    let may = reads_of g.L.CheckpointLog g.L.EntryLog c.request.new.self.works in
-    makes_line c.args.line c.args.action (wants.Call c.args.object c.args.op) (acts.Call
-    c.args.action c.args.object c.args.op) old new might may (λ script st is keeps next. call_by
-    script st c.args.line is c.args.action c.args.object c.args.op next) c.request.result
-    c.request.ensures.line
-
-pub returns-clause-servers : goal.returns-clause-servers
-returns-clause-servers g c =
-    c.request.ensures.servers
+    makes_line _ _ _ _ _ _ _ _ (λ script st is keeps next. call_by _ _ _ is _ _ _
+    next) _ c.request.ensures.line

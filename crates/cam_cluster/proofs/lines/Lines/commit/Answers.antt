@@ -8,18 +8,16 @@ use Rattle.cam_cluster.proofs.AsSeen.{lines_of, reads_of}
 use Rattle.cam_cluster.proofs.VariableActs.{commit_by}
 use Rattle.cam_cluster.proofs.lines.Lines.commit.Goals as goal
 
-pub request-requires-clause-by : goal.request-requires-clause-by
-request-requires-clause-by g c =
-    let old = lines_of g.L.CheckpointLog g.L.EntryLog c.args.self.now in
-    let might = reads_of g.L.CheckpointLog g.L.EntryLog c.args.self.now.works in
-    subst (λ (v : ℤ). IsRequestBySome c.args.action (wants.Commit v) old might) (sym (to_z-of_z
-    c.ranges.value)) (makes_some c.args.line c.args.action (wants.Commit c.args.value) (acts.Commit
-    c.args.action c.args.value) old old might might (λ script st is keeps next. commit_by script st
-    c.args.line is c.args.action c.args.value next) c.requires.next)
-
-pub request-requires-clause-servers : goal.request-requires-clause-servers
-request-requires-clause-servers g c =
-    c.requires.servers
+pub request-requires : goal.request-requires
+request-requires g c = record {
+  by =
+      let old = lines_of g.L.CheckpointLog g.L.EntryLog c.args.self.now in
+      let might = reads_of g.L.CheckpointLog g.L.EntryLog c.args.self.now.works in
+      subst (λ (v : ℤ). IsRequestBySome c.args.action (wants.Commit v) old might) (sym (to_z-of_z
+      c.ranges.value)) (makes_some c.args.line c.args.action (wants.Commit c.args.value) (acts.Commit
+      c.args.action c.args.value) old old might might (λ script st is keeps next. commit_by script st
+      c.args.line is c.args.action c.args.value next) c.requires.next);
+}
 
 pub returns-clause-disks : goal.returns-clause-disks
 returns-clause-disks g c =
@@ -27,16 +25,5 @@ returns-clause-disks g c =
 
 pub returns-clause-line : goal.returns-clause-line
 returns-clause-line g c =
-    let old = lines_of g.L.CheckpointLog g.L.EntryLog c.args.self.now in
-    let might = reads_of g.L.CheckpointLog g.L.EntryLog c.args.self.now.works in
-    let new = lines_of g.L.CheckpointLog g.L.EntryLog c.request.new.self in
-    let may = reads_of g.L.CheckpointLog g.L.EntryLog c.request.new.self.works in
-    makes_line c.args.line c.args.action (wants.Commit c.args.value) (acts.Commit c.args.action
-    c.args.value) old new might may (λ script st is keeps next. commit_by script st c.args.line is
-    c.args.action c.args.value next) c.request.result (subst (λ (v : ℤ). IsRequestLine c.args.line
-    c.args.action (wants.Commit v) old might new may c.request.result) (to_z-of_z c.ranges.value)
-    c.request.ensures.line)
-
-pub returns-clause-servers : goal.returns-clause-servers
-returns-clause-servers g c =
-    c.request.ensures.servers
+    makes_line _ _ _ _ _ _ _ _ (λ script st is keeps next. commit_by _ _ _ is _ _ next)
+    _ (rw (← (to_z-of_z c.ranges.value)) c.request.ensures.line)

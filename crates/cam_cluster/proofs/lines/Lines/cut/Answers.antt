@@ -18,32 +18,16 @@ returns-in_err-coming g c = record {
   disks = c.take_letter.ensures.disks;
   line =
       let is : c.from_residual.result ≡ Err c.in_err-coming.field-0.0 = search rules in
-      subst (λ r. IsLineBy c.args.line (acts.Cut c.args.letter c.args.bytes)
-      (IsCut c.args.letter c.args.bytes) (lines_of g.L.CheckpointLog g.L.EntryLog c.args.self.now)
-      (reads_of g.L.CheckpointLog g.L.EntryLog c.args.self.now.works)
-      (lines_of g.L.CheckpointLog g.L.EntryLog c.take_letter.new.self)
-      (reads_of g.L.CheckpointLog g.L.EntryLog c.take_letter.new.self.works) r) (sym is)
-      (not_taken (IsCut c.args.letter c.args.bytes) c.args.line c.args.letter
-      (acts.Cut c.args.letter c.args.bytes)
-      (λ script st. refl) (lines_of g.L.CheckpointLog g.L.EntryLog c.args.self.now)
-      (lines_of g.L.CheckpointLog g.L.EntryLog c.take_letter.new.self)
-      (reads_of g.L.CheckpointLog g.L.EntryLog c.args.self.now.works)
-      (reads_of g.L.CheckpointLog g.L.EntryLog c.take_letter.new.self.works)
-      c.in_err-coming.field-0.0 c.in_err-coming.ensures.taken);
-  servers = c.requires.servers;
+      rw is (not_taken (IsCut c.args.letter c.args.bytes) _ _ _ (λ script st. refl) _ _ _ _
+      _ c.in_err-coming.ensures.taken);
 }
 
 pub arrive-requires : goal.arrive-requires
 arrive-requires g c = record {
   all = c.in_ok-coming.ensures.taken.all;
   stand =
-      works_of_lines (lines_of g.L.CheckpointLog g.L.EntryLog c.take_letter.new.self)
-      (reads_of g.L.CheckpointLog g.L.EntryLog c.take_letter.new.self.works)
-      (some_lines (lines_of g.L.CheckpointLog g.L.EntryLog c.args.self.now)
-      (lines_of g.L.CheckpointLog g.L.EntryLog c.take_letter.new.self)
-      (reads_of g.L.CheckpointLog g.L.EntryLog c.args.self.now.works)
-      (reads_of g.L.CheckpointLog g.L.EntryLog c.take_letter.new.self.works)
-      c.in_ok-coming.ensures.taken.as_before c.requires.stand);
+      works_of_lines _ _ (some_lines _ _ _ _ c.in_ok-coming.ensures.taken.as_before
+      c.requires.stand);
   found = c.in_ok-coming.ensures.taken.found;
 }
 
@@ -52,39 +36,21 @@ returns-in_err-whole g c = record {
   disks = c.take_letter.ensures.disks;
   line =
       let wants : c.from_residual-in_err-whole.result ≡ Err line_faults.NoMemory = search rules in
-      subst (λ r. IsLineBy c.args.line (acts.Cut c.args.letter c.args.bytes)
-      (IsCut c.args.letter c.args.bytes) (lines_of g.L.CheckpointLog g.L.EntryLog c.args.self.now)
-      (reads_of g.L.CheckpointLog g.L.EntryLog c.args.self.now.works)
-      (lines_of g.L.CheckpointLog g.L.EntryLog c.take_letter.new.self)
-      (reads_of g.L.CheckpointLog g.L.EntryLog c.take_letter.new.self.works) r) (sym wants)
-      (wanting_ends (IsCut c.args.letter c.args.bytes) c.args.line
-      (acts.Cut c.args.letter c.args.bytes)
-      (lines_of g.L.CheckpointLog g.L.EntryLog c.args.self.now)
-      (lines_of g.L.CheckpointLog g.L.EntryLog c.take_letter.new.self)
-      (reads_of g.L.CheckpointLog g.L.EntryLog c.args.self.now.works)
-      (reads_of g.L.CheckpointLog g.L.EntryLog c.take_letter.new.self.works)
+      rw wants (wanting_ends (IsCut c.args.letter c.args.bytes) _ _ _ _ _ _
       c.in_ok-coming.ensures.taken.as_before);
-  servers = c.requires.servers;
 }
 
 pub lead_letter-requires : goal.lead_letter-requires
 lead_letter-requires g c = record {
-  stand =
-      (some_lines (lines_of g.L.CheckpointLog g.L.EntryLog c.args.self.now)
-      (lines_of g.L.CheckpointLog g.L.EntryLog c.take_letter.new.self)
-      (reads_of g.L.CheckpointLog g.L.EntryLog c.args.self.now.works)
-      (reads_of g.L.CheckpointLog g.L.EntryLog c.take_letter.new.self.works)
-      c.in_ok-coming.ensures.taken.as_before c.requires.stand);
+  stand = (some_lines _ _ _ _ c.in_ok-coming.ensures.taken.as_before c.requires.stand);
   all = c.in_ok-coming.ensures.taken.all;
   found = c.in_ok-coming.ensures.taken.found;
   awake = c.in_ok-coming.ensures.taken.awake;
   read =
-      λ script st is keeps.
-      (subst (HasArrived c.args.bytes c.in_ok-coming.coming.letter
-      (works_of g.L.CheckpointLog g.L.EntryLog c.take_letter.new.self.works)
-      (reads_of g.L.CheckpointLog g.L.EntryLog c.take_letter.new.self.works)) c.in-Whole.is
-      c.in_ok-whole.ensures script st is keeps).1;
-  servers = c.requires.servers;
+      λ script st is keeps. (subst (HasArrived c.args.bytes c.in_ok-coming.coming.letter (works_of
+      g.L.CheckpointLog g.L.EntryLog c.take_letter.new.self.works) (reads_of g.L.CheckpointLog
+      g.L.EntryLog c.take_letter.new.self.works)) c.in-Whole.is c.in_ok-whole.ensures script st is
+      keeps).1;
 }
 
 pub returns-in_err-done-in-Whole : goal.returns-in_err-done-in-Whole
@@ -93,44 +59,19 @@ returns-in_err-done-in-Whole g c = record {
   line =
       let wants : c.from_residual-in_err-done-in-Whole.result ≡ Err line_faults.NoMemory =
       search rules in
-      subst (λ r. IsLineBy c.args.line (acts.Cut c.args.letter c.args.bytes)
-      (IsCut c.args.letter c.args.bytes) (lines_of g.L.CheckpointLog g.L.EntryLog c.args.self.now)
-      (reads_of g.L.CheckpointLog g.L.EntryLog c.args.self.now.works)
-      (lines_of g.L.CheckpointLog g.L.EntryLog c.lead_letter.new.self)
-      (reads_of g.L.CheckpointLog g.L.EntryLog c.lead_letter.new.self.works) r) (sym wants)
-      (wanting_ends (IsCut c.args.letter c.args.bytes) c.args.line
-      (acts.Cut c.args.letter c.args.bytes)
-      (lines_of g.L.CheckpointLog g.L.EntryLog c.args.self.now)
-      (lines_of g.L.CheckpointLog g.L.EntryLog c.lead_letter.new.self)
-      (reads_of g.L.CheckpointLog g.L.EntryLog c.args.self.now.works)
-      (reads_of g.L.CheckpointLog g.L.EntryLog c.lead_letter.new.self.works)
-      (both_before (lines_of g.L.CheckpointLog g.L.EntryLog c.args.self.now)
-      (lines_of g.L.CheckpointLog g.L.EntryLog c.take_letter.new.self)
-      (lines_of g.L.CheckpointLog g.L.EntryLog c.lead_letter.new.self)
-      (reads_of g.L.CheckpointLog g.L.EntryLog c.args.self.now.works)
-      (reads_of g.L.CheckpointLog g.L.EntryLog c.take_letter.new.self.works)
-      (reads_of g.L.CheckpointLog g.L.EntryLog c.lead_letter.new.self.works)
-      c.in_ok-coming.ensures.taken.as_before c.in_err-done-in-Whole.ensures.as_before));
-  servers = c.lead_letter.ensures.servers;
+      rw wants (wanting_ends (IsCut c.args.letter c.args.bytes) _ _ _ _ _ _ (both_before _ _
+      _ _ _ _ c.in_ok-coming.ensures.taken.as_before c.in_err-done-in-Whole.ensures.as_before));
 }
 
 pub returns-in_ok-done-in-Whole : goal.returns-in_ok-done-in-Whole
 returns-in_ok-done-in-Whole g c = record {
   disks = goes_on_then c.take_letter.ensures.disks c.lead_letter.ensures.disks;
   line =
-      cut_delivers c.args.line c.args.letter c.in_ok-coming.coming
-      (lines_of g.L.CheckpointLog g.L.EntryLog c.args.self.now)
-      (lines_of g.L.CheckpointLog g.L.EntryLog c.take_letter.new.self)
-      (lines_of g.L.CheckpointLog g.L.EntryLog c.lead_letter.new.self)
-      (reads_of g.L.CheckpointLog g.L.EntryLog c.args.self.now.works)
-      (reads_of g.L.CheckpointLog g.L.EntryLog c.take_letter.new.self.works)
-      (reads_of g.L.CheckpointLog g.L.EntryLog c.lead_letter.new.self.works)
-      c.in_ok-coming.ensures.taken c.args.bytes c.in-Whole.whole c.in_ok-done-in-Whole.done
-      (subst (HasArrived c.args.bytes c.in_ok-coming.coming.letter
-      (works_of g.L.CheckpointLog g.L.EntryLog c.take_letter.new.self.works)
-      (reads_of g.L.CheckpointLog g.L.EntryLog c.take_letter.new.self.works)) c.in-Whole.is
-      c.in_ok-whole.ensures) c.in_ok-done-in-Whole.ensures.led;
-  servers = c.lead_letter.ensures.servers;
+      cut_delivers _ _ _ _ _ _ _ _ _ c.in_ok-coming.ensures.taken _ _ _ (subst
+      (HasArrived c.args.bytes c.in_ok-coming.coming.letter (works_of g.L.CheckpointLog g.L.EntryLog
+      c.take_letter.new.self.works) (reads_of g.L.CheckpointLog g.L.EntryLog
+      c.take_letter.new.self.works)) c.in-Whole.is c.in_ok-whole.ensures)
+      c.in_ok-done-in-Whole.ensures.led;
 }
 
 pub returns-in_err-mark_cut-in-Cut : goal.returns-in_err-mark_cut-in-Cut
@@ -139,42 +80,18 @@ returns-in_err-mark_cut-in-Cut g c = record {
   line =
       let wants : c.from_residual-in_err-mark_cut-in-Cut.result ≡ Err line_faults.NoMemory =
       search rules in
-      subst (λ r. IsLineBy c.args.line (acts.Cut c.args.letter c.args.bytes)
-      (IsCut c.args.letter c.args.bytes) (lines_of g.L.CheckpointLog g.L.EntryLog c.args.self.now)
-      (reads_of g.L.CheckpointLog g.L.EntryLog c.args.self.now.works)
-      (lines_of g.L.CheckpointLog g.L.EntryLog c.mark_cut.new.self)
-      (reads_of g.L.CheckpointLog g.L.EntryLog c.mark_cut.new.self.works) r) (sym wants)
-      (wanting_ends (IsCut c.args.letter c.args.bytes) c.args.line
-      (acts.Cut c.args.letter c.args.bytes)
-      (lines_of g.L.CheckpointLog g.L.EntryLog c.args.self.now)
-      (lines_of g.L.CheckpointLog g.L.EntryLog c.mark_cut.new.self)
-      (reads_of g.L.CheckpointLog g.L.EntryLog c.args.self.now.works)
-      (reads_of g.L.CheckpointLog g.L.EntryLog c.mark_cut.new.self.works)
-      (both_before (lines_of g.L.CheckpointLog g.L.EntryLog c.args.self.now)
-      (lines_of g.L.CheckpointLog g.L.EntryLog c.take_letter.new.self)
-      (lines_of g.L.CheckpointLog g.L.EntryLog c.mark_cut.new.self)
-      (reads_of g.L.CheckpointLog g.L.EntryLog c.args.self.now.works)
-      (reads_of g.L.CheckpointLog g.L.EntryLog c.take_letter.new.self.works)
-      (reads_of g.L.CheckpointLog g.L.EntryLog c.mark_cut.new.self.works)
-      c.in_ok-coming.ensures.taken.as_before c.in_err-mark_cut-in-Cut.ensures.as_before));
-  servers = c.requires.servers;
+      rw wants (wanting_ends (IsCut c.args.letter c.args.bytes) _ _ _ _ _ _ (both_before _ _
+      _ _ _ _ c.in_ok-coming.ensures.taken.as_before
+      c.in_err-mark_cut-in-Cut.ensures.as_before));
 }
 
 pub returns-in_ok-mark_cut-in-Cut : goal.returns-in_ok-mark_cut-in-Cut
 returns-in_ok-mark_cut-in-Cut g c = record {
   disks = goes_on_then c.take_letter.ensures.disks c.mark_cut.ensures.disks;
   line =
-      cut_marks c.args.line c.args.letter c.in_ok-coming.coming
-      (lines_of g.L.CheckpointLog g.L.EntryLog c.args.self.now)
-      (lines_of g.L.CheckpointLog g.L.EntryLog c.take_letter.new.self)
-      (lines_of g.L.CheckpointLog g.L.EntryLog c.mark_cut.new.self)
-      (reads_of g.L.CheckpointLog g.L.EntryLog c.args.self.now.works)
-      (reads_of g.L.CheckpointLog g.L.EntryLog c.take_letter.new.self.works)
-      (reads_of g.L.CheckpointLog g.L.EntryLog c.mark_cut.new.self.works)
-      c.in_ok-coming.ensures.taken c.args.bytes c.in-Cut.fault
-      (subst (HasArrived c.args.bytes c.in_ok-coming.coming.letter
-      (works_of g.L.CheckpointLog g.L.EntryLog c.take_letter.new.self.works)
-      (reads_of g.L.CheckpointLog g.L.EntryLog c.take_letter.new.self.works)) c.in-Cut.is
-      c.in_ok-whole.ensures) c.in_ok-mark_cut-in-Cut.ensures.marked;
-  servers = c.requires.servers;
+      cut_marks _ _ _ _ _ _ _ _ _ c.in_ok-coming.ensures.taken _ _ (subst (HasArrived
+      c.args.bytes c.in_ok-coming.coming.letter (works_of g.L.CheckpointLog g.L.EntryLog
+      c.take_letter.new.self.works) (reads_of g.L.CheckpointLog g.L.EntryLog
+      c.take_letter.new.self.works)) c.in-Cut.is c.in_ok-whole.ensures)
+      c.in_ok-mark_cut-in-Cut.ensures.marked;
 }

@@ -19,21 +19,8 @@ returns-in_err-coming-clause-disks g c =
 pub returns-in_err-coming-clause-line : goal.returns-in_err-coming-clause-line
 returns-in_err-coming-clause-line g c =
     let is : c.from_residual.result ≡ Err c.in_err-coming.field-0.0 = search rules in
-    subst (λ r. IsLineBy c.args.line (acts.Deliver c.args.letter) (IsDelivery c.args.letter)
-    (lines_of g.L.CheckpointLog g.L.EntryLog c.args.self.now)
-    (reads_of g.L.CheckpointLog g.L.EntryLog c.args.self.now.works)
-    (lines_of g.L.CheckpointLog g.L.EntryLog c.take_letter.new.self)
-    (reads_of g.L.CheckpointLog g.L.EntryLog c.take_letter.new.self.works) r) (sym is)
-    (not_taken (IsDelivery c.args.letter) c.args.line c.args.letter (acts.Deliver c.args.letter)
-    (λ script st. refl) (lines_of g.L.CheckpointLog g.L.EntryLog c.args.self.now)
-    (lines_of g.L.CheckpointLog g.L.EntryLog c.take_letter.new.self)
-    (reads_of g.L.CheckpointLog g.L.EntryLog c.args.self.now.works)
-    (reads_of g.L.CheckpointLog g.L.EntryLog c.take_letter.new.self.works) c.in_err-coming.field-0.0
+    rw is (not_taken (IsDelivery c.args.letter) _ _ _ (λ script st. refl) _ _ _ _ _
     c.in_err-coming.ensures.taken)
-
-pub returns-in_err-coming-clause-servers : goal.returns-in_err-coming-clause-servers
-returns-in_err-coming-clause-servers g c =
-    c.requires.servers
 
 pub read-requires-clause-all : goal.read-requires-clause-all
 read-requires-clause-all g c =
@@ -41,13 +28,8 @@ read-requires-clause-all g c =
 
 pub read-requires-clause-stand : goal.read-requires-clause-stand
 read-requires-clause-stand g c =
-    works_of_lines (lines_of g.L.CheckpointLog g.L.EntryLog c.take_letter.new.self)
-    (reads_of g.L.CheckpointLog g.L.EntryLog c.take_letter.new.self.works)
-    (some_lines (lines_of g.L.CheckpointLog g.L.EntryLog c.args.self.now)
-    (lines_of g.L.CheckpointLog g.L.EntryLog c.take_letter.new.self)
-    (reads_of g.L.CheckpointLog g.L.EntryLog c.args.self.now.works)
-    (reads_of g.L.CheckpointLog g.L.EntryLog c.take_letter.new.self.works)
-    c.in_ok-coming.ensures.taken.as_before c.requires.stand)
+    works_of_lines _ _ (some_lines _ _ _ _ c.in_ok-coming.ensures.taken.as_before
+    c.requires.stand)
 
 pub read-requires-clause-found : goal.read-requires-clause-found
 read-requires-clause-found g c =
@@ -60,29 +42,12 @@ returns-in_err-whole-clause-disks g c =
 pub returns-in_err-whole-clause-line : goal.returns-in_err-whole-clause-line
 returns-in_err-whole-clause-line g c =
     let wants : c.from_residual-in_err-whole.result ≡ Err line_faults.NoMemory = search rules in
-    subst (λ r. IsLineBy c.args.line (acts.Deliver c.args.letter) (IsDelivery c.args.letter)
-    (lines_of g.L.CheckpointLog g.L.EntryLog c.args.self.now)
-    (reads_of g.L.CheckpointLog g.L.EntryLog c.args.self.now.works)
-    (lines_of g.L.CheckpointLog g.L.EntryLog c.take_letter.new.self)
-    (reads_of g.L.CheckpointLog g.L.EntryLog c.take_letter.new.self.works) r) (sym wants)
-    (wanting_ends (IsDelivery c.args.letter) c.args.line (acts.Deliver c.args.letter)
-    (lines_of g.L.CheckpointLog g.L.EntryLog c.args.self.now)
-    (lines_of g.L.CheckpointLog g.L.EntryLog c.take_letter.new.self)
-    (reads_of g.L.CheckpointLog g.L.EntryLog c.args.self.now.works)
-    (reads_of g.L.CheckpointLog g.L.EntryLog c.take_letter.new.self.works)
+    rw wants (wanting_ends (IsDelivery c.args.letter) _ _ _ _ _ _
     c.in_ok-coming.ensures.taken.as_before)
-
-pub returns-in_err-whole-clause-servers : goal.returns-in_err-whole-clause-servers
-returns-in_err-whole-clause-servers g c =
-    c.requires.servers
 
 pub lead_letter-requires-clause-stand : goal.lead_letter-requires-clause-stand
 lead_letter-requires-clause-stand g c =
-    (some_lines (lines_of g.L.CheckpointLog g.L.EntryLog c.args.self.now)
-    (lines_of g.L.CheckpointLog g.L.EntryLog c.take_letter.new.self)
-    (reads_of g.L.CheckpointLog g.L.EntryLog c.args.self.now.works)
-    (reads_of g.L.CheckpointLog g.L.EntryLog c.take_letter.new.self.works)
-    c.in_ok-coming.ensures.taken.as_before c.requires.stand)
+    (some_lines _ _ _ _ c.in_ok-coming.ensures.taken.as_before c.requires.stand)
 
 pub lead_letter-requires-clause-all : goal.lead_letter-requires-clause-all
 lead_letter-requires-clause-all g c =
@@ -100,10 +65,6 @@ pub lead_letter-requires-clause-read : goal.lead_letter-requires-clause-read
 lead_letter-requires-clause-read g c =
     c.in_ok-whole.ensures
 
-pub lead_letter-requires-clause-servers : goal.lead_letter-requires-clause-servers
-lead_letter-requires-clause-servers g c =
-    c.requires.servers
-
 pub returns-in_err-lead_letter-clause-disks : goal.returns-in_err-lead_letter-clause-disks
 returns-in_err-lead_letter-clause-disks g c =
     goes_on_then c.take_letter.ensures.disks c.lead_letter.ensures.disks
@@ -112,27 +73,8 @@ pub returns-in_err-lead_letter-clause-line : goal.returns-in_err-lead_letter-cla
 returns-in_err-lead_letter-clause-line g c =
     let wants : c.from_residual-in_err-lead_letter.result ≡ Err line_faults.NoMemory =
     search rules in
-    subst (λ r. IsLineBy c.args.line (acts.Deliver c.args.letter) (IsDelivery c.args.letter)
-    (lines_of g.L.CheckpointLog g.L.EntryLog c.args.self.now)
-    (reads_of g.L.CheckpointLog g.L.EntryLog c.args.self.now.works)
-    (lines_of g.L.CheckpointLog g.L.EntryLog c.lead_letter.new.self)
-    (reads_of g.L.CheckpointLog g.L.EntryLog c.lead_letter.new.self.works) r) (sym wants)
-    (wanting_ends (IsDelivery c.args.letter) c.args.line (acts.Deliver c.args.letter)
-    (lines_of g.L.CheckpointLog g.L.EntryLog c.args.self.now)
-    (lines_of g.L.CheckpointLog g.L.EntryLog c.lead_letter.new.self)
-    (reads_of g.L.CheckpointLog g.L.EntryLog c.args.self.now.works)
-    (reads_of g.L.CheckpointLog g.L.EntryLog c.lead_letter.new.self.works)
-    (both_before (lines_of g.L.CheckpointLog g.L.EntryLog c.args.self.now)
-    (lines_of g.L.CheckpointLog g.L.EntryLog c.take_letter.new.self)
-    (lines_of g.L.CheckpointLog g.L.EntryLog c.lead_letter.new.self)
-    (reads_of g.L.CheckpointLog g.L.EntryLog c.args.self.now.works)
-    (reads_of g.L.CheckpointLog g.L.EntryLog c.take_letter.new.self.works)
-    (reads_of g.L.CheckpointLog g.L.EntryLog c.lead_letter.new.self.works)
-    c.in_ok-coming.ensures.taken.as_before c.in_err-lead_letter.ensures.as_before))
-
-pub returns-in_err-lead_letter-clause-servers : goal.returns-in_err-lead_letter-clause-servers
-returns-in_err-lead_letter-clause-servers g c =
-    c.lead_letter.ensures.servers
+    rw wants (wanting_ends (IsDelivery c.args.letter) _ _ _ _ _ _ (both_before _ _ _ _ _
+    _ c.in_ok-coming.ensures.taken.as_before c.in_err-lead_letter.ensures.as_before))
 
 pub returns-clause-disks : goal.returns-clause-disks
 returns-clause-disks g c =
@@ -140,15 +82,5 @@ returns-clause-disks g c =
 
 pub returns-clause-line : goal.returns-clause-line
 returns-clause-line g c =
-    deliver_ends c.args.line c.args.letter c.in_ok-coming.coming
-    (lines_of g.L.CheckpointLog g.L.EntryLog c.args.self.now)
-    (lines_of g.L.CheckpointLog g.L.EntryLog c.take_letter.new.self)
-    (lines_of g.L.CheckpointLog g.L.EntryLog c.lead_letter.new.self)
-    (reads_of g.L.CheckpointLog g.L.EntryLog c.args.self.now.works)
-    (reads_of g.L.CheckpointLog g.L.EntryLog c.take_letter.new.self.works)
-    (reads_of g.L.CheckpointLog g.L.EntryLog c.lead_letter.new.self.works)
-    c.in_ok-coming.ensures.taken c.in_ok-lead_letter.field-0 c.in_ok-lead_letter.ensures.led
-
-pub returns-clause-servers : goal.returns-clause-servers
-returns-clause-servers g c =
-    c.lead_letter.ensures.servers
+    deliver_ends _ _ c.in_ok-coming.coming _ _ _ _ _ _ c.in_ok-coming.ensures.taken _
+    c.in_ok-lead_letter.ensures.led

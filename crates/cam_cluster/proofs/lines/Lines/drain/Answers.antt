@@ -18,27 +18,14 @@ returns-in_err-reserve_one-clause-line g c =
 
 pub returns-in_err-reserve_one-clause-part : goal.returns-in_err-reserve_one-clause-part
 returns-in_err-reserve_one-clause-part g c =
-    on_err c.from_residual.result _
-    (drain_part c.args.line (works_of g.L.CheckpointLog g.L.EntryLog c.args.self.now.works)
-    (works_of g.L.CheckpointLog g.L.EntryLog c.args.self.now.works)
-    (reads_of g.L.CheckpointLog g.L.EntryLog c.args.self.now.works)
-    (reads_of g.L.CheckpointLog g.L.EntryLog c.args.self.now.works) c.args.self.now.bound.items
-    c.reserve_one.new.list.items (none_so_far c.args.line
-    (works_of g.L.CheckpointLog g.L.EntryLog c.args.self.now.works)
-    (reads_of g.L.CheckpointLog g.L.EntryLog c.args.self.now.works)) c.reserve_one.ensures.same)
+    on_err _ _ (drain_part _ _ _ _ _ _ _ (none_so_far _ _ _) c.reserve_one.ensures.same)
 
-pub returns-in_err-reserve_one-clause-servers : goal.returns-in_err-reserve_one-clause-servers
-returns-in_err-reserve_one-clause-servers g c =
-    c.requires.servers
-
-pub drain-requires-clause-stand : goal.drain-requires-clause-stand
-drain-requires-clause-stand g c =
-    works_of_lines (lines_of g.L.CheckpointLog g.L.EntryLog c.args.self.now)
-    (reads_of g.L.CheckpointLog g.L.EntryLog c.args.self.now.works) c.requires.stand
-
-pub drain-requires-clause-servers : goal.drain-requires-clause-servers
-drain-requires-clause-servers g c =
-    c.requires.servers
+pub drain-requires : goal.drain-requires
+drain-requires g c = record {
+  stand =
+      works_of_lines (lines_of g.L.CheckpointLog g.L.EntryLog c.args.self.now)
+      (reads_of g.L.CheckpointLog g.L.EntryLog c.args.self.now.works) c.requires.stand;
+}
 
 pub returns-in_err-drain-clause-disks : goal.returns-in_err-drain-clause-disks
 returns-in_err-drain-clause-disks g c =
@@ -50,16 +37,8 @@ returns-in_err-drain-clause-line g c =
 
 pub returns-in_err-drain-clause-part : goal.returns-in_err-drain-clause-part
 returns-in_err-drain-clause-part g c =
-    on_err c.from_residual-in_err-drain.result _
-    (drain_part c.args.line (works_of g.L.CheckpointLog g.L.EntryLog c.args.self.now.works)
-    (works_of g.L.CheckpointLog g.L.EntryLog c.drain.new.self)
-    (reads_of g.L.CheckpointLog g.L.EntryLog c.args.self.now.works)
-    (reads_of g.L.CheckpointLog g.L.EntryLog c.drain.new.self) c.args.self.now.bound.items
-    c.reserve_one.new.list.items c.in_err-drain.ensures.part c.reserve_one.ensures.same)
-
-pub returns-in_err-drain-clause-servers : goal.returns-in_err-drain-clause-servers
-returns-in_err-drain-clause-servers g c =
-    c.drain.ensures.servers
+    on_err _ _ (drain_part _ _ _ _ _ _ _ c.in_err-drain.ensures.part
+    c.reserve_one.ensures.same)
 
 pub push_reserved-requires : goal.push_reserved-requires
 push_reserved-requires g c =
@@ -71,13 +50,5 @@ returns-clause-disks g c =
 
 pub returns-clause-line : goal.returns-clause-line
 returns-clause-line g c =
-    drain_line c.args.line (works_of g.L.CheckpointLog g.L.EntryLog c.args.self.now.works)
-    (works_of g.L.CheckpointLog g.L.EntryLog c.drain.new.self)
-    (reads_of g.L.CheckpointLog g.L.EntryLog c.args.self.now.works)
-    (reads_of g.L.CheckpointLog g.L.EntryLog c.drain.new.self) c.args.self.now.bound.items
-    c.push_reserved.new.list.items c.in_ok-drain.ensures.drained
-    (c.push_reserved.ensures ∙ ap (λ bs. bs ++ None ∷ []) c.reserve_one.ensures.same)
-
-pub returns-clause-servers : goal.returns-clause-servers
-returns-clause-servers g c =
-    c.drain.ensures.servers
+    drain_line _ _ _ _ _ _ _ c.in_ok-drain.ensures.drained (c.push_reserved.ensures ∙ ap (λ
+    bs. bs ++ None ∷ []) c.reserve_one.ensures.same)

@@ -23,7 +23,6 @@ returns-in_default g c =
           go_unbound c.args.line c.args.action c.args.bodies.now old new might may
           c.args.workers.now c.requires.go (sym c.in_default.ensures) c.refused.result
           c.refused.ensures.refused;
-      servers = c.requires.servers;
       disks = c.refused.ensures.disks;
     }
 
@@ -54,7 +53,6 @@ returns-then-is_halted g c =
           c.args.workers.now c.requires.go c.in-Some.name (sym c.in-Some.ensures)
           (c.home.result.0 - 1) home runs c.refused-then-is_halted.result
           c.refused-then-is_halted.ensures.refused;
-      servers = c.requires.servers;
       disks = c.refused-then-is_halted.ensures.disks;
     }
 
@@ -62,7 +60,7 @@ pub index-requires : goal.index-requires
 index-requires g c =
     let item =
     home_there c.args.line c.args.action c.args.bodies.now c.args.self.now c.args.workers.now
-    c.requires.go c.in-Some.name (sym c.in-Some.ensures) c.home.result _ c.home.ensures in
+    c.requires.go c.in-Some.name (sym c.in-Some.ensures) _ _ c.home.ensures in
     first_of (search rules, grind (arith, common_steps, item))
 
 pub returns-in-Some-refusal : goal.returns-in-Some-refusal
@@ -92,7 +90,6 @@ returns-in-Some-refusal g c =
           (c.home.result.0 - 1) home runs _ seen (pos 0) _ (c.in-Some-refusal.ensures.rule free)
           c.in-Some-refusal.refusal refl c.refused-in-Some-refusal.result
           c.refused-in-Some-refusal.ensures.refused;
-      servers = c.requires.servers;
       disks = c.refused-in-Some-refusal.ensures.disks;
     }
 
@@ -109,7 +106,6 @@ returns-in_err-reserve_one g c =
           (go_wanting c.args.line c.args.action c.args.bodies.now old new might might
           c.args.workers.now c.requires.go (λ script st is keeps. keeps) c.reserve_one.ensures.same
           c.args.workers.now (λ script st keeps are. are));
-      servers = c.requires.servers;
       disks = goes_on_still;
     }
 
@@ -137,7 +133,6 @@ go-requires g c =
           c.args.workers.now c.requires.go c.in-Some.name (sym c.in-Some.ensures)
           (c.home.result.0 - 1) home runs _ seen (pos 0) None (c.in_default-refusal.ensures.rule free)
           refl;
-      servers = c.requires.servers;
     }
 
 pub returns-in_err-done : goal.returns-in_err-done
@@ -158,7 +153,6 @@ returns-in_err-done g c =
           c.args.workers.now c.requires.go c.in_err-done.ensures.as_before
           c.reserve_one.ensures.same
           c.go.new.workers c.in_err-done.ensures.workers_as_before);
-      servers = c.go.ensures.servers;
       disks = c.go.ensures.disks;
     }
 
@@ -195,6 +189,5 @@ returns g c =
           (c.home.result.0 - 1) home runs _ seen (pos 0) None (c.in_default-refusal.ensures.rule free) refl
           c.go.new.workers c.in_ok-done.done c.in_ok-done.ensures.gone
           (c.push_reserved.ensures ∙ ap (λ bs. bs ++ None ∷ []) c.reserve_one.ensures.same);
-      servers = c.go.ensures.servers;
       disks = c.go.ensures.disks;
     }

@@ -17,12 +17,7 @@ returns-in_err-reserve_one-clause-led g c =
 
 pub returns-in_err-reserve_one-clause-as_before : goal.returns-in_err-reserve_one-clause-as_before
 returns-in_err-reserve_one-clause-as_before g c =
-    on_err c.from_residual.result _
-    (unchanged_lines (works_of g.L.CheckpointLog g.L.EntryLog c.args.self.now.works)
-    (works_of g.L.CheckpointLog g.L.EntryLog c.args.self.now.works)
-    (reads_of g.L.CheckpointLog g.L.EntryLog c.args.self.now.works)
-    (reads_of g.L.CheckpointLog g.L.EntryLog c.args.self.now.works)
-    c.args.self.now.bound.items c.reserve_one.new.list.items (λ script st is keeps. keeps)
+    on_err _ _ (unchanged_lines _ _ _ _ _ _ (λ script st is keeps. keeps)
     c.reserve_one.ensures.same)
 
 pub put-requires-clause-place : goal.put-requires-clause-place
@@ -51,12 +46,7 @@ returns-in_err-done-clause-led g c =
 
 pub returns-in_err-done-clause-as_before : goal.returns-in_err-done-clause-as_before
 returns-in_err-done-clause-as_before g c =
-    on_err c.from_residual-in_err-done.result _
-    (unchanged_lines (works_of g.L.CheckpointLog g.L.EntryLog c.args.self.now.works)
-    (works_of g.L.CheckpointLog g.L.EntryLog c.put.new.self)
-    (reads_of g.L.CheckpointLog g.L.EntryLog c.args.self.now.works)
-    (reads_of g.L.CheckpointLog g.L.EntryLog c.put.new.self)
-    c.args.self.now.bound.items c.reserve_one.new.list.items c.in_err-done.ensures.as_before
+    on_err _ _ (unchanged_lines _ _ _ _ _ _ c.in_err-done.ensures.as_before
     c.reserve_one.ensures.same)
 
 pub push_reserved-requires : goal.push_reserved-requires
@@ -69,30 +59,6 @@ returns-clause-disks g c =
 
 pub returns-clause-led : goal.returns-clause-led
 returns-clause-led g c =
-    led_by c.args.line c.args.place c.args.input.now
-    (works_of g.L.CheckpointLog g.L.EntryLog c.args.self.now.works)
-    (works_of g.L.CheckpointLog g.L.EntryLog c.put.new.self)
-    (reads_of g.L.CheckpointLog g.L.EntryLog c.args.self.now.works)
-    (reads_of g.L.CheckpointLog g.L.EntryLog c.put.new.self) c.args.self.now.bound.items
-    c.push_reserved.new.list.items
-    c.bound_after-binds.result c.in_ok-done.done c.in_ok-done.ensures.put
-    (subst (λ es. IsBinding c.args.input.now es c.in_ok-done.done c.bound_after-binds.result)
-    c.as_slice.ensures.value c.bound_after-binds.ensures)
-    (c.push_reserved.ensures
-    ∙ ap (λ bs. bs ++ c.bound_after-binds.result ∷ []) c.reserve_one.ensures.same)
-
-pub put-requires-clause-servers : goal.put-requires-clause-servers
-put-requires-clause-servers g c =
-    c.requires.servers
-
-pub returns-in_err-reserve_one-clause-servers : goal.returns-in_err-reserve_one-clause-servers
-returns-in_err-reserve_one-clause-servers g c =
-    c.requires.servers
-
-pub returns-in_err-done-clause-servers : goal.returns-in_err-done-clause-servers
-returns-in_err-done-clause-servers g c =
-    c.put.ensures.servers
-
-pub returns-clause-servers : goal.returns-clause-servers
-returns-clause-servers g c =
-    c.put.ensures.servers
+    led_by _ _ _ _ _ _ _ _ _ _ _ c.in_ok-done.ensures.put (rw (←
+    c.as_slice.ensures.value) c.bound_after-binds.ensures) (c.push_reserved.ensures ∙ ap (λ bs. bs
+    ++ c.bound_after-binds.result ∷ []) c.reserve_one.ensures.same)

@@ -18,26 +18,15 @@ returns-in_err-reserve_one-clause-led g c =
 
 pub returns-in_err-reserve_one-clause-as_before : goal.returns-in_err-reserve_one-clause-as_before
 returns-in_err-reserve_one-clause-as_before g c =
-    on_err c.from_residual.result _
-    (unchanged_lines (works_of g.L.CheckpointLog g.L.EntryLog c.args.self.now.works)
-    (works_of g.L.CheckpointLog g.L.EntryLog c.args.self.now.works)
-    (reads_of g.L.CheckpointLog g.L.EntryLog c.args.self.now.works)
-    (reads_of g.L.CheckpointLog g.L.EntryLog c.args.self.now.works)
-    c.args.self.now.bound.items c.reserve_one.new.list.items (λ script st is keeps. keeps)
+    on_err _ _ (unchanged_lines _ _ _ _ _ _ (λ script st is keeps. keeps)
     c.reserve_one.ensures.same)
-
-pub returns-in_err-reserve_one-clause-servers : goal.returns-in_err-reserve_one-clause-servers
-returns-in_err-reserve_one-clause-servers g c =
-    c.requires.servers
 
 pub hand_over-requires-clause-all : goal.hand_over-requires-clause-all
 hand_over-requires-clause-all g c =
     c.requires.all
 
 pub hand_over-requires-clause-stand : goal.hand_over-requires-clause-stand
-hand_over-requires-clause-stand g c =
-    works_of_lines (lines_of g.L.CheckpointLog g.L.EntryLog c.args.self.now)
-    (reads_of g.L.CheckpointLog g.L.EntryLog c.args.self.now.works) c.requires.stand
+hand_over-requires-clause-stand g c = works_of_lines _ _ c.requires.stand
 
 pub hand_over-requires-clause-found : goal.hand_over-requires-clause-found
 hand_over-requires-clause-found g c =
@@ -51,10 +40,6 @@ pub hand_over-requires-clause-read : goal.hand_over-requires-clause-read
 hand_over-requires-clause-read g c =
     c.requires.read
 
-pub hand_over-requires-clause-servers : goal.hand_over-requires-clause-servers
-hand_over-requires-clause-servers g c =
-    c.requires.servers
-
 pub returns-in_err-done-clause-disks : goal.returns-in_err-done-clause-disks
 returns-in_err-done-clause-disks g c =
     c.hand_over.ensures.disks
@@ -65,17 +50,8 @@ returns-in_err-done-clause-led g c =
 
 pub returns-in_err-done-clause-as_before : goal.returns-in_err-done-clause-as_before
 returns-in_err-done-clause-as_before g c =
-    on_err c.from_residual-in_err-done.result _
-    (unchanged_lines (works_of g.L.CheckpointLog g.L.EntryLog c.args.self.now.works)
-    (works_of g.L.CheckpointLog g.L.EntryLog c.hand_over.new.self)
-    (reads_of g.L.CheckpointLog g.L.EntryLog c.args.self.now.works)
-    (reads_of g.L.CheckpointLog g.L.EntryLog c.hand_over.new.self)
-    c.args.self.now.bound.items c.reserve_one.new.list.items c.in_err-done.ensures.as_before
+    on_err _ _ (unchanged_lines _ _ _ _ _ _ c.in_err-done.ensures.as_before
     c.reserve_one.ensures.same)
-
-pub returns-in_err-done-clause-servers : goal.returns-in_err-done-clause-servers
-returns-in_err-done-clause-servers g c =
-    c.hand_over.ensures.servers
 
 pub push_reserved-requires : goal.push_reserved-requires
 push_reserved-requires g c =
@@ -87,14 +63,5 @@ returns-clause-disks g c =
 
 pub returns-clause-led : goal.returns-clause-led
 returns-clause-led g c =
-    led_letter c.args.line c.args.number
-    (works_of g.L.CheckpointLog g.L.EntryLog c.args.self.now.works)
-    (works_of g.L.CheckpointLog g.L.EntryLog c.hand_over.new.self)
-    (reads_of g.L.CheckpointLog g.L.EntryLog c.args.self.now.works)
-    (reads_of g.L.CheckpointLog g.L.EntryLog c.hand_over.new.self) c.args.self.now.bound.items
-    c.push_reserved.new.list.items c.in_ok-done.done c.in_ok-done.ensures.delivered
-    (c.push_reserved.ensures ∙ ap (λ bs. bs ++ None ∷ []) c.reserve_one.ensures.same)
-
-pub returns-clause-servers : goal.returns-clause-servers
-returns-clause-servers g c =
-    c.hand_over.ensures.servers
+    led_letter _ _ _ _ _ _ _ _ _ c.in_ok-done.ensures.delivered (c.push_reserved.ensures ∙
+    ap (λ bs. bs ++ None ∷ []) c.reserve_one.ensures.same)

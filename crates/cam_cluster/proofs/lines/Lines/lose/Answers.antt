@@ -16,36 +16,15 @@ use Rattle.cam_cluster.proofs.lines.Lines.lose.Goals as goal
 
 pub put_letters-requires : goal.put_letters-requires
 put_letters-requires g c = record {
-  writable =
-      works_may_be_written (works_of g.L.CheckpointLog g.L.EntryLog c.args.self.now.works)
-      (reads_of g.L.CheckpointLog g.L.EntryLog c.args.self.now.works)
-      (works_of_lines (lines_of g.L.CheckpointLog g.L.EntryLog c.args.self.now)
-      (reads_of g.L.CheckpointLog g.L.EntryLog c.args.self.now.works) c.requires.stand);
+  writable = works_may_be_written _ _ (works_of_lines _ _ c.requires.stand);
 }
 
 pub returns-in_err-put_letters : goal.returns-in_err-put_letters
 returns-in_err-put_letters g c =
     let wants : c.from_residual.result ≡ Err line_faults.NoMemory = search rules in record {
       line =
-          subst (λ r. IsLineBy c.args.line (acts.Lose c.args.letter) (IsLoss c.args.letter)
-          (lines_of g.L.CheckpointLog g.L.EntryLog c.args.self.now)
-          (reads_of g.L.CheckpointLog g.L.EntryLog c.args.self.now.works) (record {
-            works = works_of g.L.CheckpointLog g.L.EntryLog c.put_letters.new.self;
-            bound = c.args.self.now.bound.items;
-          })
-          (reads_of g.L.CheckpointLog g.L.EntryLog c.put_letters.new.self) r) (sym wants)
-          (wanting_ends (IsLoss c.args.letter) c.args.line (acts.Lose c.args.letter)
-          (lines_of g.L.CheckpointLog g.L.EntryLog c.args.self.now) (record {
-            works = works_of g.L.CheckpointLog g.L.EntryLog c.put_letters.new.self;
-            bound = c.args.self.now.bound.items;
-          }) (reads_of g.L.CheckpointLog g.L.EntryLog c.args.self.now.works)
-          (reads_of g.L.CheckpointLog g.L.EntryLog c.put_letters.new.self)
-          (unchanged_lines (works_of g.L.CheckpointLog g.L.EntryLog c.args.self.now.works)
-          (works_of g.L.CheckpointLog g.L.EntryLog c.put_letters.new.self)
-          (reads_of g.L.CheckpointLog g.L.EntryLog c.args.self.now.works)
-          (reads_of g.L.CheckpointLog g.L.EntryLog c.put_letters.new.self)
-          c.args.self.now.bound.items c.args.self.now.bound.items
-          c.put_letters.ensures.as_before refl));
+          rw wants (wanting_ends (IsLoss c.args.letter) _ _ _ _ _ _ (unchanged_lines _ _ _
+          _ _ _ c.put_letters.ensures.as_before refl));
       disks = c.put_letters.ensures.disks;
     }
 
@@ -54,25 +33,8 @@ returns-in_err-reserve_one g c =
     let wants : c.from_residual-in_err-reserve_one.result ≡ Err line_faults.NoMemory =
     search rules in record {
       line =
-          subst (λ r. IsLineBy c.args.line (acts.Lose c.args.letter) (IsLoss c.args.letter)
-          (lines_of g.L.CheckpointLog g.L.EntryLog c.args.self.now)
-          (reads_of g.L.CheckpointLog g.L.EntryLog c.args.self.now.works) (record {
-            works = works_of g.L.CheckpointLog g.L.EntryLog c.put_letters.new.self;
-            bound = c.reserve_one.new.list.items;
-          })
-          (reads_of g.L.CheckpointLog g.L.EntryLog c.put_letters.new.self) r) (sym wants)
-          (wanting_ends (IsLoss c.args.letter) c.args.line (acts.Lose c.args.letter)
-          (lines_of g.L.CheckpointLog g.L.EntryLog c.args.self.now) (record {
-            works = works_of g.L.CheckpointLog g.L.EntryLog c.put_letters.new.self;
-            bound = c.reserve_one.new.list.items;
-          }) (reads_of g.L.CheckpointLog g.L.EntryLog c.args.self.now.works)
-          (reads_of g.L.CheckpointLog g.L.EntryLog c.put_letters.new.self)
-          (unchanged_lines (works_of g.L.CheckpointLog g.L.EntryLog c.args.self.now.works)
-          (works_of g.L.CheckpointLog g.L.EntryLog c.put_letters.new.self)
-          (reads_of g.L.CheckpointLog g.L.EntryLog c.args.self.now.works)
-          (reads_of g.L.CheckpointLog g.L.EntryLog c.put_letters.new.self)
-          c.args.self.now.bound.items c.reserve_one.new.list.items
-          c.put_letters.ensures.as_before c.reserve_one.ensures.same));
+          rw wants (wanting_ends (IsLoss c.args.letter) _ _ _ _ _ _ (unchanged_lines _ _ _
+          _ _ _ c.put_letters.ensures.as_before c.reserve_one.ensures.same));
       disks = c.put_letters.ensures.disks;
     }
 
@@ -81,74 +43,20 @@ returns-in_err-refuse g c =
     let wants : c.from_residual-in_err-refuse.result ≡ Err line_faults.NoMemory =
     search rules in record {
       line =
-          subst (λ r. IsLineBy c.args.line (acts.Lose c.args.letter) (IsLoss c.args.letter)
-          (lines_of g.L.CheckpointLog g.L.EntryLog c.args.self.now)
-          (reads_of g.L.CheckpointLog g.L.EntryLog c.args.self.now.works)
-          (lines_of g.L.CheckpointLog g.L.EntryLog c.refuse.new.self)
-          (reads_of g.L.CheckpointLog g.L.EntryLog c.refuse.new.self.works) r) (sym wants)
-          (wanting_ends (IsLoss c.args.letter) c.args.line (acts.Lose c.args.letter)
-          (lines_of g.L.CheckpointLog g.L.EntryLog c.args.self.now)
-          (lines_of g.L.CheckpointLog g.L.EntryLog c.refuse.new.self)
-          (reads_of g.L.CheckpointLog g.L.EntryLog c.args.self.now.works)
-          (reads_of g.L.CheckpointLog g.L.EntryLog c.refuse.new.self.works)
-          (both_before (lines_of g.L.CheckpointLog g.L.EntryLog c.args.self.now) (record {
-            works = works_of g.L.CheckpointLog g.L.EntryLog c.put_letters.new.self;
-            bound = c.reserve_one.new.list.items;
-          }) (lines_of g.L.CheckpointLog g.L.EntryLog c.refuse.new.self)
-          (reads_of g.L.CheckpointLog g.L.EntryLog c.args.self.now.works)
-          (reads_of g.L.CheckpointLog g.L.EntryLog c.put_letters.new.self)
-          (reads_of g.L.CheckpointLog g.L.EntryLog c.refuse.new.self.works)
-          (unchanged_lines (works_of g.L.CheckpointLog g.L.EntryLog c.args.self.now.works)
-          (works_of g.L.CheckpointLog g.L.EntryLog c.put_letters.new.self)
-          (reads_of g.L.CheckpointLog g.L.EntryLog c.args.self.now.works)
-          (reads_of g.L.CheckpointLog g.L.EntryLog c.put_letters.new.self)
-          c.args.self.now.bound.items c.reserve_one.new.list.items
-          c.put_letters.ensures.as_before c.reserve_one.ensures.same)
-          (subst (λ o. KeepsLinesAsBefore (record {
-            works =
-                seen (part g.L.CheckpointLog g.L.EntryLog) (tells_of g.L.CheckpointLog g.L.EntryLog)
-                (reads_at g.L.CheckpointLog g.L.EntryLog)
-                c.put_letters.new.self.nodes.items o c.put_letters.new.self.halted
-                c.put_letters.new.self.failed c.put_letters.new.self.undecided.items
-                c.put_letters.new.self.events.events.items c.put_letters.new.self.marks.items;
-            bound = c.reserve_one.new.list.items;
-          }) (reads_of g.L.CheckpointLog g.L.EntryLog c.put_letters.new.self)
-          (lines_of g.L.CheckpointLog g.L.EntryLog c.refuse.new.self)
-          (reads_of g.L.CheckpointLog g.L.EntryLog c.refuse.new.self.works))
-          (c.lose.ensures.unchanged c.if-not-lose.true) c.in_err-refuse.ensures.as_before)));
+          rw wants (wanting_ends (IsLoss c.args.letter) _ _ _ _ _ _ (both_before _ _ _ _
+          _ _ (unchanged_lines _ _ _ _ _ _ c.put_letters.ensures.as_before
+          c.reserve_one.ensures.same) (rw (← (c.lose.ensures.unchanged c.if-not-lose.true))
+          c.in_err-refuse.ensures.as_before)));
       disks = goes_on_then c.put_letters.ensures.disks c.refuse.ensures.disks;
     }
 
 pub returns-then-not-lose : goal.returns-then-not-lose
 returns-then-not-lose g c = record {
   line =
-      loss_refused c.args.line c.args.letter
-      (lines_of g.L.CheckpointLog g.L.EntryLog c.args.self.now)
-      (reads_of g.L.CheckpointLog g.L.EntryLog c.args.self.now.works)
-      (reads_of g.L.CheckpointLog g.L.EntryLog c.put_letters.new.self)
-      (works_of g.L.CheckpointLog g.L.EntryLog c.put_letters.new.self) c.reserve_one.new.list.items
-      c.reserve_one.new.list.items
-      (unchanged_lines (works_of g.L.CheckpointLog g.L.EntryLog c.args.self.now.works)
-      (works_of g.L.CheckpointLog g.L.EntryLog c.put_letters.new.self)
-      (reads_of g.L.CheckpointLog g.L.EntryLog c.args.self.now.works)
-      (reads_of g.L.CheckpointLog g.L.EntryLog c.put_letters.new.self) c.args.self.now.bound.items
-      c.reserve_one.new.list.items
-      c.put_letters.ensures.as_before c.reserve_one.ensures.same) c.in_ok-put_letters.ensures.all
-      (lines_of g.L.CheckpointLog g.L.EntryLog c.refuse.new.self)
-      (reads_of g.L.CheckpointLog g.L.EntryLog c.refuse.new.self.works)
-      (sym c.lose.ensures.answer ∙ c.if-not-lose.true)
-      (subst (λ o. HasRefused c.args.line refusals.NoLetter (record {
-        works =
-            seen (part g.L.CheckpointLog g.L.EntryLog) (tells_of g.L.CheckpointLog g.L.EntryLog)
-            (reads_at g.L.CheckpointLog g.L.EntryLog)
-            c.put_letters.new.self.nodes.items o c.put_letters.new.self.halted
-            c.put_letters.new.self.failed c.put_letters.new.self.undecided.items
-            c.put_letters.new.self.events.events.items c.put_letters.new.self.marks.items;
-        bound = c.reserve_one.new.list.items;
-      }) (reads_of g.L.CheckpointLog g.L.EntryLog c.put_letters.new.self)
-      (lines_of g.L.CheckpointLog g.L.EntryLog c.refuse.new.self)
-      (reads_of g.L.CheckpointLog g.L.EntryLog c.refuse.new.self.works))
-      (c.lose.ensures.unchanged c.if-not-lose.true) c.in_ok-refuse.ensures.refused);
+      loss_refused _ _ _ _ _ _ _ c.reserve_one.new.list.items (unchanged_lines _ _ _ _ _
+      _ c.put_letters.ensures.as_before c.reserve_one.ensures.same) c.in_ok-put_letters.ensures.all
+      _ _ (sym c.lose.ensures.answer ∙ c.if-not-lose.true) (rw (← (c.lose.ensures.unchanged
+      c.if-not-lose.true)) c.in_ok-refuse.ensures.refused);
   disks = goes_on_then c.put_letters.ensures.disks c.refuse.ensures.disks;
 }
 
@@ -159,28 +67,7 @@ push_reserved-requires g c =
 pub returns : goal.returns
 returns g c = record {
   line =
-      subst (λ o. IsLineBy c.args.line (acts.Lose c.args.letter) (IsLoss c.args.letter)
-      (lines_of g.L.CheckpointLog g.L.EntryLog c.args.self.now)
-      (reads_of g.L.CheckpointLog g.L.EntryLog c.args.self.now.works) (record {
-        works =
-            seen (part g.L.CheckpointLog g.L.EntryLog) (tells_of g.L.CheckpointLog g.L.EntryLog)
-            (reads_at g.L.CheckpointLog g.L.EntryLog)
-            c.put_letters.new.self.nodes.items o c.put_letters.new.self.halted
-            c.put_letters.new.self.failed c.put_letters.new.self.undecided.items
-            c.put_letters.new.self.events.events.items c.put_letters.new.self.marks.items;
-        bound = c.push_reserved.new.list.items;
-      }) (reads_of g.L.CheckpointLog g.L.EntryLog c.put_letters.new.self) (Ok tt))
-      (sym c.lose.ensures.lost)
-      (loss_ends c.args.line c.args.letter (lines_of g.L.CheckpointLog g.L.EntryLog c.args.self.now)
-      (reads_of g.L.CheckpointLog g.L.EntryLog c.args.self.now.works)
-      (reads_of g.L.CheckpointLog g.L.EntryLog c.put_letters.new.self)
-      (works_of g.L.CheckpointLog g.L.EntryLog c.put_letters.new.self) c.reserve_one.new.list.items
-      c.push_reserved.new.list.items
-      (unchanged_lines (works_of g.L.CheckpointLog g.L.EntryLog c.args.self.now.works)
-      (works_of g.L.CheckpointLog g.L.EntryLog c.put_letters.new.self)
-      (reads_of g.L.CheckpointLog g.L.EntryLog c.args.self.now.works)
-      (reads_of g.L.CheckpointLog g.L.EntryLog c.put_letters.new.self) c.args.self.now.bound.items
-      c.reserve_one.new.list.items
+      rw c.lose.ensures.lost (loss_ends _ _ _ _ _ _ _ _ (unchanged_lines _ _ _ _ _ _
       c.put_letters.ensures.as_before c.reserve_one.ensures.same) c.in_ok-put_letters.ensures.all
       (sym c.lose.ensures.answer ∙ c.if-not-lose.false) c.push_reserved.ensures);
   disks = c.put_letters.ensures.disks;

@@ -18,23 +18,12 @@ pub returns-in_err-reserve_one-clause-part : goal.returns-in_err-reserve_one-cla
 returns-in_err-reserve_one-clause-part g c =
     let works = works_of g.L.CheckpointLog g.L.EntryLog c.args.self.now.works in
     let reads = reads_of g.L.CheckpointLog g.L.EntryLog c.args.self.now.works in
-    on_err c.from_residual.result _
-    (play_wanting c.args.line c.args.bodies.now works works reads reads c.args.workers.now
-    c.args.workers.now c.args.self.now.bound.items c.reserve_one.new.list.items
-    (none_played c.args.line c.args.bodies.now works reads c.args.workers.now)
-    c.reserve_one.ensures.same)
+    on_err _ _ (play_wanting c.args.line c.args.bodies.now works works reads reads
+    c.args.workers.now c.args.workers.now c.args.self.now.bound.items c.reserve_one.new.list.items
+    (none_played _ _ _ _ _) c.reserve_one.ensures.same)
 
-pub returns-in_err-reserve_one-clause-servers : goal.returns-in_err-reserve_one-clause-servers
-returns-in_err-reserve_one-clause-servers g c =
-    c.requires.servers
-
-pub play-requires-clause-play : goal.play-requires-clause-play
-play-requires-clause-play g c =
-    c.requires.play
-
-pub play-requires-clause-servers : goal.play-requires-clause-servers
-play-requires-clause-servers g c =
-    c.requires.servers
+pub play-requires : goal.play-requires
+play-requires g c = record { play = c.requires.play; }
 
 pub returns-in_err-play-clause-disks : goal.returns-in_err-play-clause-disks
 returns-in_err-play-clause-disks g c =
@@ -46,18 +35,11 @@ returns-in_err-play-clause-line g c =
 
 pub returns-in_err-play-clause-part : goal.returns-in_err-play-clause-part
 returns-in_err-play-clause-part g c =
-    on_err c.from_residual-in_err-play.result _
-    (play_wanting c.args.line c.args.bodies.now
-    (works_of g.L.CheckpointLog g.L.EntryLog c.args.self.now.works)
-    (works_of g.L.CheckpointLog g.L.EntryLog c.play.new.self)
-    (reads_of g.L.CheckpointLog g.L.EntryLog c.args.self.now.works)
-    (reads_of g.L.CheckpointLog g.L.EntryLog c.play.new.self) c.args.workers.now
-    c.play.new.workers c.args.self.now.bound.items c.reserve_one.new.list.items
-    c.in_err-play.ensures.part c.reserve_one.ensures.same)
-
-pub returns-in_err-play-clause-servers : goal.returns-in_err-play-clause-servers
-returns-in_err-play-clause-servers g c =
-    c.play.ensures.servers
+    on_err _ _ (play_wanting c.args.line c.args.bodies.now (works_of g.L.CheckpointLog g.L.EntryLog
+    c.args.self.now.works) (works_of g.L.CheckpointLog g.L.EntryLog c.play.new.self) (reads_of
+    g.L.CheckpointLog g.L.EntryLog c.args.self.now.works) (reads_of g.L.CheckpointLog g.L.EntryLog
+    c.play.new.self) c.args.workers.now c.play.new.workers c.args.self.now.bound.items
+    c.reserve_one.new.list.items c.in_err-play.ensures.part c.reserve_one.ensures.same)
 
 pub push_reserved-requires : goal.push_reserved-requires
 push_reserved-requires g c =
@@ -77,7 +59,3 @@ returns-clause-line g c =
     c.play.new.workers c.args.self.now.bound.items c.push_reserved.new.list.items
     c.in_ok-play.ensures.played
     (c.push_reserved.ensures ∙ ap (λ bs. bs ++ None ∷ []) c.reserve_one.ensures.same)
-
-pub returns-clause-servers : goal.returns-clause-servers
-returns-clause-servers g c =
-    c.play.ensures.servers

@@ -13,88 +13,74 @@ use Rattle.cam_cluster.proofs.lines.Lines.put_line.Goals as goal
 pub begin-requires : goal.begin-requires
 begin-requires g c =
     let within =
-    begin_node c.args.step.now c.args.self.now c.in-Begin.node c.in-Begin.is c.requires.next in
+    begin_node _ c.args.self.now _ c.in-Begin.is c.requires.next in
     record {
       low = within.0;
       node = within.1;
-      stand = stands_before c.args.step.now c.args.self.now c.requires.next;
-      servers = c.requires.servers;
+      stand = stands_before _ c.args.self.now c.requires.next;
     }
 
 pub start-requires : goal.start-requires
 start-requires g c =
     let within =
-    start_node c.args.step.now c.args.self.now c.in-Start.node c.in-Start.body c.in-Start.is
-    c.requires.next in record {
+    start_node _ c.args.self.now _ _ c.in-Start.is c.requires.next in record {
       low = within.0;
       node = within.1;
-      stand = stands_before c.args.step.now c.args.self.now c.requires.next;
-      servers = c.requires.servers;
+      stand = stands_before _ c.args.self.now c.requires.next;
     }
 
 pub ask-requires : goal.ask-requires
 ask-requires g c = record {
-  next = next_as c.args.step.now c.args.self.now _ c.in-Ask.is c.requires.next;
-  servers = c.requires.servers;
+  next = next_as _ c.args.self.now _ c.in-Ask.is c.requires.next;
 }
 
 pub call-requires : goal.call-requires
 call-requires g c = record {
-  next = next_as c.args.step.now c.args.self.now _ c.in-Call.is c.requires.next;
-  servers = c.requires.servers;
+  next = next_as _ c.args.self.now _ c.in-Call.is c.requires.next;
 }
 
 pub abort-requires : goal.abort-requires
 abort-requires g c = record {
-  next = next_as c.args.step.now c.args.self.now _ c.in-Abort.is c.requires.next;
-  servers = c.requires.servers;
+  next = next_as _ c.args.self.now _ c.in-Abort.is c.requires.next;
 }
 
 pub give_up-requires : goal.give_up-requires
 give_up-requires g c = record {
-  next = next_as c.args.step.now c.args.self.now _ c.in-GiveUp.is c.requires.next;
-  servers = c.requires.servers;
+  next = next_as _ c.args.self.now _ c.in-GiveUp.is c.requires.next;
 }
 
 pub tell-requires : goal.tell-requires
 tell-requires g c = record {
-  next = next_as c.args.step.now c.args.self.now _ c.in-Tell.is c.requires.next;
-  servers = c.requires.servers;
+  next = next_as _ c.args.self.now _ c.in-Tell.is c.requires.next;
 }
 
 pub query-requires : goal.query-requires
 query-requires g c = record {
-  next = next_as c.args.step.now c.args.self.now _ c.in-Query.is c.requires.next;
-  servers = c.requires.servers;
+  next = next_as _ c.args.self.now _ c.in-Query.is c.requires.next;
 }
 
 pub commit-requires : goal.commit-requires
 commit-requires g c = record {
   next =
-      subst (λ (v : ℤ). IsNext c.args.step.now c.args.self.now (acts.Commit c.in-Commit.action v))
-      (sym (to_z-of_z w64 c.in-Commit.value (omega (arith, c.in-Commit.value-1-given))))
-      (next_as c.args.step.now c.args.self.now _ c.in-Commit.is c.requires.next);
-  servers = c.requires.servers;
+      rw (to_z-of_z w64 c.in-Commit.value (omega (arith, c.in-Commit.value-1-given))) (next_as _ c.args.self.now _ c.in-Commit.is c.requires.next);
 }
 
 pub deliver-requires : goal.deliver-requires
 deliver-requires g c = record {
-  stand = stands_before c.args.step.now c.args.self.now c.requires.next;
-  servers = c.requires.servers;
+  stand = stands_before _ c.args.self.now c.requires.next;
 }
 
 pub unreachable-requires : goal.unreachable-requires
-unreachable-requires g c = puts_none c.args.step.now.act c.requires.input c.in-Go.is
+unreachable-requires g c = puts_none _ c.requires.input c.in-Go.is
 
 pub unreachable-unreachable : goal.unreachable-unreachable
-unreachable-unreachable g c = absurd (puts_none c.args.step.now.act c.requires.input c.in-Go.is)
+unreachable-unreachable g c = absurd (puts_none _ c.requires.input c.in-Go.is)
 
 pub returns-in-Begin : goal.returns-in-Begin
 returns-in-Begin g c = record {
   line =
       input_as c.args.step.now c.args.self.now c.begin.new.self c.begin.result
       c.requires.input _ (Begins c.in-Begin.node) c.in-Begin.is c.begin.ensures.line;
-  servers = c.begin.ensures.servers;
   disks = c.begin.ensures.disks;
 }
 
@@ -104,7 +90,6 @@ returns-in-Start g c = record {
       input_as c.args.step.now c.args.self.now c.start.new.self c.start.result
       c.requires.input _ (Begins c.in-Start.node) c.in-Start.is
       (c.start.ensures.line c.in-Start.body);
-  servers = c.start.ensures.servers;
   disks = c.start.ensures.disks;
 }
 
@@ -115,7 +100,6 @@ returns-in-Ask g c = record {
       (request_of (action_of c.args.self.now.bound.items c.in-Ask.parent)
       (wants.Ask c.in-Ask.node))
       c.in-Ask.is c.ask.ensures.line;
-  servers = c.ask.ensures.servers;
   disks = c.ask.ensures.disks;
 }
 
@@ -126,23 +110,16 @@ returns-in-Call g c = record {
       (request_of (action_of c.args.self.now.bound.items c.in-Call.action)
       (wants.Call c.in-Call.object c.in-Call.op))
       c.in-Call.is c.call.ensures.line;
-  servers = c.call.ensures.servers;
   disks = c.call.ensures.disks;
 }
 
 pub returns-in-Commit : goal.returns-in-Commit
 returns-in-Commit g c = record {
   line =
-      variable_as c.args.step.now c.args.self.now c.commit.new.self c.commit.result
-      c.requires.input _
-      (request_of (action_of c.args.self.now.bound.items c.in-Commit.action)
-      (wants.Commit c.in-Commit.value)) c.in-Commit.is
-      (subst (λ (v : ℤ). IsVariableLineAs c.args.step.now c.args.self.now c.commit.new.self
-      c.commit.result c.requires.input (acts.Commit c.in-Commit.action v)
-      (request_of (action_of c.args.self.now.bound.items c.in-Commit.action) (wants.Commit v)))
-      (to_z-of_z w64 c.in-Commit.value (omega (arith, c.in-Commit.value-1-given)))
-      c.commit.ensures.line);
-  servers = c.commit.ensures.servers;
+      variable_as c.args.step.now c.args.self.now c.commit.new.self c.commit.result c.requires.input
+      _ (request_of (action_of c.args.self.now.bound.items c.in-Commit.action) (wants.Commit
+      c.in-Commit.value)) c.in-Commit.is (rw (← (to_z-of_z w64 c.in-Commit.value (omega (arith,
+      c.in-Commit.value-1-given)))) c.commit.ensures.line);
   disks = c.commit.ensures.disks;
 }
 
@@ -152,7 +129,6 @@ returns-in-Abort g c = record {
       variable_as c.args.step.now c.args.self.now c.abort.new.self c.abort.result c.requires.input _
       (request_of (action_of c.args.self.now.bound.items c.in-Abort.action) wants.Abort)
       c.in-Abort.is c.abort.ensures.line;
-  servers = c.abort.ensures.servers;
   disks = c.abort.ensures.disks;
 }
 
@@ -164,7 +140,6 @@ returns-in-GiveUp g c = record {
       (give_up_of (action_of c.args.self.now.bound.items c.in-GiveUp.action)
       (action_of c.args.self.now.bound.items c.in-GiveUp.child))
       c.in-GiveUp.is c.give_up.ensures.line;
-  servers = c.give_up.ensures.servers;
   disks = c.give_up.ensures.disks;
 }
 
@@ -173,7 +148,6 @@ returns-in-Tell g c = record {
   line =
       input_as c.args.step.now c.args.self.now c.tell.new.self c.tell.result
       c.requires.input _ (Tells c.in-Tell.node c.in-Tell.to) c.in-Tell.is c.tell.ensures.line;
-  servers = c.tell.ensures.servers;
   disks = c.tell.ensures.disks;
 }
 
@@ -183,7 +157,6 @@ returns-in-Query g c = record {
       variable_as c.args.step.now c.args.self.now c.query.new.self c.query.result c.requires.input _
       (query_of c.in-Query.node (action_of c.args.self.now.bound.items c.in-Query.action))
       c.in-Query.is c.query.ensures.line;
-  servers = c.query.ensures.servers;
   disks = c.query.ensures.disks;
 }
 
@@ -192,6 +165,5 @@ returns-in-Deliver g c = record {
   line =
       letter_as c.args.step.now c.args.self.now c.deliver.new.self c.deliver.result
       c.requires.input c.in-Deliver.letter c.in-Deliver.is c.deliver.ensures.line;
-  servers = c.deliver.ensures.servers;
   disks = c.deliver.ensures.disks;
 }

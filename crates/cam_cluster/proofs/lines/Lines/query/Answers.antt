@@ -12,24 +12,21 @@ pub overflow_sub-node : goal.overflow_sub-node
 overflow_sub-node g c =
     let old = lines_of g.L.CheckpointLog g.L.EntryLog c.args.self.now in
     let might = reads_of g.L.CheckpointLog g.L.EntryLog c.args.self.now.works in
-    let some = query_some c.args.line c.args.node c.args.action old old might might c.in-Some.name
-    (sym c.in-Some.ensures) c.requires.next in
+    let some = query_some _ _ _ _ old _ might _ (sym c.in-Some.ensures) c.requires.next in
     some.is_line.low
 
-pub try_lead-requires-clause-to : goal.try_lead-requires-clause-to
-try_lead-requires-clause-to g c =
-    let old = lines_of g.L.CheckpointLog g.L.EntryLog c.args.self.now in
-    let might = reads_of g.L.CheckpointLog g.L.EntryLog c.args.self.now.works in
-    let some = query_some c.args.line c.args.node c.args.action old old might might c.in-Some.name
-    (sym c.in-Some.ensures) c.requires.next in
-    let back = before_after c.args.node some.is_line.low in
-    subst (λ f. IsLineToSome (c.args.node - 1 + 1) (inputs.Query f) old might) (sym
-    c.family.ensures) (subst (λ (n : ℕ). IsLineToSome n (inputs.Query (family c.in-Some.name)) old
-    might) (sym back) some)
-
-pub try_lead-requires-clause-servers : goal.try_lead-requires-clause-servers
-try_lead-requires-clause-servers g c =
-    c.requires.servers
+pub try_lead-requires : goal.try_lead-requires
+try_lead-requires g c = record {
+  to =
+      let old = lines_of g.L.CheckpointLog g.L.EntryLog c.args.self.now in
+      let might = reads_of g.L.CheckpointLog g.L.EntryLog c.args.self.now.works in
+      let some = query_some c.args.line c.args.node c.args.action old old might might c.in-Some.name
+      (sym c.in-Some.ensures) c.requires.next in
+      let back = before_after c.args.node some.is_line.low in
+      subst (λ f. IsLineToSome (c.args.node - 1 + 1) (inputs.Query f) old might) (sym
+      c.family.ensures) (subst (λ (n : ℕ). IsLineToSome n (inputs.Query (family c.in-Some.name)) old
+      might) (sym back) some);
+}
 
 pub returns-in-Some-clause-disks : goal.returns-in-Some-clause-disks
 returns-in-Some-clause-disks g c =
@@ -39,20 +36,10 @@ pub returns-in-Some-clause-line : goal.returns-in-Some-clause-line
 returns-in-Some-clause-line g c =
     let old = lines_of g.L.CheckpointLog g.L.EntryLog c.args.self.now in
     let might = reads_of g.L.CheckpointLog g.L.EntryLog c.args.self.now.works in
-    let new = lines_of g.L.CheckpointLog g.L.EntryLog c.try_lead.new.self in
-    let may = reads_of g.L.CheckpointLog g.L.EntryLog c.try_lead.new.self.works in
-    let some = query_some c.args.line c.args.node c.args.action old old might might c.in-Some.name
-    (sym c.in-Some.ensures) c.requires.next in
-    let back = before_after c.args.node some.is_line.low in
-    query_line c.args.line c.args.node c.args.action old new might may c.in-Some.name (sym
-    c.in-Some.ensures) c.try_lead.result (subst (λ (n : ℕ). IsTriedLine c.args.line n (inputs.Query
-    (family c.in-Some.name)) old might new may c.try_lead.result) back (subst (λ f. IsTriedLine
-    c.args.line (c.args.node - 1 + 1) (inputs.Query f) old might new may c.try_lead.result)
-    c.family.ensures c.try_lead.ensures.line))
-
-pub returns-in-Some-clause-servers : goal.returns-in-Some-clause-servers
-returns-in-Some-clause-servers g c =
-    c.try_lead.ensures.servers
+    let some = query_some _ _ _ _ old _ might _ (sym c.in-Some.ensures) c.requires.next in
+    let back = before_after _ some.is_line.low in
+    query_line _ _ _ _ _ _ _ _ (sym c.in-Some.ensures) _ (rw (← back) (rw (←
+    c.family.ensures) c.try_lead.ensures.line))
 
 pub returns-in-None-clause-disks : goal.returns-in-None-clause-disks
 returns-in-None-clause-disks g c =
@@ -66,7 +53,3 @@ returns-in-None-clause-line g c =
     let may = reads_of g.L.CheckpointLog g.L.EntryLog c.refused.new.self.works in
     query_refused c.args.line c.args.node c.args.action old new might may (sym c.in-None.ensures)
     c.refused.result c.refused.ensures.refused
-
-pub returns-in-None-clause-servers : goal.returns-in-None-clause-servers
-returns-in-None-clause-servers g c =
-    c.requires.servers

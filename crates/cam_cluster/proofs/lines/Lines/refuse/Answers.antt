@@ -17,16 +17,8 @@ returns-in_err-reserve_one-clause-refused g c =
 
 pub returns-in_err-reserve_one-clause-as_before : goal.returns-in_err-reserve_one-clause-as_before
 returns-in_err-reserve_one-clause-as_before g c =
-    on_err c.from_residual.result _
-    (unchanged_lines (works_of g.L.CheckpointLog g.L.EntryLog c.args.self.now.works)
-    (record (works_of g.L.CheckpointLog g.L.EntryLog c.args.self.now.works)
-    { marks = c.reserve_one.new.list.items })
-    (reads_of g.L.CheckpointLog g.L.EntryLog c.args.self.now.works)
-    (reads_of g.L.CheckpointLog g.L.EntryLog c.args.self.now.works) c.args.self.now.bound.items
-    c.args.self.now.bound.items
-    (same_works (works_of g.L.CheckpointLog g.L.EntryLog c.args.self.now.works)
-    c.reserve_one.new.list.items (reads_of g.L.CheckpointLog g.L.EntryLog c.args.self.now.works)
-    c.reserve_one.ensures.same) refl)
+    on_err _ _ (unchanged_lines _ _ _ _ _ _ (same_works _ _ _ c.reserve_one.ensures.same)
+    refl)
 
 pub returns-in_err-reserve_one-2-clause-disks : goal.returns-in_err-reserve_one-2-clause-disks
 returns-in_err-reserve_one-2-clause-disks g c =
@@ -39,16 +31,8 @@ returns-in_err-reserve_one-2-clause-refused g c =
 pub returns-in_err-reserve_one-2-clause-as_before :
     goal.returns-in_err-reserve_one-2-clause-as_before
 returns-in_err-reserve_one-2-clause-as_before g c =
-    on_err c.from_residual-in_err-reserve_one-2.result _
-    (unchanged_lines (works_of g.L.CheckpointLog g.L.EntryLog c.args.self.now.works)
-    (record (works_of g.L.CheckpointLog g.L.EntryLog c.args.self.now.works)
-    { marks = c.reserve_one.new.list.items })
-    (reads_of g.L.CheckpointLog g.L.EntryLog c.args.self.now.works)
-    (reads_of g.L.CheckpointLog g.L.EntryLog c.args.self.now.works) c.args.self.now.bound.items
-    c.reserve_one-2.new.list.items
-    (same_works (works_of g.L.CheckpointLog g.L.EntryLog c.args.self.now.works)
-    c.reserve_one.new.list.items (reads_of g.L.CheckpointLog g.L.EntryLog c.args.self.now.works)
-    c.reserve_one.ensures.same) c.reserve_one-2.ensures.same)
+    on_err _ _ (unchanged_lines _ _ _ _ _ _ (same_works _ _ _ c.reserve_one.ensures.same)
+    c.reserve_one-2.ensures.same)
 
 pub push_reserved-requires : goal.push_reserved-requires
 push_reserved-requires g c =
@@ -64,9 +48,6 @@ returns-clause-disks g c =
 
 pub returns-clause-refused : goal.returns-clause-refused
 returns-clause-refused g c =
-    refused_by c.args.line c.args.refusal
-    (works_of g.L.CheckpointLog g.L.EntryLog c.args.self.now.works) c.push_reserved.new.list.items
-    (reads_of g.L.CheckpointLog g.L.EntryLog c.args.self.now.works) c.args.self.now.bound.items
-    c.push_reserved-2.new.list.items (c.push_reserved.ensures
-    ∙ ap (λ ms. ms ++ marks.Refused c.args.line c.args.refusal ∷ []) c.reserve_one.ensures.same)
-    (c.push_reserved-2.ensures ∙ ap (λ bs. bs ++ None ∷ []) c.reserve_one-2.ensures.same)
+    refused_by _ _ _ _ _ _ _ (c.push_reserved.ensures ∙ ap (λ ms. ms ++ marks.Refused
+    c.args.line c.args.refusal ∷ []) c.reserve_one.ensures.same) (c.push_reserved-2.ensures ∙ ap (λ
+    bs. bs ++ None ∷ []) c.reserve_one-2.ensures.same)

@@ -14,26 +14,24 @@ pub overflow_sub-place : goal.overflow_sub-place
 overflow_sub-place g c =
     let old = lines_of g.L.CheckpointLog g.L.EntryLog c.args.self.now in
     let might = reads_of g.L.CheckpointLog g.L.EntryLog c.args.self.now.works in
-    let some = request_to c.args.line c.args.variable c.args.want old old might might c.requires.by
-    c.in-Some.action (sym c.in-Some.ensures) in
-    subst (λ (n : ℕ). 1 ≤ n) (sym (ap (λ (p : ℕ × ℕ). p.0) c.home.ensures)) some.is_line.low
+    let some = request_to c.args.line _ _ _ old _ might c.requires.by _ (sym c.in-Some.ensures)
+    in
+    rw (ap (λ (p : ℕ × ℕ). p.0) c.home.ensures) some.is_line.low
 
-pub try_lead-requires-clause-to : goal.try_lead-requires-clause-to
-try_lead-requires-clause-to g c =
-    let old = lines_of g.L.CheckpointLog g.L.EntryLog c.args.self.now in
-    let might = reads_of g.L.CheckpointLog g.L.EntryLog c.args.self.now.works in
-    let some = request_to c.args.line c.args.variable c.args.want old old might might c.requires.by
-    c.in-Some.action (sym c.in-Some.ensures) in
-    let back = home_place c.home.result _ _ c.home.ensures some.is_line.low in
-    subst (λ (n : ℕ). IsLineToSome n (inputs.Request (record {
-      action = c.in-Some.action;
-      want =
-          c.args.want;
-    })) old might) (sym back) some
-
-pub try_lead-requires-clause-servers : goal.try_lead-requires-clause-servers
-try_lead-requires-clause-servers g c =
-    c.requires.servers
+pub try_lead-requires : goal.try_lead-requires
+try_lead-requires g c = record {
+  to =
+      let old = lines_of g.L.CheckpointLog g.L.EntryLog c.args.self.now in
+      let might = reads_of g.L.CheckpointLog g.L.EntryLog c.args.self.now.works in
+      let some = request_to c.args.line c.args.variable c.args.want old old might might c.requires.by
+      c.in-Some.action (sym c.in-Some.ensures) in
+      let back = home_place c.home.result _ _ c.home.ensures some.is_line.low in
+      subst (λ (n : ℕ). IsLineToSome n (inputs.Request (record {
+        action = c.in-Some.action;
+        want =
+            c.args.want;
+      })) old might) (sym back) some;
+}
 
 pub returns-in-Some-clause-disks : goal.returns-in-Some-clause-disks
 returns-in-Some-clause-disks g c =
@@ -43,19 +41,11 @@ pub returns-in-Some-clause-line : goal.returns-in-Some-clause-line
 returns-in-Some-clause-line g c =
     let old = lines_of g.L.CheckpointLog g.L.EntryLog c.args.self.now in
     let might = reads_of g.L.CheckpointLog g.L.EntryLog c.args.self.now.works in
-    let new = lines_of g.L.CheckpointLog g.L.EntryLog c.try_lead.new.self in
-    let may = reads_of g.L.CheckpointLog g.L.EntryLog c.try_lead.new.self.works in
-    let some = request_to c.args.line c.args.variable c.args.want old old might might c.requires.by
-    c.in-Some.action (sym c.in-Some.ensures) in
-    let back = home_place c.home.result _ _ c.home.ensures some.is_line.low in
-    request_ended c.args.line c.args.variable c.args.want old new might may c.requires.by
-    c.in-Some.action (sym c.in-Some.ensures) c.try_lead.result (subst (λ (n : ℕ). IsTriedLine
-    c.args.line n (inputs.Request (record { action = c.in-Some.action; want = c.args.want })) old
-    might new may c.try_lead.result) back c.try_lead.ensures.line)
-
-pub returns-in-Some-clause-servers : goal.returns-in-Some-clause-servers
-returns-in-Some-clause-servers g c =
-    c.try_lead.ensures.servers
+    let some = request_to c.args.line _ _ _ old _ might c.requires.by _ (sym c.in-Some.ensures)
+    in
+    let back = home_place _ _ _ c.home.ensures some.is_line.low in
+    request_ended _ _ _ _ _ _ _ c.requires.by _ (sym c.in-Some.ensures) _ (rw (← back)
+    c.try_lead.ensures.line)
 
 pub returns-in-None-clause-disks : goal.returns-in-None-clause-disks
 returns-in-None-clause-disks g c =
@@ -69,7 +59,3 @@ returns-in-None-clause-line g c =
     let may = reads_of g.L.CheckpointLog g.L.EntryLog c.refused.new.self.works in
     request_unbound c.args.line c.args.variable c.args.want old new might may (sym
     c.in-None.ensures) c.refused.result c.refused.ensures.refused
-
-pub returns-in-None-clause-servers : goal.returns-in-None-clause-servers
-returns-in-None-clause-servers g c =
-    c.requires.servers

@@ -21,10 +21,8 @@ overflow_sub-node g c =
 
 pub restart-requires-clause-place : goal.restart-requires-clause-place
 restart-requires-clause-place g c =
-    begin_within (lines_of g.L.CheckpointLog g.L.EntryLog c.args.self.now) (reads_of
-    g.L.CheckpointLog g.L.EntryLog c.args.self.now.works) (c.args.node - 1) c.requires.stand
-    (sees (part g.L.CheckpointLog g.L.EntryLog) c.args.self.now.works.nodes.items (c.args.node - 1)
-    (let low = c.requires.low in let node = c.requires.node in omega (arith, low, node)))
+    begin_within _ _ _ c.requires.stand (sees _ _ _ (let low = c.requires.low in let node =
+    c.requires.node in omega (arith, low, node)))
 
 pub restart-requires-clause-there : goal.restart-requires-clause-there
 restart-requires-clause-there g c =
@@ -46,14 +44,12 @@ returns-in_err-reserve_one g c =
     record {
       line =
           each_there _ c.args.self.now.works.nodes.items (c.args.node - 1) (λ node at told.
-          restart_wanting c.args.node
-          (record { works = works; bound = c.args.self.now.bound.items })
-          (record { works = works; bound = c.reserve_one.new.list.items }) reads reads
-          c.from_residual.result c.in_err-reserve_one.field-0.0 wants
-          (unchanged_lines works works reads reads c.args.self.now.bound.items
-          c.reserve_one.new.list.items (λ script st is keeps. keeps) c.reserve_one.ensures.same));
-      by_stop =
-          subst (λ r. IfOk r (HasFoundByStop (c.args.node - 1) works reads)) (sym wants) tt;
+          restart_wanting c.args.node (record { works = works; bound = c.args.self.now.bound.items
+          }) (record { works = works; bound = c.reserve_one.new.list.items }) reads reads
+          c.from_residual.result c.in_err-reserve_one.field-0.0 wants (unchanged_lines works works
+          reads reads c.args.self.now.bound.items c.reserve_one.new.list.items (λ script st is
+          keeps. keeps) c.reserve_one.ensures.same));
+      by_stop = rw wants tt;
       disks = goes_on_still;
     }
 
@@ -67,15 +63,12 @@ returns-in_err-done g c =
     record {
       line =
           each_there _ c.args.self.now.works.nodes.items (c.args.node - 1) (λ node at told.
-          restart_wanting c.args.node
-          (record { works = works; bound = c.args.self.now.bound.items })
-          (record { works = now; bound = c.reserve_one.new.list.items }) reads reads_now
-          c.from_residual-in_err-done.result c.in_err-done.field-0.0 wants
-          (unchanged_lines works now reads reads_now c.args.self.now.bound.items
-          c.reserve_one.new.list.items c.in_err-done.ensures.as_before
-          c.reserve_one.ensures.same));
-      by_stop =
-          subst (λ r. IfOk r (HasFoundByStop (c.args.node - 1) works reads)) (sym wants) tt;
+          restart_wanting c.args.node (record { works = works; bound = c.args.self.now.bound.items
+          }) (record { works = now; bound = c.reserve_one.new.list.items }) reads reads_now
+          c.from_residual-in_err-done.result c.in_err-done.field-0.0 wants (unchanged_lines works
+          now reads reads_now c.args.self.now.bound.items c.reserve_one.new.list.items
+          c.in_err-done.ensures.as_before c.reserve_one.ensures.same));
+      by_stop = rw wants tt;
       disks = c.restart.ensures.disks;
     }
 

@@ -23,36 +23,20 @@ returns-then-is_halted-clause-disks g c =
 
 pub returns-then-is_halted-clause-line : goal.returns-then-is_halted-clause-line
 returns-then-is_halted-clause-line g c =
-    let old = lines_of g.L.CheckpointLog g.L.EntryLog c.args.self.now in
-    let might = reads_of g.L.CheckpointLog g.L.EntryLog c.args.self.now.works in
-    let new = lines_of g.L.CheckpointLog g.L.EntryLog c.refused.new.self in
-    let may = reads_of g.L.CheckpointLog g.L.EntryLog c.refused.new.self.works in
-    let there = sees (part g.L.CheckpointLog g.L.EntryLog) c.args.self.now.works.nodes.items
-    (c.args.node - 1) (let low = c.requires.low in let node = c.requires.node in omega (
-      arith,
-      low,
-      node,
+    let there = sees _ _ _ (let low = c.requires.low in let node = c.requires.node in omega (
+      arith, low, node,
     )) in
     let stops = ap (is_halted c.args.self.now.works.halted) (after_is (c.args.node - 1)) ∙ sym
     c.is_halted.ensures ∙ c.if-is_halted.true in
-    start_halted c.args.line (c.args.node - 1) c.args.node (let low = c.requires.low in omega
-    (arith, low)) old new might may there stops c.refused.result c.refused.ensures.refused
-
-pub returns-then-is_halted-clause-servers : goal.returns-then-is_halted-clause-servers
-returns-then-is_halted-clause-servers g c =
-    c.requires.servers
+    start_halted _ _ _ (let low = c.requires.low in omega (arith, low)) _ _ _ _ there stops
+    _ c.refused.ensures.refused
 
 pub lead-requires-clause-place : goal.lead-requires-clause-place
 lead-requires-clause-place g c =
-    let old = lines_of g.L.CheckpointLog g.L.EntryLog c.args.self.now in
-    let might = reads_of g.L.CheckpointLog g.L.EntryLog c.args.self.now.works in
-    let there = sees (part g.L.CheckpointLog g.L.EntryLog) c.args.self.now.works.nodes.items
-    (c.args.node - 1) (let low = c.requires.low in let node = c.requires.node in omega (
-      arith,
-      low,
-      node,
+    let there = sees _ _ _ (let low = c.requires.low in let node = c.requires.node in omega (
+      arith, low, node,
     )) in
-    begin_within old might (c.args.node - 1) c.requires.stand there
+    begin_within _ _ _ c.requires.stand there
 
 pub lead-requires-clause-may : goal.lead-requires-clause-may
 lead-requires-clause-may g c =
@@ -71,10 +55,6 @@ lead-requires-clause-may g c =
     g.L.CheckpointLog g.L.EntryLog) c.args.self.now.works.nodes.items (c.args.node - 1) node at) in
     (may.0, tt, may.1))
 
-pub lead-requires-clause-servers : goal.lead-requires-clause-servers
-lead-requires-clause-servers g c =
-    c.requires.servers
-
 pub lead-requires-clause-there : goal.lead-requires-clause-there
 lead-requires-clause-there g c =
     (let low = c.requires.low in let node = c.requires.node in omega (arith, low, node))
@@ -89,18 +69,9 @@ returns-in_err-lead-clause-disks g c =
 
 pub returns-in_err-lead-clause-line : goal.returns-in_err-lead-clause-line
 returns-in_err-lead-clause-line g c =
-    let old = lines_of g.L.CheckpointLog g.L.EntryLog c.args.self.now in
-    let might = reads_of g.L.CheckpointLog g.L.EntryLog c.args.self.now.works in
-    let new = lines_of g.L.CheckpointLog g.L.EntryLog c.lead.new.self in
-    let may = reads_of g.L.CheckpointLog g.L.EntryLog c.lead.new.self.works in
-    let wants : c.from_residual.result ≡ Err line_faults.NoMemory = search rules in subst (λ r.
-    IsStart c.args.line c.args.node old might new may r) (sym wants) (start_wanting c.args.line
-    (c.args.node - 1) c.args.node (let low = c.requires.low in omega (arith, low)) old new might
-    may c.in_err-lead.ensures.as_before)
-
-pub returns-in_err-lead-clause-servers : goal.returns-in_err-lead-clause-servers
-returns-in_err-lead-clause-servers g c =
-    c.lead.ensures.servers
+    let wants : c.from_residual.result ≡ Err line_faults.NoMemory = search rules in rw wants
+    (start_wanting _ (c.args.node - 1) _ (let low = c.requires.low in omega (arith, low)) _ _ _
+    _ c.in_err-lead.ensures.as_before)
 
 pub returns-clause-disks : goal.returns-clause-disks
 returns-clause-disks g c =
@@ -108,23 +79,10 @@ returns-clause-disks g c =
 
 pub returns-clause-line : goal.returns-clause-line
 returns-clause-line g c =
-    let old = lines_of g.L.CheckpointLog g.L.EntryLog c.args.self.now in
-    let might = reads_of g.L.CheckpointLog g.L.EntryLog c.args.self.now.works in
-    let new = lines_of g.L.CheckpointLog g.L.EntryLog c.lead.new.self in
-    let may = reads_of g.L.CheckpointLog g.L.EntryLog c.lead.new.self.works in
-    let there = sees (part g.L.CheckpointLog g.L.EntryLog) c.args.self.now.works.nodes.items
-    (c.args.node - 1) (let low = c.requires.low in let node = c.requires.node in omega (
-      arith,
-      low,
-      node,
+    let there = sees _ _ _ (let low = c.requires.low in let node = c.requires.node in omega (
+      arith, low, node,
     )) in
     let runs = ap (is_halted c.args.self.now.works.halted) (after_is (c.args.node - 1)) ∙ sym
     c.is_halted.ensures ∙ c.if-is_halted.false in
-    start_led c.args.line (c.args.node - 1) c.args.node (let low = c.requires.low in omega (
-      arith,
-      low,
-    )) old new might may c.in_ok-lead.field-0 there runs c.in_ok-lead.ensures.led
-
-pub returns-clause-servers : goal.returns-clause-servers
-returns-clause-servers g c =
-    c.lead.ensures.servers
+    start_led _ _ _ (let low = c.requires.low in omega ( arith, low,
+    )) _ _ _ _ _ there runs c.in_ok-lead.ensures.led

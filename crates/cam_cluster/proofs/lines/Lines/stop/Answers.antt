@@ -42,20 +42,11 @@ returns-then-is_halted g c =
 pub returns-in_err-reserve_one : goal.returns-in_err-reserve_one
 returns-in_err-reserve_one g c =
     let wants : c.from_residual.result ≡ Err line_faults.NoMemory = search rules in
-    let works = works_of g.L.CheckpointLog g.L.EntryLog c.args.self.now.works in
-    let reads = reads_of g.L.CheckpointLog g.L.EntryLog c.args.self.now.works in
     record {
       line =
-          subst (λ r. IsLineBy c.args.line (acts.Stop c.args.node c.args.calls)
-          (IsStop c.args.node c.args.calls) (lines_of g.L.CheckpointLog g.L.EntryLog
-          c.args.self.now) reads (record { works = works; bound = c.reserve_one.new.list.items })
-          reads r) (sym wants)
-          (wanting_ends (IsStop c.args.node c.args.calls) c.args.line
-          (acts.Stop c.args.node c.args.calls)
-          (lines_of g.L.CheckpointLog g.L.EntryLog c.args.self.now)
-          (record { works = works; bound = c.reserve_one.new.list.items }) reads reads
-          (unchanged_lines works works reads reads c.args.self.now.bound.items
-          c.reserve_one.new.list.items (λ script st is keeps. keeps) c.reserve_one.ensures.same));
+          rw wants (wanting_ends (IsStop c.args.node c.args.calls) _ _ _ _ _ _
+          (unchanged_lines _ _ _ _ _ _ (λ script st is keeps. keeps)
+          c.reserve_one.ensures.same));
       disks = goes_on_still;
     }
 
@@ -70,20 +61,10 @@ push_reserved-requires g c =
 pub returns : goal.returns
 returns g c =
     record {
-      line = stop_done c.args.line (c.args.node - 1) c.args.node c.args.calls
-          (let low = c.requires.low in omega (arith, low))
-          (lines_of g.L.CheckpointLog g.L.EntryLog c.args.self.now)
-          (record {
-            works = works_of g.L.CheckpointLog g.L.EntryLog c.stop_after.new.self;
-            bound = c.push_reserved.new.list.items;
-          })
-          (reads_of g.L.CheckpointLog g.L.EntryLog c.args.self.now.works)
-          (reads_of g.L.CheckpointLog g.L.EntryLog c.stop_after.new.self)
-          (sees (part g.L.CheckpointLog g.L.EntryLog) c.args.self.now.works.nodes.items
-          (c.args.node - 1)
-          (let low = c.requires.low in let node = c.requires.node in omega (arith, low, node)))
-          (ap (is_halted c.args.self.now.works.halted) (after_is (c.args.node - 1)) ∙ sym
-          c.is_halted.ensures ∙ c.if-is_halted.false) c.stop_after.ensures.stopped
+      line = stop_done _ _ _ _ (let low = c.requires.low in omega (arith, low)) _ _ _ _
+          (sees _ _ _ (let low = c.requires.low in let node = c.requires.node in omega (arith,
+          low, node))) (ap (is_halted c.args.self.now.works.halted) (after_is (c.args.node - 1)) ∙
+          sym c.is_halted.ensures ∙ c.if-is_halted.false) c.stop_after.ensures.stopped
           (c.push_reserved.ensures ∙ ap (λ bs. bs ++ None ∷ []) c.reserve_one.ensures.same);
       disks = c.stop_after.ensures.disks;
     }

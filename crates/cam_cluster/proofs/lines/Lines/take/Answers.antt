@@ -14,28 +14,25 @@ use Rattle.cam_cluster.proofs.lines.Lines.take.Goals as goal
 
 pub lose-requires : goal.lose-requires
 lose-requires g c = record {
-  stand = stands_before c.args.step.now c.args.self.now c.requires.next;
+  stand = stands_before _ c.args.self.now c.requires.next;
 }
 
 pub cut-requires : goal.cut-requires
 cut-requires g c = record {
-  stand = stands_before c.args.step.now c.args.self.now c.requires.next;
-  servers = c.requires.servers;
+  stand = stands_before _ c.args.self.now c.requires.next;
 }
 
 pub put_line-requires : goal.put_line-requires
 put_line-requires g c = record {
   input =
-      other_input c.args.step.now.act c.requires.built c.in_default.not-Cut c.in_default.not-Drain
+      other_input _ c.requires.built c.in_default.not-Cut c.in_default.not-Drain
       c.in_default.not-Lose;
   next = c.requires.next;
-  servers = c.requires.servers;
 }
 
 pub drain-requires : goal.drain-requires
 drain-requires g c = record {
-  stand = stands_before c.args.step.now c.args.self.now c.requires.next;
-  servers = c.requires.servers;
+  stand = stands_before _ c.args.self.now c.requires.next;
 }
 
 pub returns-in-Ok : goal.returns-in-Ok
@@ -48,7 +45,6 @@ returns-in-Ok g c = record {
       (reads_of g.L.CheckpointLog g.L.EntryLog c.args.self.now.works)
       (reads_of g.L.CheckpointLog g.L.EntryLog c.lose.new.self.works) c.in-Lose.letter tt
       c.in-Ok.ensures.line);
-  servers = c.requires.servers;
   disks = c.lose.ensures.disks;
 }
 
@@ -62,7 +58,6 @@ returns-in-Err g c = record {
       (reads_of g.L.CheckpointLog g.L.EntryLog c.args.self.now.works)
       (reads_of g.L.CheckpointLog g.L.EntryLog c.lose.new.self.works) (IsLoss c.in-Lose.letter)
       (acts.Lose c.in-Lose.letter) c.in-Err.fault (λ seen keeps. keeps) c.in-Err.ensures.line);
-  servers = c.requires.servers;
   disks = c.lose.ensures.disks;
 }
 
@@ -83,7 +78,6 @@ returns-in-Ok-Bad g c = record {
       (lines_of g.L.CheckpointLog g.L.EntryLog c.cut.new.self)
       (reads_of g.L.CheckpointLog g.L.EntryLog c.cut.new.self.works) (Ok x))
       c.in-Ok-Bad.field-0-is c.in-Ok-Bad.ensures.line));
-  servers = c.cut.ensures.servers;
   disks = c.cut.ensures.disks;
 }
 
@@ -104,7 +98,6 @@ returns-in-Ok-Delivered g c = record {
       (lines_of g.L.CheckpointLog g.L.EntryLog c.cut.new.self)
       (reads_of g.L.CheckpointLog g.L.EntryLog c.cut.new.self.works) (Ok x))
       c.in-Ok-Delivered.field-0-is c.in-Ok-Delivered.ensures.line));
-  servers = c.cut.ensures.servers;
   disks = c.cut.ensures.disks;
 }
 
@@ -119,35 +112,23 @@ returns-in-Err-cut g c = record {
       (reads_of g.L.CheckpointLog g.L.EntryLog c.cut.new.self.works) (IsCut c.in-Cut.letter
       c.in-Cut.bytes) (acts.Cut c.in-Cut.letter c.in-Cut.bytes) c.in-Err-cut.fault
       (λ seen keeps. keeps) c.in-Err-cut.ensures.line);
-  servers = c.cut.ensures.servers;
   disks = c.cut.ensures.disks;
 }
 
 pub returns-in-Ok-put_line : goal.returns-in-Ok-put_line
 returns-in-Ok-put_line g c = record {
   line =
-      put_taken c.args.step.now (lines_of g.L.CheckpointLog g.L.EntryLog c.args.self.now)
-      (lines_of g.L.CheckpointLog g.L.EntryLog c.put_line.new.self)
-      (reads_of g.L.CheckpointLog g.L.EntryLog c.args.self.now.works)
-      (reads_of g.L.CheckpointLog g.L.EntryLog c.put_line.new.self.works)
-      (other_input c.args.step.now.act c.requires.built c.in_default.not-Cut
+      put_taken _ _ _ _ _ (other_input _ c.requires.built c.in_default.not-Cut
       c.in_default.not-Drain c.in_default.not-Lose) c.in-Ok-put_line.field-0
       c.in-Ok-put_line.ensures.line;
-  servers = c.in-Ok-put_line.ensures.servers;
   disks = c.put_line.ensures.disks;
 }
 
 pub returns-in-Err-put_line : goal.returns-in-Err-put_line
 returns-in-Err-put_line g c = record {
   line =
-      put_fault c.args.step.now (lines_of g.L.CheckpointLog g.L.EntryLog c.args.self.now)
-      (lines_of g.L.CheckpointLog g.L.EntryLog c.put_line.new.self)
-      (reads_of g.L.CheckpointLog g.L.EntryLog c.args.self.now.works)
-      (reads_of g.L.CheckpointLog g.L.EntryLog c.put_line.new.self.works)
-      (other_input c.args.step.now.act c.requires.built c.in_default.not-Cut
-      c.in_default.not-Drain c.in_default.not-Lose) c.in-Err-put_line.fault
-      c.in-Err-put_line.ensures.line;
-  servers = c.in-Err-put_line.ensures.servers;
+      put_fault _ _ _ _ _ (other_input _ c.requires.built c.in_default.not-Cut
+      c.in_default.not-Drain c.in_default.not-Lose) _ c.in-Err-put_line.ensures.line;
   disks = c.put_line.ensures.disks;
 }
 
@@ -161,20 +142,13 @@ returns-in-Ok-drain g c = record {
       (reads_of g.L.CheckpointLog g.L.EntryLog c.args.self.now.works)
       (reads_of g.L.CheckpointLog g.L.EntryLog c.drain.new.self.works)
       c.in-Ok-drain.ensures.line);
-  servers = c.drain.ensures.servers;
   disks = c.drain.ensures.disks;
 }
 
 pub returns-in-Err-drain : goal.returns-in-Err-drain
 returns-in-Err-drain g c = record {
   line =
-      taken_as c.args.step.now c.args.self.now c.drain.new.self
-      acts.Drain (Err line_faults.NoMemory) c.in-Drain.is
-      (drain_part c.args.step.now.line (lines_of g.L.CheckpointLog g.L.EntryLog c.args.self.now)
-      (lines_of g.L.CheckpointLog g.L.EntryLog c.drain.new.self)
-      (reads_of g.L.CheckpointLog g.L.EntryLog c.args.self.now.works)
-      (reads_of g.L.CheckpointLog g.L.EntryLog c.drain.new.self.works)
-      c.in-Err-drain.ensures.part);
-  servers = c.drain.ensures.servers;
+      taken_as c.args.step.now c.args.self.now c.drain.new.self acts.Drain (Err
+      line_faults.NoMemory) c.in-Drain.is (drain_part _ _ _ _ _ c.in-Err-drain.ensures.part);
   disks = c.drain.ensures.disks;
 }

@@ -12,11 +12,7 @@ use Rattle.cam_cluster.proofs.lines.Lines.take_letter.Goals as goal
 
 pub put_letters-requires : goal.put_letters-requires
 put_letters-requires g c = record {
-  writable =
-      works_may_be_written (works_of g.L.CheckpointLog g.L.EntryLog c.args.self.now.works)
-      (reads_of g.L.CheckpointLog g.L.EntryLog c.args.self.now.works)
-      (works_of_lines (lines_of g.L.CheckpointLog g.L.EntryLog c.args.self.now)
-      (reads_of g.L.CheckpointLog g.L.EntryLog c.args.self.now.works) c.requires.stand);
+  writable = works_may_be_written _ _ (works_of_lines _ _ c.requires.stand);
 }
 
 pub returns-in_err-put_letters-clause-disks : goal.returns-in_err-put_letters-clause-disks
@@ -26,18 +22,7 @@ returns-in_err-put_letters-clause-disks g c =
 pub returns-in_err-put_letters-clause-taken : goal.returns-in_err-put_letters-clause-taken
 returns-in_err-put_letters-clause-taken g c =
     let wants : c.from_residual.result ≡ Err line_faults.NoMemory = search rules in
-    subst (λ r. HasTaken c.args.line c.args.number
-    (lines_of g.L.CheckpointLog g.L.EntryLog c.args.self.now)
-    (reads_of g.L.CheckpointLog g.L.EntryLog c.args.self.now.works) (record {
-      works = works_of g.L.CheckpointLog g.L.EntryLog c.put_letters.new.self;
-      bound = c.args.self.now.bound.items;
-    })
-    (reads_of g.L.CheckpointLog g.L.EntryLog c.put_letters.new.self) r) (sym wants)
-    (unchanged_lines (works_of g.L.CheckpointLog g.L.EntryLog c.args.self.now.works)
-    (works_of g.L.CheckpointLog g.L.EntryLog c.put_letters.new.self)
-    (reads_of g.L.CheckpointLog g.L.EntryLog c.args.self.now.works)
-    (reads_of g.L.CheckpointLog g.L.EntryLog c.put_letters.new.self) c.args.self.now.bound.items
-    c.args.self.now.bound.items c.put_letters.ensures.as_before refl)
+    rw wants (unchanged_lines _ _ _ _ _ _ c.put_letters.ensures.as_before refl)
 
 pub coming-requires : goal.coming-requires
 coming-requires g c = record { all = c.in_ok-put_letters.ensures.all }
@@ -49,24 +34,7 @@ returns-in_err-refuse-clause-disks g c =
 pub returns-in_err-refuse-clause-taken : goal.returns-in_err-refuse-clause-taken
 returns-in_err-refuse-clause-taken g c =
     let wants : c.from_residual-in_err-refuse.result ≡ Err line_faults.NoMemory = search rules in
-    subst (λ r. HasTaken c.args.line c.args.number
-    (lines_of g.L.CheckpointLog g.L.EntryLog c.args.self.now)
-    (reads_of g.L.CheckpointLog g.L.EntryLog c.args.self.now.works)
-    (lines_of g.L.CheckpointLog g.L.EntryLog c.refuse.new.self)
-    (reads_of g.L.CheckpointLog g.L.EntryLog c.refuse.new.self.works) r) (sym wants)
-    (both_before (lines_of g.L.CheckpointLog g.L.EntryLog c.args.self.now) (record {
-      works = works_of g.L.CheckpointLog g.L.EntryLog c.put_letters.new.self;
-      bound = c.args.self.now.bound.items;
-    })
-    (lines_of g.L.CheckpointLog g.L.EntryLog c.refuse.new.self)
-    (reads_of g.L.CheckpointLog g.L.EntryLog c.args.self.now.works)
-    (reads_of g.L.CheckpointLog g.L.EntryLog c.put_letters.new.self)
-    (reads_of g.L.CheckpointLog g.L.EntryLog c.refuse.new.self.works)
-    (unchanged_lines (works_of g.L.CheckpointLog g.L.EntryLog c.args.self.now.works)
-    (works_of g.L.CheckpointLog g.L.EntryLog c.put_letters.new.self)
-    (reads_of g.L.CheckpointLog g.L.EntryLog c.args.self.now.works)
-    (reads_of g.L.CheckpointLog g.L.EntryLog c.put_letters.new.self) c.args.self.now.bound.items
-    c.args.self.now.bound.items
+    rw wants (both_before _ _ _ _ _ _ (unchanged_lines _ _ _ _ _ _
     c.put_letters.ensures.as_before refl) c.in_err-refuse.ensures.as_before)
 
 pub returns-in_default-clause-disks : goal.returns-in_default-clause-disks
@@ -75,22 +43,9 @@ returns-in_default-clause-disks g c =
 
 pub returns-in_default-clause-taken : goal.returns-in_default-clause-taken
 returns-in_default-clause-taken g c =
-    no_letter c.args.line c.args.number (lines_of g.L.CheckpointLog g.L.EntryLog c.args.self.now)
-    (record {
-      works = works_of g.L.CheckpointLog g.L.EntryLog c.put_letters.new.self;
-      bound = c.args.self.now.bound.items;
-    })
-    (reads_of g.L.CheckpointLog g.L.EntryLog c.args.self.now.works)
-    (reads_of g.L.CheckpointLog g.L.EntryLog c.put_letters.new.self)
-    (unchanged_lines (works_of g.L.CheckpointLog g.L.EntryLog c.args.self.now.works)
-    (works_of g.L.CheckpointLog g.L.EntryLog c.put_letters.new.self)
-    (reads_of g.L.CheckpointLog g.L.EntryLog c.args.self.now.works)
-    (reads_of g.L.CheckpointLog g.L.EntryLog c.put_letters.new.self) c.args.self.now.bound.items
-    c.args.self.now.bound.items
-    c.put_letters.ensures.as_before refl) c.in_ok-put_letters.ensures.all
-    (lines_of g.L.CheckpointLog g.L.EntryLog c.refuse.new.self)
-    (reads_of g.L.CheckpointLog g.L.EntryLog c.refuse.new.self.works)
-    c.in_default.ensures.found c.in_ok-refuse.ensures.refused
+    no_letter _ _ _ _ _ _ (unchanged_lines _ _ _ _ _ _ c.put_letters.ensures.as_before
+    refl) c.in_ok-put_letters.ensures.all _ _ c.in_default.ensures.found
+    c.in_ok-refuse.ensures.refused
 
 pub returns-in_err-refuse-2-clause-disks : goal.returns-in_err-refuse-2-clause-disks
 returns-in_err-refuse-2-clause-disks g c =
@@ -99,24 +54,7 @@ returns-in_err-refuse-2-clause-disks g c =
 pub returns-in_err-refuse-2-clause-taken : goal.returns-in_err-refuse-2-clause-taken
 returns-in_err-refuse-2-clause-taken g c =
     let wants : c.from_residual-in_err-refuse-2.result ≡ Err line_faults.NoMemory = search rules in
-    subst (λ r. HasTaken c.args.line c.args.number
-    (lines_of g.L.CheckpointLog g.L.EntryLog c.args.self.now)
-    (reads_of g.L.CheckpointLog g.L.EntryLog c.args.self.now.works)
-    (lines_of g.L.CheckpointLog g.L.EntryLog c.refuse-then-is_halted.new.self)
-    (reads_of g.L.CheckpointLog g.L.EntryLog c.refuse-then-is_halted.new.self.works) r) (sym wants)
-    (both_before (lines_of g.L.CheckpointLog g.L.EntryLog c.args.self.now) (record {
-      works = works_of g.L.CheckpointLog g.L.EntryLog c.put_letters.new.self;
-      bound = c.args.self.now.bound.items;
-    })
-    (lines_of g.L.CheckpointLog g.L.EntryLog c.refuse-then-is_halted.new.self)
-    (reads_of g.L.CheckpointLog g.L.EntryLog c.args.self.now.works)
-    (reads_of g.L.CheckpointLog g.L.EntryLog c.put_letters.new.self)
-    (reads_of g.L.CheckpointLog g.L.EntryLog c.refuse-then-is_halted.new.self.works)
-    (unchanged_lines (works_of g.L.CheckpointLog g.L.EntryLog c.args.self.now.works)
-    (works_of g.L.CheckpointLog g.L.EntryLog c.put_letters.new.self)
-    (reads_of g.L.CheckpointLog g.L.EntryLog c.args.self.now.works)
-    (reads_of g.L.CheckpointLog g.L.EntryLog c.put_letters.new.self) c.args.self.now.bound.items
-    c.args.self.now.bound.items
+    rw wants (both_before _ _ _ _ _ _ (unchanged_lines _ _ _ _ _ _
     c.put_letters.ensures.as_before refl) c.in_err-refuse-2.ensures.as_before)
 
 pub returns-then-is_halted-clause-disks : goal.returns-then-is_halted-clause-disks
@@ -125,22 +63,9 @@ returns-then-is_halted-clause-disks g c =
 
 pub returns-then-is_halted-clause-taken : goal.returns-then-is_halted-clause-taken
 returns-then-is_halted-clause-taken g c =
-    halted_letter c.args.line c.args.number
-    (lines_of g.L.CheckpointLog g.L.EntryLog c.args.self.now) (record {
-      works = works_of g.L.CheckpointLog g.L.EntryLog c.put_letters.new.self;
-      bound = c.args.self.now.bound.items;
-    })
-    (reads_of g.L.CheckpointLog g.L.EntryLog c.args.self.now.works)
-    (reads_of g.L.CheckpointLog g.L.EntryLog c.put_letters.new.self)
-    (unchanged_lines (works_of g.L.CheckpointLog g.L.EntryLog c.args.self.now.works)
-    (works_of g.L.CheckpointLog g.L.EntryLog c.put_letters.new.self)
-    (reads_of g.L.CheckpointLog g.L.EntryLog c.args.self.now.works)
-    (reads_of g.L.CheckpointLog g.L.EntryLog c.put_letters.new.self) c.args.self.now.bound.items
-    c.args.self.now.bound.items
-    c.put_letters.ensures.as_before refl) c.in_ok-put_letters.ensures.all
-    (lines_of g.L.CheckpointLog g.L.EntryLog c.refuse-then-is_halted.new.self)
-    (reads_of g.L.CheckpointLog g.L.EntryLog c.refuse-then-is_halted.new.self.works)
-    c.in-Some.coming c.in-Some.ensures.found (sym c.is_halted.ensures ∙ c.if-is_halted.true)
+    halted_letter _ _ _ _ _ _ (unchanged_lines _ _ _ _ _ _
+    c.put_letters.ensures.as_before refl) c.in_ok-put_letters.ensures.all _ _ _
+    c.in-Some.ensures.found (sym c.is_halted.ensures ∙ c.if-is_halted.true)
     c.in_ok-refuse-2.ensures.refused
 
 pub returns-clause-disks : goal.returns-clause-disks
@@ -149,12 +74,7 @@ returns-clause-disks g c =
 
 pub returns-clause-taken : goal.returns-clause-taken
 returns-clause-taken g c = record {
-  as_before =
-      (unchanged_lines (works_of g.L.CheckpointLog g.L.EntryLog c.args.self.now.works)
-      (works_of g.L.CheckpointLog g.L.EntryLog c.put_letters.new.self)
-      (reads_of g.L.CheckpointLog g.L.EntryLog c.args.self.now.works)
-      (reads_of g.L.CheckpointLog g.L.EntryLog c.put_letters.new.self) c.args.self.now.bound.items
-      c.args.self.now.bound.items c.put_letters.ensures.as_before refl);
+  as_before = (unchanged_lines _ _ _ _ _ _ c.put_letters.ensures.as_before refl);
   all = c.in_ok-put_letters.ensures.all;
   found = c.in-Some.ensures.found;
   awake = sym c.is_halted.ensures ∙ c.if-is_halted.false;

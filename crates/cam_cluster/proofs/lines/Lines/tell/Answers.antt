@@ -11,20 +11,18 @@ pub overflow_sub-node : goal.overflow_sub-node
 overflow_sub-node g c =
     let old = lines_of g.L.CheckpointLog g.L.EntryLog c.args.self.now in
     let might = reads_of g.L.CheckpointLog g.L.EntryLog c.args.self.now.works in
-    let some = tell_some c.args.line c.args.node c.args.to old old might might c.requires.next in
+    let some = tell_some _ _ _ _ old _ might c.requires.next in
     some.is_line.low
 
-pub try_lead-requires-clause-to : goal.try_lead-requires-clause-to
-try_lead-requires-clause-to g c =
-    let old = lines_of g.L.CheckpointLog g.L.EntryLog c.args.self.now in
-    let might = reads_of g.L.CheckpointLog g.L.EntryLog c.args.self.now.works in
-    let some = tell_some c.args.line c.args.node c.args.to old old might might c.requires.next in
-    let back = before_after c.args.node some.is_line.low in
-    subst (λ (n : ℕ). IsLineToSome n (inputs.Tell c.args.to) old might) (sym back) some
-
-pub try_lead-requires-clause-servers : goal.try_lead-requires-clause-servers
-try_lead-requires-clause-servers g c =
-    c.requires.servers
+pub try_lead-requires : goal.try_lead-requires
+try_lead-requires g c = record {
+  to =
+      let old = lines_of g.L.CheckpointLog g.L.EntryLog c.args.self.now in
+      let might = reads_of g.L.CheckpointLog g.L.EntryLog c.args.self.now.works in
+      let some = tell_some c.args.line c.args.node c.args.to old old might might c.requires.next in
+      let back = before_after c.args.node some.is_line.low in
+      subst (λ (n : ℕ). IsLineToSome n (inputs.Tell c.args.to) old might) (sym back) some;
+}
 
 pub returns-clause-disks : goal.returns-clause-disks
 returns-clause-disks g c =
@@ -34,14 +32,6 @@ pub returns-clause-line : goal.returns-clause-line
 returns-clause-line g c =
     let old = lines_of g.L.CheckpointLog g.L.EntryLog c.args.self.now in
     let might = reads_of g.L.CheckpointLog g.L.EntryLog c.args.self.now.works in
-    let new = lines_of g.L.CheckpointLog g.L.EntryLog c.try_lead.new.self in
-    let may = reads_of g.L.CheckpointLog g.L.EntryLog c.try_lead.new.self.works in
-    let some = tell_some c.args.line c.args.node c.args.to old old might might c.requires.next in
-    let back = before_after c.args.node some.is_line.low in
-    tell_line c.args.line c.args.node c.args.to old new might may c.try_lead.result (subst (λ (n :
-    ℕ). IsTriedLine c.args.line n (inputs.Tell c.args.to) old might new may c.try_lead.result) back
-    c.try_lead.ensures.line)
-
-pub returns-clause-servers : goal.returns-clause-servers
-returns-clause-servers g c =
-    c.try_lead.ensures.servers
+    let some = tell_some _ _ _ _ old _ might c.requires.next in
+    let back = before_after _ some.is_line.low in
+    tell_line _ _ _ _ _ _ _ _ (rw (← back) c.try_lead.ensures.line)

@@ -18,36 +18,22 @@ returns-then-is_halted-clause-disks g c =
 
 pub returns-then-is_halted-clause-line : goal.returns-then-is_halted-clause-line
 returns-then-is_halted-clause-line g c =
-    let old = lines_of g.L.CheckpointLog g.L.EntryLog c.args.self.now in
-    let might = reads_of g.L.CheckpointLog g.L.EntryLog c.args.self.now.works in
-    let new = lines_of g.L.CheckpointLog g.L.EntryLog c.refused.new.self in
-    let may = reads_of g.L.CheckpointLog g.L.EntryLog c.refused.new.self.works in
-    let within = tried_there c.args.place c.args.input.now old might c.requires.to in
+    let within = tried_there _ _ _ _ c.requires.to in
     let stops = ap (is_halted c.args.self.now.works.halted) (after_is c.args.place) ∙ sym
     c.is_halted.ensures ∙ c.if-is_halted.true in
-    tried_halted c.args.line c.args.place c.args.input.now old new might may within stops
-    c.refused.result c.refused.ensures.refused
-
-pub returns-then-is_halted-clause-servers : goal.returns-then-is_halted-clause-servers
-returns-then-is_halted-clause-servers g c =
-    c.requires.servers
+    tried_halted _ _ _ _ _ _ _ within stops _ c.refused.ensures.refused
 
 pub index-requires : goal.index-requires
 index-requires g c =
-    let old = lines_of g.L.CheckpointLog g.L.EntryLog c.args.self.now in
-    let might = reads_of g.L.CheckpointLog g.L.EntryLog c.args.self.now.works in
-    let within = tried_there c.args.place c.args.input.now old might c.requires.to in
-    let item = place_of (part g.L.CheckpointLog g.L.EntryLog) c.args.self.now.works.nodes.items
-    c.args.place within in
+    let within = tried_there _ _ _ _ c.requires.to in
+    let item = place_of _ _ _ within in
     first_of (search rules, grind (arith, common_steps, item))
 
 pub lead-requires-clause-place : goal.lead-requires-clause-place
 lead-requires-clause-place g c =
-    let old = lines_of g.L.CheckpointLog g.L.EntryLog c.args.self.now in
-    let might = reads_of g.L.CheckpointLog g.L.EntryLog c.args.self.now.works in
-    let within = tried_there c.args.place c.args.input.now old might c.requires.to in
-    let some = tried_lines (c.args.place + 1) c.args.input.now old might c.requires.to in
-    begin_within old might c.args.place some within
+    let within = tried_there _ _ _ _ c.requires.to in
+    let some = tried_lines _ _ _ _ c.requires.to in
+    begin_within _ _ _ some within
 
 pub lead-requires-clause-may : goal.lead-requires-clause-may
 lead-requires-clause-may g c =
@@ -71,23 +57,14 @@ lead-requires-clause-may g c =
           (c.in-None.ensures.rule (begin_may old might c.args.place some within runs _ seen).0),
     )
 
-pub lead-requires-clause-servers : goal.lead-requires-clause-servers
-lead-requires-clause-servers g c =
-    c.requires.servers
-
 pub lead-requires-clause-there : goal.lead-requires-clause-there
 lead-requires-clause-there g c =
-    let old = lines_of g.L.CheckpointLog g.L.EntryLog c.args.self.now in
-    let might = reads_of g.L.CheckpointLog g.L.EntryLog c.args.self.now.works in
-    let within = tried_there c.args.place c.args.input.now old might c.requires.to in
-    (place_of (part g.L.CheckpointLog g.L.EntryLog) c.args.self.now.works.nodes.items c.args.place
-    within)
+    let within = tried_there _ _ _ _ c.requires.to in
+    (place_of _ _ _ within)
 
 pub lead-requires-clause-writable : goal.lead-requires-clause-writable
 lead-requires-clause-writable g c =
-    let old = lines_of g.L.CheckpointLog g.L.EntryLog c.args.self.now in
-    let might = reads_of g.L.CheckpointLog g.L.EntryLog c.args.self.now.works in
-    let some = tried_lines (c.args.place + 1) c.args.input.now old might c.requires.to in
+    let some = tried_lines _ _ _ _ c.requires.to in
     unput_may_be_written _ _ some
 
 pub returns-in_err-lead-in-None-clause-disks : goal.returns-in_err-lead-in-None-clause-disks
@@ -105,10 +82,6 @@ returns-in_err-lead-in-None-clause-line g c =
     IsTriedLine c.args.line (c.args.place + 1) c.args.input.now old might new may r) (sym wants)
     (tried_wanting c.args.line c.args.place c.args.input.now old new might may within
     c.in_err-lead-in-None.ensures.as_before)
-
-pub returns-in_err-lead-in-None-clause-servers : goal.returns-in_err-lead-in-None-clause-servers
-returns-in_err-lead-in-None-clause-servers g c =
-    c.lead.ensures.servers
 
 pub returns-in-Some-clause-disks : goal.returns-in-Some-clause-disks
 returns-in-Some-clause-disks g c =
@@ -136,10 +109,6 @@ returns-in-Some-clause-line g c =
     c.refused-in-Some.result
     c.refused-in-Some.ensures.refused
 
-pub returns-in-Some-clause-servers : goal.returns-in-Some-clause-servers
-returns-in-Some-clause-servers g c =
-    c.requires.servers
-
 pub returns-in_ok-lead-in-None-clause-disks : goal.returns-in_ok-lead-in-None-clause-disks
 returns-in_ok-lead-in-None-clause-disks g c =
     c.lead.ensures.disks
@@ -164,7 +133,3 @@ returns-in_ok-lead-in-None-clause-line g c =
     c.in_ok-lead-in-None.field-0 runs _ seen
     (c.in-None.ensures.rule (begin_may old might c.args.place some within runs _ seen).0)
     c.in_ok-lead-in-None.ensures.led
-
-pub returns-in_ok-lead-in-None-clause-servers : goal.returns-in_ok-lead-in-None-clause-servers
-returns-in_ok-lead-in-None-clause-servers g c =
-    c.lead.ensures.servers

@@ -9,8 +9,7 @@ returns-then-failures-saturating_add g c =
     let eight : length c.args.self.now.counts ≡ 8 = omega arith in
     let rose : min (get_or c.args.self.now.counts c.loop-place.place 0 + 1) (2 ^ 64 - 1)
     ≤ g.D.Disk.faults c.index-disks-place.result = omega arith in
-    rises_at g.D.Disk.faults c.args.self.now.counts c.args.disks.now c.loop-place.place
-    c.index-disks-place.result (omega arith) c.loop-place-test.true c.index-disks-place.is rose
+    rises_at _ _ _ _ _ (omega arith) c.loop-place-test.true c.index-disks-place.is rose
     c.loop-place.invariant
 
 pub loop-place-preserved : goal.loop-place-preserved
@@ -18,8 +17,7 @@ loop-place-preserved g c =
     let eight : length c.args.self.now.counts ≡ 8 = omega arith in
     let still : g.D.Disk.faults c.index-disks-place.result
     < min (get_or c.args.self.now.counts c.loop-place.place 0 + 1) (2 ^ 64 - 1) = omega arith in
-    stays_at g.D.Disk.faults c.args.self.now.counts c.args.disks.now c.loop-place.place
-    c.index-disks-place.result (omega arith) c.loop-place-test.true c.index-disks-place.is still
+    stays_at _ _ _ _ _ (omega arith) c.loop-place-test.true c.index-disks-place.is still
     c.loop-place.invariant
 
 pub returns : goal.returns

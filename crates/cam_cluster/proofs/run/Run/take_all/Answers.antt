@@ -12,13 +12,10 @@ pub loop-step-init : goal.loop-step-init
 loop-step-init g c =
     record {
       taken =
-          none_taken c.args.script.now _ _ _ c.requires.before_first.between
-          c.requires.before_first.workers (
-            c.requires.nothing,
-            all_tell (part g.L.CheckpointLog g.L.EntryLog)
+          none_taken _ _ _ _ c.requires.before_first.between c.requires.before_first.workers (
+            c.requires.nothing, all_tell _
                 (λ node. g.met.L.TellingLog.always node.log.log) _,
           );
-      servers = c.requires.servers;
       items = c.as_slice-step-items.ensures;
       disks = goes_on_still;
       as_many = refl;
@@ -27,11 +24,10 @@ loop-step-init g c =
 pub take_next-requires : goal.take_next-requires
 take_next-requires g c =
     let at =
-    step_at c.args.script.now c.as_slice-step-items.result.now c.loop-step.step-index
-    (record { line = 0; act = Begin 0 }) c.loop-step-test.true c.loop-step.invariant.items
+    step_at c.args.script.now _ _ (record { line = 0; act = Begin 0 }) c.loop-step-test.true
+    c.loop-step.invariant.items
     in record {
       next = record { many = c.loop-step.step-index; taken = c.loop-step.invariant.taken; at = at };
-      servers = c.loop-step.invariant.servers;
     }
 
 pub loop-step-preserved : goal.loop-step-preserved
@@ -41,7 +37,6 @@ loop-step-preserved g c =
     (record { line = 0; act = Begin 0 }) c.loop-step-test.true c.loop-step.invariant.items
     in record {
       taken = c.in_ok-take_next.ensures.taken c.loop-step.step-index c.loop-step.invariant.taken at;
-      servers = c.in_ok-take_next.ensures.servers;
       items = c.loop-step.invariant.items;
       disks = goes_on_then c.loop-step.invariant.disks c.take_next.ensures.disks;
       as_many = c.take_next.ensures.as_many ∙ c.loop-step.invariant.as_many;

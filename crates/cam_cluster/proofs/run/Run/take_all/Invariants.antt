@@ -1,7 +1,6 @@
 -- The lines before this one were taken.
 use Rattle.std.proofs.Common.{◌≡◌, length}
 use Rattle.cam_cluster.specs.Failing.{DisksGoOn}
-use Rattle.cam_cluster.specs.Servers.{AreServers}
 use Rattle.cam_cluster.specs.WholeRuns.{HasTakenLines}
 use Rattle.cam_cluster.proofs.AsSeen.{lines_of, reads_of, works_of}
 use Rattle.cam_cluster.proofs.run.Run.take_all.Given as goal
@@ -11,8 +10,6 @@ invariant-loop-step g l = record {
   taken : HasTakenLines l.fn.script l.step-index
       (lines_of g.L.CheckpointLog g.L.EntryLog l.self.course.lines)
       (reads_of g.L.CheckpointLog g.L.EntryLog l.self.course.lines.works) l.self.course.workers;
-  servers : AreServers g.R.DataType.kind g.Q.DataType.kind g.C.DataType.kind l.servers.register
-      l.servers.queue l.servers.counter;
   items : l.step-items ≡ l.fn.script.steps;
   disks :
       DisksGoOn (works_of g.L.CheckpointLog g.L.EntryLog l.fn.self.course.lines.works)

@@ -12,12 +12,14 @@ on_ok : {T : Type 0} (r : Result T RunFault) (P Q : Type 0) → (P → Q) → On
 on_ok (Ok done) P Q so holds = so holds
 on_ok (Err fault) P Q so holds = holds
 
-pub take-requires-clause-next : goal.take-requires-clause-next
-take-requires-clause-next g c =
-    next_of_course c.args.script.now c.args.step.now
-    (lines_of g.L.CheckpointLog g.L.EntryLog c.args.self.now.course.lines)
-    (reads_of g.L.CheckpointLog g.L.EntryLog c.args.self.now.course.lines.works)
-    c.args.self.now.course.workers c.requires.next
+pub take-requires : goal.take-requires
+take-requires g c = record {
+  next =
+      next_of_course c.args.script.now c.args.step.now
+      (lines_of g.L.CheckpointLog g.L.EntryLog c.args.self.now.course.lines)
+      (reads_of g.L.CheckpointLog g.L.EntryLog c.args.self.now.course.lines.works)
+      c.args.self.now.course.workers c.requires.next;
+}
 
 pub returns-in-Ok-clause-taken : goal.returns-in-Ok-clause-taken
 returns-in-Ok-clause-taken g c =
@@ -49,38 +51,18 @@ returns-in-Err-Line-Refused-clause-taken g c =
 
 pub returns-in-Err-RestartFailed-clause-taken : goal.returns-in-Err-RestartFailed-clause-taken
 returns-in-Err-RestartFailed-clause-taken g c =
-    on_ok c.unfailing-in-Err-RestartFailed.result _ _
-    (λ unfailing.
-    next_failed c.args.script.now c.args.step.now
-    (lines_of g.L.CheckpointLog g.L.EntryLog c.args.self.now.course.lines)
-    (lines_of g.L.CheckpointLog g.L.EntryLog c.take.new.self.lines)
-    (reads_of g.L.CheckpointLog g.L.EntryLog c.args.self.now.course.lines.works)
-    (reads_of g.L.CheckpointLog g.L.EntryLog c.take.new.self.lines.works)
-    c.args.self.now.course.workers c.take.new.self.workers
-    c.in-Err-RestartFailed.field-0 c.in-Err-RestartFailed.field-0-is
-    c.in-Err-RestartFailed.ensures.line unfailing)
+    on_ok _ _ _ (λ unfailing. next_failed _ _ _ _ _ _ _ _ _
+    c.in-Err-RestartFailed.field-0-is c.in-Err-RestartFailed.ensures.line unfailing)
     c.unfailing-in-Err-RestartFailed.ensures.unfailing
 
 pub returns-in-Ok-clause-as_many : goal.returns-in-Ok-clause-as_many
-returns-in-Ok-clause-as_many g c =
-    nodes_as_many (part g.L.CheckpointLog g.L.EntryLog)
-    c.args.self.now.course.lines.works.nodes.items c.take.new.self.lines.works.nodes.items
-    c.take.ensures.disks.later
+returns-in-Ok-clause-as_many g c = nodes_as_many _ _ _ c.take.ensures.disks.later
 
 pub returns-in-Err-Line-Refused-clause-as_many : goal.returns-in-Err-Line-Refused-clause-as_many
-returns-in-Err-Line-Refused-clause-as_many g c =
-    nodes_as_many (part g.L.CheckpointLog g.L.EntryLog)
-    c.args.self.now.course.lines.works.nodes.items c.take.new.self.lines.works.nodes.items
-    c.take.ensures.disks.later
+returns-in-Err-Line-Refused-clause-as_many g c = nodes_as_many _ _ _ c.take.ensures.disks.later
 
 pub returns-in-Err-Line-NoMemory-clause-as_many : goal.returns-in-Err-Line-NoMemory-clause-as_many
-returns-in-Err-Line-NoMemory-clause-as_many g c =
-    nodes_as_many (part g.L.CheckpointLog g.L.EntryLog)
-    c.args.self.now.course.lines.works.nodes.items c.take.new.self.lines.works.nodes.items
-    c.take.ensures.disks.later
+returns-in-Err-Line-NoMemory-clause-as_many g c = nodes_as_many _ _ _ c.take.ensures.disks.later
 
 pub returns-in-Err-RestartFailed-clause-as_many : goal.returns-in-Err-RestartFailed-clause-as_many
-returns-in-Err-RestartFailed-clause-as_many g c =
-    nodes_as_many (part g.L.CheckpointLog g.L.EntryLog)
-    c.args.self.now.course.lines.works.nodes.items c.take.new.self.lines.works.nodes.items
-    c.take.ensures.disks.later
+returns-in-Err-RestartFailed-clause-as_many g c = nodes_as_many _ _ _ c.take.ensures.disks.later

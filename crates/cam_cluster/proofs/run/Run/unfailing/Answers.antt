@@ -5,13 +5,8 @@ use Rattle.cam_cluster.proofs.run.Run.unfailing.Goals as goal
 
 pub returns-clause-unfailing : goal.returns-clause-unfailing
 returns-clause-unfailing g c =
-    told_none c.args.self.now.course.lines.works.failed _ c.unfailing.result
-    c.unfailing.ensures.nothing
-    (all_tell (part g.L.CheckpointLog g.L.EntryLog)
-    (λ node. g.met.L.TellingLog.always node.log.log)
-    c.args.self.now.course.lines.works.nodes.items)
+    told_none _ _ _ c.unfailing.ensures.nothing (all_tell _ (λ node. g.met.L.TellingLog.always
+    node.log.log) _)
 
 pub returns-clause-cause : goal.returns-clause-cause
-returns-clause-cause g c =
-    told_cause c.args.self.now.course.lines.works.failed c.unfailing.result
-    c.unfailing.ensures.something
+returns-clause-cause g c = told_cause _ _ c.unfailing.ensures.something

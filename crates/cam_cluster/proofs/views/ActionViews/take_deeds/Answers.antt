@@ -12,16 +12,12 @@ loop-deed-preserved c =
     let ds = c.as_slice-deed-items.result.now in
     let i = c.loop-deed.deed-index in
     let d = c.deed-item.result in
-    let new = c.take_deed.new.self in
     let split : take (i + 1) ds ≡ take i ds ++ d ∷ [] =
-    take_more ds i d c.loop-deed-test.true
-    ∙ ap (λ (e : Deed). take i ds ++ e ∷ []) (sym c.deed-item.is)
+    take_more ds i d c.loop-deed-test.true ∙ ap (λ (e : Deed). take i ds ++ e ∷ []) (sym
+    c.deed-item.is)
     in record {
-      seen = λ L has.
-          subst (λ (es : List Deed). HasViews (after L es) new) (sym split)
-          (subst (λ (N : List Deed). HasViews N new) (sym (after_more L (take i ds) d))
-          (c.in_ok-take_deed.ensures.seen (after L (take i ds))
-          (c.loop-deed.invariant.seen L has)));
+      seen = λ L has. rw split (rw (after_more L (take i ds) d) (c.in_ok-take_deed.ensures.seen
+          (after L (take i ds)) (c.loop-deed.invariant.seen L has)));
       stops = c.take_deed.ensures.stops ∙ c.loop-deed.invariant.stops;
     }
 
@@ -30,5 +26,4 @@ returns-clause-seen c = λ L has.
     let ds = c.as_slice-deed-items.result.now in
     let all : take c.loop-deed.deed-index ds ≡ c.args.deeds.now =
     take_all c.loop-deed.deed-index ds c.loop-deed-test.false ∙ c.as_slice-deed-items.ensures in
-    subst (λ (es : List Deed). HasViews (after L es) c.loop-deed.self) all
-    (c.loop-deed.invariant.seen L has)
+    rw (← all) (c.loop-deed.invariant.seen L has)

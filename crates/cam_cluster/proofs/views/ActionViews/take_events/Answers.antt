@@ -8,15 +8,11 @@ use Rattle.cam_cluster.proofs.views.ActionViews.take_events.Goals as goal
 
 pub loop-event-preserved : goal.loop-event-preserved
 loop-event-preserved c = λ t has.
-    let es = c.args.events.now in
     let more =
-    taken_back es c.loop-event.event-index c.event-item.result c.loop-event-test.true
-    c.event-item.is in
-    subst (λ (u : List Event). HasSeen (u ++ t) c.take_event.new.self) (sym more)
-    (c.in_ok-take_event.ensures _ (c.loop-event.invariant t has))
+    taken_back _ _ _ c.loop-event-test.true c.event-item.is in
+    rw more (c.in_ok-take_event.ensures _ (c.loop-event.invariant t has))
 
 pub returns : goal.returns
 returns c = λ t has.
     let es = c.args.events.now in
-    subst (λ (u : List Event). HasSeen (reverse u ++ t) c.loop-event.self)
-    (take_all c.loop-event.event-index es c.loop-event-test.false) (c.loop-event.invariant t has)
+    rw (← (take_all c.loop-event.event-index es c.loop-event-test.false)) (c.loop-event.invariant t has)

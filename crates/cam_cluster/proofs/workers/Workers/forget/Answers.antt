@@ -5,7 +5,6 @@ use Rattle.cam_cluster.proofs.workers.Workers.forget.Goals as goal
 
 pub returns : goal.returns
 returns c = record {
-  given = λ st is.
-      forgotten st c.args.self.now _ refl refl c.new.ensures.empty c.new.ensures.ordered
+  given = λ st is. forgotten _ _ _ refl refl c.new.ensures.empty c.new.ensures.ordered
       c.new-2.ensures.empty c.new-2.ensures.ordered refl c.new-3.ensures is;
 }

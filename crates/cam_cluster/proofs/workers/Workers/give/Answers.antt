@@ -5,5 +5,4 @@ use Rattle.cam_cluster.proofs.workers.Workers.give.Goals as goal
 
 pub returns : goal.returns
 returns c st are bare =
-    one_given st c.args.name.now c.args.body c.args.self.now _ c.push_reserved.ensures refl refl
-    refl refl refl bare are
+    one_given _ _ _ _ _ c.push_reserved.ensures refl refl refl refl refl bare are

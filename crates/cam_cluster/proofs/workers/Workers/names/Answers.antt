@@ -8,4 +8,4 @@ pub returns : goal.returns
 returns c st caught =
     let all : c.loop-name.names ≡ c.args.self.now.playing.keys =
     first_of (search rules, grind (arith, common_steps)) in
-    all ∙ names_playing st c.args.self.now caught
+    all ∙ names_playing _ _ caught

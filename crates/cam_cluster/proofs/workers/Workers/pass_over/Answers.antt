@@ -5,5 +5,5 @@ use Rattle.cam_cluster.proofs.workers.Workers.pass_over.Goals as goal
 
 pub returns : goal.returns
 returns c st are over =
-    passed_over st c.args.name.now c.args.self.now _ refl refl refl refl refl
-    c.remove.ensures.ordered c.remove.ensures.updates.0 over are
+    passed_over _ _ _ _ refl refl refl refl refl c.remove.ensures.ordered
+    c.remove.ensures.updates.0 over are

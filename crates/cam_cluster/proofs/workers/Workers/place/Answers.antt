@@ -13,8 +13,7 @@ same_set s t same = λ i. record { keys = same i }
 
 pub returns-in_err-insert-clause-stay : goal.returns-in_err-insert-clause-stay
 returns-in_err-insert-clause-stay c st are =
-    same_workers st c.loop-self.self _ refl refl refl
-    (same_set c.loop-self.self.playing _ c.in_err-insert.ensures.err) refl refl
+    same_workers _ _ _ refl refl refl (same_set _ _ c.in_err-insert.ensures.err) refl refl
     (c.loop-self.invariant.stay st are)
 
 pub returns-in_err-insert-2-clause-stay : goal.returns-in_err-insert-2-clause-stay

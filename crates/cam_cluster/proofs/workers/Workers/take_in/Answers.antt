@@ -5,5 +5,4 @@ use Rattle.cam_cluster.proofs.workers.Workers.take_in.Goals as goal
 
 pub returns-in-Ok-clause-stay : goal.returns-in-Ok-clause-stay
 returns-in-Ok-clause-stay c st is are =
-    taken_in st c.args.self.now _ c.args.events.now is refl refl refl refl refl
-    (c.in-Ok.ensures _ are.seen) are
+    taken_in _ _ _ _ is refl refl refl refl refl (c.in-Ok.ensures _ are.seen) are

@@ -21,8 +21,6 @@ unreachable-unreachable g c =
 
 pub returns : goal.returns
 returns g c =
-    arrives (works_of g.L.CheckpointLog g.L.EntryLog c.args.self.now)
-    (reads_of g.L.CheckpointLog g.L.EntryLog c.args.self.now) c.args.number c.args.coming.now
-    c.requires.found c.requires.all c.read_arrival.result c.args.bytes c.in-Some.left.now
-    (c.in-Some.ensures ∙ ap (λ n. cut_of n c.args.number c.args.bytes) c.net.ensures)
-    c.read_arrival.ensures.whole c.read_arrival.ensures.cut
+    arrives _ _ _ _ c.requires.found c.requires.all _ _ _ (c.in-Some.ensures ∙ ap (λ n.
+    cut_of n c.args.number c.args.bytes) c.net.ensures) c.read_arrival.ensures.whole
+    c.read_arrival.ensures.cut

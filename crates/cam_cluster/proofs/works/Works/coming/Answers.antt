@@ -10,39 +10,27 @@ use Rattle.cam_cluster.proofs.works.Works.coming.Goals as goal
 
 pub returns-then-is_none : goal.returns-then-is_none
 returns-then-is_none g c = record {
-  found = λ script st is keeps.
-      found_lost script st (works_of g.L.CheckpointLog g.L.EntryLog c.args.self.now)
-      (reads_of g.L.CheckpointLog g.L.EntryLog c.args.self.now) keeps c.requires.all c.args.number
-      (has_as c.whole.result (λ b. b.now) c.args.self.now.outbox.net c.net.result.now
-      c.args.number c.whole.ensures c.net.ensures ∙ c.if-is_none.ensures);
+  found = λ script st is keeps. found_lost script _ _ (reads_of g.L.CheckpointLog g.L.EntryLog
+      c.args.self.now) keeps c.requires.all _ (has_as _ _ _ _ _ c.whole.ensures c.net.ensures
+      ∙ c.if-is_none.ensures);
 }
 
 pub returns-in_err-letter : goal.returns-in_err-letter
 returns-in_err-letter g c = record {
-  found = λ script st is keeps.
-      subst (IsFound c.args.number st) (sym c.from_residual.ensures)
-      (is_numbered script st (works_of g.L.CheckpointLog g.L.EntryLog c.args.self.now)
-      (reads_of g.L.CheckpointLog g.L.EntryLog c.args.self.now) keeps c.requires.all c.args.number
-      None (has_as c.whole.result (λ b. b.now) c.args.self.now.outbox.net c.net.result.now
-      c.args.number c.whole.ensures c.net.ensures ∙ c.if-is_none.ensures)
-      (sym c.in_err-letter.was ∙ c.numbered.ensures));
+  found = λ script st is keeps. subst (IsFound c.args.number st) (sym c.from_residual.ensures)
+      (is_numbered script st _ (reads_of g.L.CheckpointLog g.L.EntryLog c.args.self.now) keeps
+      c.requires.all _ _ (has_as _ _ _ _ _ c.whole.ensures c.net.ensures ∙
+      c.if-is_none.ensures) (sym c.in_err-letter.was ∙ c.numbered.ensures));
 }
 
 pub returns-in_err-to : goal.returns-in_err-to
 returns-in_err-to g c = record {
-  found = λ script st is keeps.
-      absurd (no_receiver script st (works_of g.L.CheckpointLog g.L.EntryLog c.args.self.now)
-      (reads_of g.L.CheckpointLog g.L.EntryLog c.args.self.now) keeps c.requires.all c.args.number
-      c.in_ok-letter.letter
-      (is_numbered script st (works_of g.L.CheckpointLog g.L.EntryLog c.args.self.now)
-      (reads_of g.L.CheckpointLog g.L.EntryLog c.args.self.now) keeps c.requires.all c.args.number
-      (Some c.in_ok-letter.letter)
-      (has_as c.whole.result (λ b. b.now) c.args.self.now.outbox.net c.net.result.now
-      c.args.number c.whole.ensures c.net.ensures ∙ c.if-is_none.ensures)
-      (sym c.in_ok-letter.was ∙ c.numbered.ensures))
-      (sym c.in_err-to.was ∙ c.receiver.ensures
-      ∙ ap (λ es. option_map (λ m. m.to) (letter_at (reverse es) c.in_ok-letter.letter))
-      c.as_slice.ensures.value));
+  found = λ script st is keeps. absurd (no_receiver script _ _ (reads_of g.L.CheckpointLog
+      g.L.EntryLog c.args.self.now) keeps c.requires.all _ _ (is_numbered script st _ (reads_of
+      g.L.CheckpointLog g.L.EntryLog c.args.self.now) keeps c.requires.all _ _ (has_as _ _ _ _
+      _ c.whole.ensures c.net.ensures ∙ c.if-is_none.ensures) (sym c.in_ok-letter.was ∙
+      c.numbered.ensures)) (sym c.in_err-to.was ∙ c.receiver.ensures ∙ ap (λ es. option_map (λ m.
+      m.to) (letter_at (reverse es) c.in_ok-letter.letter)) c.as_slice.ensures.value));
 }
 
 pub overflow_cast-to : goal.overflow_cast-to
@@ -51,33 +39,21 @@ overflow_cast-to g c =
 
 pub returns-in_err-place : goal.returns-in_err-place
 returns-in_err-place g c = record {
-  found = λ script st is keeps.
-      absurd (c.in_err-place.ensures
-      (receiver_is script st (works_of g.L.CheckpointLog g.L.EntryLog c.args.self.now)
-      (reads_of g.L.CheckpointLog g.L.EntryLog c.args.self.now) keeps c.requires.all c.args.number
-      c.in_ok-letter.letter c.in_ok-to.to
-      (is_numbered script st (works_of g.L.CheckpointLog g.L.EntryLog c.args.self.now)
-      (reads_of g.L.CheckpointLog g.L.EntryLog c.args.self.now) keeps c.requires.all c.args.number
-      (Some c.in_ok-letter.letter)
-      (has_as c.whole.result (λ b. b.now) c.args.self.now.outbox.net c.net.result.now
-      c.args.number c.whole.ensures c.net.ensures ∙ c.if-is_none.ensures)
-      (sym c.in_ok-letter.was ∙ c.numbered.ensures))
-      (sym c.in_ok-to.was ∙ c.receiver.ensures
-      ∙ ap (λ es. option_map (λ m. m.to) (letter_at (reverse es) c.in_ok-letter.letter))
+  found = λ script st is keeps. absurd (c.in_err-place.ensures (receiver_is script _ _ (reads_of
+      g.L.CheckpointLog g.L.EntryLog c.args.self.now) keeps c.requires.all _ _ _ (is_numbered
+      script st _ (reads_of g.L.CheckpointLog g.L.EntryLog c.args.self.now) keeps c.requires.all _
+      _ (has_as _ _ _ _ _ c.whole.ensures c.net.ensures ∙ c.if-is_none.ensures) (sym
+      c.in_ok-letter.was ∙ c.numbered.ensures)) (sym c.in_ok-to.was ∙ c.receiver.ensures ∙ ap (λ es.
+      option_map (λ m. m.to) (letter_at (reverse es) c.in_ok-letter.letter))
       c.as_slice.ensures.value)).0);
 }
 
 pub returns : goal.returns
 returns g c = record {
-  found = λ script st is keeps.
-      found_there script st (works_of g.L.CheckpointLog g.L.EntryLog c.args.self.now)
-      (reads_of g.L.CheckpointLog g.L.EntryLog c.args.self.now) keeps c.requires.all c.args.number
-      c.in_ok-place.place c.in_ok-letter.letter c.in_ok-to.to
-      (has_as c.whole.result (λ b. b.now) c.args.self.now.outbox.net c.net.result.now
-      c.args.number c.whole.ensures c.net.ensures ∙ c.if-is_none.ensures)
-      (sym c.in_ok-letter.was ∙ c.numbered.ensures)
-      (sym c.in_ok-to.was ∙ c.receiver.ensures
-      ∙ ap (λ es. option_map (λ m. m.to) (letter_at (reverse es) c.in_ok-letter.letter))
-      c.as_slice.ensures.value)
-      (λ low. let is = c.in_ok-place.ensures.1 in omega (arith, is, low));
+  found = λ script st is keeps. found_there script _ _ (reads_of g.L.CheckpointLog g.L.EntryLog
+      c.args.self.now) keeps c.requires.all _ _ _ _ (has_as _ _ _ _ _ c.whole.ensures
+      c.net.ensures ∙ c.if-is_none.ensures) (sym c.in_ok-letter.was ∙ c.numbered.ensures) (sym
+      c.in_ok-to.was ∙ c.receiver.ensures ∙ ap (λ es. option_map (λ m. m.to) (letter_at (reverse es)
+      c.in_ok-letter.letter)) c.as_slice.ensures.value) (λ low. let is = c.in_ok-place.ensures.1 in
+      omega (arith, is, low));
 }

@@ -11,9 +11,7 @@ use Rattle.cam_cluster.proofs.works.Works.deliver_next.Goals as goal
 
 pub put_letters-requires : goal.put_letters-requires
 put_letters-requires g c = record {
-  writable =
-      works_may_be_written (works_of g.L.CheckpointLog g.L.EntryLog c.args.self.now)
-      (reads_of g.L.CheckpointLog g.L.EntryLog c.args.self.now) c.requires.stand;
+  writable = works_may_be_written _ _ c.requires.stand;
 }
 
 pub returns-in_err-put_letters-clause-disks : goal.returns-in_err-put_letters-clause-disks
@@ -25,12 +23,7 @@ returns-in_err-put_letters-clause-next g c =
     search rules
 
 pub returns-in_err-put_letters-clause-as_before : goal.returns-in_err-put_letters-clause-as_before
-returns-in_err-put_letters-clause-as_before g c =
-    on_err c.from_residual.result _ c.put_letters.ensures.as_before
-
-pub returns-in_err-put_letters-clause-servers : goal.returns-in_err-put_letters-clause-servers
-returns-in_err-put_letters-clause-servers g c =
-    c.requires.servers
+returns-in_err-put_letters-clause-as_before g c = on_err _ _ c.put_letters.ensures.as_before
 
 pub returns-in_default-clause-disks : goal.returns-in_default-clause-disks
 returns-in_default-clause-disks g c =
@@ -38,43 +31,24 @@ returns-in_default-clause-disks g c =
 
 pub returns-in_default-clause-next : goal.returns-in_default-clause-next
 returns-in_default-clause-next g c =
-    none_next c.args.line (works_of g.L.CheckpointLog g.L.EntryLog c.args.self.now)
-    (works_of g.L.CheckpointLog g.L.EntryLog c.put_letters.new.self)
-    (reads_of g.L.CheckpointLog g.L.EntryLog c.args.self.now)
-    (reads_of g.L.CheckpointLog g.L.EntryLog c.put_letters.new.self)
-    c.put_letters.ensures.as_before c.in_ok-put_letters.ensures.all
-    (c.in_default.ensures ∙ ap (λ n. next_of c.put_letters.new.self.halted n) c.net.ensures)
-
-pub returns-in_default-clause-servers : goal.returns-in_default-clause-servers
-returns-in_default-clause-servers g c =
-    c.requires.servers
+    none_next c.args.line _ _ _ _ c.put_letters.ensures.as_before
+    c.in_ok-put_letters.ensures.all (c.in_default.ensures ∙ ap (λ n. next_of
+    c.put_letters.new.self.halted n) c.net.ensures)
 
 pub coming-requires : goal.coming-requires
 coming-requires g c = record { all = c.in_ok-put_letters.ensures.all }
 
 pub unreachable-requires : goal.unreachable-requires
 unreachable-requires g c =
-    next_found (works_of g.L.CheckpointLog g.L.EntryLog c.put_letters.new.self)
-    (reads_of g.L.CheckpointLog g.L.EntryLog c.put_letters.new.self) c.in-Some.number
-    (some_works (works_of g.L.CheckpointLog g.L.EntryLog c.args.self.now)
-    (works_of g.L.CheckpointLog g.L.EntryLog c.put_letters.new.self)
-    (reads_of g.L.CheckpointLog g.L.EntryLog c.args.self.now)
-    (reads_of g.L.CheckpointLog g.L.EntryLog c.put_letters.new.self) c.put_letters.ensures.as_before
-    c.requires.stand) c.in_ok-put_letters.ensures.all
-    (c.in-Some.ensures ∙ ap (λ n. next_of c.put_letters.new.self.halted n) c.net.ensures)
-    c.in_default-coming.ensures.found
+    next_found _ _ _ (some_works _ _ _ _ c.put_letters.ensures.as_before c.requires.stand)
+    c.in_ok-put_letters.ensures.all (c.in-Some.ensures ∙ ap (λ n. next_of
+    c.put_letters.new.self.halted n) c.net.ensures) c.in_default-coming.ensures.found
 
 pub unreachable-unreachable : goal.unreachable-unreachable
 unreachable-unreachable g c =
-    next_found (works_of g.L.CheckpointLog g.L.EntryLog c.put_letters.new.self)
-    (reads_of g.L.CheckpointLog g.L.EntryLog c.put_letters.new.self) c.in-Some.number
-    (some_works (works_of g.L.CheckpointLog g.L.EntryLog c.args.self.now)
-    (works_of g.L.CheckpointLog g.L.EntryLog c.put_letters.new.self)
-    (reads_of g.L.CheckpointLog g.L.EntryLog c.args.self.now)
-    (reads_of g.L.CheckpointLog g.L.EntryLog c.put_letters.new.self) c.put_letters.ensures.as_before
-    c.requires.stand) c.in_ok-put_letters.ensures.all
-    (c.in-Some.ensures ∙ ap (λ n. next_of c.put_letters.new.self.halted n) c.net.ensures)
-    c.in_default-coming.ensures.found
+    next_found _ _ _ (some_works _ _ _ _ c.put_letters.ensures.as_before c.requires.stand)
+    c.in_ok-put_letters.ensures.all (c.in-Some.ensures ∙ ap (λ n. next_of
+    c.put_letters.new.self.halted n) c.net.ensures) c.in_default-coming.ensures.found
 
 pub read-requires-clause-all : goal.read-requires-clause-all
 read-requires-clause-all g c =
@@ -82,11 +56,7 @@ read-requires-clause-all g c =
 
 pub read-requires-clause-stand : goal.read-requires-clause-stand
 read-requires-clause-stand g c =
-    (some_works (works_of g.L.CheckpointLog g.L.EntryLog c.args.self.now)
-    (works_of g.L.CheckpointLog g.L.EntryLog c.put_letters.new.self)
-    (reads_of g.L.CheckpointLog g.L.EntryLog c.args.self.now)
-    (reads_of g.L.CheckpointLog g.L.EntryLog c.put_letters.new.self) c.put_letters.ensures.as_before
-    c.requires.stand)
+    (some_works _ _ _ _ c.put_letters.ensures.as_before c.requires.stand)
 
 pub read-requires-clause-found : goal.read-requires-clause-found
 read-requires-clause-found g c =
@@ -101,12 +71,7 @@ returns-in_err-letter-clause-next g c =
     search rules
 
 pub returns-in_err-letter-clause-as_before : goal.returns-in_err-letter-clause-as_before
-returns-in_err-letter-clause-as_before g c =
-    on_err c.from_residual-in_err-letter.result _ c.put_letters.ensures.as_before
-
-pub returns-in_err-letter-clause-servers : goal.returns-in_err-letter-clause-servers
-returns-in_err-letter-clause-servers g c =
-    c.requires.servers
+returns-in_err-letter-clause-as_before g c = on_err _ _ c.put_letters.ensures.as_before
 
 pub hand_over-requires-clause-all : goal.hand_over-requires-clause-all
 hand_over-requires-clause-all g c =
@@ -114,11 +79,7 @@ hand_over-requires-clause-all g c =
 
 pub hand_over-requires-clause-stand : goal.hand_over-requires-clause-stand
 hand_over-requires-clause-stand g c =
-    (some_works (works_of g.L.CheckpointLog g.L.EntryLog c.args.self.now)
-    (works_of g.L.CheckpointLog g.L.EntryLog c.put_letters.new.self)
-    (reads_of g.L.CheckpointLog g.L.EntryLog c.args.self.now)
-    (reads_of g.L.CheckpointLog g.L.EntryLog c.put_letters.new.self) c.put_letters.ensures.as_before
-    c.requires.stand)
+    (some_works _ _ _ _ c.put_letters.ensures.as_before c.requires.stand)
 
 pub hand_over-requires-clause-found : goal.hand_over-requires-clause-found
 hand_over-requires-clause-found g c =
@@ -126,23 +87,13 @@ hand_over-requires-clause-found g c =
 
 pub hand_over-requires-clause-awake : goal.hand_over-requires-clause-awake
 hand_over-requires-clause-awake g c =
-    next_awake (works_of g.L.CheckpointLog g.L.EntryLog c.put_letters.new.self)
-    (reads_of g.L.CheckpointLog g.L.EntryLog c.put_letters.new.self) c.in-Some.number
-    c.in-Some-coming.coming (some_works (works_of g.L.CheckpointLog g.L.EntryLog c.args.self.now)
-    (works_of g.L.CheckpointLog g.L.EntryLog c.put_letters.new.self)
-    (reads_of g.L.CheckpointLog g.L.EntryLog c.args.self.now)
-    (reads_of g.L.CheckpointLog g.L.EntryLog c.put_letters.new.self) c.put_letters.ensures.as_before
-    c.requires.stand) c.in_ok-put_letters.ensures.all
-    (c.in-Some.ensures ∙ ap (λ n. next_of c.put_letters.new.self.halted n) c.net.ensures)
-    c.in-Some-coming.ensures.found
+    next_awake _ _ _ _ (some_works _ _ _ _ c.put_letters.ensures.as_before c.requires.stand)
+    c.in_ok-put_letters.ensures.all (c.in-Some.ensures ∙ ap (λ n. next_of
+    c.put_letters.new.self.halted n) c.net.ensures) c.in-Some-coming.ensures.found
 
 pub hand_over-requires-clause-read : goal.hand_over-requires-clause-read
 hand_over-requires-clause-read g c =
     c.in_ok-letter.ensures
-
-pub hand_over-requires-clause-servers : goal.hand_over-requires-clause-servers
-hand_over-requires-clause-servers g c =
-    c.requires.servers
 
 pub returns-in_err-done-clause-disks : goal.returns-in_err-done-clause-disks
 returns-in_err-done-clause-disks g c =
@@ -154,18 +105,8 @@ returns-in_err-done-clause-next g c =
 
 pub returns-in_err-done-clause-as_before : goal.returns-in_err-done-clause-as_before
 returns-in_err-done-clause-as_before g c =
-    on_err c.from_residual-in_err-done.result _
-    (then_before (works_of g.L.CheckpointLog g.L.EntryLog c.args.self.now)
-    (works_of g.L.CheckpointLog g.L.EntryLog c.put_letters.new.self)
-    (works_of g.L.CheckpointLog g.L.EntryLog c.hand_over.new.self)
-    (reads_of g.L.CheckpointLog g.L.EntryLog c.args.self.now)
-    (reads_of g.L.CheckpointLog g.L.EntryLog c.put_letters.new.self)
-    (reads_of g.L.CheckpointLog g.L.EntryLog c.hand_over.new.self)
-    c.put_letters.ensures.as_before c.in_err-done.ensures.as_before)
-
-pub returns-in_err-done-clause-servers : goal.returns-in_err-done-clause-servers
-returns-in_err-done-clause-servers g c =
-    c.hand_over.ensures.servers
+    on_err _ _ (then_before _ _ _ _ _ _ c.put_letters.ensures.as_before
+    c.in_err-done.ensures.as_before)
 
 pub returns-clause-disks : goal.returns-clause-disks
 returns-clause-disks g c =
@@ -173,17 +114,6 @@ returns-clause-disks g c =
 
 pub returns-clause-next : goal.returns-clause-next
 returns-clause-next g c =
-    handed_next c.args.line c.in-Some.number
-    (works_of g.L.CheckpointLog g.L.EntryLog c.args.self.now)
-    (works_of g.L.CheckpointLog g.L.EntryLog c.put_letters.new.self)
-    (works_of g.L.CheckpointLog g.L.EntryLog c.hand_over.new.self)
-    (reads_of g.L.CheckpointLog g.L.EntryLog c.args.self.now)
-    (reads_of g.L.CheckpointLog g.L.EntryLog c.put_letters.new.self)
-    (reads_of g.L.CheckpointLog g.L.EntryLog c.hand_over.new.self) c.in_ok-done.done
-    c.put_letters.ensures.as_before c.in_ok-put_letters.ensures.all
-    (c.in-Some.ensures ∙ ap (λ n. next_of c.put_letters.new.self.halted n) c.net.ensures)
-    c.in_ok-done.ensures.delivered
-
-pub returns-clause-servers : goal.returns-clause-servers
-returns-clause-servers g c =
-    c.hand_over.ensures.servers
+    handed_next _ _ _ _ _ _ _ _ _ c.put_letters.ensures.as_before
+    c.in_ok-put_letters.ensures.all (c.in-Some.ensures ∙ ap (λ n. next_of
+    c.put_letters.new.self.halted n) c.net.ensures) c.in_ok-done.ensures.delivered

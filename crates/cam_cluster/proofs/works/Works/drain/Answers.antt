@@ -10,21 +10,13 @@ use Rattle.cam_cluster.proofs.works.Works.drain.Goals as goal
 
 pub loop-init : goal.loop-init
 loop-init g c = record {
-  so_far =
-      none_so_far c.args.line (works_of g.L.CheckpointLog g.L.EntryLog c.args.self.now)
-      (reads_of g.L.CheckpointLog g.L.EntryLog c.args.self.now);
+  so_far = none_so_far _ _ _;
   some = c.requires.stand;
-  servers = c.requires.servers;
   disks = goes_on_still;
 }
 
-pub deliver_next-requires-clause-stand : goal.deliver_next-requires-clause-stand
-deliver_next-requires-clause-stand g c =
-    c.loop.invariant.some
-
-pub deliver_next-requires-clause-servers : goal.deliver_next-requires-clause-servers
-deliver_next-requires-clause-servers g c =
-    c.loop.invariant.servers
+pub deliver_next-requires : goal.deliver_next-requires
+deliver_next-requires g c = record { stand = c.loop.invariant.some; }
 
 pub returns-in_err-deliver_next-clause-disks : goal.returns-in_err-deliver_next-clause-disks
 returns-in_err-deliver_next-clause-disks g c =
@@ -36,56 +28,28 @@ returns-in_err-deliver_next-clause-drained g c =
 
 pub returns-in_err-deliver_next-clause-part : goal.returns-in_err-deliver_next-clause-part
 returns-in_err-deliver_next-clause-part g c =
-    on_err c.from_residual.result _
-    (and_wanting c.args.line (works_of g.L.CheckpointLog g.L.EntryLog c.args.self.now)
-    (works_of g.L.CheckpointLog g.L.EntryLog c.loop.self)
-    (works_of g.L.CheckpointLog g.L.EntryLog c.deliver_next.new.self)
-    (reads_of g.L.CheckpointLog g.L.EntryLog c.args.self.now)
-    (reads_of g.L.CheckpointLog g.L.EntryLog c.loop.self)
-    (reads_of g.L.CheckpointLog g.L.EntryLog c.deliver_next.new.self) c.loop.invariant.so_far
+    on_err _ _ (and_wanting _ _ _ _ _ _ _ c.loop.invariant.so_far
     c.in_err-deliver_next.ensures.as_before)
-
-pub returns-in_err-deliver_next-clause-servers : goal.returns-in_err-deliver_next-clause-servers
-returns-in_err-deliver_next-clause-servers g c =
-    c.deliver_next.ensures.servers
 
 pub loop-smaller : goal.loop-smaller
 loop-smaller g c =
-    let next = (next_some c.args.line (works_of g.L.CheckpointLog g.L.EntryLog c.loop.self)
-    (works_of g.L.CheckpointLog g.L.EntryLog c.deliver_next.new.self)
-    (reads_of g.L.CheckpointLog g.L.EntryLog c.loop.self)
-    (reads_of g.L.CheckpointLog g.L.EntryLog c.deliver_next.new.self)
-    c.in_ok-deliver_next.field-0 (sym c.is_some.ensures ∙ c.if-is_some.true)
+    let next = (next_some _ _ _ _ _ _ (sym c.is_some.ensures ∙ c.if-is_some.true)
     c.in_ok-deliver_next.ensures.next) in
-    weighs_less c.args.line (works_of g.L.CheckpointLog g.L.EntryLog c.loop.self)
-    (works_of g.L.CheckpointLog g.L.EntryLog c.deliver_next.new.self)
-    (reads_of g.L.CheckpointLog g.L.EntryLog c.loop.self)
-    (reads_of g.L.CheckpointLog g.L.EntryLog c.deliver_next.new.self) next.0 c.loop.invariant.some
-    next.1
+    weighs_less c.args.line (works_of g.L.CheckpointLog g.L.EntryLog c.loop.self) (works_of
+    g.L.CheckpointLog g.L.EntryLog c.deliver_next.new.self) (reads_of g.L.CheckpointLog g.L.EntryLog
+    c.loop.self) (reads_of g.L.CheckpointLog g.L.EntryLog c.deliver_next.new.self) next.0
+    c.loop.invariant.some next.1
 
 pub loop-preserved : goal.loop-preserved
 loop-preserved g c =
-    let next = (next_some c.args.line (works_of g.L.CheckpointLog g.L.EntryLog c.loop.self)
-    (works_of g.L.CheckpointLog g.L.EntryLog c.deliver_next.new.self)
-    (reads_of g.L.CheckpointLog g.L.EntryLog c.loop.self)
-    (reads_of g.L.CheckpointLog g.L.EntryLog c.deliver_next.new.self)
-    c.in_ok-deliver_next.field-0 (sym c.is_some.ensures ∙ c.if-is_some.true)
+    let next = (next_some _ _ _ _ _ _ (sym c.is_some.ensures ∙ c.if-is_some.true)
     c.in_ok-deliver_next.ensures.next) in record {
-      so_far =
-          and_next c.args.line (works_of g.L.CheckpointLog g.L.EntryLog c.args.self.now)
-          (works_of g.L.CheckpointLog g.L.EntryLog c.loop.self)
-          (works_of g.L.CheckpointLog g.L.EntryLog c.deliver_next.new.self)
-          (reads_of g.L.CheckpointLog g.L.EntryLog c.args.self.now)
-          (reads_of g.L.CheckpointLog g.L.EntryLog c.loop.self)
-          (reads_of g.L.CheckpointLog g.L.EntryLog c.deliver_next.new.self) next.0
-          c.loop.invariant.so_far next.1;
+      so_far = and_next _ _ _ _ _ _ _ _ c.loop.invariant.so_far next.1;
       some =
-          some_behind c.args.line (works_of g.L.CheckpointLog g.L.EntryLog c.loop.self)
-          (works_of g.L.CheckpointLog g.L.EntryLog c.deliver_next.new.self)
-          (reads_of g.L.CheckpointLog g.L.EntryLog c.loop.self)
-          (reads_of g.L.CheckpointLog g.L.EntryLog c.deliver_next.new.self) next.0
-          c.loop.invariant.some next.1;
-      servers = c.deliver_next.ensures.servers;
+          some_behind c.args.line (works_of g.L.CheckpointLog g.L.EntryLog c.loop.self) (works_of
+          g.L.CheckpointLog g.L.EntryLog c.deliver_next.new.self) (reads_of g.L.CheckpointLog
+          g.L.EntryLog c.loop.self) (reads_of g.L.CheckpointLog g.L.EntryLog
+          c.deliver_next.new.self) next.0 c.loop.invariant.some next.1;
       disks = goes_on_then c.loop.invariant.disks c.deliver_next.ensures.disks;
     }
 
@@ -95,19 +59,5 @@ returns-clause-disks g c =
 
 pub returns-clause-drained : goal.returns-clause-drained
 returns-clause-drained g c =
-    and_over c.args.line (works_of g.L.CheckpointLog g.L.EntryLog c.args.self.now)
-    (works_of g.L.CheckpointLog g.L.EntryLog c.loop.self)
-    (works_of g.L.CheckpointLog g.L.EntryLog c.deliver_next.new.self)
-    (reads_of g.L.CheckpointLog g.L.EntryLog c.args.self.now)
-    (reads_of g.L.CheckpointLog g.L.EntryLog c.loop.self)
-    (reads_of g.L.CheckpointLog g.L.EntryLog c.deliver_next.new.self) c.loop.invariant.so_far
-    (next_none c.args.line (works_of g.L.CheckpointLog g.L.EntryLog c.loop.self)
-    (works_of g.L.CheckpointLog g.L.EntryLog c.deliver_next.new.self)
-    (reads_of g.L.CheckpointLog g.L.EntryLog c.loop.self)
-    (reads_of g.L.CheckpointLog g.L.EntryLog c.deliver_next.new.self)
-    c.in_ok-deliver_next.field-0 (sym c.is_some.ensures ∙ c.if-is_some.false)
-    c.in_ok-deliver_next.ensures.next)
-
-pub returns-clause-servers : goal.returns-clause-servers
-returns-clause-servers g c =
-    c.deliver_next.ensures.servers
+    and_over _ _ _ _ _ _ _ c.loop.invariant.so_far (next_none _ _ _ _ _ _ (sym
+    c.is_some.ensures ∙ c.if-is_some.false) c.in_ok-deliver_next.ensures.next)

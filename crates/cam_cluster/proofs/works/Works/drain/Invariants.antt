@@ -2,7 +2,6 @@
 use Rattle.cam_cluster.specs.Coming.{AreWorksOfSome}
 use Rattle.cam_cluster.specs.Drains.{HasDeliveredSome, works_weight}
 use Rattle.cam_cluster.specs.Failing.{DisksGoOn}
-use Rattle.cam_cluster.specs.Servers.{AreServers}
 use Rattle.cam_cluster.proofs.AsSeen.{reads_of, works_of}
 use Rattle.cam_cluster.proofs.works.Works.drain.Given as goal
 
@@ -18,9 +17,6 @@ invariant-loop g l = record {
   disks :
       DisksGoOn (works_of g.L.CheckpointLog g.L.EntryLog l.initial.self)
       (works_of g.L.CheckpointLog g.L.EntryLog l.self);
-  servers :
-      AreServers g.R.DataType.kind g.Q.DataType.kind g.C.DataType.kind l.servers.register
-      l.servers.queue l.servers.counter;
 }
 
 abbrev pub decreases-loop : goal.decreases-loop

@@ -19,8 +19,7 @@ catch_up-requires g c =
     let fits = goes.are_workers.within in
     let many =
     as_many c.args.self.now.events.events.items goes.standing.running.trace goes.keeps.events in
-    subst (λ es. c.args.workers.now.events ≤ length es) (sym c.as_slice.ensures.value)
-    (omega (arith, fits, many))
+    rw c.as_slice.ensures.value (omega (arith, fits, many))
 
 pub returns-in_err-catch_up : goal.returns-in_err-catch_up
 returns-in_err-catch_up g c = record {
@@ -30,7 +29,6 @@ returns-in_err-catch_up g c = record {
   workers_as_before =
       on_err c.from_residual.result _ (λ script st keeps are.
       c.catch_up.ensures.stay st (c.as_slice.ensures.value ∙ keeps.events) are);
-  servers = c.requires.servers;
 }
 
 pub returns-in_err-reserve : goal.returns-in_err-reserve
@@ -42,7 +40,6 @@ returns-in_err-reserve g c = record {
       on_err c.from_residual-in_err-reserve.result _ (λ script st keeps are.
       c.reserve.ensures.stay st
       (c.catch_up.ensures.stay st (c.as_slice.ensures.value ∙ keeps.events) are));
-  servers = c.requires.servers;
 }
 
 pub overflow_cast-place : goal.overflow_cast-place
@@ -56,7 +53,6 @@ put-requires g c =
     let goes = c.requires.goes in
     let home = sym (home_place c.home.result _ _ c.home.ensures goes.may.low) in
     record {
-      servers = c.requires.servers;
       place =
           home_within c.args.name.now c.args.bodies.now works reads c.args.workers.now goes
           (c.home.result.0 - 1) home;
@@ -103,7 +99,6 @@ returns-in_err-done-in-Request g c = record {
       on_err c.from_residual-in_err-done-in-Request.result _ (λ script st keeps are.
       c.reserve.ensures.stay st
       (c.catch_up.ensures.stay st (c.as_slice.ensures.value ∙ keeps.events) are));
-  servers = c.put.ensures.servers;
 }
 
 pub overflow_sub-place : goal.overflow_sub-place
@@ -118,7 +113,6 @@ give_body-requires g c = c.in_ok-reserve.ensures.room
 pub returns-in_ok-done-in-Request : goal.returns-in_ok-done-in-Request
 returns-in_ok-done-in-Request g c = record {
   disks = c.put.ensures.disks;
-  servers = c.put.ensures.servers;
   gone =
       let works = works_of g.L.CheckpointLog g.L.EntryLog c.args.self.now in
       let reads = reads_of g.L.CheckpointLog g.L.EntryLog c.args.self.now in
@@ -150,22 +144,16 @@ returns-in_ok-done-in-Request g c = record {
 
 pub returns-in-Wait : goal.returns-in-Wait
 returns-in-Wait g c =
-    let works = works_of g.L.CheckpointLog g.L.EntryLog c.args.self.now in
-    let reads = reads_of g.L.CheckpointLog g.L.EntryLog c.args.self.now in
     let caught : CatchesUp c.args.self.now.events.events.items c.args.workers.now
     c.reserve.new.self =
-    λ st is are. (
-      c.reserve.ensures.stay st
+    λ st is are. ( c.reserve.ensures.stay st
           (c.catch_up.ensures.stay st (c.as_slice.ensures.value ∙ is) are),
-      c.reserve.ensures.caught_up st
-          (c.in_ok-catch_up.ensures.caught_up st (c.as_slice.ensures.value ∙ is) are),
+      c.reserve.ensures.caught_up st (c.in_ok-catch_up.ensures.caught_up st
+          (c.as_slice.ensures.value ∙ is) are),
     ) in record {
       gone =
-          idle_gone c.args.line c.args.bodies.now c.args.name.now works reads c.args.workers.now
-          c.reserve.new.self c.intention-next.result caught c.intention-next.ensures
-          (rests c.intention-next.result.next c.in-Wait.is);
+          idle_gone _ _ _ _ _ _ _ _ caught c.intention-next.ensures (rests _ c.in-Wait.is);
       as_before = tt;
       workers_as_before = tt;
-      servers = c.requires.servers;
       disks = goes_on_still;
     }

@@ -22,17 +22,9 @@ pub returns-then-coming-len-clause-as_before : goal.returns-then-coming-len-clau
 returns-then-coming-len-clause-as_before g c =
     λ script st is keeps. keeps
 
-pub returns-then-coming-len-clause-servers : goal.returns-then-coming-len-clause-servers
-returns-then-coming-len-clause-servers g c =
-    c.requires.servers
-
 pub put-requires-clause-place : goal.put-requires-clause-place
 put-requires-clause-place g c =
-    place_within (works_of g.L.CheckpointLog g.L.EntryLog c.args.self.now)
-    (reads_of g.L.CheckpointLog g.L.EntryLog c.args.self.now) c.args.coming.now.place
-    c.requires.stand
-    (sees (part g.L.CheckpointLog g.L.EntryLog) c.args.self.now.nodes.items
-    c.args.coming.now.place (grind (arith, common_steps)))
+    place_within _ _ _ c.requires.stand (sees _ _ _ (grind (arith, common_steps)))
 
 pub put-requires-clause-may : goal.put-requires-clause-may
 put-requires-clause-may g c =
@@ -54,10 +46,6 @@ put-requires-clause-may g c =
           (c.requires.found some.script some.standing some.is_script some.keeps).1,
     ))
 
-pub put-requires-clause-servers : goal.put-requires-clause-servers
-put-requires-clause-servers g c =
-    c.requires.servers
-
 pub put-requires-clause-there : goal.put-requires-clause-there
 put-requires-clause-there g c =
     grind (arith, common_steps)
@@ -75,12 +63,7 @@ returns-in_err-done-clause-delivered g c =
     search rules
 
 pub returns-in_err-done-clause-as_before : goal.returns-in_err-done-clause-as_before
-returns-in_err-done-clause-as_before g c =
-    on_err c.from_residual.result _ c.in_err-done.ensures.as_before
-
-pub returns-in_err-done-clause-servers : goal.returns-in_err-done-clause-servers
-returns-in_err-done-clause-servers g c =
-    c.put.ensures.servers
+returns-in_err-done-clause-as_before g c = on_err _ _ c.in_err-done.ensures.as_before
 
 pub returns-clause-disks : goal.returns-clause-disks
 returns-clause-disks g c =
@@ -88,25 +71,6 @@ returns-clause-disks g c =
 
 pub returns-clause-delivered : goal.returns-clause-delivered
 returns-clause-delivered g c =
-    let old = c.args.self.now in
-    let mid = c.put.new.self in
-    subst (λ o. HasDelivered c.args.line c.args.number
-    (works_of g.L.CheckpointLog g.L.EntryLog old) (reads_of g.L.CheckpointLog g.L.EntryLog old)
-    c.in_ok-done.done
-    (seen (part g.L.CheckpointLog g.L.EntryLog) (tells_of g.L.CheckpointLog g.L.EntryLog)
-    (reads_at g.L.CheckpointLog g.L.EntryLog) mid.nodes.items o mid.halted
-    mid.failed mid.undecided.items mid.events.events.items mid.marks.items)
-    (reads_of g.L.CheckpointLog g.L.EntryLog mid)) (sym c.delivered.ensures)
-    (handed c.args.line c.args.number c.args.coming.now c.args.letter
-    (works_of g.L.CheckpointLog g.L.EntryLog old) (reads_of g.L.CheckpointLog g.L.EntryLog old)
-    c.requires.found c.requires.all c.requires.awake c.requires.read c.in_ok-done.done
-    (works_of g.L.CheckpointLog g.L.EntryLog mid) (reads_of g.L.CheckpointLog g.L.EntryLog mid)
-    (place_within (works_of g.L.CheckpointLog g.L.EntryLog old)
-    (reads_of g.L.CheckpointLog g.L.EntryLog old) c.args.coming.now.place c.requires.stand
-    (sees (part g.L.CheckpointLog g.L.EntryLog) old.nodes.items c.args.coming.now.place
-    (grind (arith, common_steps))))
-    c.in_ok-done.ensures.put c.put.ensures.net)
-
-pub returns-clause-servers : goal.returns-clause-servers
-returns-clause-servers g c =
-    c.put.ensures.servers
+    rw c.delivered.ensures (handed _ _ _ _ _ _ c.requires.found c.requires.all
+    c.requires.awake c.requires.read _ _ _ (place_within _ _ _ c.requires.stand (sees _ _ _
+    (grind (arith, common_steps)))) c.in_ok-done.ensures.put c.put.ensures.net)

@@ -12,9 +12,8 @@ use Rattle.cam_cluster.proofs.works.Works.outlook.Goals as goal
 
 pub returns-then-was_stopped : goal.returns-then-was_stopped
 returns-then-was_stopped g c =
-    stopped_is_over c.args.name.now (works_of g.L.CheckpointLog g.L.EntryLog c.args.self.now)
-    (reads_of g.L.CheckpointLog g.L.EntryLog c.args.self.now) c.args.workers.now
-    (λ st caught. sym c.if-was_stopped.true ∙ c.was_stopped.ensures st caught)
+    stopped_is_over c.args.name.now _ _ _ (λ st caught. sym c.if-was_stopped.true ∙
+    c.was_stopped.ensures st caught)
 
 pub overflow_cast-place : goal.overflow_cast-place
 overflow_cast-place g c =
@@ -26,25 +25,20 @@ overflow_sub-place g c =
 
 pub returns-then-is_halted : goal.returns-then-is_halted
 returns-then-is_halted g c =
-    let works = works_of g.L.CheckpointLog g.L.EntryLog c.args.self.now in
-    let reads = reads_of g.L.CheckpointLog g.L.EntryLog c.args.self.now in
     let some = c.requires.home in
-    let home = sym (home_place c.home.result _ _ c.home.ensures some.placed.0) in
+    let home = sym (home_place _ _ _ c.home.ensures some.placed.0) in
     let place = c.home.result.0 - 1 in
-    let told = ap (is_halted c.args.self.now.halted) (after_is place) ∙ sym c.is_halted.ensures
-    ∙ c.if-is_halted.true in
-    halted_waits c.args.name.now works reads some place home c.args.workers.now told
+    let told = ap (is_halted c.args.self.now.halted) (after_is place) ∙ sym c.is_halted.ensures ∙
+    c.if-is_halted.true in
+    halted_waits _ _ _ some _ home _ told
 
 pub index-requires : goal.index-requires
 index-requires g c =
-    let works = works_of g.L.CheckpointLog g.L.EntryLog c.args.self.now in
     let reads = reads_of g.L.CheckpointLog g.L.EntryLog c.args.self.now in
     let some = c.requires.home in
-    let home = sym (home_place c.home.result _ _ c.home.ensures some.placed.0) in
-    let place = c.home.result.0 - 1 in
-    let within = outlook_there c.args.name.now works reads some place home in
-    let item = place_of (part g.L.CheckpointLog g.L.EntryLog) c.args.self.now.nodes.items
-    place within in
+    let home = sym (home_place _ _ _ c.home.ensures some.placed.0) in
+    let within = outlook_there c.args.name.now _ reads some _ home in
+    let item = place_of _ _ _ within in
     first_of (search rules, grind (arith, common_steps, item))
 
 pub returns-in-None : goal.returns-in-None

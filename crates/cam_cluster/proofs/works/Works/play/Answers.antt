@@ -11,21 +11,13 @@ use Rattle.cam_cluster.proofs.works.Works.play.Goals as goal
 
 pub loop-init : goal.loop-init
 loop-init g c = record {
-  so_far = no_round c.args.line c.args.bodies.now
-      (works_of g.L.CheckpointLog g.L.EntryLog c.args.self.now)
-      (reads_of g.L.CheckpointLog g.L.EntryLog c.args.self.now) c.args.workers.now;
+  so_far = no_round _ _ _ _ _;
   some = c.requires.play;
-  servers = c.requires.servers;
   disks = goes_on_still;
 }
 
-pub play_round-requires-clause-play : goal.play_round-requires-clause-play
-play_round-requires-clause-play g c =
-    c.loop.invariant.some
-
-pub play_round-requires-clause-servers : goal.play_round-requires-clause-servers
-play_round-requires-clause-servers g c =
-    c.loop.invariant.servers
+pub play_round-requires : goal.play_round-requires
+play_round-requires g c = record { play = c.loop.invariant.some; }
 
 pub returns-in_err-puts_one-clause-disks : goal.returns-in_err-puts_one-clause-disks
 returns-in_err-puts_one-clause-disks g c =
@@ -37,20 +29,8 @@ returns-in_err-puts_one-clause-played g c =
 
 pub returns-in_err-puts_one-clause-part : goal.returns-in_err-puts_one-clause-part
 returns-in_err-puts_one-clause-part g c =
-    let old = works_of g.L.CheckpointLog g.L.EntryLog c.args.self.now in
-    let mid = works_of g.L.CheckpointLog g.L.EntryLog c.loop.self in
-    let new = works_of g.L.CheckpointLog g.L.EntryLog c.play_round.new.self in
-    let might = reads_of g.L.CheckpointLog g.L.EntryLog c.args.self.now in
-    let mays = reads_of g.L.CheckpointLog g.L.EntryLog c.loop.self in
-    let may = reads_of g.L.CheckpointLog g.L.EntryLog c.play_round.new.self in
-    on_err c.from_residual.result _
-    (rounds_wanting c.loop.counter c.args.line c.args.bodies.now old mid new might mays may
-    c.args.workers.now c.loop.workers c.play_round.new.workers c.loop.invariant.so_far
-    c.in_err-puts_one.ensures.part)
-
-pub returns-in_err-puts_one-clause-servers : goal.returns-in_err-puts_one-clause-servers
-returns-in_err-puts_one-clause-servers g c =
-    c.play_round.ensures.servers
+    on_err _ _ (rounds_wanting c.loop.counter _ _ _ _ _ _ _ _ _ _ _
+    c.loop.invariant.so_far c.in_err-puts_one.ensures.part)
 
 pub loop-preserved : goal.loop-preserved
 loop-preserved g c =
@@ -71,7 +51,6 @@ loop-preserved g c =
       some =
           some_behind_round c.args.line c.args.bodies.now mid new mays may c.loop.workers
           c.play_round.new.workers c.loop.invariant.some one.made;
-      servers = c.play_round.ensures.servers;
       disks = goes_on_then c.loop.invariant.disks c.play_round.ensures.disks;
     }
 
@@ -81,23 +60,10 @@ returns-then-not-puts_one-clause-disks g c =
 
 pub returns-then-not-puts_one-clause-played : goal.returns-then-not-puts_one-clause-played
 returns-then-not-puts_one-clause-played g c =
-    let old = works_of g.L.CheckpointLog g.L.EntryLog c.args.self.now in
-    let mid = works_of g.L.CheckpointLog g.L.EntryLog c.loop.self in
-    let new = works_of g.L.CheckpointLog g.L.EntryLog c.play_round.new.self in
-    let might = reads_of g.L.CheckpointLog g.L.EntryLog c.args.self.now in
-    let mays = reads_of g.L.CheckpointLog g.L.EntryLog c.loop.self in
-    let may = reads_of g.L.CheckpointLog g.L.EntryLog c.play_round.new.self in
     let none : c.in_ok-puts_one.puts_one ≡ false =
     first_of (search rules, search (rules, not-true)) in
-    last_round c.loop.counter c.args.line c.args.bodies.now old mid new might mays may
-    c.args.workers.now c.loop.workers c.play_round.new.workers c.loop.invariant.so_far
-    (subst (λ (b : Bool). HasPlayedRound c.args.line c.args.bodies.now mid mays c.loop.workers b new
-    may c.play_round.new.workers) none c.in_ok-puts_one.ensures.round)
-    c.loop-test.true
-
-pub returns-then-not-puts_one-clause-servers : goal.returns-then-not-puts_one-clause-servers
-returns-then-not-puts_one-clause-servers g c =
-    c.play_round.ensures.servers
+    last_round _ _ _ _ _ _ _ _ _ _ _ _ c.loop.invariant.so_far (rw (← none)
+    c.in_ok-puts_one.ensures.round) c.loop-test.true
 
 pub returns-clause-disks : goal.returns-clause-disks
 returns-clause-disks g c =
@@ -105,13 +71,5 @@ returns-clause-disks g c =
 
 pub returns-clause-played : goal.returns-clause-played
 returns-clause-played g c =
-    all_rounds c.loop.counter c.args.line c.args.bodies.now
-    (works_of g.L.CheckpointLog g.L.EntryLog c.args.self.now)
-    (works_of g.L.CheckpointLog g.L.EntryLog c.loop.self)
-    (reads_of g.L.CheckpointLog g.L.EntryLog c.args.self.now)
-    (reads_of g.L.CheckpointLog g.L.EntryLog c.loop.self) c.args.workers.now c.loop.workers
-    c.loop.invariant.so_far (omega (arith, c.loop-test.false, c.loop.auto.counter-end))
-
-pub returns-clause-servers : goal.returns-clause-servers
-returns-clause-servers g c =
-    c.loop.invariant.servers
+    all_rounds _ _ _ _ _ _ _ _ _ c.loop.invariant.so_far (omega (arith, c.loop-test.false,
+    c.loop.auto.counter-end))

@@ -1,7 +1,6 @@
 -- So many rounds were played, in each of which an input was put, and some run is kept.
 use Rattle.cam_cluster.specs.Plays.{IsPlayOfSome}
 use Rattle.cam_cluster.specs.Failing.{DisksGoOn}
-use Rattle.cam_cluster.specs.Servers.{AreServers}
 use Rattle.cam_cluster.proofs.AsSeen.{reads_of, works_of}
 use Rattle.cam_cluster.proofs.PlayedRounds.{PlayedRounds}
 use Rattle.cam_cluster.proofs.works.Works.play.Given as goal
@@ -20,7 +19,4 @@ invariant-loop g l = record {
   disks :
       DisksGoOn (works_of g.L.CheckpointLog g.L.EntryLog l.initial.self)
       (works_of g.L.CheckpointLog g.L.EntryLog l.self);
-  servers :
-      AreServers g.R.DataType.kind g.Q.DataType.kind g.C.DataType.kind l.servers.register
-      l.servers.queue l.servers.counter;
 }

@@ -7,13 +7,8 @@ use Rattle.cam_cluster.proofs.PlacedNodes.{on_err}
 use Rattle.cam_cluster.proofs.PlayRound.{drain_wanting, round_told, some_behind_turns}
 use Rattle.cam_cluster.proofs.works.Works.play_round.Goals as goal
 
-pub take_all_turns-requires-clause-play : goal.take_all_turns-requires-clause-play
-take_all_turns-requires-clause-play g c =
-    c.requires.play
-
-pub take_all_turns-requires-clause-servers : goal.take_all_turns-requires-clause-servers
-take_all_turns-requires-clause-servers g c =
-    c.requires.servers
+pub take_all_turns-requires : goal.take_all_turns-requires
+take_all_turns-requires g c = record { play = c.requires.play; }
 
 pub returns-in_err-take_all_turns-clause-disks : goal.returns-in_err-take_all_turns-clause-disks
 returns-in_err-take_all_turns-clause-disks g c =
@@ -24,25 +19,18 @@ returns-in_err-take_all_turns-clause-round g c =
     search rules
 
 pub returns-in_err-take_all_turns-clause-part : goal.returns-in_err-take_all_turns-clause-part
-returns-in_err-take_all_turns-clause-part g c =
-    on_err c.from_residual.result _ c.in_err-take_all_turns.ensures.part
+returns-in_err-take_all_turns-clause-part g c = on_err _ _ c.in_err-take_all_turns.ensures.part
 
-pub returns-in_err-take_all_turns-clause-servers : goal.returns-in_err-take_all_turns-clause-servers
-returns-in_err-take_all_turns-clause-servers g c =
-    c.take_all_turns.ensures.servers
-
-pub drain-requires-clause-stand : goal.drain-requires-clause-stand
-drain-requires-clause-stand g c =
-    let old = works_of g.L.CheckpointLog g.L.EntryLog c.args.self.now in
-    let mid = works_of g.L.CheckpointLog g.L.EntryLog c.take_all_turns.new.self in
-    let might = reads_of g.L.CheckpointLog g.L.EntryLog c.args.self.now in
-    let mays = reads_of g.L.CheckpointLog g.L.EntryLog c.take_all_turns.new.self in
-    some_behind_turns c.args.line c.args.bodies.now old mid mid might mays mays c.args.workers.now
-    c.take_all_turns.new.workers c.requires.play c.in_ok-take_all_turns.ensures.turns
-
-pub drain-requires-clause-servers : goal.drain-requires-clause-servers
-drain-requires-clause-servers g c =
-    c.take_all_turns.ensures.servers
+pub drain-requires : goal.drain-requires
+drain-requires g c = record {
+  stand =
+      let old = works_of g.L.CheckpointLog g.L.EntryLog c.args.self.now in
+      let mid = works_of g.L.CheckpointLog g.L.EntryLog c.take_all_turns.new.self in
+      let might = reads_of g.L.CheckpointLog g.L.EntryLog c.args.self.now in
+      let mays = reads_of g.L.CheckpointLog g.L.EntryLog c.take_all_turns.new.self in
+      some_behind_turns c.args.line c.args.bodies.now old mid mid might mays mays c.args.workers.now
+      c.take_all_turns.new.workers c.requires.play c.in_ok-take_all_turns.ensures.turns;
+}
 
 pub returns-in_err-drain-clause-disks : goal.returns-in_err-drain-clause-disks
 returns-in_err-drain-clause-disks g c =
@@ -65,10 +53,6 @@ returns-in_err-drain-clause-part g c =
     c.take_all_turns.new.workers c.requires.play c.in_ok-take_all_turns.ensures.turns
     c.in_err-drain.ensures.part)
 
-pub returns-in_err-drain-clause-servers : goal.returns-in_err-drain-clause-servers
-returns-in_err-drain-clause-servers g c =
-    c.drain.ensures.servers
-
 pub returns-clause-disks : goal.returns-clause-disks
 returns-clause-disks g c =
     goes_on_then c.take_all_turns.ensures.disks c.drain.ensures.disks
@@ -90,7 +74,3 @@ returns-clause-round g c =
     (c.has_more.ensures
     ∙ (λ i. nat_lt (events i) (length new.events) || nat_lt (marks i) (length new.marks)))
     c.in_ok-drain.ensures.drained
-
-pub returns-clause-servers : goal.returns-clause-servers
-returns-clause-servers g c =
-    c.drain.ensures.servers

@@ -23,42 +23,37 @@ returns-in_err-make_room g c =
     record {
       put = search rules;
       as_before =
-          on_err c.from_residual.result _ (made_room old mid room.nodes room.some room.halted
-          room.failed room.undecided room.events room.marks);
+          on_err _ _ (made_room old mid room.nodes room.some room.halted room.failed room.undecided
+          room.events room.marks);
       disks =
-          goes_on_same _ _ _ _
-          (ap (λ v. map (part g.L.CheckpointLog g.L.EntryLog) v.items) room.nodes) room.failed;
-      net = net_grows old.outbox mid.outbox room.some;
-      servers = c.requires.servers;
+          goes_on_same _ _ _ _ (ap (λ v. map (part g.L.CheckpointLog g.L.EntryLog) v.items)
+          room.nodes) room.failed;
+      net = net_grows _ _ room.some;
     }
 
 pub index-requires : goal.index-requires
 index-requires g c =
-    subst (λ v. c.args.place < vec_len v) (sym c.make_room.ensures.nodes)
-    (first_of (search rules, grind (arith, common_steps, c.requires.there)))
+    rw c.make_room.ensures.nodes (first_of (search rules, grind (arith, common_steps, c.requires.there)))
 
 pub index_mut-requires : goal.index_mut-requires
 index_mut-requires g c =
-    subst (λ v. c.args.place < vec_len v) (sym c.make_room.ensures.nodes)
-    (first_of (search rules, grind (arith, common_steps, c.requires.there)))
+    rw c.make_room.ensures.nodes (first_of (search rules, grind (arith, common_steps, c.requires.there)))
 
 pub index-requires-in-Err : goal.index-requires-in-Err
 index-requires-in-Err g c =
-    subst (λ v. c.args.place < vec_len v) (sym c.make_room.ensures.nodes)
-    (first_of (search rules, grind (arith, common_steps, c.requires.there)))
+    rw c.make_room.ensures.nodes (first_of (search rules, grind (arith, common_steps, c.requires.there)))
 
 pub step-requires : goal.step-requires
 step-requires g c =
-    let may = asked_there _ c.args.self.now.nodes.items c.make_room.new.self.nodes.items
-    c.args.place c.index_mut.result.now (ap (λ v. v.items) c.make_room.ensures.nodes)
+    let may = asked_there _ _ _ _ _ (ap (λ v. v.items) c.make_room.ensures.nodes)
     c.requires.there c.index_mut.ensures.value c.requires.may in
     record {
       running = may.0;
       free = may.1;
       may = may.2;
-      register = c.requires.servers.0;
-      queue = c.requires.servers.1;
-      counter = c.requires.servers.2;
+      register = c.args.servers.now.of_registers;
+      queue = c.args.servers.now.of_queues;
+      counter = c.args.servers.now.of_counters;
     }
 
 pub stand-requires : goal.stand-requires
@@ -82,16 +77,16 @@ pub failed_since-self-requires : goal.failed_since-self-requires
 failed_since-self-requires g c = record {
   place = c.requires.place;
   there =
-      there_set c.args.self.now c.make_room.new.self c.make_room.ensures.nodes c.args.place
-      c.step.new.self c.requires.there;
+      there_set c.args.self.now c.make_room.new.self c.make_room.ensures.nodes _ _
+      c.requires.there;
 }
 
 pub failed_since-self-requires-in-Err : goal.failed_since-self-requires-in-Err
 failed_since-self-requires-in-Err g c = record {
   place = c.requires.place;
   there =
-      there_set c.args.self.now c.make_room.new.self c.make_room.ensures.nodes c.args.place
-      c.step.new.self c.requires.there;
+      there_set c.args.self.now c.make_room.new.self c.make_room.ensures.nodes _ _
+      c.requires.there;
 }
 
 pub returns-then-not-is_halted : goal.returns-then-not-is_halted
@@ -122,11 +117,6 @@ returns-then-not-is_halted g c =
       as_before = ends.0;
       disks = ends.1;
       net = net_grows old.outbox mid.outbox room.some;
-      servers = (
-        step.register_stays ∙ c.requires.servers.0,
-        step.queue_stays ∙ c.requires.servers.1,
-        step.counter_stays ∙ c.requires.servers.2,
-      );
     }
 
 pub returns-in-Ok : goal.returns-in-Ok
@@ -158,11 +148,6 @@ returns-in-Ok g c =
       as_before = tt;
       disks = ends.1;
       net = ends.2;
-      servers = (
-        step.register_stays ∙ c.requires.servers.0,
-        step.queue_stays ∙ c.requires.servers.1,
-        step.counter_stays ∙ c.requires.servers.2,
-      );
     }
 
 pub returns-else-not-is_halted : goal.returns-else-not-is_halted
@@ -200,9 +185,11 @@ returns-else-not-is_halted g c =
       as_before = tt;
       disks = ends.1;
       net = ends.2;
-      servers = (
-        step.register_stays ∙ c.requires.servers.0,
-        step.queue_stays ∙ c.requires.servers.1,
-        step.counter_stays ∙ c.requires.servers.2,
-      );
     }
+
+pub invariant_of-servers : goal.invariant_of-servers
+invariant_of-servers g c = record {
+  of_registers = c.step.ensures.register_stays ∙ c.args.servers.now.of_registers;
+  of_queues = c.step.ensures.queue_stays ∙ c.args.servers.now.of_queues;
+  of_counters = c.step.ensures.counter_stays ∙ c.args.servers.now.of_counters;
+}

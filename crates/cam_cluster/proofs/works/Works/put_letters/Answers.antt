@@ -15,13 +15,8 @@ returns-clause-disks g c =
 
 pub returns-clause-as_before : goal.returns-clause-as_before
 returns-clause-as_before g c =
-    let old = c.args.self.now in
-    room_made (part g.L.CheckpointLog g.L.EntryLog) (tells_of g.L.CheckpointLog g.L.EntryLog)
-    (reads_at g.L.CheckpointLog g.L.EntryLog) old.nodes.items old.nodes.items old.outbox
-    c.put_all.new.self old.halted old.halted old.failed old.failed old.undecided.items
-    old.undecided.items
-    old.events.events.items old.events.events.items old.marks.items old.marks.items refl
-    c.put_all.ensures.some refl refl refl refl refl
+    room_made (part g.L.CheckpointLog g.L.EntryLog) _ (reads_at g.L.CheckpointLog g.L.EntryLog) _
+    _ _ _ _ _ _ _ _ _ _ _ _ _ refl c.put_all.ensures.some refl refl refl refl refl
 
 pub returns-clause-all : goal.returns-clause-all
 returns-clause-all g c =

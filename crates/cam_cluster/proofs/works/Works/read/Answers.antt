@@ -43,8 +43,5 @@ unreachable-unreachable-in-Cut g c =
 
 pub returns : goal.returns
 returns g c =
-    reads_it (works_of g.L.CheckpointLog g.L.EntryLog c.args.self.now)
-    (reads_of g.L.CheckpointLog g.L.EntryLog c.args.self.now) c.args.number c.args.coming.now
-    c.requires.found c.requires.all c.in_ok-letter.field-0 c.in-Some.bytes.now c.in-Whole.letter
-    (c.in-Some.ensures ∙ ap (λ n. whole_of n c.args.number) c.net.ensures)
-    c.in_ok-letter.ensures.whole c.in-Whole.is
+    reads_it _ _ _ _ c.requires.found c.requires.all _ _ _ (c.in-Some.ensures ∙ ap (λ n.
+    whole_of n c.args.number) c.net.ensures) c.in_ok-letter.ensures.whole c.in-Whole.is

@@ -28,22 +28,20 @@ returns-in_err-make_room g c =
       restarted = search rules;
       by_stop = search rules;
       as_before =
-          on_err c.from_residual.result _ (made_room c.args.self.now c.make_room.new.self room.nodes
-          room.some room.halted room.failed room.undecided room.events room.marks);
+          on_err _ _ (made_room c.args.self.now c.make_room.new.self room.nodes room.some
+          room.halted room.failed room.undecided room.events room.marks);
       disks =
-          goes_on_same _ _ _ _
-          (ap (λ v. map (part g.L.CheckpointLog g.L.EntryLog) v.items) room.nodes) room.failed;
+          goes_on_same _ _ _ _ (ap (λ v. map (part g.L.CheckpointLog g.L.EntryLog) v.items)
+          room.nodes) room.failed;
     }
 
 pub index-requires : goal.index-requires
 index-requires g c =
-    subst (λ v. c.args.place < vec_len v) (sym c.make_room.ensures.nodes)
-    (first_of (search rules, grind (arith, common_steps, c.requires.there)))
+    rw c.make_room.ensures.nodes (first_of (search rules, grind (arith, common_steps, c.requires.there)))
 
 pub index_mut-requires : goal.index_mut-requires
 index_mut-requires g c =
-    subst (λ v. c.args.place < vec_len v) (sym c.make_room.ensures.nodes)
-    (first_of (search rules, grind (arith, common_steps, c.requires.there)))
+    rw c.make_room.ensures.nodes (first_of (search rules, grind (arith, common_steps, c.requires.there)))
 
 pub put_in-requires : goal.put_in-requires
 put_in-requires g c = record {
@@ -76,16 +74,16 @@ pub failed_since-self-requires : goal.failed_since-self-requires
 failed_since-self-requires g c = record {
   place = c.requires.place;
   there =
-      there_set c.args.self.now c.make_room.new.self c.make_room.ensures.nodes c.args.place
-      c.restart_cleared.new.node c.requires.there;
+      there_set c.args.self.now c.make_room.new.self c.make_room.ensures.nodes _ _
+      c.requires.there;
 }
 
 pub failed_since-self-requires-in-Err : goal.failed_since-self-requires-in-Err
 failed_since-self-requires-in-Err g c = record {
   place = c.requires.place;
   there =
-      there_set c.args.self.now c.make_room.new.self c.make_room.ensures.nodes c.args.place
-      c.restart_cleared.new.node c.requires.there;
+      there_set c.args.self.now c.make_room.new.self c.make_room.ensures.nodes _ _
+      c.requires.there;
 }
 
 pub returns-in-Some : goal.returns-in-Some

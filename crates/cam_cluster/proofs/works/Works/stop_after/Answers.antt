@@ -14,15 +14,8 @@ index_mut-requires g c =
 
 pub returns-clause-stopped : goal.returns-clause-stopped
 returns-clause-stopped g c =
-    let works = c.args.self.now in
-    let old = c.index_mut.result.now in
-    let new = c.stop_after.new.self in
-    stopped_in (part g.L.CheckpointLog g.L.EntryLog) (tells_of g.L.CheckpointLog g.L.EntryLog)
-    (reads_at g.L.CheckpointLog g.L.EntryLog) c.args.place c.args.calls works.nodes.items _
-    works.outbox
-    works.halted works.failed works.undecided.items works.events.events.items works.marks.items old
-    new c.requires c.index_mut.ensures.value refl
-    (λ i. record {
+    stopped_in _ _ (reads_at g.L.CheckpointLog g.L.EntryLog) _ _ _ _ _ _ _ _ _ _ _ _
+    c.requires c.index_mut.ensures.value refl (λ i. record {
       site = record {
         node = answers (c.stop_after.ensures.core i);
         entries = c.stop_after.ensures.listed i;
@@ -34,12 +27,10 @@ returns-clause-stopped g c =
       reads = c.stop_after.ensures.reads i;
       tells = c.stop_after.ensures.tells i;
       failures = c.stop_after.ensures.faults_within i;
-    })
-    c.stop_after.ensures.tells
-    (λ logged read. stays_reads _ _ _ _ _ _ _ _ logged c.stop_after.ensures.stays read)
+    }) c.stop_after.ensures.tells (λ logged read. stays_reads _ _ _ _ _ _ _ _ _
+    c.stop_after.ensures.stays read)
 
 pub returns-clause-disks : goal.returns-clause-disks
 returns-clause-disks g c =
-    stays_at (part g.L.CheckpointLog g.L.EntryLog) c.args.self.now.nodes.items
-    c.args.self.now.failed c.args.place c.index_mut.result.now c.stop_after.new.self c.requires
-    c.index_mut.ensures.value c.stop_after.ensures.tells c.stop_after.ensures.faults_within
+    stays_at _ _ _ _ _ _ c.requires c.index_mut.ensures.value c.stop_after.ensures.tells
+    c.stop_after.ensures.faults_within

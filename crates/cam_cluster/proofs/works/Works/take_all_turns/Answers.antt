@@ -18,8 +18,7 @@ catch_up-requires g c =
     let fits = play.keeps.workers.within in
     let many = as_many c.args.self.now.events.events.items play.standing.running.trace
     play.keeps.runs.events in
-    subst (λ es. c.args.workers.now.events ≤ length es) (sym c.as_slice.ensures.value)
-    (omega (arith, fits, many))
+    rw c.as_slice.ensures.value (omega (arith, fits, many))
 
 pub returns-in_err-catch_up-clause-disks : goal.returns-in_err-catch_up-clause-disks
 returns-in_err-catch_up-clause-disks g c =
@@ -31,16 +30,8 @@ returns-in_err-catch_up-clause-turns g c =
 
 pub returns-in_err-catch_up-clause-part : goal.returns-in_err-catch_up-clause-part
 returns-in_err-catch_up-clause-part g c =
-    let works = works_of g.L.CheckpointLog g.L.EntryLog c.args.self.now in
-    let reads = reads_of g.L.CheckpointLog g.L.EntryLog c.args.self.now in
-    on_err c.from_residual.result _
-    (no_turns c.args.line c.args.bodies.now works reads c.args.workers.now c.catch_up.new.self
-    (λ script st keeps are. c.catch_up.ensures.stay st (c.as_slice.ensures.value ∙ keeps.events)
-    are))
-
-pub returns-in_err-catch_up-clause-servers : goal.returns-in_err-catch_up-clause-servers
-returns-in_err-catch_up-clause-servers g c =
-    c.requires.servers
+    on_err _ _ (no_turns _ _ _ _ _ _ (λ script st keeps are. c.catch_up.ensures.stay st
+    (c.as_slice.ensures.value ∙ keeps.events) are))
 
 pub returns-in_err-names-clause-disks : goal.returns-in_err-names-clause-disks
 returns-in_err-names-clause-disks g c =
@@ -52,33 +43,23 @@ returns-in_err-names-clause-turns g c =
 
 pub returns-in_err-names-clause-part : goal.returns-in_err-names-clause-part
 returns-in_err-names-clause-part g c =
-    let works = works_of g.L.CheckpointLog g.L.EntryLog c.args.self.now in
-    let reads = reads_of g.L.CheckpointLog g.L.EntryLog c.args.self.now in
-    on_err c.from_residual-in_err-names.result _
-    (no_turns c.args.line c.args.bodies.now works reads c.args.workers.now c.catch_up.new.self
-    (λ script st keeps are. c.catch_up.ensures.stay st (c.as_slice.ensures.value ∙ keeps.events)
-    are))
+    on_err _ _ (no_turns _ _ _ _ _ _ (λ script st keeps are. c.catch_up.ensures.stay st
+    (c.as_slice.ensures.value ∙ keeps.events) are))
 
-pub returns-in_err-names-clause-servers : goal.returns-in_err-names-clause-servers
-returns-in_err-names-clause-servers g c =
-    c.requires.servers
-
-pub take_turns-requires-clause-turns : goal.take_turns-requires-clause-turns
-take_turns-requires-clause-turns g c =
-    let works = works_of g.L.CheckpointLog g.L.EntryLog c.args.self.now in
-    let reads = reads_of g.L.CheckpointLog g.L.EntryLog c.args.self.now in
-    let caught_up : CatchesUp c.args.self.now.events.events.items c.args.workers.now
-    c.catch_up.new.self = λ st is are. (
-      c.catch_up.ensures.stay st (c.as_slice.ensures.value ∙ is) are,
-      c.in_ok-catch_up.ensures.caught_up st (c.as_slice.ensures.value ∙ is) are,
-    ) in
-    turns_of_all c.args.line c.args.bodies.now works reads c.args.workers.now c.catch_up.new.self
-    caught_up c.as_slice-2.result.now
-    (λ st up. c.as_slice-2.ensures ∙ c.in_ok-names.ensures st up) c.requires.play
-
-pub take_turns-requires-clause-servers : goal.take_turns-requires-clause-servers
-take_turns-requires-clause-servers g c =
-    c.requires.servers
+pub take_turns-requires : goal.take_turns-requires
+take_turns-requires g c = record {
+  turns =
+      let works = works_of g.L.CheckpointLog g.L.EntryLog c.args.self.now in
+      let reads = reads_of g.L.CheckpointLog g.L.EntryLog c.args.self.now in
+      let caught_up : CatchesUp c.args.self.now.events.events.items c.args.workers.now
+      c.catch_up.new.self = λ st is are. (
+        c.catch_up.ensures.stay st (c.as_slice.ensures.value ∙ is) are,
+        c.in_ok-catch_up.ensures.caught_up st (c.as_slice.ensures.value ∙ is) are,
+      ) in
+      turns_of_all c.args.line c.args.bodies.now works reads c.args.workers.now c.catch_up.new.self
+      caught_up c.as_slice-2.result.now
+      (λ st up. c.as_slice-2.ensures ∙ c.in_ok-names.ensures st up) c.requires.play;
+}
 
 pub returns-clause-disks : goal.returns-clause-disks
 returns-clause-disks g c =
@@ -91,19 +72,15 @@ returns-clause-turns g c =
     let new = works_of g.L.CheckpointLog g.L.EntryLog c.take_turns.new.self in
     let may = reads_of g.L.CheckpointLog g.L.EntryLog c.take_turns.new.self in
     let caught_up : CatchesUp c.args.self.now.events.events.items c.args.workers.now
-    c.catch_up.new.self = λ st is are. (
-      c.catch_up.ensures.stay st (c.as_slice.ensures.value ∙ is) are,
-      c.in_ok-catch_up.ensures.caught_up st (c.as_slice.ensures.value ∙ is) are,
+    c.catch_up.new.self = λ st is are. ( c.catch_up.ensures.stay st (c.as_slice.ensures.value ∙ is)
+      are, c.in_ok-catch_up.ensures.caught_up st (c.as_slice.ensures.value ∙ is) are,
     ) in
-    on_ok_gives c.take_turns.result
-    (HaveHadTurns c.args.line c.as_slice-2.result.now c.args.bodies.now works reads
-    c.catch_up.new.self new may c.take_turns.new.workers)
-    (HaveMade all_turns c.args.line c.args.bodies.now works reads c.args.workers.now new may
-    c.take_turns.new.workers)
-    (all_had c.args.line c.args.bodies.now works reads c.args.workers.now c.catch_up.new.self
-    caught_up c.as_slice-2.result.now
-    (λ st up. c.as_slice-2.ensures ∙ c.in_ok-names.ensures st up) new may c.take_turns.new.workers)
-    c.take_turns.ensures.turns
+    on_ok_gives _ (HaveHadTurns c.args.line c.as_slice-2.result.now c.args.bodies.now works reads
+    c.catch_up.new.self new may c.take_turns.new.workers) (HaveMade all_turns c.args.line
+    c.args.bodies.now works reads c.args.workers.now new may c.take_turns.new.workers) (all_had
+    c.args.line c.args.bodies.now works reads c.args.workers.now c.catch_up.new.self caught_up
+    c.as_slice-2.result.now (λ st up. c.as_slice-2.ensures ∙ c.in_ok-names.ensures st up) new may
+    c.take_turns.new.workers) c.take_turns.ensures.turns
 
 pub returns-clause-part : goal.returns-clause-part
 returns-clause-part g c =
@@ -112,20 +89,12 @@ returns-clause-part g c =
     let new = works_of g.L.CheckpointLog g.L.EntryLog c.take_turns.new.self in
     let may = reads_of g.L.CheckpointLog g.L.EntryLog c.take_turns.new.self in
     let caught_up : CatchesUp c.args.self.now.events.events.items c.args.workers.now
-    c.catch_up.new.self = λ st is are. (
-      c.catch_up.ensures.stay st (c.as_slice.ensures.value ∙ is) are,
-      c.in_ok-catch_up.ensures.caught_up st (c.as_slice.ensures.value ∙ is) are,
+    c.catch_up.new.self = λ st is are. ( c.catch_up.ensures.stay st (c.as_slice.ensures.value ∙ is)
+      are, c.in_ok-catch_up.ensures.caught_up st (c.as_slice.ensures.value ∙ is) are,
     ) in
-    on_err_gives c.take_turns.result
-    (HaveHadSomeTurns c.args.line c.as_slice-2.result.now c.args.bodies.now works reads
-    c.catch_up.new.self new may c.take_turns.new.workers)
-    (HasPlayedSome c.args.line c.args.bodies.now works reads c.args.workers.now new may
-    c.take_turns.new.workers)
-    (some_had c.args.line c.args.bodies.now works reads c.args.workers.now c.catch_up.new.self
-    caught_up c.as_slice-2.result.now
-    (λ st up. c.as_slice-2.ensures ∙ c.in_ok-names.ensures st up) new may c.take_turns.new.workers)
-    c.take_turns.ensures.part
-
-pub returns-clause-servers : goal.returns-clause-servers
-returns-clause-servers g c =
-    c.take_turns.ensures.servers
+    on_err_gives _ (HaveHadSomeTurns c.args.line c.as_slice-2.result.now c.args.bodies.now works
+    reads c.catch_up.new.self new may c.take_turns.new.workers) (HasPlayedSome c.args.line
+    c.args.bodies.now works reads c.args.workers.now new may c.take_turns.new.workers) (some_had
+    c.args.line c.args.bodies.now works reads c.args.workers.now c.catch_up.new.self caught_up
+    c.as_slice-2.result.now (λ st up. c.as_slice-2.ensures ∙ c.in_ok-names.ensures st up) new may
+    c.take_turns.new.workers) c.take_turns.ensures.part

@@ -17,8 +17,7 @@ catch_up-requires g c =
     let fits = turn.are_workers.within in
     let many = as_many c.args.self.now.events.events.items turn.standing.running.trace
     turn.keeps.events in
-    subst (λ es. c.args.workers.now.events ≤ length es) (sym c.as_slice.ensures.value)
-    (omega (arith, fits, many))
+    rw c.as_slice.ensures.value (omega (arith, fits, many))
 
 pub returns-in_err-catch_up-clause-disks : goal.returns-in_err-catch_up-clause-disks
 returns-in_err-catch_up-clause-disks g c =
@@ -38,41 +37,32 @@ returns-in_err-catch_up-clause-workers_as_before g c =
     on_err c.from_residual.result _ (λ script st keeps are.
     c.catch_up.ensures.stay st (c.as_slice.ensures.value ∙ keeps.events) are)
 
-pub returns-in_err-catch_up-clause-servers : goal.returns-in_err-catch_up-clause-servers
-returns-in_err-catch_up-clause-servers g c =
-    c.requires.servers
-
 pub outlook-requires : goal.outlook-requires
 outlook-requires g c =
-    let works = works_of g.L.CheckpointLog g.L.EntryLog c.args.self.now in
-    let reads = reads_of g.L.CheckpointLog g.L.EntryLog c.args.self.now in
     let caught_up : CatchesUp c.args.self.now.events.events.items c.args.workers.now
-    c.catch_up.new.self = λ st is are. (
-      c.catch_up.ensures.stay st (c.as_slice.ensures.value ∙ is) are,
-      c.in_ok-catch_up.ensures.caught_up st (c.as_slice.ensures.value ∙ is) are,
+    c.catch_up.new.self = λ st is are. ( c.catch_up.ensures.stay st (c.as_slice.ensures.value ∙ is)
+      are, c.in_ok-catch_up.ensures.caught_up st (c.as_slice.ensures.value ∙ is) are,
     ) in
     record {
-      home = at_node c.args.line c.args.name.now c.args.bodies.now works reads c.args.workers.now
-          c.catch_up.new.self c.requires.turn caught_up;
+      home = at_node c.args.line _ c.args.bodies.now _ _ c.args.workers.now c.catch_up.new.self
+          c.requires.turn caught_up;
     }
 
-pub go-requires-clause-goes : goal.go-requires-clause-goes
-go-requires-clause-goes g c =
-    let works = works_of g.L.CheckpointLog g.L.EntryLog c.args.self.now in
-    let reads = reads_of g.L.CheckpointLog g.L.EntryLog c.args.self.now in
-    let caught_up : CatchesUp c.args.self.now.events.events.items c.args.workers.now
-    c.catch_up.new.self = λ st is are. (
-      c.catch_up.ensures.stay st (c.as_slice.ensures.value ∙ is) are,
-      c.in_ok-catch_up.ensures.caught_up st (c.as_slice.ensures.value ∙ is) are,
-    ) in
-    let told = subst (λ o. IsOutlook c.args.name.now works reads c.catch_up.new.self o)
-    c.in-GoesOn.is c.outlook.ensures in
-    turn_goes c.args.line c.args.name.now c.args.bodies.now works reads c.args.workers.now
-    c.catch_up.new.self c.requires.turn caught_up told
-
-pub go-requires-clause-servers : goal.go-requires-clause-servers
-go-requires-clause-servers g c =
-    c.requires.servers
+pub go-requires : goal.go-requires
+go-requires g c = record {
+  goes =
+      let works = works_of g.L.CheckpointLog g.L.EntryLog c.args.self.now in
+      let reads = reads_of g.L.CheckpointLog g.L.EntryLog c.args.self.now in
+      let caught_up : CatchesUp c.args.self.now.events.events.items c.args.workers.now
+      c.catch_up.new.self = λ st is are. (
+        c.catch_up.ensures.stay st (c.as_slice.ensures.value ∙ is) are,
+        c.in_ok-catch_up.ensures.caught_up st (c.as_slice.ensures.value ∙ is) are,
+      ) in
+      let told = subst (λ o. IsOutlook c.args.name.now works reads c.catch_up.new.self o)
+      c.in-GoesOn.is c.outlook.ensures in
+      turn_goes c.args.line c.args.name.now c.args.bodies.now works reads c.args.workers.now
+      c.catch_up.new.self c.requires.turn caught_up told;
+}
 
 pub returns-in-GoesOn-clause-disks : goal.returns-in-GoesOn-clause-disks
 returns-in-GoesOn-clause-disks g c =
@@ -83,23 +73,17 @@ returns-in-GoesOn-clause-turn g c =
     let works = works_of g.L.CheckpointLog g.L.EntryLog c.args.self.now in
     let reads = reads_of g.L.CheckpointLog g.L.EntryLog c.args.self.now in
     let caught_up : CatchesUp c.args.self.now.events.events.items c.args.workers.now
-    c.catch_up.new.self = λ st is are. (
-      c.catch_up.ensures.stay st (c.as_slice.ensures.value ∙ is) are,
-      c.in_ok-catch_up.ensures.caught_up st (c.as_slice.ensures.value ∙ is) are,
+    c.catch_up.new.self = λ st is are. ( c.catch_up.ensures.stay st (c.as_slice.ensures.value ∙ is)
+      are, c.in_ok-catch_up.ensures.caught_up st (c.as_slice.ensures.value ∙ is) are,
     ) in
     let told = subst (λ o. IsOutlook c.args.name.now works reads c.catch_up.new.self o)
     c.in-GoesOn.is c.outlook.ensures in
     let new = works_of g.L.CheckpointLog g.L.EntryLog c.go.new.self in
     let may = reads_of g.L.CheckpointLog g.L.EntryLog c.go.new.self in
-    if_ok_gives c.go.result
-    (λ end. HasGone c.args.line c.args.name.now c.args.bodies.now works reads
-    c.catch_up.new.self end new may c.go.new.workers)
-    (λ end. HasHadTurn c.args.line c.args.name.now c.args.bodies.now works reads
-    c.args.workers.now end new may c.go.new.workers)
-    (λ end has. turn_gone c.args.line c.args.name.now c.args.bodies.now works reads
-    c.args.workers.now
-    c.catch_up.new.self c.requires.turn caught_up end new may c.go.new.workers told has)
-    c.go.ensures.gone
+    if_ok_gives _ (λ end. HasGone c.args.line c.args.name.now c.args.bodies.now works reads
+    c.catch_up.new.self end new may c.go.new.workers) (λ end. HasHadTurn c.args.line c.args.name.now
+    c.args.bodies.now works reads c.args.workers.now end new may c.go.new.workers) (λ end has.
+    turn_gone _ _ _ _ _ _ _ c.requires.turn caught_up _ _ _ _ told has) c.go.ensures.gone
 
 pub returns-in-GoesOn-clause-as_before : goal.returns-in-GoesOn-clause-as_before
 returns-in-GoesOn-clause-as_before g c =
@@ -111,20 +95,13 @@ returns-in-GoesOn-clause-workers_as_before g c =
     let works = works_of g.L.CheckpointLog g.L.EntryLog c.args.self.now in
     let reads = reads_of g.L.CheckpointLog g.L.EntryLog c.args.self.now in
     let caught_up : CatchesUp c.args.self.now.events.events.items c.args.workers.now
-    c.catch_up.new.self = λ st is are. (
-      c.catch_up.ensures.stay st (c.as_slice.ensures.value ∙ is) are,
-      c.in_ok-catch_up.ensures.caught_up st (c.as_slice.ensures.value ∙ is) are,
+    c.catch_up.new.self = λ st is are. ( c.catch_up.ensures.stay st (c.as_slice.ensures.value ∙ is)
+      are, c.in_ok-catch_up.ensures.caught_up st (c.as_slice.ensures.value ∙ is) are,
     ) in
-    on_err_gives c.go.result
-    (KeepsWorkersAsBefore works reads c.catch_up.new.self c.go.new.workers)
-    (KeepsWorkersAsBefore works reads c.args.workers.now c.go.new.workers)
-    (workers_before c.args.line c.args.name.now c.args.bodies.now works reads c.args.workers.now
-    c.catch_up.new.self c.requires.turn caught_up c.go.new.workers)
+    on_err_gives _ (KeepsWorkersAsBefore works reads c.catch_up.new.self c.go.new.workers)
+    (KeepsWorkersAsBefore works reads c.args.workers.now c.go.new.workers) (workers_before
+    c.args.line c.args.name.now c.args.bodies.now _ _ _ _ c.requires.turn caught_up _)
     c.go.ensures.workers_as_before
-
-pub returns-in-GoesOn-clause-servers : goal.returns-in-GoesOn-clause-servers
-returns-in-GoesOn-clause-servers g c =
-    c.go.ensures.servers
 
 pub returns-in-Waits-clause-disks : goal.returns-in-Waits-clause-disks
 returns-in-Waits-clause-disks g c =
@@ -135,18 +112,11 @@ returns-in-Waits-clause-turn g c =
     let works = works_of g.L.CheckpointLog g.L.EntryLog c.args.self.now in
     let reads = reads_of g.L.CheckpointLog g.L.EntryLog c.args.self.now in
     let caught_up : CatchesUp c.args.self.now.events.events.items c.args.workers.now
-    c.catch_up.new.self = λ st is are. (
-      c.catch_up.ensures.stay st (c.as_slice.ensures.value ∙ is) are,
-      c.in_ok-catch_up.ensures.caught_up st (c.as_slice.ensures.value ∙ is) are,
+    c.catch_up.new.self = λ st is are. ( c.catch_up.ensures.stay st (c.as_slice.ensures.value ∙ is)
+      are, c.in_ok-catch_up.ensures.caught_up st (c.as_slice.ensures.value ∙ is) are,
     ) in
-    turn_waits c.args.line c.args.name.now c.args.bodies.now works reads c.args.workers.now
-    c.catch_up.new.self c.requires.turn caught_up
-    (subst (λ o. IsOutlook c.args.name.now works reads c.catch_up.new.self o) c.in-Waits.is
-    c.outlook.ensures)
-
-pub returns-in-Waits-clause-servers : goal.returns-in-Waits-clause-servers
-returns-in-Waits-clause-servers g c =
-    c.requires.servers
+    turn_waits _ _ _ _ _ _ _ c.requires.turn caught_up (subst (λ o. IsOutlook c.args.name.now
+    works reads c.catch_up.new.self o) c.in-Waits.is c.outlook.ensures)
 
 pub returns-in-Over-clause-disks : goal.returns-in-Over-clause-disks
 returns-in-Over-clause-disks g c =
@@ -157,15 +127,9 @@ returns-in-Over-clause-turn g c =
     let works = works_of g.L.CheckpointLog g.L.EntryLog c.args.self.now in
     let reads = reads_of g.L.CheckpointLog g.L.EntryLog c.args.self.now in
     let caught_up : CatchesUp c.args.self.now.events.events.items c.args.workers.now
-    c.catch_up.new.self = λ st is are. (
-      c.catch_up.ensures.stay st (c.as_slice.ensures.value ∙ is) are,
-      c.in_ok-catch_up.ensures.caught_up st (c.as_slice.ensures.value ∙ is) are,
+    c.catch_up.new.self = λ st is are. ( c.catch_up.ensures.stay st (c.as_slice.ensures.value ∙ is)
+      are, c.in_ok-catch_up.ensures.caught_up st (c.as_slice.ensures.value ∙ is) are,
     ) in
-    turn_over c.args.line c.args.name.now c.args.bodies.now works reads c.args.workers.now
-    c.catch_up.new.self c.requires.turn caught_up c.pass_over.new.self
-    (subst (λ o. IsOutlook c.args.name.now works reads c.catch_up.new.self o) c.in-Over.is
-    c.outlook.ensures) c.pass_over.ensures
-
-pub returns-in-Over-clause-servers : goal.returns-in-Over-clause-servers
-returns-in-Over-clause-servers g c =
-    c.requires.servers
+    turn_over _ _ _ _ _ _ _ c.requires.turn caught_up _ (subst (λ o. IsOutlook
+    c.args.name.now works reads c.catch_up.new.self o) c.in-Over.is c.outlook.ensures)
+    c.pass_over.ensures

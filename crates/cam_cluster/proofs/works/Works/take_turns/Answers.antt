@@ -13,12 +13,8 @@ use Rattle.cam_cluster.proofs.works.Works.take_turns.Goals as goal
 
 pub loop-name-init : goal.loop-name-init
 loop-name-init g c = record {
-  had =
-      no_turn c.args.line c.args.bodies.now
-      (works_of g.L.CheckpointLog g.L.EntryLog c.args.self.now)
-      (reads_of g.L.CheckpointLog g.L.EntryLog c.args.self.now) c.args.workers.now;
+  had = no_turn _ _ _ _ _;
   some = c.requires.turns;
-  servers = c.requires.servers;
   disks = goes_on_still;
 }
 
@@ -26,19 +22,18 @@ pub offset_bounds-names-name-index : goal.offset_bounds-names-name-index
 offset_bounds-names-name-index g c =
     first_of (search rules, grind (arith, common_steps))
 
-pub take_turn-requires-clause-turn : goal.take_turn-requires-clause-turn
-take_turn-requires-clause-turn g c =
-    turn_of_some c.args.names.now c.args.line c.name-item.result c.args.bodies.now
-    (works_of g.L.CheckpointLog g.L.EntryLog c.loop-name.self)
-    (works_of g.L.CheckpointLog g.L.EntryLog c.loop-name.self)
-    (reads_of g.L.CheckpointLog g.L.EntryLog c.loop-name.self)
-    (reads_of g.L.CheckpointLog g.L.EntryLog c.loop-name.self)
-    c.loop-name.workers c.loop-name.workers c.loop-name.invariant.some c.loop-name.name-index
-    (taken_there c.args.names.now c.loop-name.name-index c.name-item.result
-    c.loop-name-test.true c.name-item.is)
-
-pub take_turn-requires-clause-servers : goal.take_turn-requires-clause-servers
-take_turn-requires-clause-servers g c = c.loop-name.invariant.servers
+pub take_turn-requires : goal.take_turn-requires
+take_turn-requires g c = record {
+  turn =
+      turn_of_some c.args.names.now c.args.line c.name-item.result c.args.bodies.now
+      (works_of g.L.CheckpointLog g.L.EntryLog c.loop-name.self)
+      (works_of g.L.CheckpointLog g.L.EntryLog c.loop-name.self)
+      (reads_of g.L.CheckpointLog g.L.EntryLog c.loop-name.self)
+      (reads_of g.L.CheckpointLog g.L.EntryLog c.loop-name.self)
+      c.loop-name.workers c.loop-name.workers c.loop-name.invariant.some c.loop-name.name-index
+      (taken_there c.args.names.now c.loop-name.name-index c.name-item.result
+      c.loop-name-test.true c.name-item.is);
+}
 
 pub returns-in_err-take_turn-clause-disks : goal.returns-in_err-take_turn-clause-disks
 returns-in_err-take_turn-clause-disks g c =
@@ -63,9 +58,6 @@ returns-in_err-take_turn-clause-part g c =
           c.args.workers.now c.loop-name.workers c.take_turn.new.workers c.loop-name.invariant.had
           c.in_err-take_turn.ensures.as_before c.in_err-take_turn.ensures.workers_as_before;
     })
-
-pub returns-in_err-take_turn-clause-servers : goal.returns-in_err-take_turn-clause-servers
-returns-in_err-take_turn-clause-servers g c = c.take_turn.ensures.servers
 
 pub loop-name-preserved : goal.loop-name-preserved
 loop-name-preserved g c =
@@ -97,7 +89,6 @@ loop-name-preserved g c =
           (reads_of g.L.CheckpointLog g.L.EntryLog c.take_turn.new.self) c.loop-name.workers
           c.take_turn.new.workers c.loop-name.invariant.some
           c.in_ok-take_turn.field-0 c.in_ok-take_turn.ensures.turn;
-      servers = c.take_turn.ensures.servers;
       disks = goes_on_then c.loop-name.invariant.disks c.take_turn.ensures.disks;
     }
 
@@ -107,13 +98,4 @@ returns-clause-disks g c =
 
 pub returns-clause-turns : goal.returns-clause-turns
 returns-clause-turns g c =
-    subst (λ (ns : List Name). HaveHadTurns c.args.line ns c.args.bodies.now
-    (works_of g.L.CheckpointLog g.L.EntryLog c.args.self.now)
-    (reads_of g.L.CheckpointLog g.L.EntryLog c.args.self.now)
-    c.args.workers.now (works_of g.L.CheckpointLog g.L.EntryLog c.loop-name.self)
-    (reads_of g.L.CheckpointLog g.L.EntryLog c.loop-name.self) c.loop-name.workers)
-    (take_all c.loop-name.name-index c.args.names.now c.loop-name-test.false)
-    c.loop-name.invariant.had
-
-pub returns-clause-servers : goal.returns-clause-servers
-returns-clause-servers g c = c.loop-name.invariant.servers
+    rw (← (take_all c.loop-name.name-index c.args.names.now c.loop-name-test.false)) c.loop-name.invariant.had

@@ -2,7 +2,6 @@
 use Rattle.std.proofs.Common.{take}
 use Rattle.cam_cluster.specs.Rounds.{AreTurnsOfSome, HaveHadTurns}
 use Rattle.cam_cluster.specs.Failing.{DisksGoOn}
-use Rattle.cam_cluster.specs.Servers.{AreServers}
 use Rattle.cam_cluster.proofs.AsSeen.{reads_of, works_of}
 use Rattle.cam_cluster.proofs.works.Works.take_turns.Given as goal
 
@@ -20,7 +19,4 @@ invariant-loop-name g l = record {
   disks :
       DisksGoOn (works_of g.L.CheckpointLog g.L.EntryLog l.initial.self)
       (works_of g.L.CheckpointLog g.L.EntryLog l.self);
-  servers :
-      AreServers g.R.DataType.kind g.Q.DataType.kind g.C.DataType.kind l.servers.register
-      l.servers.queue l.servers.counter;
 }

@@ -5,16 +5,14 @@ use Rattle.cam_cluster.proofs.works.letters.receiver.Goals as goal
 
 pub returns-in_err-event : goal.returns-in_err-event
 returns-in_err-event c =
-    c.from_residual.ensures
-    ∙ sym (no_event c.args.events.now c.args.letter.now c.in_err-event.ensures.lookup.0)
+    c.from_residual.ensures ∙ sym (no_event _ _ c.in_err-event.ensures.lookup.0)
 
 pub returns-in-Some : goal.returns-in-Some
 returns-in-Some c =
-    sym (of_event c.args.events.now c.args.letter.now c.in_ok-event.event.now
-    (Some c.in-Some.sent.now) c.in_ok-event.ensures.lookup.0 c.in_ok-event.ensures.lookup.1
+    sym (of_event _ _ _ _ c.in_ok-event.ensures.lookup.0 c.in_ok-event.ensures.lookup.1
     c.in-Some.ensures)
 
 pub returns-in-None : goal.returns-in-None
 returns-in-None c =
-    sym (of_event c.args.events.now c.args.letter.now c.in_ok-event.event.now None
-    c.in_ok-event.ensures.lookup.0 c.in_ok-event.ensures.lookup.1 c.in-None.ensures)
+    sym (of_event _ _ _ _ c.in_ok-event.ensures.lookup.0 c.in_ok-event.ensures.lookup.1
+    c.in-None.ensures)

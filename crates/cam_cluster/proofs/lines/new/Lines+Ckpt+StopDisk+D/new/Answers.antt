@@ -10,37 +10,17 @@ use Rattle.cam_cluster.proofs.FoundedDisks.{as_many_nodes}
 use Rattle.cam_cluster.proofs.lines.new.Lines+Ckpt+StopDisk+D.new.Goals as goal
 
 pub returns-in-Err-clause-back : goal.returns-in-Err-clause-back
-returns-in-Err-clause-back g c =
-    all_same g.D.Disk.tells g.D.Disk.faults c.args.disks.now.items
+returns-in-Err-clause-back g c = all_same _ _ _
 
 pub returns-in-Ok-found-clause-before_first : goal.returns-in-Ok-found-clause-before_first
 returns-in-Ok-found-clause-before_first g c =
-    new_lines_keep (λ node. record {
-      site = record { node = answers node.core; entries = node.log.log.state.entries };
-      objects = node.objects;
-      halted = node.log.halted;
-      halted_at = node.halted_at;
-      passes = node.log.log.disk.passes;
-      reads = read_ckpt (g.D.Disk.seen node.log.log.disk.inner);
-      tells = g.D.Disk.tells node.log.log.disk.inner;
-      failures = g.D.Disk.faults node.log.log.disk.inner;
-    }) c.args.script.now c.found.new.nodes.items c.requires.script c.in-Ok-found.ensures.new
-    (c.in-Ok-found.ensures.count ∙ c.requires.one_each) c.new.ensures
-    c.new-in-Ok-found.ensures.items
+    new_lines_keep _ _ _ c.requires.script c.in-Ok-found.ensures.new (c.in-Ok-found.ensures.count
+    ∙ c.requires.one_each) c.new.ensures c.new-in-Ok-found.ensures.items
 
 pub returns-in-Ok-found-clause-count : goal.returns-in-Ok-found-clause-count
 returns-in-Ok-found-clause-count g c =
-    as_many_nodes (λ node. record {
-      site = record { node = answers node.core; entries = node.log.log.state.entries };
-      objects = node.objects;
-      halted = node.log.halted;
-      halted_at = node.halted_at;
-      passes = node.log.log.disk.passes;
-      reads = read_ckpt (g.D.Disk.seen node.log.log.disk.inner);
-      tells = g.D.Disk.tells node.log.log.disk.inner;
-      failures = g.D.Disk.faults node.log.log.disk.inner;
-    }) c.found.new.nodes.items c.new.result.nodes.items
-    (ap (λ (w : WorksFields). length w.nodes) c.new.ensures) ∙ c.in-Ok-found.ensures.count
+    as_many_nodes _ _ _ (ap (λ (w : WorksFields). length w.nodes) c.new.ensures) ∙
+    c.in-Ok-found.ensures.count
 
 pub returns-in-Ok-found-clause-later : goal.returns-in-Ok-found-clause-later
 returns-in-Ok-found-clause-later g c =

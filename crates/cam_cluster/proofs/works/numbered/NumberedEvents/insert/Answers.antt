@@ -24,14 +24,11 @@ insert_count-requires-clause-place c =
 
 pub returns-clause-items : goal.returns-clause-items
 returns-clause-items c =
-    let es = c.args.self.now.events.items in
     let len = c.len.ensures in
     let least = c.min-at.ensures in
-    c.insert_event.ensures.items
-    ∙ ap (λ xs. insert xs c.min-at.result c.args.event) c.renumber_from.ensures.items
-    ∙ put_behind c.min-at.result c.args.event es _ (grind (arith, common_steps, len, least))
-    ∙ put_at_last c.args.place c.min-at.result c.args.event es
-    (grind (arith, common_steps, len, least))
+    c.insert_event.ensures.items ∙ ap (λ xs. insert xs c.min-at.result c.args.event)
+    c.renumber_from.ensures.items ∙ put_behind _ c.args.event _ _ (grind (arith, common_steps,
+    len, least)) ∙ put_at_last _ _ c.args.event _ (grind (arith, common_steps, len, least))
 
 pub invariant_of-self : goal.invariant_of-self
 invariant_of-self c =
@@ -42,11 +39,8 @@ invariant_of-self c =
     let low : p ≤ length es = grind (arith, common_steps, len, least) in
     record {
       counted =
-          c.insert_count.ensures.items
-          ∙ ap (insert c.args.self.now.counts.items p) c.sent_before-count.ensures
-          ∙ counts_inserted c.args.place p c.args.event es c.insert_event.new.events.items
-          c.args.self.now.counts.items c.args.self.now.counted c.requires.mute low
-          (c.insert_event.ensures.items
-          ∙ ap (λ xs. insert xs p c.args.event) c.renumber_from.ensures.items
-          ∙ put_behind p c.args.event es _ low);
+          c.insert_count.ensures.items ∙ ap (insert c.args.self.now.counts.items p)
+          c.sent_before-count.ensures ∙ counts_inserted _ _ _ _ _ _ c.args.self.now.counted
+          c.requires.mute low (c.insert_event.ensures.items ∙ ap (λ xs. insert xs p c.args.event)
+          c.renumber_from.ensures.items ∙ put_behind _ c.args.event _ _ low);
     }

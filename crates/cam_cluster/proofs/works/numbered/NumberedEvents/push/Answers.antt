@@ -16,11 +16,8 @@ sent_before-before-requires c =
 pub invariant_of-self : goal.invariant_of-self
 invariant_of-self c = record {
   counted =
-      c.push_reserved.ensures
-      ∙ counts_with c.args.self.now.events.items c.args.event c.args.self.now.counts.items
-      c.sent_before-before.result c.count_after-count.result c.args.self.now.counted
+      c.push_reserved.ensures ∙ counts_with _ _ _ _ _ c.args.self.now.counted
       (c.sent_before-before.ensures ∙ ap (count_before c.args.self.now.counts.items) c.len.ensures)
-      (c.count_after-count.ensures
-      ∙ ap (λ n. min most_letters (c.sent_before-before.result + n)) c.len-2.ensures)
-      ∙ ap (λ es. letter_counts (reverse es)) (sym c.push_event.ensures);
+      (c.count_after-count.ensures ∙ ap (λ n. min most_letters (c.sent_before-before.result + n))
+      c.len-2.ensures) ∙ ap (λ es. letter_counts (reverse es)) (sym c.push_event.ensures);
 }
