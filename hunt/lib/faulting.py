@@ -12,8 +12,9 @@ import tempfile
 
 from hunting import Expected
 from images import told
+from lines import Run
 from program import HUNT, TOP, NoProgram, Program, built, find
-from texts import name_text
+from texts import Texts, name_text
 
 USAGE = """usage: hunt/faults [PART..] [--program FILE]
 
@@ -26,7 +27,7 @@ these, and without a word all of them:
   streams      each read and each write of a stream fails, or moves one byte alone. Status 4; 5 and
                a prefix; the whole text
   disks        over files: each call on the file of each node fails: alone, and with all later ones.
-               Status 6 and the node
+               Status 6 and the node; or status 0 and the text of a run in which the node halts once
   letters      each letter of the scripts is cut at each length
   images       each image of a log that the scripts leave: every prefix, and every byte changed to
                eight values, by inspect and upgrade
@@ -37,6 +38,7 @@ these, and without a word all of them:
 Status 0: all answers are right. Status 1: some are not; a line says which. Status 2: nothing could
 be tried."""
 
+TEXTS = {"run": Texts.report, "trace": Texts.trace}
 KINDS = {"allocation": 1, "read": 2, "write": 3, "disk": 4, "short read": 5, "short write": 6}
 FIELDS = 4 + 7 + 9 + 1
 VALUES = (0, 1, 2, 3, 6, 8, 9, 255)
@@ -171,9 +173,18 @@ def streams(faults):
     return faults.line("streams")
 
 
+def halted(run, node):
+    """The runs of a script in which this node halts at one of its appends."""
+    for number in range(run.nodes[node].appended):
+        for whole in (False, True):
+            yield Run(run.script, {(node, number): whole}).run()
+
+
 def disks(faults):
     for name, data in scripts():
-        nodes = Expected(data).run.script.nodes
+        plain = Expected(data).run
+        nodes = plain.script.nodes
+        after = {node: [Texts(run) for run in halted(plain, node)] for node in range(1, nodes + 1)}
         for words in (["run", "files"], ["trace", "files"]):
             whole, _, counts = faults.run(words, data)
             alone, _, _ = faults.run(words[:1], data)
@@ -182,9 +193,10 @@ def disks(faults):
                 for number in range(1, counts[node] + 1):
                     for later in (False, True):
                         ended, _, _ = faults.run(words, data, KINDS["disk"], number, later, node)
+                        said = (ended.status, ended.signal, ended.text)
                         fits = (
-                            (ended.status, ended.signal, ended.text)
-                            == (6, 0, f"disk fault {node}\n")
+                            said == (6, 0, f"disk fault {node}\n")
+                            or said in [(0, 0, TEXTS[words[0]](one)) for one in after[node]]
                             if node <= nodes
                             else ended == whole
                         )

@@ -253,7 +253,12 @@ def full_in(folder, command, data, what):
     done = subprocess.run(command, input=data, cwd=folder, stdout=subprocess.PIPE, check=False)
     said = done.stdout.decode("latin-1")
     print(f"{what}: status {done.returncode}, {said.splitlines()[:1]}")
-    fits = done.returncode == 6 and said in ("disk fault 1\n", "disk fault 2\n")
+    fits = (
+        done.returncode == 6
+        and said in ("disk fault 1\n", "disk fault 2\n")
+        or done.returncode == 0
+        and "\nhalted " in said
+    )
     return [] if fits else [f"{what}: status {done.returncode}, {said[:80]!r}"]
 
 
@@ -290,6 +295,8 @@ def shrinking(path):
                     done.returncode == 0
                     and said == Expected(data).of(["run"])[1]
                     or (done.returncode, said) == (6, "disk fault 2\n")
+                    or done.returncode == 0
+                    and {line.split()[2] for line in said.split("\n") if line[:7] == "halted "} == {"2"}
                 )
                 wrong += (
                     []

@@ -34,8 +34,9 @@ def refuse_if(holds, why):
 class Run(Rules):
     """The run of a whole script."""
 
-    def __init__(self, script):
+    def __init__(self, script, faults=None):
         super().__init__(script)
+        self.faults = faults or {}
         self.bound, self.body_of = {}, {}
         for step in script.steps:
             if step.word == "restart":

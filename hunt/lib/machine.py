@@ -130,6 +130,7 @@ class Node:
         self.secured, self.preparing = {}, {}
         self.have, self.acked = [0] * 9, [0] * 9
         self.calls_left, self.halted, self.moment = None, False, 0
+        self.appended = 0
 
 
 class Machine:
@@ -142,6 +143,8 @@ class Machine:
         self.crashes, self.decided, self.actions = [0] * 9, {}, {}
         self.line, self.later_restarts, self.met = 0, {}, set()
         self.before = None
+        # By node and number of its append: where its disk fails by itself, whether the entry is whole.
+        self.faults = {}
 
     # What is known
 
@@ -234,10 +237,14 @@ class Machine:
     def close_event(self, event):
         """Puts the event into the run, unless its disk fails in the append of its entry."""
         node = self.nodes[event.node]
-        if self.appends(node, event) and node.calls_left is not None:
-            if node.calls_left < 4:
-                return self.halt(node, event)
-            node.calls_left -= 4
+        if self.appends(node, event):
+            append, node.appended = (node.number, node.appended), node.appended + 1
+            if append in self.faults:
+                return self.halt(node, event, self.faults[append])
+            if node.calls_left is not None:
+                if node.calls_left < 4:
+                    return self.halt(node, event, node.calls_left == 3)
+                node.calls_left -= 4
         node.past = event.past
         self.events.append(event)
         for letter in event.sent:
@@ -291,10 +298,10 @@ class Machine:
     def snapshot(self, node):
         return dict(node.informed), list(node.list), list(node.live), dict(node.secured)
 
-    def halt(self, node, event):
+    def halt(self, node, event, whole):
         """The append failed. The event is taken where its entry is whole and a later line restarts
         the node; else there is none."""
-        taken = node.calls_left == 3 and self.later_restarts.get(node.number, 0) > self.line
+        taken = whole and self.later_restarts.get(node.number, 0) > self.line
         self.met.add("halted taken" if taken else "halted lost")
         self.marks.append(f"halted {self.line} {node.number} {'taken' if taken else 'lost'}")
         node.halted = True

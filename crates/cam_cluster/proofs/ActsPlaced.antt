@@ -63,8 +63,11 @@ module _ (script : Script) (is : IsScript script) (c : Setting) (st : Standing)
   request_placed : (x : Name) (want : Want) → LeadsPlaced (take_request d st x want)
   request_placed x want =
       unless_placed (halted_or st (home_node x) (refusal (home_sight d.reading st.running x) x
-      want)) (led_asking st (requested d st x want)) (put_placed _ d st (Requests (record { action
-      = x; want = want })) placed)
+      want)) (led_asking st (requested d st x want)) (put_placed _ d st (Requests (record {
+        action
+            = x;
+        want = want;
+      })) placed)
 
   asked_placed : (v : ℕ) (want : Want)
       → LeadsPlaced (of_variable (variable st.running v) (λ x. take_request d st x want))

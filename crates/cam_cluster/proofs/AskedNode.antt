@@ -1,7 +1,7 @@
 -- A node of works was asked for a step after room was made, with works as they are seen: what its
 -- ends make of them.
-use Rattle.std.proofs.Common.{◌≡◌, ◌⊎◌, ℕ, ◌+◌, ◌≤◌, ◌<◌, true, false, List, [], ◌∷◌, ◌++◌, length}
-use Rattle.std.proofs.Common.{get_or, inr, set, ap, sym, subst, ◌∙◌, refl}
+use Rattle.std.proofs.Common.{◌≡◌, ◌⊎◌, ℕ, ◌+◌, ◌≤◌, ◌<◌, Bool, true, false, List, [], ◌∷◌, ◌++◌, length}
+use Rattle.std.proofs.Common.{get_or, set, ap, sym, subst, ◌∙◌, refl}
 use Rattle.std.specs.Prelude.{IfSome, map, slice_get}
 use Rattle.cam_base.specs.Causes.{Rose}
 use Rattle.cam_ckpt.specs.declared.checkpoint_log.CheckpointLog.{Ghosts as CkptGhosts}
@@ -11,6 +11,7 @@ use Rattle.cam_event.specs.declared.Mark.TheVariants as marks
 use Rattle.cam_log.specs.declared.entry_log.EntryLog.{Ghosts as LogGhosts}
 use Rattle.cam_log.specs.CutOff.{IsCutOff}
 use Rattle.cam_net.specs.Outbox.{HasPutSome, OutboxFields}
+use Rattle.cam_net.specs.Waiting.{is_halted}
 use Rattle.cam_node.specs.declared.fault.NodeFault.{NodeFault}
 use Rattle.cam_node.specs.declared.fault.NodeFault.TheVariants as faults
 use Rattle.cam_node.specs.declared.node.Node.{Node}
@@ -21,15 +22,16 @@ use Rattle.cam_node.specs.Found.{HaltsAt}
 use Rattle.cam_node.specs.Halting.{IsStepThrough}
 use Rattle.cam_node.specs.Keeping.{IsHalt, KeepsOn}
 use Rattle.cam_cluster.specs.declared.works.failing.Failed.{Failed}
-use Rattle.cam_cluster.specs.declared.works.failing.Failed.TheVariants as failures
 use Rattle.cam_cluster.specs.declared.works.Put.{Put}
 use Rattle.cam_cluster.specs.declared.works.Put.TheVariants as puts
 use Rattle.cam_cluster.specs.declared.works.Works.{Works}
-use Rattle.cam_cluster.specs.Failing.{GoOn, IsAfterCall, IsAfterHalt}
+use Rattle.cam_cluster.specs.Failing.{GoOn, IsAfterCall, IsAfterHalt, IsKnownToFail, KnowsMore}
 use Rattle.cam_cluster.specs.Puts.{HasPut, KeepsAsBefore, letter_of}
 use Rattle.cam_cluster.specs.Works.{HasTellingDisk, MayReadAt, NodeFields}
 use Rattle.cam_cluster.proofs.AsSeen.{part, reads_at, reads_of, tells_of, works_of}
-use Rattle.cam_cluster.proofs.KnownFailures.{halt_is, halt_none, memory_too, nothing_before}
+use Rattle.cam_cluster.proofs.Failures.{call_knows, halt_by_disk, halt_disks, halt_knows}
+use Rattle.cam_cluster.proofs.Failures.{knows_then, not_risen_there}
+use Rattle.cam_cluster.proofs.DisksGoOn.{goes_on_with, halt_known, same_known}
 use Rattle.cam_cluster.proofs.OneDiskCalled.{goes_on_in, watched_there}
 use Rattle.cam_cluster.proofs.PutWorks.{as_before_in, halted_in, net_grows, seen, seen_as, stood_in}
 use Rattle.cam_cluster.proofs.RoomInWorks.{known_too, made_room, there_still}
@@ -46,7 +48,7 @@ module _ {X : Type 0} {g : CkptGhosts X} {h : LogGhosts X} (old mid : Works X g 
     (is_node : node ≡ get_or mid.nodes.items place node)
     (is_before : before ≡ (part g h asked).failures)
     (after : IfSome (slice_get (set mid.nodes.items place new) place)
-    (λ (n : Node X g h). IsAfterCall (place + 1) before (part g h n).failures mid.failed known))
+    (λ (n : Node X g h). IsAfterCall place before (part g h n).failures mid.failed known))
     (told : (part g h new).tells ≡ (part g h node).tells)
     (later : (part g h node).failures ≤ (part g h new).failures) where
   abbrev was : NodeFields
@@ -58,24 +60,23 @@ module _ {X : Type 0} {g : CkptGhosts X} {h : LogGhosts X} (old mid : Works X g 
   there_now : place < length mid.nodes.items
   there_now = there_still old mid nodes _ there
 
-  watched : IsAfterCall (place + 1) was.failures made.failures mid.failed known
+  watched : IsAfterCall place was.failures made.failures mid.failed known
   watched =
       watched_there (part g h) _ _ _ _ _ _ _ _ there_now is_asked is_node is_before after
 
-  pub none_before : known ≡ failures.Nothing
-      → (mid.failed ≡ failures.Nothing) × (Rose was.failures made.failures → ⊥)
-  none_before = nothing_before _ _ _ _ _ watched
+  pub knows : KnowsMore mid.failed known
+  knows = call_knows _ _ _ _ _ within watched
 
   pub less : HasTellingDisk made → HasTellingDisk was
   less = unfailing_less was made told
 
   -- the disks go on
   pub disks_on : (news : List (Node X g h)) (now : Failed) → news ≡ set mid.nodes.items place new
-      → (now ≡ failures.Memory) ⊎ (now ≡ known)
+      → ((nodes : List NodeFields) → IsKnownToFail known nodes now nodes)
       → GoOn (map (part g h) old.nodes.items) old.failed (map (part g h) news) now
-  disks_on news now are is =
-      memory_too _ _ _ _ _ is (goes_on_in _ _ _ _ _ _ _ _ _ _ (ap (λ v. v.items)
-      nodes) failed there_now is_node are told later watched)
+  disks_on news now are more =
+      goes_on_with (goes_on_in _ _ _ _ _ _ _ _ _ _ (ap (λ v. v.items)
+      nodes) failed there_now is_node are told later watched within) (more _)
 
   module _ (objects : made.objects ≡ was.objects) where
     -- memory ran out, and the node runs
@@ -95,9 +96,9 @@ module _ {X : Type 0} {g : CkptGhosts X} {h : LogGhosts X} (old mid : Works X g 
           there_now within is_node (set mid.nodes.items place new) refl objects ran runs same
           entries
           passes less script st is
-          (known_too old mid nodes some halted failed undecided events marked known
-          (λ none. (none_before none).0) script st is keeps),
-      disks_on (set mid.nodes.items place new) known refl (inr refl),
+          (known_too old mid nodes some halted failed undecided events marked known knows script st
+          is keeps),
+      disks_on (set mid.nodes.items place new) known refl (same_known known known refl),
     )
 
     -- At the end the input was put, the disks go on, and the network only grew.
@@ -142,9 +143,9 @@ module _ {X : Type 0} {g : CkptGhosts X} {h : LogGhosts X} (old mid : Works X g 
             mid.halted known mid.undecided.items mid.events.events.items mid.marks.items node new
             there_now within is_node end.nodes.items are objects line input event letters none_left
             few runs step on sent less appended script st halts restarted is
-            (known_too old mid nodes some halted failed undecided events marked known
-            (λ none. (none_before none).0) script st is keeps) put_so none),
-        disks_on end.nodes.items end.failed are (inr is_f),
+            (known_too old mid nodes some halted failed undecided events marked known knows script
+            st is keeps) put_so none),
+        disks_on end.nodes.items end.failed are (same_known known end.failed is_f),
         subst (λ (o : OutboxFields). length old.outbox.net ≤ length o.net) (sym is_o)
             (net_grows old.outbox mid.outbox some),
       )
@@ -189,14 +190,17 @@ module _ {X : Type 0} {g : CkptGhosts X} {h : LogGhosts X} (old mid : Works X g 
             there_now within is_node end.nodes.items are objects line input none_left stops same
             halt
             at_event end.failed
-            (λ none. (none_before (halt_none fault known end.failed is_f none).0).0) less
-            (λ none now_told. told_cut _ _ _ _
-            (none_before (halt_none fault known end.failed is_f none).0).1 (sym told ∙ now_told)
-            (cut (halt_none fault known end.failed is_f none).1))
+            (knows_then mid.failed known end.failed knows (halt_knows fault known end.failed is_f))
+            less
+            (λ none sound now_told. told_cut _ _ _ _
+            (not_risen_there place was.failures made.failures mid.failed known within watched
+            (ap (λ (ds : List Bool). is_halted ds (place + 1))
+            (sym (halt_disks fault known end.failed is_f)) ∙ sound)) (sym told ∙ now_told)
+            (cut (halt_by_disk fault known end.failed is_f none)))
             script st halts restarted is
             (made_room old mid nodes some halted failed undecided events marked script st is keeps)
             put_so lost),
-        disks_on end.nodes.items end.failed are (halt_is fault known end.failed is_f),
+        disks_on end.nodes.items end.failed are (halt_known fault known end.failed is_f),
         subst (λ (o : OutboxFields). length old.outbox.net ≤ length o.net) (sym is_o)
             (net_grows old.outbox mid.outbox some),
       )

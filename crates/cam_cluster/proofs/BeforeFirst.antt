@@ -71,7 +71,7 @@ new_last part objects s nodes all node place is new last =
     subst (AreNewNodes part objects 1) (sym is) (new_behind _ _ _ _ _ _ (omega (arith, place))
     new last)
 
-awake : (s : ℕ) → is_halted (false ∷ false ∷ false ∷ false ∷ false ∷ false ∷ false ∷ false ∷ []) s
+pub awake : (s : ℕ) → is_halted (false ∷ false ∷ false ∷ false ∷ false ∷ false ∷ false ∷ false ∷ []) s
     ≡ false
 awake s = by (s - 1)
   where
@@ -111,8 +111,11 @@ module _ {N : Type 0} (part : N → NodeFields) (objects : List ObjectDecl) wher
   node_over s [] place node new at =
       absurd (none_is_not _ (sym (slice_get_past [] place (omega arith)) ∙ at))
   node_over s (n ∷ nodes) zero node new at =
-      subst (IsNodeOf objects (new_works []).halted 1) (same_Some (part n) node at) (record { over =
-      new.0.over; is_halted = new.0.running ∙ sym (awake 1) })
+      subst (IsNodeOf objects (new_works []).halted 1) (same_Some (part n) node at) (record {
+        over =
+            new.0.over;
+        is_halted = new.0.running ∙ sym (awake 1);
+      })
   node_over s (n ∷ nodes) (suc place) node new at =
       let later : IsNodeOf objects (new_works []).halted (place + 1) node =
       node_over (s + 1) nodes place node new.1 at in
@@ -155,7 +158,7 @@ new_keeps part script nodes may_read is new many = record {
       events = refl;
       all_marks = refl;
       few = omega arith;
-      stops = λ all. record {
+      stops = record {
         said = λ s away. refl;
         each = λ place node at away. record {
           awake = λ runs. passes_none _ _ _ _ _ _ new at;
@@ -178,5 +181,7 @@ pub new_lines_keep : {N : Type 0} {works : WorksFields} {bound : List (Option Na
     → KeepsBetween (before_first script) (record { works = works; bound = bound }) may_read
 new_lines_keep {may_read = may_read} part script nodes is new many works_are bound_are =
     subst (λ (z : WorksFields × List (Option Name)). KeepsBetween (before_first script) (record {
-    works = z.0; bound = z.1 }) may_read) (sym (λ i. (works_are i, bound_are i))) (new_keeps _ _
+      works = z.0;
+      bound = z.1;
+    }) may_read) (sym (λ i. (works_are i, bound_are i))) (new_keeps _ _
     _ _ is new many)

@@ -129,8 +129,11 @@ module _ (script : Script) (st : Standing) (works : WorksFields) (may : ℕ → 
   pub receiver_is : (number : ℕ) (id : LetterId) (to : ℕ) → letter_of st.running number ≡ Some id
       → Some to ≡ option_map (λ (m : Mail). m.to) (letter_at (reverse works.events) id)
       → (1 ≤ to) × (to ≤ 8) × (addressee st id ≡ to)
-  receiver_is number id to is at = ( rw to_is here.travels.to.0, rw to_is here.travels.to.1, ap (λ
-    (o : Option Mail). option_map_or (λ (m : Mail). m.to) o 0) here.at ∙ sym to_is,
+  receiver_is number id to is at = (
+    rw to_is here.travels.to.0,
+    rw to_is here.travels.to.1,
+    ap (λ
+        (o : Option Mail). option_map_or (λ (m : Mail). m.to) o 0) here.at ∙ sym to_is,
   )
     where
       here : IsThere st id

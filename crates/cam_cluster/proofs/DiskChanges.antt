@@ -24,7 +24,7 @@ use Rattle.cam_cluster.specs.declared.works.undecided.OpenHalt.{OpenHalt}
 use Rattle.cam_cluster.specs.Puts.{HasStopped}
 use Rattle.cam_cluster.specs.Stopping.{IsAsStopped}
 use Rattle.cam_cluster.specs.Works.{NodeFields, WorksFields, IsHaltOf, IsNodeOf, KeepsRun}
-use Rattle.cam_cluster.specs.Works.{MayReadAt, no_node, sites_of}
+use Rattle.cam_cluster.specs.Works.{IsUnfailing, MayReadAt, sites_of}
 use Rattle.cam_cluster.proofs.PlacedNodes.{reads_elsewhere, reads_there, seen_there, taken_there}
 use Rattle.cam_cluster.proofs.HaltsKept.{halt_read}
 use Rattle.cam_cluster.proofs.PutWorks.{seen}
@@ -80,16 +80,19 @@ stop_keeps script st works might may place calls old nodes less there are keeps 
   events = keeps.events;
   all_marks = keeps.all_marks;
   few = keeps.few;
-  stops = λ all.
-      let before = keeps.stops (unfailing_before _ _ _ _ _ _ there are (λ u. u) all) in
-      nodes_stopped _ _ _ _ _ _ _ _ _ _ old _ there are (λ m away. refl) (λ m away. refl)
-      (λ m away. rw (ne_eqb (place + 1) m (λ e. away (sym e))) refl) (λ m away. refl) _ (λ m away.
-      refl) (λ s. as_before (has_number st.halted s) s (before.said s refl)) (record {
+  stops =
+      nodes_stopped script.objects st.running.trace st.running.trace st.halted st.halted st.turns
+      now.turns place works.nodes nodes old new there are (λ m away. refl) (λ m away. refl)
+      (λ m away. rw (ne_eqb (place + 1) m (λ e. away (sym e))) refl) (λ m away. refl)
+      (IsUnfailing works.failed works.nodes) (IsUnfailing works.failed nodes)
+      (λ m away all. so_before m all)
+      (λ s all. as_before (has_number st.halted s) s (keeps.stops.said s (so_before s all)))
+      (λ all. record {
         awake = λ runs. sym (rw (eq-eqb (place + 1) (place + 1) refl) refl);
         by_stop = λ said.
-            let halt = (before.each place old there refl).by_stop said in
+            let halt = (keeps.stops.each place old there (so_before (place + 1) all)).by_stop said in
             halt_alike _ _ _ _ _ _ _ halt _ _ refl refl;
-      }) before;
+      }) keeps.stops;
 }
   where
     new : NodeFields
@@ -97,6 +100,11 @@ stop_keeps script st works might may place calls old nodes less there are keeps 
 
     now : Standing
     now = with_stop (place + 1) calls st
+
+    so_before : (m : ℕ) → IsUnfailing works.failed nodes m
+        → IsUnfailing works.failed works.nodes m
+    so_before =
+        unfailing_before works.failed works.nodes nodes place old new there are (λ told. told)
 
     as_before : (b : Bool) (s : ℕ) → IsAsStopped b st.turns s → IsAsStopped b now.turns s
     as_before true s is = is

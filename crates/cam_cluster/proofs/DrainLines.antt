@@ -51,7 +51,9 @@ module _ (line : ℕ) (old new : WorksFields) (might may : ℕ → Logged → Ty
   drain_line has is_now = record {
     ends = has.ends;
     drained = λ script st halts later is keeps next said.
-        let c = setting (by_knowledge script.objects) halts (record { line = line; act = acts.Drain
+        let c = setting (by_knowledge script.objects) halts (record {
+          line = line;
+          act = acts.Drain;
         }) later in
         let so = has.drained script st halts (λ s. list_any (is_restart s) later) is keeps.runs said
         in record {
@@ -59,7 +61,10 @@ module _ (line : ℕ) (old new : WorksFields) (might may : ℕ → Logged → Ty
           over = so.over;
           stands = record {
             runs =
-                keeps_others _ _ _ _ _ _ (record { trace = refl; lost = refl; delivered = refl
+                keeps_others _ _ _ _ _ _ (record {
+                  trace = refl;
+                  lost = refl;
+                  delivered = refl;
                 }) refl refl refl so.stands.all_marks (next_leads _ _ _ halts later is
                 keeps.runs.under next) so.stands;
             variables =

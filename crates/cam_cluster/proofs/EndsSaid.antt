@@ -88,10 +88,14 @@ known_past : (k : ℕ) (end : Put) (old : List Halt)
     → AllByRecursion (λ (h : Halt). h.input < k) old
     → AllByRecursion (λ (h : Halt). h.input < k + 1) (known_then k end old)
 known_past k puts.Stood old past =
-    all_so (λ (h : Halt). h.input < k) (λ (h : Halt). h.input < k + 1) old (λ h less. omega (arith,
-    less)) past
-known_past k puts.Halted old past = ( omega arith, all_so (λ (h : Halt). h.input < k) (λ (h : Halt).
-  h.input < k + 1) _
+    all_so (λ (h : Halt). h.input < k) (λ (h : Halt). h.input < k + 1) old (λ h less. omega (
+      arith,
+      less,
+    )) past
+known_past k puts.Halted old past = (
+  omega arith,
+  all_so (λ (h : Halt). h.input < k) (λ (h : Halt).
+      h.input < k + 1) _
       (λ h less. omega (arith, less)) past,
 )
 
@@ -109,14 +113,17 @@ one_handed c st w =
 -- where none waits nothing has to be said
 none_said : (c : Setting) (ends : List Put) (st : Standing) → waiting st ≡ None → AreSaid c ends st
 none_said c [] st none = tt
-none_said c (end ∷ ends) st none = ( rw none tt, rw none (none_said c ends st none),
+none_said c (end ∷ ends) st none = (
+  rw none tt,
+  rw none (none_said c ends st none),
 )
 
 -- So the halts of the ends say of each input how it ended.
 pub given_said : (all old : List Halt) (k : ℕ) (ends : List Put) → all ≡ halts_from k ends ++ old
     → AllByRecursion (λ (h : Halt). h.input < k) old → AreSaidFrom (given all) k ends
 given_said all old k [] is past = tt
-given_said all old k (end ∷ ends) is past = ( λ turns s appends restarted at.
+given_said all old k (end ∷ ends) is past = (
+  λ turns s appends restarted at.
       ap (halt_at all) at ∙ ap (λ (hs : List Halt). halt_at hs k) is ∙ first_said _ end ends _
       past,
   given_said all (known_then k end old) (k + 1) ends (is ∙ known_on k end ends old) (known_past _
@@ -141,9 +148,13 @@ deliveries_said c k (end ∷ ends) st at given_so =
     said : (o : Option (ℕ × LetterId)) → waiting st ≡ o
         → ((w : ℕ × LetterId) → AreSaid c ends (deliver c st w.0 w.1))
         → IsSaid c st (waiting st) end × AreSaid c ends (deliver_waiting c st (waiting st))
-    said None none on = ( rw none tt, rw none (none_said c _ _ none),
+    said None none on = (
+      rw none tt,
+      rw none (none_said c _ _ none),
     )
-    said (Some w) waits on = ( rw waits (of_first w), rw waits (on w),
+    said (Some w) waits on = (
+      rw waits (of_first w),
+      rw waits (on w),
     )
 
 -- So many letters were handed over.

@@ -7,9 +7,9 @@ use Rattle.cam_event.specs.declared.Event.{Event}
 use Rattle.cam_runs.specs.Halts.{Halt, Turn, accepted, given, halt_at}
 use Rattle.cam_runs.specs.Running.{has_number}
 use Rattle.cam_runs.specs.Standing.{Standing}
-use Rattle.cam_runs.specs.Stops.{Agrees, AgreesWithStops}
 use Rattle.cam_cluster.specs.FoundHalts.{AreLostSoFar, IsLostSoFar}
-use Rattle.cam_cluster.specs.Stopping.{AreAsStopped}
+use Rattle.cam_cluster.specs.KnownHalts.{AgreesAt, AgreesWithStopsAt}
+use Rattle.cam_cluster.specs.Stopping.{IsAsStopped}
 use Rattle.cam_cluster.proofs.LastInputs.{accepted_more}
 
 -- no halt of an input from this number on is taken
@@ -23,13 +23,14 @@ pub record Extends (halts : List Halt) (old new : Standing) : Type 0 where
   pub turns : new.turns ≡ more ++ old.turns
   pub lost :
       NoneTaken halts (accepted old.turns) → AreLostSoFar old halts → AreLostSoFar new halts
-  -- where the nodes that are halted are by the stops, they were, and halts that agree with the
-  -- stops
-  -- go on agreeing
-  pub stopped : AreAsStopped new.halted new.turns → AreAsStopped old.halted old.turns
+  -- a node that is halted by the stops, or not, was so, and its halts go on agreeing with the stops
+  pub stopped :
+      (m : ℕ) → IsAsStopped (has_number new.halted m) new.turns m
+      → IsAsStopped (has_number old.halted m) old.turns m
   pub agrees :
-      NoneTaken halts (accepted old.turns) → AreAsStopped new.halted new.turns
-      → Agrees (given halts) old → Agrees (given halts) new
+      NoneTaken halts (accepted old.turns) → (m : ℕ)
+      → IsAsStopped (has_number new.halted m) new.turns m → AgreesAt m (given halts) old
+      → AgreesAt m (given halts) new
 
 -- the same nodes are halted after the same turns
 lost_as : (old new : Standing) (halts : List Halt) (s : ℕ) → new.turns ≡ old.turns
@@ -48,10 +49,10 @@ same_extends halts old new trace turns halted = record {
   more = [];
   turns = turns;
   lost = λ none lost s is. lost_as old new _ _ turns halted (lost s) is;
-  stopped = λ so. subst (λ (z : List ℕ × List Turn). AreAsStopped z.0 z.1) (λ i. (halted i, turns
-      i)) so;
-  agrees = λ none so agrees. subst (λ (z : List ℕ × List Turn). AgreesWithStops (given halts) z.1
-      (has_number z.0)) (sym (λ i. (halted i, turns i))) agrees;
+  stopped = λ m so. subst (λ (z : List ℕ × List Turn). IsAsStopped (has_number z.0 m) z.1 m)
+      (λ i. (halted i, turns i)) so;
+  agrees = λ none m so agrees. subst (λ (z : List ℕ × List Turn). AgreesWithStopsAt m (given halts)
+      z.1 (has_number z.0 m)) (sym (λ i. (halted i, turns i))) agrees;
 }
 
 pub extends_on : (halts : List Halt) (a b d : Standing) → Extends halts a b → Extends halts b d
@@ -66,9 +67,9 @@ extends_on halts a b d one two = record {
       two.turns ∙ ap (λ (ts : List Turn). two.more ++ ts) one.turns
       ∙ sym (append_assoc two.more one.more a.turns);
   lost = λ none lost. two.lost (none_later none) (one.lost none lost);
-  stopped = λ so. one.stopped (two.stopped so);
-  agrees = λ none so agrees.
-      two.agrees (none_later none) so (one.agrees none (two.stopped so) agrees);
+  stopped = λ m so. one.stopped m (two.stopped m so);
+  agrees = λ none m so agrees.
+      two.agrees (none_later none) m so (one.agrees none m (two.stopped m so) agrees);
 }
   where
     none_later : NoneTaken halts (accepted a.turns) → NoneTaken halts (accepted b.turns)

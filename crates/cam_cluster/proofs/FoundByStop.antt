@@ -35,7 +35,7 @@ use Rattle.cam_cluster.proofs.WorksNodes.{site_there}
 module _ (script : Script) (st : Standing) (place : ℕ) (works : WorksFields)
     (might : ℕ → Logged → Type 0) (old : NodeFields) (keeps : KeepsRun script st works might)
     (there : slice_get works.nodes place ≡ Some old)
-    (sound : IsUnfailing works.failed works.nodes)
+    (sound : IsUnfailing works.failed works.nodes (place + 1))
     (said : has_number st.halted (place + 1) ≡ true) (found : Found)
     (finds : old.tells ≡ true → FindsBy old.objects old.site.node.number old.site.node old.halted_at
     old.reads found) where
@@ -47,13 +47,13 @@ module _ (script : Script) (st : Standing) (place : ℕ) (works : WorksFields)
 
   halt : IsHaltByStop script.objects (history_of script.objects st.running.trace (place + 1))
       st.turns (place + 1) old.site.node old.halted_at old.reads
-  halt = ((keeps.stops sound).each place old there refl).by_stop said
+  halt = (keeps.stops.each place old there sound).by_stop said
 
   finds_here : FindsBy script.objects (place + 1) old.site.node old.halted_at old.reads found
   finds_here =
       subst (λ (z : List ObjectDecl × ℕ). FindsBy z.0 z.1 old.site.node old.halted_at old.reads
       found) (λ i. ((keeps.nodes place old there).over i, site_here.number i)) (finds
-      (unfailing_there _ _ _ _ there sound))
+      (unfailing_there _ _ _ _ there (place + 1) sound))
 
   three : is_some found.event ≡ eqb halt.calls 3
   three =

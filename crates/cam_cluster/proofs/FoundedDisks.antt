@@ -110,8 +110,10 @@ module _ {D : Type 0} (tells : D → Bool) (faults_of : D → ℕ) where
       → all ≡ front ++ old ∷ [] → now ≡ lower ++ new ∷ [] → NamesFailed faults_of front lower fault
       → NamesFailed faults_of all now fault
   cause_front fault front lower all now old new all_is now_is cause =
-      subst (λ (z : List D × List D). NamesFailed faults_of z.0 z.1 fault) (sym (λ i. (all_is i,
-      now_is i))) (by fault cause)
+      subst (λ (z : List D × List D). NamesFailed faults_of z.0 z.1 fault) (sym (λ i. (
+        all_is i,
+        now_is i,
+      ))) (by fault cause)
     where
       by : (f : RunFault) → NamesFailed faults_of front lower f
           → NamesFailed faults_of (front ++ old ∷ []) (lower ++ new ∷ []) f

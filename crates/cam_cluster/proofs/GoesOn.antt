@@ -58,8 +58,9 @@ pub newest_behind : (n : ℕ) (more halts : List Halt) → AreNewestFirst more �
     → AllByRecursion (λ (h : Halt). n ≤ h.input) more
     → AllByRecursion (λ (h : Halt). h.input < n) halts → AreNewestFirst (more ++ halts)
 newest_behind n [] halts new old low high = old
-newest_behind n (h ∷ more) halts new old low high = ( all_behind (λ (g : Halt). g.input < h.input)
-  _ _ new.0
+newest_behind n (h ∷ more) halts new old low high = (
+  all_behind (λ (g : Halt). g.input < h.input)
+      _ _ new.0
       (all_so (λ (g : Halt). g.input < n) (λ (g : Halt). g.input < h.input) _ (λ g less. let least
       = low.0 in omega (arith, less, least)) high),
   newest_behind n more halts new.1 old low.1 high,

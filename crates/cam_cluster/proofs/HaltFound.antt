@@ -150,16 +150,14 @@ module _ (script : Script) (st found : Standing) (place : ℕ) (k : ℕ) (before
           let old = ap (λ (es : List Event). length es) keeps.events ∙ length-reverse
           st.running.trace in
           omega (arith, room, many, more, old);
-      stops = λ all.
-          let was = keeps.stops all in record {
-            said = λ m away. subst (λ (z : List ℕ × List Turn). IsAsStopped (has_number z.0 m) z.1
-                m) (λ i. (sym halted_are i, sym turns_are i)) (was.said m refl);
-            each = λ q n at away.
-                let off : s ≡ q + 1 → ⊥ =
-                λ is. true≢false (sym (eq-eqb s (q + 1) is) ∙ away) in
-                stopped_alike _ _ _ _ _ _ _ _ n (other_histories_stay script.objects s (q +
-                1) before e st found beyond.stands off) (ap (λ (hs : List ℕ). has_number hs (q + 1))
-                halted_are) (ap (λ (ts : List Turn). calls_left ts (q + 1)) turns_are) (ap (λ (ts :
-                List Turn). stopped_at ts (q + 1)) turns_are) (was.each q n at refl);
-          };
+      stops = record {
+        said = λ m so. subst (λ (z : List ℕ × List Turn). IsAsStopped (has_number z.0 m) z.1
+            m) (λ i. (sym halted_are i, sym turns_are i)) (keeps.stops.said m so.1);
+        each = λ q n at so.
+            let off : s ≡ q + 1 → ⊥ = λ is. so.0 (sym is) in
+            stopped_alike _ _ _ _ _ _ _ _ n (other_histories_stay script.objects s (q +
+            1) before e st found beyond.stands off) (ap (λ (hs : List ℕ). has_number hs (q + 1))
+            halted_are) (ap (λ (ts : List Turn). calls_left ts (q + 1)) turns_are) (ap (λ (ts :
+            List Turn). stopped_at ts (q + 1)) turns_are) (keeps.stops.each q n at so.1);
+      };
     }

@@ -5,8 +5,8 @@ use Rattle.std.specs.Prelude.{slice_get}
 use Rattle.std.proofs.lemmas.Option.{slice_get_cases}
 use Rattle.cam_event.specs.Readings.{by_pasts}
 use Rattle.cam_node.specs.Log.{Logged}
-use Rattle.cam_runs.specs.Halts.{Halt, by_stops}
-use Rattle.cam_runs.specs.HaltedLines.{run_halting, run_with}
+use Rattle.cam_runs.specs.Halts.{Halt}
+use Rattle.cam_runs.specs.HaltedLines.{run_with}
 use Rattle.cam_runs.specs.Running.{has_number}
 use Rattle.cam_runs.specs.Standing.{Standing}
 use Rattle.cam_cluster.specs.Between.{KeepsBetween, seen_found}
@@ -35,7 +35,7 @@ within_at nodes place within = elim ((slice_get_cases nodes place).1) [
 -- What may be read at the end of the one run of the log of a node that is halted then.
 module _ (seen : Seen) (lines : LinesFields) (may : ℕ → Logged → Type 0)
     (keeps : KeepsBetween seen lines may) (all : lines_taken seen ≡ length seen.script.steps)
-    (one : seen.standing ≡ run_halting by_pasts by_stops seen.script) where
+    (one : seen.standing ≡ run_with by_pasts seen.script seen.halts) where
   module _ (s : ℕ) (low : 1 ≤ s) (high : s ≤ seen.script.nodes)
       (halted : has_number seen.standing.halted s ≡ true) where
     abbrev from : Seen
@@ -67,7 +67,7 @@ module _ (seen : Seen) (lines : LinesFields) (may : ℕ → Logged → Type 0)
         (keeps.keeps.runs.halts (s - 1) there.node there.at
         (ap (has_number seen.standing.halted) here ∙ halted))
 
-    either_at_end : KeepsEither seen.script s (may s)
+    either_at_end : KeepsEither seen.script seen.halts s (may s)
     either_at_end = record {
       taken = record {
         halts = halts;
@@ -83,6 +83,6 @@ module _ (seen : Seen) (lines : LinesFields) (may : ℕ → Logged → Type 0)
           there_in.before there_in.event there.node (may s) there_in.beyond halt logged read);
     }
 
-  pub halted_logs : KeepsHaltedLogs seen.script may
+  pub halted_logs : KeepsHaltedLogs seen.script seen.halts may
   halted_logs s low high halted =
       either_at_end s low high (ap (λ (st : Standing). has_number st.halted s) one ∙ halted)

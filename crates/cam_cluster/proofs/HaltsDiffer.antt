@@ -58,9 +58,9 @@ module _ (turns : List Turn) (s k : ℕ) (last : last_input turns s ≡ Some k) 
       by false is rest = record {
         there = rw (is, ne_eqb h.input k off) more.there;
         others = λ j away. elim (eqb_tells h.input j) [
-              | inl y ↦ rw (is, y.0) refl
-              | inr n ↦ rw (is, n.0) (more.others j away)
-            ];
+          | inl y ↦ rw (is, y.0) refl
+          | inr n ↦ rw (is, n.0) (more.others j away)
+        ];
       }
         where
           off : h.input ≡ k → ⊥

@@ -19,11 +19,13 @@ pub one_later : {D : Type 0} (tells : D → Bool) (faults_of : D → ℕ) (disks
     → IsLater tells faults_of tells faults_of old new
     → AreHandedBack tells faults_of disks (set disks place new)
 one_later tells faults_of [] place old new at is = tt
-one_later tells faults_of (disk ∷ disks) zero old new at is = ( rw (same_Some disk old at) is,
+one_later tells faults_of (disk ∷ disks) zero old new at is = (
+  rw (same_Some disk old at) is,
   all_same _ _ _,
 )
 one_later tells faults_of (disk ∷ disks) (suc place) old new at is = (
-  record { told = refl; later = omega arith }, one_later tells faults_of disks place old new at
+  record { told = refl; later = omega arith },
+  one_later tells faults_of disks place old new at
       is,
 )
 

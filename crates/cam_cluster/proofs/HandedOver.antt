@@ -48,7 +48,8 @@ same_sites objects old new first (site ∷ sites) trace halted are = (
     number = are.0.number;
     stands = λ awake. rw trace (are.0.stands (ap (λ (hs : List ℕ). has_number hs first) (sym halted)
         ∙ awake));
-  }, same_sites objects old new (first + 1) sites trace halted are.1,
+  },
+  same_sites objects old new (first + 1) sites trace halted are.1,
 )
 
 -- a letter counts as delivered

@@ -11,10 +11,11 @@ use Rattle.cam_event.specs.Inputs.{Input as Coming, node_of}
 use Rattle.cam_runs.specs.Halts.{Halt, Halting, Input, Turn, accepted, appends, by_stops, given}
 use Rattle.cam_runs.specs.Running.{has_number}
 use Rattle.cam_runs.specs.Standing.{Setting, Standing, after_input, put}
-use Rattle.cam_runs.specs.Stops.{Agrees, known_of}
-use Rattle.cam_runs.proofs.StopsAgree.{puts_agree}
-use Rattle.cam_cluster.specs.Stopping.{AreAsStopped, IsAsStopped, ends_by, runs_on, stopped_at}
+use Rattle.cam_runs.specs.Stops.{known_of}
+use Rattle.cam_cluster.specs.KnownHalts.{AgreesAt}
+use Rattle.cam_cluster.specs.Stopping.{IsAsStopped, ends_by, runs_on, stopped_at}
 use Rattle.cam_cluster.proofs.Extends.{NoneTaken}
+use Rattle.cam_cluster.proofs.NodeAgrees.{input_agrees}
 use Rattle.cam_cluster.proofs.StopTurns.{other_was, said_by}
 
 not_so : (b : Bool) → not b ≡ true → b ≡ false
@@ -52,14 +53,15 @@ module _ (line : ℕ) (again : Bool) (st : Standing) (s : ℕ) (e : Event) (w : 
   ran_on true is = (stops_there is).0
   ran_on false is = (runs_there is).1
 
-  stopped_before : (halted : ℕ → Bool)
-      → ((m : ℕ) → (s ≡ m → ⊥) → halted m ≡ has_number st.halted m)
-      → ((m : ℕ) → IsAsStopped (halted m) now m) → AreAsStopped st.halted st.turns
-  stopped_before halted same so m = elim (eqb_tells s m) [
+  stopped_before : (halted : ℕ → Bool) (m : ℕ)
+      → ((s ≡ m → ⊥) → halted m ≡ has_number st.halted m)
+      → IsAsStopped (halted m) now m → IsAsStopped (has_number st.halted m) st.turns m
+  stopped_before halted m same so = elim (eqb_tells s m) [
     | inl y ↦
-        rw (← y.1) (rw awake (ran_on (halted s) (so s)))
+        rw (← y.1) (rw awake (ran_on (halted m) (subst (λ (n : ℕ). IsAsStopped (halted m) now n)
+        (sym y.1) so)))
     | inr away ↦
-        other_was _ _ line w again _ _ away.1 (rw (← (same m away.1)) (so m))
+        other_was _ _ line w again _ _ away.1 (rw (← (same away.1)) so)
   ]
 
   newly : (m : ℕ) → (s ≡ m → ⊥) → has_number (s ∷ st.halted) m ≡ has_number st.halted m
@@ -68,11 +70,12 @@ module _ (line : ℕ) (again : Bool) (st : Standing) (s : ℕ) (e : Event) (w : 
   abbrev after : Option Bool → Standing
   after o = after_input line again st s e w o
 
-  pub was_stopped : (o : Option Bool) → AreAsStopped (after o).halted (after o).turns
-      → AreAsStopped st.halted st.turns
-  was_stopped None so = stopped_before (has_number st.halted) (λ m away. refl) so
-  was_stopped (Some true) so = stopped_before (has_number (s ∷ st.halted)) newly so
-  was_stopped (Some false) so = stopped_before (has_number (s ∷ st.halted)) newly so
+  pub was_stopped : (o : Option Bool) (m : ℕ)
+      → IsAsStopped (has_number (after o).halted m) (after o).turns m
+      → IsAsStopped (has_number st.halted m) st.turns m
+  was_stopped None m so = stopped_before (has_number st.halted) m (λ away. refl) so
+  was_stopped (Some true) m so = stopped_before (has_number (s ∷ st.halted)) m (newly m) so
+  was_stopped (Some false) m so = stopped_before (has_number (s ∷ st.halted)) m (newly m) so
 
   none_known : (o : Option Bool) → is_some o ≡ false → None ≡ known_of true o
   none_known None none = refl
@@ -83,28 +86,32 @@ module _ (line : ℕ) (again : Bool) (st : Standing) (s : ℕ) (e : Event) (w : 
   some_known (Some took) some = refl
 
   pub said_so : (o : Option Bool) → (o ≡ Some true → ⊥)
-      → AreAsStopped (after o).halted (after o).turns
+      → IsAsStopped (has_number (after o).halted s) (after o).turns s
       → o ≡ known_of true (by_stops st.turns s w again)
   said_so None never so =
       none_known (by_stops st.turns s w again) (said_by st.turns s w again ∙ not_so _ (runs_there
-      (subst (λ (b : Bool). IsAsStopped b now s) awake (so s))).0)
+      (subst (λ (b : Bool). IsAsStopped b now s) awake so)).0)
   said_so (Some true) never so = absurd (never refl)
   said_so (Some false) never so =
       some_known (by_stops st.turns s w again) (said_by st.turns s w again ∙ (stops_there (subst (λ
       (b : Bool). IsAsStopped b now s) (or_left (eqb s s) (has_number st.halted s) (eq-eqb s s
-      refl)) (so s))).1)
+      refl)) so)).1)
 
 -- So halts that agree with the stops go on agreeing.
 pub put_agrees : (c : Setting) (halts : List Halt) → c.halts ≡ given halts → (st : Standing)
     (input : Coming) → has_number st.halted (node_of st.running.trace input) ≡ false
-    → NoneTaken halts (accepted st.turns)
-    → AreAsStopped (put c st input).halted (put c st input).turns → Agrees (given halts) st
-    → Agrees (given halts) (put c st input)
-put_agrees c halts known st input awake none so agrees =
-    rw (← known) (puts_agree c st input (rw known agrees) awake (said_so c.line (c.restarted s) st s
+    → NoneTaken halts (accepted st.turns) → (m : ℕ)
+    → IsAsStopped (has_number (put c st input).halted m) (put c st input).turns m
+    → AgreesAt m (given halts) st → AgreesAt m (given halts) (put c st input)
+put_agrees c halts known st input awake none m so agrees =
+    rw (← known) (input_agrees c.halts c.line s (c.restarted s) st
+    (c.reading.next st.running.trace input) w awake m (rw known agrees)
+    (c.halts st.turns s w (c.restarted s)) refl
+    (λ same. said_so c.line (c.restarted s) st s
     (c.reading.next st.running.trace input) w awake (c.halts st.turns s w (c.restarted s)) (λ is.
     none (accepted st.turns) (omega arith) (sym (ap (λ (h : Halting). h st.turns s w (c.restarted
-    s)) known) ∙ is)) so))
+    s)) known) ∙ is)) (subst (λ (n : ℕ). IsAsStopped (has_number (put c st input).halted n)
+    (put c st input).turns n) (sym same) so)))
   where
     s : ℕ
     s = node_of st.running.trace input

@@ -1,5 +1,5 @@
 -- What is kept of a run, but for the node at a place: it restarts.
-use Rattle.std.proofs.Common.{◌≡◌, ℕ, ◌+◌, ◌<◌, eqb, length, refl, sym, ap, ◌∙◌}
+use Rattle.std.proofs.Common.{◌≡◌, ℕ, ◌+◌, ◌<◌, length, sym, ap, ◌∙◌}
 use Rattle.std.specs.Prelude.{map, reverse}
 use Rattle.std.specs.List.{AllByRecursion}
 use Rattle.cam_node.specs.Log.{Logged}
@@ -9,7 +9,7 @@ use Rattle.cam_runs.proofs.Undecided.{without_node}
 use Rattle.cam_script.specs.declared.Script.{Script}
 use Rattle.cam_histories.specs.Whole.{IsWhole}
 use Rattle.cam_cluster.specs.Works.{WorksFields, IsSentBefore, KeepsRun, open_halt, sites_of}
-use Rattle.cam_cluster.specs.Works.{AreStoppedBut, IsUnfailing}
+use Rattle.cam_cluster.specs.Works.{AreStoppedIf, IsUnfailing}
 use Rattle.cam_cluster.proofs.HaltsKept.{open_without, others_all, others_open}
 use Rattle.cam_cluster.proofs.NodeChanged.{KeepsNodes, kept_nodes}
 
@@ -32,9 +32,8 @@ pub record KeepsBut (script : Script) (st : Standing) (place : ℕ) (works : Wor
   pub all_marks : works.marks ≡ st.running.marks
   pub few : length works.events + 1 < 1000000000
   pub stops :
-      IsUnfailing works.failed works.nodes
-      → AreStoppedBut (eqb (place + 1)) script.objects st.running.trace st.halted st.turns
-      works.nodes
+      AreStoppedIf (λ (s : ℕ). (s ≡ place + 1 → ⊥) × IsUnfailing works.failed works.nodes s)
+      script.objects st.running.trace st.halted st.turns works.nodes
 
 -- the run in which the halt is lost, or there was none
 pub keeps_but : (script : Script) (st : Standing) (place : ℕ) (works : WorksFields)
@@ -53,9 +52,8 @@ keeps_but script st place works might few keeps = record {
   events = keeps.events;
   all_marks = keeps.all_marks;
   few = few;
-  stops = λ all.
-      let before = keeps.stops all in record {
-        said = λ s away. before.said s refl;
-        each = λ q n at away. before.each q n at refl;
-      };
+  stops = record {
+    said = λ s so. keeps.stops.said s so.1;
+    each = λ q n at so. keeps.stops.each q n at so.1;
+  };
 }

@@ -32,7 +32,7 @@ use Rattle.cam_cluster.specs.Puts.{HasPut, KeepsAsBefore, as_halt}
 use Rattle.cam_cluster.specs.SoFar.{HasLed, HasRefused, KeepsLinesAsBefore, after_put}
 use Rattle.cam_cluster.specs.SoFar.{IsBinding, bound_by}
 use Rattle.cam_cluster.specs.Works.{WorksFields, IsHaltOf, IsSentBefore, KeepsRun, open_halt}
-use Rattle.cam_cluster.specs.Works.{AreStopped, sites_of}
+use Rattle.cam_cluster.specs.Works.{AreStoppedIf, IsUnfailing, sites_of}
 
 -- Where neither events nor letters nor halted nodes change, works that have the marks keep the run.
 pub keeps_others : (script : Script) (old new : Standing) (works : WorksFields) (ms : List Mark)
@@ -62,9 +62,10 @@ keeps_others script old new works ms may same halted undecided turns marked unde
   events = keeps.events ∙ ap (λ (t : List Event). reverse t) (sym same.trace);
   all_marks = marked;
   few = keeps.few;
-  stops = λ all.
-      subst (λ (z : List Event × List ℕ × List Turn). AreStopped script.objects z.0 z.1 z.2
-      works.nodes) (λ i. (sym same.trace i, sym halted i, sym turns i)) (keeps.stops all);
+  stops =
+      subst (λ (z : List Event × List ℕ × List Turn). AreStoppedIf
+      (IsUnfailing works.failed works.nodes) script.objects z.0 z.1 z.2 works.nodes)
+      (λ i. (sym same.trace i, sym halted i, sym turns i)) keeps.stops;
 }
 
 -- what an input made, by whether it is a halt

@@ -6,7 +6,6 @@ use Rattle.cam_bytes.specs.declared.WireFault.{WireFault}
 use Rattle.cam_event.specs.declared.LineRefusal.{LineRefusal}
 use Rattle.cam_node.specs.Log.{Logged}
 use Rattle.cam_runs.specs.Halts.{Halt, given}
-use Rattle.cam_runs.specs.Stops.{Agrees}
 use Rattle.cam_runs.proofs.Range.{script_in_range}
 use Rattle.cam_script.specs.declared.Act.{Act}
 use Rattle.cam_script.specs.declared.Script.{Script}
@@ -17,11 +16,13 @@ use Rattle.cam_cluster.specs.declared.LineFault.{LineFault}
 use Rattle.cam_cluster.specs.declared.LineFault.TheVariants as line_faults
 use Rattle.cam_cluster.specs.declared.workers.Workers.{Workers}
 use Rattle.cam_cluster.specs.Between.{KeepsBetween, after_step}
+use Rattle.cam_cluster.specs.Failing.{KnowsMore}
+use Rattle.cam_cluster.specs.KnownHalts.{AgreesAt}
 use Rattle.cam_cluster.specs.Courses.{HasLedAtWork, HasRefusedLine, IsAtWorkLine, IsFrom}
 use Rattle.cam_cluster.specs.Seen.{IsNextStep, Seen, later_steps, lines_taken}
 use Rattle.cam_cluster.specs.SoFar.{LinesFields}
 use Rattle.cam_cluster.specs.WholeRuns.{HasTakenLines, HasTakenNext}
-use Rattle.cam_cluster.specs.Works.{IsUnfailing}
+use Rattle.cam_cluster.specs.Works.{MayGoOn}
 use Rattle.cam_cluster.proofs.CourseFrom.{IsFoundBy, from_is}
 use Rattle.cam_cluster.proofs.FoundSeen.{bound_same, found_so_far}
 use Rattle.cam_cluster.proofs.GoesOn.{IsRunSoFar, so_far}
@@ -57,7 +58,8 @@ module _ (script : Script) (many : ℕ) (step : Step) (old new : LinesFields)
     (might may : ℕ → Logged → Type 0) (before behind : Workers)
     (taken : HasTakenLines script many old might before)
     (at : slice_get script.steps many ≡ Some step)
-    (unfailing : IsUnfailing new.works.failed new.works.nodes) where
+    (may_go : MayGoOn new.works.failed new.works.nodes)
+    (knows : KnowsMore old.works.failed new.works.failed) where
   abbrev seen : Seen
   seen = taken.seen
 
@@ -76,12 +78,12 @@ module _ (script : Script) (many : ℕ) (step : Step) (old new : LinesFields)
         (script_in_range from.script goes.so_far.is_script) goes.so_far.under
         ((λ i. slice_get (goes.of_script i).steps (goes.lines i)) ∙ next)
         ∙ ap (λ n. n + 1) (goes.lines ∙ taken.taken);
-    unfailing = unfailing;
-    agrees =
-        line_agrees from step more led.led.of_line goes.so_far.past
-        (λ s. (led.led.stands.keeps.runs.stops unfailing).said s refl)
-        (from_agrees step.act seen from old might taken.keeps.between taken.unfailing led.is_from
-        taken.agrees);
+    goes_on = may_go;
+    agrees = λ s none.
+        line_agrees from step more led.led.of_line goes.so_far.past s
+        (led.led.stands.keeps.runs.stops.said s (none, may_go))
+        (from_agrees step.act seen from old might taken.keeps.between s
+        (knows.disks s none, taken.goes_on) led.is_from (taken.agrees s (knows.disks s none)));
   }
     where
       from : Seen
@@ -104,10 +106,10 @@ module _ (script : Script) (many : ℕ) (step : Step) (old new : LinesFields)
         line_counts _ (given seen.halts) _ _ (later_steps seen) (script_in_range seen.script
         taken.keeps.between.is_script) taken.keeps.between.keeps.runs.under next ∙ ap (λ n. n + 1)
         taken.taken;
-    unfailing = unfailing;
-    agrees =
-        subst (Agrees (given seen.halts)) (sym (refused_is seen step refusal refused.test))
-        taken.agrees;
+    goes_on = may_go;
+    agrees = λ s none.
+        subst (AgreesAt s (given seen.halts)) (sym (refused_is seen step refusal refused.test))
+        (taken.agrees s (knows.disks s none));
   }
 
 -- the next line, by what it comes to
@@ -115,20 +117,20 @@ module _ (script : Script) (step : Step) (old new : LinesFields) (might may : �
     (before behind : Workers) where
   pub next_led : (bad : Option WireFault)
       → IsAtWorkLine step script.bodies old might before new may behind (Ok bad)
-      → IsUnfailing new.works.failed new.works.nodes
+      → MayGoOn new.works.failed new.works.nodes → KnowsMore old.works.failed new.works.failed
       → HasTakenNext script step old might before new may behind
-  next_led bad line unfailing many taken at =
-      led_taken script many step old new might may before behind taken at unfailing bad
+  next_led bad line goes knows many taken at =
+      led_taken script many step old new might may before behind taken at goes knows bad
       (line taken.seen taken.keeps (next_step script many step old might before taken at)
       (bodies_are script many step old might before taken at))
 
   pub next_refused : (fault : CourseFault) (of_line : LineFault) (refusal : LineRefusal)
       → fault ≡ faults.Line of_line → of_line ≡ line_faults.Refused refusal
       → IsAtWorkLine step script.bodies old might before new may behind (Err fault)
-      → IsUnfailing new.works.failed new.works.nodes
+      → MayGoOn new.works.failed new.works.nodes → KnowsMore old.works.failed new.works.failed
       → HasTakenNext script step old might before new may behind
-  next_refused fault of_line refusal is is_refused line unfailing many taken at =
-      refused_taken script many step old new might may before behind taken at unfailing refusal
+  next_refused fault of_line refusal is is_refused line goes knows many taken at =
+      refused_taken script many step old new might may before behind taken at goes knows refusal
       (subst (λ (f : CourseFault). IsAtWorkLine step script.bodies old might before new may behind
       (Err f)) (is ∙ ap faults.Line is_refused) line taken.seen taken.keeps
       (next_step script many step old might before taken at)
@@ -136,9 +138,9 @@ module _ (script : Script) (step : Step) (old new : LinesFields) (might may : �
 
   pub next_failed : (fault : CourseFault) → fault ≡ faults.RestartFailed
       → IsAtWorkLine step script.bodies old might before new may behind (Err fault)
-      → IsUnfailing new.works.failed new.works.nodes
+      → MayGoOn new.works.failed new.works.nodes → KnowsMore old.works.failed new.works.failed
       → HasTakenNext script step old might before new may behind
-  next_failed fault is line unfailing many taken at =
+  next_failed fault is line goes knows many taken at =
       absurd (subst (λ (f : CourseFault). IsAtWorkLine step script.bodies old might before new may
       behind (Err f)) is line taken.seen taken.keeps (next_step script many _ old might before
-      taken at) (bodies_are script many step old might before taken at) unfailing.0)
+      taken at) (bodies_are script many step old might before taken at) goes.0)

@@ -99,8 +99,11 @@ module _ (line number : ℕ) (coming : Coming) (old mid new : LinesFields)
       let f = taken.found script st is kept.runs in
       let runs = awake script st kept.runs f.0 f.1 in
       let all = (arrived script st is kept.runs).0 in
-      let c = setting (by_knowledge script.objects) halts (record { line = line; act = acts.Cut
-      number bytes }) later in (
+      let c = setting (by_knowledge script.objects) halts (record {
+        line = line;
+        act = acts.Cut
+            number bytes;
+      }) later in (
         ap (short_at (by_knowledge script.objects) st bytes) f.0 ∙ ap (λ (b : Bool). if b then Some
             (faults.Short bytes) else None) all,
         delivered_by _ _ halts later _ _ _ _ _ is kept next _ _ _ _ f.0 (passes st f.0
@@ -120,8 +123,11 @@ module _ (line number : ℕ) (coming : Coming) (old mid new : LinesFields)
       let f = taken.found script st is kept.runs in
       let runs = awake script st kept.runs f.0 f.1 in
       let a = arrived script st is kept.runs in
-      let c = setting (by_knowledge script.objects) halts (record { line = line; act = acts.Cut
-      number bytes }) later in
+      let c = setting (by_knowledge script.objects) halts (record {
+        line = line;
+        act = acts.Cut
+            number bytes;
+      }) later in
       let leads : act c script.bodies st (acts.Cut number bytes)
       ≡ Led (with_cut line number bytes st) None =
       comes_to st (λ (l : LetterId). cut c st number bytes l) f.0 runs ∙ ap (λ (b : Bool). Led (if b

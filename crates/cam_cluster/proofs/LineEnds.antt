@@ -49,8 +49,11 @@ module _ {T : Type 0}
         test = r.test;
         stands =
             r.stands (subst (λ (p : Passed). IsUnderHalts script (after_line st line p)) (refused_is
-            _ _ (lines_are_tested (setting (by_knowledge script.objects) halts (record { line =
-            line; act = act_is }) later) script.bodies st act_is ∙ r.test)) (next_leads _ _ _
+            _ _ (lines_are_tested (setting (by_knowledge script.objects) halts (record {
+              line =
+                  line;
+              act = act_is;
+            }) later) script.bodies st act_is ∙ r.test)) (next_leads _ _ _
             halts later is keeps.runs.under next));
       }
 

@@ -49,8 +49,8 @@ module _ (c : Setting) (halts : List Halt) (known : c.halts ≡ given halts)
     more = [];
     turns = refl;
     lost = λ none lost. lost;
-    stopped = λ so. so;
-    agrees = λ none so agrees. agrees;
+    stopped = λ m so. so;
+    agrees = λ none m so agrees. agrees;
   }
 
   led_leaves : (new : Standing) (binds : Option Name) → Extends halts st new
@@ -86,8 +86,10 @@ module _ (c : Setting) (halts : List Halt) (known : c.halts ≡ given halts)
       let after = requested c st a want in
       let test = refusal (home_sight c.reading st.running a) a want in
       unless_leaves (halted_or st (home_node a) test) (led_asking st after) (λ none. led_leaves
-      after (asked_in (made st after)) (put_extends c _ known _ (Requests (record { action = a;
-      want = want })) (awake_or (home_node a) test none)))
+      after (asked_in (made st after)) (put_extends c _ known _ (Requests (record {
+        action = a;
+        want = want;
+      })) (awake_or (home_node a) test none)))
 
   of_variable_leaves : (v : ℕ) (want : Want)
       → Left (of_variable (variable st.running v) (λ a. take_request c st a want))
@@ -110,8 +112,8 @@ module _ (c : Setting) (halts : List Halt) (known : c.halts ≡ given halts)
         more = [];
         turns = refl;
         lost = λ none lost. lost;
-        stopped = λ so. so;
-        agrees = λ none so agrees. agrees;
+        stopped = λ m so. so;
+        agrees = λ none m so agrees. agrees;
       }
       by false = deliver_extends c _ known _ _ _ awake
 

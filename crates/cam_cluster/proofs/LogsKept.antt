@@ -85,11 +85,11 @@ module _ {N D : Type 0} (tells_node : N → Bool) (node_reads : N → Logged →
         reads = of.out.less logged read.reads;
       }
 
-  pub record_of_disks : (script : Script) (nodes : List N) (disks : List D) (given : RunRecord)
-      → AreTakenOut tells_node node_reads tells moment left nodes disks
-      → IsRunWithLogs script (MayReadAt tells_node node_reads nodes) given
-      → IsRunWithLogs script (MayReadDisk tells moment left disks) given
-  record_of_disks script nodes disks given out is = record {
+  pub record_of_disks : (script : Script) (failed : ℕ → Type 0) (nodes : List N) (disks : List D)
+      (given : RunRecord) → AreTakenOut tells_node node_reads tells moment left nodes disks
+      → IsRunWithLogs script failed (MayReadAt tells_node node_reads nodes) given
+      → IsRunWithLogs script failed (MayReadDisk tells moment left disks) given
+  record_of_disks script failed nodes disks given out is = record {
     recorded = is.recorded;
     logs = λ s logged low high awake read. is.logs s logged low high awake
         (reads_less nodes disks s logged out read);

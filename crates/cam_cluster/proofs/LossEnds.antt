@@ -91,8 +91,11 @@ module _ (line number : ℕ) (old : LinesFields) (might mays : ℕ → Logged �
   loss_ends has is_now script st halts later is keeps next =
       let kept = before script st is keeps in
       let sent = sym (has_it script st works mays kept.runs none_left number) ∙ has in
-      let c = setting (by_knowledge script.objects) halts (record { line = line; act = acts.Lose
-      number }) later in
+      let c = setting (by_knowledge script.objects) halts (record {
+        line = line;
+        act = acts.Lose
+            number;
+      }) later in
       let leads : act c script.bodies st (acts.Lose number) ≡ Led (lose st number) None =
       some_letter _ (Led (lose st number) None) sent in
       record {
@@ -100,8 +103,12 @@ module _ (line number : ℕ) (old : LinesFields) (might mays : ℕ → Logged �
         stands =
             rw leads (record {
               runs =
-                  keeps_others _ _ _ _ _ _ (record { trace = refl; lost = refl; delivered =
-                  refl }) refl refl refl kept.runs.all_marks (comes_under_way _ _ halts later _
+                  keeps_others _ _ _ _ _ _ (record {
+                    trace = refl;
+                    lost = refl;
+                    delivered =
+                        refl;
+                  }) refl refl refl kept.runs.all_marks (comes_under_way _ _ halts later _
                   number _ (record { works = works; bound = bound }) mays is kept next _ leads)
                   (lost_keeps _ _ _ _ _ kept.runs none_left has);
               variables = is_now ∙ ap (λ (bs : List (Option Name)). bs ++ None ∷ []) kept.variables;

@@ -8,9 +8,9 @@ use Rattle.cam_event.specs.Taken.{taken_of}
 use Rattle.cam_runs.specs.Halts.{Halt, Input, Turn, accepted, given, halt_at}
 use Rattle.cam_runs.specs.Running.{has_number}
 use Rattle.cam_runs.specs.Standing.{Standing, after_input}
-use Rattle.cam_runs.specs.Stops.{Agrees}
 use Rattle.cam_cluster.specs.FoundHalts.{AreLostSoFar, IsLostSoFar}
-use Rattle.cam_cluster.specs.Stopping.{AreAsStopped}
+use Rattle.cam_cluster.specs.KnownHalts.{AgreesAt}
+use Rattle.cam_cluster.specs.Stopping.{IsAsStopped}
 use Rattle.cam_cluster.proofs.Extends.{Extends, NoneTaken}
 use Rattle.cam_cluster.proofs.InputAgrees.{was_stopped}
 
@@ -48,8 +48,9 @@ module _ (halts : List Halt) (line : ℕ) (again : Bool) (st : Standing) (s : �
   after o = after_input line again st s e w o
 
   pub after_extends : (o : Option Bool) → o ≡ halt_at halts (accepted st.turns)
-      → (NoneTaken halts (accepted st.turns) → AreAsStopped (after o).halted (after o).turns
-      → Agrees (given halts) st → Agrees (given halts) (after o))
+      → (NoneTaken halts (accepted st.turns) → (m : ℕ)
+      → IsAsStopped (has_number (after o).halted m) (after o).turns m
+      → AgreesAt m (given halts) st → AgreesAt m (given halts) (after o))
       → Extends halts st (after o)
   after_extends None is agrees = record {
     events = e ∷ [];

@@ -94,8 +94,11 @@ module _ (script : Script) (st : Standing) (place : ℕ) (input : Input) (mail :
         List NodeFields). slice_get ns q) (sym are) ∙ at)) [
           | inl y ↦
               subst (λ (z : ℕ × NodeFields). IsHaltOf script.objects st.running.trace (undecided ∷
-              st.undecided) z.0 z.1 (may z.0)) (λ i. ((put_so.at ∙ ap (λ (p : ℕ). p + 1) (sym y.0))
-              i, y.1 i)) own_halt
+              st.undecided) z.0 z.1 (may z.0)) (λ i. (
+                (put_so.at ∙ ap (λ (p : ℕ). p + 1) (sym y.0))
+                    i,
+                y.1 i,
+              )) own_halt
           | inr other ↦
               let away : q + 1 ≡ place + 1 → ⊥ =
               λ e. other.0 (let is : q ≡ place = omega (arith, e) in is) in

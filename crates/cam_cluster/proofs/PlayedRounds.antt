@@ -70,7 +70,8 @@ module _ (n line : ℕ) (bodies : List (List Statement)) (old mid new : WorksFie
       let at = rounds_whole c script.bodies n st in
       let behind =
       one.made script at halts restarted is bodies_are so.keeps (rw so.counted.inputs parts.1) in (
-        some.each script st halts restarted is bodies_are keeps parts.0, more_accepted _ _
+        some.each script st halts restarted is bodies_are keeps parts.0,
+        more_accepted _ _
             _ behind.counted.inputs,
       )
 

@@ -24,9 +24,10 @@ use Rattle.cam_runs.specs.Standing.{Standing, put}
 use Rattle.cam_script.specs.declared.Script.{Script}
 use Rattle.cam_histories.specs.InputLaws.{held_setting, halt_of}
 use Rattle.cam_cluster.specs.declared.works.failing.Failed.{Failed}
-use Rattle.cam_cluster.specs.declared.works.failing.Failed.TheVariants.{Nothing}
+use Rattle.cam_cluster.specs.declared.works.failing.Ending.TheVariants as endings
+use Rattle.cam_cluster.specs.Failing.{KnowsMore}
 use Rattle.cam_cluster.specs.Puts.{IsPutAt, letter_of}
-use Rattle.cam_cluster.specs.Works.{HasTellingDisk, NodeFields, WorksFields, KeepsRun}
+use Rattle.cam_cluster.specs.Works.{HasTellingDisk, NodeFields, WorksFields, KeepsRun, has_failed}
 use Rattle.cam_cluster.proofs.PutNode.{over, number}
 use Rattle.cam_cluster.proofs.PutStands.{stood}
 use Rattle.cam_cluster.proofs.PutHalts.{halted}
@@ -116,9 +117,9 @@ module _ (script : Script) (st : Standing) (place : ℕ) (input : NodeInput) (wo
       (mail_of input) (load_of input) (may (place + 1))
       → HaltsAt old.objects old.site.node old.site.entries (input_of old.site.node.number input)
       (mail_of input) (load_of input) new.site.node new.halted_at
-      → (failed : Failed) → (failed ≡ Nothing → works.failed ≡ Nothing)
+      → (failed : Failed) → KnowsMore works.failed failed
       → (HasTellingDisk new → HasTellingDisk old)
-      → (failed ≡ Nothing → new.tells ≡ true
+      → (failed.ends ≡ endings.Nothing → has_failed failed (place + 1) ≡ false → new.tells ≡ true
       → IsCutOff 4 old.passes new.passes (λ calls. OpensAfter calls old.objects old.site.node
       old.site.entries (input_of old.site.node.number input) (mail_of input) (load_of input)
       new.reads))
@@ -153,10 +154,10 @@ module _ (script : Script) (st : Standing) (place : ℕ) (input : NodeInput) (wo
       (goes_on (place + 1) input)
       (by_place (λ xs s. HaltsAt xs old.site.node old.site.entries (input_of s input)
       (mail_of input) (load_of input) new.site.node new.halted_at) at_event)
-      (by_place (λ xs s. failed ≡ Nothing → new.tells ≡ true
-      → IsCutOff 4 old.passes new.passes (λ calls. OpensAfter calls xs old.site.node
-      old.site.entries (input_of s input) (mail_of input) (load_of input) new.reads)) cause)
-      (λ all. unfailing_there failed nodes place new
+      (λ all. by_place (λ xs s. IsCutOff 4 old.passes new.passes (λ calls. OpensAfter calls xs
+      old.site.node old.site.entries (input_of s input) (mail_of input) (load_of input) new.reads))
+      (cause all.1.0 all.0 (unfailing_there failed nodes place new
       (ap (λ (ns : List NodeFields). slice_get ns place) are
-      ∙ at_set works.nodes place new (slice_get_within works.nodes place old there)) all))
+      ∙ at_set works.nodes place new (slice_get_within works.nodes place old there)) (place + 1)
+      all))))
       (letter_of input) (got_is (place + 1) input)

@@ -27,7 +27,7 @@ use Rattle.cam_histories.proofs.Halting.{lost_halts_stand}
 use Rattle.cam_histories.proofs.OneInput.{inputs_lead_on}
 use Rattle.cam_cluster.specs.declared.works.failing.Failed.{Failed}
 use Rattle.cam_cluster.specs.Puts.{IsPutAt}
-use Rattle.cam_cluster.specs.Works.{NodeFields, WorksFields, KeepsRun, AreStopped, IsUnfailing}
+use Rattle.cam_cluster.specs.Works.{NodeFields, WorksFields, KeepsRun, AreStoppedIf, IsUnfailing}
 use Rattle.cam_cluster.specs.Works.{sites_of}
 use Rattle.cam_cluster.proofs.NodeChanged.{KeepsNodes, kept_nodes, as_many, nodes_are, sites_are}
 use Rattle.cam_cluster.proofs.PutNode.{site_is}
@@ -70,8 +70,8 @@ module _ (script : Script) (st : Standing) (place : ℕ) (input : Input) (mail :
       (halts_at : HaltsAt script.objects old.site.node old.site.entries input mail load
       new.site.node new.halted_at)
       (failed : Failed)
-      (stops_so : IsUnfailing failed nodes
-      → AreStopped script.objects st.running.trace (r ∷ st.halted)
+      (stops_so : AreStoppedIf (IsUnfailing failed nodes) script.objects st.running.trace
+      (r ∷ st.halted)
       (InputTurn r line (appends c.reading st.running.trace input) (restarted r) ∷ st.turns) nodes)
     where
       abbrev behind : Standing

@@ -73,7 +73,8 @@ AreSent n t = AllByRecursion (λ (e : Event). IsSentBefore n e.got) t
 pub run_sent : (objects : List ObjectDecl) (taking : ℕ → Bool) (t : List Event)
     → IsRunTaking objects taking t → AreSent (length t) t
 run_sent objects taking [] run = tt
-run_sent objects taking (e ∷ before) run = ( sent_still _ _ (omega arith) _
+run_sent objects taking (e ∷ before) run = (
+  sent_still _ _ (omega arith) _
       (may_sent _ _ _ _ run.0),
   up before (run_sent objects taking before run.2),
 )

@@ -22,13 +22,14 @@ use Rattle.cam_histories.specs.Whole.{KeepsInOrder, StandsAt, IsSiteOf, AreSites
 use Rattle.cam_histories.proofs.ManyPut.{all_may_be_written, some_put_stand}
 use Rattle.cam_histories.proofs.Sites.{site_at, sites_with}
 use Rattle.cam_cluster.specs.declared.works.failing.Failed.{Failed}
-use Rattle.cam_cluster.specs.declared.works.failing.Failed.TheVariants.{Nothing}
-use Rattle.cam_cluster.specs.Works.{NodeFields, WorksFields, KeepsRun}
-use Rattle.cam_cluster.specs.Works.{HasTellingDisk, no_node, sites_of}
+use Rattle.cam_cluster.specs.Failing.{KnowsMore}
+use Rattle.cam_cluster.specs.Works.{NodeFields, WorksFields, IsUnfailing, KeepsRun}
+use Rattle.cam_cluster.specs.Works.{HasTellingDisk, sites_of}
 use Rattle.cam_cluster.proofs.HaltsKept.{undecided_on}
 use Rattle.cam_cluster.proofs.NodeChanged.{KeepsNodes, kept_nodes, as_many, halts_are, nodes_are}
 use Rattle.cam_cluster.proofs.NodeChanged.{sites_are}
 use Rattle.cam_cluster.proofs.SameNode.{same_represents}
+use Rattle.cam_cluster.proofs.Failures.{unfailing_more}
 use Rattle.cam_cluster.proofs.StoppedWorks.{nodes_stopped, unfailing_before}
 use Rattle.cam_cluster.proofs.WorksNodes.{site_there}
 
@@ -65,9 +66,9 @@ keeps_as_put script st works now may is some keeps = record {
 
 -- More is known to have failed.
 pub keeps_failing : (script : Script) (st : Standing) (works : WorksFields) (known : Failed)
-    (may : ℕ → Logged → Type 0) → (known ≡ Nothing → works.failed ≡ Nothing)
+    (may : ℕ → Logged → Type 0) → KnowsMore works.failed known
     → KeepsRun script st works may → KeepsRun script st (record works { failed = known }) may
-keeps_failing script st works known may less keeps = record {
+keeps_failing script st works known may more keeps = record {
   under = keeps.under;
   one_each = keeps.one_each;
   eight = keeps.eight;
@@ -79,7 +80,12 @@ keeps_failing script st works known may less keeps = record {
   events = keeps.events;
   all_marks = keeps.all_marks;
   few = keeps.few;
-  stops = λ all. keeps.stops (less all.0, all.1);
+  stops = record {
+    said = λ s all. keeps.stops.said s (unfailing_more works.failed known works.nodes s more all);
+    each = λ place node at all.
+        keeps.stops.each place node at
+        (unfailing_more works.failed known works.nodes (place + 1) more all);
+  };
 }
 
 -- One node of works has changed, with its disk alone.
@@ -136,6 +142,10 @@ module _ (script : Script) (st : Standing) (place : ℕ) (works : WorksFields)
       };
     }
 
+    so_before : (m : ℕ) → IsUnfailing works.failed nodes m
+        → IsUnfailing works.failed works.nodes m
+    so_before = unfailing_before works.failed works.nodes nodes place old new there are less
+
     pub keeps_as_before : KeepsRun script st (record works { nodes = nodes }) may
     keeps_as_before = record {
       under = keeps.under;
@@ -164,16 +174,16 @@ module _ (script : Script) (st : Standing) (place : ℕ) (works : WorksFields)
       events = keeps.events;
       all_marks = keeps.all_marks;
       few = keeps.few;
-      stops = λ all.
-          let before = keeps.stops
-          (unfailing_before works.failed works.nodes nodes place old new there are less all) in
+      stops =
           nodes_stopped script.objects st.running.trace st.running.trace st.halted st.halted
           st.turns st.turns place works.nodes nodes old new there are (λ m away. refl)
-          (λ m away. refl) (λ m away. refl) (λ m away. refl) no_node (λ m away. refl)
-          (λ s. before.said s refl)
-          (record {
-            awake = λ still. passes ∙ (before.each place old there refl).awake still;
+          (λ m away. refl) (λ m away. refl) (λ m away. refl)
+          (IsUnfailing works.failed works.nodes) (IsUnfailing works.failed nodes)
+          (λ m away all. so_before m all) (λ s all. keeps.stops.said s (so_before s all))
+          (λ all. record {
+            awake = λ still.
+                passes ∙ (keeps.stops.each place old there (so_before (place + 1) all)).awake still;
             by_stop = λ said. absurd (true≢false (sym said ∙ awake));
           })
-          before;
+          keeps.stops;
     }

@@ -28,7 +28,7 @@ use Rattle.cam_histories.specs.Whole.{Site, KeepsInOrder, IsWhole}
 use Rattle.cam_histories.proofs.OneInput.{inputs_lead_on, plain_put, put_plain, other_history}
 use Rattle.cam_histories.proofs.InputsStand.{inputs_stand}
 use Rattle.cam_cluster.specs.Puts.{IsPutAt}
-use Rattle.cam_cluster.specs.Works.{NodeFields, WorksFields, KeepsRun, AreStopped, IsUnfailing}
+use Rattle.cam_cluster.specs.Works.{NodeFields, WorksFields, KeepsRun, AreStoppedIf, IsUnfailing}
 use Rattle.cam_cluster.specs.Works.{sites_of}
 use Rattle.cam_cluster.proofs.WorksNodes.{site_there}
 use Rattle.cam_cluster.proofs.NodeChanged.{KeepsNodes, kept_nodes, as_many, halts_are, nodes_are}
@@ -83,8 +83,7 @@ module _ (script : Script) (st : Standing) (place : ℕ) (input : Input) (mail :
       (on : KeepsOn script.objects old.site.node old.site.entries new.site.node new.site.entries
       input mail load event)
       (sent : letters ≡ letters_of new.site.node event.sent)
-      (stops_so : IsUnfailing works.failed nodes
-      → AreStopped script.objects
+      (stops_so : AreStoppedIf (IsUnfailing works.failed nodes) script.objects
       ((by_knowledge script.objects).next st.running.trace input ∷ st.running.trace) st.halted
       (InputTurn r line (appends (by_knowledge script.objects) st.running.trace input) (restarted r)
       ∷ st.turns) nodes) where
@@ -96,8 +95,12 @@ module _ (script : Script) (st : Standing) (place : ℕ) (input : Input) (mail :
 
     keeps_event : KeepsEvent script.objects st.running.trace input mail load event new.site
     keeps_event =
-        subst (λ (s : ℕ). KeepsInOrder script.objects s (record { event = event; mail = mail; load =
-        load } ∷ history_of script.objects st.running.trace r) new.site) (step.number ∙ (site_is _
+        subst (λ (s : ℕ). KeepsInOrder script.objects s (record {
+          event = event;
+          mail = mail;
+          load =
+              load;
+        } ∷ history_of script.objects st.running.trace r) new.site) (step.number ∙ (site_is _
         _ place _ mail load works might _ keeps put_so
         there).number) (record { keeps = goes_on.keeps; order = goes_on.order })
       where

@@ -20,11 +20,13 @@ use Rattle.cam_node.specs.Log.{Logged}
 use Rattle.cam_runs.specs.Standing.{Standing}
 use Rattle.cam_script.specs.declared.Script.{Script}
 use Rattle.cam_cluster.specs.declared.works.failing.Failed.{Failed}
-use Rattle.cam_cluster.specs.declared.works.failing.Failed.TheVariants.{Nothing}
+use Rattle.cam_cluster.specs.declared.works.failing.Ending.TheVariants as endings
+use Rattle.cam_cluster.specs.Failing.{KnowsMore}
 use Rattle.cam_cluster.specs.declared.works.Put.TheVariants as puts
 use Rattle.cam_cluster.specs.declared.works.undecided.OpenHalt.{OpenHalt}
 use Rattle.cam_cluster.specs.Puts.{HasPut, KeepsAsBefore, letter_of}
 use Rattle.cam_cluster.specs.Works.{NodeFields, WorksFields, KeepsRun, MayReadAt, HasTellingDisk}
+use Rattle.cam_cluster.specs.Works.{has_failed}
 use Rattle.cam_cluster.proofs.PlacedNodes.{taken_there, seen_there, reads_elsewhere, reads_there}
 use Rattle.cam_cluster.proofs.PutKeeps.{keeps_as_before, keeps_as_put, keeps_failing}
 use Rattle.cam_cluster.proofs.PutEnds.{put_stood, put_halted}
@@ -60,8 +62,14 @@ module _ {N : Type 0} (part : N → NodeFields) (tells : N → Bool) (may : N �
   room_made nodes now o later h halted v failed u undecided e events m marks same some is_h is_v
       is_u is_e is_m script st is keeps =
       subst (λ (z : List N × List Bool × Failed × List OpenHalt × List Event × List Mark). KeepsRun
-      script st (seen z.0 later z.1 z.2 z.3 z.4 z.5) (MayReadAt tells may z.0)) (λ i. (sym same i,
-      sym is_h i, sym is_v i, sym is_u i, sym is_e i, sym is_m i)) (keeps_as_put _ _ _ _ _ is
+      script st (seen z.0 later z.1 z.2 z.3 z.4 z.5) (MayReadAt tells may z.0)) (λ i. (
+        sym same i,
+        sym is_h i,
+        sym is_v i,
+        sym is_u i,
+        sym is_e i,
+        sym is_m i,
+      )) (keeps_as_put _ _ _ _ _ is
       some keeps)
 
   pub seen_as : (script : Script) (st : Standing) (nodes : List N) (o later : OutboxFields)
@@ -79,7 +87,7 @@ module _ {N : Type 0} (part : N → NodeFields) (tells : N → Bool) (may : N �
 
   -- more is known to have failed
   pub failed_as : (nodes : List N) (o : OutboxFields) (h : List Bool) (v w : Failed)
-      (u : List OpenHalt) (e : List Event) (m : List Mark) → (w ≡ Nothing → v ≡ Nothing)
+      (u : List OpenHalt) (e : List Event) (m : List Mark) → KnowsMore v w
       → KeepsAsBefore (seen nodes o h v u e m) (MayReadAt tells may nodes)
       (seen nodes o h w u e m) (MayReadAt tells may nodes)
   failed_as nodes o h v w u e m less script st is keeps = keeps_failing _ _ _ _ _ less keeps
@@ -146,9 +154,9 @@ module _ {N : Type 0} (part : N → NodeFields) (tells : N → Bool) (may : N �
         → HaltsAt (part old).objects (part old).site.node (part old).site.entries
         (input_of (part old).site.node.number input) (mail_of input) (load_of input)
         (part new).site.node (part new).halted_at
-        → (w : Failed) → (w ≡ Nothing → v ≡ Nothing)
+        → (w : Failed) → KnowsMore v w
         → (HasTellingDisk (part new) → HasTellingDisk (part old))
-        → (w ≡ Nothing → (part new).tells ≡ true
+        → (w.ends ≡ endings.Nothing → has_failed w (place + 1) ≡ false → (part new).tells ≡ true
         → IsCutOff 4 (part old).passes (part new).passes (λ calls. OpensAfter calls
         (part old).objects (part old).site.node (part old).site.entries
         (input_of (part old).site.node.number input) (mail_of input) (load_of input)

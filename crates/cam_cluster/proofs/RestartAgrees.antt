@@ -14,9 +14,8 @@ use Rattle.cam_runs.specs.Halts.{Halting, Input, Restart, Stop, Turn, given}
 use Rattle.cam_runs.specs.HaltedLines.{act, after_line, is_restart, setting}
 use Rattle.cam_runs.specs.Running.{has_number}
 use Rattle.cam_runs.specs.Standing.{Standing, ended_halt, start}
-use Rattle.cam_runs.specs.Stops.{Agrees, AreTold, last_stop}
+use Rattle.cam_runs.specs.Stops.{AreTold, last_stop}
 use Rattle.cam_runs.specs.Stops.{told_last as told_by}
-use Rattle.cam_runs.proofs.HaltsEnded.{found_halts_agree, lost_halts_agree}
 use Rattle.cam_runs.proofs.LinesTell.{lines_tell}
 use Rattle.cam_script.specs.declared.Act.{Act}
 use Rattle.cam_script.specs.declared.Act.TheVariants as acts
@@ -28,6 +27,7 @@ use Rattle.cam_cluster.specs.declared.works.restart.Restart.TheVariants as ends
 use Rattle.cam_cluster.specs.Between.{KeepsBetween, seen_found}
 use Rattle.cam_cluster.specs.Courses.{HasFound, HasStood, IsFrom}
 use Rattle.cam_cluster.specs.FoundHalts.{IsLostSoFar}
+use Rattle.cam_cluster.specs.KnownHalts.{AgreesAt}
 use Rattle.cam_cluster.specs.Restarts.{FindsByStop, HasFoundByStop}
 use Rattle.cam_cluster.specs.Seen.{IsNextStep, Seen, lines_taken, run_first}
 use Rattle.cam_cluster.specs.SoFar.{LinesFields}
@@ -37,6 +37,7 @@ use Rattle.cam_cluster.proofs.FoundSeen.{stands}
 use Rattle.cam_cluster.proofs.HaltsByStop.{stopped_said}
 use Rattle.cam_cluster.proofs.HaltsDiffer.{found_halts_differ}
 use Rattle.cam_cluster.proofs.LineAgrees.{stop_agrees}
+use Rattle.cam_cluster.proofs.NodeAgrees.{found_agrees_at, lost_agrees}
 use Rattle.cam_cluster.proofs.Begun.{begun}
 
 -- The first lines of a script tell which nodes those after them restart.
@@ -113,13 +114,13 @@ module _ (seen : Seen) (lines : LinesFields) (may : ℕ → Logged → Type 0)
       (told_so_far s (told_last turns s) (told_there turns s 3 is)
       ∙ restarted_there seen.script.steps (lines_taken seen) s line next)
 
-  stops_here : IsUnfailing lines.works.failed lines.works.nodes
+  stops_here : IsUnfailing lines.works.failed lines.works.nodes s
       → has_number seen.standing.halted s ≡ true → (calls : ℕ) × (stopped_at turns s ≡ Some calls)
   stops_here sound halted =
       stops_somewhere (stopped_at turns s) (by (has_number seen.standing.halted s) halted said)
     where
       said : IsAsStopped (has_number seen.standing.halted s) turns s
-      said = (keeps.keeps.runs.stops sound).said s refl
+      said = keeps.keeps.runs.stops.said s sound
 
       by : (b : Bool) → b ≡ true → IsAsStopped b turns s → is_some (stopped_at turns s) ≡ true
       by true is so = so
@@ -127,12 +128,13 @@ module _ (seen : Seen) (lines : LinesFields) (may : ℕ → Logged → Type 0)
 
   module _ (low : 1 ≤ s) where
     here : (done : Ended) → HasFoundByStop (s - 1) lines.works may done
-        → IsUnfailing lines.works.failed lines.works.nodes
+        → IsUnfailing lines.works.failed lines.works.nodes s
         → has_number seen.standing.halted s ≡ true → FindsByStop (stopped_at turns s) done
     here done by_stop sound =
         subst (λ (n : ℕ). has_number seen.standing.halted n ≡ true
         → FindsByStop (stopped_at turns n) done) back
-        (by_stop seen.script seen.standing keeps.is_script keeps.keeps.runs sound)
+        (by_stop seen.script seen.standing keeps.is_script keeps.keeps.runs
+        (subst (IsUnfailing lines.works.failed lines.works.nodes) (sym back) sound))
       where
         back : s - 1 + 1 ≡ s
         back = omega (arith, low)
@@ -157,14 +159,15 @@ module _ (seen : Seen) (lines : LinesFields) (may : ℕ → Logged → Type 0)
 
 -- So the agreement stays, once a line has ended a halt, or stopped a disk.
 found_agrees : (seen : Seen) (lines : LinesFields) (may : ℕ → Logged → Type 0)
-    (keeps : KeepsBetween seen lines may) (s : ℕ) → has_number seen.standing.halted s ≡ true
-    → last_stop seen.standing.turns s ≡ Some true → Agrees (given seen.halts) seen.standing
-    → Agrees (given (seen_found seen s).halts) (ended_halt (seen_found seen s).standing s)
-found_agrees seen lines may keeps s halted taken agrees =
-    subst (λ (st : Standing). Agrees (given (seen_found seen s).halts) (ended_halt st s))
+    (keeps : KeepsBetween seen lines may) (s m : ℕ) → has_number seen.standing.halted s ≡ true
+    → (s ≡ m → last_stop seen.standing.turns s ≡ Some true)
+    → AgreesAt m (given seen.halts) seen.standing
+    → AgreesAt m (given (seen_found seen s).halts) (ended_halt (seen_found seen s).standing s)
+found_agrees seen lines may keeps s m halted taken agrees =
+    subst (λ (st : Standing). AgreesAt m (given (seen_found seen s).halts) (ended_halt st s))
     (sym (stands seen lines may keeps s halted).is)
-    (found_halts_agree (given seen.halts) (given (seen_found seen s).halts) seen.standing s
-    last.number agrees last.last taken differ.alike differ.took)
+    (found_agrees_at (given seen.halts) (given (seen_found seen s).halts) s last.number
+    differ.alike differ.took seen.standing m agrees last.last taken)
   where
     last : IsLostSoFar seen.standing.turns seen.halts s
     last = keeps.lost s halted
@@ -175,17 +178,22 @@ found_agrees seen lines may keeps s halted taken agrees =
         last.lost
 
 pub from_agrees : (does : Act) (seen from : Seen) (lines : LinesFields)
-    (may : ℕ → Logged → Type 0) → KeepsBetween seen lines may
-    → IsUnfailing lines.works.failed lines.works.nodes → IsFrom lines.works does seen from
-    → Agrees (given seen.halts) seen.standing → Agrees (given from.halts) (begun from.standing does)
-from_agrees (acts.Restart s) seen from lines may keeps sound (inl stood) agrees =
-    subst (λ (x : Seen). Agrees (given x.halts) (ended_halt x.standing s)) (sym stood.same)
-    (lost_halts_agree (given seen.halts) seen.standing s agrees (stood.lost sound))
-from_agrees (acts.Restart s) seen from lines may keeps sound (inr is) agrees =
-    subst (λ (x : Seen). Agrees (given x.halts) (ended_halt x.standing s)) (sym is.found)
-    (found_agrees seen lines may keeps s is.halted (is.taken sound) agrees)
-from_agrees (acts.Stop s calls) seen from lines may keeps sound same agrees =
-    subst (λ (x : Seen). Agrees (given x.halts) (begun x.standing (acts.Stop s calls))) (sym same)
-    (stop_agrees (given seen.halts) seen.standing s calls agrees)
-from_agrees _ seen from lines may keeps sound same agrees =
-    subst (λ (x : Seen). Agrees (given x.halts) x.standing) (sym same) agrees
+    (may : ℕ → Logged → Type 0) → KeepsBetween seen lines may → (m : ℕ)
+    → IsUnfailing lines.works.failed lines.works.nodes m → IsFrom lines.works does seen from
+    → AgreesAt m (given seen.halts) seen.standing
+    → AgreesAt m (given from.halts) (begun from.standing does)
+from_agrees (acts.Restart s) seen from lines may keeps m sound (inl stood) agrees =
+    subst (λ (x : Seen). AgreesAt m (given x.halts) (ended_halt x.standing s)) (sym stood.same)
+    (lost_agrees (given seen.halts) seen.standing s m agrees
+    (λ same. stood.lost (subst (IsUnfailing lines.works.failed lines.works.nodes) (sym same)
+    sound)))
+from_agrees (acts.Restart s) seen from lines may keeps m sound (inr is) agrees =
+    subst (λ (x : Seen). AgreesAt m (given x.halts) (ended_halt x.standing s)) (sym is.found)
+    (found_agrees seen lines may keeps s m is.halted
+    (λ same. is.taken (subst (IsUnfailing lines.works.failed lines.works.nodes) (sym same) sound))
+    agrees)
+from_agrees (acts.Stop s calls) seen from lines may keeps m sound same agrees =
+    subst (λ (x : Seen). AgreesAt m (given x.halts) (begun x.standing (acts.Stop s calls)))
+    (sym same) (stop_agrees (given seen.halts) seen.standing s calls m agrees)
+from_agrees _ seen from lines may keeps m sound same agrees =
+    subst (λ (x : Seen). AgreesAt m (given x.halts) x.standing) (sym same) agrees

@@ -17,7 +17,7 @@ use Rattle.cam_histories.specs.PutIn.{nameless}
 use Rattle.cam_histories.proofs.HaltedLists.{without}
 use Rattle.cam_histories.proofs.OneInput.{plain_put, put_plain}
 use Rattle.cam_cluster.specs.Stopping.{IsAsStopped, ends_by, stopped_at, too_few}
-use Rattle.cam_cluster.specs.Works.{NodeFields, WorksFields, AreStopped, HasTellingDisk}
+use Rattle.cam_cluster.specs.Works.{NodeFields, WorksFields, AreStoppedIf, HasTellingDisk}
 use Rattle.cam_cluster.specs.Works.{IsUnfailing, sites_of}
 use Rattle.cam_cluster.proofs.StopTurns.{ended_as, other_calls, other_stopped, own_calls, stood_as}
 use Rattle.cam_cluster.proofs.StoppedWorks.{nodes_stopped, unfailing_before}
@@ -88,11 +88,14 @@ module _ (script : Script) (st : Standing) (place : ℕ) (works : WorksFields)
       by true = ap after_append (sym own_none)
       by false = sym own_none
 
-  pub restart_stops : IsUnfailing works.failed nodes
-      → AreStopped script.objects after.running.trace after.halted after.turns nodes
-  restart_stops all =
-      let before = keeps.stops (unfailing_before _ _ _ _ _ _ there are less all) in
-      subst (λ (z : Standing). AreStopped script.objects z.running.trace z.halted z.turns nodes)
+  so_before : (m : ℕ) → IsUnfailing works.failed nodes m → IsUnfailing works.failed works.nodes m
+  so_before = unfailing_before works.failed works.nodes nodes place old new there are less
+
+  pub restart_stops : AreStoppedIf (IsUnfailing works.failed nodes) script.objects
+      after.running.trace after.halted after.turns nodes
+  restart_stops =
+      subst (λ (z : Standing). AreStoppedIf (IsUnfailing works.failed nodes) script.objects
+      z.running.trace z.halted z.turns nodes)
       (sym is) (nodes_stopped _ _ _ _ _ _ _ _ _ _ old _ there are (λ m away. ap (λ h. map
       nameless h) (sym (ap (λ (z : Standing). history_of script.objects z.running.trace m) (sym is)
       ∙ ap (λ (t : List Event). history_of script.objects t m) has.trace ∙ has.stepped.others m (λ
@@ -100,12 +103,18 @@ module _ (script : Script) (st : Standing) (place : ℕ) (works : WorksFields)
       Bool). if b then false else has_number st.halted m) (apart m away)) (λ m away. other_calls
       (Restart (place + 1) ∷ st.turns) _ line w (restarted (place + 1)) _ (λ e. away (sym e)) ∙
       ended_calls m (apart m away)) (λ m away. other_stopped (Restart (place + 1) ∷ st.turns) _
-      line w (restarted (place + 1)) _ (λ e. away (sym e)) ∙ ended_stopped m (apart m away)) _ (λ
-      m away. apart m away) (stood_as _ _ line _ (restarted (place + 1)) _ awake_now (ended_as
-      _ _ _ (λ m away. subst (λ (b : Bool). IsAsStopped b st.turns m) (sym (without st.halted
-      (place + 1) m ∙ ap (λ (b : Bool). if b then false else has_number st.halted m) (ne_eqb (place
-      + 1) m away))) (before.said m (ne_eqb (place + 1) m away))) awake_now) (none_ends (sym
-      own_none))) (record {
+      line w (restarted (place + 1)) _ (λ e. away (sym e)) ∙ ended_stopped m (apart m away))
+      (λ (s : ℕ). (s ≡ place + 1 → ⊥) × IsUnfailing works.failed works.nodes s)
+      (IsUnfailing works.failed nodes) (λ m away all. (away, so_before m all))
+      (λ m all. stood_as _ _ line _ (restarted (place + 1)) (has_number ended.halted) m awake_now
+      (ended_as st.turns (has_number ended.halted) (place + 1) m (λ away. subst (λ (b : Bool).
+      IsAsStopped b st.turns m) (sym (without st.halted (place + 1) m ∙ ap (λ (b : Bool). if b then
+      false else has_number st.halted m) (ne_eqb (place + 1) m away))) (keeps.stops.said m (
+        λ e. away
+            (sym e),
+        so_before m all,
+      ))) awake_now) (λ same. none_ends (sym own_none)))
+      (λ all. record {
         awake = λ runs. passes ∙ sym none_left_now;
         by_stop = λ said. absurd (true≢false (sym said ∙ awake_now));
-      }) before)
+      }) keeps.stops)

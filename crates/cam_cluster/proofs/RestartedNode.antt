@@ -1,7 +1,7 @@
 -- A node of works was restarted after room was made, with works as they are seen: what its ends
 -- make of them.
 use Rattle.std.proofs.Common.{◌≡◌, ℕ, ◌+◌, ◌≤◌, ◌<◌, true, false, List, [], ◌∷◌, ◌++◌, length}
-use Rattle.std.proofs.Common.{get_or, inr, set, ap, sym, subst, None, Some}
+use Rattle.std.proofs.Common.{get_or, set, ap, sym, subst, None, Some}
 use Rattle.std.specs.Prelude.{IfSome, map, slice_get}
 use Rattle.cam_ckpt.specs.declared.checkpoint_log.CheckpointLog.{Ghosts as CkptGhosts}
 use Rattle.cam_event.specs.declared.Event.{Event}
@@ -21,8 +21,9 @@ use Rattle.cam_cluster.specs.OpenHalts.{events_found, halts_found, marks_found, 
 use Rattle.cam_cluster.specs.Puts.{KeepsAsBefore}
 use Rattle.cam_cluster.specs.Restarts.{HasRestartedAs}
 use Rattle.cam_cluster.specs.Works.{NodeFields, WorksFields}
-use Rattle.cam_cluster.proofs.AskedNode.{disks_on, less, none_before}
+use Rattle.cam_cluster.proofs.AskedNode.{disks_on, knows, less}
 use Rattle.cam_cluster.proofs.AsSeen.{part, reads_at, reads_of, tells_of, works_of}
+use Rattle.cam_cluster.proofs.DisksGoOn.{same_known}
 use Rattle.cam_cluster.proofs.HaltsKept.{open_without}
 use Rattle.cam_cluster.proofs.PlacedNodes.{one_there, taken_there}
 use Rattle.cam_cluster.proofs.PutWorks.{seen}
@@ -42,7 +43,7 @@ module _ {X : Type 0} {g : CkptGhosts X} {h : LogGhosts X} (old mid : Works X g 
     (is_node : node ≡ get_or mid.nodes.items place node)
     (is_before : before ≡ (part g h asked).failures)
     (after : IfSome (slice_get (set mid.nodes.items place new) place)
-    (λ (n : Node X g h). IsAfterCall (place + 1) before (part g h n).failures mid.failed known))
+    (λ (n : Node X g h). IsAfterCall place before (part g h n).failures mid.failed known))
     (told : (part g h new).tells ≡ (part g h node).tells)
     (later : (part g h node).failures ≤ (part g h new).failures) where
   abbrev was : NodeFields
@@ -62,9 +63,9 @@ module _ {X : Type 0} {g : CkptGhosts X} {h : LogGhosts X} (old mid : Works X g 
 
   known_before : KeepsAsBefore (works_of g h old) (reads_of g h old) between (reads_of g h mid)
   known_before =
-      known_too old mid nodes some halted failed undecided events marked known (λ none. (none_before
+      known_too old mid nodes some halted failed undecided events marked known (knows
       old mid nodes some halted failed undecided events marked place there within asked node new
-      before _ is_asked is_node is_before after told later none).0)
+      before _ is_asked is_node is_before after told later)
 
   -- the node that was there
   pub node_there : slice_get old.nodes.items place ≡ Some node
@@ -103,7 +104,7 @@ module _ {X : Type 0} {g : CkptGhosts X} {h : LogGhosts X} (old mid : Works X g 
           (reads_of g h old) (reads_of g h mid) (reads_of g h end) done known_before (so tells)),
       disks_on old mid nodes some halted failed undecided events marked place there within asked
           node new before known is_asked is_node is_before after told later end.nodes.items
-          end.failed are (inr is_f),
+          end.failed are (same_known known end.failed is_f),
     )
 
     -- nothing was found

@@ -7,8 +7,8 @@ use Rattle.cam_log.specs.declared.entry_log.EntryLog.{Ghosts as LogGhosts}
 use Rattle.cam_net.specs.Outbox.{HasPutSome}
 use Rattle.cam_node.specs.declared.node.Node.{Node}
 use Rattle.cam_cluster.specs.declared.works.failing.Failed.{Failed}
-use Rattle.cam_cluster.specs.declared.works.failing.Failed.TheVariants.{Nothing}
 use Rattle.cam_cluster.specs.declared.works.Works.{Works}
+use Rattle.cam_cluster.specs.Failing.{KnowsMore}
 use Rattle.cam_cluster.specs.Puts.{KeepsAsBefore}
 use Rattle.cam_cluster.proofs.AsSeen.{part, reads_at, reads_of, tells_of, works_of}
 use Rattle.cam_cluster.proofs.PutWorks.{failed_as, room_made, seen}
@@ -34,7 +34,7 @@ module _ {X : Type 0} {g : CkptGhosts X} {h : LogGhosts X} (old mid : Works X g 
         room_made (part g h) _ (reads_at g h) _ _ _ _ _ _ _ _ _ _ _ _ _ _ (ap (λ v.
         v.items) nodes) some halted failed undecided events marks
 
-    module _ (known : Failed) (fed : known ≡ Nothing → mid.failed ≡ Nothing) where
+    module _ (known : Failed) (fed : KnowsMore mid.failed known) where
       pub known_too : KeepsAsBefore (works_of g h old) (reads_of g h old)
           (seen (part g h) (tells_of g h) (reads_at g h) mid.nodes.items mid.outbox mid.halted known
           mid.undecided.items mid.events.events.items mid.marks.items) (reads_of g h mid)

@@ -85,9 +85,13 @@ module _ (seen : Seen) (step : Step) (s body : ℕ) (is : step.act ≡ acts.Star
         next_holds seen.script seen.standing step.line (acts.Start s body) keeps.is_script (rw (←
         is) next) in
         let within =
-        node_within _ _ (and_parts (is_node seen.script.nodes s) _ holds.1).0 in ( within.0,
-          let most = within.1 in let eight = keeps.is_script.eight_nodes in omega (arith, most,
-              eight),
+        node_within _ _ (and_parts (is_node seen.script.nodes s) _ holds.1).0 in (
+          within.0,
+          let most = within.1 in let eight = keeps.is_script.eight_nodes in omega (
+            arith,
+            most,
+            eight,
+          ),
         )
 
     leads : act c seen.script.bodies seen.standing step.act

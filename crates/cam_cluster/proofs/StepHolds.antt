@@ -22,8 +22,10 @@ pub step_holds : (nodes : ℕ) (objects : List ObjectDecl) (bodies : ℕ) (earli
     → (before : List Step) × (act_holds nodes objects bodies before step.act ≡ true)
 step_holds nodes objects bodies earlier [] k step hold at =
     let gone : ◌≡◌ {A = Option Step} None (Some step) = at in cc
-step_holds nodes objects bodies earlier (s ∷ steps) zero step hold at = ( earlier, rw (← (same_Some
-  s step at)) (and_parts (act_holds nodes objects bodies earlier s.act)
+step_holds nodes objects bodies earlier (s ∷ steps) zero step hold at = (
+  earlier,
+  rw (← (same_Some
+      s step at)) (and_parts (act_holds nodes objects bodies earlier s.act)
       (are_steps nodes objects bodies (earlier ++ s ∷ []) steps) hold).0,
 )
 step_holds nodes objects bodies earlier (s ∷ steps) (suc k) step hold at =

@@ -54,38 +54,41 @@ module _ (turns : List Turn) (s line : ℕ) (w again : Bool) where
       ≡ (if w then after_append (calls_left turns s) else calls_left turns s)
   own_calls = rw (eq-eqb s s refl) refl
 
-  -- so with the nodes that are halted
-  pub stood_as : (halted : ℕ → Bool) → halted s ≡ false
-      → ((m : ℕ) → IsAsStopped (halted m) turns m) → ends_by turns s w ≡ None
-      → (m : ℕ) → IsAsStopped (halted m) now m
-  stood_as halted awake so none m = elim (eqb_tells s m) [
+  -- so with a node that is halted, or not
+  pub stood_as : (halted : ℕ → Bool) (m : ℕ) → halted s ≡ false → IsAsStopped (halted m) turns m
+      → (s ≡ m → ends_by turns s w ≡ None) → IsAsStopped (halted m) now m
+  stood_as halted m awake so none = elim (eqb_tells s m) [
     | inl same ↦
         subst (λ (n : ℕ). IsAsStopped (halted n) now n) same.1
         (subst (λ (b : Bool). IsAsStopped b now s) (sym awake)
-        (own_runs (subst (λ (b : Bool). IsAsStopped b turns s) awake (so s)) none))
-    | inr away ↦ other_as (halted m) m away.1 (so m)
+        (own_runs (subst (λ (b : Bool). IsAsStopped b turns s) awake
+        (subst (λ (n : ℕ). IsAsStopped (halted n) turns n) (sym same.1) so)) (none same.1)))
+    | inr away ↦ other_as (halted m) m away.1 so
   ]
 
-  pub halted_as : (halted : List ℕ) (calls : ℕ) → has_number halted s ≡ false
-      → ((m : ℕ) → IsAsStopped (has_number halted m) turns m) → ends_by turns s w ≡ Some calls
-      → (m : ℕ) → IsAsStopped (has_number (s ∷ halted) m) now m
-  halted_as halted calls awake so some m = elim (eqb_tells s m) [
+  pub halted_as : (halted : List ℕ) (m : ℕ) → has_number halted s ≡ false
+      → IsAsStopped (has_number halted m) turns m
+      → (s ≡ m → (calls : ℕ) × (ends_by turns s w ≡ Some calls))
+      → IsAsStopped (has_number (s ∷ halted) m) now m
+  halted_as halted m awake so some = elim (eqb_tells s m) [
     | inl same ↦
+        let ends = some same.1 in
         rw same.0
         (subst (λ (n : ℕ). is_some (stopped_at now n) ≡ true) same.1
         (ap (λ (o : Option ℕ). is_some o)
-        (own_stopped calls (subst (λ (b : Bool). IsAsStopped b turns s) awake (so s)) some)))
-    | inr away ↦ rw away.0 (other_as (has_number halted m) m away.1 (so m))
+        (own_stopped ends.0 (subst (λ (b : Bool). IsAsStopped b turns s) awake
+        (subst (λ (n : ℕ). IsAsStopped (has_number halted n) turns n) (sym same.1) so)) ends.1)))
+    | inr away ↦ rw away.0 (other_as (has_number halted m) m away.1 so)
   ]
 
 -- A restart, and the end of its node's halt.
-pub ended_as : (turns : List Turn) (halted : ℕ → Bool) (s : ℕ)
-    → ((m : ℕ) → (s ≡ m → ⊥) → IsAsStopped (halted m) turns m) → halted s ≡ false
-    → (m : ℕ) → IsAsStopped (halted m) (Restart s ∷ turns) m
-ended_as turns halted s so awake m = elim (eqb_tells s m) [
+pub ended_as : (turns : List Turn) (halted : ℕ → Bool) (s m : ℕ)
+    → ((s ≡ m → ⊥) → IsAsStopped (halted m) turns m) → halted s ≡ false
+    → IsAsStopped (halted m) (Restart s ∷ turns) m
+ended_as turns halted s m so awake = elim (eqb_tells s m) [
   | inl same ↦
       rw (← same.1) (rw awake (rw (eq-eqb s s refl) refl))
-  | inr away ↦ by (halted m) away.0 (so m away.1)
+  | inr away ↦ by (halted m) away.0 (so away.1)
 ]
   where
     by : (b : Bool) → eqb s m ≡ false → IsAsStopped b turns m → IsAsStopped b (Restart s ∷ turns) m

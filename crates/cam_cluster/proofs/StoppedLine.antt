@@ -54,7 +54,10 @@ module _ (script : Script) (st : Standing) (halts : Halting) (later : List Step)
         subst (λ (p : Passed). KeepsLines script (after_line st line p) new may) (sym passes)
         (record {
           runs =
-              keeps_others _ _ _ _ _ _ (record { trace = refl; lost = refl; delivered = refl
+              keeps_others _ _ _ _ _ _ (record {
+                trace = refl;
+                lost = refl;
+                delivered = refl;
               }) refl refl refl kept.all_marks (subst (λ (p : Passed). IsUnderHalts script
               (after_line st line p)) passes (next_leads _ _ _ halts later is keeps.runs.under
               next)) kept;

@@ -14,7 +14,7 @@ use Rattle.cam_histories.specs.Laws.{history_of}
 use Rattle.cam_cluster.specs.declared.works.failing.Failed.{Failed}
 use Rattle.cam_cluster.specs.Stopped.{IsStoppedAs}
 use Rattle.cam_cluster.specs.Stopping.{stopped_at, IsAsStopped}
-use Rattle.cam_cluster.specs.Works.{HasTellingDisk, NodeFields, AreStopped, AreStoppedBut}
+use Rattle.cam_cluster.specs.Works.{HasTellingDisk, NodeFields, AreStoppedIf}
 use Rattle.cam_cluster.specs.Works.{IsUnfailing}
 use Rattle.cam_cluster.proofs.HaltsByStop.{halt_alike}
 use Rattle.cam_cluster.proofs.WorksNodes.{set_tells}
@@ -31,16 +31,21 @@ all_before P (x ∷ xs) (suc place) old new there back all =
 
 pub unfailing_before : (failed : Failed) (nodes now : List NodeFields) (place : ℕ)
     (old new : NodeFields) → slice_get nodes place ≡ Some old → now ≡ set nodes place new
-    → (HasTellingDisk new → HasTellingDisk old) → IsUnfailing failed now
-    → IsUnfailing failed nodes
-unfailing_before failed nodes now place old new there are back all = ( all.0, all_before
-  HasTellingDisk _ _ _ _ there back
-      (subst (AllByRecursion HasTellingDisk) are all.1),
+    → (HasTellingDisk new → HasTellingDisk old) → (s : ℕ) → IsUnfailing failed now s
+    → IsUnfailing failed nodes s
+unfailing_before failed nodes now place old new there are back s all = (
+  all.0,
+  (
+    all.1.0,
+    all_before HasTellingDisk _ _ _ _ there back
+        (subst (AllByRecursion HasTellingDisk) are all.1.1),
+  ),
 )
 
 pub unfailing_there : (failed : Failed) (nodes : List NodeFields) (place : ℕ) (node : NodeFields)
-    → slice_get nodes place ≡ Some node → IsUnfailing failed nodes → HasTellingDisk node
-unfailing_there failed nodes place node at all = one nodes place at all.1
+    → slice_get nodes place ≡ Some node → (s : ℕ) → IsUnfailing failed nodes s
+    → HasTellingDisk node
+unfailing_there failed nodes place node at s all = one nodes place at all.1.1
   where
     one : (xs : List NodeFields) (k : ℕ) → slice_get xs k ≡ Some node
         → AllByRecursion HasTellingDisk xs → HasTellingDisk node
@@ -93,23 +98,26 @@ module _ (objects : List ObjectDecl) (t now : List Event) (h halted : List ℕ)
     (same : (m : ℕ) → (m ≡ place + 1 → ⊥) → has_number halted m ≡ has_number h m)
     (calls : (m : ℕ) → (m ≡ place + 1 → ⊥) → calls_left turns m ≡ calls_left before m)
     (stops : (m : ℕ) → (m ≡ place + 1 → ⊥) → stopped_at turns m ≡ stopped_at before m) where
-  pub nodes_stopped : (but : ℕ → Bool) → ((m : ℕ) → (m ≡ place + 1 → ⊥) → but m ≡ false)
-      → ((s : ℕ) → IsAsStopped (has_number halted s) turns s)
-      → IsStoppedAs objects now halted turns (place + 1) new.site.node new.halted_at new.passes
-      new.reads
-      → AreStoppedBut but objects t h before nodes
-      → AreStopped objects now halted turns nodes_now
-  nodes_stopped but only said own is = record {
-    said = λ s all. said s;
+  pub nodes_stopped : (was so : ℕ → Type 0)
+      → ((m : ℕ) → (m ≡ place + 1 → ⊥) → so m → was m)
+      → ((s : ℕ) → so s → IsAsStopped (has_number halted s) turns s)
+      → (so (place + 1) → IsStoppedAs objects now halted turns (place + 1) new.site.node
+      new.halted_at new.passes new.reads)
+      → AreStoppedIf was objects t h before nodes
+      → AreStoppedIf so objects now halted turns nodes_now
+  nodes_stopped was so only said own is = record {
+    said = said;
     each = λ q n at all. elim (set_tells _ _ _ _ _ (slice_get_within nodes place old there) (ap
         (λ (ns : List NodeFields). slice_get ns q) (sym are) ∙ at)) [
           | inl y ↦
               subst (λ (z : ℕ × NodeFields). IsStoppedAs objects now halted turns (z.0 + 1)
-              z.1.site.node z.1.halted_at z.1.passes z.1.reads) (λ i. (sym y.0 i, y.1 i)) own
+              z.1.site.node z.1.halted_at z.1.passes z.1.reads) (λ i. (sym y.0 i, y.1 i))
+              (own (subst so (ap (λ (k : ℕ). k + 1) y.0) all))
           | inr other ↦
               let away : q + 1 ≡ place + 1 → ⊥ =
               λ e. other.0 (let back : q ≡ place = omega (arith, e) in back) in
               stopped_alike _ _ _ _ _ _ _ _ n (alike (q + 1) away) (same (q + 1) away)
-              (calls (q + 1) away) (stops (q + 1) away) (is.each q n other.1 (only (q + 1) away))
+              (calls (q + 1) away) (stops (q + 1) away)
+              (is.each q n other.1 (only (q + 1) away all))
         ];
   }

@@ -87,8 +87,11 @@ module _ (script : Script) (st : Standing) (works : WorksFields) (may : ℕ → 
   -- Where it is not refused a request may be put to the node, and what it makes has a number left.
   numbers : (a : Name) (want : Want) → home_node a ≡ place + 1 → IsWant script.objects want
       → refusal (goes_by (place + 1)) a want ≡ None → MayAsk node.site.node a want
-  numbers a want home in_range free = ( home ∙ sym here.number, rw stands.serves.site.objects_are
-    in_range, by want,
+  numbers a want home in_range free = (
+    home ∙ sym here.number,
+    rw stands.serves.site.objects_are
+        in_range,
+    by want,
   )
     where
       own_deeds : MayRunHere (deeds_of (map as_carried history)) (place + 1) a

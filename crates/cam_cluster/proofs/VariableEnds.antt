@@ -61,7 +61,9 @@ unbound_line line act_is old new might may script st halts later is keeps next u
 unbound_line line act_is old new might may script st halts later is keeps next unbound
     (line_faults.Refused told) has input =
     rw has.0 (refused_line _ _ halts later _ _ _ _ _ _ _ is keeps next unbound.test
-    (unbound.takes (setting (by_knowledge script.objects) halts (record { line = line; act = act_is
+    (unbound.takes (setting (by_knowledge script.objects) halts (record {
+      line = line;
+      act = act_is;
     }) later)) has.1)
 
 module _ (line v : ℕ) (want : Want) (old new : LinesFields) (might may : ℕ → Logged → Type 0) where

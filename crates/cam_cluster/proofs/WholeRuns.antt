@@ -1,31 +1,33 @@
 -- The lines of a script, one after another.
-use Rattle.std.proofs.Common.{◌≡◌, ◌<◌, ℕ, List, get_or, length, Some, refl, sym, ap, ◌∙◌, subst}
+use Rattle.std.proofs.Common.{◌≡◌, ◌<◌, ◌≤◌, ℕ, Bool, true, false, List, get_or, length, Some, refl}
+use Rattle.std.proofs.Common.{sym, ap, ◌∙◌, subst, arith}
 use Rattle.std.specs.Prelude.{reverse, slice_get}
 use Rattle.std.proofs.lemmas.Option.{slice_get-get_or}
 use Rattle.cam_event.specs.declared.Event.{Event}
 use Rattle.cam_event.specs.declared.Mark.{Mark}
 use Rattle.cam_event.specs.Readings.{by_pasts}
 use Rattle.cam_node.specs.Log.{Logged}
-use Rattle.cam_runs.specs.Halts.{by_stops, given}
-use Rattle.cam_runs.specs.HaltedLines.{run_halting, run_with}
+use Rattle.cam_runs.specs.Halts.{given}
+use Rattle.cam_runs.specs.HaltedLines.{run_with}
 use Rattle.cam_runs.specs.Standing.{Standing, start}
-use Rattle.cam_runs.specs.Stops.{Agrees}
-use Rattle.cam_runs.proofs.StopsEnd.{agreeing_runs_are_by_stops}
 use Rattle.cam_script.specs.declared.Script.{Script}
 use Rattle.cam_script.specs.declared.Step.{Step}
 use Rattle.cam_cluster.specs.declared.workers.Workers.{Workers}
 use Rattle.cam_cluster.specs.Between.{KeepsBetween}
 use Rattle.cam_cluster.specs.Courses.{IsNextOfCourse}
 use Rattle.cam_cluster.specs.Disks.{KeepsLogs}
+use Rattle.cam_cluster.specs.Failing.{FailedIn}
 use Rattle.cam_cluster.specs.Founding.{before_first}
 use Rattle.cam_cluster.specs.HaltedLogs.{KeepsHaltedLogs}
+use Rattle.cam_cluster.specs.KnownHalts.{AgreesAt, AreKnown}
 use Rattle.cam_cluster.specs.Seen.{IsNextStep, Seen}
 use Rattle.cam_cluster.specs.SoFar.{LinesFields}
 use Rattle.cam_cluster.specs.WholeRuns.{HasTakenLines, IsNextOfRun, IsRunWithLogs}
 use Rattle.cam_cluster.specs.Workers.{AreWorkers}
-use Rattle.cam_cluster.specs.Works.{IsUnfailing}
+use Rattle.cam_cluster.specs.Works.{MayGoOn, has_failed}
 use Rattle.cam_cluster.proofs.AllLines.{all_lines_are_the_run}
 use Rattle.cam_cluster.proofs.HaltedLogs.{halted_logs}
+use Rattle.cam_cluster.proofs.NodeAgrees.{known_at_end_of}
 
 module _ (script : Script) (many : ℕ) (step : Step) (lines : LinesFields)
     (may_read : ℕ → Logged → Type 0) (at_work : Workers)
@@ -51,15 +53,15 @@ next_of_course script step lines may_read at_work next = record {
 -- before the first line
 pub none_taken : (script : Script) (lines : LinesFields) (may_read : ℕ → Logged → Type 0)
     (at_work : Workers) → KeepsBetween (before_first script) lines may_read
-    → AreWorkers start at_work → IsUnfailing lines.works.failed lines.works.nodes
+    → AreWorkers start at_work → MayGoOn lines.works.failed lines.works.nodes
     → HasTakenLines script 0 lines may_read at_work
-none_taken script lines may_read at_work keeps workers unfailing = record {
+none_taken script lines may_read at_work keeps workers goes = record {
   seen = before_first script;
   keeps = record { between = keeps; workers = workers };
   of_script = refl;
   taken = refl;
-  unfailing = unfailing;
-  agrees = tt;
+  goes_on = goes;
+  agrees = λ s none. tt;
 }
 
 -- after the last
@@ -67,7 +69,8 @@ pub all_taken : (script : Script) (lines : LinesFields) (may_read : ℕ → Logg
     (at_work : Workers) (trace : List Event) (marks : List Mark)
     → (taken : HasTakenLines script (length script.steps) lines may_read at_work)
     → trace ≡ lines.works.events → marks ≡ lines.works.marks → KeepsLogs taken.seen may_read
-    → IsRunWithLogs script may_read (record { trace = trace; marks = marks })
+    → IsRunWithLogs script (FailedIn lines.works.failed) may_read
+    (record { trace = trace; marks = marks })
 all_taken script lines may_read at_work trace marks taken events all_marks logs = record {
   recorded = record {
     halts = taken.seen.halts;
@@ -79,17 +82,17 @@ all_taken script lines may_read at_work trace marks taken events all_marks logs 
           all_marks ∙ taken.keeps.between.keeps.runs.all_marks
           ∙ ap (λ (st : Standing). st.running.marks) stands;
     };
-    one = one;
+    known = known;
   };
   logs =
       subst (λ (x : Seen). KeepsLogs x may_read)
       (λ i. record { script = taken.of_script i; standing = stands i; halts = taken.seen.halts })
       logs;
   halted =
-      subst (λ (x : Script). KeepsHaltedLogs x may_read) taken.of_script
+      subst (λ (x : Script). KeepsHaltedLogs x taken.seen.halts may_read) taken.of_script
       (halted_logs taken.seen lines may_read taken.keeps.between
       (taken.taken ∙ ap (λ (x : Script). length x.steps) (sym taken.of_script))
-      (stands ∙ one ∙ ap (run_halting by_pasts by_stops) (sym taken.of_script)));
+      (stands ∙ ap (λ (x : Script). run_with by_pasts x taken.seen.halts) (sym taken.of_script)));
 }
   where
     stands : taken.seen.standing ≡ run_with by_pasts script taken.seen.halts
@@ -97,10 +100,24 @@ all_taken script lines may_read at_work trace marks taken events all_marks logs 
         (all_lines_are_the_run script taken.seen taken.of_script taken.taken
         taken.keeps.between.between).standing
 
-    one : run_with by_pasts script taken.seen.halts ≡ run_halting by_pasts by_stops script
-    one =
-        agreeing_runs_are_by_stops by_pasts script (given taken.seen.halts)
-        (subst (Agrees (given taken.seen.halts)) stands taken.agrees)
+    agrees : (s : ℕ) → has_failed lines.works.failed s ≡ false
+        → AgreesAt s (given taken.seen.halts) (run_with by_pasts script taken.seen.halts)
+    agrees s none = subst (AgreesAt s (given taken.seen.halts)) stands (taken.agrees s none)
+
+    sound : (s : ℕ) → 1 ≤ s → (FailedIn lines.works.failed s → ⊥)
+        → has_failed lines.works.failed s ≡ false
+    sound s low never = by (has_failed lines.works.failed s) refl
+      where
+        by : (b : Bool) → has_failed lines.works.failed s ≡ b
+            → has_failed lines.works.failed s ≡ false
+        by true is = absurd (never (low, is))
+        by false is = is
+
+    known : AreKnown script (given taken.seen.halts) (FailedIn lines.works.failed)
+    known =
+        known_at_end_of script taken.seen.halts (FailedIn lines.works.failed)
+        (λ s low never. agrees s (sound s low never))
+        (λ none. agrees 0 (sound 1 (omega arith) (none 1)))
 
 -- the step at a place of a loop over them
 pub step_at : (script : Script) (steps : List Step) (at : ℕ) (other : Step)

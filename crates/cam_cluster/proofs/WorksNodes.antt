@@ -30,7 +30,9 @@ pub set_tells : {X : Type 0} (xs : List X) (i k : ℕ) (v x : X) → i < length 
     → slice_get (set xs i v) k ≡ Some x
     → ((k ≡ i) × (v ≡ x)) ⊎ ((k ≡ i → ⊥) × (slice_get xs k ≡ Some x))
 set_tells xs i k v x less at = elim (eqb_tells k i) [
-  | inl y ↦ inl ( y.1, same_Some v x
+  | inl y ↦ inl (
+    y.1,
+    same_Some v x
         (sym (at_set _ _ v less) ∙ ap (slice_get (set xs i v)) (sym y.1) ∙ at),
   )
   | inr n ↦ inr (n.1, sym (off_set xs _ _ v n.1) ∙ at)

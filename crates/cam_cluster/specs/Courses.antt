@@ -16,7 +16,7 @@ use Rattle.cam_histories.specs.Lines.{line_refusal}
 use Rattle.cam_cluster.specs.declared.course.CourseFault.{CourseFault}
 use Rattle.cam_cluster.specs.declared.course.CourseFault.TheVariants as faults
 use Rattle.cam_cluster.specs.declared.LineFault.TheVariants as line_faults
-use Rattle.cam_cluster.specs.declared.works.failing.Failed.TheVariants as failed
+use Rattle.cam_cluster.specs.declared.works.failing.Ending.TheVariants as endings
 use Rattle.cam_cluster.specs.declared.workers.Workers.{Workers}
 use Rattle.cam_cluster.specs.Between.{HasLedOn, KeepsBetween, after_step, seen_found}
 use Rattle.cam_cluster.specs.LetterLines.{cut_fault}
@@ -45,20 +45,20 @@ pub record IsNextOfCourse (step : Step) (bodies : List (List Statement)) (lines 
 abbrev pub IsStartOf : ℕ → Act → Type 0
 IsStartOf body act = (s : ℕ) × (act ≡ acts.Start s body)
 
--- A restart stood: what was seen stands. While nothing has failed by itself, no stop let the last
--- append of the node be taken.
+-- A restart stood: what was seen stands. Where its disk has not failed by itself, no stop let the
+-- last append of the node be taken.
 pub record HasStood (old : WorksFields) (seen from : Seen) (s : ℕ) : Type 0 where
   pub same : from ≡ seen
   pub lost :
-      IsUnfailing old.failed old.nodes → has_number seen.standing.halted s ≡ true
+      IsUnfailing old.failed old.nodes s → has_number seen.standing.halted s ≡ true
       → last_stop seen.standing.turns s ≡ Some true → ⊥
 
 -- A restart found the event at which its node had halted: what was seen is the run in which that
--- halt was taken. While nothing has failed by itself, a stop let it be taken.
+-- halt was taken. Where its disk has not failed by itself, a stop let it be taken.
 pub record HasFound (old : WorksFields) (seen from : Seen) (s : ℕ) : Type 0 where
   pub halted : has_number seen.standing.halted s ≡ true
   pub found : from ≡ seen_found seen s
-  pub taken : IsUnfailing old.failed old.nodes → last_stop seen.standing.turns s ≡ Some true
+  pub taken : IsUnfailing old.failed old.nodes s → last_stop seen.standing.turns s ≡ Some true
 
 -- what a line goes on from, by what the works kept before it
 abbrev pub IsFrom : WorksFields → Act → Seen → Seen → Type 0
@@ -101,7 +101,7 @@ IsEndedAtWork old seen step new may_read at_work (Err (faults.Line (line_faults.
 IsEndedAtWork old seen step new may_read at_work (Err (faults.Line line_faults.NoMemory)) =
     IsCourseWanting step.act seen step new may_read at_work
 IsEndedAtWork old seen step new may_read at_work (Err faults.RestartFailed) =
-    new.works.failed ≡ failed.Nothing → ⊥
+    new.works.failed.ends ≡ endings.Nothing → ⊥
 
 -- THE CLAUSE of the next line: of each run that is kept, with these bodies, whose next step it is
 abbrev pub IsAtWorkLine : Step → List (List Statement) → LinesFields → (ℕ → Logged → Type 0)

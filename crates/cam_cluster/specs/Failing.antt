@@ -1,52 +1,83 @@
--- What has failed by itself in a cluster: the disk of a node, whose count of faults rose, or memory,
--- which ran out in a node that is halted since. What is known of it after each call.
-use Rattle.std.specs.Prelude.{◌≡◌, ◌⊎◌, ℕ, List, map}
+-- What has failed by itself in a cluster: which disks, whose counts of faults rose; and by what the
+-- run has to end: memory that ran out in a node, which is halted since, or a restart that failed.
+-- What is known of it after each call.
+use Rattle.std.specs.Prelude.{◌≡◌, ◌⊎◌, ◌≤◌, ℕ, ◌+◌, ◌∷◌, [], true, false, List, set}
+use Rattle.std.specs.Prelude.{length}
 use Rattle.cam_base.specs.Causes.{Rose}
 use Rattle.cam_node.specs.declared.fault.NodeFault.{NodeFault}
 use Rattle.cam_node.specs.declared.fault.NodeFault.TheVariants as faults
 use Rattle.cam_cluster.specs.declared.fault.RunFault.{RunFault}
 use Rattle.cam_cluster.specs.declared.fault.RunFault.TheVariants as run_faults
 use Rattle.cam_cluster.specs.declared.works.failing.Failed.{Failed}
-use Rattle.cam_cluster.specs.declared.works.failing.Failed.TheVariants as failed
+use Rattle.cam_cluster.specs.declared.works.failing.Ending.{Ending}
+use Rattle.cam_cluster.specs.declared.works.failing.Ending.TheVariants as endings
 use Rattle.cam_cluster.specs.HandedBack.{AreHandedBack, HasFailed}
-use Rattle.cam_cluster.specs.Works.{NodeFields, WorksFields}
+use Rattle.cam_cluster.specs.Works.{NodeFields, WorksFields, has_failed}
 
--- What is known to have failed, where this has failed now: the first that failed stays known.
-abbrev pub KnownFirst : Failed → Failed → Failed → Type 0
-KnownFirst failed.Nothing this new = new ≡ this
+-- nothing has failed
+abbrev pub nothing_failed : Failed
+nothing_failed = record {
+  disks = false ∷ false ∷ false ∷ false ∷ false ∷ false ∷ false ∷ false ∷ [];
+  ends = endings.Nothing;
+}
+
+-- By what a run has to end, where this comes now: the first that came stays.
+abbrev pub KnownFirst : Ending → Ending → Ending → Type 0
+KnownFirst endings.Nothing this new = new ≡ this
 KnownFirst old this new = new ≡ old
 
--- A call of a node, by the count of its disk before and after it: that its disk failed is known just
--- where the count rose.
-pub record IsAfterCall (s before count : ℕ) (old new : Failed) : Type 0 where
-  pub rose : Rose before count → KnownFirst old (failed.Disk s) new
+-- A call of the node at a place, by the count of its disk before and after it: its disk has failed
+-- exactly if it had, or the count rose.
+pub record IsAfterCall (place before count : ℕ) (old new : Failed) : Type 0 where
+  pub eight : length old.disks ≡ 8
+  pub rose :
+      Rose before count → new ≡ record { disks = set old.disks place true; ends = old.ends }
   pub still : (Rose before count → ⊥) → new ≡ old
 
--- A node halted in its step: that memory ran out is known where it did.
+-- A node halted in its step: the run has to end if memory ran out.
 abbrev pub IsAfterHalt : NodeFault → Failed → Failed → Type 0
-IsAfterHalt faults.NoMemory old new = KnownFirst old failed.Memory new
+IsAfterHalt faults.NoMemory old new =
+    (new.disks ≡ old.disks) × KnownFirst old.ends endings.Memory new.ends
 IsAfterHalt faults.DiskFault old new = new ≡ old
 
--- what has failed, where the run ends by this fault
-abbrev pub failure : RunFault → Failed
-failure (run_faults.DiskFault s) = failed.Disk s
-failure run_faults.NoMemory = failed.Memory
+-- The restart of the node at a place failed: its disk has failed, or else memory ran out.
+pub record IsAfterRestart (place : ℕ) (old new : Failed) : Type 0 where
+  pub same : new.disks ≡ old.disks
+  pub disk :
+      has_failed old (place + 1) ≡ true → KnownFirst old.ends (endings.Disk (place + 1)) new.ends
+  pub memory : has_failed old (place + 1) ≡ false → KnownFirst old.ends endings.Memory new.ends
 
--- A fault that names a disk names the one that is known to have failed.
+-- how a run has to end, where it ends by this fault
+abbrev pub failure : RunFault → Ending
+failure (run_faults.DiskFault s) = endings.Disk s
+failure run_faults.NoMemory = endings.Memory
+
+-- A fault that names a disk names the one by which the run has to end.
 abbrev pub IsOfKnown : Failed → RunFault → Type 0
-IsOfKnown known (run_faults.DiskFault s) = known ≡ failed.Disk s
+IsOfKnown known (run_faults.DiskFault s) = known.ends ≡ endings.Disk s
 IsOfKnown known run_faults.NoMemory = Unit {0}
 
--- What is known to have failed, by what was known before: nothing exactly if no count of a disk has
--- changed since; a disk only where its count rose.
-abbrev pub IsKnownToFail : Failed → List NodeFields → Failed → List NodeFields → Type 0
-IsKnownToFail before olds failed.Nothing news =
-    (before ≡ failed.Nothing)
-    × (map (λ (n : NodeFields). n.failures) news ≡ map (λ (n : NodeFields). n.failures) olds)
-IsKnownToFail before olds (failed.Disk s) news =
-    (before ≡ failed.Disk s)
-    ⊎ HasFailed (λ (n : NodeFields). n.failures) (λ (n : NodeFields). n.failures) s olds news
-IsKnownToFail before olds failed.Memory news = Unit {0}
+-- the disk of the node of this number has failed
+abbrev pub FailedIn : Failed → ℕ → Type 0
+FailedIn known s = (1 ≤ s) × (has_failed known s ≡ true)
+
+-- What has failed has failed for good.
+pub record KnowsMore (old new : Failed) : Type 0 where
+  pub ends : new.ends ≡ endings.Nothing → old.ends ≡ endings.Nothing
+  pub disks : (s : ℕ) → has_failed new s ≡ false → has_failed old s ≡ false
+
+-- What is known to have failed, by what was known before: a disk only where its count rose since,
+-- and a run ends by a disk only where that has failed.
+pub record IsKnownToFail (before : Failed) (olds : List NodeFields) (now : Failed)
+    (news : List NodeFields) : Type 0 where
+  pub more : KnowsMore before now
+  pub disk :
+      (s : ℕ) → 1 ≤ s → has_failed now s ≡ true
+      → (has_failed before s ≡ true)
+      ⊎ HasFailed (λ (n : NodeFields). n.failures) (λ (n : NodeFields). n.failures) s olds news
+  pub ends :
+      (s : ℕ) → now.ends ≡ endings.Disk s
+      → (before.ends ≡ endings.Disk s) ⊎ FailedIn now s
 
 -- So nodes go on with their disks: each is at its place and tells what it holds exactly if it did, no
 -- count of faults fell, and it is known what failed by itself.

@@ -13,7 +13,7 @@ use Rattle.cam_script.specs.declared.Script.{Script}
 use Rattle.cam_histories.specs.Whole.{StandsAt}
 use Rattle.cam_cluster.specs.declared.fault.RunFault.{RunFault}
 use Rattle.cam_cluster.specs.declared.fault.RunFault.TheVariants as faults
-use Rattle.cam_cluster.specs.declared.works.failing.Failed.TheVariants as failed
+use Rattle.cam_cluster.specs.Failing.{nothing_failed}
 use Rattle.cam_cluster.specs.Seen.{Seen}
 use Rattle.cam_cluster.specs.Works.{NodeFields, WorksFields}
 
@@ -47,7 +47,7 @@ new_works nodes = record {
   nodes = nodes;
   outbox = record { net = []; unput = [] };
   halted = false ∷ false ∷ false ∷ false ∷ false ∷ false ∷ false ∷ false ∷ [];
-  failed = failed.Nothing;
+  failed = nothing_failed;
   undecided = [];
   events = [];
   marks = [];

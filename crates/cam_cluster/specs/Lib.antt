@@ -32,6 +32,7 @@ pub mod Taking
 pub mod Courses
 pub mod Founding
 pub mod HaltedLogs
+pub mod KnownHalts
 pub mod WholeRuns
 pub mod Stopping
 pub mod Stopped

@@ -16,7 +16,7 @@ use Rattle.cam_script.specs.declared.Step.{Step}
 use Rattle.cam_script.specs.Law.{IsScript}
 use Rattle.cam_histories.specs.Found.{IsBeyond}
 use Rattle.cam_histories.specs.InputLaws.{held_setting, halt_of}
-use Rattle.cam_cluster.specs.declared.works.failing.Failed.TheVariants as failed
+use Rattle.cam_cluster.specs.declared.works.failing.Ending.TheVariants as endings
 use Rattle.cam_cluster.specs.declared.works.restart.Restart.{Restart}
 use Rattle.cam_cluster.specs.declared.works.restart.Restart.TheVariants as ends
 use Rattle.cam_cluster.specs.SoFar.{KeepsLines, LinesFields}
@@ -48,8 +48,8 @@ pub record HasFoundHalt (place : ℕ) (old : WorksFields) (might_read : ℕ → 
       → KeepsRun script (with_restart script halts line restarted found (place + 1)) new may_read
 
 -- Of each run that the works kept, where the restart stands: if nothing was found they keep the run
--- with the restart after it, and else the run in which the halt was taken. Where it failed it is
--- known that something has failed by itself.
+-- with the restart after it, and else the run in which the halt was taken. Where it failed the
+-- run has to end.
 abbrev pub HasRestartedAs : ℕ → WorksFields → (ℕ → Logged → Type 0) → Restart → WorksFields
     → (ℕ → Logged → Type 0) → Type 0
 HasRestartedAs place old might_read ends.Stood new may_read =
@@ -59,10 +59,10 @@ HasRestartedAs place old might_read ends.Stood new may_read =
     → KeepsRun script (with_restart script halts line restarted st (place + 1)) new may_read
 HasRestartedAs place old might_read ends.Found new may_read =
     HasFoundHalt place old might_read new may_read
-HasRestartedAs place old might_read ends.Failed new may_read = new.failed ≡ failed.Nothing → ⊥
+HasRestartedAs place old might_read ends.Failed new may_read = new.failed.ends ≡ endings.Nothing → ⊥
 
--- While nothing has failed by itself, a restart of a node that is halted finds the event exactly if
--- the stop of its disk let three calls pass.
+-- Where its disk has not failed by itself, a restart of a node that is halted finds the event exactly
+-- if the stop of its disk let three calls pass.
 abbrev pub FindsByStop : Option ℕ → Restart → Type 0
 FindsByStop calls ends.Stood = calls ≡ Some 3 → ⊥
 FindsByStop calls ends.Found = calls ≡ Some 3
@@ -71,7 +71,7 @@ FindsByStop calls ends.Failed = Unit {0}
 abbrev pub HasFoundByStop : ℕ → WorksFields → (ℕ → Logged → Type 0) → Restart → Type 0
 HasFoundByStop place old might_read done =
     (script : Script) (st : Standing) → IsScript script → KeepsRun script st old might_read
-    → IsUnfailing old.failed old.nodes → has_number st.halted (place + 1) ≡ true
+    → IsUnfailing old.failed old.nodes (place + 1) → has_number st.halted (place + 1) ≡ true
     → FindsByStop (stopped_at st.turns (place + 1)) done
 
 -- The same over what the lines keep, where the restart is the run's next step.
@@ -95,7 +95,8 @@ IsRestartEnded script st c s new may_read (Ok ends.Stood) =
     (acts.Restart s))) new may_read
 IsRestartEnded script st c s new may_read (Ok ends.Found) =
     IsFoundEnded script st c s new may_read
-IsRestartEnded script st c s new may_read (Ok ends.Failed) = new.works.failed ≡ failed.Nothing → ⊥
+IsRestartEnded script st c s new may_read (Ok ends.Failed) =
+    new.works.failed.ends ≡ endings.Nothing → ⊥
 IsRestartEnded script st c s new may_read (Err wanting) = KeepsLines script st new may_read
 
 -- THE CLAUSE of `restart`, over what nodes hold, at a node whose disk tells what it holds.

@@ -25,7 +25,7 @@ use Rattle.cam_histories.specs.Whole.{Site, IsWhole}
 use Rattle.cam_cluster.specs.Stopped.{IsStoppedAs}
 use Rattle.cam_cluster.specs.Stopping.{IsAsStopped}
 use Rattle.cam_cluster.specs.declared.works.failing.Failed.{Failed}
-use Rattle.cam_cluster.specs.declared.works.failing.Failed.TheVariants as failed
+use Rattle.cam_cluster.specs.declared.works.failing.Ending.TheVariants as endings
 use Rattle.cam_cluster.specs.declared.works.undecided.OpenHalt.{OpenHalt}
 
 -- a node with what its log lists, over these objects, halted or not; and what its log may have of
@@ -95,28 +95,27 @@ pub record IsHaltOf (objects : List ObjectDecl) (trace : List Event) (undecided 
 abbrev pub HasTellingDisk : NodeFields → Type 0
 HasTellingDisk node = node.tells ≡ true
 
--- Nothing has failed by itself, and the disks tell what they hold.
-abbrev pub IsUnfailing : Failed → List NodeFields → Type 0
-IsUnfailing known nodes =
-    (known ≡ failed.Nothing) × AllByRecursion HasTellingDisk nodes
+-- the disk of the node of this number has failed by itself
+abbrev pub has_failed : Failed → ℕ → Bool
+has_failed known s = is_halted known.disks s
 
--- Each node, but for some, is by the lines that stop its disk.
-pub record AreStoppedBut (but : ℕ → Bool) (objects : List ObjectDecl) (trace : List Event)
+-- The run does not have to end, and the disks tell what they hold.
+abbrev pub MayGoOn : Failed → List NodeFields → Type 0
+MayGoOn known nodes =
+    (known.ends ≡ endings.Nothing) × AllByRecursion HasTellingDisk nodes
+
+-- So it is, and the disk of the node of this number has not failed by itself.
+abbrev pub IsUnfailing : Failed → List NodeFields → ℕ → Type 0
+IsUnfailing known nodes s = (has_failed known s ≡ false) × MayGoOn known nodes
+
+-- Each node of which this is so is by the lines that stop its disk.
+pub record AreStoppedIf (so : ℕ → Type 0) (objects : List ObjectDecl) (trace : List Event)
     (halted : List ℕ) (turns : List Turn) (nodes : List NodeFields) : Type 0 where
-  pub said : (s : ℕ) → but s ≡ false → IsAsStopped (has_number halted s) turns s
+  pub said : (s : ℕ) → so s → IsAsStopped (has_number halted s) turns s
   pub each :
-      (place : ℕ) (node : NodeFields) → slice_get nodes place ≡ Some node
-      → but (place + 1) ≡ false
+      (place : ℕ) (node : NodeFields) → slice_get nodes place ≡ Some node → so (place + 1)
       → IsStoppedAs objects trace halted turns (place + 1) node.site.node node.halted_at
       node.passes node.reads
-
-abbrev pub no_node : ℕ → Bool
-no_node s = false
-
-abbrev pub AreStopped :
-    List ObjectDecl → List Event → List ℕ → List Turn → List NodeFields → Type 0
-AreStopped objects trace halted turns nodes =
-    AreStoppedBut no_node objects trace halted turns nodes
 
 -- They stand for what is under way; `may_read` is what may be read from the disk of each node. The
 -- events are few enough that each number of a letter is in its range.
@@ -144,8 +143,8 @@ pub record KeepsRun (script : Script) (st : Standing) (works : WorksFields)
   pub all_marks : works.marks ≡ st.running.marks
   pub few : length works.events < 1000000000
   pub stops :
-      IsUnfailing works.failed works.nodes
-      → AreStopped script.objects st.running.trace st.halted st.turns works.nodes
+      AreStoppedIf (IsUnfailing works.failed works.nodes) script.objects st.running.trace st.halted
+      st.turns works.nodes
 
 -- what may be read from the disk of a node of a list, where its disk tells what it holds
 pub record MayReadAt {N : Type 0} (tells : N → Bool) (may_read : N → Logged → Type 0)

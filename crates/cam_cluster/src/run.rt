@@ -4,12 +4,11 @@ ghost use Rattle.std.specs.List.{AllByRecursion};
 ghost use Rattle.cam_script.specs.declared.Script.{Script as ScriptFields};
 ghost use Rattle.cam_script.specs.Law.{IsScript};
 ghost use Rattle.cam_cluster.specs.Disks.{AreLogs, MayReadDisk};
-ghost use Rattle.cam_cluster.specs.HandedBack.{AreHandedBack, AreLater, FindsFailed, NamesFailed, disk_named};
+ghost use Rattle.cam_cluster.specs.HandedBack.{AreHandedBack, AreLater, HasFailed, NamesFailed};
 ghost use Rattle.cam_cluster.specs.Courses.{KeepsCourse};
-ghost use Rattle.cam_cluster.specs.declared.works.failing.Failed.TheVariants.{Nothing};
-ghost use Rattle.cam_cluster.specs.Failing.{DisksGoOn, IsOfKnown};
+ghost use Rattle.cam_cluster.specs.Failing.{DisksGoOn, FailedIn, IsOfKnown, nothing_failed};
 ghost use Rattle.cam_cluster.specs.Founding.{before_first};
-ghost use Rattle.cam_cluster.specs.Works.{IsUnfailing};
+ghost use Rattle.cam_cluster.specs.Works.{MayGoOn};
 ghost use Rattle.cam_cluster.specs.WholeRuns.{HasTakenLines, HasTakenNext, IsNextOfRun, IsRunWithLogs};
 
 use crate::LineFault;
@@ -17,7 +16,6 @@ use crate::course::{Course, CourseFault};
 use crate::fault::RunFault;
 use crate::founding::take_out;
 use crate::lines::{AsLines, Lines};
-use crate::rising::FaultCounts;
 use crate::servers::Servers;
 use crate::telling::TellingLog;
 use crate::workers::Workers;
@@ -63,7 +61,7 @@ impl<D: TellingDisk> Run<Ckpt<StopDisk<D>>> {
         ensures later { IfOk result (λ run. AreLater D.tells D.faults (λ n. n.tells)
             (λ n. n.failures) disks.old.items
             (⟦<Lines<Ckpt<StopDisk<D>>> as AsLines>⟧.fields run.course.lines).works.nodes) }
-        ensures nothing { IfOk result (λ run. run.course.lines.works.failed ≡ Nothing) }
+        ensures nothing { IfOk result (λ run. run.course.lines.works.failed ≡ nothing_failed) }
         ensures back { OnErr result
             (AreHandedBack D.tells D.faults disks.old.items disks.new.items) }
         ensures cause { IfErr result (NamesFailed D.faults disks.old.items disks.new.items) }
@@ -86,7 +84,8 @@ impl<D: TellingDisk> Run<Ckpt<StopDisk<D>>> {
             (⟦<Lines<Ckpt<StopDisk<D>>> as AsLines>⟧.fields self.course.lines)
             (⟦<Lines<Ckpt<StopDisk<D>>> as AsLines>⟧.may_read self.course.lines)
             self.course.workers
-            → IsRunWithLogs script (MayReadDisk D.tells D.moment D.left_since disks.new.items) result }
+            → IsRunWithLogs script (FailedIn self.course.lines.works.failed)
+            (MayReadDisk D.tells D.moment D.left_since disks.new.items) result }
         // Each tells what it holds exactly if the node's log did, and no count of faults fell.
         ensures later { AreLater (λ n. n.tells) (λ n. n.failures) D.tells D.faults
             (⟦<Lines<Ckpt<StopDisk<D>>> as AsLines>⟧.fields self.course.lines).works.nodes
@@ -103,9 +102,9 @@ impl<D: TellingDisk> Run<Ckpt<StopDisk<D>>> {
 }
 
 impl<L: TellingLog> Run<L> {
-    /// Fails if something has failed by itself.
+    /// Fails if the run has to end.
     fn unfailing(&self) -> Result<(), RunFault>
-        ensures unfailing { OnOk result (IsUnfailing
+        ensures unfailing { OnOk result (MayGoOn
             (⟦<Lines<L> as AsLines>⟧.fields self.now.course.lines).works.failed
             (⟦<Lines<L> as AsLines>⟧.fields self.now.course.lines).works.nodes) }
         ensures cause { IfErr result (IsOfKnown self.now.course.lines.works.failed) }
@@ -113,8 +112,7 @@ impl<L: TellingLog> Run<L> {
         self.course.lines.works.failed.unfailing()
     }
 
-    /// Takes the next line of the script, which may be refused. It fails if something failed by itself
-    /// in it.
+    /// Takes the next line of the script, which may be refused. It fails if the run has to end in it.
     fn take_next<R: DataType, Q: DataType, C: DataType>(
         &mut self,
         script: &Script,
@@ -143,8 +141,7 @@ impl<L: TellingLog> Run<L> {
         }
     }
 
-    /// Takes all lines of the script, of which none is taken yet. It fails as soon as something fails
-    /// by itself.
+    /// Takes all lines of the script, of which none is taken yet. It fails as soon as the run has to end.
     fn take_all<R: DataType, Q: DataType, C: DataType>(
         &mut self,
         script: &Script,
@@ -153,7 +150,7 @@ impl<L: TellingLog> Run<L> {
         requires before_first { KeepsCourse (before_first script.now)
             (⟦<Lines<L> as AsLines>⟧.fields self.old.course.lines)
             (⟦<Lines<L> as AsLines>⟧.may_read self.old.course.lines) self.old.course.workers }
-        requires nothing { self.old.course.lines.works.failed ≡ Nothing }
+        requires nothing { self.old.course.lines.works.failed ≡ nothing_failed }
         ensures disks { DisksGoOn (⟦<Lines<L> as AsLines>⟧.fields self.old.course.lines).works
             (⟦<Lines<L> as AsLines>⟧.fields self.new.course.lines).works }
         ensures as_many { length self.new.course.lines.works.nodes.items
@@ -174,7 +171,8 @@ impl<L: TellingLog> Run<L> {
         ensures record { (script : ScriptFields) → HasTakenLines script (length script.steps)
             (⟦<Lines<L> as AsLines>⟧.fields self.course.lines)
             (⟦<Lines<L> as AsLines>⟧.may_read self.course.lines) self.course.workers
-            → IsRunWithLogs script (⟦<Lines<L> as AsLines>⟧.may_read self.course.lines) result.record }
+            → IsRunWithLogs script (FailedIn self.course.lines.works.failed)
+            (⟦<Lines<L> as AsLines>⟧.may_read self.course.lines) result.record }
         ensures nodes { result.nodes ≡ self.course.lines.works.nodes }
     {
         let works = self.course.lines.works;
@@ -188,43 +186,19 @@ impl<L: TellingLog> Run<L> {
     }
 }
 
-/// Runs a whole script over the disks. A fault names a disk only if that one failed by itself.
-fn run_over<D: TellingDisk, R: DataType, Q: DataType, C: DataType>(
-    alloc: Global,
-    script: &Script,
-    disks: &mut Vec<D>,
-    servers: &mut Servers<R, Q, C>,
-) -> Result<RunRecord, RunFault>
-    requires script { IsScript script.now }
-    requires one_each { length disks.old.items ≡ script.now.nodes }
-    ensures run { IfOk result (IsRunWithLogs script.now
-        (MayReadDisk D.tells D.moment D.left_since disks.new.items)) }
-    ensures disks { AreHandedBack D.tells D.faults disks.old.items disks.new.items }
-    ensures logs { OnOk result (AreLogs D.tells D.moment D.left_since disks.new.items) }
-    ensures cause { IfErr result (NamesFailed D.faults disks.old.items disks.new.items) }
-    ensures capacity { vec_capacity disks.old ≤ vec_capacity disks.new }
-{
-    let mut run = Run::new(alloc, script, disks)?;
-    let taken = run.take_all(script, servers);
-    let record = run.end(disks);
-    match taken {
-        Ok(()) => Ok(record),
-        Err(fault) => Err(fault),
-    }
-}
-
 /// Runs a whole script, each node over the disk at its place, which is formatted, whatever it held.
-/// A refused line leaves its mark, and the run goes on. It also goes on if a node halts because a
-/// line has stopped its disk. It returns the record of the one run of the script: a node halts
-/// exactly if such a line cuts its append off. However the run ends, as many disks are back in their
-/// list. If it returns a record, whatever a crash then leaves of a disk is a log that keeps the
-/// node's history of the run; the log of a halted node may also have the event of the halt.
+/// A refused line leaves its mark, and the run goes on. It also goes on if a node halts: because a
+/// line has stopped its disk, or because its disk failed by itself. It returns the record of the run
+/// of the script with these halts. Those of a node whose disk did not fail are just the ones that
+/// its stop lines make; if no disk failed, the run is the one run of the script. However the run
+/// ends, as many disks are back in their list. If it returns a record, whatever a crash then leaves
+/// of a disk is a log that keeps the node's history of the run; the log of a halted node may also
+/// have the event of the halt.
 ///
-/// The servers do the operations of its objects. The run ends with `DiskFault` exactly if the disk of
-/// a node failed by itself, in a call that it does: while it is formatted, in a line, or while its
-/// node restarts. That disk's count of faults rose then; the fault names the first such disk, in
-/// order of nodes. How often a disk had failed before does not matter, except at the end of the
-/// count's type. The run ends with `NoMemory` if memory ran out, and no disk failed.
+/// The servers do the operations of its objects. A disk has failed if its count of faults rose. How
+/// often it had failed before does not matter, except at the end of the count's type. The run ends
+/// with `DiskFault` only if that disk failed: while it was formatted, or in the run, and then a
+/// restart of its node failed. It ends with `NoMemory` if memory ran out.
 pub fn run_script<D: TellingDisk, R: DataType, Q: DataType, C: DataType>(
     alloc: Global,
     script: &Script,
@@ -234,19 +208,20 @@ pub fn run_script<D: TellingDisk, R: DataType, Q: DataType, C: DataType>(
     requires script { IsScript script.now }
     requires one_each { length disks.old.items ≡ script.now.nodes }
     ensures run { IfOk result (IsRunWithLogs script.now
+        (λ s. HasFailed D.faults D.faults s disks.old.items disks.new.items)
         (MayReadDisk D.tells D.moment D.left_since disks.new.items)) }
     ensures disks { AreHandedBack D.tells D.faults disks.old.items disks.new.items }
     ensures logs { OnOk result (AreLogs D.tells D.moment D.left_since disks.new.items) }
-    // A disk is named exactly if one failed by itself in the run: the first that did.
-    ensures failed { FindsFailed D.faults D.faults disks.old.items disks.new.items
-        (disk_named result) }
+    // A disk is named only if it failed by itself in the run.
+    ensures cause { IfErr result (NamesFailed D.faults disks.old.items disks.new.items) }
     // The list keeps its room.
     ensures capacity { vec_capacity disks.old ≤ vec_capacity disks.new }
 {
-    let before = FaultCounts::of(disks.as_slice());
-    let run = run_over(alloc, script, disks, servers);
-    match before.first_failed(disks.as_slice()) {
-        Some(node) => Err(RunFault::DiskFault(node)),
-        None => run,
+    let mut run = Run::new(alloc, script, disks)?;
+    let taken = run.take_all(script, servers);
+    let record = run.end(disks);
+    match taken {
+        Ok(()) => Ok(record),
+        Err(fault) => Err(fault),
     }
 }

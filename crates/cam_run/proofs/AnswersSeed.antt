@@ -59,7 +59,7 @@ seed_is_done seed size failed r few told =
         → IsOfScript (Summary size) read failed status text
         → (status ≡ 0) ⊎ (status ≡ 6)
     by status text (Ok script) ok (inl of_disk) = inr of_disk.is
-    by status text (Ok script) ok (inr told) = inl told.1.0
+    by status text (Ok script) ok (inr of) = inl of.told.0
     by status text (Err fault) ok told = absurd cc
 
 -- words that are the form of `gen` are those of the command that was read

@@ -1,9 +1,10 @@
 -- The status of the answer to a command.
 use Rattle.std.proofs.Common.{◌≡◌, inl, inr, ℕ, Bool, true, false, if◌then◌else◌, List, Option}
-use Rattle.std.proofs.Common.{Some, None, Result, Ok, Err, is_some}
+use Rattle.std.proofs.Common.{Some, None, Result, Ok, Err, is_some, ap, ◌∙◌}
 use Rattle.cam_know.specs.declared.Reason.{Reason}
 use Rattle.cam_names.specs.declared.name.Name.{Name}
 use Rattle.cam_event.specs.declared.Event.{Event}
+use Rattle.cam_event.specs.declared.Mark.{Mark}
 use Rattle.cam_gen.specs.Storms.{Words}
 use Rattle.cam_args.specs.declared.Command.{Command}
 use Rattle.cam_script.specs.declared.Script.{Script}
@@ -15,7 +16,10 @@ use Rattle.cam_timed.specs.TimedGrammar.{read_timed}
 use Rattle.cam_run.specs.declared.question.Question.{Question}
 use Rattle.cam_run.specs.declared.question.Question.TheVariants.{Report, Trace, Witness, Why}
 use Rattle.cam_run.specs.declared.question.Question.TheVariants.{Summary}
-use Rattle.cam_run.specs.Told.{IsOfAction, IsOfStop, IsTold, has_action, stop_of, told_status}
+use Rattle.cam_runs.specs.Standing.{Standing}
+use Rattle.cam_why.specs.Causes.{stop_at}
+use Rattle.cam_headline.specs.Headline.{halted_events, halted_run}
+use Rattle.cam_run.specs.Told.{IsOfAction, IsOfStop, IsTold, has_action, told_status}
 use Rattle.cam_image.specs.declared.fault.ImageFault.{ImageFault}
 use Rattle.cam_image.specs.declared.fault.ImageFault.TheVariants.{NotALog, BadRecord}
 use Rattle.cam_image.specs.declared.fault.ImageFault.TheVariants.{NoMemory as NoMemoryOfImage}
@@ -27,25 +31,27 @@ use Rattle.cam_run.specs.Answer.{asked_nodes, asked_status, command_status, node
 use Rattle.cam_run.specs.Answer.{refused_status, status_of, timed_status}
 
 -- the status of what is told
-action_status : (b : Bool) (script : Script) (a : Name) (status : ℕ) (text : List ℕ)
-    → IsOfAction b script a status text → status ≡ (if b then 0 else 8)
-action_status true script a status text told = told.0
-action_status false script a status text told = told.0
+action_status : (b : Bool) (script : Script) (t : List Event) (a : Name) (status : ℕ)
+    (text : List ℕ)
+    → IsOfAction b script t a status text → status ≡ (if b then 0 else 8)
+action_status true script t a status text told = told.0
+action_status false script t a status text told = told.0
 
-stop_status : (o : Option Reason) (script : Script) (event status : ℕ) (text : List ℕ)
-    → IsOfStop o script event status text → status ≡ (if is_some o then 0 else 8)
-stop_status (Some reason) script event status text told = told.0
-stop_status None script event status text told = told.0
+stop_status : (o : Option Reason) (t : List Event) (event status : ℕ) (text : List ℕ)
+    → IsOfStop o t event status text → status ≡ (if is_some o then 0 else 8)
+stop_status (Some reason) t event status text told = told.0
+stop_status None t event status text told = told.0
 
-told_has_status : (question : Question) (script : Script) (status : ℕ) (text : List ℕ)
-    → IsTold question script status text → status ≡ told_status question script
-told_has_status Report script status text told = told.0
-told_has_status Trace script status text told = told.0
-told_has_status (Witness a) script status text told =
-    action_status (has_action script a) script a status text told
-told_has_status (Why event) script status text told =
-    stop_status (stop_of script event) script event status text told
-told_has_status (Summary steps) script status text told = told.0
+told_has_status : (question : Question) (script : Script) (t : List Event) (marks : List Mark)
+    (status : ℕ) (text : List ℕ)
+    → IsTold question script t marks status text → status ≡ told_status question t
+told_has_status Report script t marks status text told = told.0
+told_has_status Trace script t marks status text told = told.0
+told_has_status (Witness a) script t marks status text told =
+    action_status (has_action t a) script t a status text told
+told_has_status (Why event) script t marks status text told =
+    stop_status (stop_at t event) t event status text told
+told_has_status (Summary steps) script t marks status text told = told.0
 
 refused_has_status : (fault : ScriptFault) (status : ℕ) (text : List ℕ)
     → IsRefused fault status text → status ≡ refused_status fault
@@ -59,8 +65,11 @@ script_has_status : (question : Question) (read : Result Script ScriptFault) (fa
     → status ≡ status_of question read
 script_has_status question (Ok script) failed status text (inl of_disk) none =
     absurd (none of_disk.one)
-script_has_status question (Ok script) failed status text (inr told) none =
-    told_has_status question script status text told.1
+script_has_status question (Ok script) failed status text (inr of) none =
+    told_has_status question script (halted_events script of.halts)
+    (halted_run script of.halts).running.marks status text of.told
+    ∙ ap (λ (st : Standing). told_status question st.running.trace)
+    (of.known.one (λ s fell. none (record { node = s; high = fell.0; did = fell.1 })))
 script_has_status question (Err fault) failed status text told none =
     refused_has_status fault status text told
 

@@ -11,16 +11,13 @@ use Rattle.cam_args.specs.declared.ArgsFault.TheVariants.{Usage, NoMemory}
 use Rattle.cam_args.specs.Forms.{IsCommand, IsForm, IsFrom, Finds, IsNoForm, UnlessNoMemory}
 use Rattle.cam_event.specs.declared.Event.{Event}
 use Rattle.cam_gen.specs.Storms.{Words}
-use Rattle.cam_script.specs.declared.Script.{Script}
 use Rattle.cam_run.specs.declared.answer.Answer.{Answer}
 use Rattle.cam_run.specs.Status.{number}
-use Rattle.cam_run.specs.declared.question.Question.{Question}
-use Rattle.cam_run.specs.Told.{IsTold}
 use Rattle.cam_cluster.specs.declared.fault.RunFault.TheVariants as faults
 use Rattle.cam_run.specs.declared.status.Status.TheVariants as statuses
 use Rattle.cam_run.specs.Texts.{disk_fault_text}
-use Rattle.cam_run.specs.Disks.{IsCaused, OneFailed}
-use Rattle.cam_run.specs.Answer.{Failing, IsAnswer, IsOfCommand, IsOfDisk, IsOfRun, IsOfStorm}
+use Rattle.cam_run.specs.Disks.{IsCaused, IsNamed, OneFailed}
+use Rattle.cam_run.specs.Answer.{Failing, IsAnswer, IsOfCommand, IsOfDisk, IsOfStorm, NamesDisk}
 use Rattle.cam_run.specs.Answer.{command_status, nodes_for}
 use Rattle.cam_run.specs.Commands.{storm_of}
 use Rattle.cam_run.proofs.CommandStatus.{command_has_status}
@@ -52,13 +49,20 @@ of_disk nodes failed node Else (Ok a) cause status text =
       names = text;
     })
 
--- the answer where none failed
-pub of_told : {E : Type 0} (question : Question) (script : Script) (failed : ℕ → Type 0)
+-- and where it kept a run from its end
+pub of_named : {E : Type 0} (nodes : ℕ) (failed : ℕ → Type 0) (node : ℕ) (Else : Answer → Type 0)
     (r : Result Answer E)
-    → (OneFailed script.nodes failed → ⊥)
-    → IfOk r (λ a. IsTold question script (number a.status) a.text.items)
-    → IfOk r (λ a. IsOfRun question script failed (number a.status) a.text.items)
-of_told question script failed r none told = IfOk-weaker r _ _ (λ a is. inr (none, is)) told
+    → IsNamed nodes failed (faults.DiskFault node)
+    → IfOk r (λ a. a.status ≡ statuses.DiskFault)
+    → IfOk r (λ a. a.text.items ≡ disk_fault_text node)
+    → IfOk r (λ a. NamesDisk nodes failed (number a.status) a.text.items ⊎ Else a)
+of_named nodes failed node Else (Err e) cause status text = tt
+of_named nodes failed node Else (Ok a) cause status text =
+    inl (record {
+      one = record { node = node; high = cause.0; did = cause.1 };
+      is = ap number status;
+      names = text;
+    })
 
 -- what is said of the command that was read is said of each command of which the words are the form
 pub of_words : (words : List (List ℕ)) (command : Command) (P : Command → List ℕ → Type 0)

@@ -4,8 +4,8 @@ use Rattle.std.specs.Prelude.{reverse, slice_get, IfErr, OnOk}
 use Rattle.std.proofs.lemmas.List.{drop_at, take-append-drop, length-take-le}
 use Rattle.cam_cluster.specs.declared.fault.RunFault.{RunFault}
 use Rattle.cam_cluster.specs.declared.fault.RunFault.TheVariants.{DiskFault, NoMemory}
-use Rattle.cam_cluster.specs.HandedBack.{AreHandedBack, FindsFailed, HasFailed, disk_named}
-use Rattle.cam_run.specs.Disks.{FailedAt, IsCaused, OneFailed}
+use Rattle.cam_cluster.specs.HandedBack.{AreHandedBack, FindsFailed, HasFailed, NamesFailed, disk_named}
+use Rattle.cam_run.specs.Disks.{FailedAmong, FailedAt, IsCaused, IsNamed, OneFailed}
 
 -- disks that nothing happened to are handed back
 pub as_they_were : {D : Type 0} (tells : D → Bool) (faults_of : D → ℕ) (disks : List D)
@@ -164,3 +164,29 @@ run_ended tells faults_of n disks first later whole r is front found =
     (ended_by faults_of n disks later r is.enough
     (first_length tells faults_of n disks later is.enough is.back)
     (subst (λ (xs : List _). FindsFailed faults_of faults_of xs later (disk_named r)) front found))
+
+-- A disk of the first ones that failed is one of so many of the whole list that failed,
+pub failed_over : {D : Type 0} (tells : D → Bool) (faults_of : D → ℕ) (n : ℕ)
+    (disks first later whole : List D)
+    → IsOverFirst tells faults_of n disks later whole → first ≡ take n disks → (s : ℕ)
+    → HasFailed faults_of faults_of s first later
+    → FailedAmong n (FailedAt faults_of disks whole) s
+failed_over tells faults_of n disks first later whole is front s failed = (
+  let high = fell.high in omega (arith, high, length-take-le n disks is.enough),
+  subst (λ (xs : List _). FailedAt faults_of disks xs s) (sym is.all)
+      (failed_of_whole faults_of n disks later is.enough s fell),
+)
+  where
+    fell : HasFailed faults_of faults_of s (take n disks) later
+    fell = subst (λ (xs : List _). HasFailed faults_of faults_of s xs later) front failed
+
+-- and so is the one that the fault of a run names.
+pub named_over : {D T : Type 0} (tells : D → Bool) (faults_of : D → ℕ) (n : ℕ)
+    (disks first later whole : List D) (r : Result T RunFault)
+    → IsOverFirst tells faults_of n disks later whole → first ≡ take n disks
+    → IfErr r (NamesFailed faults_of first later)
+    → IfErr r (IsNamed n (FailedAt faults_of disks whole))
+named_over tells faults_of n disks first later whole (Ok run) is front named = tt
+named_over tells faults_of n disks first later whole (Err (DiskFault s)) is front named =
+    failed_over tells faults_of n disks first later whole is front s named
+named_over tells faults_of n disks first later whole (Err NoMemory) is front named = tt

@@ -1,18 +1,20 @@
--- The record of a run is that of the one run of its script; and why an event stopped an action, by that record.
-use Rattle.std.proofs.Common.{◌≡◌, ℕ, List, Option, Ok, IfOk, refl, ap, ◌∙◌, sym, subst}
-use Rattle.std.specs.Prelude.{Result, reverse}
+-- The record of a run is that of a run of its script; what is told of the record is told of that run.
+use Rattle.std.proofs.Common.{◌≡◌, ℕ, List, Option, refl, ap, ◌∙◌, sym, subst}
+use Rattle.std.specs.Prelude.{reverse}
 use Rattle.std.proofs.lemmas.List.{reverse-reverse}
 use Rattle.cam_know.specs.declared.Reason.{Reason}
 use Rattle.cam_event.specs.declared.Event.{Event}
+use Rattle.cam_event.specs.declared.Mark.{Mark}
 use Rattle.cam_event.specs.declared.RunRecord.{RunRecord}
 use Rattle.cam_event.specs.Readings.{by_pasts}
 use Rattle.cam_runs.specs.HaltedLines.{run_with}
 use Rattle.cam_runs.specs.Running.{has_number}
-use Rattle.cam_runs.specs.Halts.{by_stops}
+use Rattle.cam_runs.specs.Halts.{given}
 use Rattle.cam_runs.specs.Standing.{Standing}
+use Rattle.cam_runs.proofs.HaltedWhole.{halted_runs_are_runs}
+use Rattle.cam_runs.proofs.Range.{script_in_range}
 use Rattle.cam_script.specs.declared.Script.{Script}
-use Rattle.cam_script.specs.Grammar.{read_script}
-use Rattle.cam_words.specs.declared.fault.ScriptFault.{ScriptFault}
+use Rattle.cam_script.specs.Law.{IsScript}
 use Rattle.cam_why.specs.Causes.{IsWhole, stop_at}
 use Rattle.cam_why.specs.Passes.{Refuses}
 use Rattle.cam_why.specs.declared.fault.WhyFault.{WhyFault}
@@ -20,51 +22,67 @@ use Rattle.cam_why.specs.declared.fault.WhyFault.TheVariants.{NoSuchStop}
 use Rattle.cam_why.proofs.Stops.{runs_are_whole}
 use Rattle.cam_report.specs.Whys.{IsWhyText}
 use Rattle.cam_cluster.specs.WholeRuns.{IsRecordOf}
-use Rattle.cam_headline.specs.Headline.{HasOneRun, events, halted_run}
-use Rattle.cam_headline.proofs.Whole.{headline_holds}
+use Rattle.cam_cluster.proofs.RunDisks.{known_by}
+use Rattle.cam_run.specs.declared.question.Question.{Question}
+use Rattle.cam_run.specs.Answer.{IsToldRun}
+use Rattle.cam_run.specs.Disks.{FailedAmong}
 use Rattle.cam_run.specs.Texts.{no_stop_text}
-use Rattle.cam_run.specs.Told.{IsOneRun, IsOfStop, stop_of}
+use Rattle.cam_run.specs.Told.{IsOfStop, IsTold}
 
--- The record is that of the run with some halts, which is the one run.
-pub is_one_run : (script : Script) (run : RunRecord) → IsRecordOf script run → IsOneRun script run
-is_one_run script run is =
-    record {
-      events =
-          ap (λ (t : List Event). reverse t) is.is_run.trace ∙ reverse-reverse made.running.trace
-          ∙ ap (λ (st : Standing). st.running.trace) is.one;
-      marks = is.is_run.marks ∙ ap (λ (st : Standing). st.running.marks) is.one;
-    }
-  where
-    made : Standing
-    made = run_with by_pasts script is.halts
+module _ (script : Script) (failed : ℕ → Type 0) (run : RunRecord)
+    (is : IsRecordOf script (FailedAmong script.nodes failed) run) where
+  abbrev made : Standing
+  made = run_with by_pasts script is.halts
 
--- the events of the record are those of a run
-is_whole : (script : Script) (run : RunRecord) → IsOneRun script run → HasOneRun script → IsWhole (reverse run.trace)
-is_whole script run is one =
-    subst (λ (t : List Event). IsWhole t) (sym is.events)
-    (runs_are_whole.halted script.objects (has_number (halted_run script by_stops).taken)
-    (events script) one.is_run)
+  events_are : reverse run.trace ≡ made.running.trace
+  events_are =
+      ap (λ (t : List Event). reverse t) is.is_run.trace ∙ reverse-reverse made.running.trace
+
+  -- The events of the record are those of a run,
+  pub is_whole : IsScript script → IsWhole (reverse run.trace)
+  is_whole is_script =
+      subst (λ (t : List Event). IsWhole t) (sym events_are)
+      (runs_are_whole.halted script.objects (has_number made.taken) made.running.trace
+      (halted_runs_are_runs script (given is.halts) (script_in_range script is_script)))
+
+  -- and what is told of the record is told of the run.
+  pub told_of_run : (question : Question) (status : ℕ) (text : List ℕ)
+      → IsTold question script (reverse run.trace) run.marks status text
+      → IsToldRun question script failed status text
+  told_of_run question status text told = record {
+    halts = given is.halts;
+    known = is.known;
+    told =
+        subst (λ (z : List Event × List Mark). IsTold question script z.0 z.1 status text)
+        (λ i. (events_are i, is.is_run.marks i)) told;
+  }
+
+-- So it is where more disks are known to have failed.
+pub record_by : (script : Script) (failed of : ℕ → Type 0) (run : RunRecord)
+    → ((s : ℕ) → failed s → of s) → IsRecordOf script failed run → IsRecordOf script of run
+record_by script failed of run so is = record {
+  halts = is.halts;
+  is_run = is.is_run;
+  known = known_by script (given is.halts) failed of so is.known;
+}
 
 -- why an event stopped an action, by the record
-pub has_stop : (script : Script) (run : RunRecord) (event : ℕ) (text : List ℕ) → IsOneRun script run → HasOneRun script
+pub has_stop : (run : RunRecord) (event : ℕ) (text : List ℕ) → IsWhole (reverse run.trace)
     → (IsWhole (reverse run.trace) → IsWhyText (reverse run.trace) event text)
-    → IsOfStop (stop_of script event) script event 0 text
-has_stop script run event text is one told =
-    let why : IsWhyText (events script) event text =
-    subst (λ (t : List Event). IsWhyText t event text) is.events (told (is_whole script run is one)) in
-    subst (λ (o : Option Reason). IsOfStop o script event 0 text) (sym why.answers.stops) (refl, why)
+    → IsOfStop (stop_at (reverse run.trace) event) (reverse run.trace) event 0 text
+has_stop run event text whole told =
+    let why : IsWhyText (reverse run.trace) event text = told whole in
+    subst (λ (o : Option Reason). IsOfStop o (reverse run.trace) event 0 text)
+    (sym why.answers.stops) (refl, why)
 
 -- an event that stopped no action, by the record
-pub has_no_stop : (script : Script) (run : RunRecord) (event : ℕ) (fault : WhyFault) (text : List ℕ) → IsOneRun script run → HasOneRun script
-    → fault ≡ NoSuchStop → (IsWhole (reverse run.trace) → Refuses (reverse run.trace) event fault) → text ≡ no_stop_text
-    → IsOfStop (stop_of script event) script event 8 text
-has_no_stop script run event fault text is one stopless none told =
+pub has_no_stop : (run : RunRecord) (event : ℕ) (fault : WhyFault) (text : List ℕ)
+    → IsWhole (reverse run.trace) → fault ≡ NoSuchStop
+    → (IsWhole (reverse run.trace) → Refuses (reverse run.trace) event fault)
+    → text ≡ no_stop_text
+    → IsOfStop (stop_at (reverse run.trace) event) (reverse run.trace) event 8 text
+has_no_stop run event fault text whole stopless none told =
     let refused : Refuses (reverse run.trace) event NoSuchStop =
-    subst (λ (f : WhyFault). Refuses (reverse run.trace) event f) stopless (none (is_whole script run is one)) in
-    subst (λ (o : Option Reason). IsOfStop o script event 8 text)
-    (sym (ap (λ (t : List Event). stop_at t event) (sym is.events) ∙ refused)) (refl, told)
-
--- of a script that was read the headline holds
-pub read_has_one_run : (bytes : List ℕ) (script : Script) → read_script bytes ≡ Ok script → HasOneRun script
-read_has_one_run bytes script is =
-    subst (λ (read : Result Script ScriptFault). IfOk read HasOneRun) is (headline_holds bytes)
+    subst (λ (f : WhyFault). Refuses (reverse run.trace) event f) stopless (none whole) in
+    subst (λ (o : Option Reason). IsOfStop o (reverse run.trace) event 8 text) (sym refused)
+    (refl, told)

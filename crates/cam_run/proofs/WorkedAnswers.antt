@@ -14,8 +14,10 @@ use Rattle.cam_script.specs.Grammar.{read_script}
 use Rattle.cam_script.proofs.Read.{read}
 use Rattle.cam_run.specs.Texts.{refused_text}
 use Rattle.cam_run.specs.declared.question.Question.TheVariants.{Report}
-use Rattle.cam_run.specs.Told.{script_report}
-use Rattle.cam_run.specs.Answer.{IsOfScript}
+use Rattle.cam_runs.specs.Halts.{by_stops}
+use Rattle.cam_headline.specs.Headline.{events, one_run}
+use Rattle.cam_run.specs.Told.{report_of}
+use Rattle.cam_run.specs.Answer.{IsOfScript, IsToldRun}
 use Rattle.cam_run.specs.Worked.{open_call, open_call_report, refused_call, refused_call_report, repeated_letter, repeated_letter_report, stopped_commit, stopped_commit_report, unknown_line, unknown_line_text, none, AreWorked}
 
 -- the grammar with its definitions opened
@@ -27,6 +29,22 @@ opened bytes = refl
 answers : (input : List ℕ) (is : Result Script ScriptFault) (status : ℕ) (text : List ℕ) → read input ≡ is → IsOfScript Report is none status text → IsOfScript Report (read_script input) none status text
 answers input is status text spelled answer =
     subst (λ r. IsOfScript Report r none status text) (sym (opened input ∙ spelled)) answer
+
+-- the report of the one run of a script
+abbrev one_report : Script → List ℕ
+one_report script = report_of script (events script) (one_run script).marks
+
+-- what is told of that run: its halts are those that its stop lines make
+of_one : (script : Script) (text : List ℕ) → text ≡ one_report script
+    → IsToldRun Report script none 0 text
+of_one script text told = record {
+  halts = by_stops;
+  known = record {
+    stops = λ s low never more before line appends restarted is. refl;
+    one = λ never. refl;
+  };
+  told = (refl, told);
+}
 
 -- one node and the register x, which holds this number
 abbrev script : ℕ → List Step → Script
@@ -68,7 +86,7 @@ open_spelled : read open_call ≡ Ok (script 0 open_steps)
 unfolding read
 open_spelled = refl
 
-open_reported : script_report (script 0 open_steps) ≡ open_call_report
+open_reported : one_report (script 0 open_steps) ≡ open_call_report
 unfolding digits
 open_reported = refl
 
@@ -76,7 +94,7 @@ refused_spelled : read refused_call ≡ Ok (script 0 refused_steps)
 unfolding read
 refused_spelled = refl
 
-refused_reported : script_report (script 0 refused_steps) ≡ refused_call_report
+refused_reported : one_report (script 0 refused_steps) ≡ refused_call_report
 unfolding digits
 refused_reported = refl
 
@@ -84,7 +102,7 @@ repeated_spelled : read repeated_letter ≡ Ok (script 7 repeated_steps)
 unfolding read
 repeated_spelled = refl
 
-repeated_reported : script_report (script 7 repeated_steps) ≡ repeated_letter_report
+repeated_reported : one_report (script 7 repeated_steps) ≡ repeated_letter_report
 unfolding digits
 repeated_reported = refl
 
@@ -116,7 +134,7 @@ stopped_spelled : read stopped_commit ≡ Ok stopped_script
 unfolding read
 stopped_spelled = refl
 
-stopped_reported : script_report stopped_script ≡ stopped_commit_report
+stopped_reported : one_report stopped_script ≡ stopped_commit_report
 unfolding digits
 stopped_reported = refl
 
@@ -131,9 +149,9 @@ unknown_told = refl
 pub are_worked : AreWorked
 are_worked =
     record {
-      open_call_is_shown = answers open_call (Ok (script 0 open_steps)) 0 open_call_report open_spelled (inr (λ one. one.did, (refl, sym open_reported)));
-      refused_call_is_marked = answers refused_call (Ok (script 0 refused_steps)) 0 refused_call_report refused_spelled (inr (λ one. one.did, (refl, sym refused_reported)));
-      repeated_letter_is_performed_once = answers repeated_letter (Ok (script 7 repeated_steps)) 0 repeated_letter_report repeated_spelled (inr (λ one. one.did, (refl, sym repeated_reported)));
-      stopped_commit_is_taken = answers stopped_commit (Ok stopped_script) 0 stopped_commit_report stopped_spelled (inr (λ one. one.did, (refl, sym stopped_reported)));
+      open_call_is_shown = answers open_call (Ok (script 0 open_steps)) 0 open_call_report open_spelled (inr (of_one _ _ (sym open_reported)));
+      refused_call_is_marked = answers refused_call (Ok (script 0 refused_steps)) 0 refused_call_report refused_spelled (inr (of_one _ _ (sym refused_reported)));
+      repeated_letter_is_performed_once = answers repeated_letter (Ok (script 7 repeated_steps)) 0 repeated_letter_report repeated_spelled (inr (of_one _ _ (sym repeated_reported)));
+      stopped_commit_is_taken = answers stopped_commit (Ok stopped_script) 0 stopped_commit_report stopped_spelled (inr (of_one _ _ (sym stopped_reported)));
       unknown_line_is_refused = answers unknown_line (Err (Bad 3 1 causes.UnknownWord)) 3 unknown_line_text unknown_read (refl, sym unknown_told);
     }

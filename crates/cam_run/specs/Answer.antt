@@ -5,7 +5,8 @@
 -- 3 where the script or the image is refused: the line of its first fault
 -- 4 `read fault`, where the source failed
 -- 5 a prefix of one of these texts, where the sink failed
--- 6 `disk fault NODE`, where the disk of that node failed by itself in the run, or in the storm
+-- 6 `disk fault NODE`, where the disk of that node failed by itself: while it was formatted, before a restart of
+--   the node that failed, or in the storm
 -- 7 nothing, where memory ran out
 -- 8 where the run has no such action, or no such stop: a line that says so
 use Rattle.std.specs.Prelude.{ℕ, ◌≡◌, ◌≤◌, ◌⊎◌, true, List, ◌++◌, length, take, Option, Result, Ok, Err, IfOk}
@@ -14,7 +15,10 @@ use Rattle.cam_args.specs.Forms.{IsForm as IsFormOf}
 use Rattle.cam_base.specs.Told.{IfTold}
 use Rattle.cam_event.specs.declared.Event.{Event}
 use Rattle.cam_gen.specs.Storms.{Words}
+use Rattle.cam_runs.specs.Halts.{Halting}
 use Rattle.cam_script.specs.declared.Script.{Script}
+use Rattle.cam_cluster.specs.KnownHalts.{AreKnown}
+use Rattle.cam_headline.specs.Headline.{events}
 use Rattle.cam_words.specs.declared.fault.ScriptFault.{ScriptFault}
 use Rattle.cam_words.specs.declared.fault.ScriptFault.TheVariants.{Bad, NoMemory}
 use Rattle.cam_words.specs.Causes.{cause_number}
@@ -26,10 +30,10 @@ use Rattle.cam_run.specs.declared.question.Question.{Question}
 use Rattle.cam_run.specs.Texts.{usage_text, read_fault_text, disk_fault_text, refused_text}
 use Rattle.cam_run.specs.Commands.{Asked, IsForm, asked_by, bytes_for}
 use Rattle.cam_run.specs.Commands.{by_time, of_image, of_run, of_storm, reads}
-use Rattle.cam_run.specs.Disks.{NoneBefore, OneFailed}
+use Rattle.cam_run.specs.Disks.{FailedAmong, NoneBefore, OneFailed}
 use Rattle.cam_run.specs.Image.{IsOfImage, image_status, made}
 use Rattle.cam_run.specs.Storm.{IsToldOfStorm}
-use Rattle.cam_run.specs.Told.{IsTold, told_status}
+use Rattle.cam_run.specs.Told.{IsToldOf, told_status}
 
 -- what failed in a call: the source, and of the disks that of the node of a number
 pub record Failing : Type 1 where
@@ -50,11 +54,23 @@ pub record IsOfDisk (nodes : ℕ) (failed : ℕ → Type 0) (status : ℕ) (text
     pub is : status ≡ 6
     pub names : text ≡ disk_fault_text one.node
 
--- the answer to a question about a script: what is told of its run just where no disk failed in it
+-- the answer that names a disk that failed, of one of so many nodes
+pub record NamesDisk (nodes : ℕ) (failed : ℕ → Type 0) (status : ℕ) (text : List ℕ) : Type 0 where
+  pub one : OneFailed nodes failed
+  pub is : status ≡ 6
+  pub names : text ≡ disk_fault_text one.node
+
+-- what is told of a run of a script with halts that are known by which disks failed in it
+pub record IsToldRun (question : Question) (script : Script) (failed : ℕ → Type 0) (status : ℕ)
+    (text : List ℕ) : Type 0 where
+  pub halts : Halting
+  pub known : AreKnown script halts (FailedAmong script.nodes failed)
+  pub told : IsToldOf question script halts status text
+
+-- the answer to a question about a script
 abbrev pub IsOfRun : Question → Script → (ℕ → Type 0) → ℕ → List ℕ → Type 0
 IsOfRun question script failed status text =
-    IsOfDisk script.nodes failed status text
-    ⊎ ((OneFailed script.nodes failed → ⊥) × IsTold question script status text)
+    NamesDisk script.nodes failed status text ⊎ IsToldRun question script failed status text
 
 -- the answer to a question, by what the bytes spell: a script, or a refusal
 abbrev pub IsOfScript : Question → Result Script ScriptFault → (ℕ → Type 0) → ℕ → List ℕ → Type 0
@@ -134,7 +150,7 @@ refused_status (Bad line column cause) = 3
 refused_status NoMemory = 7
 
 abbrev pub status_of : Question → Result Script ScriptFault → ℕ
-status_of question (Ok script) = told_status question script
+status_of question (Ok script) = told_status question (events script)
 status_of question (Err fault) = refused_status fault
 
 abbrev pub timed_status : Result TimedScript ScriptFault → ℕ

@@ -61,11 +61,6 @@ pub fn camelot_alone<S: Source, K: Sink, D: TellingDisk, R: DataType, Q: DataTyp
         → ¬ (OneFailed (nodes_for command.now input)
         (FailedAt D.faults disks.old.items disks.new.items))
         → (result ≡ command_status command.now input) ⊎ (result ≡ 7)) }
-    // A disk that failed by itself keeps the text of the run from being written.
-    ensures failed { IfTold (S.left source.old) (S.left source.new) (λ input _.
-        OneFailed (nodes_for command.now input)
-        (FailedAt D.faults disks.old.items disks.new.items)
-        → (result ≡ 4) ⊎ ((result ≡ 5) ⊎ ((result ≡ 6) ⊎ (result ≡ 7)))) }
     // The script that is made from a seed is never refused.
     ensures generated { (seed size : ℕ) → command.now ≡ Gen seed size → size ≤ 400
         → (result ≡ 0) ⊎ ((result ≡ 5) ⊎ ((result ≡ 6) ⊎ (result ≡ 7))) }
@@ -73,14 +68,16 @@ pub fn camelot_alone<S: Source, K: Sink, D: TellingDisk, R: DataType, Q: DataTyp
     // What the disks of a script's run keep, and where the sink alone failed: as `recovered` and `recovered_unwritten` of `camelot` say.
     ensures recovered { IfTold (S.left source.old) (S.left source.new) (λ input _.
         (result ≡ 0) ⊎ (result ≡ 8) → IfRuns command.now input (λ script.
-        LeavesDisks D.tells D.moment D.left_since script disks.new.items)) }
+        LeavesDisks (FailedAt D.faults disks.old.items disks.new.items)
+        D.tells D.moment D.left_since script disks.new.items)) }
     ensures recovered_unwritten { IfTold (S.left source.old) (S.left source.new) (λ input _.
         result ≡ 5
         → ¬ (Rose (S.faults source.old) (S.faults source.new))
         → ¬ (OneFailed (nodes_for command.now input)
         (FailedAt D.faults disks.old.items disks.new.items))
         → IfRuns command.now input (λ script.
-        LeavesDisks D.tells D.moment D.left_since script disks.new.items)) }
+        LeavesDisks (FailedAt D.faults disks.old.items disks.new.items)
+        D.tells D.moment D.left_since script disks.new.items)) }
 
     // The source, read to its end or not at all.
     ensures read { reads command.now ≡ true → (result ≡ 0) ⊎ (result ≡ 8)
@@ -135,7 +132,8 @@ pub(crate) fn obey<S: Source, D: TellingDisk, R: DataType, Q: DataType, C: DataT
     ensures unread { reads command.now ≡ false → source.new ≡ source.old }
     ensures recovered { IfTold (S.left source.old) (S.left source.new) (λ input _.
         IfOk result (λ a. IsTelling a.status → IfRuns command.now input (λ script.
-        LeavesDisks D.tells D.moment D.left_since script disks.new.items))) }
+        LeavesDisks (FailedAt D.faults disks.old.items disks.new.items)
+        D.tells D.moment D.left_since script disks.new.items))) }
     ensures back { AreHandedBack D.tells D.faults disks.old.items disks.new.items }
     ensures others { IfTold (S.left source.old) (S.left source.new) (λ input _.
         drop (nodes_for command.now input) disks.new.items

@@ -1,12 +1,12 @@
 //! What a command asks of the run of a script, and the answer.
-ghost use Rattle.std.specs.Prelude.{◌≡◌, ◌≤◌, IfOk, drop, length};
+ghost use Rattle.std.specs.Prelude.{◌≡◌, ◌≤◌, IfOk, drop, length, reverse};
 ghost use Rattle.cam_script.specs.Law.{IsScript};
 ghost use Rattle.cam_cluster.specs.HandedBack.{AreHandedBack};
-ghost use Rattle.cam_headline.specs.Headline.{HasOneRun};
 ghost use Rattle.cam_run.specs.declared.question.Question.TheVariants as questions;
 ghost use Rattle.cam_run.specs.Status.{number};
 ghost use Rattle.cam_run.specs.declared.status.Status.TheVariants as statuses;
-ghost use Rattle.cam_run.specs.Told.{ComesOfRun, IsOneRun, IsTold, IsTelling};
+ghost use Rattle.cam_run.specs.Told.{ComesOfRun, IsTold, IsTelling};
+ghost use Rattle.cam_why.specs.Causes.{IsWhole};
 ghost use Rattle.cam_run.specs.Disks.{FailedAt, LeavesDisks, OneFailed};
 ghost use Rattle.cam_run.specs.Answer.{IsOfRun};
 
@@ -51,7 +51,6 @@ impl Question {
         servers: &mut Servers<R, Q, C>,
     ) -> Result<Answer, NoMemory>
         requires script { IsScript script.now }
-        requires run { HasOneRun script.now }
         requires enough { script.now.nodes ≤ length disks.old.items }
         ensures answer { IfOk result (λ a. IsOfRun self.now script.now
             (FailedAt D.faults disks.old.items disks.new.items) (number a.status) a.text.items) }
@@ -62,10 +61,11 @@ impl Question {
         ensures others { drop script.now.nodes disks.new.items
             ≡ drop script.now.nodes disks.old.items }
         ensures recovered { IfOk result (λ a. IsTelling a.status
-            → LeavesDisks D.tells D.moment D.left_since script.now disks.new.items) }
+            → LeavesDisks (FailedAt D.faults disks.old.items disks.new.items)
+            D.tells D.moment D.left_since script.now disks.new.items) }
     {
         match run(alloc, script, disks, servers) {
-            Ok(run) => self.tell(alloc, script, &run),
+            Ok(record) => self.tell(alloc, script, &record),
             Err(RunFault::DiskFault(node)) => disk_fault(alloc, node),
             Err(RunFault::NoMemory) => Err(NoMemory),
         }
@@ -73,10 +73,10 @@ impl Question {
 
     /// What is told of the run of the script.
     fn tell(&self, alloc: Global, script: &Script, run: &RunRecord) -> Result<Answer, NoMemory>
-        requires one { IsOneRun script.now run.now }
-        requires run { HasOneRun script.now }
+        requires { IsWhole (reverse run.now.trace) }
         ensures told { IfOk result
-            (λ a. IsTold self.now script.now (number a.status) a.text.items) }
+            (λ a. IsTold self.now script.now (reverse run.now.trace) run.now.marks
+            (number a.status) a.text.items) }
         ensures telling { IfOk result (λ a. IsTelling a.status) }
     {
         match self {
@@ -91,9 +91,9 @@ impl Question {
 
 /// The report of a run.
 fn report(alloc: Global, script: &Script, run: &RunRecord) -> Result<Answer, NoMemory>
-    requires { IsOneRun script.now run.now }
     ensures told { IfOk result
-        (λ a. IsTold questions.Report script.now (number a.status) a.text.items) }
+        (λ a. IsTold questions.Report script.now (reverse run.now.trace) run.now.marks
+        (number a.status) a.text.items) }
     ensures telling { IfOk result (λ a. IsTelling a.status) }
 {
     Ok(Answer {
@@ -104,9 +104,9 @@ fn report(alloc: Global, script: &Script, run: &RunRecord) -> Result<Answer, NoM
 
 /// The events of a run.
 fn trace(alloc: Global, script: &Script, run: &RunRecord) -> Result<Answer, NoMemory>
-    requires { IsOneRun script.now run.now }
     ensures told { IfOk result
-        (λ a. IsTold questions.Trace script.now (number a.status) a.text.items) }
+        (λ a. IsTold questions.Trace script.now (reverse run.now.trace) run.now.marks
+        (number a.status) a.text.items) }
     ensures telling { IfOk result (λ a. IsTelling a.status) }
 {
     Ok(Answer {
@@ -117,9 +117,8 @@ fn trace(alloc: Global, script: &Script, run: &RunRecord) -> Result<Answer, NoMe
 
 /// The witness of an action, if it was created in the run.
 fn witness(alloc: Global, script: &Script, run: &RunRecord, name: &Name) -> Result<Answer, NoMemory>
-    requires { IsOneRun script.now run.now }
     ensures told { IfOk result
-        (λ a. IsTold (questions.Witness name.now) script.now
+        (λ a. IsTold (questions.Witness name.now) script.now (reverse run.now.trace) run.now.marks
         (number a.status) a.text.items) }
     ensures telling { IfOk result (λ a. IsTelling a.status) }
 {
@@ -138,10 +137,10 @@ fn witness(alloc: Global, script: &Script, run: &RunRecord, name: &Name) -> Resu
 
 /// Why an event stopped an action, if it did.
 fn why(alloc: Global, script: &Script, run: &RunRecord, event: u32) -> Result<Answer, NoMemory>
-    requires one { IsOneRun script.now run.now }
-    requires run { HasOneRun script.now }
+    requires { IsWhole (reverse run.now.trace) }
     ensures told { IfOk result
-        (λ a. IsTold (questions.Why event) script.now (number a.status) a.text.items) }
+        (λ a. IsTold (questions.Why event) script.now (reverse run.now.trace) run.now.marks
+        (number a.status) a.text.items) }
     ensures telling { IfOk result (λ a. IsTelling a.status) }
 {
     match why_text(alloc, run, event) {
@@ -159,9 +158,8 @@ fn why(alloc: Global, script: &Script, run: &RunRecord, event: u32) -> Result<An
 
 /// The numbers of a run, with the digest of its report.
 fn summary(alloc: Global, script: &Script, run: &RunRecord, steps: u32) -> Result<Answer, NoMemory>
-    requires { IsOneRun script.now run.now }
     ensures told { IfOk result
-        (λ a. IsTold (questions.Summary steps) script.now
+        (λ a. IsTold (questions.Summary steps) script.now (reverse run.now.trace) run.now.marks
         (number a.status) a.text.items) }
     ensures telling { IfOk result (λ a. IsTelling a.status) }
 {

@@ -58,7 +58,8 @@ pub(crate) fn of_source<S: Source, D: TellingDisk, R: DataType, Q: DataType, C: 
         ≡ drop (nodes_of (read_script input)) disks.old.items) }
     ensures recovered { IfTold (S.left source.old) (S.left source.new) (λ input _.
         IfOk result (λ a. IsTelling a.status → IfOk (read_script input) (λ script.
-        LeavesDisks D.tells D.moment D.left_since script disks.new.items))) }
+        LeavesDisks (FailedAt D.faults disks.old.items disks.new.items)
+        D.tells D.moment D.left_since script disks.new.items))) }
 {
     match read_all(alloc, source, MOST_BYTES) {
         Ok(bytes) => of_bytes(alloc, question, &bytes, disks, servers),
@@ -94,7 +95,8 @@ pub(crate) fn of_seed<D: TellingDisk, R: DataType, Q: DataType, C: DataType>(
         ≡ drop (nodes_of (read_script (generated seed size))) disks.old.items }
     ensures recovered { IfOk result (λ a. IsTelling a.status
         → IfOk (read_script (generated seed size)) (λ script.
-        LeavesDisks D.tells D.moment D.left_since script disks.new.items)) }
+        LeavesDisks (FailedAt D.faults disks.old.items disks.new.items)
+        D.tells D.moment D.left_since script disks.new.items)) }
 {
     let script = cam_gen::script_of(alloc, seed, size)?;
     of_bytes(
@@ -130,7 +132,8 @@ fn of_bytes<D: TellingDisk, R: DataType, Q: DataType, C: DataType>(
         ≡ drop (nodes_of (read_script bytes.now)) disks.old.items }
     ensures recovered { IfOk result (λ a. IsTelling a.status
         → IfOk (read_script bytes.now) (λ script.
-        LeavesDisks D.tells D.moment D.left_since script disks.new.items)) }
+        LeavesDisks (FailedAt D.faults disks.old.items disks.new.items)
+        D.tells D.moment D.left_since script disks.new.items)) }
 {
     match parse(alloc, bytes) {
         Ok(script) => question.answer(alloc, &script, disks, servers),

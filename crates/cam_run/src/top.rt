@@ -6,8 +6,9 @@ ghost use Rattle.cam_args.specs.declared.Command.{Command as Commands};
 ghost use Rattle.cam_args.specs.declared.Command.TheVariants.{Gen, Storm as StormWords};
 ghost use Rattle.cam_args.specs.Forms.{IsForm as IsFormOf};
 ghost use Rattle.cam_cluster.specs.HandedBack.{AreHandedBack};
-ghost use Rattle.cam_headline.specs.Headline.{HasOneRun};
+ghost use Rattle.cam_headline.specs.Headline.{HasHaltedRun};
 ghost use Rattle.cam_image.specs.Laws.{UpgradeIsMigration, UpgradeIsOnce};
+ghost use Rattle.cam_runs.specs.Halts.{Halting};
 ghost use Rattle.cam_script.specs.Grammar.{read_script};
 ghost use Rattle.cam_timed.specs.TimedGrammar.{read_timed};
 ghost use Rattle.cam_timed.specs.TimedHeadline.{HasTimedRun};
@@ -41,10 +42,11 @@ use std::thread::Threads;
 /// of the disks, with so many threads for each, and reports the run that is gathered from them.
 ///
 /// The answer is the status of the program: 0 the text of the command was written; 2 the words are no form; 3 the script or the image was
-/// refused; 4 the source failed; 5 the sink failed, and a prefix of the text was written; 6 a disk failed by itself, in a run or a storm; 7 out of
+/// refused; 4 the source failed; 5 the sink failed, and a prefix of the text was written; 6 a disk failed by itself: while it was
+/// formatted, in a run in which a restart of its node then failed, or in a storm; 7 out of
 /// memory, and nothing was written; 8 the run has no such action, or no such stop. The text is made whole before the first write. What
 /// the run of each accepted script owes, and that of a storm, is told in `docs/HEADLINE.md`, and the rules of runs by time in `docs/RUNS-BY-TIME.md`.
-#[tactic(auto, using(cam_headline::proofs::Whole::headline_holds, cam_timed::proofs::TimedWhole::timed_headline_holds, cam_image::proofs::Again::upgrade_is_migration, cam_image::proofs::Again::upgrade_is_once))]
+#[tactic(auto, using(cam_headline::proofs::Whole::halted_headline, cam_timed::proofs::TimedWhole::timed_headline_holds, cam_image::proofs::Again::upgrade_is_migration, cam_image::proofs::Again::upgrade_is_once))]
 pub fn camelot<
     T: Threads + Wait + Sync,
     S: Source,
@@ -91,27 +93,23 @@ pub fn camelot<
         → ¬ (OneFailed (nodes_for command input)
         (FailedAt D.faults disks.old.items disks.new.items))
         → (result ≡ command_status command input) ⊎ (result ≡ 7)) }
-    // A disk that failed by itself keeps the text of the run from being written.
-    ensures failed { IfTold (S.left source.old) (S.left source.new) (λ input _.
-        (command : Commands) → IsFormOf (map string_bytes words.now) command
-        → OneFailed (nodes_for command input)
-        (FailedAt D.faults disks.old.items disks.new.items)
-        → (result ≡ 4) ⊎ ((result ≡ 5) ⊎ ((result ≡ 6) ⊎ (result ≡ 7)))) }
     // The script that is made from a seed is never refused.
     ensures generated { (seed size : ℕ) → IsFormOf (map string_bytes words.now) (Gen seed size)
         → (result ≡ 0) ⊎ ((result ≡ 5) ⊎ ((result ≡ 6) ⊎ (result ≡ 7))) }
 
-    // Of every script that is accepted: the run that is told of is the one run of the step rules; each action in it, orphan or not, has
-    // its view in a legal execution in which it is no orphan; committed top actions replay serially in commit order, in a list that
-    // has each answer of an action that has committed with all its ancestors; no two nodes hold different outcomes; and a log that keeps
-    // a node's history gives what the node keeps over a restart.
-    ensures headline { (input : List ℕ) → IfOk (read_script input) HasOneRun }
+    // Of every script that is accepted, and whichever inputs are halts: the run that is told of is the run of the step rules with these
+    // halts; each action in it, orphan or not, has its view in a legal execution in which it is no orphan; committed top actions replay
+    // serially in commit order, in a list that has each answer of an action that has committed with all its ancestors; no two nodes hold
+    // different outcomes; and a log that keeps a node's history gives what the node keeps over a restart.
+    ensures headline { (input : List ℕ)
+        → IfOk (read_script input) (λ script. (halts : Halting) → HasHaltedRun script halts) }
     // So the disks of its nodes: whatever a crash now leaves of one is a log; what may be recovered of a node that is not halted at the
     // end is what the node kept, and of one that is halted it is that, or what the node would have kept with the event at which it halted.
     ensures recovered { IfTold (S.left source.old) (S.left source.new) (λ input _.
         (command : Commands) → IsFormOf (map string_bytes words.now) command
         → (result ≡ 0) ⊎ (result ≡ 8) → IfRuns command input (λ script.
-        LeavesDisks D.tells D.moment D.left_since script disks.new.items)) }
+        LeavesDisks (FailedAt D.faults disks.old.items disks.new.items)
+        D.tells D.moment D.left_since script disks.new.items)) }
     // So it is where the sink alone failed, since the text is made before the first write.
     ensures recovered_unwritten { IfTold (S.left source.old) (S.left source.new) (λ input _.
         (command : Commands) → IsFormOf (map string_bytes words.now) command → result ≡ 5
@@ -119,7 +117,8 @@ pub fn camelot<
         → ¬ (OneFailed (nodes_for command input)
         (FailedAt D.faults disks.old.items disks.new.items))
         → IfRuns command input (λ script.
-        LeavesDisks D.tells D.moment D.left_since script disks.new.items)) }
+        LeavesDisks (FailedAt D.faults disks.old.items disks.new.items)
+        D.tells D.moment D.left_since script disks.new.items)) }
 
     // Of every script by time that is accepted: its run keeps the rules of runs by time; each action in it, whatever became of its
     // ancestors, has its view in a legal execution in which it is no orphan; committed top actions replay serially in commit order, in a
@@ -206,11 +205,6 @@ fn answer_to<
         → ¬ (OneFailed (nodes_for command input)
         (FailedAt D.faults disks.old.items disks.new.items))
         → number a.status ≡ command_status command input)) }
-    ensures failed { IfTold (S.left source.old) (S.left source.new) (λ input _.
-        (command : Commands) → IsFormOf (map string_bytes words.now) command
-        → IfOk result (λ a. OneFailed (nodes_for command input)
-        (FailedAt D.faults disks.old.items disks.new.items)
-        → (number a.status ≡ 4) ⊎ (number a.status ≡ 6))) }
     ensures generated { (seed size : ℕ) → IsFormOf (map string_bytes words.now) (Gen seed size)
         → IfOk result (λ a. (number a.status ≡ 0) ⊎ (number a.status ≡ 6)) }
     ensures statuses { IfOk result (λ a. MayAnswer a.status) }
@@ -227,7 +221,8 @@ fn answer_to<
     ensures recovered { IfTold (S.left source.old) (S.left source.new) (λ input _.
         (command : Commands) → IsFormOf (map string_bytes words.now) command
         → IfOk result (λ a. IsTelling a.status → IfRuns command input (λ script.
-        LeavesDisks D.tells D.moment D.left_since script disks.new.items))) }
+        LeavesDisks (FailedAt D.faults disks.old.items disks.new.items)
+        D.tells D.moment D.left_since script disks.new.items))) }
     ensures back { AreHandedBack D.tells D.faults disks.old.items disks.new.items }
     ensures others { IfTold (S.left source.old) (S.left source.new) (λ input _.
         (command : Commands) → IsFormOf (map string_bytes words.now) command

@@ -2,7 +2,7 @@
 ghost use Rattle.std.specs.Prelude.{◌≡◌, ◌≤◌, [], IfErr, IfOk, OnErr, OnOk, length, vec_capacity};
 ghost use Rattle.cam_script.specs.Law.{IsScript};
 ghost use Rattle.cam_cluster.specs.Between.{KeepsBetween};
-ghost use Rattle.cam_cluster.specs.declared.works.failing.Failed.TheVariants.{Nothing};
+ghost use Rattle.cam_cluster.specs.Failing.{nothing_failed};
 ghost use Rattle.cam_cluster.specs.Founding.{before_first};
 ghost use Rattle.cam_cluster.specs.HandedBack.{AreHandedBack, AreLater, NamesFailed};
 
@@ -35,7 +35,7 @@ impl<D: Disk> Lines<Ckpt<StopDisk<D>>> {
         ensures later { IfOk result (λ lines. AreLater D.tells D.faults (λ n. n.tells)
             (λ n. n.failures) disks.old.items
             (⟦<Lines<Ckpt<StopDisk<D>>> as AsLines>⟧.fields lines).works.nodes) }
-        ensures nothing { IfOk result (λ lines. lines.works.failed ≡ Nothing) }
+        ensures nothing { IfOk result (λ lines. lines.works.failed ≡ nothing_failed) }
         ensures empty { OnOk result (disks.new.items ≡ []) }
         ensures back { OnErr result
             (AreHandedBack D.tells D.faults disks.old.items disks.new.items) }

@@ -19,7 +19,7 @@ impl<L: CheckpointLog> Works<L> {
             nodes,
             outbox: Outbox::new(alloc),
             halted: [false; 8],
-            failed: Failed::Nothing,
+            failed: Failed::nothing(),
             undecided: Vec::new(alloc),
             events: NumberedEvents::new(alloc),
             marks: Vec::new(alloc),

@@ -10,7 +10,6 @@ ghost use Rattle.cam_cluster.specs.Failing.{DisksGoOn};
 ghost use Rattle.cam_cluster.specs.Puts.{KeepsAsBefore};
 ghost use Rattle.cam_cluster.specs.Restarts.{HasFoundByStop, HasRestartedAs};
 
-use super::failing::Failed;
 use super::found::mark_taken;
 use super::undecided::{close, newest_of, take_found};
 use super::{AsWorks, Works, is_halted};
@@ -28,8 +27,8 @@ pub(crate) enum Restart {
     Stood,
     /// It stands, and the log has the event at which the node had halted: the event stands at its place.
     Found,
-    /// It failed by the node's disk, or memory ran out in it, and the node is halted. It is known which. The run ends there: of what
-    /// else the works keep then nothing is said.
+    /// It failed: the node's disk has failed, or memory ran out, and the node is halted. The run ends there: of what else the works
+    /// keep then nothing is said.
     Failed,
 }
 
@@ -107,8 +106,8 @@ impl<L: TellingLog> Works<L> {
             }
             Err(_) => {
                 self.failed = self.failed_since(place, before);
-                // its disk does all calls: where none of them failed, memory ran out
-                self.failed = self.failed.then(Failed::Memory);
+                // its disk does all calls: if none of them failed, memory ran out
+                self.failed = self.failed.after_restart(place);
                 self.halted[place] = true;
                 Ok(Restart::Failed)
             }

@@ -5,7 +5,6 @@ ghost use Rattle.cam_disk.specs.declared.error.DiskError.TheVariants.{Failed};
 ghost use Rattle.cam_disk.specs.Disk.{FailsWithCause};
 
 use super::{Answer, answer_over, check_numbered_answer, source, words};
-use crate::check::same;
 use cam_disk::{Disk, DiskError, MemoryDisk, TellingDisk};
 use std::alloc::Global;
 use std::process::Abort;
@@ -13,26 +12,31 @@ use std::sync::Wait;
 use std::test::Fail;
 use std::thread::Threads;
 
-/// A disk that fails by itself once it has done so many calls: it does none any more.
+/// A disk that fails by itself once it has done so many calls: it fails in as many calls as are left of `failing`.
 #[derive(Drop)]
 pub(super) struct FailingDisk<D> {
     within: D,
     calls: u32,
+    failing: u32,
     faults: u64,
 }
 
 impl<D: Disk> FailingDisk<D> {
-    /// Counts a call, and fails where none is left.
+    /// Counts a call, and fails if none is left and it still fails.
     fn pass(&mut self) -> Result<(), DiskError>
         ensures same { self.new.within ≡ self.old.within }
         ensures failed { IfErr result (λ error. error ≡ Failed) }
         ensures cause { FailsWithCause self.old.faults self.new.faults result }
     {
-        if self.calls == 0 {
+        if self.calls > 0 {
+            self.calls -= 1;
+            return Ok(());
+        }
+        if self.failing > 0 {
+            self.failing -= 1;
             self.faults = self.faults.saturating_add(1);
             return Err(DiskError::Failed);
         }
-        self.calls -= 1;
         Ok(())
     }
 
@@ -108,64 +112,80 @@ impl<D: TellingDisk> TellingDisk for FailingDisk<D> {
     }
 }
 
-/// A script, and the report of its run where no disk fails by itself.
+/// How many calls of a disk formatting takes.
+const FORMATTING: u32 = 7;
+
+/// More calls than a run makes.
+const FOR_GOOD: u32 = u32::MAX;
+
+/// A script in two parts. Between them stands a line that may stop the disk of node 2, or says nothing.
 #[derive(Clone, Copy)]
 struct Case {
-    script: &'static str,
-    report: &'static str,
+    before: &'static str,
+    behind: &'static str,
 }
 
+/// A commit of two nodes: the disk of node 2 is called for its vote, and for the news of the commit.
 const COMMIT: Case = Case {
-    script: "nodes 2
+    before: "nodes 2
 object x 2 register 0
-begin A 1
+",
+    behind: "begin A 1
 call A x write 5
 drain
 commit A 0
 drain
 ",
-    report: "action 1.1.1 committed
-  created
-  called 1 x write 5
-  got 1 ok
-  commit 0
-value x 5
-",
 };
 
-/// A line stops the disk of node 1, and another restarts the node: through that the run goes on.
-const STOPPED: Case = Case {
-    script: "nodes 2
+/// The same, where node 2 restarts in the middle, and at the end.
+const RESTARTED: Case = Case {
+    before: "nodes 2
 object x 2 register 0
-begin A 1
+",
+    behind: "begin A 1
 call A x write 5
 drain
 commit A 0
 deliver 3
 deliver 4
 deliver 5
-deliver 6
-stop 1 3
-deliver 7
 restart 2
-restart 1
+deliver 6
+deliver 7
+query 2 A
+drain
+restart 2
 query 2 A
 drain
 ",
-    report: "action 1.1.1 committed
+};
+
+/// A write, a read of it, and a commit.
+const READ_BACK: &str = "nodes 2
+object x 2 register 0
+begin A 1
+call A x write 5
+drain
+call A x read
+drain
+commit A 0
+drain
+";
+
+const COMMIT_REPORT: &str = "action 1.1.1 committed
   created
   called 1 x write 5
   got 1 ok
   commit 0
-halted 12 1 taken
 value x 5
-",
-};
+";
 
-/// Eight empty disks in memory, each of which has failed so often. The second fails by itself once it has done so many calls.
+/// Eight empty disks in memory, each of which has failed so often. The second fails by itself once it has done so many calls, in so many calls.
 pub(super) fn disks(
     alloc: Global,
     calls: u32,
+    failing: u32,
     faults: u64,
 ) -> Result<Vec<FailingDisk<MemoryDisk>>, Fail>
     ensures { IfOk result (λ disks. length disks.items ≡ 8) }
@@ -175,6 +195,7 @@ pub(super) fn disks(
         disks.push(FailingDisk {
             within: MemoryDisk::new(alloc),
             calls: if place == 1 { calls } else { u32::MAX },
+            failing,
             faults,
         })?;
     }
@@ -187,86 +208,109 @@ fn answer_of(
     alloc: Global,
     script: &str,
     calls: u32,
+    failing: u32,
     faults: u64,
 ) -> Result<Answer, Fail> {
     let run = words(alloc, "run")?;
     let mut script = source(alloc, script, &[])?;
-    let mut disks = disks(alloc, calls, faults)?;
+    let mut disks = disks(alloc, calls, failing, faults)?;
     answer_over(rt, alloc, &run, &mut script, &mut disks)
 }
 
-/// What came of a run whose disk may fail.
-#[derive(Clone, Copy)]
-enum Outcome {
-    /// The whole report.
-    Report,
-    /// That the disk of node 2 failed.
-    DiskFault,
-    /// Something else.
-    Other,
-}
-
-/// What an answer to the run of a case is.
-fn outcome_of(answer: &Answer, case: Case) -> Outcome {
-    if answer.has(0, case.report) {
-        Outcome::Report
-    } else if answer.has(6, "disk fault 2\n") {
-        Outcome::DiskFault
-    } else {
-        Outcome::Other
-    }
-}
-
-/// What comes of the run of a case, where the disk of node 2 fails by itself once it has done so many calls.
-fn outcome_after(
+/// The answer to the run of a case in which no disk fails by itself, and a line stops that of node 2 after so many calls.
+fn answer_stopped(
     rt: &(impl Threads + Wait + Sync),
     alloc: Global,
     case: Case,
     calls: u32,
-) -> Result<Outcome, Fail> {
-    let answer = answer_of(rt, alloc, case.script, calls, 0)?;
-    Ok(outcome_of(&answer, case))
+) -> Result<Answer, Fail> {
+    let script = format!(in alloc; "{}stop 2 {}\n{}", case.before, calls, case.behind)?;
+    answer_of(rt, alloc, &script, u32::MAX, 0, 0)
 }
 
-/// How many calls of the disk of node 2 the run takes: with fewer of them it is told that the disk failed. None where that is not so.
-fn calls_taken(
+/// The answer to the run of a case in which no line stops a disk, and that of node 2 fails by itself.
+fn answer_failing(
     rt: &(impl Threads + Wait + Sync),
     alloc: Global,
     case: Case,
-) -> Result<Option<u32>, Fail> {
-    for calls in 0..64u32 {
-        match outcome_after(rt, alloc, case, calls)? {
-            Outcome::Report => return Ok(Some(calls)),
-            Outcome::DiskFault => {}
-            Outcome::Other => return Ok(None),
-        }
-    }
-    Ok(None)
+    calls: u32,
+    failing: u32,
+) -> Result<Answer, Fail> {
+    let script = format!(in alloc; "{}# no stop\n{}", case.before, case.behind)?;
+    answer_of(rt, alloc, &script, calls, failing, 0)
 }
 
-/// Fails where the run of a case takes eight calls of the disk of node 2 or fewer, or where with fewer calls than it takes it is not told that the
-/// disk failed.
-fn check_case(
+/// Fails if a disk that fails by itself in the run of a case does not halt its node just as a line does that stops the disk there.
+fn check_as_stopped(
     rt: &(impl Threads + Wait + Sync + Abort),
     alloc: Global,
     case: Case,
+    calls: u32,
+    failing: u32,
 ) -> Result<(), Fail> {
-    let taken = calls_taken(rt, alloc, case)?;
-    let is_enough = matches!(taken, Some(calls) if 8 < calls);
-    same(
-        rt,
-        (case.script, taken, is_enough),
-        (case.script, taken, true),
-    );
+    let answer = answer_failing(rt, alloc, case, FORMATTING.saturating_add(calls), failing)?;
+    let stopped = answer_stopped(rt, alloc, case, calls)?;
+    check_numbered_answer(rt, calls as u64, &answer, 0, &stopped.text);
     Ok(())
 }
 
-/// The disk of node 2 fails at each of its calls in turn: while it is formatted, in the run, and while its node restarts. Where it does all
-/// of them the run stands.
+/// The disk of node 2 fails at each call of the two appends of its node in turn, once or from then on: the node halts, the run goes on, and
+/// the report is that of the run in which a line stops the disk there. If it does them all, no node halts.
 #[test]
-fn a_disk_that_fails(rt: HostRuntime) -> Result<(), Fail> {
-    check_case(&rt, rt.alloc(), COMMIT)?;
-    check_case(&rt, rt.alloc(), STOPPED)
+fn a_disk_that_fails_halts_its_node(rt: HostRuntime) -> Result<(), Fail> {
+    for calls in 0..9u32 {
+        check_as_stopped(&rt, rt.alloc(), COMMIT, calls, 1)?;
+        check_as_stopped(&rt, rt.alloc(), COMMIT, calls, FOR_GOOD)?;
+    }
+    Ok(())
+}
+
+/// A node whose disk failed once restarts, and what its log has of the event is found.
+#[test]
+fn a_disk_that_failed_once(rt: HostRuntime) -> Result<(), Fail> {
+    for calls in 0..4u32 {
+        check_as_stopped(&rt, rt.alloc(), RESTARTED, calls, 1)?;
+    }
+    Ok(())
+}
+
+/// From its first append on the disk of node 2 does no call: no vote of the node arrives, and its write is lost.
+#[test]
+fn a_vote_that_is_lost(rt: HostRuntime) -> Result<(), Fail> {
+    let answer = answer_of(&rt, rt.alloc(), READ_BACK, FORMATTING, FOR_GOOD, 0)?;
+    let report = b"action 1.1.1 open
+  created
+  called 1 x write 5
+  got 1 ok
+  called 2 x read
+  got 2 value 5
+  commit 0
+halted 9 2 lost
+value x 0
+";
+    check_numbered_answer(&rt, 0, &answer, 0, report);
+    Ok(())
+}
+
+/// Fails if the run of a case does not end with the line that names the disk of node 2.
+fn check_fault(
+    rt: &(impl Threads + Wait + Sync + Abort),
+    alloc: Global,
+    case: Case,
+    calls: u32,
+) -> Result<(), Fail> {
+    let answer = answer_failing(rt, alloc, case, calls, FOR_GOOD)?;
+    check_numbered_answer(rt, calls as u64, &answer, 6, b"disk fault 2\n");
+    Ok(())
+}
+
+/// No run is told of if the disk fails while it is formatted, or while its node restarts.
+#[test]
+fn a_disk_that_keeps_the_run_from_being_told(rt: HostRuntime) -> Result<(), Fail> {
+    for calls in 0..FORMATTING {
+        check_fault(&rt, rt.alloc(), COMMIT, calls)?;
+    }
+    check_fault(&rt, rt.alloc(), RESTARTED, FORMATTING)
 }
 
 /// Fails where the run of `COMMIT` over disks that had failed so often does not have its report.
@@ -275,8 +319,9 @@ fn check_disks_that_had_failed(
     alloc: Global,
     faults: u64,
 ) -> Result<(), Fail> {
-    let answer = answer_of(rt, alloc, COMMIT.script, u32::MAX, faults)?;
-    check_numbered_answer(rt, faults, &answer, 0, COMMIT.report.as_bytes());
+    let script = format!(in alloc; "{}{}", COMMIT.before, COMMIT.behind)?;
+    let answer = answer_of(rt, alloc, &script, u32::MAX, 0, faults)?;
+    check_numbered_answer(rt, faults, &answer, 0, COMMIT_REPORT.as_bytes());
     Ok(())
 }
 

@@ -109,7 +109,7 @@ fn answer_over_failing(
 ) -> Result<Answer, Fail> {
     let storm = words(alloc, "storm 1 4 2 calm")?;
     let mut nothing = source(alloc, "", &[])?;
-    let mut disks = disks(alloc, calls, 0)?;
+    let mut disks = disks(alloc, calls, u32::MAX, 0)?;
     answer_over(rt, alloc, &storm, &mut nothing, &mut disks)
 }
 

@@ -19,8 +19,10 @@ of_cut P fault (Err e) is holds = tt
 
 pub returns-in-Ok-clause-whole : goal.returns-in-Ok-clause-whole
 returns-in-Ok-clause-whole c =
-    λ letter spells. ( c.in-Ok.ensures.each letter spells, rw (← c.outcomes-outcomes.ensures.value)
-      c.outcomes-outcomes.ensures.distinct,
+    λ letter spells. (
+      c.in-Ok.ensures.each letter spells,
+      rw (← c.outcomes-outcomes.ensures.value)
+          c.outcomes-outcomes.ensures.distinct,
     )
 
 pub returns-in-Ok-clause-cut : goal.returns-in-Ok-clause-cut

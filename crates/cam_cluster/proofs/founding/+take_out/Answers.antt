@@ -30,8 +30,7 @@ returns-in-Some-clause-later g t c =
       reads = read_ckpt (g.D.Disk.seen node.log.log.disk.inner);
       tells = g.D.Disk.tells node.log.log.disk.inner;
       failures = g.D.Disk.faults node.log.log.disk.inner;
-    }) _ _ _ c.in-Some.ensures.items) c.push_owned.ensures.items c.take_out.ensures.later (record
-    {
+    }) _ _ _ c.in-Some.ensures.items) c.push_owned.ensures.items c.take_out.ensures.later (record {
       told = ap g.D.Disk.tells c.into_inner.ensures ∙ c.into_disk.ensures.tells;
       later =
           let same = ap g.D.Disk.faults c.into_inner.ensures ∙ c.into_disk.ensures.faults_within in

@@ -1,25 +1,25 @@
--- The disks that failed decide what is given.
-use Rattle.std.proofs.Common.{None, Some, ap, arith, length}
-use Rattle.cam_cluster.proofs.FirstFailed.{found_since, none_named}
-use Rattle.cam_cluster.proofs.HandedBack.{as_many}
+-- A whole script is run over the disks.
+use Rattle.cam_cluster.proofs.RunDisks.{from_nothing, run_back, run_cause, run_failed, run_known}
 use Rattle.cam_cluster.proofs.run.run_script.Goals as goal
 
-pub first_failed-requires : goal.first_failed-requires
-first_failed-requires g c =
-    let many =
-    as_many _ _ _ _ _ _ c.run_over-run.ensures.disks in
-    let same = ap length c.as_slice-2.ensures.value in
-    let each = c.requires.one_each in
-    let eight = c.requires.script.eight_nodes in
-    omega (arith, many, same, each, eight)
+pub returns-in-Ok-clause-run : goal.returns-in-Ok-clause-run
+returns-in-Ok-clause-run g c =
+    run_known _ _ _ _ _
+    (run_failed g.D.Disk.tells _ _ _ _ _ c.in_ok-run.ensures.later c.end-record.ensures.later _
+    (from_nothing _ _ _ _ c.in_ok-run.ensures.nothing c.take_all-taken.ensures.disks))
+    (c.end-record.ensures.record c.args.script.now c.in-Ok.ensures.all)
 
-pub returns-in-Some-clause-failed : goal.returns-in-Some-clause-failed
-returns-in-Some-clause-failed g c =
-    found_since _ _ _ _ _ _ _ (Some c.in-Some.node) c.as_slice.ensures.value
-    c.as_slice-2.ensures.value c.of-before.ensures c.run_over-run.ensures.disks c.in-Some.ensures
+pub returns-in-Ok-clause-disks : goal.returns-in-Ok-clause-disks
+returns-in-Ok-clause-disks g c =
+    run_back _ _ _ _ _ _ c.in_ok-run.ensures.later c.end-record.ensures.later
+    c.take_all-taken.ensures.disks.later
 
-pub returns-in-None-clause-failed : goal.returns-in-None-clause-failed
-returns-in-None-clause-failed g c =
-    none_named _ _ _ _ (found_since _ _ _ _ _ _ _ None c.as_slice.ensures.value
-    c.as_slice-2.ensures.value c.of-before.ensures c.run_over-run.ensures.disks c.in-None.ensures)
-    c.run_over-run.ensures.cause
+pub returns-in-Err-clause-disks : goal.returns-in-Err-clause-disks
+returns-in-Err-clause-disks g c =
+    run_back _ _ _ _ _ _ c.in_ok-run.ensures.later c.end-record.ensures.later
+    c.take_all-taken.ensures.disks.later
+
+pub returns-in-Err-clause-cause : goal.returns-in-Err-clause-cause
+returns-in-Err-clause-cause g c =
+    run_cause g.D.Disk.tells _ _ _ _ _ c.in_ok-run.ensures.later c.end-record.ensures.later _
+    (from_nothing _ _ _ _ c.in_ok-run.ensures.nothing c.take_all-taken.ensures.disks) _ c.in-Err.ensures.cause

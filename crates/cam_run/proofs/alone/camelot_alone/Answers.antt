@@ -7,7 +7,7 @@ use Rattle.cam_run.specs.Disks.{FailedAt}
 use Rattle.cam_run.specs.Answer.{IsOfCommand}
 use Rattle.cam_run.specs.Storm.{KeepStorm}
 use Rattle.cam_run.proofs.CommandStatus.{command_has_status}
-use Rattle.cam_run.proofs.Failing.{command_fails, is_fault, runs_by_status, told_both}
+use Rattle.cam_run.proofs.Failing.{runs_by_status, told_both}
 use Rattle.cam_run.proofs.Written.{is_telling, not_telling, own_status}
 use Rattle.cam_run.proofs.Written.{writes_front, writes_whole}
 use Rattle.cam_run.proofs.alone.camelot_alone.Goals as goal
@@ -49,16 +49,6 @@ returns-in-Ok-write_all-clause-complete g c =
     (λ input rest is read took none.
     inl (c.number-in-Ok-write_all.ensures
     ∙ command_has_status c.args.command.now _ _ input _ _ is read none))
-    c.in-Ok.ensures.answer
-
-pub returns-in-Ok-write_all-clause-failed : goal.returns-in-Ok-write_all-clause-failed
-returns-in-Ok-write_all-clause-failed g c =
-    if_told_weaker (g.S.Source.left c.args.source.now) (g.S.Source.left c.obey.new.source)
-    (λ input rest is one.
-    subst (λ (n : ℕ). (n ≡ 4) ⊎ ((n ≡ 5) ⊎ ((n ≡ 6) ⊎ (n ≡ 7))))
-    (sym c.number-in-Ok-write_all.ensures)
-    (is_fault _
-    (command_fails c.args.command.now _ _ input _ _ (λ never. omega (arith, never.low)) is one)))
     c.in-Ok.ensures.answer
 
 pub returns-in-Ok-write_all-clause-recovered_unwritten :

@@ -41,7 +41,8 @@ returns-in-Gen-clause-recovered g c =
     (λ a. IsTelling a.status
     → IfRuns c.args.command.now input
     (λ script.
-    LeavesDisks g.D.Disk.tells g.D.Disk.moment g.D.Disk.left_since script
+    LeavesDisks (FailedAt g.D.Disk.faults c.args.disks.now.items c.of_seed.new.disks.items)
+    g.D.Disk.tells g.D.Disk.moment g.D.Disk.left_since script
     c.of_seed.new.disks.items)))
     (λ input.
     subst
@@ -50,6 +51,7 @@ returns-in-Gen-clause-recovered g c =
     (λ a. IsTelling a.status
     → IfRuns command input
     (λ script.
-    LeavesDisks g.D.Disk.tells g.D.Disk.moment g.D.Disk.left_since script
+    LeavesDisks (FailedAt g.D.Disk.faults c.args.disks.now.items c.of_seed.new.disks.items)
+    g.D.Disk.tells g.D.Disk.moment g.D.Disk.left_since script
     c.of_seed.new.disks.items)))
     (sym c.in-Gen.is) c.of_seed.ensures.recovered)

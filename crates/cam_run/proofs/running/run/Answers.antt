@@ -3,9 +3,10 @@ use Rattle.std.proofs.Common.{◌≡◌, List, sym, subst, arith}
 use Rattle.std.proofs.lemmas.Grind.{common_steps}
 use Rattle.std.proofs.lemmas.Result.{IfOk-weaker}
 use Rattle.cam_cluster.specs.HandedBack.{AreHandedBack}
-use Rattle.cam_run.proofs.FirstDisks.{all_back, as_they_were, first_length, is_over_first, rest_stays, run_ended}
+use Rattle.cam_run.proofs.FirstDisks.{all_back, as_they_were, failed_over, first_length}
+use Rattle.cam_run.proofs.FirstDisks.{is_over_first, named_over, rest_stays}
 use Rattle.cam_run.proofs.LeftDisks.{run_leaves}
-use Rattle.cam_run.proofs.Recorded.{is_one_run}
+use Rattle.cam_run.proofs.Recorded.{record_by}
 use Rattle.cam_run.proofs.running.run.Goals as goal
 
 pub returns-in_err-further-clause-back : goal.returns-in_err-further-clause-back
@@ -23,32 +24,28 @@ put_back-requires g c =
     c.in_ok-further.ensures.first c.run_script-run.ensures.disks) in
     grind (arith, common_steps)
 
-pub returns-clause-one : goal.returns-clause-one
-returns-clause-one g c =
+pub returns-clause-run : goal.returns-clause-run
+returns-clause-run g c =
     IfOk-weaker c.run_script-run.result _ _
-    (λ run is. is_one_run c.args.script.now run is.recorded) c.run_script-run.ensures.run
+    (λ run is. record_by c.args.script.now _ _ run
+    (failed_over g.D.Disk.tells g.D.Disk.faults c.args.script.now.nodes c.args.disks.now.items
+    c.set_aside.new.disks.items c.run_script-run.new.disks.items c.put_back.new.disks.items
+    (is_over_first g.D.Disk.tells g.D.Disk.faults c.args.script.now.nodes c.args.disks.now.items
+    c.set_aside.new.disks.items c.run_script-run.new.disks.items c.in_ok-further.further.items
+    c.put_back.new.disks.items c.requires.enough c.in_ok-further.ensures.first
+    c.run_script-run.ensures.disks c.in_ok-further.ensures.further c.put_back.ensures)
+    c.in_ok-further.ensures.first) is.recorded) c.run_script-run.ensures.run
 
 pub returns-clause-cause : goal.returns-clause-cause
 returns-clause-cause g c =
-    (run_ended g.D.Disk.tells g.D.Disk.faults c.args.script.now.nodes c.args.disks.now.items
+    named_over g.D.Disk.tells g.D.Disk.faults c.args.script.now.nodes c.args.disks.now.items
     c.set_aside.new.disks.items c.run_script-run.new.disks.items c.put_back.new.disks.items
     c.run_script-run.result
     (is_over_first g.D.Disk.tells g.D.Disk.faults c.args.script.now.nodes c.args.disks.now.items
     c.set_aside.new.disks.items c.run_script-run.new.disks.items c.in_ok-further.further.items
     c.put_back.new.disks.items c.requires.enough c.in_ok-further.ensures.first
     c.run_script-run.ensures.disks c.in_ok-further.ensures.further c.put_back.ensures)
-    c.in_ok-further.ensures.first c.run_script-run.ensures.failed).cause
-
-pub returns-clause-steady : goal.returns-clause-steady
-returns-clause-steady g c =
-    (run_ended g.D.Disk.tells g.D.Disk.faults c.args.script.now.nodes c.args.disks.now.items
-    c.set_aside.new.disks.items c.run_script-run.new.disks.items c.put_back.new.disks.items
-    c.run_script-run.result
-    (is_over_first g.D.Disk.tells g.D.Disk.faults c.args.script.now.nodes c.args.disks.now.items
-    c.set_aside.new.disks.items c.run_script-run.new.disks.items c.in_ok-further.further.items
-    c.put_back.new.disks.items c.requires.enough c.in_ok-further.ensures.first
-    c.run_script-run.ensures.disks c.in_ok-further.ensures.further c.put_back.ensures)
-    c.in_ok-further.ensures.first c.run_script-run.ensures.failed).steady
+    c.in_ok-further.ensures.first c.run_script-run.ensures.cause
 
 pub returns-clause-back : goal.returns-clause-back
 returns-clause-back g c =
@@ -71,10 +68,18 @@ returns-clause-others g c =
 pub returns-clause-recovered : goal.returns-clause-recovered
 returns-clause-recovered g c =
     run_leaves g.D.Disk.tells g.D.Disk.faults g.D.Disk.moment g.D.Disk.left_since
-    c.args.script.now c.args.disks.now.items c.run_script-run.new.disks.items
+    c.args.script.now _ _ c.args.disks.now.items c.run_script-run.new.disks.items
     c.put_back.new.disks.items c.run_script-run.result
     (is_over_first g.D.Disk.tells g.D.Disk.faults c.args.script.now.nodes c.args.disks.now.items
     c.set_aside.new.disks.items c.run_script-run.new.disks.items c.in_ok-further.further.items
     c.put_back.new.disks.items c.requires.enough c.in_ok-further.ensures.first
     c.run_script-run.ensures.disks c.in_ok-further.ensures.further c.put_back.ensures)
-    c.requires.script c.requires.run c.run_script-run.ensures.run c.run_script-run.ensures.logs
+    c.requires.script
+    (failed_over g.D.Disk.tells g.D.Disk.faults c.args.script.now.nodes c.args.disks.now.items
+    c.set_aside.new.disks.items c.run_script-run.new.disks.items c.put_back.new.disks.items
+    (is_over_first g.D.Disk.tells g.D.Disk.faults c.args.script.now.nodes c.args.disks.now.items
+    c.set_aside.new.disks.items c.run_script-run.new.disks.items c.in_ok-further.further.items
+    c.put_back.new.disks.items c.requires.enough c.in_ok-further.ensures.first
+    c.run_script-run.ensures.disks c.in_ok-further.ensures.further c.put_back.ensures)
+    c.in_ok-further.ensures.first)
+    c.run_script-run.ensures.run c.run_script-run.ensures.logs

@@ -10,7 +10,6 @@ use Rattle.cam_run.specs.Storm.{KeepStorm}
 use Rattle.cam_run.specs.Answer.{IfRuns, nodes_for}
 use Rattle.cam_run.proofs.Commanded.{answers_words, completes_words, no_words, of_unread}
 use Rattle.cam_run.proofs.Commanded.{of_words, storm_answers, storm_in_range, storm_words}
-use Rattle.cam_run.proofs.Failing.{fails_words}
 use Rattle.cam_run.proofs.Written.{not_usage}
 use Rattle.cam_run.proofs.top.answer_to.Goals as goal
 
@@ -36,24 +35,14 @@ returns-in-None-clause-complete g c =
     (g.S.Source.left c.args.source.now) (g.S.Source.left c.obey.new.source) c.obey.result
     c.in-Ok.ensures.each c.obey.ensures.answer
 
-pub returns-in-None-clause-failed : goal.returns-in-None-clause-failed
-returns-in-None-clause-failed g c =
-    fails_words _ c.in-Ok.command
-    (record {
-      source = Rose (g.S.Source.faults c.args.source.now) (g.S.Source.faults c.obey.new.source);
-      disk = FailedAt g.D.Disk.faults c.args.disks.now.items c.obey.new.disks.items;
-    })
-    (KeepStorm g.D.Disk.tells g.D.Disk.moment g.D.Disk.left_since c.obey.new.disks.items)
-    (g.S.Source.left c.args.source.now) (g.S.Source.left c.obey.new.source) c.obey.result
-    (λ none. omega (arith, none.low)) c.in-Ok.ensures.each c.obey.ensures.answer
-
 pub returns-in-None-clause-recovered : goal.returns-in-None-clause-recovered
 returns-in-None-clause-recovered g c =
     of_words _ c.in-Ok.command
     (λ (command : Command) (input : List ℕ).
     IfOk c.obey.result
     (λ a. IsTelling a.status → IfRuns command input (λ script.
-    LeavesDisks g.D.Disk.tells g.D.Disk.moment g.D.Disk.left_since script
+    LeavesDisks (FailedAt g.D.Disk.faults c.args.disks.now.items c.obey.new.disks.items)
+    g.D.Disk.tells g.D.Disk.moment g.D.Disk.left_since script
     c.obey.new.disks.items)))
     (g.S.Source.left c.args.source.now) (g.S.Source.left c.obey.new.source)
     c.in-Ok.ensures.each c.obey.ensures.recovered
@@ -124,20 +113,6 @@ returns-in-Some-clause-complete g c =
     (storm_answers c.in-Ok.command c.in-Some.asked.storm c.in-Some.asked.threads _ _
     c.of_storm.result c.in-Some.ensures.storm c.of_storm.ensures.answer))
 
-pub returns-in-Some-clause-failed : goal.returns-in-Some-clause-failed
-returns-in-Some-clause-failed g c =
-    fails_words _ c.in-Ok.command
-    (record {
-      source = Rose (g.S.Source.faults c.args.source.now) (g.S.Source.faults c.args.source.now);
-      disk = FailedAt g.D.Disk.faults c.args.disks.now.items c.of_storm.new.disks.items;
-    })
-    (KeepStorm g.D.Disk.tells g.D.Disk.moment g.D.Disk.left_since c.of_storm.new.disks.items)
-    (g.S.Source.left c.args.source.now) (g.S.Source.left c.args.source.now) c.of_storm.result
-    (λ none. omega (arith, none.low)) c.in-Ok.ensures.each
-    (of_unread (g.S.Source.left c.args.source.now) _
-    (storm_answers c.in-Ok.command c.in-Some.asked.storm c.in-Some.asked.threads _ _
-    c.of_storm.result c.in-Some.ensures.storm c.of_storm.ensures.answer))
-
 pub returns-in-Some-clause-storm : goal.returns-in-Some-clause-storm
 returns-in-Some-clause-storm g c =
     storm_words _ c.in-Ok.command
@@ -165,7 +140,8 @@ returns-in-Some-clause-recovered g c =
     (λ (command : Command) (input : List ℕ).
     IfOk c.of_storm.result
     (λ a. IsTelling a.status → IfRuns command input (λ script.
-    LeavesDisks g.D.Disk.tells g.D.Disk.moment g.D.Disk.left_since script
+    LeavesDisks (FailedAt g.D.Disk.faults c.args.disks.now.items c.of_storm.new.disks.items)
+    g.D.Disk.tells g.D.Disk.moment g.D.Disk.left_since script
     c.of_storm.new.disks.items)))
     (g.S.Source.left c.args.source.now) (g.S.Source.left c.args.source.now)
     c.in-Ok.ensures.each
@@ -175,7 +151,8 @@ returns-in-Some-clause-recovered g c =
     (λ (command : Command).
     IfOk c.of_storm.result
     (λ a. IsTelling a.status → IfRuns command input (λ script.
-    LeavesDisks g.D.Disk.tells g.D.Disk.moment g.D.Disk.left_since script
+    LeavesDisks (FailedAt g.D.Disk.faults c.args.disks.now.items c.of_storm.new.disks.items)
+    g.D.Disk.tells g.D.Disk.moment g.D.Disk.left_since script
     c.of_storm.new.disks.items)))
     (sym c.in-Some.ensures.storm)
     (IfOk-weaker c.of_storm.result _ _ (λ a is telling. tt) c.of_storm.ensures.statuses)))

@@ -7,7 +7,7 @@ use Rattle.cam_run.specs.Disks.{FailedAt}
 use Rattle.cam_run.specs.Answer.{IsAnswer, IsOfStorm}
 use Rattle.cam_run.specs.Commands.{storm_of}
 use Rattle.cam_run.specs.Storm.{KeepStorm}
-use Rattle.cam_run.proofs.Failing.{is_fault, runs_by_status, told_both}
+use Rattle.cam_run.proofs.Failing.{runs_by_status, told_both}
 use Rattle.cam_run.proofs.Written.{is_telling, not_telling, own_status}
 use Rattle.cam_run.proofs.Stormed.{storms_keep_promises}
 use Rattle.cam_run.proofs.Written.{writes_front, writes_nothing, writes_whole, written_front, written_whole}
@@ -75,14 +75,6 @@ returns-in-Ok-write_all-clause-complete g c =
     (λ input rest said command form read took none.
     inl (c.number-in-Ok-write_all.ensures ∙ said command form read none))
     c.in-Ok.ensures.complete
-
-pub returns-in-Ok-write_all-clause-failed : goal.returns-in-Ok-write_all-clause-failed
-returns-in-Ok-write_all-clause-failed g c =
-    if_told_weaker (g.S.Source.left c.args.source.now) (g.S.Source.left c.answer_to.new.source)
-    (λ input rest said command form one.
-    subst (λ (n : ℕ). (n ≡ 4) ⊎ ((n ≡ 5) ⊎ ((n ≡ 6) ⊎ (n ≡ 7))))
-    (sym c.number-in-Ok-write_all.ensures) (is_fault _ (said command form one)))
-    c.in-Ok.ensures.failed
 
 pub returns-in-Ok-write_all-clause-recovered_unwritten :
     goal.returns-in-Ok-write_all-clause-recovered_unwritten

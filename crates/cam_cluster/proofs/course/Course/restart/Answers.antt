@@ -38,8 +38,11 @@ returns-in_err-restart g c =
     omega (arith, low, high, many) in
     let is : c.from_residual.result ≡ Err (faults.Line line_faults.NoMemory) = search rules in
     record {
-      line = λ bodies. rw is (at_place _ _ _ (IsAtWorkLine (record { line = c.args.line; act =
-          acts.Restart c.args.node }) bodies old might c.args.self.now.workers new may
+      line = λ bodies. rw is (at_place _ _ _ (IsAtWorkLine (record {
+        line = c.args.line;
+        act =
+            acts.Restart c.args.node;
+      }) bodies old might c.args.self.now.workers new may
           c.args.self.now.workers (Err (faults.Line line_faults.NoMemory))) there
           c.in_err-restart.ensures.line (λ node told. restart_wanting c.args.line _ _ _ _ _ _
           _ _ (told (g.met.L.TellingLog.always node.log.log))));
@@ -117,8 +120,11 @@ returns-in-Failed g c =
     length-map c.args.self.now.lines.works.nodes.items (part g.L.CheckpointLog g.L.EntryLog) in
     omega (arith, low, high, many) in
     record {
-      line = λ bodies. at_place _ _ _ (IsAtWorkLine (record { line = c.args.line; act =
-          acts.Restart c.args.node }) bodies old might c.args.self.now.workers new may
+      line = λ bodies. at_place _ _ _ (IsAtWorkLine (record {
+        line = c.args.line;
+        act =
+            acts.Restart c.args.node;
+      }) bodies old might c.args.self.now.workers new may
           c.args.self.now.workers (Err faults.RestartFailed)) there c.in_ok-restart.ensures.line (λ
           node told. failed_at_work c.args.line _ _ _ new _ may _ c.args.self.now.workers
           (subst (λ r. IsRestartLine c.args.node old might new may (Ok r)) c.in-Failed.is (told

@@ -23,7 +23,7 @@ returns-in_err-reserve_one-clause-part g c =
     (none_played _ _ _ _ _) c.reserve_one.ensures.same)
 
 pub play-requires : goal.play-requires
-play-requires g c = record { play = c.requires.play; }
+play-requires g c = record { play = c.requires.play }
 
 pub returns-in_err-play-clause-disks : goal.returns-in_err-play-clause-disks
 returns-in_err-play-clause-disks g c =

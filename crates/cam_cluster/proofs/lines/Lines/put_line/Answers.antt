@@ -118,8 +118,10 @@ returns-in-Commit g c = record {
   line =
       variable_as c.args.step.now c.args.self.now c.commit.new.self c.commit.result c.requires.input
       _ (request_of (action_of c.args.self.now.bound.items c.in-Commit.action) (wants.Commit
-      c.in-Commit.value)) c.in-Commit.is (rw (← (to_z-of_z w64 c.in-Commit.value (omega (arith,
-      c.in-Commit.value-1-given)))) c.commit.ensures.line);
+      c.in-Commit.value)) c.in-Commit.is (rw (← (to_z-of_z w64 c.in-Commit.value (omega (
+        arith,
+        c.in-Commit.value-1-given,
+      )))) c.commit.ensures.line);
   disks = c.commit.ensures.disks;
 }
 

@@ -44,7 +44,9 @@ returns-in_err-reserve_one g c =
     record {
       line =
           each_there _ c.args.self.now.works.nodes.items (c.args.node - 1) (λ node at told.
-          restart_wanting c.args.node (record { works = works; bound = c.args.self.now.bound.items
+          restart_wanting c.args.node (record {
+            works = works;
+            bound = c.args.self.now.bound.items;
           }) (record { works = works; bound = c.reserve_one.new.list.items }) reads reads
           c.from_residual.result c.in_err-reserve_one.field-0.0 wants (unchanged_lines works works
           reads reads c.args.self.now.bound.items c.reserve_one.new.list.items (λ script st is
@@ -63,7 +65,9 @@ returns-in_err-done g c =
     record {
       line =
           each_there _ c.args.self.now.works.nodes.items (c.args.node - 1) (λ node at told.
-          restart_wanting c.args.node (record { works = works; bound = c.args.self.now.bound.items
+          restart_wanting c.args.node (record {
+            works = works;
+            bound = c.args.self.now.bound.items;
           }) (record { works = now; bound = c.reserve_one.new.list.items }) reads reads_now
           c.from_residual-in_err-done.result c.in_err-done.field-0.0 wants (unchanged_lines works
           now reads reads_now c.args.self.now.bound.items c.reserve_one.new.list.items

@@ -24,7 +24,9 @@ returns-then-is_halted-clause-disks g c =
 pub returns-then-is_halted-clause-line : goal.returns-then-is_halted-clause-line
 returns-then-is_halted-clause-line g c =
     let there = sees _ _ _ (let low = c.requires.low in let node = c.requires.node in omega (
-      arith, low, node,
+      arith,
+      low,
+      node,
     )) in
     let stops = ap (is_halted c.args.self.now.works.halted) (after_is (c.args.node - 1)) ∙ sym
     c.is_halted.ensures ∙ c.if-is_halted.true in
@@ -34,7 +36,9 @@ returns-then-is_halted-clause-line g c =
 pub lead-requires-clause-place : goal.lead-requires-clause-place
 lead-requires-clause-place g c =
     let there = sees _ _ _ (let low = c.requires.low in let node = c.requires.node in omega (
-      arith, low, node,
+      arith,
+      low,
+      node,
     )) in
     begin_within _ _ _ c.requires.stand there
 
@@ -80,9 +84,13 @@ returns-clause-disks g c =
 pub returns-clause-line : goal.returns-clause-line
 returns-clause-line g c =
     let there = sees _ _ _ (let low = c.requires.low in let node = c.requires.node in omega (
-      arith, low, node,
+      arith,
+      low,
+      node,
     )) in
     let runs = ap (is_halted c.args.self.now.works.halted) (after_is (c.args.node - 1)) ∙ sym
     c.is_halted.ensures ∙ c.if-is_halted.false in
-    start_led _ _ _ (let low = c.requires.low in omega ( arith, low,
+    start_led _ _ _ (let low = c.requires.low in omega (
+      arith,
+      low,
     )) _ _ _ _ _ there runs c.in_ok-lead.ensures.led

@@ -62,8 +62,11 @@ pub returns : goal.returns
 returns g c =
     record {
       line = stop_done _ _ _ _ (let low = c.requires.low in omega (arith, low)) _ _ _ _
-          (sees _ _ _ (let low = c.requires.low in let node = c.requires.node in omega (arith,
-          low, node))) (ap (is_halted c.args.self.now.works.halted) (after_is (c.args.node - 1)) ∙
+          (sees _ _ _ (let low = c.requires.low in let node = c.requires.node in omega (
+            arith,
+            low,
+            node,
+          ))) (ap (is_halted c.args.self.now.works.halted) (after_is (c.args.node - 1)) ∙
           sym c.is_halted.ensures ∙ c.if-is_halted.false) c.stop_after.ensures.stopped
           (c.push_reserved.ensures ∙ ap (λ bs. bs ++ None ∷ []) c.reserve_one.ensures.same);
       disks = c.stop_after.ensures.disks;

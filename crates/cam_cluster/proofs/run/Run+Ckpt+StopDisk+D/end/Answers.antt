@@ -14,7 +14,7 @@ use Rattle.cam_cluster.proofs.run.Run+Ckpt+StopDisk+D.end.Goals as goal
 pub returns-clause-record : goal.returns-clause-record
 returns-clause-record g c script taken =
     record_of_disks _ (λ node. MayRead (Openings (g.D.Disk.left_since node.log.log.disk.inner))
-    (g.D.Disk.moment node.log.log.disk.inner)) _ _ g.D.Disk.left_since _ _ _ _
+    (g.D.Disk.moment node.log.log.disk.inner)) _ _ g.D.Disk.left_since _ _ _ _ _
     c.take_out.ensures.out (rw c.into_ended-ended.ensures.nodes (c.into_ended-ended.ensures.record
     script taken))
 

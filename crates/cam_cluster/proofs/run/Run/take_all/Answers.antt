@@ -1,6 +1,7 @@
 -- The lines are taken one after another.
 use Rattle.std.proofs.Common.{◌≤◌, ◌∙◌, ℕ, ap, arith, length, refl, subst}
 use Rattle.cam_script.specs.declared.Act.TheVariants.{Begin}
+use Rattle.cam_cluster.specs.declared.works.failing.Failed.{Failed}
 use Rattle.cam_cluster.specs.WholeRuns.{HasTakenLines}
 use Rattle.cam_cluster.proofs.AsSeen.{lines_of, part, reads_of}
 use Rattle.cam_cluster.proofs.DisksGoOn.{goes_on_still, goes_on_then}
@@ -13,7 +14,8 @@ loop-step-init g c =
     record {
       taken =
           none_taken _ _ _ _ c.requires.before_first.between c.requires.before_first.workers (
-            c.requires.nothing, all_tell _
+            ap (λ (f : Failed). f.ends) c.requires.nothing,
+            all_tell _
                 (λ node. g.met.L.TellingLog.always node.log.log) _,
           );
       items = c.as_slice-step-items.ensures;

@@ -31,7 +31,7 @@ returns-in-Ok-clause-taken g c =
     (reads_of g.L.CheckpointLog g.L.EntryLog c.args.self.now.course.lines.works)
     (reads_of g.L.CheckpointLog g.L.EntryLog c.take.new.self.lines.works)
     c.args.self.now.course.workers c.take.new.self.workers c.in-Ok.field-0
-    c.in-Ok.ensures.line unfailing)
+    c.in-Ok.ensures.line unfailing c.take.ensures.disks.known.more)
     c.unfailing.ensures.unfailing
 
 pub returns-in-Err-Line-Refused-clause-taken : goal.returns-in-Err-Line-Refused-clause-taken
@@ -46,13 +46,15 @@ returns-in-Err-Line-Refused-clause-taken g c =
     c.args.self.now.course.workers c.take.new.self.workers
     c.in-Err-Line-Refused.field-0 c.in-Err-Line-Refused.field-0-0
     c.in-Err-Line-Refused.field-0-0-0 c.in-Err-Line-Refused.field-0-is
-    c.in-Err-Line-Refused.field-0-0-is c.in-Err-Line-Refused.ensures.line unfailing)
+    c.in-Err-Line-Refused.field-0-0-is c.in-Err-Line-Refused.ensures.line unfailing
+    c.take.ensures.disks.known.more)
     c.unfailing-in-Err-Line-Refused.ensures.unfailing
 
 pub returns-in-Err-RestartFailed-clause-taken : goal.returns-in-Err-RestartFailed-clause-taken
 returns-in-Err-RestartFailed-clause-taken g c =
     on_ok _ _ _ (λ unfailing. next_failed _ _ _ _ _ _ _ _ _
-    c.in-Err-RestartFailed.field-0-is c.in-Err-RestartFailed.ensures.line unfailing)
+    c.in-Err-RestartFailed.field-0-is c.in-Err-RestartFailed.ensures.line unfailing
+    c.take.ensures.disks.known.more)
     c.unfailing-in-Err-RestartFailed.ensures.unfailing
 
 pub returns-in-Ok-clause-as_many : goal.returns-in-Ok-clause-as_many

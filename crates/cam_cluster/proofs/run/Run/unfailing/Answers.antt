@@ -5,8 +5,8 @@ use Rattle.cam_cluster.proofs.run.Run.unfailing.Goals as goal
 
 pub returns-clause-unfailing : goal.returns-clause-unfailing
 returns-clause-unfailing g c =
-    told_none _ _ _ c.unfailing.ensures.nothing (all_tell _ (λ node. g.met.L.TellingLog.always
+    told_none c.args.self.now.course.lines.works.failed _ _ c.unfailing.ensures.nothing (all_tell _ (λ node. g.met.L.TellingLog.always
     node.log.log) _)
 
 pub returns-clause-cause : goal.returns-clause-cause
-returns-clause-cause g c = told_cause _ _ c.unfailing.ensures.something
+returns-clause-cause g c = told_cause c.args.self.now.course.lines.works.failed _ c.unfailing.ensures.something

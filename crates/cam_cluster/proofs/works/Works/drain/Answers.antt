@@ -16,7 +16,7 @@ loop-init g c = record {
 }
 
 pub deliver_next-requires : goal.deliver_next-requires
-deliver_next-requires g c = record { stand = c.loop.invariant.some; }
+deliver_next-requires g c = record { stand = c.loop.invariant.some }
 
 pub returns-in_err-deliver_next-clause-disks : goal.returns-in_err-deliver_next-clause-disks
 returns-in_err-deliver_next-clause-disks g c =

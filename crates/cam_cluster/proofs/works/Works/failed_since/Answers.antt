@@ -9,3 +9,6 @@ pub returns : goal.returns
 returns g c =
     rw (taken_there _ _ _ c.requires.there c.index.ensures) (rw (← (c.failures-count.ensures ∙ ap
     g.L.EntryLog.faults_within c.log.ensures)) c.after_call.ensures)
+
+pub after_call-requires : goal.after_call-requires
+after_call-requires g c = c.requires.place

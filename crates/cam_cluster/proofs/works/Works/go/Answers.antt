@@ -146,7 +146,8 @@ pub returns-in-Wait : goal.returns-in-Wait
 returns-in-Wait g c =
     let caught : CatchesUp c.args.self.now.events.events.items c.args.workers.now
     c.reserve.new.self =
-    λ st is are. ( c.reserve.ensures.stay st
+    λ st is are. (
+      c.reserve.ensures.stay st
           (c.catch_up.ensures.stay st (c.as_slice.ensures.value ∙ is) are),
       c.reserve.ensures.caught_up st (c.in_ok-catch_up.ensures.caught_up st
           (c.as_slice.ensures.value ∙ is) are),

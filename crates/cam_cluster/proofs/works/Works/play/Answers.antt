@@ -17,7 +17,7 @@ loop-init g c = record {
 }
 
 pub play_round-requires : goal.play_round-requires
-play_round-requires g c = record { play = c.loop.invariant.some; }
+play_round-requires g c = record { play = c.loop.invariant.some }
 
 pub returns-in_err-puts_one-clause-disks : goal.returns-in_err-puts_one-clause-disks
 returns-in_err-puts_one-clause-disks g c =
@@ -71,5 +71,8 @@ returns-clause-disks g c =
 
 pub returns-clause-played : goal.returns-clause-played
 returns-clause-played g c =
-    all_rounds _ _ _ _ _ _ _ _ _ c.loop.invariant.so_far (omega (arith, c.loop-test.false,
-    c.loop.auto.counter-end))
+    all_rounds _ _ _ _ _ _ _ _ _ c.loop.invariant.so_far (omega (
+      arith,
+      c.loop-test.false,
+      c.loop.auto.counter-end,
+    ))

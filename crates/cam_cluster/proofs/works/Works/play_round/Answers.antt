@@ -8,7 +8,7 @@ use Rattle.cam_cluster.proofs.PlayRound.{drain_wanting, round_told, some_behind_
 use Rattle.cam_cluster.proofs.works.Works.play_round.Goals as goal
 
 pub take_all_turns-requires : goal.take_all_turns-requires
-take_all_turns-requires g c = record { play = c.requires.play; }
+take_all_turns-requires g c = record { play = c.requires.play }
 
 pub returns-in_err-take_all_turns-clause-disks : goal.returns-in_err-take_all_turns-clause-disks
 returns-in_err-take_all_turns-clause-disks g c =

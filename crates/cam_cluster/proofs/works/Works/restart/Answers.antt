@@ -4,13 +4,12 @@ use Rattle.std.proofs.Common.{◌<◌, subst, arith, rules, suc}
 use Rattle.std.specs.Prelude.{map, vec_len}
 use Rattle.std.proofs.lemmas.Grind.{common_steps}
 use Rattle.cam_net.specs.Waiting.{is_halted}
-use Rattle.cam_cluster.specs.declared.works.failing.Failed.TheVariants as failed
 use Rattle.cam_cluster.proofs.AsSeen.{part, reads_at, tells_of}
 use Rattle.cam_cluster.proofs.AskedNode.{disks_on}
-use Rattle.cam_cluster.proofs.DisksGoOn.{goes_on_same}
+use Rattle.cam_cluster.proofs.DisksGoOn.{goes_on_same, restart_known}
+use Rattle.cam_cluster.proofs.Failures.{restart_ends}
 use Rattle.cam_cluster.proofs.FoundByStop.{none_by_stop, some_by_stop}
 use Rattle.cam_cluster.proofs.HaltsKept.{open_without}
-use Rattle.cam_cluster.proofs.KnownFailures.{memory_known, some_known}
 use Rattle.cam_cluster.proofs.PlacedNodes.{after_is, on_err, one_there}
 use Rattle.cam_cluster.proofs.RestartEnds.{none_if, some_if}
 use Rattle.cam_cluster.proofs.RestartReads.{rest_reads}
@@ -210,7 +209,8 @@ returns-in-Err g c =
           c.index_mut.ensures.value
           (c.failures-before.ensures ∙ ap g.L.EntryLog.faults_within c.log.ensures)
           c.failed_since-self-in-Err.ensures again.tells again.faults_within)
-          (λ told. some_known known failed.Memory c.then-self.result refl c.then-self.ensures);
+          (λ told. restart_ends c.args.place known c.after_restart-self.result
+          c.after_restart-self.ensures);
       by_stop = λ script st is keeps sound said. tt;
       as_before = tt;
       disks =
@@ -221,6 +221,10 @@ returns-in-Err g c =
           c.index_mut.ensures.value
           (c.failures-before.ensures ∙ ap g.L.EntryLog.faults_within c.log.ensures)
           c.failed_since-self-in-Err.ensures again.tells again.faults_within _
-          c.then-self.result refl
-          (memory_known known c.then-self.result c.then-self.ensures);
+          c.after_restart-self.result refl
+          (restart_known c.args.place known c.after_restart-self.result
+          c.after_restart-self.ensures);
     }
+
+pub after_restart-self-requires : goal.after_restart-self-requires
+after_restart-self-requires g c = c.requires.place

@@ -72,8 +72,10 @@ returns-clause-turns g c =
     let new = works_of g.L.CheckpointLog g.L.EntryLog c.take_turns.new.self in
     let may = reads_of g.L.CheckpointLog g.L.EntryLog c.take_turns.new.self in
     let caught_up : CatchesUp c.args.self.now.events.events.items c.args.workers.now
-    c.catch_up.new.self = λ st is are. ( c.catch_up.ensures.stay st (c.as_slice.ensures.value ∙ is)
-      are, c.in_ok-catch_up.ensures.caught_up st (c.as_slice.ensures.value ∙ is) are,
+    c.catch_up.new.self = λ st is are. (
+      c.catch_up.ensures.stay st (c.as_slice.ensures.value ∙ is)
+          are,
+      c.in_ok-catch_up.ensures.caught_up st (c.as_slice.ensures.value ∙ is) are,
     ) in
     on_ok_gives _ (HaveHadTurns c.args.line c.as_slice-2.result.now c.args.bodies.now works reads
     c.catch_up.new.self new may c.take_turns.new.workers) (HaveMade all_turns c.args.line
@@ -89,8 +91,10 @@ returns-clause-part g c =
     let new = works_of g.L.CheckpointLog g.L.EntryLog c.take_turns.new.self in
     let may = reads_of g.L.CheckpointLog g.L.EntryLog c.take_turns.new.self in
     let caught_up : CatchesUp c.args.self.now.events.events.items c.args.workers.now
-    c.catch_up.new.self = λ st is are. ( c.catch_up.ensures.stay st (c.as_slice.ensures.value ∙ is)
-      are, c.in_ok-catch_up.ensures.caught_up st (c.as_slice.ensures.value ∙ is) are,
+    c.catch_up.new.self = λ st is are. (
+      c.catch_up.ensures.stay st (c.as_slice.ensures.value ∙ is)
+          are,
+      c.in_ok-catch_up.ensures.caught_up st (c.as_slice.ensures.value ∙ is) are,
     ) in
     on_err_gives _ (HaveHadSomeTurns c.args.line c.as_slice-2.result.now c.args.bodies.now works
     reads c.catch_up.new.self new may c.take_turns.new.workers) (HasPlayedSome c.args.line

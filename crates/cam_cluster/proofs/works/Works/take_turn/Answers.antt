@@ -40,8 +40,10 @@ returns-in_err-catch_up-clause-workers_as_before g c =
 pub outlook-requires : goal.outlook-requires
 outlook-requires g c =
     let caught_up : CatchesUp c.args.self.now.events.events.items c.args.workers.now
-    c.catch_up.new.self = λ st is are. ( c.catch_up.ensures.stay st (c.as_slice.ensures.value ∙ is)
-      are, c.in_ok-catch_up.ensures.caught_up st (c.as_slice.ensures.value ∙ is) are,
+    c.catch_up.new.self = λ st is are. (
+      c.catch_up.ensures.stay st (c.as_slice.ensures.value ∙ is)
+          are,
+      c.in_ok-catch_up.ensures.caught_up st (c.as_slice.ensures.value ∙ is) are,
     ) in
     record {
       home = at_node c.args.line _ c.args.bodies.now _ _ c.args.workers.now c.catch_up.new.self
@@ -73,8 +75,10 @@ returns-in-GoesOn-clause-turn g c =
     let works = works_of g.L.CheckpointLog g.L.EntryLog c.args.self.now in
     let reads = reads_of g.L.CheckpointLog g.L.EntryLog c.args.self.now in
     let caught_up : CatchesUp c.args.self.now.events.events.items c.args.workers.now
-    c.catch_up.new.self = λ st is are. ( c.catch_up.ensures.stay st (c.as_slice.ensures.value ∙ is)
-      are, c.in_ok-catch_up.ensures.caught_up st (c.as_slice.ensures.value ∙ is) are,
+    c.catch_up.new.self = λ st is are. (
+      c.catch_up.ensures.stay st (c.as_slice.ensures.value ∙ is)
+          are,
+      c.in_ok-catch_up.ensures.caught_up st (c.as_slice.ensures.value ∙ is) are,
     ) in
     let told = subst (λ o. IsOutlook c.args.name.now works reads c.catch_up.new.self o)
     c.in-GoesOn.is c.outlook.ensures in
@@ -95,8 +99,10 @@ returns-in-GoesOn-clause-workers_as_before g c =
     let works = works_of g.L.CheckpointLog g.L.EntryLog c.args.self.now in
     let reads = reads_of g.L.CheckpointLog g.L.EntryLog c.args.self.now in
     let caught_up : CatchesUp c.args.self.now.events.events.items c.args.workers.now
-    c.catch_up.new.self = λ st is are. ( c.catch_up.ensures.stay st (c.as_slice.ensures.value ∙ is)
-      are, c.in_ok-catch_up.ensures.caught_up st (c.as_slice.ensures.value ∙ is) are,
+    c.catch_up.new.self = λ st is are. (
+      c.catch_up.ensures.stay st (c.as_slice.ensures.value ∙ is)
+          are,
+      c.in_ok-catch_up.ensures.caught_up st (c.as_slice.ensures.value ∙ is) are,
     ) in
     on_err_gives _ (KeepsWorkersAsBefore works reads c.catch_up.new.self c.go.new.workers)
     (KeepsWorkersAsBefore works reads c.args.workers.now c.go.new.workers) (workers_before
@@ -112,8 +118,10 @@ returns-in-Waits-clause-turn g c =
     let works = works_of g.L.CheckpointLog g.L.EntryLog c.args.self.now in
     let reads = reads_of g.L.CheckpointLog g.L.EntryLog c.args.self.now in
     let caught_up : CatchesUp c.args.self.now.events.events.items c.args.workers.now
-    c.catch_up.new.self = λ st is are. ( c.catch_up.ensures.stay st (c.as_slice.ensures.value ∙ is)
-      are, c.in_ok-catch_up.ensures.caught_up st (c.as_slice.ensures.value ∙ is) are,
+    c.catch_up.new.self = λ st is are. (
+      c.catch_up.ensures.stay st (c.as_slice.ensures.value ∙ is)
+          are,
+      c.in_ok-catch_up.ensures.caught_up st (c.as_slice.ensures.value ∙ is) are,
     ) in
     turn_waits _ _ _ _ _ _ _ c.requires.turn caught_up (subst (λ o. IsOutlook c.args.name.now
     works reads c.catch_up.new.self o) c.in-Waits.is c.outlook.ensures)
@@ -127,8 +135,10 @@ returns-in-Over-clause-turn g c =
     let works = works_of g.L.CheckpointLog g.L.EntryLog c.args.self.now in
     let reads = reads_of g.L.CheckpointLog g.L.EntryLog c.args.self.now in
     let caught_up : CatchesUp c.args.self.now.events.events.items c.args.workers.now
-    c.catch_up.new.self = λ st is are. ( c.catch_up.ensures.stay st (c.as_slice.ensures.value ∙ is)
-      are, c.in_ok-catch_up.ensures.caught_up st (c.as_slice.ensures.value ∙ is) are,
+    c.catch_up.new.self = λ st is are. (
+      c.catch_up.ensures.stay st (c.as_slice.ensures.value ∙ is)
+          are,
+      c.in_ok-catch_up.ensures.caught_up st (c.as_slice.ensures.value ∙ is) are,
     ) in
     turn_over _ _ _ _ _ _ _ c.requires.turn caught_up _ (subst (λ o. IsOutlook
     c.args.name.now works reads c.catch_up.new.self o) c.in-Over.is c.outlook.ensures)

@@ -12,8 +12,11 @@ returns-then-is_halt_of c =
     let some = c.loop-at-test.true in
     let low = c.loop-at.invariant.within in
     let is : c.loop-at.at ≡ suc k = omega (arith, some) in
-    ap (λ m. set c.loop-at.marks k m) c.as_taken.ensures ∙ last_taken _ _ _ _ (omega (arith,
-    some, low)) (sym c.is_halt_of.ensures ∙ c.if-is_halt_of.true) (sym (ap (λ n. list_any
+    ap (λ m. set c.loop-at.marks k m) c.as_taken.ensures ∙ last_taken _ _ _ _ (omega (
+      arith,
+      some,
+      low,
+    )) (sym c.is_halt_of.ensures ∙ c.if-is_halt_of.true) (sym (ap (λ n. list_any
     (is_halt_of c.args.node) (drop n c.loop-at.marks)) is) ∙ c.loop-at.invariant.none) ∙ ap
     (with_mark_taken c.args.node) c.loop-at.invariant.same
 

@@ -27,8 +27,12 @@ returns-clause-items c =
     let len = c.len.ensures in
     let least = c.min-at.ensures in
     c.insert_event.ensures.items ∙ ap (λ xs. insert xs c.min-at.result c.args.event)
-    c.renumber_from.ensures.items ∙ put_behind _ c.args.event _ _ (grind (arith, common_steps,
-    len, least)) ∙ put_at_last _ _ c.args.event _ (grind (arith, common_steps, len, least))
+    c.renumber_from.ensures.items ∙ put_behind _ c.args.event _ _ (grind (
+      arith,
+      common_steps,
+      len,
+      least,
+    )) ∙ put_at_last _ _ c.args.event _ (grind (arith, common_steps, len, least))
 
 pub invariant_of-self : goal.invariant_of-self
 invariant_of-self c =
