@@ -2,7 +2,7 @@
 use Rattle.std.proofs.Common.{◌≡◌, ℕ, ◌+◌, ◌<◌, ◌≤◌, List, [], ◌∷◌, length, refl, sym, arith}
 use Rattle.cam_hall.specs.declared.served.End.TheVariants as ends
 use Rattle.cam_hall.specs.declared.served.Turn.{Turn}
-use Rattle.cam_hall.specs.declared.served.Turn.TheVariants.{Step, Empty, Unused, Held}
+use Rattle.cam_hall.specs.declared.served.Turn.TheVariants.{Step, Empty, Waiting, Unused, Held}
 use Rattle.cam_hall.specs.declared.worker.Tally.{Tally}
 use Rattle.cam_hall.specs.Serving.{steps, empty_turns, IsTally, IsQuiet, IsBusy, EndsNoSooner, IsServed}
 
@@ -11,6 +11,7 @@ pub steps_within : (turns : List Turn) → steps turns ≤ length turns
 steps_within [] = omega arith
 steps_within (Step ∷ before) = let less = steps_within before in omega arith
 steps_within (Empty ∷ before) = let less = steps_within before in omega arith
+steps_within (Waiting ∷ before) = let less = steps_within before in omega arith
 steps_within (Unused ∷ before) = let less = steps_within before in omega arith
 steps_within (Held ∷ before) = let less = steps_within before in omega arith
 
@@ -19,6 +20,7 @@ pub empty_within : (turns : List Turn) → empty_turns turns ≤ length turns
 empty_within [] = omega arith
 empty_within (Step ∷ before) = omega arith
 empty_within (Empty ∷ before) = let less = empty_within before in omega arith
+empty_within (Waiting ∷ before) = omega arith
 empty_within (Unused ∷ before) = omega arith
 empty_within (Held ∷ before) = omega arith
 

@@ -46,6 +46,21 @@ impl<C: Core, J: Names, const NODE: u8> Cell<C, J, NODE> {
     ) -> Result<Handled, HallFault>
         requires { IsFor J.journal C.goes_to NODE item }
     {
+        hall.begin_turn();
+        let handled = self.turn_and_send(rt, hall, item);
+        hall.end_turn();
+        handled
+    }
+
+    // One turn, whose notes are in the mailboxes then.
+    fn turn_and_send<R: Wait>(
+        &self,
+        rt: &R,
+        hall: &Hall<C, J>,
+        item: Item<C>,
+    ) -> Result<Handled, HallFault>
+        requires { IsFor J.journal C.goes_to NODE item }
+    {
         match self.turn(rt, hall.journal(), item)? {
             TurnedOf::Did { number, notes, .. } => Ok(Handled::Did {
                 number,

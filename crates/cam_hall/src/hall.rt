@@ -11,6 +11,7 @@ use cam_journal::{Core, Journal};
 use std::alloc::Global;
 use std::marker::Model;
 use std::sync::Mutex;
+use std::sync::atomic::{AtomicU64, Ordering};
 
 /// The cells of nodes 1 to 4 with the journal that `J` names, and a mailbox for each. Contracts see
 /// the journal.
@@ -23,6 +24,9 @@ pub struct Hall<C: Core, J: Names> {
     pub(crate) fourth: Cell<C, J, 4>,
     pub(crate) mail: Mailboxes<C, J>,
     room: Mutex<Room<C>>,
+    /// How many turns of cells are under way: the letters of a turn are in the mailboxes before it
+    /// is over.
+    turns: AtomicU64,
 }
 
 /// What a hall takes memory for: empty mailboxes, and room for what it will leave. It is made before
@@ -77,6 +81,7 @@ impl<C: Core, J: Names> Hall<C, J> {
             fourth,
             mail,
             room: Mutex::new(room),
+            turns: AtomicU64::new(0),
         }
     }
 
@@ -93,6 +98,7 @@ impl<C: Core, J: Names> Hall<C, J> {
             fourth,
             mail: _,
             room,
+            turns: _,
         } = self;
         let (mut cores, mut seats) = room.into_inner().into_lists();
         first.leave(&mut cores, &mut seats);
@@ -120,6 +126,21 @@ impl<C: Core, J: Names> Hall<C, J> {
     /// The cell of node 4.
     pub fn fourth(&self) -> &Cell<C, J, 4> {
         &self.fourth
+    }
+
+    /// A turn of a cell begins.
+    pub(crate) fn begin_turn(&self) {
+        self.turns.fetch_add(1, Ordering::SeqCst);
+    }
+
+    /// A turn of a cell is over.
+    pub(crate) fn end_turn(&self) {
+        self.turns.fetch_sub(1, Ordering::SeqCst);
+    }
+
+    /// Whether a cell is at a turn, by a look that takes no lock.
+    pub(crate) fn has_turn(&self) -> bool {
+        self.turns.load(Ordering::SeqCst) > 0
     }
 
     /// The journal.

@@ -14,13 +14,14 @@ use crate::served::{End, Handled, Served, Turn};
 use crate::turned::HallFault;
 use cam_journal::Core;
 use std::sync::Wait;
+use std::thread::yield_now;
 
 // How many empty turns in a row end the work.
 const QUIET_TURNS: u32 = 4096;
 
 /// Works for a node, for so many turns at most: lets its core go on by itself, and hands a letter to
 /// its cell where the core has nothing to do. It ends with the first 4,096 turns in a row that found
-/// neither letter nor request, or with its last turn.
+/// neither letter nor request, while no cell was at a turn, or with its last turn.
 pub fn serve<R: Wait, C: Core, J: Names, G: Gate>(
     rt: &R,
     hall: &Hall<C, J>,
@@ -71,7 +72,7 @@ impl Tally {
                 self.empty = 0;
             }
             Turn::Empty => self.empty += 1,
-            Turn::Unused | Turn::Held => self.empty = 0,
+            Turn::Unused | Turn::Waiting | Turn::Held => self.empty = 0,
         }
     }
 }
@@ -98,6 +99,10 @@ fn pass<R: Wait, C: Core, J: Names, G: Gate>(
     };
     if turn == Turn::Step {
         gate.after(worker, step);
+    }
+    if turn == Turn::Empty && hall.has_turn() {
+        yield_now();
+        return Ok(Turn::Waiting);
     }
     Ok(turn)
 }
