@@ -23,6 +23,8 @@ use Rattle.cam_event.specs.Views.{view}
 use Rattle.cam_event.specs.Pasts.{plain_all}
 use Rattle.cam_event.specs.Rules.{sorted_names}
 use Rattle.cam_names.specs.Text.{name_text}
+use Rattle.cam_report.specs.declared.action.ActionState.{ActionState}
+use Rattle.cam_report.specs.declared.action.ActionState.TheVariants as states
 use Rattle.cam_report.specs.Words.{line, inner_line, object_text, op_words, seen_words, reason_words, state_text}
 
 -- a step of a view in words
@@ -37,8 +39,13 @@ step_words labels (steps.CommitAsked v) = codes "commit" ∷ signed_decimal v �
 step_words labels steps.AbortAsked = codes "abort" ∷ []
 
 -- committed, aborted or open, by the deeds of the run
-abbrev pub state_word : List Deed → Name → List ℕ
-state_word L a = if committed L a then codes "committed" else if aborted L a then codes "aborted" else codes "open"
+abbrev pub state_of : List Deed → Name → ActionState
+state_of L a = if committed L a then states.Committed else if aborted L a then states.Aborted else states.Open
+
+abbrev pub state_text_of : ActionState → List ℕ
+state_text_of states.Committed = codes "committed"
+state_text_of states.Aborted = codes "aborted"
+state_text_of states.Open = codes "open"
 
 -- the actions that were created, in order of names
 abbrev pub create_in : Deed → List Name
@@ -51,7 +58,7 @@ actions L = sorted_names (flat_map create_in L)
 -- an action with its view
 abbrev pub action_text : List (List ℕ) → List Deed → Name → List ℕ
 action_text labels L a =
-    line (codes "action" ∷ name_text a ∷ state_word L a ∷ []) ++ flat_map (λ step. inner_line (step_words labels step)) (view L a)
+    line (codes "action" ∷ name_text a ∷ state_text_of (state_of L a) ∷ []) ++ flat_map (λ step. inner_line (step_words labels step)) (view L a)
 
 -- the event at which an action was stopped
 abbrev pub stop_text : ℕ → Note → List ℕ

@@ -4,8 +4,8 @@ ghost use Rattle.std.specs.List.{flat_map};
 ghost use Rattle.cam_event.specs.declared.Deed.{Deed};
 ghost use Rattle.cam_event.specs.declared.ViewStep.TheVariants.{Child};
 ghost use Rattle.cam_report.specs.Words.{words, inner_line};
-ghost use Rattle.cam_report.specs.Report.{step_words, state_word, action_text, actions};
-ghost use Rattle.cam_report.specs.Gathered.{IsGathered};
+ghost use Rattle.cam_report.specs.Report.{step_words, state_of, state_text_of, action_text, actions};
+ghost use Rattle.cam_report.specs.Gathered.{view_in, IsGathered};
 
 use crate::milestones::{Milestone, all_reached};
 use crate::views::{Views, steps_of, views_of};
@@ -18,17 +18,68 @@ use std::alloc::Global;
 use std::collections::BTreeSet;
 use std::fmt::Write;
 
-/// What is gathered of the actions of a run.
+/// How an action stands at the end.
+#[derive(Clone, Copy, Debug, PartialEq, Eq)]
+pub enum ActionState {
+    Committed,
+    Aborted,
+    Open,
+}
+
+impl ActionState {
+    /// Its word: `committed`, `aborted` or `open`.
+    pub fn word(self) -> &'static str
+        ensures { result.now ≡ state_text_of self }
+    {
+        match self {
+            ActionState::Committed => "committed",
+            ActionState::Aborted => "aborted",
+            ActionState::Open => "open",
+        }
+    }
+}
+
+/// What is gathered of the actions of a run: their names, how each stands at the end, and their
+/// views.
 #[derive(Drop)]
-pub(crate) struct Actions {
+pub struct Actions {
     created: BTreeSet<Name>,
     committed: BTreeSet<Name>,
     aborted: BTreeSet<Name>,
     views: Views,
 }
 
+impl Actions {
+    /// The created actions, in order of names.
+    pub fn created(&self) -> &BTreeSet<Name>
+        ensures { result.now ≡ self.now.created }
+    {
+        &self.created
+    }
+
+    /// The view of an action.
+    pub fn view(&self, action: &Name) -> &[ViewStep]
+        ensures { result.now ≡ view_in self.now.views action.now }
+    {
+        steps_of(&self.views, action)
+    }
+
+    /// How an action stands at the end.
+    pub fn state(&self, action: &Name) -> ActionState
+        ensures { (L : List Deed) → IsGathered L self.now → result ≡ state_of L action.now }
+    {
+        if self.committed.contains(action) {
+            ActionState::Committed
+        } else if self.aborted.contains(action) {
+            ActionState::Aborted
+        } else {
+            ActionState::Open
+        }
+    }
+}
+
 /// Gathers the actions, by passes over the deeds.
-fn gather(alloc: Global, deeds: &[Deed]) -> Result<Actions, NoMemory>
+pub fn gather(alloc: Global, deeds: &[Deed]) -> Result<Actions, NoMemory>
     ensures { IfOk result (IsGathered (reverse deeds.now)) }
 {
     Ok(Actions {
@@ -109,19 +160,6 @@ fn write_view(
     Ok(())
 }
 
-/// How an action stands at the end.
-fn state_word(actions: &Actions, action: &Name) -> &'static str
-    ensures { (L : List Deed) → IsGathered L actions.now → result.now ≡ state_word L action.now }
-{
-    if actions.committed.contains(action) {
-        "committed"
-    } else if actions.aborted.contains(action) {
-        "aborted"
-    } else {
-        "open"
-    }
-}
-
 /// Appends an action with its view.
 fn write_action(
     alloc: Global,
@@ -137,8 +175,8 @@ fn write_action(
     prove!(depth >= 1);
     out.push_str("action ")?;
     action.write_text(alloc, out)?;
-    writeln!(out, " {}", state_word(actions, action))?;
-    write_view(alloc, labels, steps_of(&actions.views, action), out)?;
+    writeln!(out, " {}", actions.state(action).word())?;
+    write_view(alloc, labels, actions.view(action), out)?;
     Ok(())
 }
 

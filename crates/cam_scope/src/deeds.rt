@@ -1,4 +1,8 @@
 //! Deeds and notes in words.
+ghost use Rattle.std.specs.Prelude.{◌≡◌, ◌++◌, OnOk, string_bytes};
+ghost use Rattle.cam_scope.specs.Deeds.{deed_text, heard, note_text};
+ghost use Rattle.cam_scope.specs.Words.{name_word};
+
 use crate::names::Names;
 use crate::numbers::{push_number, push_value};
 use crate::values::{object_text, write_answer, write_op, write_reason, write_seen};
@@ -16,7 +20,10 @@ fn write_named(
     action: &Name,
     behind: &str,
     out: &mut String,
-) -> Result<(), NoMemory> {
+) -> Result<(), NoMemory>
+    ensures { OnOk result (string_bytes out.new ≡ string_bytes out.old
+        ++ before.now ++ name_word names.now action.now ++ behind.now) }
+{
     out.push_str(before)?;
     names.write_name(alloc, action, out)?;
     Ok(out.push_str(behind)?)
@@ -29,7 +36,10 @@ pub fn write_deed(
     labels: &Labels,
     deed: &Deed,
     out: &mut String,
-) -> Result<(), NoMemory> {
+) -> Result<(), NoMemory>
+    ensures { OnOk result (string_bytes out.new ≡ string_bytes out.old
+        ++ deed_text names.now labels.now deed.now) }
+{
     match deed {
         Deed::Create { action } => write_named(alloc, names, "create ", action, "", out),
         Deed::Ask { action, child } => {
@@ -80,7 +90,9 @@ pub fn write_deed(
 }
 
 /// What a node hears of an action.
-fn heard(committed: bool) -> &'static str {
+fn heard(committed: bool) -> &'static str
+    ensures { result.now ≡ heard committed }
+{
     if committed {
         "hears commit "
     } else {
@@ -94,7 +106,10 @@ pub fn write_note(
     names: &Names,
     note: &Note,
     out: &mut String,
-) -> Result<(), NoMemory> {
+) -> Result<(), NoMemory>
+    ensures { OnOk result (string_bytes out.new ≡ string_bytes out.old
+        ++ note_text names.now note.now) }
+{
     match note {
         Note::Plain => Ok(()),
         Note::Stopped(action, reason) => {

@@ -1,6 +1,7 @@
 //! The letters of a run, in order of sending.
 ghost use Rattle.std.specs.Prelude.{◌≡◌};
 ghost use Rattle.cam_scope.specs.Letters.{kind_of};
+ghost use Rattle.cam_scope.specs.Words.{kind_text};
 
 use cam_base::{NoMemory, Sequence};
 use cam_event::{Body, Event, LetterId};
@@ -43,7 +44,9 @@ impl LetterKind {
     }
 
     /// Its words: `prepare`, `vote yes`.
-    pub fn words(self) -> &'static str {
+    pub fn words(self) -> &'static str
+        ensures { result.now ≡ kind_text self }
+    {
         match self {
             LetterKind::Start => "start",
             LetterKind::Call => "call",

@@ -1,4 +1,8 @@
 //! The words by which a script knows the actions of its run.
+ghost use Rattle.std.specs.Prelude.{◌≡◌, ◌++◌, OnOk, drop, string_bytes};
+ghost use Rattle.std.specs.List.{flat_map};
+ghost use Rattle.cam_scope.specs.Words.{bound_line, name_word, place_text, word_from};
+
 use crate::numbers::push_number;
 use cam_base::NoMemory;
 use cam_event::{Deed, Trace};
@@ -63,28 +67,17 @@ impl Names {
 
     /// Appends the word of an action. An action that the script cannot name is written as the
     /// report writes it.
-    pub fn write_name(
-        &self,
-        alloc: Global,
-        action: &Name,
-        out: &mut String,
-    ) -> Result<(), NoMemory> {
-        let mut ancestor = *action;
-        for _ in 0..action.depth() {
-            if let Some(variable) = self.variables.get(&ancestor) {
-                out.push_str(variable.label.as_str())?;
-                return write_places(&ancestor, action, out);
-            }
-            let Some(parent) = ancestor.parent() else {
-                break;
-            };
-            ancestor = parent;
-        }
-        action.write_text(alloc, out)
+    pub fn write_name(&self, alloc: Global, action: &Name, out: &mut String) -> Result<(), NoMemory>
+        ensures { OnOk result (string_bytes out.new ≡ string_bytes out.old
+            ++ name_word self.now action.now) }
+    {
+        write_from(alloc, &self.variables, action.depth(), action, action, out)
     }
 
     /// The line whose variable the action is, if one is.
-    pub fn line(&self, action: &Name) -> Option<u32> {
+    pub fn line(&self, action: &Name) -> Option<u32>
+        ensures { result ≡ bound_line self.now action.now }
+    {
         match self.variables.get(action) {
             Some(variable) => Some(variable.line),
             None => None,
@@ -97,11 +90,41 @@ impl Names {
     }
 }
 
-/// Appends the places of the children on the way from an ancestor to an action.
-fn write_places(ancestor: &Name, action: &Name, out: &mut String) -> Result<(), NoMemory> {
-    for part in action.parts().iter().skip(ancestor.depth()) {
-        out.push_str("/")?;
-        push_number(out, u64::from(part.number))?;
+/// Appends the word of an action by this ancestor of it or one above, so many levels up at most.
+fn write_from(
+    alloc: Global,
+    variables: &Variables,
+    levels: usize,
+    ancestor: &Name,
+    action: &Name,
+    out: &mut String,
+) -> Result<(), NoMemory>
+    ensures { OnOk result (string_bytes out.new ≡ string_bytes out.old
+        ++ word_from variables.now levels ancestor.now action.now) }
+{
+    if levels == 0 {
+        return action.write_text(alloc, out);
+    }
+    if let Some(variable) = variables.get(ancestor) {
+        out.push_str(variable.label.as_str())?;
+        return write_places(ancestor.depth(), action, out);
+    }
+    match ancestor.parent() {
+        Some(parent) => write_from(alloc, variables, levels - 1, &parent, action, out),
+        None => action.write_text(alloc, out),
+    }
+}
+
+/// Appends the places of the children on the way to an action from its ancestor of this depth.
+fn write_places(depth: usize, action: &Name, out: &mut String) -> Result<(), NoMemory>
+    ensures { OnOk result (string_bytes out.new ≡ string_bytes out.old
+        ++ flat_map place_text (drop depth action.now)) }
+{
+    if let Some(below) = action.parts().get(depth..) {
+        for part in below {
+            out.push_str("/")?;
+            push_number(out, u64::from(part.number))?;
+        }
     }
     Ok(())
 }

@@ -1,5 +1,6 @@
 //! The view of a run by names.
 ghost use Rattle.std.specs.Prelude.{◌≡◌, IfOk, map};
+ghost use Rattle.cam_scope.specs.Numbers.{letter_number};
 
 use crate::events::{NamedEvents, name_events};
 use crate::letters::NamedLetters;
@@ -68,7 +69,9 @@ impl Scope {
     }
 
     /// The number of a letter, from 1, in order of sending.
-    pub fn number_of(&self, letter: LetterId) -> usize {
+    pub fn number_of(&self, letter: LetterId) -> usize
+        ensures { result ≡ letter_number self.now.events letter }
+    {
         let event = usize::try_from(letter.event).unwrap_or(usize::MAX);
         match self.events.get(event) {
             Some(event) => event

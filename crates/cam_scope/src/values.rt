@@ -1,4 +1,8 @@
 //! Operations, answers and reasons in words.
+ghost use Rattle.std.specs.Prelude.{◌≡◌, ◌++◌, OnOk, codes, string_bytes};
+ghost use Rattle.std.specs.Fmt.{signed_decimal};
+ghost use Rattle.cam_scope.specs.Words.{answer_text, object_word, op_text, reason_text, seen_text};
+
 use crate::names::Names;
 use crate::numbers::{push_number, push_value};
 use cam_base::NoMemory;
@@ -9,7 +13,9 @@ use cam_type::{Answer, Op};
 use std::alloc::Global;
 
 /// The script's name of an object, which is empty where it has none.
-pub fn object_text(labels: &Labels, object: u8) -> &str {
+pub fn object_text(labels: &Labels, object: u8) -> &str
+    ensures { result.now ≡ object_word labels.now object }
+{
     match labels.get(object as usize) {
         Some(label) => label.as_str(),
         None => "",
@@ -17,14 +23,18 @@ pub fn object_text(labels: &Labels, object: u8) -> &str {
 }
 
 /// Appends a word and a value.
-fn push_valued(out: &mut String, word: &str, value: i64) -> Result<(), NoMemory> {
+fn push_valued(out: &mut String, word: &str, value: i64) -> Result<(), NoMemory>
+    ensures { OnOk result (string_bytes out.new ≡ string_bytes out.old ++ word.now ++ codes " " ++ signed_decimal value) }
+{
     out.push_str(word)?;
     out.push_str(" ")?;
     push_value(out, value)
 }
 
 /// Appends an operation, as a script spells it.
-pub fn write_op(op: &Op, out: &mut String) -> Result<(), NoMemory> {
+pub fn write_op(op: &Op, out: &mut String) -> Result<(), NoMemory>
+    ensures { OnOk result (string_bytes out.new ≡ string_bytes out.old ++ op_text op.now) }
+{
     match op {
         Op::Read => Ok(out.push_str("read")?),
         Op::Write(value) => push_valued(out, "write", *value),
@@ -37,7 +47,9 @@ pub fn write_op(op: &Op, out: &mut String) -> Result<(), NoMemory> {
 }
 
 /// Appends what an operation answered: `ok`, a value, or `empty`.
-pub fn write_answer(answer: &Answer, out: &mut String) -> Result<(), NoMemory> {
+pub fn write_answer(answer: &Answer, out: &mut String) -> Result<(), NoMemory>
+    ensures { OnOk result (string_bytes out.new ≡ string_bytes out.old ++ answer_text answer.now) }
+{
     match answer {
         Answer::Ok => Ok(out.push_str("ok")?),
         Answer::Value(value) => push_value(out, *value),
@@ -52,7 +64,10 @@ pub fn write_seen(
     names: &Names,
     seen: &Seen,
     out: &mut String,
-) -> Result<(), NoMemory> {
+) -> Result<(), NoMemory>
+    ensures { OnOk result (string_bytes out.new ≡ string_bytes out.old
+        ++ seen_text names.now seen.now) }
+{
     match seen {
         Seen::Done(answer) => write_answer(answer, out),
         Seen::Busy(holder) => {
@@ -70,7 +85,10 @@ pub fn write_reason(
     names: &Names,
     reason: &Reason,
     out: &mut String,
-) -> Result<(), NoMemory> {
+) -> Result<(), NoMemory>
+    ensures { OnOk result (string_bytes out.new ≡ string_bytes out.old
+        ++ reason_text names.now reason.now) }
+{
     match reason {
         Reason::Abort(ancestor) => {
             out.push_str("abort ")?;

@@ -5,9 +5,11 @@
 #![tactic(auto)]
 
 mod causes;
+mod faults;
 mod notes;
 mod refusals;
 
 pub use causes::cause_sentence;
-pub use notes::{fault_sentence, note_sentence};
+pub use faults::fault_sentence;
+pub use notes::note_sentence;
 pub use refusals::{refusal_label, refusal_sentence};

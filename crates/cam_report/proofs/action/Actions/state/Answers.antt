@@ -1,7 +1,7 @@
 use Rattle.std.proofs.Common.{◌≡◌, true, false, refl, sym, ◌∙◌}
 use Rattle.cam_event.specs.History.{committed, aborted}
 use Rattle.cam_report.proofs.States.{has_committed, has_aborted}
-use Rattle.cam_report.proofs.action.state_word.Goals as goal
+use Rattle.cam_report.proofs.action.Actions.state.Goals as goal
 
 pub returns-then-contains : goal.returns-then-contains
 returns-then-contains c = λ L g.
