@@ -4,6 +4,8 @@ pub mod Counted
 pub mod Wanted
 pub mod Running
 pub mod Requests
+pub mod Asking
+pub mod Crashed
 pub mod Puts
 pub mod Requested
 pub mod Restarted

@@ -161,6 +161,7 @@ begins words storm_node s here few words_are tops number node objects events cop
         objects = objects;
         copies = copies;
         seen = seen;
+        asked = λ a low free may made ask. absurd (true≢false (sym made));
         next = subst (IsNextRequest words s []) (sym next) tt;
       });
     }

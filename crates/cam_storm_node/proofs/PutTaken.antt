@@ -8,6 +8,7 @@ use Rattle.cam_event.specs.declared.LetterId.{LetterId}
 use Rattle.cam_event.specs.declared.Sent.{Sent}
 use Rattle.cam_event.specs.ByDeltas.{Received}
 use Rattle.cam_event.proofs.Members.{In}
+use Rattle.cam_node.specs.Halting.{IsThrough}
 use Rattle.cam_node.specs.Lawful.{MayBePut}
 use Rattle.cam_node.specs.Represents.{Node}
 use Rattle.cam_journal.specs.declared.entry.SentLetter.{SentLetter as Taken}
@@ -24,9 +25,11 @@ use Rattle.cam_storm.proofs.Named.{number_high}
 use Rattle.cam_storm.proofs.OwnNear.{OwnNear, own_near, own_near_more}
 use Rattle.cam_storm.proofs.OwnSends.{create_found, sent_near}
 use Rattle.cam_storm.proofs.SoundSteps.{IsPutStep}
+use Rattle.cam_storm_node.specs.Asking.{EndsActions}
 use Rattle.cam_storm_node.specs.Following.{AreOfFew}
 use Rattle.cam_storm_node.specs.Playing.{StormNodeFields, IsPlaying, cell_of, is_idle_by}
 use Rattle.cam_storm_node.specs.Taking.{HasTaken}
+use Rattle.cam_storm_node.proofs.Crashed.{crash_ends}
 use Rattle.cam_storm_node.proofs.Played.{busy_runs, idle_same}
 
 module _ (words : Words) (s : ℕ) (history : SeatHistory) (item : CoreInput Copied)
@@ -86,3 +89,9 @@ module _ (words : Words) (s : ℕ) (history : SeatHistory) (item : CoreInput Cop
       let high = number_high words a is.0 in
       let few = plays.few in
       omega (arith, high, few)
+
+  -- and after a restart none of them may run
+  pub ends : IsThrough (objects_of words) s own
+      → EndsActions s own
+      (record { event = event; mail = mail_in took.from; load = load_in took.from })
+  ends through = crash_ends words s own took.from event put through

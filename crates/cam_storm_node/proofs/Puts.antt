@@ -2,9 +2,7 @@
 use Rattle.std.proofs.Common.{◌≡◌, ℕ, zero, suc, ◌+◌, ◌%◌, ◌<◌, ◌≤◌, Bool, true, false, if◌then◌else◌}
 use Rattle.std.proofs.Common.{List, [], ◌∷◌, map, length, refl, sym, ap, ◌∙◌, subst, arith}
 use Rattle.std.proofs.lemmas.List.{length-append, length-map}
-use Rattle.std.proofs.lemmas.Bool.{ltb-false, or_parts}
 use Rattle.cam_names.specs.declared.name.Name.{Name}
-use Rattle.cam_names.specs.Names.{home_count}
 use Rattle.cam_type.specs.declared.ObjectDecl.{ObjectDecl}
 use Rattle.cam_know.specs.Known.{nothing}
 use Rattle.cam_event.specs.declared.Body.{Body}
@@ -34,7 +32,7 @@ use Rattle.cam_storm.specs.Lawful.{letter_load, letter_mail}
 use Rattle.cam_storm.specs.Own.{OwnRequest}
 use Rattle.cam_storm_node.specs.Taking.{IsAllowed}
 use Rattle.cam_storm.proofs.Numbers.{own_number}
-use Rattle.cam_storm_node.proofs.Running.{free_runs}
+use Rattle.cam_storm_node.proofs.Running.{may_run}
 
 -- a storm has 64 objects at most
 numbers_length : (n : ℕ) → length (numbers n) ≡ n
@@ -83,14 +81,7 @@ module _ (words : Words) (s : ℕ) (own : List Received) (node : Node)
         inform = λ r a o. refl;
       }) objects s own lawful in (tt, omega (arith, is, most, room))
 
-  -- a request, of an action that may run here
-  may_run : (r : Request) → OwnRequest words s own r.action r.want → MayRunHere L s r.action
-  may_run r request =
-      let at = free_runs words s own r.action r.want request.allowed in (
-        request.drives.here,
-        ltb-false (home_count r.action) (count L s) (or_parts _ _ at.not_ended).1,
-      )
-
+  -- a request
   has_number : (a : Name) (want : Want) → MayRunHere L s a → HasNumber node a want
   has_number a (wants.Ask m) may =
       let is = runs.asks a may in
@@ -124,7 +115,8 @@ module _ (words : Words) (s : ℕ) (own : List Received) (node : Node)
           home ∙ sym number,
           subst (λ (os : List ObjectDecl). IsWant os r.want) (sym rep.serves.site.objects_are)
               request.fits,
-          has_number r.action r.want (may_run r request),
+          has_number r.action r.want
+              (may_run words s own r.action r.want home request.allowed),
         ),
       )
 

@@ -1,5 +1,6 @@
 -- Whether an action has a request, by what a storm node keeps of it.
-use Rattle.std.proofs.Common.{◌≡◌, ℕ, ◌≤◌, true, false, List, Some, None, sym, ap, ◌∙◌, subst}
+use Rattle.std.proofs.Common.{◌≡◌, inl, inr, ℕ, ◌≤◌, true, false, List, length, Option, Some, None, refl, sym, ap, ◌∙◌, subst}
+use Rattle.std.proofs.lemmas.Bool.{cases_Bool}
 use Rattle.std.specs.BTreeMap.{get}
 use Rattle.std.specs.BTreeSet.{contains}
 use Rattle.cam_names.specs.declared.name.Name.{Name}
@@ -16,11 +17,12 @@ use Rattle.cam_gen.specs.Storms.{Words, action_number, body_of, objects_of}
 use Rattle.cam_storm.specs.Own.{OwnRequest, own_view, sight_at}
 use Rattle.cam_storm_node.specs.declared.works.Work.{Work}
 use Rattle.cam_storm_node.specs.Works.{IsWanted, view_of}
+use Rattle.cam_storm_node.specs.Asking.{asks, is_request}
 use Rattle.cam_storm_node.specs.Playing.{StormNodeFields}
 use Rattle.cam_storm_node.specs.Following.{Knows}
 use Rattle.cam_storm_node.proofs.Played.{named}
-use Rattle.cam_storm_node.proofs.Running.{free_runs}
-use Rattle.cam_storm_node.proofs.Requests.{own_request, same_want, stopped_has_none}
+use Rattle.cam_storm_node.proofs.Running.{free_runs, may_run}
+use Rattle.cam_storm_node.proofs.Requests.{own_request, same_want, stopped_has_none, unseen_has_none}
 
 wanted_is : (n : Next) (w : Want) → IsWanted n (Some w) → n ≡ nexts.Request w
 wanted_is (nexts.Request v) w is = cc
@@ -40,10 +42,10 @@ module _ (words : Words) (s : ℕ) (own : List Received) (a : Name) (work : Work
       sym (ap view_of found) ∙ knows.seen.views a (named s a home knows.low) in
       λ i. next_of_body (knows.seen.bodies a work found few i) (view i)
 
-  asks : (w : Want) → IsWanted (next_of_body work.body work.view) (Some w) → home_node a ≡ s
+  next_asked : (w : Want) → IsWanted (next_of_body work.body work.view) (Some w) → home_node a ≡ s
       → action_number a ≤ 64
       → next_of_body (body_of words a) (own_view own a) ≡ nexts.Request w
-  asks w is home few =
+  next_asked w is home few =
       sym (next_is home few) ∙ wanted_is (next_of_body work.body work.view) w is
 
   -- nothing stands against a request of an action that was created alone
@@ -72,7 +74,7 @@ module _ (words : Words) (s : ℕ) (own : List Received) (a : Name) (work : Work
     same : (want : Want) → OwnRequest words s own a want → want ≡ w
     same want request =
         same_want words s own a w want
-        (asks w is request.drives.here (few want request.allowed)) request
+        (next_asked w is request.drives.here (few want request.allowed)) request
 
     -- what it asks for is not in range, or something stands against it
     pub out_of_range : (IsWant (objects_of words) w → ⊥) → (want : Want)
@@ -93,4 +95,44 @@ module _ (words : Words) (s : ℕ) (own : List Received) (a : Name) (work : Work
     has_it home free fits allowed =
         own_request words s own a w
         (subst (λ (n : ℕ). IsThrough (objects_of words) n own) knows.number knows.node.through) home
-        (sym (knows.seen.stopped a) ∙ free) (asks w is home (few w allowed)) allowed fits
+        (sym (knows.seen.stopped a) ∙ free) (next_asked w is home (few w allowed)) allowed fits
+
+-- an action without a work has none
+pub no_work : (words : Words) (s : ℕ) (own : List Received) (a : Name)
+    (storm_node : StormNodeFields) → Knows words s own storm_node
+    → get name_cmp storm_node.works.works a ≡ None → (want : Want)
+    → OwnRequest words s own a want → ⊥
+no_work words s own a storm_node knows none want request =
+    unseen_has_none words s own a want
+    (sym (knows.seen.views a (named s a request.drives.here knows.low)) ∙ ap view_of none) request
+
+-- an action that has a request is one of those that may have one
+pub has_asked : (words : Words) (s : ℕ) (own : List Received) (a : Name) (want : Want)
+    (storm_node : StormNodeFields) → Knows words s own storm_node
+    → OwnRequest words s own a want → contains name_cmp storm_node.works.asking a ≡ true
+has_asked words s own a want storm_node knows request =
+    by (get name_cmp storm_node.works.works a) refl
+  where
+    low : 1 ≤ length a
+    low = named s a request.drives.here knows.low
+
+    free : contains name_cmp storm_node.works.stopped a ≡ false
+    free =
+        elim (cases_Bool (contains name_cmp storm_node.works.stopped a)) [
+          | inl is ↦
+              absurd (stopped_has_none words s own a want (sym (knows.seen.stopped a) ∙ is) request)
+          | inr other ↦ other
+        ]
+
+    by : (o : Option Work) → get name_cmp storm_node.works.works a ≡ o
+        → contains name_cmp storm_node.works.asking a ≡ true
+    by None none = absurd (no_work words s own a storm_node knows none want request)
+    by (Some work) found =
+        knows.asked a low free
+        (may_run words s own a want request.drives.here request.allowed)
+        (free_runs words s own a want request.allowed).is_created
+        (ap asks found
+        ∙ ap is_request
+        (next_is words s own a work storm_node knows found request.drives.here
+        (few words s own a work storm_node knows found want request.allowed)
+        ∙ request.drives.next))

@@ -38,7 +38,7 @@ full_if : {X : Type 0} (x : X) (t : Bool) → t ≡ true → (if t then x ∷ []
 full_if x true h e = cc
 full_if x false h e = cc
 
-gives : (mail : Option Mail) (a : Name) (d : Deed) → is_create a d ≡ true → own_step mail a d ≡ []
+pub gives : (mail : Option Mail) (a : Name) (d : Deed) → is_create a d ≡ true → own_step mail a d ≡ []
     → ⊥
 gives mail a (Create b) is e = full_if steps.Created (name_eq a b) is e
 gives mail a _ is e = cc

@@ -4,7 +4,7 @@ use Rattle.std.proofs.Common.{List, [], ◌∷◌, map, Option, Some, None, refl
 use Rattle.std.proofs.Common.{arith, eq-eqb}
 use Rattle.std.specs.Prelude.{nat_lt}
 use Rattle.std.specs.List.{list_any}
-use Rattle.std.proofs.lemmas.Bool.{true≢false, or_parts, cases_Bool}
+use Rattle.std.proofs.lemmas.Bool.{ltb-false, true≢false, or_parts, cases_Bool}
 use Rattle.std.proofs.lemmas.Bool.Decides.{leb_tells}
 use Rattle.cam_names.specs.declared.name.Name.{Name}
 use Rattle.cam_names.specs.Names.{name_eq, home_node, home_count}
@@ -18,6 +18,7 @@ use Rattle.cam_event.specs.History.{count, created, ended, is_open_child}
 use Rattle.cam_event.specs.Refusals.{first_of_two, where_so, refusal}
 use Rattle.cam_event.specs.Carried.{deeds_of}
 use Rattle.cam_event.specs.ByDeltas.{Received, as_carried}
+use Rattle.cam_tranman.specs.Actions.{MayRunHere}
 use Rattle.cam_tranman.specs.Orderly.{is_of_later}
 use Rattle.cam_node.specs.Halting.{IsThrough}
 use Rattle.cam_node.proofs.Orderly.{through_orderly}
@@ -85,7 +86,7 @@ module _ (words : Words) (s : ℕ) (own : List Received) where
 first_and : (b c : Bool) → b ≡ true → (b && c) ≡ false → c ≡ false
 first_and b c holds fails = sym (ap (λ x. x && c) holds) ∙ fails
 
-created_early : (s c : ℕ) (a : Name) (L : List Deed) → list_any (is_of_later s c) L ≡ false
+pub created_early : (s c : ℕ) (a : Name) (L : List Deed) → list_any (is_of_later s c) L ≡ false
     → created L a ≡ true → home_node a ≡ s → nat_lt c (home_count a) ≡ false
 created_early s c a [] none is home = absurd (true≢false (sym is))
 created_early s c a (Create b ∷ L) none is home =
@@ -141,3 +142,13 @@ may_of words s own a through home runs free =
         let low = no_less (home_count a) (count L s) parts.1 in
         let high = no_less (count L s) (home_count a) early in
         eq-eqb (home_count a) (count L s) (omega (arith, low, high))
+
+-- it may run at its home
+pub may_run : (words : Words) (s : ℕ) (own : List Received) (a : Name) (want : Want)
+    → home_node a ≡ s → refusal (sight_at words s own) a want ≡ None
+    → MayRunHere (deeds_of (map as_carried own)) s a
+may_run words s own a want home allowed = (
+  home,
+  ltb-false (home_count a) (count (deeds_of (map as_carried own)) s)
+      (or_parts _ _ (free_runs words s own a want allowed).not_ended).1,
+)

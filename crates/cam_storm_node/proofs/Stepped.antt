@@ -6,6 +6,7 @@ use Rattle.std.proofs.lemmas.List.{reverse-append, length-map}
 use Rattle.cam_event.specs.declared.Letter.{Letter as EventLetter}
 use Rattle.cam_event.specs.ByDeltas.{Received}
 use Rattle.cam_node.specs.Calls.{letter_as}
+use Rattle.cam_node.specs.Halting.{IsThrough}
 use Rattle.cam_node.specs.Keeping.{KeepsNode}
 use Rattle.cam_node.specs.Represents.{Represents}
 use Rattle.cam_journal.specs.declared.entry.NumberedEvent.{NumberedEvent}
@@ -24,11 +25,12 @@ use Rattle.cam_storm_node.specs.Playing.{StormNodeFields, IsPlaying, Runs, cell_
 use Rattle.cam_storm_node.proofs.Copied.{are_copied}
 use Rattle.cam_storm_node.specs.Receipts.{AreReceipts}
 use Rattle.cam_storm_node.specs.Works.{HaveSeen}
+use Rattle.cam_storm_node.specs.Asking.{EndsActions, HaveAsked}
 use Rattle.cam_gen.specs.StormDraws.{AreAt}
 use Rattle.cam_storm_node.specs.Taking.{HasTaken, OnlyNode}
 use Rattle.cam_storm_node.specs.Following.{AreOfFew, HasFollowed, MayFollow}
 use Rattle.cam_storm_node.specs.Stepping.{HasStepped}
-use Rattle.cam_storm_node.proofs.PutTaken.{few_more, goes_near}
+use Rattle.cam_storm_node.proofs.PutTaken.{ends, few_more, goes_near}
 use Rattle.cam_storm_node.proofs.Played.{one_more, idle_same, busy_runs, runs_of, named}
 
 module _ (words : Words) (s : ℕ) (history : SeatHistory) (item : CoreInput Copied)
@@ -79,6 +81,14 @@ module _ (words : Words) (s : ℕ) (history : SeatHistory) (item : CoreInput Cop
               took.is_from
               (few_more words s history item old plays busy sent e.event letters finish mid.node
               mid.entries took);
+          asked = subst (HaveAsked s own) (sym only.works) runs.asked;
+          ends =
+              subst (λ (from : Option (Taken Copied)). EndsActions s own (carried e from))
+              took.is_from
+              (ends words s history item old plays busy sent e.event letters finish mid.node
+              mid.entries took
+              (subst (λ (n : ℕ). IsThrough (objects_of words) n own) plays.replay.number
+              runs.node.through));
         }
 
   module _ (took : HasTaken words s own item e.event letters finish mid.node mid.entries)
@@ -175,6 +185,7 @@ module _ (words : Words) (s : ℕ) (history : SeatHistory) (item : CoreInput Cop
               ∙ (runs_of words old s history plays on).objects;
           copies = followed.copies;
           seen = followed.seen;
+          asked = followed.asked;
           next = followed.next;
         }));
       }

@@ -19,6 +19,7 @@ use Rattle.cam_storm_node.specs.declared.receipts.Receipts.{Receipts}
 use Rattle.cam_storm_node.specs.Copying.{copied_from}
 use Rattle.cam_storm_node.specs.Receipts.{AreReceipts, times_in}
 use Rattle.cam_storm_node.specs.Works.{HaveSeen}
+use Rattle.cam_storm_node.specs.Asking.{EndsActions, HaveAsked}
 use Rattle.cam_storm_node.specs.Playing.{StormNodeFields, IsNextRequest}
 
 -- What a storm node makes of a step that its node took: its event is taken in, its letters have
@@ -31,6 +32,7 @@ pub record HasFollowed (words : Words) (s sent : ℕ) (own : List Received) (c :
   pub copies : AreAt words s (sent + length letters) new.copies
   pub seen : HaveSeen words (c ∷ own) new.works
   pub receipts : AreReceipts (map event_in (c ∷ own)) new.receipts
+  pub asked : HaveAsked s (c ∷ own) new.works
   pub drive : IsLeastDrive words s (c ∷ own) (option_map (λ (r : Request). r.action) new.next)
   pub next : IsNextRequest words s (c ∷ own) new.next
   pub events : new.events ≡ old.events + 1
@@ -56,6 +58,7 @@ pub record Knows (words : Words) (s : ℕ) (own : List Received) (storm_node : S
     pub node : KeepsNode (objects_of words) own storm_node.node storm_node.entries
     pub seen : HaveSeen words own storm_node.works
     pub few : AreOfFew own
+    pub asked : HaveAsked s own storm_node.works
 
 -- the request that an action has; none where it has none
 abbrev pub IsRequestOf : Words → ℕ → List Received → Name → Option Request → Type 0
@@ -75,6 +78,8 @@ pub record MayFollow (words : Words) (s sent : ℕ) (own : List Received) (c : R
   pub seen : HaveSeen words own storm_node.works
   pub receipts : AreReceipts (map event_in own) storm_node.receipts
   pub few : AreOfFew (c ∷ own)
+  pub asked : HaveAsked s own storm_node.works
+  pub ends : EndsActions s own c
 
 -- the letter that an event received came fewer times before than a number of times can be
 abbrev pub HasFewReceipts : Receipts → Option LetterId → Type 0

@@ -1,5 +1,6 @@
 pub mod Receipts
 pub mod Works
+pub mod Asking
 pub mod Copying
 pub mod Playing
 pub mod Taking

@@ -20,6 +20,7 @@ use Rattle.cam_storm_node.specs.declared.receipts.Receipts.{Receipts}
 use Rattle.cam_storm_node.specs.declared.works.Works.{Works}
 use Rattle.cam_storm_node.specs.Receipts.{times_in}
 use Rattle.cam_storm_node.specs.Works.{HaveSeen, view_in}
+use Rattle.cam_storm_node.specs.Asking.{HaveAsked}
 
 -- a storm node, as contracts see it
 pub record StormNodeFields : Type 0 where
@@ -71,6 +72,7 @@ pub record Runs (words : Words) (s sent : ℕ) (own : List Received) (storm_node
   pub objects : storm_node.objects ≡ objects_of words
   pub copies : AreAt words s sent storm_node.copies
   pub seen : HaveSeen words own storm_node.works
+  pub asked : HaveAsked s own storm_node.works
   pub next : IsNextRequest words s own storm_node.next
 
 -- a storm node is the replay of a node's history

@@ -1,7 +1,6 @@
 //! What a storm node makes of a step that its node took.
-ghost use Rattle.std.specs.Prelude.{◌≡◌, ◌↔◌, ◌<◌, ℕ, List, Some, None, IfOk, IsFalse, IsTrue, option_map};
-ghost use Rattle.std.specs.BTreeMap.{get};
-ghost use Rattle.cam_names.specs.Names.{home_node, name_cmp};
+ghost use Rattle.std.specs.Prelude.{◌≡◌, ◌↔◌, ◌<◌, ℕ, List, None, IfOk, IsFalse, IsTrue, option_map};
+ghost use Rattle.cam_names.specs.Names.{home_node};
 ghost use Rattle.cam_event.specs.ByDeltas.{Received};
 ghost use Rattle.cam_event.specs.Refusals.{refusal};
 ghost use Rattle.cam_event.specs.declared.Request.{Request as RequestFields};
@@ -17,7 +16,6 @@ use crate::storming::Storming;
 use crate::taking::Taken;
 use crate::telling::TellingLog;
 use crate::wants::has_want;
-use crate::works::Work;
 use cam_base::NoMemory;
 use cam_event::Request;
 use cam_names::Name;
@@ -25,14 +23,14 @@ use cam_node::{Input, Stepped as NodeStepped};
 use cam_storm::Stepped;
 
 impl<L: TellingLog, W: Storming> StormNode<L, W> {
-    /// The request of an action that works at this, if it has one.
-    fn request_of(&self, name: &Name, work: &Work) -> Option<Request>
+    /// The request of an action, if it has one.
+    fn request_of(&self, name: &Name) -> Option<Request>
         requires running { IsFalse self.now.node.log.halted }
-        requires found { get name_cmp self.now.works.works name.now ≡ Some work.now }
         ensures { (words : Words) (s : ℕ) (own : List Received)
             → Knows words s own (⟦<StormNode<L, W> as AsStormNode>⟧.fields self.now)
             → IsRequestOf words s own name.now result }
     {
+        let work = self.works.works.get(name)?;
         let request = Request {
             action: *name,
             want: work.want()?,
@@ -69,8 +67,8 @@ impl<L: TellingLog, W: Storming> StormNode<L, W> {
             → Knows words s own (⟦<StormNode<L, W> as AsStormNode>⟧.fields self.now)
             → IsNextRequest words s own result }
     {
-        for (name, work) in self.works.works.iter() {
-            if let Some(request) = self.request_of(name, work) {
+        for name in self.works.asking.iter() {
+            if let Some(request) = self.request_of(name) {
                 return Some(request);
             }
         }

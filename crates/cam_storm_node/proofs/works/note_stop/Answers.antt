@@ -9,8 +9,8 @@ use Rattle.cam_names.specs.Names.{home_node}
 use Rattle.cam_storm_node.proofs.Working.{stop_put, stop_elsewhere}
 use Rattle.cam_storm_node.proofs.works.note_stop.Goals as goal
 
-pub returns-in_ok-insert : goal.returns-in_ok-insert
-returns-in_ok-insert c a =
+pub returns-in_ok-insert-clause-stopped : goal.returns-in_ok-insert-clause-stopped
+returns-in_ok-insert-clause-stopped c a =
     let e = c.args.event.now in
     let before = contains name_cmp c.args.stopped.now a in
     c.in_ok-insert.ensures.updates.0 a
@@ -19,8 +19,8 @@ returns-in_ok-insert c a =
     ∙ ap (λ (n : Note). (eqb e.node (home_node a) && is_stop_note a n) || before)
     (sym c.in-Stopped.is)
 
-pub returns-else-event-home : goal.returns-else-event-home
-returns-else-event-home c a =
+pub returns-else-event-home-clause-stopped : goal.returns-else-event-home-clause-stopped
+returns-else-event-home-clause-stopped c a =
     let e = c.args.event.now in
     let before = contains name_cmp c.args.stopped.now a in
     stop_elsewhere e.node a c.in-Stopped.action before

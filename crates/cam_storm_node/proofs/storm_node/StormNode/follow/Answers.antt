@@ -3,6 +3,7 @@ use Rattle.std.proofs.Common.{◌∷◌, map, refl, sym, ap, subst}
 use Rattle.cam_event.specs.declared.Event.{Event}
 use Rattle.cam_storm.specs.Own.{event_in}
 use Rattle.cam_storm_node.specs.Works.{HaveSeen}
+use Rattle.cam_storm_node.specs.Asking.{HaveAsked}
 use Rattle.cam_storm_node.proofs.storm_node.StormNode.follow.Goals as goal
 
 pub returns-clause-followed : goal.returns-clause-followed
@@ -11,10 +12,14 @@ returns-clause-followed g c words s sent own k is may =
     subst
     (λ (e : Event).
     HaveSeen words (record { event = e; mail = k.mail; load = k.load } ∷ own) c.take_in-2.new.self)
-    (sym is) (c.in_ok-take_in-2.ensures words own k.mail k.load may.finish_is may.seen) in record {
+    (sym is)
+    (c.in_ok-take_in-2.ensures.seen words own k.mail k.load may.finish_is may.seen) in
+    let asked : HaveAsked s (k ∷ own) c.take_in-2.new.self =
+    c.in_ok-take_in-2.ensures.asked s own k is may.ends may.asked in record {
       drawn_are = c.in_ok-letters.ensures.copied words s sent may.copies;
       copies = c.in_ok-letters.ensures.copies words s sent may.copies;
       seen = seen;
+      asked = asked;
       receipts =
           c.in_ok-take_in.ensures (map event_in own) k.event (ap (λ (e : Event). e.got) is)
           may.receipts;
@@ -25,6 +30,7 @@ returns-clause-followed g c words s sent own k is may =
         node = may.node;
         seen = seen;
         few = may.few;
+        asked = asked;
       });
       next = c.least_request-self.ensures.request words s (k ∷ own) (record {
         low = may.low;
@@ -33,6 +39,7 @@ returns-clause-followed g c words s sent own k is may =
         node = may.node;
         seen = seen;
         few = may.few;
+        asked = asked;
       });
       events = refl;
       node = refl;

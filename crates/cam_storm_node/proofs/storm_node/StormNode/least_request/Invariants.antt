@@ -1,23 +1,17 @@
--- The works that are left, in order of their names, have each action with a request.
-use Rattle.std.proofs.Common.{◌≡◌, ℕ, List, Some}
-use Rattle.std.specs.BTreeMap.{get}
-use Rattle.std.specs.List.{All}
+-- The names that are left, in order, have each action with a request.
+use Rattle.std.proofs.Common.{ℕ, List}
 use Rattle.std.specs.List.Sorted.{IsStrictlySortedBy}
-use Rattle.std.specs.Map.{keys_of}
-use Rattle.cam_names.specs.declared.name.Name.{Name}
 use Rattle.cam_names.specs.Names.{name_cmp}
 use Rattle.cam_event.specs.ByDeltas.{Received}
 use Rattle.cam_node.specs.Calls.{answers}
 use Rattle.cam_gen.specs.Storms.{Words}
-use Rattle.cam_storm_node.specs.declared.works.Work.{Work}
 use Rattle.cam_storm_node.specs.Following.{Knows}
 use Rattle.cam_storm_node.proofs.Least.{Remain}
 use Rattle.cam_storm_node.proofs.storm_node.StormNode.least_request.Given as goal
 
 abbrev pub invariant-loop-name : goal.invariant-loop-name
 invariant-loop-name g l = record {
-  sorted : IsStrictlySortedBy name_cmp (keys_of l.name-iterator);
-  found : All (λ (e : Name × Work). get name_cmp l.self.works.works e.0 ≡ Some e.1) l.name-iterator;
+  sorted : IsStrictlySortedBy name_cmp l.name-iterator;
   remain :
       (words : Words) (s : ℕ) (own : List Received)
       → Knows words s own (record {
