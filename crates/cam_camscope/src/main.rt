@@ -6,7 +6,7 @@ use cam_base::NoMemory;
 use cam_io::{ReadFault, Source, StdSink, StdSource, read_all, write_all};
 use cam_scope_args::{Question, Request, USAGE, VERSION, read_words};
 use cam_script::MOST_BYTES;
-use cam_teller::{Status, TellFault, tell};
+use cam_teller::{Status, TellFault, Told, tell};
 use std::alloc::Global;
 use std::env;
 use std::fs::File;
@@ -62,16 +62,34 @@ fn write(rt: &HostRuntime, text: &str) -> Result<(), Failure> {
     }
 }
 
+/// Writes a text to standard error.
+fn complain(rt: &HostRuntime, text: &str) -> Result<(), Failure> {
+    let mut sink = StdSink::new(rt.stderr());
+    match write_all(&mut sink, text.as_bytes()) {
+        Ok(()) => Ok(()),
+        Err(_) => Err(Failure::Unwritable),
+    }
+}
+
+/// Shows what is told. Where a picture was asked for, a finding goes to standard error: standard
+/// output has a picture or nothing.
+fn show(rt: &HostRuntime, question: Question<'_>, told: &Told) -> Result<(), Failure> {
+    match (question, told.status) {
+        (Question::Draw(_), Status::Finding) => complain(rt, told.text.as_str()),
+        _ => write(rt, told.text.as_str()),
+    }
+}
+
 /// Tells of the bytes of a script.
 fn tell_of(
     rt: &HostRuntime,
-    question: Question,
+    question: Question<'_>,
     file: &str,
     bytes: &[u8],
 ) -> Result<Status, Failure> {
     match tell(rt.alloc(), question, file, bytes) {
         Ok(told) => {
-            write(rt, told.text.as_str())?;
+            show(rt, question, &told)?;
             Ok(told.status)
         }
         Err(TellFault::DiskFault) => Err(Failure::NoMemory),
@@ -80,14 +98,14 @@ fn tell_of(
 }
 
 /// Tells of standard input.
-fn tell_of_input(rt: &HostRuntime, question: Question) -> Result<Status, Failure> {
+fn tell_of_input(rt: &HostRuntime, question: Question<'_>) -> Result<Status, Failure> {
     let mut source = StdSource::new(rt.stdin());
     let bytes = bytes_of(rt.alloc(), &mut source)?;
     tell_of(rt, question, "standard input", &bytes)
 }
 
 /// Tells of a file.
-fn tell_of_file(rt: &HostRuntime, question: Question, file: &str) -> Result<Status, Failure> {
+fn tell_of_file(rt: &HostRuntime, question: Question<'_>, file: &str) -> Result<Status, Failure> {
     let Ok(opened) = File::open(rt, file) else {
         return Err(Failure::Unreadable);
     };
@@ -97,7 +115,7 @@ fn tell_of_file(rt: &HostRuntime, question: Question, file: &str) -> Result<Stat
 }
 
 /// Tells of each file, or of standard input where there is none: a finding in one is one of all.
-fn tell_all(rt: &HostRuntime, question: Question, files: &[String]) -> Result<Status, Failure> {
+fn tell_all(rt: &HostRuntime, question: Question<'_>, files: &[String]) -> Result<Status, Failure> {
     if files.is_empty() {
         return tell_of_input(rt, question);
     }
@@ -142,8 +160,7 @@ fn main(rt: HostRuntime) -> ExitCode {
         Ok(Status::Fine) => ExitCode::from(0),
         Ok(Status::Finding) => ExitCode::from(1),
         Err(failure) => {
-            let mut sink = StdSink::new(rt.stderr());
-            match write_all(&mut sink, sentence(failure).as_bytes()) {
+            match complain(&rt, sentence(failure)) {
                 Ok(()) => ExitCode::from(2),
                 Err(_) => ExitCode::from(2),
             }

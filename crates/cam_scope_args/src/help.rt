@@ -3,6 +3,9 @@
 /// All forms of the words, each with what it does.
 pub const USAGE: &str = "usage: camscope explain [FILE]    the run in words
        camscope columns [FILE]    the run in columns, a node each
+       camscope draw [FILE]       the run as a picture, which is SVG
+          --action NAME           lights up what this action saw, and all that happened before that
+          --stop EVENT            lights up how this event came to stop an action
        camscope shiviz [FILE]     the run as a log that ShiViz reads
        camscope check [FILE..]    whether the run keeps the lines '#= TEXT' of the script
        camscope --help            these lines

@@ -10,5 +10,5 @@ mod question;
 mod words;
 
 pub use help::{USAGE, VERSION};
-pub use question::Question;
+pub use question::{Lit, Question};
 pub use words::{Request, read_words};

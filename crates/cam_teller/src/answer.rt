@@ -2,6 +2,7 @@
 ghost use Rattle.cam_script.specs.Law.{IsScript};
 
 use crate::fault::TellFault;
+use crate::picture::drawn;
 use crate::running::record_of;
 use crate::told::{Status, Told};
 use cam_base::NoMemory;
@@ -49,7 +50,7 @@ fn checked(
 /// What is told of a run.
 fn of_run(
     alloc: Global,
-    question: Question,
+    question: Question<'_>,
     file: &str,
     source: &Lines<'_>,
     script: &Script,
@@ -62,6 +63,7 @@ fn of_run(
             let rows = rows_of(alloc, script, run, &scope)?;
             Ok(fine(columns_text(alloc, script.nodes, &rows)?))
         }
+        Question::Draw(lit) => drawn(alloc, lit, file, script, run, &scope),
         Question::Shiviz => Ok(fine(shiviz_text(alloc, script, run, &scope)?)),
         Question::Check => checked(alloc, file, source, script, run, &scope),
     }
@@ -70,7 +72,7 @@ fn of_run(
 /// What is told of a script that is accepted.
 fn of_script(
     alloc: Global,
-    question: Question,
+    question: Question<'_>,
     file: &str,
     source: &Lines<'_>,
     script: &Script,
@@ -85,7 +87,7 @@ fn of_script(
 /// refused is told of as a finding.
 pub fn tell(
     alloc: Global,
-    question: Question,
+    question: Question<'_>,
     file: &str,
     bytes: &[u8],
 ) -> Result<Told, TellFault> {

@@ -9,6 +9,8 @@ mod expected;
 #[cfg(test)]
 mod lines;
 #[cfg(test)]
+mod pictures;
+#[cfg(test)]
 mod scripts;
 #[cfg(test)]
 mod texts;

@@ -1,41 +1,63 @@
 //! The words of `camscope`.
 use crate::check::same;
-use cam_scope_args::{Question, Request, read_words};
+use cam_scope_args::{Lit, Question, Request, read_words};
 use std::alloc::Global;
 use std::test::Fail;
 
-/// What words ask for, in short.
-#[derive(Clone, Copy, Debug, PartialEq, Eq)]
+/// What words ask for, in short: a question of so many files.
 enum Asked {
-    Tell(Question, usize),
+    Tell(Question<'static>, usize),
     Help,
     Version,
     Nothing,
 }
 
-/// What words ask for, which are written with blanks between them.
-fn request_of(alloc: Global, text: &str) -> Result<Asked, Fail> {
+/// Whether this was asked for.
+fn is_asked(wanted: &Asked, found: &Option<Request<'_>>) -> bool {
+    match (wanted, found) {
+        (Asked::Tell(question, count), Some(Request::Tell(asked, files))) => {
+            *question == *asked && files.len() == *count
+        }
+        (Asked::Help, Some(Request::Help)) => true,
+        (Asked::Version, Some(Request::Version)) => true,
+        (Asked::Nothing, None) => true,
+        _ => false,
+    }
+}
+
+/// Whether words, which are written with blanks between them, ask for this.
+fn asks_for(alloc: Global, text: &str, wanted: &Asked) -> Result<bool, Fail> {
     let mut words = Vec::new(alloc);
     for word in text.split_whitespace() {
         words.push(String::from_str(alloc, word)?)?;
     }
-    Ok(match read_words(&words) {
-        Some(Request::Tell(question, files)) => Asked::Tell(question, files.len()),
-        Some(Request::Help) => Asked::Help,
-        Some(Request::Version) => Asked::Version,
-        None => Asked::Nothing,
-    })
+    Ok(is_asked(wanted, &read_words(&words)))
 }
 
 /// Words, and what they ask for.
-const FORMS: [(&str, Asked); 14] = [
+const FORMS: [(&str, Asked); 20] = [
     ("", Asked::Nothing),
     ("explain", Asked::Tell(Question::Explain, 0)),
     ("explain a.cam", Asked::Tell(Question::Explain, 1)),
     ("explain a.cam b.cam", Asked::Nothing),
     ("columns a.cam", Asked::Tell(Question::Columns, 1)),
+    ("draw a.cam", Asked::Tell(Question::Draw(Lit::All), 1)),
+    (
+        "draw --action T/2",
+        Asked::Tell(Question::Draw(Lit::Action("T/2")), 0),
+    ),
+    (
+        "draw a.cam --action T",
+        Asked::Tell(Question::Draw(Lit::Action("T")), 1),
+    ),
+    (
+        "draw --stop 25 a.cam",
+        Asked::Tell(Question::Draw(Lit::Stop("25")), 1),
+    ),
+    ("draw --stop T", Asked::Nothing),
+    ("draw --action", Asked::Nothing),
+    ("draw a.cam b.cam", Asked::Nothing),
     ("shiviz", Asked::Tell(Question::Shiviz, 0)),
-    ("check", Asked::Tell(Question::Check, 0)),
     ("check a.cam b.cam c.cam", Asked::Tell(Question::Check, 3)),
     ("check --strict a.cam", Asked::Nothing),
     ("--help", Asked::Help),
@@ -48,7 +70,11 @@ const FORMS: [(&str, Asked); 14] = [
 #[test]
 fn words_ask_for_what_their_form_says(rt: HostRuntime) -> Result<(), Fail> {
     for (text, wanted) in &FORMS {
-        same(&rt, request_of(rt.alloc(), text)?, *wanted);
+        same(
+            &rt,
+            (*text, asks_for(rt.alloc(), text, wanted)?),
+            (*text, true),
+        );
     }
     Ok(())
 }

@@ -1,0 +1,8 @@
+-- All bytes so far are digits.
+use Rattle.std.proofs.Common.{◌≡◌, drop}
+use Rattle.std.specs.List.{list_all}
+use Rattle.cam_scope_args.specs.Forms.{is_digit}
+use Rattle.cam_scope_args.proofs.words.are_digits.Given as goal
+
+abbrev pub invariant-loop-byte : goal.invariant-loop-byte
+invariant-loop-byte l = list_all is_digit (drop l.byte-index l.bytes) ≡ list_all is_digit l.bytes
