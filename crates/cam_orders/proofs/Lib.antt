@@ -1,0 +1,5 @@
+pub mod Members
+pub mod Counting
+pub mod Longer
+pub mod Levels
+pub mod Filling
