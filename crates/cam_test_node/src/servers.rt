@@ -70,7 +70,12 @@ fn check_asked(alloc: Global, table: &str) -> Result<(), Fail> {
         asked: 0,
         wants_memory: false,
     };
-    match Node::format(alloc, 1, two_objects(alloc)?, StopDisk::new(MemoryDisk::new(alloc))) {
+    match Node::format(
+        alloc,
+        1,
+        two_objects(alloc)?,
+        StopDisk::new(MemoryDisk::new(alloc)),
+    ) {
         Ok(mut node) => check_rows(alloc, &mut node, &mut register, table),
         Err(refused) => Err(refused.fault.into()),
     }
