@@ -16,7 +16,7 @@ USAGE = """usage: hunt/compilers [SECONDS] [SEED] [--programs FILE FILE]
 
 Builds the program by LLVM and by the compiler that is written in Rattle, and runs both on the same
 inputs for SECONDS, 60 where they are left out: generated scripts with every command that runs one,
-scripts by time, made scripts, and the logs that runs leave, whole and spoilt. Both must write the
+scripts by time, made scripts, calm storms, and short logs, whole and spoilt. Both must write the
 same bytes with the same status. With --programs two builds that stand already are compared.
 
 Status 0: they agree. Status 1: they do not; the input is kept in hunt/found. Status 2: nothing was
@@ -58,6 +58,9 @@ def jobs(source):
         )
         image[source.randrange(len(image))] = source.randrange(256)
         return bytes(image), [["inspect"], ["upgrade"]]
+    if form < 0.33:
+        sizes = [str(source.choice([1, 2, 8, 64])), str(source.randint(1, 4))]
+        return b"", [["storm", str(source.randrange(2**64)), *sizes, "calm"]]
     data = script_of(source)
     return data, [["run"], ["trace"], *Expected(data).questions(source)]
 
@@ -75,7 +78,8 @@ def main(words):
         return 2
     seconds, seed = int(words[0]) if words else 60, words[1] if len(words) > 1 else "1"
     try:
-        paths = paths or [build("llvm"), build("rattle")]
+        # (the build of the last is the one that stays)
+        paths = paths or [build("rattle"), build("llvm")][::-1]
         one, other = (Program(path) for path in paths)
         inputs, runs, differ = compare(
             one, other, random.Random(f"compilers {seed}"), time.time() + seconds

@@ -34,6 +34,11 @@ __attribute__((constructor)) static void begin(void) {
     if (found != MAP_FAILED) plan = found;
 }
 
+// Counts a call. Threads of a storm may come here at the same time.
+static long counted(long *count) {
+    return __atomic_add_fetch(count, 1, __ATOMIC_SEQ_CST);
+}
+
 static int is_planned(long at) {
     int fails = plan->and_later ? at >= plan->number : at == plan->number;
     plan->failed += fails;
@@ -43,14 +48,14 @@ static int is_planned(long at) {
 // Whether this call of a kind fails.
 static int fails(enum kind kind) {
     if (!plan) return 0;
-    long at = ++plan->count[kind];
+    long at = counted(&plan->count[kind]);
     return plan->kind == kind && is_planned(at);
 }
 
 static int disk_fails(int file) {
     if (!plan || file < 0 || file >= 256 || node_of_file[file] == 0) return 0;
     int node = node_of_file[file];
-    long at = ++plan->disk_count[node];
+    long at = counted(&plan->disk_count[node]);
     if (plan->kind != DISK || plan->node != node || !is_planned(at)) return 0;
     errno = EIO;
     return 1;
@@ -73,7 +78,7 @@ int open(const char *path, int flags, ...) {
     va_end(rest);
     int node = strncmp(path, "cam", 3) == 0 && strcmp(path + 4, ".log") == 0 ? path[3] - '0' : 0;
     if (node > 0 && plan) {
-        long at = ++plan->disk_count[node];
+        long at = counted(&plan->disk_count[node]);
         if (plan->kind == DISK && plan->node == node && is_planned(at)) {
             errno = EACCES;
             return -1;

@@ -13,8 +13,10 @@ import tempfile
 from hunting import Expected
 from images import told
 from lines import Run
+from made import script_made, summary_of
 from program import HUNT, TOP, NoProgram, Program, built, find
-from texts import Texts, name_text
+from reading import parse
+from texts import name_text
 
 USAGE = """usage: hunt/faults [PART..] [--program FILE]
 
@@ -26,8 +28,9 @@ these, and without a word all of them:
                whole text
   streams      each read and each write of a stream fails, or moves one byte alone. Status 4; 5 and
                a prefix; the whole text
-  disks        over files: each call on the file of each node fails: alone, and with all later ones.
-               Status 6 and the node; or status 0 and the text of a run in which the node halts once
+  disks        each command over files: each call on the file of each node fails: alone, and with
+               all later ones. Status 6 and the node; or the answer for a run in which the node
+               halts once
   letters      each letter of the scripts is cut at each length
   images       each image of a log that the scripts leave: every prefix, and every byte changed to
                eight values, by inspect and upgrade
@@ -38,7 +41,6 @@ these, and without a word all of them:
 Status 0: all answers are right. Status 1: some are not; a line says which. Status 2: nothing could
 be tried."""
 
-TEXTS = {"run": Texts.report, "trace": Texts.trace}
 KINDS = {"allocation": 1, "read": 2, "write": 3, "disk": 4, "short read": 5, "short write": 6}
 FIELDS = 4 + 7 + 9 + 1
 VALUES = (0, 1, 2, 3, 6, 8, 9, 255)
@@ -95,22 +97,33 @@ def scripts():
             yield os.path.basename(path), file.read()
 
 
+class Whole:
+    """A text that does not change."""
+
+    def __init__(self, ended):
+        self.ended = ended
+
+    def differs(self, words, ended):
+        return ended != self.ended
+
+
+def commands_of(expected):
+    """The commands that run a script."""
+    names = sorted(expected.texts.views())
+    stops = [number for number, event in enumerate(expected.run.events) if event.stop]
+    return [
+        ["run"],
+        ["trace"],
+        ["witness", name_text(names[-1]) if names else "1.1.1"],
+        ["why", str(stops[0] if stops else 0)],
+    ]
+
+
 def runs():
-    """Each script with the commands that run it, the inputs of the other commands, and whether the
-    status is 0 or 8."""
+    """Each script with the commands that run it, and the inputs of the other commands."""
     found = []
     for name, data in scripts():
-        expected = Expected(data)
-        names, stops = sorted(expected.texts.views()), [
-            n for n, event in enumerate(expected.run.events) if event.stop
-        ]
-        words = [
-            ["run"],
-            ["trace"],
-            ["witness", name_text(names[-1]) if names else "1.1.1"],
-            ["why", str(stops[0] if stops else 0)],
-        ]
-        found += [(name, one, data) for one in words]
+        found += [(name, one, data) for one in commands_of(Expected(data))]
     for path in sorted(glob.glob(os.path.join(TOP, "examples", "runs-by-time", "*.cam"))):
         with open(path, "rb") as file:
             found.append((os.path.basename(path), ["timed"], file.read()))
@@ -123,6 +136,7 @@ def runs():
     return found + [
         ("a refused script", ["run"], b"nodes 2\nbegin A 3\n"),
         ("no script", ["gen", "7", "30"], b""),
+        ("no script", ["storm", "7", "2", "2", "calm"], b""),
         ("no script", ["no", "form"], b""),
     ]
 
@@ -173,39 +187,69 @@ def streams(faults):
     return faults.line("streams")
 
 
-def halted(run, node):
+def halted(script, appended, node):
     """The runs of a script in which this node halts at one of its appends."""
-    for number in range(run.nodes[node].appended):
+    for number in range(appended):
         for whole in (False, True):
-            yield Run(run.script, {(node, number): whole}).run()
+            yield Run(script, {(node, number): whole}).run()
+
+
+class MadeHalted:
+    """What `gen SEED SIZE` writes of a run of its script."""
+
+    def __init__(self, run, size):
+        self.text = summary_of(run, size)
+
+    def differs(self, words, ended):
+        return (ended.status, ended.signal, ended.text) != (0, 0, self.text)
+
+
+def expected_by(plain, expected):
+    """For each node of a script what may be written of the runs in which it halts once."""
+    return {
+        node: [expected(run) for run in halted(plain.script, plain.nodes[node].appended, node)]
+        for node in range(1, plain.script.nodes + 1)
+    }
+
+
+def fail_disks(faults, name, words, data, after):
+    """Each call of each disk fails in a command over files; `after` has for each node what may be
+    written besides its name."""
+    words = words + ["files"]
+    whole, _, counts = faults.run(words, data)
+    alone, _, _ = faults.run(words[:-1], data)
+    faults.expect(whole == alone, f"{name}, {' '.join(words)}: over files", whole)
+    for node in range(1, 9):
+        for number in range(1, counts[node] + 1):
+            for later in (False, True):
+                ended, _, _ = faults.run(words, data, KINDS["disk"], number, later, node)
+                said = (ended.status, ended.signal, ended.text)
+                fits = ended == whole
+                if node in after:
+                    fits = said == (6, 0, f"disk fault {node}\n") or any(
+                        not one.differs(words, ended) for one in after[node]
+                    )
+                faults.expect(
+                    fits,
+                    f"{name}, {' '.join(words)}: call {number} of disk {node} fails"
+                    + " and all later" * later,
+                    ended,
+                )
 
 
 def disks(faults):
     for name, data in scripts():
-        plain = Expected(data).run
-        nodes = plain.script.nodes
-        after = {node: [Texts(run) for run in halted(plain, node)] for node in range(1, nodes + 1)}
-        for words in (["run", "files"], ["trace", "files"]):
-            whole, _, counts = faults.run(words, data)
-            alone, _, _ = faults.run(words[:1], data)
-            faults.expect(whole == alone, f"{name}, {' '.join(words)}: over files", whole)
-            for node in range(1, 9):
-                for number in range(1, counts[node] + 1):
-                    for later in (False, True):
-                        ended, _, _ = faults.run(words, data, KINDS["disk"], number, later, node)
-                        said = (ended.status, ended.signal, ended.text)
-                        fits = (
-                            said == (6, 0, f"disk fault {node}\n")
-                            or said in [(0, 0, TEXTS[words[0]](one)) for one in after[node]]
-                            if node <= nodes
-                            else ended == whole
-                        )
-                        faults.expect(
-                            fits,
-                            f"{name}, {' '.join(words)}: call {number} of disk {node} fails"
-                            + " and all later" * later,
-                            ended,
-                        )
+        plain = Expected(data)
+        after = expected_by(plain.run, lambda run, data=data: Expected(data, run))
+        for words in commands_of(plain):
+            fail_disks(faults, name, words, data, after)
+    plain = Run(parse(script_made(7, 30))).run()
+    after = expected_by(plain, lambda run: MadeHalted(run, 30))
+    fail_disks(faults, "no script", ["gen", "7", "30"], b"", after)
+    # A storm ends at a fault; whether it comes to that call depends on its threads.
+    words = ["storm", "7", "4", "2", "calm"]
+    whole = Whole(faults.run(words, b"")[0])
+    fail_disks(faults, "no script", words, b"", {node: [whole] for node in range(1, 5)})
     return faults.line("disks")
 
 

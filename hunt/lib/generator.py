@@ -3,6 +3,8 @@ letters wait and which actions are open."""
 
 from lines import Run
 from reading import Body, Object, Script, Step
+from scenes import SCENES, TIMED_SCENES
+from spoiling import at_an_end, spoilt
 
 FIRST, LAST = -(2**63), 2**63 - 1
 # How often a kind of script is made, and how often each kind of line stands in it.
@@ -163,7 +165,8 @@ class Generator:
         )
         self.declare()
         self.run = run(self.script)
-        self.cost = 0
+        # What is in hand of a scene, and which scenes there may be.
+        self.cost, self.scene, self.scenes = 0, iter(()), TIMED_SCENES if timed else SCENES
 
     def pick_flavour(self):
         names = list(FLAVOURS)
@@ -270,8 +273,12 @@ class Generator:
     def make(self, size):
         words, weights = list(self.weights), list(self.weights.values())
         while self.cost < size:
-            word = self.random.choices(words, weights)[0]
-            made = getattr(self, "make_" + word)()
+            made = next(self.scene, None)
+            if made is None and self.scenes and self.random.random() < 0.01 * len(self.scenes):
+                self.scene = self.random.choice(self.scenes)(self)
+                made = next(self.scene, None)
+            if made is None:
+                made = getattr(self, "make_" + self.random.choices(words, weights)[0])()
             if made is not None and self.cost + (made[3] if len(made) > 3 else 1) <= 512:
                 self.take(*made)
             elif not self.variables:
@@ -453,86 +460,12 @@ class Generator:
         return "tick", (node, moment), f"tick {node} {moment}"
 
     def make_expire(self):
-        tops = [one for one in self.variables if len(self.run.bound.get(one) or ()) == 1]
-        if not tops:
+        begun = [step.args[0] for step in self.script.steps if step.word == "begin"]
+        unbound = [one for one in begun if self.run.bound.get(one) is None]
+        if not begun:
             return None
-        action = self.random.choice(tops)
+        action = self.random.choice(unbound if unbound and self.random.random() < 0.1 else begun)
         return "expire", (action,), f"expire {action}"
-
-
-def spoilt(random, data):
-    """A script with one place changed, which most often makes it faulty."""
-    lines = data.split(b"\n")
-    at = random.randrange(len(lines))
-    words = lines[at].split(b" ")
-    form = random.randint(0, 8)
-    others = [
-        b"9",
-        b"0",
-        b"read",
-        b"$1",
-        b"-1",
-        b"a1",
-        b"o0",
-        b"18446744073709551616",
-        b"call",
-        b"end",
-        b"nodes",
-        b"body",
-        b"1A",
-        b"b0",
-        b"object",
-        b"child",
-        b"s1",
-        b"01",
-        b"513",
-        b"take",
-        b"abcdefghijklmnopq",
-        b"-",
-        b"$0",
-        b"$1+9223372036854775808",
-        b"#",
-    ]
-    if form == 0:
-        lines.insert(at, random.choice(lines))
-    elif form == 1:
-        del lines[at]
-    elif form == 2:
-        words.insert(random.randint(0, len(words)), random.choice(others))
-    elif form == 3:
-        del words[random.randrange(len(words))]
-    elif form == 4:
-        words[random.randrange(len(words))] = random.choice(others)
-    elif form == 5:
-        words[random.randrange(len(words))] += bytes([random.randrange(256)])
-    elif form == 6:
-        return b"\n".join(lines[:at]) + (b"\n" if random.random() < 0.5 else b"")
-    elif form == 7:
-        words.insert(random.randint(0, len(words)), random.choice([b"", b"\t", b"\r", b"#"]))
-    else:
-        return data.replace(b"\n", b"\r\n") + (b"\r" if random.random() < 0.3 else b"")
-    if form in (2, 3, 4, 5, 7):
-        lines[at] = b" ".join(words)
-    return b"\n".join(lines)
-
-
-def at_an_end(random):
-    """A script at an end of one of the limits, or one past it."""
-    form, past = random.randint(0, 4), random.randint(0, 1)
-    head = b"nodes 1\nobject r 1 register 0\n"
-    if form == 0:
-        return head + b"#" * (262144 - len(head) - 1 + past) + b"\n"
-    if form == 1:
-        return head + b"drain\n" * (512 + past)
-    if form == 2:
-        return b"nodes 1\n" + b"".join(b"object o%d 1 counter 0\n" % n for n in range(64 + past))
-    if form == 3:
-        return head + b"".join(b"body b%d\ncommit 0\nend\n" % n for n in range(32 + past))
-    bodies = [b"body b0\ncall 1 r write 1\ncommit 0\nend\n"]
-    bodies += [
-        b"body b%d\nchild 1 1 b%d\ncommit $1\nend\n" % (n, n - 1) for n in range(1, 8 + past)
-    ]
-    return head + b"".join(bodies) + b"start s 1 b7\nplay\n"
 
 
 def size_of(random):
@@ -547,12 +480,12 @@ def size_of(random):
 
 def script_and_run(random, timed=False, run=Run):
     """A script as bytes, with its run if taking its lines has made the whole of it."""
-    if not timed and random.random() < 0.001:
-        return at_an_end(random), None
+    if random.random() < 0.008:
+        return at_an_end(random, timed), None
     generator = Generator(random, timed, run)
     data = generator.make(size_of(random))
     if random.random() < 0.06:
-        return spoilt(random, data), None
+        return spoilt(random, data, timed), None
     # What a halt comes to is told by later lines, so such a script is run once more.
     halts = any(step.word == "stop" for step in generator.script.steps)
     return data, None if halts else generator.run

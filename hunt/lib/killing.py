@@ -92,6 +92,7 @@ def a_script(source):
         for word, weight in generator.weights.items()
         if word not in ("stop", "start", "go", "play")
     }
+    generator.scenes = []
     generator.weights["begin"] = generator.weights.get("begin", 3)
     return generator.make(source.choice([40, 80, 160, 300]))
 

@@ -51,6 +51,7 @@ class Run(Rules):
         self.line = step.line
         try:
             getattr(self, "line_" + step.word)(*step.args)
+            self.met.add(step.word)
         except LineRefused as refused:
             self.marks.append(f"refused {step.line} {refused}")
             self.met.add(f"{step.word} {refused}")

@@ -143,7 +143,7 @@ class Machine:
         self.crashes, self.decided, self.actions = [0] * 9, {}, {}
         self.line, self.later_restarts, self.met = 0, {}, set()
         self.before = None
-        # By node and number of its append: where its disk fails by itself, whether the entry is whole.
+        # By node and number of its append, if its disk fails by itself: whether the entry is whole.
         self.faults = {}
 
     # What is known
@@ -175,7 +175,7 @@ class Machine:
         past = node.past
         if letter is not None:
             past |= self.events[letter.event].past
-        if node.calls_left is not None and node.calls_left < 4:
+        if self.faults or node.calls_left is not None and node.calls_left < 4:
             self.before = self.snapshot(node)
         bit = 1 << len(self.events)
         event = Event(node.number, letter, past | bit)
@@ -237,7 +237,8 @@ class Machine:
     def close_event(self, event):
         """Puts the event into the run, unless its disk fails in the append of its entry."""
         node = self.nodes[event.node]
-        if self.appends(node, event):
+        # (a restart replaces all entries by one; if it fails there is no run)
+        if self.appends(node, event) and ("crash", node.number) not in event.deeds:
             append, node.appended = (node.number, node.appended), node.appended + 1
             if append in self.faults:
                 return self.halt(node, event, self.faults[append])

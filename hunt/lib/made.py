@@ -76,9 +76,18 @@ class Made:
         return f"call {action} {['r1', 'r2', 'r3', 'q1'][place]} {word}{value}"
 
 
+def script_made(seed, size):
+    """The script of `gen`, as bytes."""
+    return ("\n".join(Made(seed, size).lines) + "\n").encode()
+
+
 def summary(seed, size):
     """What `gen` writes."""
-    run = Run(parse(("\n".join(Made(seed, size).lines) + "\n").encode())).run()
+    return summary_of(Run(parse(script_made(seed, size))).run(), size)
+
+
+def summary_of(run, size):
+    """What `gen` writes of a run of its script."""
     texts = Texts(run)
     views = texts.views()
     committed = sum(

@@ -145,7 +145,10 @@ class Rules(Machine):
         else:
             reply = apply(self.value(node, place), op)[1]
             event.deeds.append(("perform", name, number, reply))
-            node.live.append(Op(name, number, place, op, reply))
+            self.met.add(f"{op[0]} {reply[0]}")
+            # (in a run by time its abort may be known here already)
+            if False not in map(node.informed.get, ancestors(name)):
+                node.live.append(Op(name, number, place, op, reply))
         node.kept[name, number] = reply
         return answer(*reply)
 

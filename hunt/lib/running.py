@@ -106,13 +106,9 @@ def main(words):
 
 
 def say(whole, seed, took, timed):
-    if not timed:
-        lines, missing = table(whole["counts"])
-        print("\n".join(lines))
-        if missing:
-            print("not met: " + ", ".join(missing))
-    else:
-        print(", ".join(f"{key} {count}" for key, count in sorted(whole["counts"].items())))
+    lines, missing = table(whole["counts"], timed)
+    print("\n".join(lines))
+    print("not met: " + (", ".join(missing) or "nothing"))
     rates = [round(whole[key] / took) for key in ("scripts", "calls", "events")]
     print("{} scripts, {} runs of the program and {} events a second; ".format(*rates), end="")
     print(f"{whole['lawful']} scripts judged by laws")
