@@ -7,7 +7,7 @@
 set -eu
 top=$(cd "$(dirname "$0")/.." && pwd)
 if ! "$top/camelot" --is-proved; then
-    echo "no proved program stands, or it is older than its sources: ./camelot --prove" >&2
+    echo "no proved program is there, or it is older than its sources: ./camelot --prove" >&2
     exit 1
 fi
 exec python3 - "$top/crates/cam_cli/out/cam_cli" <<'PROGRAM'

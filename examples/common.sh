@@ -3,7 +3,7 @@
 camelot=$here/../camelot
 program=$here/../crates/cam_cli
 
-# whether the proved program stands and is not older than its sources
+# whether the proved program is there and not older than its sources
 is_proved() {
     "$camelot" --is-proved
 }
@@ -57,7 +57,7 @@ run_examples() {
         return
     fi
     command -v rt >/dev/null 2>&1 || PATH=$PATH:/opt/rattle/bin
-    echo "no proved program stands: all examples run on one quick build, in two or three minutes" >&2
+    echo "no proved program is there: all examples run on one quick build, in two or three minutes" >&2
     mkdir "$1/cases"
     for example in $(examples); do
         name=$(flat "$example")

@@ -343,8 +343,8 @@ def prove_all():
                 show_end(f"{ROOMS}/{crate}.told")
                 screen.line(f"{crate} was not proved or not built; {ROOMS}/{crate}.told has all that the kit said")
             return 1
-        say(f"the proved program stands, after {clock(time.monotonic() - proof.began)}")
-    # What is proved stands in the crates' own folders.
+        say(f"the proved program is there, after {clock(time.monotonic() - proof.began)}")
+    # What is proved is in the crates' own folders.
     for name in os.listdir(ROOMS):
         if name.startswith("room-"):
             shutil.rmtree(f"{ROOMS}/{name}", ignore_errors=True)
