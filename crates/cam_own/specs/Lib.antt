@@ -4,7 +4,7 @@ pub mod Children
 pub mod Replies
 pub mod Votes
 pub mod Depending
-pub mod Told
+pub mod Informed
 pub mod Own
 pub mod Live
-pub mod Whole
+pub mod AllNodes

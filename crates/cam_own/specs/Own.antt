@@ -9,7 +9,7 @@ use Rattle.cam_own.specs.Actions.{KeepsActions}
 use Rattle.cam_own.specs.Tops.{KeepsTops}
 use Rattle.cam_own.specs.Children.{KeepsChildren}
 use Rattle.cam_own.specs.Replies.{KeepsReplies}
-use Rattle.cam_own.specs.Told.{KeepsTold}
+use Rattle.cam_own.specs.Informed.{KeepsInformed}
 use Rattle.cam_own.specs.Votes.{KeepsVotes}
 
 -- The tables have what these deeds and events of the node say.
@@ -21,5 +21,5 @@ pub record KeepsOwn (objects : List ObjectDecl) (s : ℕ) (L : List Deed) (E : L
   pub tops : KeepsTops L own.tops
   pub children : KeepsChildren L own.children
   pub replies : KeepsReplies L own.replies
-  pub told : KeepsTold L s own.told
+  pub informed : KeepsInformed L s own.informed
   pub votes : KeepsVotes E own.votes

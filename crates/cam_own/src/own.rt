@@ -14,13 +14,13 @@ ghost use Rattle.cam_live.specs.Ledger.{addressed};
 ghost use Rattle.cam_own.specs.Children.{open_of};
 ghost use Rattle.cam_own.specs.Own.{KeepsOwn};
 ghost use Rattle.cam_own.specs.Replies.{IsNoCrash};
-ghost use Rattle.cam_own.specs.Told.{KeepsTold};
+ghost use Rattle.cam_own.specs.Informed.{KeepsInformed};
 
 use crate::actions::{Actions, action_in, note_action};
 use crate::children::{Children, has_open, is_open, note_child};
+use crate::informed::Informed;
 use crate::mail::Mail;
 use crate::replies::{Replies, note_reply, reply_in};
-use crate::told::Told;
 use crate::tops::{Tops, note_top, tops_in};
 use crate::votes::{Votes, has_vote, note_votes};
 use cam_base::NoMemory;
@@ -39,7 +39,7 @@ pub struct Own {
     tops: Tops,
     children: Children,
     replies: Replies,
-    told: Told,
+    informed: Informed,
     votes: Votes,
 }
 
@@ -55,7 +55,7 @@ impl Own {
             tops: Tops::new(alloc),
             children: Children::new(alloc),
             replies: Replies::new(alloc),
-            told: Told::new(alloc),
+            informed: Informed::new(alloc),
             votes: Votes::new(alloc),
         }
     }
@@ -73,7 +73,7 @@ impl Own {
         note_top(&mut self.tops, deed)?;
         note_child(&mut self.children, alloc, deed)?;
         note_reply(&mut self.replies, deed)?;
-        self.told.note(node, deed)
+        self.informed.note(node, deed)
     }
 
     /// Takes one more event of the node over, whose deeds it has: the letter that came and the note.
@@ -238,10 +238,10 @@ impl Own {
     }
 
     /// The outcomes of which the node was informed, in order.
-    pub fn told(&self) -> &Told
+    pub fn informed(&self) -> &Informed
         ensures { (objects : List ObjectDecl) (s : ℕ) (L : List DeedValue) (E : List Entry)
-            → KeepsOwn objects s L E self.now → KeepsTold L s result.now }
+            → KeepsOwn objects s L E self.now → KeepsInformed L s result.now }
     {
-        &self.told
+        &self.informed
     }
 }

@@ -14,7 +14,7 @@ use Rattle.cam_event.specs.ByPast.{abort_in, commit_in, own_past, letter_past}
 use Rattle.cam_event.proofs.NewestPasts.{plain_none}
 use Rattle.cam_event.proofs.SortedNames.{sorted_same}
 use Rattle.cam_cut.proofs.Informs.{any_aborts, any_commits, any_filter_name}
-use Rattle.cam_own.specs.Told.{commits_of, aborts_of}
+use Rattle.cam_own.specs.Informed.{commits_of, aborts_of}
 use Rattle.cam_timed.specs.declared.TimedEvent.{TimedEvent}
 use Rattle.cam_timed.specs.declared.machine.Letter.{Letter}
 use Rattle.cam_timed.specs.Held.{own_until, BringsWhatWasHeld}

@@ -14,7 +14,7 @@ use Rattle.cam_event.specs.ByPast.{own_past}
 use Rattle.cam_event.specs.Pasts.{last_of, sender_of, holds, in_past}
 use Rattle.cam_event.proofs.Agree.{any_after}
 use Rattle.cam_event.proofs.NewestPasts.{plain_or}
-use Rattle.cam_own.specs.Told.{commits_of, aborts_of}
+use Rattle.cam_own.specs.Informed.{commits_of, aborts_of}
 use Rattle.cam_timed.specs.declared.TimedEvent.{TimedEvent}
 use Rattle.cam_timed.specs.declared.machine.Letter.{Letter}
 use Rattle.cam_timed.specs.declared.machine.hearing.Reach.{Reach}

@@ -10,7 +10,7 @@ use Rattle.cam_event.specs.Inputs.{event_at, mail_of, letter_at}
 use Rattle.cam_event.specs.Runs.{IsNode}
 use Rattle.cam_event.proofs.Members.{event_below}
 use Rattle.cam_cut.proofs.Families.{SentBy, sent_by, letter_older}
-use Rattle.cam_own.specs.Told.{commits_of, aborts_of}
+use Rattle.cam_own.specs.Informed.{commits_of, aborts_of}
 use Rattle.cam_rules.specs.Addressed.{AreAddressed}
 use Rattle.cam_runs.specs.Running.{ids_from}
 use Rattle.cam_timed.specs.declared.TimedEvent.{TimedEvent}

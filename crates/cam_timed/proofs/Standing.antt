@@ -25,9 +25,9 @@ use Rattle.cam_cut.proofs.HomeLines.{first_none, where_none}
 use Rattle.cam_cut.proofs.Holds.{every_part}
 use Rattle.cam_cut.proofs.Firsts.{keep_each}
 use Rattle.cam_own.specs.declared.own.Own.{Own}
-use Rattle.cam_own.specs.declared.whole.Whole.{Whole}
+use Rattle.cam_own.specs.declared.all_nodes.AllNodes.{AllNodes}
 use Rattle.cam_own.specs.Own.{KeepsOwn}
-use Rattle.cam_own.specs.Whole.{KeepsWhole}
+use Rattle.cam_own.specs.AllNodes.{KeepsAllNodes}
 use Rattle.cam_timed.specs.declared.TimedEvent.{TimedEvent}
 use Rattle.cam_timed.specs.declared.ruled.Put.{Put}
 use Rattle.cam_timed.specs.declared.ruled.Put.TheVariants as puts
@@ -58,17 +58,17 @@ all_asked (Ask p b ∷ L) h = (h p b (inl refl), all_asked L (λ q c i. h q c (i
 all_asked (_ ∷ L) h = all_asked L (λ q c i. h q c (inr i))
 
 -- The tables stand.
-pub stand_here : (objects : List ObjectDecl) (T : List TimedEvent) (s : ℕ) (got : Option LetterId) (first : List Deed) (own : Own) (whole : Whole)
+pub stand_here : (objects : List ObjectDecl) (T : List TimedEvent) (s : ℕ) (got : Option LetterId) (first : List Deed) (own : Own) (all_nodes : AllNodes)
     → IsTimedRun objects T → IsEarlier (length (events T)) got → IsNode s → first ≡ timed_informs (events T) s got
-    → KeepsOwn objects s (after (deeds_of (events T) s) first) (entries (events T) s) own → KeepsWhole objects (after (plain_all (events T)) first) whole
-    → StandHere objects (events T) s first own whole
-stand_here objects T s got first own whole run early node is keeps_own keeps_whole =
+    → KeepsOwn objects s (after (deeds_of (events T) s) first) (entries (events T) s) own → KeepsAllNodes objects (after (plain_all (events T)) first) all_nodes
+    → StandHere objects (events T) s first own all_nodes
+stand_here objects T s got first own all_nodes run early node is keeps_own keeps_all_nodes =
     let sees = timed_sees objects t s got every holds early (every_part t s got) in
     let each = first_each t (abort_paths t) s got (carrier t got) in
     record {
       node = node;
       keeps_own = keeps_own;
-      keeps_whole = keeps_whole;
+      keeps_all_nodes = keeps_all_nodes;
       count = ap (λ (ds : List Deed). count (after (deeds_of t s) ds) s) is ∙ sees.same_count ∙ keep_each (λ L. count L s) (λ r b o L. refl) s informs each (plain_all t) ∙ holds.no_crash s;
       asked = all_asked (after (deeds_of t s) first) (λ p b i. asked_parent objects (after (plain_all t) informs) p b sees.legal (sees.own_fewer (Ask p b) (subst (λ (ds : List Deed). In (Ask p b) (after (deeds_of t s) ds)) is i)));
     }

@@ -16,10 +16,10 @@ use Rattle.cam_event.specs.Pasts.{plain_all}
 use Rattle.cam_event.specs.Sights.{Entry, entries, own_deeds}
 use Rattle.cam_cut.proofs.Informs.{after_append}
 use Rattle.cam_own.specs.declared.own.Own.{Own}
-use Rattle.cam_own.specs.declared.whole.Whole.{Whole}
+use Rattle.cam_own.specs.declared.all_nodes.AllNodes.{AllNodes}
 use Rattle.cam_own.specs.Own.{KeepsOwn}
 use Rattle.cam_own.specs.Replies.{IsNoCrash}
-use Rattle.cam_own.specs.Whole.{KeepsWhole}
+use Rattle.cam_own.specs.AllNodes.{KeepsAllNodes}
 use Rattle.cam_timed.specs.declared.TimedEvent.{TimedEvent}
 use Rattle.cam_timed.specs.declared.machine.Letter.{Letter}
 use Rattle.cam_timed.specs.declared.machine.Node.{Node}
@@ -86,9 +86,9 @@ node_other objects T e s node other keeps = record {
 }
 
 -- What is kept of all has the event.
-pub whole_taken : (objects : List ObjectDecl) (T : List TimedEvent) (s : ℕ) (letter : Option Letter) (first : List Deed) (decided : Decided) (whole : Whole)
-    → KeepsWhole objects (after (after (plain_all (events T)) first) decided.did.deeds) whole → KeepsWhole objects (plain_all (events (taken s letter first decided ∷ T))) whole
-whole_taken objects T s letter first decided whole keeps = subst (λ (L : List Deed). KeepsWhole objects L whole) (sym (after_append (plain_all (events T)) first decided.did.deeds)) keeps
+pub all_nodes_taken : (objects : List ObjectDecl) (T : List TimedEvent) (s : ℕ) (letter : Option Letter) (first : List Deed) (decided : Decided) (all_nodes : AllNodes)
+    → KeepsAllNodes objects (after (after (plain_all (events T)) first) decided.did.deeds) all_nodes → KeepsAllNodes objects (plain_all (events (taken s letter first decided ∷ T))) all_nodes
+all_nodes_taken objects T s letter first decided all_nodes keeps = subst (λ (L : List Deed). KeepsAllNodes objects L all_nodes) (sym (after_append (plain_all (events T)) first decided.did.deeds)) keeps
 
 pub untils_taken : (T : List TimedEvent) (e : TimedEvent) (old new : BTreeMap Name ℕ) → TellsUntils T old
     → ((a : Name) → until_in new a ≡ (if list_any (names_first a) e.event.deeds then e.until else until_in old a)) → TellsUntils (e ∷ T) new

@@ -10,7 +10,7 @@ use Rattle.cam_names.specs.Names.{name_eq}
 use Rattle.cam_event.specs.declared.Deed.{Deed}
 use Rattle.cam_event.specs.declared.Deed.TheVariants.{Create, Ask, Call, Perform, Bounce, Got, AskCommit, AskAbort, Commit, Abort, Secure, Inform, Crash}
 use Rattle.cam_event.specs.History.{after, informed}
-use Rattle.cam_own.specs.Told.{commits_of, aborts_of}
+use Rattle.cam_own.specs.Informed.{commits_of, aborts_of}
 
 -- the names of which a site was informed
 told_last : (a b : Name) (site : ℕ) (s : ℕ) (names : List Name) (rest : Bool) → rest ≡ list_any (name_eq a) names

@@ -11,7 +11,7 @@ use Rattle.cam_event.specs.Inputs.{event_at, Mail, mail_got}
 use Rattle.cam_event.specs.Sights.{entries, own_deeds}
 use Rattle.cam_cut.proofs.Families.{SentBy, sent_by}
 use Rattle.cam_cut.proofs.Informs.{after_append}
-use Rattle.cam_own.specs.Told.{commits_of, aborts_of}
+use Rattle.cam_own.specs.Informed.{commits_of, aborts_of}
 use Rattle.cam_timed.specs.declared.TimedEvent.{TimedEvent}
 use Rattle.cam_timed.specs.declared.machine.Letter.{Letter}
 use Rattle.cam_timed.specs.Held.{own_until}

@@ -11,9 +11,9 @@ use Rattle.cam_event.specs.Pasts.{plain_all}
 use Rattle.cam_event.specs.Runs.{IsNode}
 use Rattle.cam_event.specs.Sights.{entries, own_deeds}
 use Rattle.cam_own.specs.declared.own.Own.{Own}
-use Rattle.cam_own.specs.declared.whole.Whole.{Whole}
+use Rattle.cam_own.specs.declared.all_nodes.AllNodes.{AllNodes}
 use Rattle.cam_own.specs.Own.{KeepsOwn}
-use Rattle.cam_own.specs.Whole.{KeepsWhole}
+use Rattle.cam_own.specs.AllNodes.{KeepsAllNodes}
 use Rattle.cam_rules.specs.Untested.{HasPlace}
 use Rattle.cam_timed.specs.declared.ruled.Put.{Put}
 use Rattle.cam_timed.specs.declared.ruled.Put.TheVariants as puts
@@ -27,11 +27,11 @@ AskedByParents (_ ∷ before) = AskedByParents before
 
 -- at an event of a node with these first Informs
 pub record StandHere (objects : List ObjectDecl) (t : List Event) (s : ℕ) (first : List Deed)
-    (own : Own) (whole : Whole) : Type 0 where
+    (own : Own) (all_nodes : AllNodes) : Type 0 where
   pub node : IsNode s
   pub keeps_own :
       KeepsOwn objects s (after (own_deeds (entries t s)) first) (entries t s) own
-  pub keeps_whole : KeepsWhole objects (after (plain_all t) first) whole
+  pub keeps_all_nodes : KeepsAllNodes objects (after (plain_all t) first) all_nodes
   pub count : count (after (own_deeds (entries t s)) first) s ≡ 1
   pub asked : AskedByParents (after (own_deeds (entries t s)) first)
 

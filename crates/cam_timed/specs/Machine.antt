@@ -12,8 +12,8 @@ use Rattle.cam_event.specs.Pasts.{plain_all}
 use Rattle.cam_event.specs.Runs.{IsNode}
 use Rattle.cam_event.specs.Sights.{entries, own_deeds}
 use Rattle.cam_own.specs.Own.{KeepsOwn}
-use Rattle.cam_own.specs.Told.{commits_of, aborts_of}
-use Rattle.cam_own.specs.Whole.{KeepsWhole}
+use Rattle.cam_own.specs.Informed.{commits_of, aborts_of}
+use Rattle.cam_own.specs.AllNodes.{KeepsAllNodes}
 use Rattle.cam_timed.specs.declared.TimedEvent.{TimedEvent}
 use Rattle.cam_timed.specs.declared.machine.Letter.{Letter}
 use Rattle.cam_timed.specs.declared.machine.Machine.{Machine}
@@ -72,7 +72,7 @@ pub record KeepsLetters (t : List TimedEvent) (kept : List Letter) : Type 0 wher
 -- what is kept of all nodes together
 pub record KeepsShared (objects : List ObjectDecl) (t : List TimedEvent)
     (shared : Shared) : Type 0 where
-  pub whole : KeepsWhole objects (plain_all (events t)) shared.whole
+  pub all_nodes : KeepsAllNodes objects (plain_all (events t)) shared.all_nodes
   pub untils : TellsUntils t shared.untils
   pub letters : KeepsLetters t shared.letters
 

@@ -8,7 +8,7 @@ use Rattle.cam_names.specs.Names.{name_eq}
 use Rattle.cam_event.specs.declared.Event.{Event}
 use Rattle.cam_event.specs.History.{informed}
 use Rattle.cam_event.specs.Sights.{entries, own_deeds}
-use Rattle.cam_own.specs.Told.{commits_of, aborts_of}
+use Rattle.cam_own.specs.Informed.{commits_of, aborts_of}
 use Rattle.cam_timed.specs.declared.machine.Letter.{Letter}
 use Rattle.cam_timed.specs.declared.machine.hearing.Reach.{Reach}
 use Rattle.cam_timed.specs.declared.machine.hearing.Road.{Road}

@@ -9,7 +9,7 @@ use Rattle.cam_event.specs.Pasts.{plain_all}
 use Rattle.cam_event.specs.Runs.{IsNode}
 use Rattle.cam_event.specs.Sights.{entries}
 use Rattle.cam_own.specs.Own.{KeepsOwn}
-use Rattle.cam_own.specs.Whole.{KeepsWhole}
+use Rattle.cam_own.specs.AllNodes.{KeepsAllNodes}
 use Rattle.cam_timed.specs.declared.TimedEvent.{TimedEvent}
 use Rattle.cam_timed.specs.declared.machine.Letter.{Letter}
 use Rattle.cam_timed.specs.declared.machine.Node.{Node}
@@ -49,7 +49,7 @@ pub record KeepsFirst (objects : List ObjectDecl) (t : List TimedEvent) (s : ℕ
   pub own :
       KeepsOwn objects s (after (deeds_of (events t) s) first) (entries (events t) s) node.own
   pub moment : node.moment ≡ moment_of t s
-  pub whole : KeepsWhole objects (after (plain_all (events t)) first) shared.whole
+  pub all_nodes : KeepsAllNodes objects (after (plain_all (events t)) first) shared.all_nodes
   pub untils : TellsUntils t shared.untils
   pub letters : KeepsLetters t shared.letters
 

@@ -8,7 +8,7 @@ use crate::TimedTrace;
 use cam_base::NoMemory;
 use cam_event::{Deeds, Operation, Reply};
 use cam_names::{Deps, Name};
-use cam_own::{Own, Whole, answer, conflict};
+use cam_own::{Own, AllNodes, answer, conflict};
 use cam_rules::{Asked, Sighted};
 use cam_type::{Answer, Objects, Op};
 use std::alloc::Global;
@@ -21,7 +21,7 @@ pub(crate) struct Here<'a> {
     pub(crate) objects: &'a Objects,
     pub(crate) node: u8,
     pub(crate) own: &'a Own,
-    pub(crate) whole: &'a Whole,
+    pub(crate) all_nodes: &'a AllNodes,
     pub(crate) trace: &'a TimedTrace,
     pub(crate) first: &'a Deeds,
 }
@@ -30,7 +30,7 @@ impl<'a> Sighted for Here<'a> {
     ghost sight = { λ h. kept_sight h.objects.now (events (reverse h.trace.now)) h.node h.first.now };
 
     ghost stands = { λ h. StandHere h.objects.now (events (reverse h.trace.now)) h.node h.first.now
-        h.own.now h.whole.now };
+        h.own.now h.all_nodes.now };
 
     fn node(&self) -> u8 {
         self.node
@@ -100,16 +100,16 @@ impl<'a> Sighted for Here<'a> {
     }
 
     fn has_live_of(&self, family: &Name) -> bool {
-        self.whole.has_live_of(self.objects, self.node, family)
+        self.all_nodes.has_live_of(self.objects, self.node, family)
     }
 
     fn conflict(&self, action: &Name, object: u8, op: &Op) -> Option<Operation> {
-        let live = self.whole.live_on(self.objects, self.node, object);
+        let live = self.all_nodes.live_on(self.objects, self.node, object);
         conflict(self.own, live, action, object, op)
     }
 
     fn answer(&self, objects: &Objects, object: u8, op: &Op) -> Result<Answer, NoMemory> {
-        let live = self.whole.live_on(self.objects, self.node, object);
+        let live = self.all_nodes.live_on(self.objects, self.node, object);
         answer(objects, live, object, op)
     }
 
@@ -122,7 +122,7 @@ impl<'a> Sighted for Here<'a> {
     }
 
     fn deps(&self, action: &Name) -> Deps {
-        self.whole.nodes(action)
+        self.all_nodes.nodes(action)
     }
 
     fn is_preparing(&self, family: &Name) -> bool {

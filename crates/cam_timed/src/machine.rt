@@ -27,7 +27,7 @@ use crate::untils::Untils;
 use cam_base::{NoMemory, Sequence};
 use cam_event::{Deed, Deeds, LetterId};
 use cam_names::Name;
-use cam_own::{Mail, Own, Whole, first_informs};
+use cam_own::{Mail, Own, AllNodes, first_informs};
 use cam_rules::home_of;
 use cam_type::Objects;
 use hearing::{Heard, hear, reach_in, unheard};
@@ -56,7 +56,7 @@ pub(crate) struct Letter {
 /// order of their numbers, and the events.
 #[derive(Drop)]
 pub(crate) struct Shared {
-    pub(crate) whole: Whole,
+    pub(crate) all_nodes: AllNodes,
     pub(crate) untils: Untils,
     pub(crate) letters: Sequence<Letter>,
     pub(crate) trace: TimedTrace,
@@ -100,7 +100,7 @@ impl Machine {
             nodes,
             heard: Heard::new(alloc),
             shared: Shared {
-                whole: Whole::new(alloc),
+                all_nodes: AllNodes::new(alloc),
                 untils: Untils::new(alloc),
                 letters: Sequence::new(alloc),
                 trace: TimedTrace::new(alloc),
@@ -181,12 +181,12 @@ impl Machine {
         };
         let from = letter.mail.from;
         let heard = reach_in(&self.heard, from, turn.node);
-        let told = self.nodes[from as usize - 1].own.told();
+        let informed = self.nodes[from as usize - 1].own.informed();
         first_informs(
             turn.alloc,
             &self.nodes[turn.node as usize - 1].own,
-            unheard(told.aborts.as_slice(), heard.aborts, letter.aborts),
-            unheard(told.commits.as_slice(), heard.commits, letter.commits),
+            unheard(informed.aborts.as_slice(), heard.aborts, letter.aborts),
+            unheard(informed.commits.as_slice(), heard.commits, letter.commits),
         )
     }
 

@@ -48,7 +48,7 @@ pub(crate) enum Put {
 /// What the rule makes, where this letter came.
 pub(crate) fn made(here: &Here, put: &Put, mail: &Option<Mail>) -> Result<Did, NoMemory>
     requires stands { StandHere here.now.objects.now (events (reverse here.now.trace.now))
-        here.now.node here.now.first.now here.now.own.now here.now.whole.now }
+        here.now.node here.now.first.now here.now.own.now here.now.all_nodes.now }
     requires from { ComesFromNode mail.now }
     requires place { HasPlaceHere here.now.objects.now put.now }
     ensures { IfOk result (λ did. did ≡ timed_rule here.now.objects.now

@@ -130,7 +130,7 @@ pub(crate) fn decide(
         objects: turn.objects,
         node: turn.node,
         own: &node.own,
-        whole: &shared.whole,
+        all_nodes: &shared.all_nodes,
         trace: &shared.trace,
         first,
     };

@@ -110,7 +110,7 @@ impl Machine {
             objects,
             node,
             own: &self.nodes[node as usize - 1].own,
-            whole: &self.shared.whole,
+            all_nodes: &self.shared.all_nodes,
             trace: &self.shared.trace,
             first: none,
         }

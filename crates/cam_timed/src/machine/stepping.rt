@@ -37,7 +37,7 @@ pub(crate) fn step(
         turn.alloc,
         turn.objects,
         &mut node.own,
-        &mut shared.whole,
+        &mut shared.all_nodes,
         &first,
     )?;
     let decided = decide(turn, node, shared, &first)?;

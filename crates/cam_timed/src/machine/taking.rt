@@ -9,8 +9,8 @@ ghost use Rattle.cam_event.specs.Runs.{IsNode};
 ghost use Rattle.cam_event.specs.Sights.{Entry};
 ghost use Rattle.cam_own.specs.Own.{KeepsOwn};
 ghost use Rattle.cam_own.specs.Replies.{IsNoCrash};
-ghost use Rattle.cam_own.specs.Told.{aborts_of, commits_of};
-ghost use Rattle.cam_own.specs.Whole.{KeepsWhole};
+ghost use Rattle.cam_own.specs.Informed.{aborts_of, commits_of};
+ghost use Rattle.cam_own.specs.AllNodes.{KeepsAllNodes};
 ghost use Rattle.cam_rules.specs.Addressed.{AreAddressed};
 ghost use Rattle.cam_timed.specs.Machine.{KeepsNode, KeepsShared, id_of, mail_of, trace_of};
 ghost use Rattle.cam_timed.specs.Moments.{events};
@@ -23,7 +23,7 @@ use crate::TimedEvent;
 use crate::untils::note_named;
 use cam_base::NoMemory;
 use cam_event::{Deeds, Event};
-use cam_own::{Own, Whole};
+use cam_own::{Own, AllNodes};
 use cam_rules::Did;
 use cam_type::Objects;
 use std::alloc::Global;
@@ -33,19 +33,19 @@ pub(crate) fn note_all(
     alloc: Global,
     objects: &Objects,
     own: &mut Own,
-    whole: &mut Whole,
+    all_nodes: &mut AllNodes,
     deeds: &Deeds,
 ) -> Result<(), NoMemory>
     requires { AllByRecursion IsNoCrash deeds.now }
     ensures own { OnOk result ((s : ℕ) (L : List DeedValue) (E : List Entry)
         → KeepsOwn objects.now s L E own.old
         → KeepsOwn objects.now s (after L deeds.now) E own.new) }
-    ensures whole { OnOk result ((L : List DeedValue) → KeepsWhole objects.now L whole.old
-        → KeepsWhole objects.now (after L deeds.now) whole.new) }
+    ensures all_nodes { OnOk result ((L : List DeedValue) → KeepsAllNodes objects.now L all_nodes.old
+        → KeepsAllNodes objects.now (after L deeds.now) all_nodes.new) }
 {
     for deed in deeds.as_slice() {
         own.note(alloc, objects, deed)?;
-        whole.note(alloc, objects, deed)?;
+        all_nodes.note(alloc, objects, deed)?;
     }
     Ok(())
 }
@@ -60,13 +60,13 @@ fn sender_of(node: u8, kept: &Node, shared: &Shared) -> Sender
     ensures aborts { (objects : List ObjectDecl) (s : ℕ) (L : List DeedValue) (E : List Entry)
         → KeepsOwn objects s L E kept.now.own → result.aborts ≡ length (aborts_of L s) }
 {
-    let told = kept.own.told();
+    let informed = kept.own.informed();
     Sender {
         event: shared.trace.len() as u64,
         node,
         moment: kept.moment,
-        commits: told.commits.len(),
-        aborts: told.aborts.len(),
+        commits: informed.commits.len(),
+        aborts: informed.aborts.len(),
     }
 }
 
@@ -99,7 +99,7 @@ pub(crate) fn take_over(
         turn.alloc,
         turn.objects,
         &mut node.own,
-        &mut shared.whole,
+        &mut shared.all_nodes,
         &decided.did.deeds,
     )?;
     node.own

@@ -20,6 +20,6 @@ returns c = λ objects.
       tops = tops;
       children = children;
       replies = replies;
-      told = c.new-6.ensures c.args.node;
+      informed = c.new-6.ensures c.args.node;
       votes = votes;
     }

@@ -19,4 +19,4 @@ returns c =
     (λ answer is. is
     ∙ ap (λ (os : List Operation). answer_of (replay (start_of c.args.objects.now x) os) c.args.op.now)
     (ap (filter (λ (o : Operation). eqb o.object x))
-    (c.live_on-live.ensures _ c.requires.keeps_whole) ∙ on_twice x g.live)) c.answer.ensures
+    (c.live_on-live.ensures _ c.requires.keeps_all_nodes) ∙ on_twice x g.live)) c.answer.ensures

@@ -15,5 +15,5 @@ returns c =
     let g : Sight = kept_sight here.objects.now (events (reverse here.trace.now)) here.node here.first.now in
     c.conflict.ensures _ _ _ _ c.requires.keeps_own
     ∙ ap (λ (os : List Operation). find (is_conflict_here g c.args.action.now c.args.op.now)
-    (filter (λ o. eqb o.object x) os)) (c.live_on-live.ensures _ c.requires.keeps_whole)
+    (filter (λ o. eqb o.object x) os)) (c.live_on-live.ensures _ c.requires.keeps_all_nodes)
     ∙ ap (find (is_conflict_here g c.args.action.now c.args.op.now)) (on_twice x g.live)

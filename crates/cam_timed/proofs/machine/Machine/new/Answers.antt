@@ -37,7 +37,7 @@ returns c = λ objects.
       nodes = c.loop-place.invariant.each objects;
       heard = none_heard c.new-2.result nothing;
       shared = record {
-        whole = c.new-3.ensures objects;
+        all_nodes = c.new-3.ensures objects;
         untils = none_named c.new-4.result c.new-4.ensures.empty;
         letters =
             subst (λ (kept : List Letter). KeepsLetters [] kept) (sym c.new-5.ensures)

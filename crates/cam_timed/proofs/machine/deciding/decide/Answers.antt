@@ -17,9 +17,9 @@ pub made-requires-clause-stands : goal.made-requires-clause-stands
 made-requires-clause-stands c =
     let T = trace_of c.args.shared.now in
     let input = input_of c.args.turn.now.put.now in
-    stand_here c.args.turn.now.objects.now T c.args.turn.now.node (timed_got_of input) c.args.first.now c.args.node.now.own c.args.shared.now.whole
+    stand_here c.args.turn.now.objects.now T c.args.turn.now.node (timed_got_of input) c.args.first.now c.args.node.now.own c.args.shared.now.all_nodes
     c.requires.turn.run (input_early c.args.turn.now.objects.now T input c.requires.turn.may) c.requires.turn.range c.requires.first
-    c.requires.keeps.own c.requires.keeps.whole
+    c.requires.keeps.own c.requires.keeps.all_nodes
 
 pub returns-clause-event : goal.returns-clause-event
 returns-clause-event c =

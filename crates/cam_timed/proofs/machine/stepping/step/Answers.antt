@@ -9,7 +9,7 @@ pub decide-requires-clause-keeps : goal.decide-requires-clause-keeps
 decide-requires-clause-keeps c = record {
   own = c.in_ok-note_all.ensures.own c.args.turn.now.node _ _ c.requires.node.own;
   moment = c.requires.node.moment;
-  whole = c.in_ok-note_all.ensures.whole _ c.requires.shared.whole;
+  all_nodes = c.in_ok-note_all.ensures.all_nodes _ c.requires.shared.all_nodes;
   untils = c.requires.shared.untils;
   letters = c.requires.shared.letters;
 }
@@ -18,7 +18,7 @@ pub take_over-requires-clause-first : goal.take_over-requires-clause-first
 take_over-requires-clause-first c = record {
   own = c.in_ok-note_all.ensures.own c.args.turn.now.node _ _ c.requires.node.own;
   moment = c.requires.node.moment;
-  whole = c.in_ok-note_all.ensures.whole _ c.requires.shared.whole;
+  all_nodes = c.in_ok-note_all.ensures.all_nodes _ c.requires.shared.all_nodes;
   untils = c.requires.shared.untils;
   letters = c.requires.shared.letters;
 }

@@ -3,7 +3,7 @@ use Rattle.std.proofs.lemmas.List.{take_all}
 use Rattle.cam_event.specs.declared.Deed.{Deed as DeedValue}
 use Rattle.cam_event.specs.History.{after}
 use Rattle.cam_own.specs.Own.{KeepsOwn}
-use Rattle.cam_own.specs.Whole.{KeepsWhole}
+use Rattle.cam_own.specs.AllNodes.{KeepsAllNodes}
 use Rattle.cam_timed.proofs.TakenOver.{one_more}
 use Rattle.cam_timed.proofs.machine.taking.note_all.Goals as goal
 
@@ -16,10 +16,10 @@ loop-deed-preserved c =
           subst (λ (M : List DeedValue). KeepsOwn c.args.objects.now s M E c.note.new.self)
           (sym (one_more L ds i c.deed-item.result c.loop-deed-test.true c.deed-item.is))
           (c.in_ok-note.ensures s (after L (take i ds)) E (c.loop-deed.invariant.own s L E keeps));
-      whole = λ L keeps.
-          subst (λ (M : List DeedValue). KeepsWhole c.args.objects.now M c.note-in-loop-deed.new.self)
+      all_nodes = λ L keeps.
+          subst (λ (M : List DeedValue). KeepsAllNodes c.args.objects.now M c.note-in-loop-deed.new.self)
           (sym (one_more L ds i c.deed-item.result c.loop-deed-test.true c.deed-item.is))
-          (c.in_ok-note-2.ensures (after L (take i ds)) (c.loop-deed.invariant.whole L keeps));
+          (c.in_ok-note-2.ensures (after L (take i ds)) (c.loop-deed.invariant.all_nodes L keeps));
     }
 
 pub returns-clause-own : goal.returns-clause-own

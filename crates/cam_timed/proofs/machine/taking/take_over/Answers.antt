@@ -9,7 +9,7 @@ use Rattle.cam_event.specs.Inputs.{Mail}
 use Rattle.cam_event.specs.Pasts.{plain_all}
 use Rattle.cam_event.specs.Sights.{entries}
 use Rattle.cam_own.specs.Own.{KeepsOwn}
-use Rattle.cam_own.specs.Whole.{KeepsWhole}
+use Rattle.cam_own.specs.AllNodes.{KeepsAllNodes}
 use Rattle.cam_timed.specs.declared.TimedEvent.{TimedEvent}
 use Rattle.cam_timed.specs.declared.machine.deciding.Decided.{Decided}
 use Rattle.cam_timed.specs.Machine.{deeds_of, posted, trace_of}
@@ -17,7 +17,7 @@ use Rattle.cam_timed.specs.Moments.{events, names_first}
 use Rattle.cam_timed.specs.Turns.{taken}
 use Rattle.cam_timed.specs.Untils.{until_in}
 use Rattle.cam_timed.proofs.Sending.{letters_kept}
-use Rattle.cam_timed.proofs.TakenOver.{moment_taken, node_taken, taken_calm, untils_taken, whole_taken}
+use Rattle.cam_timed.proofs.TakenOver.{moment_taken, node_taken, taken_calm, untils_taken, all_nodes_taken}
 use Rattle.cam_timed.proofs.machine.taking.take_over.Goals as goal
 
 on_ok : {T E : Type 0} (result : Result T E) (P : Type 0) → P → OnOk result P
@@ -59,10 +59,10 @@ returns-clause-shared c = on_ok c.push.result _ (
     let T = trace_of c.args.shared.now in
     let e = event_of c in
     record {
-      whole =
-          whole_taken objects T s c.args.turn.now.letter.now c.args.first c.args.decided c.note_all.new.whole
-          (subst (λ (ds : List Deed). KeepsWhole objects (after (after (plain_all (events T)) c.args.first) ds) c.note_all.new.whole)
-          (ap (λ (d : Decided). d.did.deeds) c.decided.view_is) (c.in_ok-note_all.ensures.whole _ c.requires.first.whole));
+      all_nodes =
+          all_nodes_taken objects T s c.args.turn.now.letter.now c.args.first c.args.decided c.note_all.new.all_nodes
+          (subst (λ (ds : List Deed). KeepsAllNodes objects (after (after (plain_all (events T)) c.args.first) ds) c.note_all.new.all_nodes)
+          (ap (λ (d : Decided). d.did.deeds) c.decided.view_is) (c.in_ok-note_all.ensures.all_nodes _ c.requires.first.all_nodes));
       untils =
           untils_taken T e c.args.shared.now.untils c.note_named.new.untils c.requires.first.untils
           (λ a. c.in_ok-note_named.ensures a

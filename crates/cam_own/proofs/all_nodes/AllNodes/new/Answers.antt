@@ -1,7 +1,7 @@
 use Rattle.std.proofs.Common.{[], rules}
 use Rattle.cam_own.specs.Depending.{KeepsDeps}
 use Rattle.cam_own.specs.Live.{KeepsLive}
-use Rattle.cam_own.proofs.whole.Whole.new.Goals as goal
+use Rattle.cam_own.proofs.all_nodes.AllNodes.new.Goals as goal
 
 pub returns : goal.returns
 returns c = λ objects.

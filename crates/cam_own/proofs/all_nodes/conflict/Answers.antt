@@ -4,7 +4,7 @@ use Rattle.cam_type.specs.Moss.{conflicts}
 use Rattle.cam_event.specs.declared.Operation.{Operation}
 use Rattle.cam_event.specs.Live.{lift}
 use Rattle.cam_own.proofs.Searching.{found_at, passed_at, none_left}
-use Rattle.cam_own.proofs.whole.conflict.Goals as goal
+use Rattle.cam_own.proofs.all_nodes.conflict.Goals as goal
 
 pub returns-then-is_conflict : goal.returns-then-is_conflict
 returns-then-is_conflict c = λ objects s L E kept.

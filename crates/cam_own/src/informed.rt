@@ -1,7 +1,7 @@
 //! The outcomes of which a site was informed, in order, deed by deed.
 ghost use Rattle.std.specs.Prelude.{◌∷◌, [], ℕ, List, OnOk};
 ghost use Rattle.cam_event.specs.declared.Deed.{Deed as DeedValue};
-ghost use Rattle.cam_own.specs.Told.{KeepsTold};
+ghost use Rattle.cam_own.specs.Informed.{KeepsInformed};
 
 use cam_base::{NoMemory, Sequence};
 use cam_event::Deed;
@@ -10,17 +10,17 @@ use std::alloc::Global;
 
 /// The names of whose commit, and of whose abort, a site was informed, in order.
 #[derive(Drop)]
-pub struct Told {
+pub struct Informed {
     pub commits: Sequence<Name>,
     pub aborts: Sequence<Name>,
 }
 
-impl Told {
+impl Informed {
     /// Of nothing.
-    pub(crate) fn new(alloc: Global) -> Told
-        ensures { (s : ℕ) → KeepsTold [] s result }
+    pub(crate) fn new(alloc: Global) -> Informed
+        ensures { (s : ℕ) → KeepsInformed [] s result }
     {
-        Told {
+        Informed {
             commits: Sequence::new(alloc),
             aborts: Sequence::new(alloc),
         }
@@ -28,8 +28,8 @@ impl Told {
 
     /// Keeps what one more deed informs the node of.
     pub(crate) fn note(&mut self, node: u8, deed: &Deed) -> Result<(), NoMemory>
-        ensures { OnOk result ((L : List DeedValue) → KeepsTold L node self.old
-            → KeepsTold (deed.now ∷ L) node self.new) }
+        ensures { OnOk result ((L : List DeedValue) → KeepsInformed L node self.old
+            → KeepsInformed (deed.now ∷ L) node self.new) }
     {
         match deed {
             Deed::Inform {

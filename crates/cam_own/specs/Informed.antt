@@ -3,7 +3,7 @@ use Rattle.std.specs.Prelude.{◌≡◌, ℕ, eqb, true, false, if◌then◌else
 use Rattle.cam_names.specs.declared.name.Name.{Name}
 use Rattle.cam_event.specs.declared.Deed.{Deed}
 use Rattle.cam_event.specs.declared.Deed.TheVariants.{Inform}
-use Rattle.cam_own.specs.declared.told.Told.{Told}
+use Rattle.cam_own.specs.declared.informed.Informed.{Informed}
 
 abbrev pub commits_of : List Deed → ℕ → List Name
 commits_of [] s = []
@@ -18,6 +18,6 @@ aborts_of (Inform site b false ∷ before) s =
 aborts_of (_ ∷ before) s = aborts_of before s
 
 -- the lists have them
-pub record KeepsTold (L : List Deed) (s : ℕ) (told : Told) : Type 0 where
-  pub commits : told.commits ≡ commits_of L s
-  pub aborts : told.aborts ≡ aborts_of L s
+pub record KeepsInformed (L : List Deed) (s : ℕ) (informed : Informed) : Type 0 where
+  pub commits : informed.commits ≡ commits_of L s
+  pub aborts : informed.aborts ≡ aborts_of L s

@@ -13,7 +13,7 @@ ghost use Rattle.cam_event.specs.Sights.{Entry};
 ghost use Rattle.cam_own.specs.Depending.{nodes_of};
 ghost use Rattle.cam_own.specs.Own.{KeepsOwn};
 ghost use Rattle.cam_own.specs.Replies.{IsNoCrash};
-ghost use Rattle.cam_own.specs.Whole.{KeepsWhole};
+ghost use Rattle.cam_own.specs.AllNodes.{KeepsAllNodes};
 
 use crate::depending::{Depending, nodes_in, note_gain};
 use crate::live::{Live, has_live_of, note_live};
@@ -27,7 +27,7 @@ use std::alloc::Global;
 
 /// What is kept of the deeds of all nodes.
 #[derive(Drop)]
-pub struct Whole {
+pub struct AllNodes {
     ledger: Ledger,
     depending: Depending,
     live: Live,
@@ -35,12 +35,12 @@ pub struct Whole {
     none: Operations,
 }
 
-impl Whole {
+impl AllNodes {
     /// Nothing has happened.
-    pub fn new(alloc: Global) -> Whole
-        ensures { (objects : List ObjectDecl) → KeepsWhole objects [] result }
+    pub fn new(alloc: Global) -> AllNodes
+        ensures { (objects : List ObjectDecl) → KeepsAllNodes objects [] result }
     {
-        Whole {
+        AllNodes {
             ledger: Ledger::new(alloc),
             depending: Depending::new(alloc),
             live: Live::new(alloc),
@@ -51,8 +51,8 @@ impl Whole {
     /// Takes one more deed over, which is no crash.
     pub fn note(&mut self, alloc: Global, objects: &Objects, deed: &Deed) -> Result<(), NoMemory>
         requires { IsNoCrash deed.now }
-        ensures { OnOk result ((L : List DeedValue) → KeepsWhole objects.now L self.old
-            → KeepsWhole objects.now (deed.now ∷ L) self.new) }
+        ensures { OnOk result ((L : List DeedValue) → KeepsAllNodes objects.now L self.old
+            → KeepsAllNodes objects.now (deed.now ∷ L) self.new) }
     {
         note_gain(&mut self.depending, objects, &self.ledger, deed)?;
         note_live(&mut self.live, alloc, objects, &self.ledger, deed)?;
@@ -61,7 +61,7 @@ impl Whole {
 
     /// The nodes on which an action depends, each at count 1.
     pub fn nodes(&self, action: &Name) -> Deps
-        ensures { (objects : List ObjectDecl) (L : List DeedValue) → KeepsWhole objects L self.now
+        ensures { (objects : List ObjectDecl) (L : List DeedValue) → KeepsAllNodes objects L self.now
             → result ≡ nodes_of (deps objects L action.now) }
     {
         // A name has a part.
@@ -72,7 +72,7 @@ impl Whole {
     /// The live operations on an object of a site: none if the object stands elsewhere.
     pub fn live_on(&self, objects: &Objects, site: u8, object: u8) -> &Operations
         requires { 1 ≤ site }
-        ensures { (L : List DeedValue) → KeepsWhole objects.now L self.now
+        ensures { (L : List DeedValue) → KeepsAllNodes objects.now L self.now
             → result.now ≡ filter (λ o. eqb o.object object) (live_at objects.now L site) }
     {
         if site_of(objects, object) != site {
@@ -87,7 +87,7 @@ impl Whole {
     /// Whether an operation of the family is live at a site.
     pub fn has_live_of(&self, objects: &Objects, site: u8, family: &Name) -> bool
         requires { 1 ≤ site }
-        ensures { (L : List DeedValue) → KeepsWhole objects.now L self.now
+        ensures { (L : List DeedValue) → KeepsAllNodes objects.now L self.now
             → result ≡ list_any (λ o. name_eq family.now (names.family o.action))
             (live_at objects.now L site) }
     {

@@ -4,7 +4,7 @@ use Rattle.cam_event.specs.declared.Operation.{Operation}
 use Rattle.cam_event.specs.Live.{site_of}
 use Rattle.cam_own.specs.Live.{operations_in}
 use Rattle.cam_own.proofs.Sites.{on_here, on_other}
-use Rattle.cam_own.proofs.whole.Whole.live_on.Goals as goal
+use Rattle.cam_own.proofs.all_nodes.AllNodes.live_on.Goals as goal
 
 pub returns-then-site_of-site : goal.returns-then-site_of-site
 returns-then-site_of-site c = λ L keeps.

@@ -7,7 +7,7 @@ use Rattle.cam_event.specs.declared.Operation.{Operation}
 use Rattle.cam_event.specs.Live.{lift}
 use Rattle.cam_event.specs.Sights.{Entry}
 use Rattle.cam_own.specs.Own.{KeepsOwn}
-use Rattle.cam_own.proofs.whole.conflict.Given as goal
+use Rattle.cam_own.proofs.all_nodes.conflict.Given as goal
 
 abbrev pub invariant-loop-operation : goal.invariant-loop-operation
 invariant-loop-operation l =
