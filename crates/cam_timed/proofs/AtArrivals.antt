@@ -19,7 +19,7 @@ use Rattle.cam_cut.proofs.Holds.{every_part, every_closed}
 use Rattle.cam_timed.specs.declared.TimedEvent.{TimedEvent}
 use Rattle.cam_timed.specs.declared.Pause.{Pause}
 use Rattle.cam_timed.specs.Moments.{events, names_first, until_of}
-use Rattle.cam_timed.specs.TimedRules.{TimedInput, Puts, steps_for, aborts_of, paused, timed_did}
+use Rattle.cam_timed.specs.TimedRules.{TimedInput, WithoutTime, steps_for, aborts_of, paused, timed_did}
 use Rattle.cam_timed.specs.TimedRuns.{TimedMayCome}
 use Rattle.cam_timed.proofs.Paths.{paths_part}
 use Rattle.cam_timed.proofs.Asking.{Came, is_arrival}
@@ -32,11 +32,11 @@ use Rattle.cam_timed.proofs.LettersSay.{mail_says}
 use Rattle.cam_timed.proofs.AtMoments.{now_at, AtMoment, still, not_quiet, not_early, unpaused, arrival_step, abort_step, not_ask, in_every}
 
 -- a letter
-pub arrive_at : (objects : List ObjectDecl) (T : List TimedEvent) (letter : LetterId) (until : ℕ) → TimedHolds objects (events T) → TimedMayCome objects T (Puts (Receives letter) until) → AtMoment objects T (Puts (Receives letter) until)
+pub arrive_at : (objects : List ObjectDecl) (T : List TimedEvent) (letter : LetterId) (until : ℕ) → TimedHolds objects (events T) → TimedMayCome objects T (WithoutTime (Receives letter) until) → AtMoment objects T (WithoutTime (Receives letter) until)
 arrive_at objects T letter until run may = by (pause_next objects T input) refl
   where
     input : TimedInput
-    input = Puts (Receives letter) until
+    input = WithoutTime (Receives letter) until
 
     t : List Event
     t = events T

@@ -10,17 +10,17 @@ use Rattle.cam_event.specs.declared.LetterId.{LetterId}
 use Rattle.cam_event.specs.declared.LineRefusal.TheVariants as refusals
 use Rattle.cam_event.specs.Inputs.{Receives}
 use Rattle.cam_timed.specs.declared.TimedAct.TheVariants as acts
-use Rattle.cam_timed.specs.declared.course.Taken.{Taken}
-use Rattle.cam_timed.specs.declared.course.Taken.TheVariants as takens
+use Rattle.cam_timed.specs.declared.course.LineOutcome.{LineOutcome}
+use Rattle.cam_timed.specs.declared.course.LineOutcome.TheVariants as line_outcomes
 use Rattle.cam_timed.specs.declared.refusing.TimedRefusal.TheVariants.{Untimed}
 use Rattle.cam_runs.specs.Running.{has_number}
 use Rattle.cam_timed.specs.declared.course.Course.{Course}
 use Rattle.cam_timed.specs.declared.machine.Machine.{Machine}
 use Rattle.cam_timed.specs.Machine.{KeepsTimedRun, run_of}
-use Rattle.cam_timed.specs.TimedRules.{Puts, timed_next}
+use Rattle.cam_timed.specs.TimedRules.{WithoutTime, timed_next}
 use Rattle.cam_timed.specs.TimedRunning.{TimedRunning, by_time, deliver, letters, letter_of, is_out}
-use Rattle.cam_timed.specs.TimedScripts.{TimedTaken, Refused, Led, of_letter, timed_act}
-use Rattle.cam_timed.specs.Courses.{KeepsRunning, IsTaken}
+use Rattle.cam_timed.specs.TimedScripts.{TimedLineOutcome, Refused, GoesOn, of_letter, timed_act}
+use Rattle.cam_timed.specs.Courses.{KeepsRunning, IsLineOutcome}
 
 -- the numbers with one more
 pub one_more : (old new : BTreeSet ℕ) (k : ℕ) (numbers : List ℕ)
@@ -57,7 +57,7 @@ module _ (objects : List ObjectDecl) (r : TimedRunning) (c : Course)
   -- what a delivery leaves
   pub delivered_so : (machine : Machine) (delivered : BTreeSet ℕ) (k : ℕ) (letter : LetterId)
       → KeepsTimedRun objects
-      (timed_next objects (run_of c.machine) (Puts (Receives letter) 0) ∷ run_of c.machine) machine
+      (timed_next objects (run_of c.machine) (WithoutTime (Receives letter) 0) ∷ run_of c.machine) machine
       → ((q : ℕ) → contains nat_cmp delivered q
       ≡ cond (is_at (nat_cmp k) q) true (contains nat_cmp c.delivered q))
       → KeepsRunning objects (deliver (by_time objects) r k letter)
@@ -66,7 +66,7 @@ module _ (objects : List ObjectDecl) (r : TimedRunning) (c : Course)
       record {
         machine =
             subst (λ t. KeepsTimedRun objects
-            (timed_next objects t (Puts (Receives letter) 0) ∷ t) machine)
+            (timed_next objects t (WithoutTime (Receives letter) 0) ∷ t) machine)
             keeps.machine.trace put;
         delivered = one_more c.delivered delivered k r.delivered more keeps.delivered;
         lost = keeps.lost;
@@ -117,22 +117,22 @@ module _ (objects : List ObjectDecl) (r : TimedRunning) (c : Course)
       }
 
   -- a line whose letter was not sent or is lost
-  pub no_letter_so : (k : ℕ) (line : LetterId → TimedTaken) (given : Taken)
-      → letter_of r k ≡ None → given ≡ takens.Refused (Untimed refusals.NoLetter)
-      → IsTaken objects r (of_letter (letter_of r k) line) c given
+  pub no_letter_so : (k : ℕ) (line : LetterId → TimedLineOutcome) (given : LineOutcome)
+      → letter_of r k ≡ None → given ≡ line_outcomes.Refused (Untimed refusals.NoLetter)
+      → IsLineOutcome objects r (of_letter (letter_of r k) line) c given
   no_letter_so k line given none is =
-      subst (λ o. IsTaken objects r (of_letter o line) c given) (sym none)
-      (subst (λ t. IsTaken objects r (Refused (Untimed refusals.NoLetter)) c t) (sym is)
+      subst (λ o. IsLineOutcome objects r (of_letter o line) c given) (sym none)
+      (subst (λ t. IsLineOutcome objects r (Refused (Untimed refusals.NoLetter)) c t) (sym is)
       (refl, keeps))
 
   -- a delivery
   pub delivery_so : (k place : ℕ) (letter : LetterId) (new : Course) → letter_of r k ≡ Some letter
       → place + 1 ≡ k
       → KeepsRunning objects (deliver (by_time objects) r (place + 1) letter) new
-      → IsTaken objects r (timed_act (by_time objects) r (acts.Deliver k)) new (takens.Led None)
+      → IsLineOutcome objects r (timed_act (by_time objects) r (acts.Deliver k)) new (line_outcomes.GoesOn None)
   delivery_so k place letter new found same stands =
-      subst (λ o. IsTaken objects r
-      (of_letter o (λ l. Led (deliver (by_time objects) r k l) None)) new (takens.Led None))
+      subst (λ o. IsLineOutcome objects r
+      (of_letter o (λ l. GoesOn (deliver (by_time objects) r k l) None)) new (line_outcomes.GoesOn None))
       (sym found) (
         refl,
         subst (λ n. KeepsRunning objects (deliver (by_time objects) r n letter) new) same stands,
@@ -143,12 +143,12 @@ module _ (objects : List ObjectDecl) (r : TimedRunning) (c : Course)
       → place + 1 ≡ k
       → ((q : ℕ) → contains nat_cmp lost q
       ≡ cond (is_at (nat_cmp (place + 1)) q) true (contains nat_cmp c.lost q))
-      → IsTaken objects r (timed_act (by_time objects) r (acts.Lose k)) (record c { lost = lost })
-      (takens.Led None)
+      → IsLineOutcome objects r (timed_act (by_time objects) r (acts.Lose k)) (record c { lost = lost })
+      (line_outcomes.GoesOn None)
   loss_so k place letter lost found same more =
-      subst (λ o. IsTaken objects r
-      (of_letter o (λ l. Led (record r { lost = k ∷ r.lost }) None)) (record c { lost = lost })
-      (takens.Led None))
+      subst (λ o. IsLineOutcome objects r
+      (of_letter o (λ l. GoesOn (record r { lost = k ∷ r.lost }) None)) (record c { lost = lost })
+      (line_outcomes.GoesOn None))
       (sym found) (
         refl,
         subst

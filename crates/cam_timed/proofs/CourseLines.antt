@@ -11,18 +11,18 @@ use Rattle.cam_timed.specs.declared.TimedAct.TheVariants as acts
 use Rattle.cam_timed.specs.declared.TimedEvent.{TimedEvent}
 use Rattle.cam_timed.specs.declared.TimedMark.{TimedMark}
 use Rattle.cam_timed.specs.declared.course.Course.{Course}
-use Rattle.cam_timed.specs.declared.course.Taken.{Taken}
-use Rattle.cam_timed.specs.declared.course.Taken.TheVariants as takens
+use Rattle.cam_timed.specs.declared.course.LineOutcome.{LineOutcome}
+use Rattle.cam_timed.specs.declared.course.LineOutcome.TheVariants as line_outcomes
 use Rattle.cam_timed.specs.declared.machine.Machine.{Machine}
 use Rattle.cam_timed.specs.declared.refusing.TimedRefusal.{TimedRefusal}
 use Rattle.cam_timed.specs.declared.refusing.TimedRefusal.TheVariants.{Untimed}
 use Rattle.cam_timed.specs.Machine.{KeepsTimedRun, run_of}
 use Rattle.cam_timed.specs.TimedRefusals.{untimed}
-use Rattle.cam_timed.specs.TimedRules.{TimedInput, Puts, timed_next}
+use Rattle.cam_timed.specs.TimedRules.{TimedInput, WithoutTime, timed_next}
 use Rattle.cam_timed.specs.TimedRunning.{TimedRunning, by_time, with_event}
 use Rattle.cam_timed.specs.TimedRuns.{sight_here}
-use Rattle.cam_timed.specs.TimedScripts.{TimedTaken, Refused, Led, timed_act, mark_of, after_line, unless_refused, of_variable, variable, named_in, newest_deeds}
-use Rattle.cam_timed.specs.Courses.{KeepsRunning, IsCourse, IsTaken, variable_in}
+use Rattle.cam_timed.specs.TimedScripts.{TimedLineOutcome, Refused, GoesOn, timed_act, mark_of, after_line, unless_refused, of_variable, variable, named_in, newest_deeds}
+use Rattle.cam_timed.specs.Courses.{KeepsRunning, IsCourse, IsLineOutcome, variable_in}
 
 -- The machine keeps its own events.
 pub kept : (objects : List ObjectDecl) (c : Course) → IsCourse objects c
@@ -55,36 +55,36 @@ module _ (objects : List ObjectDecl) (r : TimedRunning) (c : Course)
       }
 
   -- a line against which something stands is refused as that says
-  pub refused_so : (refusal : TimedRefusal) (o : Option TimedRefusal) (taken : TimedTaken)
+  pub refused_so : (refusal : TimedRefusal) (o : Option TimedRefusal) (taken : TimedLineOutcome)
       → Some refusal ≡ o
-      → IsTaken objects r (unless_refused o taken) c (takens.Refused refusal)
+      → IsLineOutcome objects r (unless_refused o taken) c (line_outcomes.Refused refusal)
   refused_so refusal o taken e =
-      subst (λ x. IsTaken objects r (unless_refused x taken) c (takens.Refused refusal)) e
+      subst (λ x. IsLineOutcome objects r (unless_refused x taken) c (line_outcomes.Refused refusal)) e
       (refl, keeps)
 
   -- a line whose variable stands for no action is refused
-  pub unbound_so : (v : ℕ) (line : Name → TimedTaken) → None ≡ variable_in c.bound v
-      → IsTaken objects r (of_variable (variable r v) line) c
-      (takens.Refused (Untimed refusals.Unbound))
+  pub unbound_so : (v : ℕ) (line : Name → TimedLineOutcome) → None ≡ variable_in c.bound v
+      → IsLineOutcome objects r (of_variable (variable r v) line) c
+      (line_outcomes.Refused (Untimed refusals.Unbound))
   unbound_so v line e =
       subst
-      (λ o. IsTaken objects r (of_variable o line) c (takens.Refused (Untimed refusals.Unbound)))
+      (λ o. IsLineOutcome objects r (of_variable o line) c (line_outcomes.Refused (Untimed refusals.Unbound)))
       (e ∙ ap (λ bound. variable_in bound v) keeps.bound) (refl, keeps)
 
   -- else it is that of the action
-  pub bound_so : (v : ℕ) (line : Name → TimedTaken) (a : Name) (new : Course) (given : Taken)
-      → Some a ≡ variable_in c.bound v → IsTaken objects r (line a) new given
-      → IsTaken objects r (of_variable (variable r v) line) new given
+  pub bound_so : (v : ℕ) (line : Name → TimedLineOutcome) (a : Name) (new : Course) (given : LineOutcome)
+      → Some a ≡ variable_in c.bound v → IsLineOutcome objects r (line a) new given
+      → IsLineOutcome objects r (of_variable (variable r v) line) new given
   bound_so v line a new given e taken =
-      subst (λ o. IsTaken objects r (of_variable o line) new given)
+      subst (λ o. IsLineOutcome objects r (of_variable o line) new given)
       (e ∙ ap (λ bound. variable_in bound v) keeps.bound) taken
 
   -- a line against which nothing stands has led so far
   pub led_so : (o : Option TimedRefusal) (running : TimedRunning) (binds given : Option Name)
       (new : Course) → None ≡ o → given ≡ binds → KeepsRunning objects running new
-      → IsTaken objects r (unless_refused o (Led running binds)) new (takens.Led given)
+      → IsLineOutcome objects r (unless_refused o (GoesOn running binds)) new (line_outcomes.GoesOn given)
   led_so o running binds given new e same stands =
-      subst (λ x. IsTaken objects r (unless_refused x (Led running binds)) new (takens.Led given)) e
+      subst (λ x. IsLineOutcome objects r (unless_refused x (GoesOn running binds)) new (line_outcomes.GoesOn given)) e
       (same, stands)
 
 -- the newest event of a machine is that of the run that it keeps
@@ -101,10 +101,10 @@ module _ (objects : List ObjectDecl) (r : TimedRunning) (c : Course)
   abbrev against : Name → Option LineRefusal
   against g = query_refusal (sight_here objects r.trace node) g
 
-  abbrev line : Name → TimedTaken
+  abbrev line : Name → TimedLineOutcome
   line b =
       unless_refused (untimed (against (family b)) None)
-      (Led (with_event (by_time objects) r (Puts (Queries node (family b)) 0)) None)
+      (GoesOn (with_event (by_time objects) r (WithoutTime (Queries node (family b)) 0)) None)
 
   -- what the machine says against it is said against the line
   same_against : (o : Option LineRefusal)
@@ -117,34 +117,34 @@ module _ (objects : List ObjectDecl) (r : TimedRunning) (c : Course)
 
   pub query_refused : (refusal : LineRefusal)
       → Some refusal ≡ query_refusal (sight_here objects (run_of c.machine) node) f
-      → IsTaken objects r (timed_act (by_time objects) r (acts.Query node v)) c
-      (takens.Refused (Untimed refusal))
+      → IsLineOutcome objects r (timed_act (by_time objects) r (acts.Query node v)) c
+      (line_outcomes.Refused (Untimed refusal))
   query_refused refusal e =
-      bound_so objects r c keeps v line a c (takens.Refused (Untimed refusal)) names
+      bound_so objects r c keeps v line a c (line_outcomes.Refused (Untimed refusal)) names
       (refused_so objects r c keeps (Untimed refusal) (untimed (against (family a)) None)
-      (Led (with_event (by_time objects) r (Puts (Queries node (family a)) 0)) None)
+      (GoesOn (with_event (by_time objects) r (WithoutTime (Queries node (family a)) 0)) None)
       (same_against (Some refusal) e))
 
   pub query_led : (machine : Machine)
       → None ≡ query_refusal (sight_here objects (run_of c.machine) node) f
       → KeepsTimedRun objects
-      (timed_next objects (run_of c.machine) (Puts (Queries node f) 0) ∷ run_of c.machine) machine
-      → IsTaken objects r (timed_act (by_time objects) r (acts.Query node v))
-      (record c { machine = machine }) (takens.Led None)
+      (timed_next objects (run_of c.machine) (WithoutTime (Queries node f) 0) ∷ run_of c.machine) machine
+      → IsLineOutcome objects r (timed_act (by_time objects) r (acts.Query node v))
+      (record c { machine = machine }) (line_outcomes.GoesOn None)
   query_led machine e put =
-      bound_so objects r c keeps v line a (record c { machine = machine }) (takens.Led None) names
+      bound_so objects r c keeps v line a (record c { machine = machine }) (line_outcomes.GoesOn None) names
       (led_so objects r c keeps (untimed (against (family a)) None)
-      (with_event (by_time objects) r (Puts (Queries node (family a)) 0)) None None
+      (with_event (by_time objects) r (WithoutTime (Queries node (family a)) 0)) None None
       (record c { machine = machine }) (same_against None e) refl
-      (with_input objects r c keeps machine (Puts (Queries node (family a)) 0)
+      (with_input objects r c keeps machine (WithoutTime (Queries node (family a)) 0)
       (subst (λ g. KeepsTimedRun objects
-      (timed_next objects (run_of c.machine) (Puts (Queries node g) 0) ∷ run_of c.machine) machine)
+      (timed_next objects (run_of c.machine) (WithoutTime (Queries node g) 0) ∷ run_of c.machine) machine)
       is put)))
 
 -- what stands after a line that is refused
-pub refused_line : (objects : List ObjectDecl) (r : TimedRunning) (line : ℕ) (taken : TimedTaken)
+pub refused_line : (objects : List ObjectDecl) (r : TimedRunning) (line : ℕ) (taken : TimedLineOutcome)
     (c : Course) (refusal : TimedRefusal) (left : List TimedMark) (bound : List (Option Name))
-    → IsTaken objects r taken c (takens.Refused refusal)
+    → IsLineOutcome objects r taken c (line_outcomes.Refused refusal)
     → left ≡ c.marks ++ mark_of line refusal ∷ [] → bound ≡ c.bound ++ None ∷ []
     → KeepsRunning objects (after_line r line taken) (record c { marks = left; bound = bound })
 refused_line objects r line (Refused refusal) c given left bound taken more one =
@@ -156,15 +156,15 @@ refused_line objects r line (Refused refusal) c given left bound taken more one 
       marks = more ∙ (λ i. taken.1.marks i ++ mark_of line (taken.0 i) ∷ []);
       bound = one ∙ ap (λ bs. bs ++ None ∷ []) taken.1.bound;
     }
-refused_line objects r line (Led running binds) c given left bound taken more one = absurd taken
+refused_line objects r line (GoesOn running binds) c given left bound taken more one = absurd taken
 
 -- and after one that has led on
-pub led_line : (objects : List ObjectDecl) (r : TimedRunning) (line : ℕ) (taken : TimedTaken)
+pub led_line : (objects : List ObjectDecl) (r : TimedRunning) (line : ℕ) (taken : TimedLineOutcome)
     (c : Course) (binds : Option Name) (bound : List (Option Name))
-    → IsTaken objects r taken c (takens.Led binds) → bound ≡ c.bound ++ binds ∷ []
+    → IsLineOutcome objects r taken c (line_outcomes.GoesOn binds) → bound ≡ c.bound ++ binds ∷ []
     → KeepsRunning objects (after_line r line taken) (record c { bound = bound })
 led_line objects r line (Refused refusal) c given bound taken one = absurd taken
-led_line objects r line (Led running binds) c given bound taken one =
+led_line objects r line (GoesOn running binds) c given bound taken one =
     record {
       machine = taken.1.machine;
       delivered = taken.1.delivered;

@@ -18,7 +18,7 @@ use Rattle.cam_timed.specs.Records.{IsRecordOf}
 use Rattle.cam_timed.specs.TimedRange.{is_begin, ActInRange, EachInRange, IsTimedInRange}
 use Rattle.cam_timed.specs.TimedRuns.{IsTimedRun}
 use Rattle.cam_timed.specs.TimedRunning.{TimedRunning, timed_start, by_time}
-use Rattle.cam_timed.specs.TimedScripts.{TimedTaken, Refused, Led, timed_act, after_line, run_steps, timed_run}
+use Rattle.cam_timed.specs.TimedScripts.{TimedLineOutcome, Refused, GoesOn, timed_act, after_line, run_steps, timed_run}
 use Rattle.cam_timed.specs.Courses.{KeepsRunning, IsCourse, Follows, MayTake}
 use Rattle.cam_timed.proofs.ScriptRuns.{IsLed, Bound, bound_at, line_led, slice_snoc}
 
@@ -93,7 +93,7 @@ bound_next steps at step bound binds here size new old v a begins h =
 
 -- what the variables stand for after a line
 tops_next : (objects : List ObjectDecl) (steps : List TimedStep) (at : ℕ) (step : TimedStep)
-    (r : TimedRunning) (taken : TimedTaken) → slice_get steps at ≡ Some step
+    (r : TimedRunning) (taken : TimedLineOutcome) → slice_get steps at ≡ Some step
     → length r.bound ≡ at → Bound steps r.bound → IsLed objects r step.act taken
     → Bound steps (after_line r step.line taken).bound
     × (length (after_line r step.line taken).bound ≡ at + 1)
@@ -101,7 +101,7 @@ tops_next objects steps at step r (Refused refusal) here size tops led = (
   bound_next steps at step r.bound None here size (λ y a h. cc) tops,
   length-append r.bound (None ∷ []) ∙ ap (λ (n : ℕ). n + 1) size,
 )
-tops_next objects steps at step r (Led running binds) here size tops led = (
+tops_next objects steps at step r (GoesOn running binds) here size tops led = (
   bound_next steps at step running.bound binds here (ap length led.1 ∙ size) led.2
       (subst (Bound steps) (sym led.1) tops),
   length-append running.bound (binds ∷ []) ∙ ap (λ (n : ℕ). n + 1) (ap length led.1 ∙ size),
@@ -144,7 +144,7 @@ module _ (script : TimedScript) (range : IsTimedInRange script) (items : List Ti
         size = tops.1;
       }
     where
-      taken : TimedTaken
+      taken : TimedLineOutcome
       taken = timed_act (by_time script.script.objects) course.running step.act
 
       next : TimedRunning

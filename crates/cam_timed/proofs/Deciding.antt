@@ -16,7 +16,7 @@ use Rattle.cam_timed.specs.declared.TimedEvent.{TimedEvent}
 use Rattle.cam_timed.specs.declared.Pause.{Pause}
 use Rattle.cam_timed.specs.declared.machine.Letter.{Letter}
 use Rattle.cam_timed.specs.declared.machine.deciding.Decided.{Decided}
-use Rattle.cam_timed.specs.declared.ruled.Put.{Put}
+use Rattle.cam_timed.specs.declared.ruled.NodeInput.{NodeInput}
 use Rattle.cam_timed.specs.Here.{ComesFromNode, input_of}
 use Rattle.cam_timed.specs.KeptSights.{kept_sight}
 use Rattle.cam_timed.specs.Machine.{KeepsLetter, id_of, mail_of}
@@ -62,39 +62,39 @@ turn_moment T s own None (Some letter) is same = absurd is
 turn_moment T s own (Some id) None is same = absurd is
 
 -- The event is the next one.
-pub decided_next : (objects : List ObjectDecl) (T : List TimedEvent) (s : ℕ) (put : Put) (letter : Option Letter) (first : List Deed) (own moment until : ℕ) (held : Name → ℕ) (did : Did) (pause : Option Pause)
-    → IsTurn objects T s put letter → AreFirst T s put first → own ≡ moment_of T s → ((a : Name) → held a ≡ until_of T a)
-    → did ≡ timed_rule objects (kept_sight objects (events T) s first) (mail_of letter) (input_of put)
-    → moment ≡ moment_by T (input_of put) (max own (option_map_or (λ (l : Letter). l.moment) letter 0))
-    → until ≡ until_given T (input_of put)
-    → pause ≡ pause_by held moment (input_of put) did.deeds
-    → taken s letter first (record { did = paused pause did; moment = moment; until = until; pause = pause }) ≡ timed_next objects T (input_of put)
-decided_next objects T s put letter first own moment until held did pause turn firsts at tells ruled now gives why =
+pub decided_next : (objects : List ObjectDecl) (T : List TimedEvent) (s : ℕ) (input : NodeInput) (letter : Option Letter) (first : List Deed) (own moment until : ℕ) (held : Name → ℕ) (did : Did) (pause : Option Pause)
+    → IsTurn objects T s input letter → AreFirst T s input first → own ≡ moment_of T s → ((a : Name) → held a ≡ until_of T a)
+    → did ≡ timed_rule objects (kept_sight objects (events T) s first) (mail_of letter) (input_of input)
+    → moment ≡ moment_by T (input_of input) (max own (option_map_or (λ (l : Letter). l.moment) letter 0))
+    → until ≡ until_given T (input_of input)
+    → pause ≡ pause_by held moment (input_of input) did.deeds
+    → taken s letter first (record { did = paused pause did; moment = moment; until = until; pause = pause }) ≡ timed_next objects T (input_of input)
+decided_next objects T s input letter first own moment until held did pause turn firsts at tells ruled now gives why =
     λ i. event_by (sym turn.node i) (id i) (first_is i) (now_is i) (gives i) (pause_is i) (did_is i)
   where
-    input : TimedInput
-    input = input_of put
+    timed_input : TimedInput
+    timed_input = input_of input
 
     got : Option LetterId
-    got = timed_got_of input
+    got = timed_got_of timed_input
 
     id : id_of letter ≡ got
     id = turn_id T got letter turn.comes
 
-    first_is : first ≡ timed_informs (events T) (timed_node_of T input) got
+    first_is : first ≡ timed_informs (events T) (timed_node_of T timed_input) got
     first_is = firsts ∙ ap (λ n. timed_informs (events T) n got) (sym turn.node)
 
-    now_is : moment ≡ moment_by T input (moment_now T (timed_node_of T input) got)
-    now_is = now ∙ ap (moment_by T input) (turn_moment T s own got letter turn.comes at ∙ ap (λ n. moment_now T n got) (sym turn.node))
+    now_is : moment ≡ moment_by T timed_input (moment_now T (timed_node_of T timed_input) got)
+    now_is = now ∙ ap (moment_by T timed_input) (turn_moment T s own got letter turn.comes at ∙ ap (λ n. moment_now T n got) (sym turn.node))
 
-    did_is : did ≡ timed_did objects T input (timed_node_of T input) got
+    did_is : did ≡ timed_did objects T timed_input (timed_node_of T timed_input) got
     did_is =
         ruled
-        ∙ (λ i. timed_rule objects (kept_sight objects (events T) (sym turn.node i) (first_is i)) ((turn_mail T got letter turn.comes ∙ ap (mail_got (events T)) id) i) input)
-        ∙ sym (tables_tell_the_rule objects T input turn.run turn.may)
+        ∙ (λ i. timed_rule objects (kept_sight objects (events T) (sym turn.node i) (first_is i)) ((turn_mail T got letter turn.comes ∙ ap (mail_got (events T)) id) i) timed_input)
+        ∙ sym (tables_tell_the_rule objects T timed_input turn.run turn.may)
 
-    pause_is : pause ≡ pause_by (until_of T) (moment_by T input (moment_now T (timed_node_of T input) got)) input (timed_did objects T input (timed_node_of T input) got).deeds
-    pause_is = why ∙ (λ i. pause_by (λ a. tells a i) (now_is i) input (did_is i).deeds)
+    pause_is : pause ≡ pause_by (until_of T) (moment_by T timed_input (moment_now T (timed_node_of T timed_input) got)) timed_input (timed_did objects T timed_input (timed_node_of T timed_input) got).deeds
+    pause_is = why ∙ (λ i. pause_by (λ a. tells a i) (now_is i) timed_input (did_is i).deeds)
 
 -- each of a list
 pub all_in : {X : Type 0} (P : X → Type 0) (xs : List X) → ((x : X) → In x xs → P x) → AllByRecursion P xs
@@ -107,24 +107,24 @@ no_crash (Crash r) none = none r refl
 no_crash _ none = tt
 
 -- The first Informs have no crash,
-pub first_calm : (objects : List ObjectDecl) (T : List TimedEvent) (s : ℕ) (put : Put) (first : List Deed) → AreFirst T s put first → AllByRecursion IsNoCrash first
-first_calm objects T s put first is =
+pub first_calm : (objects : List ObjectDecl) (T : List TimedEvent) (s : ℕ) (input : NodeInput) (first : List Deed) → AreFirst T s input first → AllByRecursion IsNoCrash first
+first_calm objects T s input first is =
     subst (AllByRecursion IsNoCrash) (sym is)
     (all_in IsNoCrash (timed_informs (events T) s got) (λ d i. subst IsNoCrash (sym (first_each (events T) (abort_paths (events T)) s got (carrier (events T) got) d i).is) tt))
   where
     got : Option LetterId
-    got = timed_got_of (input_of put)
+    got = timed_got_of (input_of input)
 
 -- nor has an event that comes next in a run by time.
-pub decided_calm : (objects : List ObjectDecl) (T : List TimedEvent) (s : ℕ) (put : Put) (letter : Option Letter) (first : List Deed) (decided : Decided)
-    → IsTimedRun objects T → TimedMayCome objects T (input_of put) → taken s letter first decided ≡ timed_next objects T (input_of put) → AllByRecursion IsNoCrash decided.did.deeds
-decided_calm objects T s put letter first decided run may is = all_in IsNoCrash decided.did.deeds (λ d i. no_crash d (none d i))
+pub decided_calm : (objects : List ObjectDecl) (T : List TimedEvent) (s : ℕ) (input : NodeInput) (letter : Option Letter) (first : List Deed) (decided : Decided)
+    → IsTimedRun objects T → TimedMayCome objects T (input_of input) → taken s letter first decided ≡ timed_next objects T (input_of input) → AllByRecursion IsNoCrash decided.did.deeds
+decided_calm objects T s input letter first decided run may is = all_in IsNoCrash decided.did.deeds (λ d i. no_crash d (none d i))
   where
     e : TimedEvent
     e = taken s letter first decided
 
     next : IsTimedRun objects (e ∷ T)
-    next = (record { input = input_of put; may = may; is_next = is }, run)
+    next = (record { input = input_of input; may = may; is_next = is }, run)
 
     none : (d : Deed) → In d decided.did.deeds → (r : ℕ) → d ≡ Crash r → ⊥
     none d i r same =

@@ -10,7 +10,7 @@ use Rattle.cam_timed.specs.declared.TimedEvent.{TimedEvent}
 use Rattle.cam_timed.specs.declared.machine.Letter.{Letter}
 use Rattle.cam_timed.specs.declared.machine.hearing.Reach.{Reach}
 use Rattle.cam_timed.specs.declared.machine.hearing.Road.{Road}
-use Rattle.cam_timed.specs.declared.ruled.Put.{Put}
+use Rattle.cam_timed.specs.declared.ruled.NodeInput.{NodeInput}
 use Rattle.cam_timed.specs.Here.{input_of}
 use Rattle.cam_timed.specs.Moments.{events, moment_now, until_of}
 use Rattle.cam_timed.specs.Reaches.{Hears, IsReach, KeepsHeard, nowhere, raised, reach_in, road, road_eq}
@@ -45,45 +45,45 @@ none_heard heard none m s =
 
 -- what a turn's event begins with
 first_of_turn :
-    (objects : List ObjectDecl) (T : List TimedEvent) (put : Put) (s : ℕ) (letter : Letter)
-    → IsTurn objects T s put (Some letter)
+    (objects : List ObjectDecl) (T : List TimedEvent) (input : NodeInput) (s : ℕ) (letter : Letter)
+    → IsTurn objects T s input (Some letter)
     → (more : List Deed)
-    × ((timed_next objects T (input_of put)).event.deeds
+    × ((timed_next objects T (input_of input)).event.deeds
     ≡ timed_informs (events T) s (Some letter.id) ++ more)
-first_of_turn objects T put s letter turn =
+first_of_turn objects T input s letter turn =
     (rest.deeds, λ i. timed_informs (events T) (turn.node i) (sym is i) ++ rest.deeds)
   where
-    is : Some letter.id ≡ timed_got_of (input_of put)
-    is = (turn_letter T (timed_got_of (input_of put)) letter turn.comes).0
+    is : Some letter.id ≡ timed_got_of (input_of input)
+    is = (turn_letter T (timed_got_of (input_of input)) letter turn.comes).0
 
     did : Did
     did =
-        timed_did objects T (input_of put) (timed_node_of T (input_of put))
-        (timed_got_of (input_of put))
+        timed_did objects T (input_of input) (timed_node_of T (input_of input))
+        (timed_got_of (input_of input))
 
     now : ℕ
     now =
-        moment_by T (input_of put)
-        (moment_now T (timed_node_of T (input_of put)) (timed_got_of (input_of put)))
+        moment_by T (input_of input)
+        (moment_now T (timed_node_of T (input_of input)) (timed_got_of (input_of input)))
 
     rest : Did
-    rest = paused (pause_by (until_of T) now (input_of put) did.deeds) did
+    rest = paused (pause_by (until_of T) now (input_of input) did.deeds) did
 
 -- The table is kept after a turn, whose letter it has then.
 pub hears_kept :
-    {S : Type 0} (objects : List ObjectDecl) (T : List TimedEvent) (s : ℕ) (put : Put)
-    (letter : Option Letter) (old new : HashMap Road Reach S) → IsTurn objects T s put letter
+    {S : Type 0} (objects : List ObjectDecl) (T : List TimedEvent) (s : ℕ) (input : NodeInput)
+    (letter : Option Letter) (old new : HashMap Road Reach S) → IsTurn objects T s input letter
     → Hears s letter old new → KeepsHeard (events T) old
-    → KeepsHeard (events (timed_next objects T (input_of put) ∷ T)) new
-hears_kept objects T s put None old new turn hears keeps m n =
-    let e = timed_next objects T (input_of put) in
+    → KeepsHeard (events (timed_next objects T (input_of input) ∷ T)) new
+hears_kept objects T s input None old new turn hears keeps m n =
+    let e = timed_next objects T (input_of input) in
     subst (IsReach (events (e ∷ T)) m n) (sym (hears m n))
     (reach_still e.event (events T) m n (reach_in old m n) (keeps m n))
-hears_kept objects T s put (Some letter) old new turn hears keeps m n =
+hears_kept objects T s input (Some letter) old new turn hears keeps m n =
     subst (IsReach t m n) (sym (hears m n)) (by (eqb letter.mail.from m && eqb s n) refl)
   where
     e : TimedEvent
-    e = timed_next objects T (input_of put)
+    e = timed_next objects T (input_of input)
 
     t : List Event
     t = events (e ∷ T)
@@ -92,13 +92,13 @@ hears_kept objects T s put (Some letter) old new turn hears keeps m n =
     still k l = reach_still e.event (events T) k l (reach_in old k l) (keeps k l)
 
     first : (more : List Deed) × (e.event.deeds ≡ timed_informs (events T) s (Some letter.id) ++ more)
-    first = first_of_turn objects T put s letter turn
+    first = first_of_turn objects T input s letter turn
 
     letters : IsReach t letter.mail.from s
         (record { commits = letter.commits; aborts = letter.aborts })
     letters =
         letter_heard objects T s letter e.event first.0 turn.run
-        (turn_letter T (timed_got_of (input_of put)) letter turn.comes).1 turn.node first.1
+        (turn_letter T (timed_got_of (input_of input)) letter turn.comes).1 turn.node first.1
 
     both : IsReach t letter.mail.from s (raised letter (reach_in old letter.mail.from s))
     both =

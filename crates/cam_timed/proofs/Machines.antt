@@ -13,8 +13,8 @@ use Rattle.cam_event.specs.Runs.{IsNode}
 use Rattle.cam_timed.specs.declared.TimedEvent.{TimedEvent}
 use Rattle.cam_timed.specs.declared.machine.Letter.{Letter}
 use Rattle.cam_timed.specs.declared.machine.Node.{Node}
-use Rattle.cam_timed.specs.declared.ruled.Put.{Put}
-use Rattle.cam_timed.specs.declared.ruled.Put.TheVariants as puts
+use Rattle.cam_timed.specs.declared.ruled.NodeInput.{NodeInput}
+use Rattle.cam_timed.specs.declared.ruled.NodeInput.TheVariants as inputs
 use Rattle.cam_timed.specs.Here.{input_of}
 use Rattle.cam_timed.specs.Machine.{KeepsLetter, KeepsLetters, KeepsNode}
 use Rattle.cam_timed.specs.TimedRules.{timed_next}
@@ -54,8 +54,8 @@ nodes_after objects T e place nodes new less mine keeps each k node at = by (eqb
         node_other objects T e (k + 1) node (λ same. n.1 (omega (arith, same, mine))) (each k node (sym (off_set nodes place k new n.1) ∙ at))
 
 -- The run goes on.
-pub run_after : (objects : List ObjectDecl) (T : List TimedEvent) (put : Put) → IsTimedRun objects T → TimedMayCome objects T (input_of put) → IsTimedRun objects (timed_next objects T (input_of put) ∷ T)
-run_after objects T put run may = (record { input = input_of put; may = may; is_next = refl }, run)
+pub run_after : (objects : List ObjectDecl) (T : List TimedEvent) (input : NodeInput) → IsTimedRun objects T → TimedMayCome objects T (input_of input) → IsTimedRun objects (timed_next objects T (input_of input) ∷ T)
+run_after objects T input run may = (record { input = input_of input; may = may; is_next = refl }, run)
 
 -- what is kept of the letter at a place
 each_at : {X : Type 0} (P : X → Type 0) (xs : List X) (i : ℕ) (x : X) → AllByRecursion P xs → slice_get xs i ≡ Some x → P x
@@ -66,9 +66,9 @@ each_at P (y ∷ xs) (suc i) x all at = each_at P xs i x all.1 at
 pub kept_letter : (T : List TimedEvent) (kept : List Letter) (place : ℕ) (letter : Letter) → KeepsLetters T kept → slice_get kept place ≡ Some letter → KeepsLetter T letter
 kept_letter T kept place letter keeps at = each_at (KeepsLetter T) kept place letter keeps.each at
 
--- and that letter is put to its node
+-- and that letter is handed to its node
 pub letter_turn : (objects : List ObjectDecl) (T : List TimedEvent) (kept : List Letter) (place : ℕ) (letter : Letter) → IsTimedRun objects T → KeepsLetters T kept → slice_get kept place ≡ Some letter
-    → IsTurn objects T letter.mail.to (puts.Letter letter.id) (Some letter)
+    → IsTurn objects T letter.mail.to (inputs.Letter letter.id) (Some letter)
 letter_turn objects T kept place letter run keeps at =
     let one : KeepsLetter T letter = kept_letter T kept place letter keeps at in
     record {

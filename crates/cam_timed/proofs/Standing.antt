@@ -29,8 +29,8 @@ use Rattle.cam_own.specs.declared.all_nodes.AllNodes.{AllNodes}
 use Rattle.cam_own.specs.Own.{KeepsOwn}
 use Rattle.cam_own.specs.AllNodes.{KeepsAllNodes}
 use Rattle.cam_timed.specs.declared.TimedEvent.{TimedEvent}
-use Rattle.cam_timed.specs.declared.ruled.Put.{Put}
-use Rattle.cam_timed.specs.declared.ruled.Put.TheVariants as puts
+use Rattle.cam_timed.specs.declared.ruled.NodeInput.{NodeInput}
+use Rattle.cam_timed.specs.declared.ruled.NodeInput.TheVariants as inputs
 use Rattle.cam_timed.specs.Here.{AskedByParents, StandHere, input_of, HasPlaceHere}
 use Rattle.cam_timed.specs.KeptSights.{kept_sight}
 use Rattle.cam_timed.specs.Machine.{deeds_of}
@@ -96,19 +96,19 @@ query_refusal_kept objects T s f run =
     ∙ sym (ap (λ (g : Sight). query_refusal g f) (kept_fields objects T s None run tt))
 
 -- A child or a call that may be asked for has a place.
-pub has_place : (objects : List ObjectDecl) (T : List TimedEvent) (put : Put) → TimedMayCome objects T (input_of put) → HasPlaceHere objects put
-has_place objects T (puts.Begin s until) may = tt
-has_place objects T (puts.Request a (wants.Ask m) until) may =
+pub has_place : (objects : List ObjectDecl) (T : List TimedEvent) (input : NodeInput) → TimedMayCome objects T (input_of input) → HasPlaceHere objects input
+has_place objects T (inputs.Begin s until) may = tt
+has_place objects T (inputs.Request a (wants.Ask m) until) may =
     let g : Sight = sight_here objects T (home_node a) in
     let free = (untimed_none (refusal g a (wants.Ask m)) _ may.0).0 in
     let rest = (first_none (is_not_open g a) _ (first_none (has_call g a) _ (first_none (has_ended g a) _ free).1).1).1 in
     (leb-false 8 (length a) (where_none (nat_le 8 (length a)) refusals.TooDeep rest), may.1)
-has_place objects T (puts.Request a (wants.Call x op) until) may = may.1.1
-has_place objects T (puts.Request a (wants.Commit v) until) may = tt
-has_place objects T (puts.Request a wants.Abort until) may = tt
-has_place objects T (puts.Request a (wants.GiveUp b) until) may = tt
-has_place objects T (puts.Letter id) may = tt
-has_place objects T (puts.Tell s to) may = may.1
-has_place objects T (puts.Query s f) may = tt
-has_place objects T (puts.Tick s moment) may = tt
-has_place objects T (puts.Expire a) may = tt
+has_place objects T (inputs.Request a (wants.Call x op) until) may = may.1.1
+has_place objects T (inputs.Request a (wants.Commit v) until) may = tt
+has_place objects T (inputs.Request a wants.Abort until) may = tt
+has_place objects T (inputs.Request a (wants.GiveUp b) until) may = tt
+has_place objects T (inputs.Letter id) may = tt
+has_place objects T (inputs.Tell s to) may = may.1
+has_place objects T (inputs.Query s f) may = tt
+has_place objects T (inputs.Tick s moment) may = tt
+has_place objects T (inputs.Expire a) may = tt

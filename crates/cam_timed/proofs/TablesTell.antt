@@ -34,7 +34,7 @@ use Rattle.cam_timed.specs.declared.TimedEvent.{TimedEvent}
 use Rattle.cam_timed.specs.Moments.{events}
 use Rattle.cam_timed.specs.Travelling.{carrier, abort_paths, timed_informs}
 use Rattle.cam_timed.specs.TimedSights.{timed_sight}
-use Rattle.cam_timed.specs.TimedRules.{TimedInput, Puts, Ticks, Expires, timed_node_of, timed_got_of, timed_rule}
+use Rattle.cam_timed.specs.TimedRules.{TimedInput, WithoutTime, Ticks, Expires, timed_node_of, timed_got_of, timed_rule}
 use Rattle.cam_timed.specs.TimedRuns.{TimedMayCome, IsTimedRun}
 use Rattle.cam_timed.specs.KeptSights.{kept_sight, TablesTellTheRule}
 use Rattle.cam_timed.proofs.Told.{first_each}
@@ -121,16 +121,16 @@ of_action objects T a run there =
 rule_same : (objects : List ObjectDecl) (T : List TimedEvent) (input : TimedInput) → IsTimedRun objects T → TimedMayCome objects T input
     → timed_rule objects (timed_sight objects (events T) (timed_node_of T input) (timed_got_of input)) (mail_got (events T) (timed_got_of input)) input
     ≡ timed_rule objects (depending (timed_sight objects (events T) (timed_node_of T input) (timed_got_of input)) (kept_deps objects (events T) (timed_node_of T input) (timed_got_of input))) (mail_got (events T) (timed_got_of input)) input
-rule_same objects T (Puts (Begins s) until) run may = refl
-rule_same objects T (Puts (Requests r) until) run may =
+rule_same objects T (WithoutTime (Begins s) until) run may = refl
+rule_same objects T (WithoutTime (Requests r) until) run may =
     request_same objects (timed_sight objects (events T) (home_node r.action) None) (kept_deps objects (events T) (home_node r.action) None) r.action r.want
     (of_action objects T r.action run (refused_created (timed_sight objects (events T) (home_node r.action) None) r.action r.want
     (untimed_none (refusal (timed_sight objects (events T) (home_node r.action) None) r.action r.want) _ may.0).0))
-rule_same objects T (Puts (Receives letter) until) run may =
-    mail_same objects (events T) letter (timed_node_of T (Puts (Receives letter) until)) (letter_at (events T) letter) (timed_holds objects T run) (input_early objects T (Puts (Receives letter) until) may) refl refl
-rule_same objects T (Puts (Tells s to) until) run may = refl
-rule_same objects T (Puts (Queries s f) until) run may = refl
-rule_same objects T (Puts (Restarts s) until) run may = absurd may
+rule_same objects T (WithoutTime (Receives letter) until) run may =
+    mail_same objects (events T) letter (timed_node_of T (WithoutTime (Receives letter) until)) (letter_at (events T) letter) (timed_holds objects T run) (input_early objects T (WithoutTime (Receives letter) until) may) refl refl
+rule_same objects T (WithoutTime (Tells s to) until) run may = refl
+rule_same objects T (WithoutTime (Queries s f) until) run may = refl
+rule_same objects T (WithoutTime (Restarts s) until) run may = absurd may
 rule_same objects T (Ticks s moment) run may = refl
 rule_same objects T (Expires a) run may =
     ap (did (aborts (timed_sight objects (events T) (home_node a) None) a))

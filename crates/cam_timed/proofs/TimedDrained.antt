@@ -13,7 +13,7 @@ use Rattle.cam_timed.specs.declared.Pause.{Pause}
 use Rattle.cam_timed.specs.declared.TimedEvent.{TimedEvent}
 use Rattle.cam_timed.specs.Moments.{events}
 use Rattle.cam_timed.specs.TimedSights.{timed_sight}
-use Rattle.cam_timed.specs.TimedRules.{Puts, paused, timed_next}
+use Rattle.cam_timed.specs.TimedRules.{WithoutTime, paused, timed_next}
 use Rattle.cam_timed.specs.TimedRunning.{TimedRunning, by_time, deliver, letters, waiting_from, waiting, weight_of, weight_from, waiting_weight, deliver_waiting, deliveries}
 use Rattle.cam_timed.specs.TimedDraining.{TimedDeliveriesLower, TimedDrainsLeaveNone}
 use Rattle.cam_timed.proofs.Delivering.{letters_sent, waiting_numbered}
@@ -57,16 +57,16 @@ paused_light None d n h = h
 paused_light (Some pause) d n h = omega (arith, h)
 
 -- What is sent weighs less than what is received.
-falls : (objects : List ObjectDecl) (t : List TimedEvent) (letter : LetterId) → is_some (letter_at (events t) letter) ≡ true → sent_weight (timed_next objects t (Puts (Receives letter) 0)).event.sent < weight_of t letter
+falls : (objects : List ObjectDecl) (t : List TimedEvent) (letter : LetterId) → is_some (letter_at (events t) letter) ≡ true → sent_weight (timed_next objects t (WithoutTime (Receives letter) 0)).event.sent < weight_of t letter
 falls objects t letter there =
-    let e : TimedEvent = timed_next objects t (Puts (Receives letter) 0) in
+    let e : TimedEvent = timed_next objects t (WithoutTime (Receives letter) 0) in
     let d : Did = arrives_mail objects (timed_sight objects (events t) (node_of (events t) (Receives letter)) (Some letter)) (letter_at (events t) letter) in
     paused_light e.pause d (weight_of t letter)
     (mail_falls objects (timed_sight objects (events t) (node_of (events t) (Receives letter)) (Some letter)) (letter_at (events t) letter) (λ a. omega arith) there)
 
 pub deliveries_lower : TimedDeliveriesLower
 deliveries_lower objects r w at =
-    let e : TimedEvent = timed_next objects r.trace (Puts (Receives w.1) 0) in
+    let e : TimedEvent = timed_next objects r.trace (WithoutTime (Receives w.1) 0) in
     let there : In w.1 (letters r.trace) = waiting_numbered r 1 (letters r.trace) w at in
     let less = one_lowers (plainly r) e.event w (sym (waits r) ∙ at) (falls objects r.trace w.1 (letters_sent r.trace w.1 there)) in
     omega (arith, less, weighs r, weighs (deliver (by_time objects) r w.0 w.1))

@@ -10,12 +10,12 @@ use Rattle.cam_runs.specs.Running.{has_number}
 use Rattle.cam_timed.specs.declared.TimedAct.{TimedAct}
 use Rattle.cam_timed.specs.declared.TimedAct.TheVariants as acts
 use Rattle.cam_timed.specs.declared.course.Course.{Course}
-use Rattle.cam_timed.specs.declared.course.Taken.{Taken}
-use Rattle.cam_timed.specs.declared.course.Taken.TheVariants as takens
+use Rattle.cam_timed.specs.declared.course.LineOutcome.{LineOutcome}
+use Rattle.cam_timed.specs.declared.course.LineOutcome.TheVariants as line_outcomes
 use Rattle.cam_timed.specs.Machine.{KeepsTimedRun}
 use Rattle.cam_timed.specs.TimedRange.{ActInRange}
 use Rattle.cam_timed.specs.TimedRunning.{TimedRunning, letters, letter_of, is_out, waiting}
-use Rattle.cam_timed.specs.TimedScripts.{TimedTaken, Refused, Led}
+use Rattle.cam_timed.specs.TimedScripts.{TimedLineOutcome, Refused, GoesOn}
 
 -- The machine keeps the events of the run; which letters were delivered and which are lost is known
 -- by their numbers; the marks and what the variables stand for are those of the run.
@@ -34,18 +34,18 @@ IsCourse objects c = (r : TimedRunning) × KeepsRunning objects r c
 -- What a line comes to, where this is what it comes to by the rules of scripts: it is refused as
 -- there, and the run is kept as before; or what it leads to is kept, and its variable stands for
 -- the same.
-abbrev pub IsTaken : List ObjectDecl → TimedRunning → TimedTaken → Course → Taken → Type 0
-IsTaken objects r (Refused refusal) c (takens.Refused given) =
+abbrev pub IsLineOutcome : List ObjectDecl → TimedRunning → TimedLineOutcome → Course → LineOutcome → Type 0
+IsLineOutcome objects r (Refused refusal) c (line_outcomes.Refused given) =
     (given ≡ refusal) × KeepsRunning objects r c
-IsTaken objects r (Led running binds) c (takens.Led given) =
+IsLineOutcome objects r (GoesOn running binds) c (line_outcomes.GoesOn given) =
     (given ≡ binds) × KeepsRunning objects running c
-IsTaken objects r _ c _ = ⊥
+IsLineOutcome objects r _ c _ = ⊥
 
 -- So whichever run the course kept before the line.
 abbrev pub IsLine :
-    List ObjectDecl → (TimedRunning → TimedTaken) → Course → Course → Taken → Type 0
+    List ObjectDecl → (TimedRunning → TimedLineOutcome) → Course → Course → LineOutcome → Type 0
 IsLine objects line old new taken =
-    (r : TimedRunning) → KeepsRunning objects r old → IsTaken objects r (line r) new taken
+    (r : TimedRunning) → KeepsRunning objects r old → IsLineOutcome objects r (line r) new taken
 
 -- The run so far is kept, each step of which makes this of what stands.
 abbrev pub Follows :

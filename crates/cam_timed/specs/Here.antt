@@ -1,4 +1,4 @@
--- When tables stand for what a node goes by at an event, and what is put to it.
+-- When tables stand for what a node goes by at an event, and what it is given.
 use Rattle.std.specs.Prelude.{◌≡◌, ℕ, List, [], ◌∷◌, Option, Some, None}
 use Rattle.cam_names.specs.Names.{parent}
 use Rattle.cam_type.specs.declared.ObjectDecl.{ObjectDecl}
@@ -15,9 +15,9 @@ use Rattle.cam_own.specs.declared.all_nodes.AllNodes.{AllNodes}
 use Rattle.cam_own.specs.Own.{KeepsOwn}
 use Rattle.cam_own.specs.AllNodes.{KeepsAllNodes}
 use Rattle.cam_rules.specs.Untested.{HasPlace}
-use Rattle.cam_timed.specs.declared.ruled.Put.{Put}
-use Rattle.cam_timed.specs.declared.ruled.Put.TheVariants as puts
-use Rattle.cam_timed.specs.TimedRules.{TimedInput, Puts, Ticks, Expires}
+use Rattle.cam_timed.specs.declared.ruled.NodeInput.{NodeInput}
+use Rattle.cam_timed.specs.declared.ruled.NodeInput.TheVariants as inputs
+use Rattle.cam_timed.specs.TimedRules.{TimedInput, WithoutTime, Ticks, Expires}
 
 -- each child that was asked for is one of the action that asked
 abbrev pub AskedByParents : List Deed → Type 0
@@ -35,15 +35,15 @@ pub record StandHere (objects : List ObjectDecl) (t : List Event) (s : ℕ) (fir
   pub count : count (after (own_deeds (entries t s)) first) s ≡ 1
   pub asked : AskedByParents (after (own_deeds (entries t s)) first)
 
--- what is put to a node, as the rules by time name it
-abbrev pub input_of : Put → TimedInput
-input_of (puts.Begin s until) = Puts (Begins s) until
-input_of (puts.Request a want until) = Puts (Requests (record { action = a; want = want })) until
-input_of (puts.Letter id) = Puts (Receives id) 0
-input_of (puts.Tell s to) = Puts (Tells s to) 0
-input_of (puts.Query s f) = Puts (Queries s f) 0
-input_of (puts.Tick s moment) = Ticks s moment
-input_of (puts.Expire a) = Expires a
+-- what a node is given, as the rules by time name it
+abbrev pub input_of : NodeInput → TimedInput
+input_of (inputs.Begin s until) = WithoutTime (Begins s) until
+input_of (inputs.Request a want until) = WithoutTime (Requests (record { action = a; want = want })) until
+input_of (inputs.Letter id) = WithoutTime (Receives id) 0
+input_of (inputs.Tell s to) = WithoutTime (Tells s to) 0
+input_of (inputs.Query s f) = WithoutTime (Queries s f) 0
+input_of (inputs.Tick s moment) = Ticks s moment
+input_of (inputs.Expire a) = Expires a
 
 -- a letter comes from a node
 abbrev pub ComesFromNode : Option Mail → Type 0
@@ -51,11 +51,11 @@ ComesFromNode None = Unit {0}
 ComesFromNode (Some mail) = IsNode mail.from
 
 -- a child or a call that is asked for has a place, and what is told goes to a node
-abbrev pub HasPlaceHere : List ObjectDecl → Put → Type 0
-HasPlaceHere objects (puts.Begin s until) = Unit {0}
-HasPlaceHere objects (puts.Request a want until) = HasPlace objects a want
-HasPlaceHere objects (puts.Letter id) = Unit {0}
-HasPlaceHere objects (puts.Tell s to) = IsNode to
-HasPlaceHere objects (puts.Query s f) = Unit {0}
-HasPlaceHere objects (puts.Tick s moment) = Unit {0}
-HasPlaceHere objects (puts.Expire a) = Unit {0}
+abbrev pub HasPlaceHere : List ObjectDecl → NodeInput → Type 0
+HasPlaceHere objects (inputs.Begin s until) = Unit {0}
+HasPlaceHere objects (inputs.Request a want until) = HasPlace objects a want
+HasPlaceHere objects (inputs.Letter id) = Unit {0}
+HasPlaceHere objects (inputs.Tell s to) = IsNode to
+HasPlaceHere objects (inputs.Query s f) = Unit {0}
+HasPlaceHere objects (inputs.Tick s moment) = Unit {0}
+HasPlaceHere objects (inputs.Expire a) = Unit {0}

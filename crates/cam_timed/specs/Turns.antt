@@ -1,4 +1,4 @@
--- The turn of a node: an input is put to it, and it makes an event.
+-- The turn of a node: an input comes to it, and it makes an event.
 use Rattle.std.specs.Prelude.{◌≡◌, ℕ, List, Option, Some, None}
 use Rattle.cam_type.specs.declared.ObjectDecl.{ObjectDecl}
 use Rattle.cam_event.specs.declared.Deed.{Deed}
@@ -15,7 +15,7 @@ use Rattle.cam_timed.specs.declared.machine.Letter.{Letter}
 use Rattle.cam_timed.specs.declared.machine.Node.{Node}
 use Rattle.cam_timed.specs.declared.machine.Shared.{Shared}
 use Rattle.cam_timed.specs.declared.machine.deciding.Decided.{Decided}
-use Rattle.cam_timed.specs.declared.ruled.Put.{Put}
+use Rattle.cam_timed.specs.declared.ruled.NodeInput.{NodeInput}
 use Rattle.cam_timed.specs.Here.{input_of}
 use Rattle.cam_timed.specs.Machine.{KeepsLetter, KeepsLetters, deeds_of, id_of}
 use Rattle.cam_timed.specs.Moments.{events, moment_of}
@@ -30,18 +30,18 @@ IsLetterOf t None None = Unit {0}
 IsLetterOf t (Some id) (Some letter) = (letter.id ≡ id) × KeepsLetter t letter
 IsLetterOf t _ _ = ⊥
 
--- an input that may come is put to its node, with its letter
-pub record IsTurn (objects : List ObjectDecl) (t : List TimedEvent) (s : ℕ) (put : Put)
+-- an input that may come is given to its node, with its letter
+pub record IsTurn (objects : List ObjectDecl) (t : List TimedEvent) (s : ℕ) (input : NodeInput)
     (letter : Option Letter) : Type 0 where
   pub run : IsTimedRun objects t
-  pub may : TimedMayCome objects t (input_of put)
-  pub node : timed_node_of t (input_of put) ≡ s
+  pub may : TimedMayCome objects t (input_of input)
+  pub node : timed_node_of t (input_of input) ≡ s
   pub range : IsNode s
-  pub comes : IsLetterOf t (timed_got_of (input_of put)) letter
+  pub comes : IsLetterOf t (timed_got_of (input_of input)) letter
 
 -- these are the first Informs of its event
-abbrev pub AreFirst : List TimedEvent → ℕ → Put → List Deed → Type 0
-AreFirst t s put first = first ≡ timed_informs (events t) s (timed_got_of (input_of put))
+abbrev pub AreFirst : List TimedEvent → ℕ → NodeInput → List Deed → Type 0
+AreFirst t s input first = first ≡ timed_informs (events t) s (timed_got_of (input_of input))
 
 -- the tables of the node and of all have the first Informs besides
 pub record KeepsFirst (objects : List ObjectDecl) (t : List TimedEvent) (s : ℕ)

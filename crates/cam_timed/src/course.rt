@@ -3,7 +3,7 @@ ghost use Rattle.std.specs.Prelude.{◌≡◌, IfOk, List, OnOk};
 ghost use Rattle.cam_type.specs.declared.ObjectDecl.{ObjectDecl};
 ghost use Rattle.cam_event.specs.declared.LineRefusal.TheVariants as refusals;
 ghost use Rattle.cam_timed.specs.declared.refusing.TimedRefusal.TheVariants as timed;
-ghost use Rattle.cam_timed.specs.declared.course.Taken.TheVariants as takens;
+ghost use Rattle.cam_timed.specs.declared.course.LineOutcome.TheVariants as line_outcomes;
 ghost use Rattle.cam_timed.specs.Courses.{Follows, IsCourse, IsLine, KeepsRunning, MayTake, variable_in};
 ghost use Rattle.cam_timed.specs.TimedRunning.{by_time, timed_start};
 ghost use Rattle.cam_timed.specs.TimedScripts.{after_line, mark_of, timed_act};
@@ -12,8 +12,8 @@ mod begin;
 mod drain;
 mod letters;
 mod moments;
+mod news;
 mod requests;
-mod told;
 
 use crate::machine::Machine;
 use crate::refusing::TimedRefusal;
@@ -25,11 +25,11 @@ use cam_type::Objects;
 use std::alloc::Global;
 use std::collections::BTreeSet;
 
-/// What a line comes to: it is refused, or it has led on and its variable stands for this action.
+/// What a line comes to: it is refused, or the run goes on and its variable stands for this action.
 #[derive(Clone, Copy)]
-pub(crate) enum Taken {
+pub(crate) enum LineOutcome {
     Refused(TimedRefusal),
-    Led(Option<Name>),
+    GoesOn(Option<Name>),
 }
 
 /// What stands after some lines: the machine, the numbers of the letters that were delivered and of
@@ -47,10 +47,10 @@ pub(crate) struct Course {
 }
 
 /// What a line comes to whose variable stands for no action.
-fn unbound() -> Taken
-    ensures { result ≡ takens.Refused (timed.Untimed refusals.Unbound) }
+fn unbound() -> LineOutcome
+    ensures { result ≡ line_outcomes.Refused (timed.Untimed refusals.Unbound) }
 {
-    Taken::Refused(TimedRefusal::Untimed(LineRefusal::Unbound))
+    LineOutcome::Refused(TimedRefusal::Untimed(LineRefusal::Unbound))
 }
 
 /// The mark of a line that is refused.
@@ -107,12 +107,12 @@ impl Course {
             self.old self.new) }
     {
         match self.act(objects, &step.act)? {
-            Taken::Refused(refusal) => {
+            LineOutcome::Refused(refusal) => {
                 self.marks.push_copy(&mark_of(step.line, &refusal))?;
                 self.bound.push_copy(&None)?;
                 Ok(())
             }
-            Taken::Led(binds) => {
+            LineOutcome::GoesOn(binds) => {
                 self.bound.push_copy(&binds)?;
                 Ok(())
             }
@@ -120,7 +120,7 @@ impl Course {
     }
 
     /// Does what a line says, unless it is refused.
-    fn act(&mut self, objects: &Objects, act: &TimedAct) -> Result<Taken, NoMemory>
+    fn act(&mut self, objects: &Objects, act: &TimedAct) -> Result<LineOutcome, NoMemory>
         requires some { IsCourse objects.now self.old }
         requires may { MayTake objects.now self.old.bound act.now }
         ensures { IfOk result (IsLine objects.now

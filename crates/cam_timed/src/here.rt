@@ -8,7 +8,7 @@ use crate::TimedTrace;
 use cam_base::NoMemory;
 use cam_event::{Deeds, Operation, Reply};
 use cam_names::{Deps, Name};
-use cam_own::{Own, AllNodes, answer, conflict};
+use cam_own::{AllNodes, Own, answer, conflict};
 use cam_rules::{Asked, Sighted};
 use cam_type::{Answer, Objects, Op};
 use std::alloc::Global;

@@ -8,7 +8,7 @@ ghost use Rattle.cam_event.specs.Runs.{IsNode};
 ghost use Rattle.cam_timed.specs.declared.TimedEvent.{TimedEvent as TimedEventFields};
 ghost use Rattle.cam_timed.specs.Here.{input_of};
 ghost use Rattle.cam_timed.specs.Machine.{KeepsTimedRun, run_of};
-ghost use Rattle.cam_timed.specs.TimedRules.{Puts, timed_got_of, timed_next, timed_node_of};
+ghost use Rattle.cam_timed.specs.TimedRules.{WithoutTime, timed_got_of, timed_next, timed_node_of};
 ghost use Rattle.cam_timed.specs.TimedRunning.{letters};
 ghost use Rattle.cam_timed.specs.TimedRuns.{TimedMayCome};
 ghost use Rattle.cam_timed.specs.TimedScripts.{named_in, newest_deeds};
@@ -22,12 +22,12 @@ mod stepping;
 mod taking;
 
 use crate::TimedTrace;
-use crate::ruled::Put;
+use crate::ruled::NodeInput;
 use crate::untils::Untils;
 use cam_base::{NoMemory, Sequence};
 use cam_event::{Deed, Deeds, LetterId};
 use cam_names::Name;
-use cam_own::{Mail, Own, AllNodes, first_informs};
+use cam_own::{AllNodes, Mail, Own, first_informs};
 use cam_rules::home_of;
 use cam_type::Objects;
 use hearing::{Heard, hear, reach_in, unheard};
@@ -72,13 +72,13 @@ pub(crate) struct Machine {
     shared: Shared,
 }
 
-/// An input that is put to a node, with the letter that it hands over.
+/// An input that is given to a node, with the letter that it hands over.
 #[derive(Clone, Copy)]
 pub(crate) struct Turn<'a> {
     pub(crate) alloc: Global,
     pub(crate) objects: &'a Objects,
     pub(crate) node: u8,
-    pub(crate) put: &'a Put,
+    pub(crate) input: &'a NodeInput,
     pub(crate) letter: &'a Option<Letter>,
 }
 
@@ -109,20 +109,20 @@ impl Machine {
     }
 
     /// Makes the event of an input that is no letter.
-    pub(crate) fn put(&mut self, objects: &Objects, put: &Put) -> Result<(), NoMemory>
+    pub(crate) fn step(&mut self, objects: &Objects, input: &NodeInput) -> Result<(), NoMemory>
         requires keeps { KeepsTimedRun objects.now (run_of self.old) self.old }
-        requires may { TimedMayCome objects.now (run_of self.old) (input_of put.now) }
-        requires line { timed_got_of (input_of put.now) ≡ None }
+        requires may { TimedMayCome objects.now (run_of self.old) (input_of input.now) }
+        requires line { timed_got_of (input_of input.now) ≡ None }
         ensures { OnOk result (KeepsTimedRun objects.now
-            (timed_next objects.now (run_of self.old) (input_of put.now) ∷ run_of self.old)
+            (timed_next objects.now (run_of self.old) (input_of input.now) ∷ run_of self.old)
             self.new) }
     {
         let none = None;
         let turn = Turn {
             alloc: self.alloc,
             objects,
-            node: node_of(put),
-            put,
+            node: node_of(input),
+            input,
             letter: &none,
         };
         self.take(&turn)
@@ -135,18 +135,18 @@ impl Machine {
         ensures { OnOk result ((letter : LetterIdFields)
             → slice_get (letters (run_of self.old)) place ≡ Some letter
             → KeepsTimedRun objects.now
-            (timed_next objects.now (run_of self.old) (Puts (Receives letter) 0) ∷ run_of self.old)
+            (timed_next objects.now (run_of self.old) (WithoutTime (Receives letter) 0) ∷ run_of self.old)
             self.new) }
     {
         let letter = self.shared.letters.as_slice()[place];
-        let put = Put::Letter { id: letter.id };
+        let input = NodeInput::Letter { id: letter.id };
         let node = letter.mail.to;
         let comes = Some(letter);
         let turn = Turn {
             alloc: self.alloc,
             objects,
             node,
-            put: &put,
+            input: &input,
             letter: &comes,
         };
         self.take(&turn)
@@ -155,10 +155,10 @@ impl Machine {
     /// A node takes a turn.
     fn take(&mut self, turn: &Turn) -> Result<(), NoMemory>
         requires keeps { KeepsTimedRun turn.now.objects.now (run_of self.old) self.old }
-        requires turn { IsTurn turn.now.objects.now (run_of self.old) turn.now.node turn.now.put.now
+        requires turn { IsTurn turn.now.objects.now (run_of self.old) turn.now.node turn.now.input.now
             turn.now.letter.now }
         ensures { OnOk result (KeepsTimedRun turn.now.objects.now
-            (timed_next turn.now.objects.now (run_of self.old) (input_of turn.now.put.now)
+            (timed_next turn.now.objects.now (run_of self.old) (input_of turn.now.input.now)
             ∷ run_of self.old) self.new) }
     {
         let first = self.first_informs(turn)?;
@@ -172,9 +172,9 @@ impl Machine {
     /// heard from that sender before.
     fn first_informs(&self, turn: &Turn) -> Result<Deeds, NoMemory>
         requires keeps { KeepsTimedRun turn.now.objects.now (run_of self.now) self.now }
-        requires turn { IsTurn turn.now.objects.now (run_of self.now) turn.now.node turn.now.put.now
+        requires turn { IsTurn turn.now.objects.now (run_of self.now) turn.now.node turn.now.input.now
             turn.now.letter.now }
-        ensures { IfOk result (AreFirst (run_of self.now) turn.now.node turn.now.put.now) }
+        ensures { IfOk result (AreFirst (run_of self.now) turn.now.node turn.now.input.now) }
     {
         let Some(letter) = turn.letter else {
             return Ok(Deeds::new(turn.alloc));
@@ -221,19 +221,19 @@ impl Machine {
 }
 
 /// The node for which an input is that is no letter.
-fn node_of(put: &Put) -> u8
-    ensures value { (t : List TimedEventFields) → timed_got_of (input_of put.now) ≡ None
-        → timed_node_of t (input_of put.now) ≡ result }
+fn node_of(input: &NodeInput) -> u8
+    ensures value { (t : List TimedEventFields) → timed_got_of (input_of input.now) ≡ None
+        → timed_node_of t (input_of input.now) ≡ result }
     ensures range { (objects : List ObjectDecl) (t : List TimedEventFields)
-        → TimedMayCome objects t (input_of put.now) → timed_got_of (input_of put.now) ≡ None
+        → TimedMayCome objects t (input_of input.now) → timed_got_of (input_of input.now) ≡ None
         → IsNode result }
 {
-    match put {
-        Put::Begin { node, .. }
-        | Put::Tell { node, .. }
-        | Put::Query { node, .. }
-        | Put::Tick { node, .. } => *node,
-        Put::Request { action, .. } | Put::Expire { action } => home_of(action),
-        Put::Letter { .. } => 0,
+    match input {
+        NodeInput::Begin { node, .. }
+        | NodeInput::Tell { node, .. }
+        | NodeInput::Query { node, .. }
+        | NodeInput::Tick { node, .. } => *node,
+        NodeInput::Request { action, .. } | NodeInput::Expire { action } => home_of(action),
+        NodeInput::Letter { .. } => 0,
     }
 }

@@ -12,10 +12,10 @@ use cam_names::Name;
 use cam_own::Mail;
 use cam_rules::{Did, abort_family, arrive, begin, query, request, tell};
 
-/// What is put to a node: an input without time, with the quiesce moment that a begin or an ask
+/// What a node is given: an input without time, with the quiesce moment that a begin or an ask
 /// gives; a moment; the end of a top action.
 #[derive(Clone, Copy)]
-pub(crate) enum Put {
+pub(crate) enum NodeInput {
     Begin {
         node: u8,
         until: u64,
@@ -46,27 +46,27 @@ pub(crate) enum Put {
 }
 
 /// What the rule makes, where this letter came.
-pub(crate) fn made(here: &Here, put: &Put, mail: &Option<Mail>) -> Result<Did, NoMemory>
+pub(crate) fn made(here: &Here, input: &NodeInput, mail: &Option<Mail>) -> Result<Did, NoMemory>
     requires stands { StandHere here.now.objects.now (events (reverse here.now.trace.now))
         here.now.node here.now.first.now here.now.own.now here.now.all_nodes.now }
     requires from { ComesFromNode mail.now }
-    requires place { HasPlaceHere here.now.objects.now put.now }
+    requires place { HasPlaceHere here.now.objects.now input.now }
     ensures { IfOk result (λ did. did ≡ timed_rule here.now.objects.now
         (kept_sight here.now.objects.now (events (reverse here.now.trace.now)) here.now.node
-        here.now.first.now) mail.now (input_of put.now)) }
+        here.now.first.now) mail.now (input_of input.now)) }
 {
-    match put {
-        Put::Begin { .. } => begin(here.alloc, here),
-        Put::Request { action, want, .. } => {
+    match input {
+        NodeInput::Begin { .. } => begin(here.alloc, here),
+        NodeInput::Request { action, want, .. } => {
             request(here.alloc, here, here.objects, action, want)
         }
-        Put::Letter { .. } => match mail {
+        NodeInput::Letter { .. } => match mail {
             Some(mail) => arrive(here.alloc, here, here.objects, mail.from, &mail.body),
             None => Ok(Did::nothing_but(here.alloc, &Note::Plain)),
         },
-        Put::Tell { to, .. } => tell(here.alloc, *to),
-        Put::Query { family, .. } => query(here.alloc, family),
-        Put::Tick { .. } => Ok(Did::nothing_but(here.alloc, &Note::Plain)),
-        Put::Expire { action } => abort_family(here.alloc, here, action),
+        NodeInput::Tell { to, .. } => tell(here.alloc, *to),
+        NodeInput::Query { family, .. } => query(here.alloc, family),
+        NodeInput::Tick { .. } => Ok(Did::nothing_but(here.alloc, &Note::Plain)),
+        NodeInput::Expire { action } => abort_family(here.alloc, here, action),
     }
 }

@@ -7,8 +7,8 @@ ghost use Rattle.cam_timed.specs.Courses.{IsCourse, IsLine};
 ghost use Rattle.cam_timed.specs.TimedRunning.{by_time};
 ghost use Rattle.cam_timed.specs.TimedScripts.{timed_act};
 
-use super::{Course, Taken};
-use crate::ruled::Put;
+use super::{Course, LineOutcome};
+use crate::ruled::NodeInput;
 use cam_base::NoMemory;
 use cam_type::Objects;
 
@@ -19,16 +19,17 @@ impl Course {
         objects: &Objects,
         node: u8,
         until: u64,
-    ) -> Result<Taken, NoMemory>
+    ) -> Result<LineOutcome, NoMemory>
         requires some { IsCourse objects.now self.old }
         requires node { IsNode node }
         ensures { IfOk result (IsLine objects.now
             (λ r. timed_act (by_time objects.now) r (acts.Begin node until)) self.old self.new) }
     {
         if let Some(refusal) = self.machine.begin_refusal(node, until) {
-            return Ok(Taken::Refused(refusal));
+            return Ok(LineOutcome::Refused(refusal));
         }
-        self.machine.put(objects, &Put::Begin { node, until })?;
-        Ok(Taken::Led(self.machine.named()))
+        self.machine
+            .step(objects, &NodeInput::Begin { node, until })?;
+        Ok(LineOutcome::GoesOn(self.machine.named()))
     }
 }

@@ -6,29 +6,33 @@ ghost use Rattle.cam_type.specs.declared.ObjectDecl.{ObjectDecl};
 ghost use Rattle.cam_event.specs.declared.LetterId.{LetterId};
 ghost use Rattle.cam_event.specs.declared.LineRefusal.TheVariants as refusals;
 ghost use Rattle.cam_timed.specs.declared.refusing.TimedRefusal.TheVariants as timed;
-ghost use Rattle.cam_timed.specs.declared.course.Taken.TheVariants as takens;
+ghost use Rattle.cam_timed.specs.declared.course.LineOutcome.TheVariants as line_outcomes;
 ghost use Rattle.cam_timed.specs.declared.TimedAct.TheVariants as acts;
 ghost use Rattle.cam_timed.specs.Courses.{IsCourse, IsLine, KeepsRunning, IsPlaceOf, WaitsAt};
 ghost use Rattle.cam_timed.specs.Machine.{run_of};
 ghost use Rattle.cam_timed.specs.TimedRunning.{TimedRunning, by_time, deliver, is_out, letters};
 ghost use Rattle.cam_timed.specs.TimedScripts.{timed_act};
 
-use super::{Course, Taken};
+use super::{Course, LineOutcome};
 use crate::refusing::TimedRefusal;
 use cam_base::NoMemory;
 use cam_event::LineRefusal;
 use cam_type::Objects;
 
 /// What a line comes to whose letter was not sent or is lost.
-fn no_letter() -> Taken
-    ensures { result ≡ takens.Refused (timed.Untimed refusals.NoLetter) }
+fn no_letter() -> LineOutcome
+    ensures { result ≡ line_outcomes.Refused (timed.Untimed refusals.NoLetter) }
 {
-    Taken::Refused(TimedRefusal::Untimed(LineRefusal::NoLetter))
+    LineOutcome::Refused(TimedRefusal::Untimed(LineRefusal::NoLetter))
 }
 
 impl Course {
     /// Delivers a letter.
-    pub(super) fn deliver(&mut self, objects: &Objects, letter: u32) -> Result<Taken, NoMemory>
+    pub(super) fn deliver(
+        &mut self,
+        objects: &Objects,
+        letter: u32,
+    ) -> Result<LineOutcome, NoMemory>
         requires some { IsCourse objects.now self.old }
         ensures { IfOk result (IsLine objects.now
             (λ r. timed_act (by_time objects.now) r (acts.Deliver letter)) self.old self.new) }
@@ -37,11 +41,11 @@ impl Course {
             return Ok(no_letter());
         };
         self.hand_over(objects, place)?;
-        Ok(Taken::Led(None))
+        Ok(LineOutcome::GoesOn(None))
     }
 
     /// Loses a letter.
-    pub(super) fn lose(&mut self, letter: u32) -> Result<Taken, NoMemory>
+    pub(super) fn lose(&mut self, letter: u32) -> Result<LineOutcome, NoMemory>
         ensures { IfOk result (λ taken. (objects : List ObjectDecl) → IsLine objects
             (λ r. timed_act (by_time objects) r (acts.Lose letter)) self.old self.new taken) }
     {
@@ -49,7 +53,7 @@ impl Course {
             return Ok(no_letter());
         };
         self.lost.insert(place + 1)?;
-        Ok(Taken::Led(None))
+        Ok(LineOutcome::GoesOn(None))
     }
 
     /// Hands the letter at a place to its node.

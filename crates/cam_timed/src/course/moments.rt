@@ -9,8 +9,8 @@ ghost use Rattle.cam_timed.specs.Courses.{IsCourse, IsLine, variable_in};
 ghost use Rattle.cam_timed.specs.TimedRunning.{by_time};
 ghost use Rattle.cam_timed.specs.TimedScripts.{timed_act};
 
-use super::{Course, Taken, unbound};
-use crate::ruled::Put;
+use super::{Course, LineOutcome, unbound};
+use crate::ruled::NodeInput;
 use cam_base::NoMemory;
 use cam_type::Objects;
 
@@ -21,21 +21,22 @@ impl Course {
         objects: &Objects,
         node: u8,
         moment: u64,
-    ) -> Result<Taken, NoMemory>
+    ) -> Result<LineOutcome, NoMemory>
         requires some { IsCourse objects.now self.old }
         requires node { IsNode node }
         ensures { IfOk result (IsLine objects.now
             (λ r. timed_act (by_time objects.now) r (acts.Tick node moment)) self.old self.new) }
     {
         if let Some(refusal) = self.machine.tick_refusal(node, moment) {
-            return Ok(Taken::Refused(refusal));
+            return Ok(LineOutcome::Refused(refusal));
         }
-        self.machine.put(objects, &Put::Tick { node, moment })?;
-        Ok(Taken::Led(None))
+        self.machine
+            .step(objects, &NodeInput::Tick { node, moment })?;
+        Ok(LineOutcome::GoesOn(None))
     }
 
     /// Aborts the top action that a variable stands for, whose quiesce moment has come.
-    pub(super) fn expire(&mut self, objects: &Objects, action: u32) -> Result<Taken, NoMemory>
+    pub(super) fn expire(&mut self, objects: &Objects, action: u32) -> Result<LineOutcome, NoMemory>
         requires some { IsCourse objects.now self.old }
         requires top { (a : NameFields)
             → variable_in self.old.bound action ≡ Some a → is_top a ≡ true }
@@ -46,9 +47,9 @@ impl Course {
             return Ok(unbound());
         };
         if let Some(refusal) = self.machine.expire_refusal(objects, &action) {
-            return Ok(Taken::Refused(refusal));
+            return Ok(LineOutcome::Refused(refusal));
         }
-        self.machine.put(objects, &Put::Expire { action })?;
-        Ok(Taken::Led(None))
+        self.machine.step(objects, &NodeInput::Expire { action })?;
+        Ok(LineOutcome::GoesOn(None))
     }
 }

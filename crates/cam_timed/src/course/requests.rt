@@ -8,8 +8,8 @@ ghost use Rattle.cam_timed.specs.Courses.{IsCourse, IsLine};
 ghost use Rattle.cam_timed.specs.TimedRunning.{by_time};
 ghost use Rattle.cam_timed.specs.TimedScripts.{of_variable, take_request, timed_act, variable};
 
-use super::{Course, Taken, unbound};
-use crate::ruled::Put;
+use super::{Course, LineOutcome, unbound};
+use crate::ruled::NodeInput;
 use cam_base::NoMemory;
 use cam_event::Want;
 use cam_names::Name;
@@ -23,7 +23,7 @@ impl Course {
         parent: u32,
         node: u8,
         until: u64,
-    ) -> Result<Taken, NoMemory>
+    ) -> Result<LineOutcome, NoMemory>
         requires some { IsCourse objects.now self.old }
         requires node { IsNode node }
         ensures { IfOk result (IsLine objects.now
@@ -35,17 +35,17 @@ impl Course {
         };
         let want = Want::Ask(node);
         if let Some(refusal) = self.machine.request_refusal(objects, &action, &want) {
-            return Ok(Taken::Refused(refusal));
+            return Ok(LineOutcome::Refused(refusal));
         }
-        self.machine.put(
+        self.machine.step(
             objects,
-            &Put::Request {
+            &NodeInput::Request {
                 action,
                 want,
                 until,
             },
         )?;
-        Ok(Taken::Led(self.machine.named()))
+        Ok(LineOutcome::GoesOn(self.machine.named()))
     }
 
     /// The action of a variable makes another request.
@@ -54,7 +54,7 @@ impl Course {
         objects: &Objects,
         action: u32,
         want: &Want,
-    ) -> Result<Taken, NoMemory>
+    ) -> Result<LineOutcome, NoMemory>
         requires some { IsCourse objects.now self.old }
         requires want { IsWant objects.now want.now }
         ensures { IfOk result (IsLine objects.now
@@ -73,7 +73,7 @@ impl Course {
         objects: &Objects,
         action: u32,
         child: u32,
-    ) -> Result<Taken, NoMemory>
+    ) -> Result<LineOutcome, NoMemory>
         requires some { IsCourse objects.now self.old }
         ensures { IfOk result (IsLine objects.now
             (λ r. timed_act (by_time objects.now) r (acts.GiveUp action child))
@@ -94,21 +94,21 @@ impl Course {
         objects: &Objects,
         action: &Name,
         want: &Want,
-    ) -> Result<Taken, NoMemory>
+    ) -> Result<LineOutcome, NoMemory>
         requires some { IsCourse objects.now self.old }
         requires want { IsWant objects.now want.now }
         ensures { IfOk result (IsLine objects.now
             (λ r. take_request (by_time objects.now) r action.now want.now) self.old self.new) }
     {
         if let Some(refusal) = self.machine.request_refusal(objects, action, want) {
-            return Ok(Taken::Refused(refusal));
+            return Ok(LineOutcome::Refused(refusal));
         }
-        let put = Put::Request {
+        let input = NodeInput::Request {
             action: *action,
             want: *want,
             until: 0,
         };
-        self.machine.put(objects, &put)?;
-        Ok(Taken::Led(None))
+        self.machine.step(objects, &input)?;
+        Ok(LineOutcome::GoesOn(None))
     }
 }

@@ -16,7 +16,7 @@ use super::{Letter, Node, Shared, Turn};
 use crate::Pause;
 use crate::here::Here;
 use crate::pausing::pause_of;
-use crate::ruled::{Put, made};
+use crate::ruled::{NodeInput, made};
 use crate::untils::{Untils, until_of};
 use cam_base::NoMemory;
 use cam_event::{Deeds, LetterId, Note, Want};
@@ -56,29 +56,29 @@ pub(crate) fn mail_of(letter: &Option<Letter>) -> Option<Mail>
 
 /// The moment of a node at the event: its own, or the letter's where that is greater, or the one of
 /// a tick.
-fn moment_by(put: &Put, own: u64, letter: &Option<Letter>) -> u64
-    ensures { (t : List TimedEvent) → result ≡ moment_by t (input_of put.now)
+fn moment_by(input: &NodeInput, own: u64, letter: &Option<Letter>) -> u64
+    ensures { (t : List TimedEvent) → result ≡ moment_by t (input_of input.now)
         (max own (option_map_or (λ l. l.moment) letter.now 0)) }
 {
     let now = match letter {
         Some(letter) => own.max(letter.moment),
         None => own,
     };
-    match put {
-        Put::Tick { moment, .. } => *moment,
+    match input {
+        NodeInput::Tick { moment, .. } => *moment,
         _ => now,
     }
 }
 
 /// The quiesce moment that an input gives: that of its line, of a child the smaller of that and its
 /// parent's.
-fn until_given(put: &Put, untils: &Untils) -> u64
+fn until_given(input: &NodeInput, untils: &Untils) -> u64
     ensures { (t : List TimedEvent) → TellsUntils t untils.now
-        → result ≡ until_given t (input_of put.now) }
+        → result ≡ until_given t (input_of input.now) }
 {
-    match put {
-        Put::Begin { until, .. } => *until,
-        Put::Request {
+    match input {
+        NodeInput::Begin { until, .. } => *until,
+        NodeInput::Request {
             action,
             want: Want::Ask(_),
             until,
@@ -88,11 +88,11 @@ fn until_given(put: &Put, untils: &Untils) -> u64
 }
 
 /// Why an event pauses, if it does: an arrival alone may.
-fn pause_by(put: &Put, untils: &Untils, now: u64, deeds: &Deeds) -> Option<Pause>
-    ensures { result ≡ pause_by (until_in untils.now) now (input_of put.now) deeds.now }
+fn pause_by(input: &NodeInput, untils: &Untils, now: u64, deeds: &Deeds) -> Option<Pause>
+    ensures { result ≡ pause_by (until_in untils.now) now (input_of input.now) deeds.now }
 {
-    match put {
-        Put::Letter { .. } => pause_of(untils, now, deeds),
+    match input {
+        NodeInput::Letter { .. } => pause_of(untils, now, deeds),
         _ => None,
     }
 }
@@ -114,14 +114,14 @@ pub(crate) fn decide(
     shared: &Shared,
     first: &Deeds,
 ) -> Result<Decided, NoMemory>
-    requires turn { IsTurn turn.now.objects.now (trace_of shared.now) turn.now.node turn.now.put.now
+    requires turn { IsTurn turn.now.objects.now (trace_of shared.now) turn.now.node turn.now.input.now
         turn.now.letter.now }
-    requires first { AreFirst (trace_of shared.now) turn.now.node turn.now.put.now first.now }
+    requires first { AreFirst (trace_of shared.now) turn.now.node turn.now.input.now first.now }
     requires keeps { KeepsFirst turn.now.objects.now (trace_of shared.now) turn.now.node first.now
         node.now shared.now }
     ensures event { IfOk result (λ decided.
         taken turn.now.node turn.now.letter.now first.now decided
-        ≡ timed_next turn.now.objects.now (trace_of shared.now) (input_of turn.now.put.now)) }
+        ≡ timed_next turn.now.objects.now (trace_of shared.now) (input_of turn.now.input.now)) }
     ensures calm { IfOk result (λ decided. AllByRecursion IsNoCrash decided.did.deeds) }
     ensures nodes { IfOk result (λ decided. AreAddressed decided.did.sent) }
 {
@@ -134,13 +134,13 @@ pub(crate) fn decide(
         trace: &shared.trace,
         first,
     };
-    let did = made(&here, turn.put, &mail_of(turn.letter))?;
-    let moment = moment_by(turn.put, node.moment, turn.letter);
-    let pause = pause_by(turn.put, &shared.untils, moment, &did.deeds);
+    let did = made(&here, turn.input, &mail_of(turn.letter))?;
+    let moment = moment_by(turn.input, node.moment, turn.letter);
+    let pause = pause_by(turn.input, &shared.untils, moment, &did.deeds);
     Ok(Decided {
         did: paused(turn.alloc, &pause, did),
         moment,
-        until: until_given(turn.put, &shared.untils),
+        until: until_given(turn.input, &shared.untils),
         pause,
     })
 }

@@ -1,4 +1,4 @@
-//! A node takes a turn: it makes the event of an input that is put to it.
+//! A node takes a turn: it makes the event of an input that comes to it.
 ghost use Rattle.std.specs.Prelude.{◌≡◌, ◌∷◌, OnOk};
 ghost use Rattle.cam_timed.specs.Here.{input_of};
 ghost use Rattle.cam_timed.specs.Machine.{KeepsNode, KeepsShared, trace_of};
@@ -18,19 +18,19 @@ pub(crate) fn step(
     shared: &mut Shared,
     first: Deeds,
 ) -> Result<(), NoMemory>
-    requires turn { IsTurn turn.now.objects.now (trace_of shared.old) turn.now.node turn.now.put.now
+    requires turn { IsTurn turn.now.objects.now (trace_of shared.old) turn.now.node turn.now.input.now
         turn.now.letter.now }
-    requires first { AreFirst (trace_of shared.old) turn.now.node turn.now.put.now first }
+    requires first { AreFirst (trace_of shared.old) turn.now.node turn.now.input.now first }
     requires node { KeepsNode turn.now.objects.now (trace_of shared.old) turn.now.node node.old }
     requires shared { KeepsShared turn.now.objects.now (trace_of shared.old) shared.old }
     ensures node { OnOk result (KeepsNode turn.now.objects.now
-        (timed_next turn.now.objects.now (trace_of shared.old) (input_of turn.now.put.now)
+        (timed_next turn.now.objects.now (trace_of shared.old) (input_of turn.now.input.now)
         ∷ trace_of shared.old) turn.now.node node.new) }
     ensures shared { OnOk result (KeepsShared turn.now.objects.now
-        (timed_next turn.now.objects.now (trace_of shared.old) (input_of turn.now.put.now)
+        (timed_next turn.now.objects.now (trace_of shared.old) (input_of turn.now.input.now)
         ∷ trace_of shared.old) shared.new) }
     ensures trace { OnOk result (trace_of shared.new
-        ≡ timed_next turn.now.objects.now (trace_of shared.old) (input_of turn.now.put.now)
+        ≡ timed_next turn.now.objects.now (trace_of shared.old) (input_of turn.now.input.now)
         ∷ trace_of shared.old) }
 {
     note_all(

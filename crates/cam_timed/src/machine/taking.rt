@@ -23,7 +23,7 @@ use crate::TimedEvent;
 use crate::untils::note_named;
 use cam_base::NoMemory;
 use cam_event::{Deeds, Event};
-use cam_own::{Own, AllNodes};
+use cam_own::{AllNodes, Own};
 use cam_rules::Did;
 use cam_type::Objects;
 use std::alloc::Global;

@@ -1,5 +1,5 @@
 use Rattle.cam_timed.specs.TimedRunning.{by_time, deliver}
-use Rattle.cam_timed.specs.TimedScripts.{Led}
+use Rattle.cam_timed.specs.TimedScripts.{GoesOn}
 use Rattle.std.proofs.Common.{None}
 use Rattle.cam_timed.proofs.CourseLetters.{delivery_so, no_letter_so, there_is}
 use Rattle.cam_timed.proofs.course.Course.deliver.Goals as goal
@@ -7,7 +7,7 @@ use Rattle.cam_timed.proofs.course.Course.deliver.Goals as goal
 pub returns-in_default : goal.returns-in_default
 returns-in_default c = λ r keeps.
     no_letter_so c.args.objects.now r c.args.self.now keeps c.args.letter
-    (λ letter. Led (deliver (by_time c.args.objects.now) r c.args.letter letter) None)
+    (λ letter. GoesOn (deliver (by_time c.args.objects.now) r c.args.letter letter) None)
     c.no_letter.result (c.in_default.ensures.place c.args.objects.now r keeps) c.no_letter.ensures
 
 pub hand_over-requires-clause-place : goal.hand_over-requires-clause-place

@@ -11,5 +11,5 @@ returns-in-Some-query_refusal c = λ r keeps.
 pub returns : goal.returns
 returns c = λ r keeps.
     query_led c.args.objects.now r c.args.self.now keeps c.args.node c.args.action
-    c.in-Some.action c.family-family.result c.in-Some.ensures c.family-family.ensures c.put.new.self
-    (sym c.in_default-query_refusal.is ∙ c.query_refusal.ensures) c.in_ok-put.ensures
+    c.in-Some.action c.family-family.result c.in-Some.ensures c.family-family.ensures c.step.new.self
+    (sym c.in_default-query_refusal.is ∙ c.query_refusal.ensures) c.in_ok-step.ensures

@@ -25,7 +25,7 @@ pub returns-in_default : goal.returns-in_default
 returns-in_default c =
     let T = run_of c.args.self.now in
     let s = c.args.turn.now.node in
-    let got = timed_got_of (input_of c.args.turn.now.put.now) in
+    let got = timed_got_of (input_of c.args.turn.now.input.now) in
     c.new.ensures ∙ sym (none_first (events T) s)
     ∙ ap (λ (g : Option LetterId). timed_informs (events T) s g)
     (sym (ap id_of c.in_default.is)
@@ -37,7 +37,7 @@ unheard-requires c =
     let T = run_of c.args.self.now in
     let nodes = c.args.self.now.nodes.items in
     let l = c.in-Some.letter in
-    let got = timed_got_of (input_of c.args.turn.now.put.now) in
+    let got = timed_got_of (input_of c.args.turn.now.input.now) in
     let keeps =
     (turn_letter T got l
     (subst (λ (o : Option Letter). IsLetterOf T got o) c.in-Some.is c.requires.turn.comes)).1 in
@@ -58,7 +58,7 @@ unheard-requires-2 c =
     let T = run_of c.args.self.now in
     let nodes = c.args.self.now.nodes.items in
     let l = c.in-Some.letter in
-    let got = timed_got_of (input_of c.args.turn.now.put.now) in
+    let got = timed_got_of (input_of c.args.turn.now.input.now) in
     let keeps =
     (turn_letter T got l
     (subst (λ (o : Option Letter). IsLetterOf T got o) c.in-Some.is c.requires.turn.comes)).1 in
@@ -80,7 +80,7 @@ returns c =
     let nodes = c.args.self.now.nodes.items in
     let s = c.args.turn.now.node in
     let l = c.in-Some.letter in
-    let got = timed_got_of (input_of c.args.turn.now.put.now) in
+    let got = timed_got_of (input_of c.args.turn.now.input.now) in
     let both =
     turn_letter T got l
     (subst (λ (o : Option Letter). IsLetterOf T got o) c.in-Some.is c.requires.turn.comes) in

@@ -29,14 +29,14 @@ returns c =
     let objects = c.args.turn.now.objects.now in
     let s = c.args.turn.now.node in
     let T = run_of c.args.self.now in
-    let put = c.args.turn.now.put.now in
-    let e = timed_next objects T (input_of put) in
+    let input = c.args.turn.now.input.now in
+    let e = timed_next objects T (input_of input) in
     let from = c.requires.turn.range.0 in
     let to = c.requires.turn.range.1 in
     let eight = c.requires.keeps.eight in
     on_ok_weaker c.hear.result
     (λ heard. record {
-      run = run_after objects T put c.requires.keeps.run c.requires.turn.may;
+      run = run_after objects T input c.requires.keeps.run c.requires.turn.may;
       trace = c.in_ok-step.ensures.trace;
       eight = length-set c.args.self.now.nodes.items (s - 1) c.step.new.node ∙ eight;
       nodes =
@@ -45,7 +45,7 @@ returns c =
           (subst (λ (n : ℕ). KeepsNode objects (e ∷ T) n c.step.new.node) (sym (back s from))
           c.in_ok-step.ensures.node) c.requires.keeps.nodes;
       heard =
-          hears_kept objects T s put c.args.turn.now.letter.now c.args.self.now.heard
+          hears_kept objects T s input c.args.turn.now.letter.now c.args.self.now.heard
           c.hear.new.heard c.requires.turn heard c.requires.keeps.heard;
       shared = c.in_ok-step.ensures.shared;
     }) c.hear.ensures

@@ -3,7 +3,7 @@ use Rattle.cam_timed.proofs.Deciding.{first_calm}
 use Rattle.cam_timed.proofs.machine.stepping.step.Goals as goal
 
 pub note_all-requires : goal.note_all-requires
-note_all-requires c = first_calm c.args.turn.now.objects.now (trace_of c.args.shared.now) c.args.turn.now.node c.args.turn.now.put.now c.args.first c.requires.first
+note_all-requires c = first_calm c.args.turn.now.objects.now (trace_of c.args.shared.now) c.args.turn.now.node c.args.turn.now.input.now c.args.first c.requires.first
 
 pub decide-requires-clause-keeps : goal.decide-requires-clause-keeps
 decide-requires-clause-keeps c = record {
@@ -24,4 +24,4 @@ take_over-requires-clause-first c = record {
 }
 
 pub take_over-requires-clause-first_calm : goal.take_over-requires-clause-first_calm
-take_over-requires-clause-first_calm c = first_calm c.args.turn.now.objects.now (trace_of c.args.shared.now) c.args.turn.now.node c.args.turn.now.put.now c.args.first c.requires.first
+take_over-requires-clause-first_calm c = first_calm c.args.turn.now.objects.now (trace_of c.args.shared.now) c.args.turn.now.node c.args.turn.now.input.now c.args.first c.requires.first

@@ -2,7 +2,7 @@ use Rattle.std.proofs.Common.{Option, None, sym, subst}
 use Rattle.cam_event.specs.declared.LetterId.{LetterId}
 use Rattle.cam_timed.specs.Machine.{run_of}
 use Rattle.cam_timed.specs.Turns.{IsLetterOf}
-use Rattle.cam_timed.proofs.machine.Machine.put.Goals as goal
+use Rattle.cam_timed.proofs.machine.Machine.step.Goals as goal
 
 pub take-requires-clause-turn : goal.take-requires-clause-turn
 take-requires-clause-turn c =

@@ -7,16 +7,21 @@ ghost use Rattle.cam_timed.specs.Courses.{IsCourse, IsLine};
 ghost use Rattle.cam_timed.specs.TimedRunning.{by_time};
 ghost use Rattle.cam_timed.specs.TimedScripts.{timed_act};
 
-use super::{Course, Taken, unbound};
+use super::{Course, LineOutcome, unbound};
 use crate::refusing::TimedRefusal;
-use crate::ruled::Put;
+use crate::ruled::NodeInput;
 use cam_base::NoMemory;
 use cam_event::LineRefusal;
 use cam_type::Objects;
 
 impl Course {
     /// A node tells another what it knows.
-    pub(super) fn tell(&mut self, objects: &Objects, node: u8, to: u8) -> Result<Taken, NoMemory>
+    pub(super) fn tell(
+        &mut self,
+        objects: &Objects,
+        node: u8,
+        to: u8,
+    ) -> Result<LineOutcome, NoMemory>
         requires some { IsCourse objects.now self.old }
         requires node { IsNode node }
         requires to { IsNode to }
@@ -25,10 +30,10 @@ impl Course {
     {
         if node == to {
             let refusal = TimedRefusal::Untimed(LineRefusal::NothingToDo);
-            return Ok(Taken::Refused(refusal));
+            return Ok(LineOutcome::Refused(refusal));
         }
-        self.machine.put(objects, &Put::Tell { node, to })?;
-        Ok(Taken::Led(None))
+        self.machine.step(objects, &NodeInput::Tell { node, to })?;
+        Ok(LineOutcome::GoesOn(None))
     }
 
     /// A node asks after the family of the action that a variable stands for.
@@ -37,7 +42,7 @@ impl Course {
         objects: &Objects,
         node: u8,
         action: u32,
-    ) -> Result<Taken, NoMemory>
+    ) -> Result<LineOutcome, NoMemory>
         requires some { IsCourse objects.now self.old }
         requires node { IsNode node }
         ensures { IfOk result (IsLine objects.now
@@ -48,9 +53,10 @@ impl Course {
         };
         let family = action.family();
         if let Some(refusal) = self.machine.query_refusal(objects, node, &family) {
-            return Ok(Taken::Refused(TimedRefusal::Untimed(refusal)));
+            return Ok(LineOutcome::Refused(TimedRefusal::Untimed(refusal)));
         }
-        self.machine.put(objects, &Put::Query { node, family })?;
-        Ok(Taken::Led(None))
+        self.machine
+            .step(objects, &NodeInput::Query { node, family })?;
+        Ok(LineOutcome::GoesOn(None))
     }
 }
