@@ -24,7 +24,7 @@ use Rattle.cam_own.proofs.Sites.{is_declared}
 abbrev on : ℕ → Operation → Bool
 on x o = eqb o.object x
 
--- what a performed operation adds at an object, where it is not dropped at once
+-- what a performed operation adds at an object, if it is not dropped at once
 added :
     (objects : List ObjectDecl) (L : List Deed) (a : Name) (n : ℕ) (answer : Answer)
     (os : List Operation) (x : ℕ) → of_call a n answer (call_of L a n) ≡ os

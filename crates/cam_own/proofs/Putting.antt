@@ -45,7 +45,7 @@ puts old mid new b r names is kept put a =
     by true same = is
     by false other = kept a (name_eq_sym b a ∙ other)
 
--- a list has something where it is not empty
+-- a list has something if it is not empty
 pub any_there : (names : List Name) → list_any (λ c. true) names ≡ not (eqb (length names) 0)
 any_there [] = refl
 any_there (b ∷ names) = grind arith

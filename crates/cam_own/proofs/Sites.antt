@@ -13,7 +13,7 @@ use Rattle.cam_event.specs.Live.{live, live_at, live_on, site_of}
 use Rattle.cam_event.proofs.Snoc.{filter_filter, filter_same}
 use Rattle.cam_own.specs.Live.{KeepsLive, operations_in}
 
--- an object that stands at a node is declared
+-- an object of a node is declared
 pub is_declared : (objects : List ObjectDecl) (x : ℕ) → 1 ≤ site_of objects x → x < length objects
 is_declared objects x some = by (leb_tells (length objects) x)
   where
@@ -125,7 +125,7 @@ any_here objects s x p (o ∷ os) at there = by (eqb o.object x) refl (any_here 
         sym (ap (λ (b : Bool). list_any p (if b then o ∷ on else on)) other) ∙ there in
         more (eqb (site_of objects o.object) s) (rest has)
 
--- and where nothing passes on an object of the site, nothing does at the site.
+-- and if nothing passes on an object of the site, nothing does at the site.
 none_here :
     (objects : List ObjectDecl) (s : ℕ) (p : Operation → Bool) (os : List Operation)
     → ((x : ℕ) → site_of objects x ≡ s → list_any p (filter (λ o. eqb o.object x) os) ≡ false)

@@ -15,7 +15,7 @@ is_parent a b = option_map_or (name_eq a) (parent b) false
 abbrev pub without : Name → List Name → List Name
 without b names = filter (λ c. not (name_eq b c)) names
 
--- the children that an action has asked for and that are not decided, in order, where each decision is
+-- the children that an action has asked for and that are not decided, in order, if each decision is
 -- of a child of its parent
 abbrev pub open_of : List Deed → Name → List Name
 open_of [] a = []

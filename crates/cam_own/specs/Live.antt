@@ -11,7 +11,7 @@ use Rattle.cam_event.specs.Live.{live_on, site_of}
 abbrev pub operations_in : {S : Type 0} → HashMap ℕ (List Operation) S → ℕ → List Operation
 operations_in live x = unwrap_or (get eqb live x) []
 
--- The table has those of each object that stands at a node.
+-- The table has those of each object of a node.
 abbrev pub KeepsLive : {S : Type 0} → List ObjectDecl → List Deed
     → HashMap ℕ (List Operation) S → Type 0
 KeepsLive objects L live =

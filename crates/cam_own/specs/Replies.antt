@@ -16,7 +16,7 @@ call_eq c d = name_eq c.action d.action && eqb c.number d.number
 abbrev pub call_name : Name → ℕ → CallName
 call_name a n = record { action = a; number = n }
 
--- The table has the reply to each call, where no node has crashed.
+-- The table has the reply to each call, if no node has crashed.
 abbrev pub KeepsReplies : {S : Type 0} → List Deed → HashMap CallName Reply S → Type 0
 KeepsReplies L replies = (a : Name) (n : ℕ) → get call_eq replies (call_name a n) ≡ kept_reply L a n
 

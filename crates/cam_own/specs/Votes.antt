@@ -32,7 +32,7 @@ abbrev pub BeginsVotes : {S : Type 0} → Note → HashMap Name (List (ℕ × �
     → HashMap Name (List (ℕ × ℕ)) S → Type 0
 BeginsVotes note old new = (f : Name) → get name_eq new f ≡ after_note f note (get name_eq old f)
 
--- the new table has one vote yes besides, where the family is preparing
+-- the new table has one vote yes more, if the family is preparing
 abbrev pub AddsYes : {S : Type 0} → Name → ℕ → ℕ → HashMap Name (List (ℕ × ℕ)) S
     → HashMap Name (List (ℕ × ℕ)) S → Type 0
 AddsYes g s c old new =

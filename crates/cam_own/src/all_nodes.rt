@@ -48,7 +48,7 @@ impl AllNodes {
         }
     }
 
-    /// Takes one more deed over, which is no crash.
+    /// Takes one more deed, which is no crash.
     pub fn note(&mut self, alloc: Global, objects: &Objects, deed: &Deed) -> Result<(), NoMemory>
         requires { IsNoCrash deed.now }
         ensures { OnOk result ((L : List DeedValue) → KeepsAllNodes objects.now L self.old
@@ -69,7 +69,7 @@ impl AllNodes {
         nodes_in(&self.depending, action)
     }
 
-    /// The live operations on an object of a site: none if the object stands elsewhere.
+    /// The live operations on an object of a site: none if the object is elsewhere.
     pub fn live_on(&self, objects: &Objects, site: u8, object: u8) -> &Operations
         requires { 1 ≤ site }
         ensures { (L : List DeedValue) → KeepsAllNodes objects.now L self.now

@@ -16,7 +16,7 @@ pub struct Informed {
 }
 
 impl Informed {
-    /// Of nothing.
+    /// Nothing yet.
     pub(crate) fn new(alloc: Global) -> Informed
         ensures { (s : ℕ) → KeepsInformed [] s result }
     {

@@ -1,4 +1,4 @@
-//! The first Informs of an event of a node, where a letter tells of these outcomes.
+//! The first Informs of an event of a node, if its letter brings these outcomes.
 ghost use Rattle.std.specs.Prelude.{◌≡◌, ◌∷◌, ◌++◌, not, true, false, ℕ, List, filter, map, IfOk, OnOk};
 ghost use Rattle.cam_names.specs.declared.name.Name.{Name as NameFields};
 ghost use Rattle.cam_type.specs.declared.ObjectDecl.{ObjectDecl};
@@ -16,7 +16,7 @@ use cam_names::Name;
 use std::alloc::Global;
 use std::collections::BTreeSet;
 
-/// The first Informs of an event of the node, where a letter tells of these aborts and commits: one for each
+/// The first Informs of an event of the node, if its letter brings these aborts and commits: one for each
 /// of which the node was not informed, aborts first, then commits, each in order of names.
 pub fn first_informs(
     alloc: Global,

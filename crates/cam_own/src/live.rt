@@ -144,7 +144,7 @@ fn drop_at(live: &mut Live, alloc: Global, object: usize, name: &Name) -> Result
     Ok(())
 }
 
-/// The node where the object at a place stands, and 0 where none is declared there.
+/// The node of the object at a place, or 0 if none is declared there.
 fn site_at(objects: &Objects, place: usize) -> u8
     ensures { result ≡ site_of objects.now place }
 {

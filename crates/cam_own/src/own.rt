@@ -60,7 +60,7 @@ impl Own {
         }
     }
 
-    /// Takes one more deed of the node over, which is no crash.
+    /// Takes one more deed of the node, which is no crash.
     pub fn note(&mut self, alloc: Global, objects: &Objects, deed: &Deed) -> Result<(), NoMemory>
         requires { IsNoCrash deed.now }
         ensures { OnOk result ((s : ℕ) (L : List DeedValue) (E : List Entry)
@@ -76,7 +76,7 @@ impl Own {
         self.informed.note(node, deed)
     }
 
-    /// Takes one more event of the node over, whose deeds it has: the letter that came and the note.
+    /// Takes one more event of the node, whose deeds it has: the letter that came and the note.
     pub fn note_event(
         &mut self,
         alloc: Global,

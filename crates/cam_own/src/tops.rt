@@ -42,7 +42,7 @@ pub(crate) fn note_top(tops: &mut Tops, deed: &Deed) -> Result<(), NoMemory>
     }
 }
 
-/// One more top action of its home, where it is one.
+/// One more top action of its home, if it is one.
 #[tactic(auto, using(crate::proofs::Topping::child_put))]
 fn note_created(tops: &mut Tops, action: &Name) -> Result<(), NoMemory>
     ensures { OnOk result ((L : List Deed) → KeepsTops L tops.old

@@ -1,4 +1,4 @@
--- What stands against a line, by what the machine keeps.
+-- What refuses a line, by what the machine keeps.
 use Rattle.std.proofs.Common.{◌≡◌, ℕ, List, [], Option, Some, None, refl, sym, ap, ◌∙◌}
 use Rattle.cam_names.specs.declared.name.Name.{Name}
 use Rattle.cam_names.specs.Names.{home_node}
@@ -19,7 +19,7 @@ use Rattle.cam_timed.proofs.Brought.{none_first}
 use Rattle.cam_timed.proofs.Standing.{refusal_kept, query_refusal_kept}
 use Rattle.cam_timed.proofs.TableSights.{kept_fields}
 
--- What stands against the end of a top action besides moments is by what tables have.
+-- What refuses the end of a top action, besides moments, follows from what tables have.
 abbrev against_end : Name → Sight → Option LineRefusal
 against_end a g =
     first_of_two (is_not_open g a) (where_so (knows_outcome g a) refusals.NothingToDo)

@@ -43,7 +43,7 @@ abbrev pub brought_aborts : List Event → Letter → List Name
 brought_aborts t letter =
     take letter.aborts (aborts_of (deeds_of t letter.mail.from) letter.mail.from)
 
--- They stand in the past of its sender, the aborts along the paths on which aborts travel.
+-- They are in the past of its sender, the aborts along the paths on which aborts travel.
 pub record Brings (t : List Event) (letter : Letter) (a : Name) : Type 0 where
   pub commits :
       list_any (name_eq a) (brought_commits t letter)

@@ -13,7 +13,7 @@ use Rattle.cam_timed.specs.Courses.{IsCourse, KeepsRunning, WaitsAt}
 use Rattle.cam_timed.proofs.CourseLetters.{out_so}
 use Rattle.cam_timed.proofs.TimedDrained.{deliveries_lower}
 
--- where none waits, deliveries change nothing
+-- if none waits, deliveries change nothing
 pub idle : (objects : List ObjectDecl) (n : ℕ) (r : TimedRunning) → waiting r ≡ None
     → deliveries (by_time objects) n r ≡ r
 idle objects zero r none = refl
@@ -66,7 +66,7 @@ drain_on objects r k letter at =
     ∙ same_end objects (waiting_weight r) (waiting_weight (deliver (by_time objects) r k letter))
     (deliver (by_time objects) r k letter) (omega (arith, less)) (omega arith)
 
--- and has ended where none waits.
+-- and has ended if none waits.
 pub drain_over : (objects : List ObjectDecl) (r : TimedRunning) → waiting r ≡ None
     → drain (by_time objects) r ≡ r
 drain_over objects r none = idle objects (waiting_weight r) r none

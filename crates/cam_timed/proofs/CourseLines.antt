@@ -1,4 +1,4 @@
--- What a line of a course by time comes to: it is refused, or the event of its input stands.
+-- What a line of a course by time comes to: it is refused, or the event of its input happens.
 use Rattle.std.proofs.Common.{◌≡◌, ℕ, List, [], ◌∷◌, ◌++◌, Option, Some, None, refl, sym, ap, ◌∙◌, subst}
 use Rattle.cam_names.specs.declared.name.Name.{Name}
 use Rattle.cam_names.specs.Names.{family}
@@ -54,7 +54,7 @@ module _ (objects : List ObjectDecl) (r : TimedRunning) (c : Course)
         bound = keeps.bound;
       }
 
-  -- a line against which something stands is refused as that says
+  -- a line that something refuses is refused as that says
   pub refused_so : (refusal : TimedRefusal) (o : Option TimedRefusal) (taken : TimedLineOutcome)
       → Some refusal ≡ o
       → IsLineOutcome objects r (unless_refused o taken) c (line_outcomes.Refused refusal)
@@ -79,7 +79,7 @@ module _ (objects : List ObjectDecl) (r : TimedRunning) (c : Course)
       subst (λ o. IsLineOutcome objects r (of_variable o line) new given)
       (e ∙ ap (λ bound. variable_in bound v) keeps.bound) taken
 
-  -- a line against which nothing stands has led so far
+  -- a line that nothing refuses goes on
   pub led_so : (o : Option TimedRefusal) (running : TimedRunning) (binds given : Option Name)
       (new : Course) → None ≡ o → given ≡ binds → KeepsRunning objects running new
       → IsLineOutcome objects r (unless_refused o (GoesOn running binds)) new (line_outcomes.GoesOn given)
@@ -141,7 +141,7 @@ module _ (objects : List ObjectDecl) (r : TimedRunning) (c : Course)
       (timed_next objects (run_of c.machine) (WithoutTime (Queries node g) 0) ∷ run_of c.machine) machine)
       is put)))
 
--- what stands after a line that is refused
+-- what is kept after a line that is refused
 pub refused_line : (objects : List ObjectDecl) (r : TimedRunning) (line : ℕ) (taken : TimedLineOutcome)
     (c : Course) (refusal : TimedRefusal) (left : List TimedMark) (bound : List (Option Name))
     → IsLineOutcome objects r taken c (line_outcomes.Refused refusal)

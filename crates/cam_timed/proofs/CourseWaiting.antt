@@ -32,7 +32,7 @@ skip r k (suc n) (l ∷ ls) out =
     later : (p : ℕ) → p < n → is_out r (k + 1 + p) ≡ true
     later p below = subst (λ m. is_out r m ≡ true) (moved p) (out (suc p) (omega arith))
 
--- the letter that waits, where all before this place are out
+-- the letter that waits, if all before this place are out
 module _ (r : TimedRunning) (place : ℕ)
     (out : (p : ℕ) → p < place → is_out r (p + 1) ≡ true) where
   swapped : (p : ℕ) → p + 1 ≡ 1 + p
@@ -43,12 +43,12 @@ module _ (r : TimedRunning) (place : ℕ)
       skip r 1 place (letters r.trace)
       (λ p below. subst (λ m. is_out r m ≡ true) (swapped p) (out p below))
 
-  -- none, where there are no more
+  -- none, if there are no more
   pub none_waits : length (letters r.trace) ≤ place → waiting r ≡ None
   none_waits all =
       from_here ∙ ap (waiting_from r (1 + place)) (drop_all place (letters r.trace) all)
 
-  -- else the one here, where it is not out
+  -- else the one here, if it is not out
   pub one_waits : place < length (letters r.trace) → is_out r (place + 1) ≡ false
       → WaitsAt r (Some place)
   one_waits there here = (

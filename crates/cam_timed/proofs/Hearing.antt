@@ -34,7 +34,7 @@ road_put old new m s r put k n =
     by true = refl
     by false = refl
 
--- nothing was heard where nothing has happened
+-- nothing was heard if nothing has happened
 pub none_heard : {S : Type 0} (heard : HashMap Road Reach S)
     → ((m s : ℕ) → reach_in heard m s ≡ nowhere) → KeepsHeard [] heard
 none_heard heard none m s =

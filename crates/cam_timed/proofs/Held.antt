@@ -33,7 +33,7 @@ nodes_know_what_they_hold objects T s got a run early =
     let told = first_by_told (events T) (abort_paths (events T)) s got (carrier (events T) got) (own_deeds (entries (events T) s)) (holds.told s) a in
     record { commits = sym (told true); aborts = sym (told false) }
 
--- what stands in the past of an event, as commits and as aborts travel
+-- what is in the past of an event, as commits and as aborts travel
 abbrev Told : List Event → ℕ → Name → Bool → Bool
 Told t j a o = known_in (plain t (λ i. in_past t i j)) (plain (abort_paths t) (λ i. in_past (abort_paths t) i j)) a o
 

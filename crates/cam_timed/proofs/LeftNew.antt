@@ -1,4 +1,4 @@
--- What is new among the first names of a list stands after those that are known.
+-- What is new among the first names of a list comes after those that are known.
 use Rattle.std.proofs.Common.{◌≡◌, ◌≤◌, if◌then◌else◌, ℕ, min, Bool, true, not, List, [], ◌∷◌, ◌++◌, filter, take, drop, refl, sym, ap, ◌∙◌, arith}
 use Rattle.std.specs.Prelude.{slice_range}
 use Rattle.std.specs.List.{list_any}
@@ -11,7 +11,7 @@ use Rattle.cam_names.specs.declared.name.Name.{Name}
 use Rattle.cam_names.specs.Names.{name_eq}
 use Rattle.cam_names.proofs.Names.{name_eq_refl}
 
--- none of the names is new where each is known
+-- none of the names is new if each is known
 none_new :
     (known : Name → Bool) (names : List Name)
     → ((a : Name) → list_any (name_eq a) names ≡ true → known a ≡ true)
@@ -34,7 +34,7 @@ any_first p n names there =
     ∙ list_any-append p (take n names) (drop n names)
     ∙ or_left (list_any p (take n names)) (list_any p (drop n names)) there
 
--- What is new among the first so many names, some of which were heard, stands after those.
+-- What is new among the first so many names, some of which were heard, comes after those.
 pub left_new :
     (known : Name → Bool) (names : List Name) (heard brought : ℕ)
     → ((a : Name) → list_any (name_eq a) (take heard names) ≡ true → known a ≡ true)

@@ -63,7 +63,7 @@ own_no_crash objects t s got holds r h = elim (in_after (timed_informs t s got) 
   | inr old ↦ absurd (omega (arith, crash_counts (plain_all t) r (own_in t every s (every_node t s) (Crash r) old), holds.no_crash r))
 ]
 
--- without crashes what stands of a site is what it performed
+-- without crashes what is left of a site is what it performed
 standing_performed : (H L : List Deed) (s : ℕ) → NoCrash L → map operation (standing H L s) ≡ performed_by (call_of H) L
 standing_performed H [] s none = refl
 standing_performed H (Perform a n answer ∷ L) s none =

@@ -1,4 +1,4 @@
--- The open children that tables have are those of the deeds, where each child was asked for by its parent.
+-- The open children that tables have are those of the deeds, if each child was asked for by its parent.
 use Rattle.std.proofs.Common.{◌≡◌, ◌⊎◌, inl, inr, Bool, true, false, not, ◌&&◌, ◌||◌, if◌then◌else◌, List, [], ◌∷◌, ◌++◌, filter, Option, Some, refl, sym, ap, ◌∙◌}
 use Rattle.std.specs.List.{list_any}
 use Rattle.std.specs.Option.{option_map_or}

@@ -100,7 +100,7 @@ all_new T e sender place (one ∷ more) is to at = (
   all_new T e sender (place + 1) more is to.1 (λ k. at (suc k) ∙ ap (slice_get e.event.sent) (omega arith)),
 )
 
--- So all stand in order of their numbers.
+-- So all are in order of their numbers.
 pub letters_kept : (T : List TimedEvent) (e : TimedEvent) (sender : Sender) (kept new : List Letter) → KeepsLetters T kept → IsSender T e sender → AreAddressed e.event.sent → new ≡ kept ++ posted sender 0 e.event.sent → KeepsLetters (e ∷ T) new
 letters_kept T e sender kept new keeps is to made = subst (KeepsLetters (e ∷ T)) (sym made) (record {
   ids = map-append (λ (l : Letter). l.id) kept (posted sender 0 e.event.sent) ∙ (λ i. keeps.ids i ++ (posted_ids sender 0 e.event.sent ∙ ap (λ n. ids_from n 0 e.event.sent) is.event) i);

@@ -82,7 +82,7 @@ stand_here objects T s got first own all_nodes run early node is keeps_own keeps
     holds : TimedHolds objects t
     holds = timed_holds objects T run
 
--- What stands against a line is by what tables have.
+-- What refuses a line follows from what tables have.
 pub refusal_kept : (objects : List ObjectDecl) (T : List TimedEvent) (s : ℕ) (a : Name) (want : Want) → IsTimedRun objects T
     → refusal (kept_sight objects (events T) s []) a want ≡ refusal (sight_here objects T s) a want
 refusal_kept objects T s a want run =

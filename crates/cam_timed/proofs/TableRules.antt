@@ -1,4 +1,4 @@
--- The rule of an input makes the same by what tables have of dependencies, where they have those of the actions that it asks after.
+-- The rule of an input makes the same by what tables have of dependencies, if they have those of the actions that it asks after.
 use Rattle.std.proofs.Common.{◌≡◌, ◌+◌, ℕ, eqb, Bool, true, false, not, ◌||◌, if◌then◌else◌, List, [], ◌∷◌, map, filter, Option, Some, None, unwrap_or, refl, sym, ap, ◌∙◌}
 use Rattle.cam_names.specs.declared.name.Name.{Name}
 use Rattle.cam_names.specs.Names.{parent}
@@ -45,7 +45,7 @@ quit_same h D b (Some p) e = refl
 quit_same h D b None e =
     ap (λ sent. if not (is_present h b) || knows_outcome h b then nothing_but notes.Late else did (aborts (untested h) b) sent) (news_same h D b (e refl))
 
--- a vote, which counts where the family is preparing
+-- a vote, which counts if the family is preparing
 vote_by : Sight → ℕ → Name → ℕ → Bool → Bool → List ℕ → Did
 vote_by h from f c agrees preparing cs =
     if not (is_present h f) || not preparing || knows_outcome h f then nothing_but notes.Late

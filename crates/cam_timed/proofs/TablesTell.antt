@@ -51,7 +51,7 @@ quit_created objects (d ∷ L) b legal (inl e) =
     or_right (is_create b d) (created L b) (runs_created L b (subst (λ (x : Deed). Line objects L x) (sym e) legal.0))
 quit_created objects (d ∷ L) b legal (inr r) = or_right (is_create b d) (created L b) (quit_created objects L b legal.1 r)
 
--- a request against which nothing stands is of an action that was created at its home
+-- a request that is not refused is of an action that was created at its home
 refused_created : (g : Sight) (a : Name) (want : Want) → refusal g a want ≡ None → created g.deeds a ≡ true
 refused_created g a (wants.Ask m) free =
     let rest = (first_none (has_call g a) _ (first_none (has_ended g a) _ free).1).1 in

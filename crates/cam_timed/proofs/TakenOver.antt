@@ -94,12 +94,12 @@ pub untils_taken : (T : List TimedEvent) (e : TimedEvent) (old new : BTreeMap Na
     → ((a : Name) → until_in new a ≡ (if list_any (names_first a) e.event.deeds then e.until else until_in old a)) → TellsUntils (e ∷ T) new
 untils_taken T e old new tells more a = more a ∙ ap (λ (n : ℕ). if list_any (names_first a) e.event.deeds then e.until else n) (tells a)
 
--- One more deed of a list stands after those before it.
+-- One more deed of a list comes after those before it.
 pub one_more : (L ds : List Deed) (i : ℕ) (d : Deed) → i < length ds → d ≡ get_or ds i d → after L (take (i + 1) ds) ≡ d ∷ after L (take i ds)
 one_more L ds i d less at =
     ap (after L) (take_more ds i d less ∙ ap (λ (x : Deed). take i ds ++ x ∷ []) (sym at)) ∙ after_append L (take i ds) (d ∷ [])
 
--- and is no crash where none of them is
+-- and is no crash if none of them is
 pub calm_at : (ds : List Deed) (i : ℕ) (d : Deed) → AllByRecursion IsNoCrash ds → i < length ds → d ≡ get_or ds i d → IsNoCrash d
 calm_at [] i d calm less at = absurd (omega (arith, less))
 calm_at (x ∷ ds) zero d calm less at = subst IsNoCrash (sym at) calm.0

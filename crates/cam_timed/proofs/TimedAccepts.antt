@@ -32,7 +32,7 @@ use Rattle.cam_timed.specs.TimedGrammar.{timed_forms, timed_nothing, behind, tim
 use Rattle.cam_timed.proofs.TimedRanges.{begin_in_range, ask_in_range, act_in_range}
 use Rattle.cam_timed.proofs.TimedStands.{without_variables, TimedStands, placed, timed_nothing_stands, after_timed, after_bound}
 
--- What the place of a line says of what stands before it.
+-- What the place of a line says of what comes before it.
 nodes_first : (b : Bool) (untimed : List Step) (steps : List TimedStep) → timed_may_stand (behind (if b then sections.AtNodes else section_outside untimed) steps) forms.Nodes ≡ true → b ≡ true
 nodes_first true untimed steps h = refl
 nodes_first false [] [] h = absurd (grind (arith, h))
@@ -48,7 +48,7 @@ no_steps_in_range : (objects : List ObjectDecl) (steps : List TimedStep) → ste
 no_steps_in_range objects [] e = tt
 no_steps_in_range objects (s ∷ steps) e = absurd (grind (arith, e))
 
--- where a line stands, once it is outside bodies
+-- where a line comes, once it is outside bodies
 stands_so : (d : TimedSoFar) (form : TimedForm) → d.declared.writing ≡ None → timed_may_stand (timed_section d) form ≡ true → timed_may_stand (behind (if d.declared.script.nodes == 0 then sections.AtNodes else section_outside d.declared.script.steps) d.steps) form ≡ true
 stands_so d form outside h = subst (λ (w : Option Writing). timed_may_stand (behind (section_by d.declared.script.nodes w d.declared.script.steps) d.steps) form ≡ true) outside h
 
@@ -148,7 +148,7 @@ pub gives_script : (lines : List (List ℕ)) (result : Result TimedScript Script
 gives_script lines (Ok script) e = subst (Holds IsTimedScript) e (lines_stand lines timed_nothing 1 timed_nothing_stands)
 gives_script lines (Err fault) e = tt
 
--- After a line that was read the lines go on with what stands there.
+-- After a line that was read the lines go on with what was read.
 pub goes_on : (d next : TimedSoFar) (number : ℕ) (line : List ℕ) (lines : List (List ℕ)) → read_timed_line d number line ≡ Ok next → read_timed_lines d number (line ∷ lines) ≡ read_timed_lines next (number + 1) lines
 goes_on d next number line lines e = ap (λ r. r >>= λ n. read_timed_lines n (number + 1) lines) e
 

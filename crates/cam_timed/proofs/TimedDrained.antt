@@ -71,7 +71,7 @@ deliveries_lower objects r w at =
     let less = one_lowers (plainly r) e.event w (sym (waits r) ∙ at) (falls objects r.trace w.1 (letters_sent r.trace w.1 there)) in
     omega (arith, less, weighs r, weighs (deliver (by_time objects) r w.0 w.1))
 
--- where none waits, deliveries change nothing
+-- if none waits, deliveries change nothing
 idle : (objects : List ObjectDecl) (n : ℕ) (r : TimedRunning) → waiting r ≡ None → waiting (deliveries (by_time objects) n r) ≡ None
 idle objects zero r none = none
 idle objects (suc n) r none = subst (λ o. waiting (deliveries (by_time objects) n (deliver_waiting (by_time objects) r o)) ≡ None) (sym none) (idle objects n r none)

@@ -20,7 +20,7 @@ use Rattle.cam_timed.specs.Moments.{events}
 use Rattle.cam_timed.specs.Travelling.{brings_aborts}
 use Rattle.cam_timed.proofs.ToldNames.{Grown, commits_after, aborts_after}
 
--- What a node did stands after what it did before one more event, which may be its own.
+-- What a node did comes after what it did before one more event, which may be its own.
 pub deeds_grown :
     (e : Event) (t : List Event) (m : ℕ)
     → (ds : List Deed) × (deeds_of (e ∷ t) m ≡ after (deeds_of t m) ds)

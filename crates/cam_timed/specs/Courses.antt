@@ -31,7 +31,7 @@ pub record KeepsRunning (objects : List ObjectDecl) (r : TimedRunning) (c : Cour
 abbrev pub IsCourse : List ObjectDecl → Course → Type 0
 IsCourse objects c = (r : TimedRunning) × KeepsRunning objects r c
 
--- What a line comes to, where this is what it comes to by the rules of scripts: it is refused as
+-- What a line comes to, if this is what it comes to by the rules of scripts: it is refused as
 -- there, and the run is kept as before; or what it leads to is kept, and its variable stands for
 -- the same.
 abbrev pub IsLineOutcome : List ObjectDecl → TimedRunning → TimedLineOutcome → Course → LineOutcome → Type 0
@@ -47,13 +47,13 @@ abbrev pub IsLine :
 IsLine objects line old new taken =
     (r : TimedRunning) → KeepsRunning objects r old → IsLineOutcome objects r (line r) new taken
 
--- The run so far is kept, each step of which makes this of what stands.
+-- The run so far is kept, each step of which makes this of what is kept.
 abbrev pub Follows :
     List ObjectDecl → (TimedRunning → TimedRunning) → Course → Course → Type 0
 Follows objects step old new =
     (r : TimedRunning) → KeepsRunning objects r old → KeepsRunning objects (step r) new
 
--- This is the place of the letter of a number, where it was sent and is not lost.
+-- This is the place of the letter of a number, if it was sent and is not lost.
 abbrev pub IsPlaceOf : TimedRunning → ℕ → Option ℕ → Type 0
 IsPlaceOf r k None = letter_of r k ≡ None
 IsPlaceOf r k (Some place) =
@@ -71,7 +71,7 @@ WaitsAt r (Some place) =
 abbrev pub variable_in : List (Option Name) → ℕ → Option Name
 variable_in bound v = unwrap_or (slice_get bound v) None
 
--- What a line owes, where its variables stand for these: it is in range, and an expiry is of a top
+-- What a line owes, if its variables stand for these: it is in range, and an expiry is of a top
 -- action.
 abbrev pub MayTake : List ObjectDecl → List (Option Name) → TimedAct → Type 0
 MayTake objects bound (acts.Expire v) = (a : Name) → variable_in bound v ≡ Some a → is_top a ≡ true

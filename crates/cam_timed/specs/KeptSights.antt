@@ -1,4 +1,4 @@
--- What a node goes by, where tables have it: its own deeds and events; which outcomes it was informed of; and of the deeds of all nodes
+-- What a node goes by, if tables have it: its own deeds and events; which outcomes it was informed of; and of the deeds of all nodes
 -- the live operations of its site, and on which nodes an action depends. No node crashes, so each count is 1.
 use Rattle.std.specs.Prelude.{◌≡◌, ℕ, true, false, List, None}
 use Rattle.cam_type.specs.declared.ObjectDecl.{ObjectDecl}

@@ -64,7 +64,7 @@ pub record KeepsLetter (t : List TimedEvent) (letter : Letter) : Type 0 where
       ≡ aborts_brought letter.mail.body
       (length (aborts_of (own_until (events t) letter.id.event) letter.mail.from))
 
--- the letters stand in order of their numbers
+-- the letters are in order of their numbers
 pub record KeepsLetters (t : List TimedEvent) (kept : List Letter) : Type 0 where
   pub ids : map (λ (l : Letter). l.id) kept ≡ letters t
   pub each : AllByRecursion (KeepsLetter t) kept

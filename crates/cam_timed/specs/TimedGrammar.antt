@@ -42,12 +42,12 @@ timed_forms =
 abbrev pub timed_nothing : TimedSoFar
 timed_nothing = record { declared = nothing; steps = [] }
 
--- After a step stand steps; before the first one a line stands as without time.
+-- After a step come steps; before the first one a line may come as without time.
 abbrev pub behind : Section → List TimedStep → Section
 behind section [] = section
 behind section (step ∷ steps) = sections.AtSteps
 
--- where a line stands
+-- where a line may come
 abbrev pub timed_section : TimedSoFar → Section
 timed_section d = behind (section_of d.declared) d.steps
 
@@ -101,7 +101,7 @@ abbrev pub declared_by : TimedSoFar → Form → ℕ → ℕ → List ℕ → Re
 declared_by d form number at line =
     outside d.declared form number at line >>= declares d
 
--- what stands after a line of this form
+-- what is kept after a line of this form
 abbrev pub read_form : TimedSoFar → TimedForm → ℕ → ℕ → List ℕ → Result TimedSoFar ScriptFault
 read_form d forms.Nodes number at line = declared_by d lines.Nodes number at line
 read_form d forms.Object number at line = declared_by d lines.Object number at line
@@ -127,7 +127,7 @@ by_first_word d number first line =
     else if begins_with_hash (text_of first line) then Ok d
     else with_first_word d number first line
 
--- what stands after a line
+-- what is kept after a line
 unfoldable pub read_timed_line : TimedSoFar → ℕ → List ℕ → Result TimedSoFar ScriptFault
 read_timed_line d number line = do
   allowed ← all_allowed (bad_byte 0 line) number
@@ -137,7 +137,7 @@ read_timed_line d number line = do
 abbrev pub with_declarations : List TimedStep → Script → Result TimedScript ScriptFault
 with_declarations steps script = Ok (record { script = script; steps = steps })
 
--- the script at the end, where the line of this number is the one after the last
+-- the script at the end, if the line of this number is the one after the last
 abbrev pub read_timed_end : TimedSoFar → ℕ → Result TimedScript ScriptFault
 read_timed_end d number = read_end d.declared number >>= with_declarations d.steps
 

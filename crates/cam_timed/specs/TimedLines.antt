@@ -56,7 +56,7 @@ expire_line d number at line = do
   end ← end_at number action.1 line
   Ok (acts.Expire action.0)
 
--- a step without time, where a script by time has it
+-- a step without time, if scripts by time have it
 abbrev pub with_time : Act → Option TimedAct
 with_time (untimed.Call action object op) = Some (acts.Call action object op)
 with_time (untimed.Commit action value) = Some (acts.Commit action value)

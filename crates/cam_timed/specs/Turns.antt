@@ -24,7 +24,7 @@ use Rattle.cam_timed.specs.TimedRuns.{TimedMayCome, IsTimedRun}
 use Rattle.cam_timed.specs.Travelling.{timed_informs}
 use Rattle.cam_timed.specs.Untils.{TellsUntils}
 
--- the letter is the one that comes, where one does
+-- the letter is the one that comes, if one does
 abbrev pub IsLetterOf : List TimedEvent → Option LetterId → Option Letter → Type 0
 IsLetterOf t None None = Unit {0}
 IsLetterOf t (Some id) (Some letter) = (letter.id ≡ id) × KeepsLetter t letter

@@ -1,4 +1,4 @@
-//! The course of a script by time: what stands after some of its lines.
+//! The course of a script by time: what is kept after some of its lines.
 ghost use Rattle.std.specs.Prelude.{◌≡◌, IfOk, List, OnOk};
 ghost use Rattle.cam_type.specs.declared.ObjectDecl.{ObjectDecl};
 ghost use Rattle.cam_event.specs.declared.LineRefusal.TheVariants as refusals;
@@ -32,7 +32,7 @@ pub(crate) enum LineOutcome {
     GoesOn(Option<Name>),
 }
 
-/// What stands after some lines: the machine, the numbers of the letters that were delivered and of
+/// What is kept after some lines: the machine, the numbers of the letters that were delivered and of
 /// those that are lost, the marks, and for each line the action that its variable stands for, if it
 /// stands for one.
 #[derive(Drop)]

@@ -44,7 +44,7 @@ pub(crate) fn form_of(word: &[u8]) -> Option<TimedForm>
     find(&FORMS, word)
 }
 
-/// Which lines may stand where.
+/// Which lines may come where.
 pub(crate) fn may_stand(section: Section, form: TimedForm) -> bool
     ensures { result ≡ timed_may_stand section form }
 {

@@ -130,7 +130,7 @@ fn untimed_line(
     }
 }
 
-/// A step without time, where a script by time has it.
+/// A step without time, if scripts by time have it.
 fn with_time(act: Act) -> Option<TimedAct>
     ensures { result ≡ with_time act }
 {

@@ -220,7 +220,7 @@ impl Machine {
     }
 }
 
-/// The node for which an input is that is no letter.
+/// The node of an input that is no letter.
 fn node_of(input: &NodeInput) -> u8
     ensures value { (t : List TimedEventFields) → timed_got_of (input_of input.now) ≡ None
         → timed_node_of t (input_of input.now) ≡ result }

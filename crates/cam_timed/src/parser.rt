@@ -15,7 +15,7 @@ use std::alloc::Global;
 /// The script by time that the bytes spell, or its first fault, with the causes and in the order of a script without time.
 ///
 /// `begin` and `ask` have a quiesce moment at their end; `tick NODE MOMENT` and `expire A`, A a variable of `begin`, are new; each moment is
-/// 1 to 1,000,000,000. Bodies, `start`, `go`, `play`, `restart`, `cut` and `stop` are unknown lines. It answers `NoMemory` where memory runs
+/// 1 to 1,000,000,000. Bodies, `start`, `go`, `play`, `restart`, `cut` and `stop` are unknown lines. It returns `NoMemory` if memory runs
 /// out. Each action of the run by time of an accepted script has its view in a legal history, in which it is no orphan (`views`).
 #[tactic(auto, using(crate::proofs::TimedAccepts::gives_script, crate::proofs::TimedViews::gives_views))]
 pub fn parse_timed(alloc: Global, bytes: &[u8]) -> Result<TimedScript, ScriptFault>

@@ -1,4 +1,4 @@
-//! What stands after some lines of a script by time.
+//! What the parser keeps after some lines of a script by time.
 ghost use Rattle.std.specs.Prelude.{◌≡◌, ◌≤◌, ◌<◌, length, None, IsTrue, IsFalse, OnOk, Ok, Err};
 ghost use Rattle.cam_words.specs.Numbers.{is_name};
 ghost use Rattle.cam_script.specs.Parse.{Leads, IsWithin};
@@ -33,7 +33,7 @@ impl TimedSoFar {
         }
     }
 
-    /// Where the next line stands.
+    /// Where the next line comes.
     fn section(&self) -> Section
         ensures { result ≡ timed_section self.now }
     {
@@ -153,7 +153,7 @@ impl TimedSoFar {
         }
     }
 
-    /// The script, where the line of this number is the one after the last.
+    /// The script, if the line of this number is the one after the last.
     pub fn into_script(self, line: u32) -> Result<TimedScript, ScriptFault>
         ensures { result ≡ read_timed_end self line }
     {

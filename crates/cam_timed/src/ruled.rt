@@ -45,7 +45,7 @@ pub(crate) enum NodeInput {
     },
 }
 
-/// What the rule makes, where this letter came.
+/// What the rule makes, if this letter came.
 pub(crate) fn made(here: &Here, input: &NodeInput, mail: &Option<Mail>) -> Result<Did, NoMemory>
     requires stands { StandHere here.now.objects.now (events (reverse here.now.trace.now))
         here.now.node here.now.first.now here.now.own.now here.now.all_nodes.now }

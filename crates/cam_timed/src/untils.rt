@@ -57,7 +57,7 @@ pub(crate) fn untils_of(alloc: Global, timed: &TimedTrace) -> Result<Untils, NoM
     Ok(untils)
 }
 
-/// The quiesce moment of an action, 0 where it was not named.
+/// The quiesce moment of an action, or 0 if it was not named.
 pub(crate) fn until_of(untils: &Untils, action: &Name) -> u64
     ensures { result ≡ until_in untils.now action.now }
 {

@@ -18,7 +18,7 @@ use cam_names::Name;
 use std::alloc::Global;
 
 /// The witness of an action: the deeds in the past of the last event that gives a step of its view, in
-/// order. Where the record is a run by time, these are a legal history of plain nested transactions in
+/// order. If the record is a run by time, these are a legal history of plain nested transactions in
 /// which the action is no orphan and has the view that it has in the whole run, and whose serial list
 /// for it replays and has each answer that it got. `NoSuchAction` comes exactly if the action was not
 /// created in the run.

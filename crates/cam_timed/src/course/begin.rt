@@ -1,5 +1,5 @@
 //! `begin A NODE UNTIL`: a top action begins, and the variable stands for it. The line is refused
-//! where its quiesce moment is not after the node's moment.
+//! if its quiesce moment is not after the node's moment.
 ghost use Rattle.std.specs.Prelude.{IfOk};
 ghost use Rattle.cam_event.specs.Runs.{IsNode};
 ghost use Rattle.cam_timed.specs.declared.TimedAct.TheVariants as acts;

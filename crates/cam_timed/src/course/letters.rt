@@ -1,5 +1,5 @@
-//! `deliver N`: the letter of this number is handed to its node, again where it was delivered
-//! before. `lose N`: it is taken out for good. Both are refused where no such letter was sent or it
+//! `deliver N`: the letter of this number is handed to its node, again if it was delivered
+//! before. `lose N`: it is taken out for good. Both are refused if no such letter was sent or it
 //! is lost.
 ghost use Rattle.std.specs.Prelude.{◌≡◌, ◌<◌, ◌+◌, ◌^◌, Some, IfOk, IfSome, OnOk, List, length, slice_get};
 ghost use Rattle.cam_type.specs.declared.ObjectDecl.{ObjectDecl};
@@ -71,7 +71,7 @@ impl Course {
         Ok(())
     }
 
-    /// The place of the letter of a number, where it was sent and is not lost.
+    /// The place of the letter of a number, if it was sent and is not lost.
     fn place_of(&self, number: u32) -> Option<usize>
         ensures place { (objects : List ObjectDecl) (r : TimedRunning)
             → KeepsRunning objects r self.now → IsPlaceOf r number result }

@@ -1,5 +1,5 @@
 //! `tell NODE TO`: a node sends its news to another. `query NODE A`: a node asks after the family
-//! of an action. Both are refused where there is nothing to do.
+//! of an action. Both are refused if there is nothing to do.
 ghost use Rattle.std.specs.Prelude.{IfOk};
 ghost use Rattle.cam_event.specs.Runs.{IsNode};
 ghost use Rattle.cam_timed.specs.declared.TimedAct.TheVariants as acts;

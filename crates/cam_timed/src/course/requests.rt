@@ -88,7 +88,7 @@ impl Course {
         self.request_of(objects, &parent, &Want::GiveUp(child))
     }
 
-    /// A request of an action, unless something stands against it at its home.
+    /// A request of an action, unless it is refused at its home.
     fn request_of(
         &mut self,
         objects: &Objects,

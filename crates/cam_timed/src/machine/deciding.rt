@@ -44,7 +44,7 @@ pub(crate) fn id_of(letter: &Option<Letter>) -> Option<LetterId>
     }
 }
 
-/// What a letter says that comes.
+/// What a letter that comes says.
 pub(crate) fn mail_of(letter: &Option<Letter>) -> Option<Mail>
     ensures { result ≡ mail_of letter.now }
 {
@@ -54,7 +54,7 @@ pub(crate) fn mail_of(letter: &Option<Letter>) -> Option<Mail>
     }
 }
 
-/// The moment of a node at the event: its own, or the letter's where that is greater, or the one of
+/// The moment of a node at the event: its own, or the letter's if that is greater, or the one of
 /// a tick.
 fn moment_by(input: &NodeInput, own: u64, letter: &Option<Letter>) -> u64
     ensures { (t : List TimedEvent) → result ≡ moment_by t (input_of input.now)

@@ -1,4 +1,4 @@
-//! What stands against a line of a run by time, by what the machine keeps.
+//! What refuses a line of a run by time, by what the machine keeps.
 ghost use Rattle.std.specs.Prelude.{◌≡◌, [], List, None};
 ghost use Rattle.cam_type.specs.declared.ObjectDecl.{ObjectDecl};
 ghost use Rattle.cam_names.specs.Names.{home_node};
@@ -21,7 +21,7 @@ use cam_rules::{Sighted, end_refusal, home_of, query_refusal, refusal};
 use cam_type::Objects;
 
 impl Machine {
-    /// What stands against the beginning of a top action at a node, with this quiesce moment.
+    /// What refuses the beginning of a top action at a node, with this quiesce moment.
     pub(crate) fn begin_refusal(&self, node: u8, until: u64) -> Option<TimedRefusal>
         requires node { IsNode node }
         ensures { (objects : List ObjectDecl) (t : List TimedEvent)
@@ -30,7 +30,7 @@ impl Machine {
         where_quiesced(self.moment_of(node), until, None)
     }
 
-    /// What stands against a request of an action.
+    /// What refuses a request of an action.
     pub(crate) fn request_refusal(
         &self,
         objects: &Objects,
@@ -51,7 +51,7 @@ impl Machine {
         )
     }
 
-    /// What stands against a query of a node after a family.
+    /// What refuses a query of a node after a family.
     pub(crate) fn query_refusal(
         &self,
         objects: &Objects,
@@ -67,7 +67,7 @@ impl Machine {
         query_refusal(&self.here(objects, node, &none), family)
     }
 
-    /// What stands against a moment of a node.
+    /// What refuses a moment of a node.
     pub(crate) fn tick_refusal(&self, node: u8, moment: u64) -> Option<TimedRefusal>
         requires node { IsNode node }
         ensures { (objects : List ObjectDecl) (t : List TimedEvent)
@@ -80,7 +80,7 @@ impl Machine {
         }
     }
 
-    /// What stands against the expiry of a top action.
+    /// What refuses the expiry of a top action.
     pub(crate) fn expire_refusal(&self, objects: &Objects, action: &Name) -> Option<TimedRefusal>
         requires keeps { KeepsTimedRun objects.now (run_of self.now) self.now }
         ensures { result ≡ timed.expire_refusal
@@ -96,7 +96,7 @@ impl Machine {
 }
 
 impl Machine {
-    /// What a node goes by where no letter comes.
+    /// What a node goes by if no letter comes.
     fn here<'a>(&'a self, objects: &'a Objects, node: u8, none: &'a Deeds) -> Here<'a>
         requires keeps { KeepsTimedRun objects.now (run_of self.now) self.now }
         requires node { IsNode node }
@@ -136,7 +136,7 @@ impl Machine {
         until_of(&self.shared.untils, action)
     }
 
-    /// What stands against a request by moments.
+    /// What refuses a request by moments.
     fn against_want(&self, node: u8, action: &Name, want: &Want) -> Option<TimedRefusal>
         requires node { IsNode node }
         ensures { (objects : List ObjectDecl) (t : List TimedEvent)
@@ -163,7 +163,7 @@ fn untimed(refusal: Option<LineRefusal>, other: Option<TimedRefusal>) -> Option<
     }
 }
 
-/// A refusal where the moment is not below the quiesce moment, else the other.
+/// A refusal if the moment is not below the quiesce moment, else the other.
 fn where_quiesced(now: u64, until: u64, other: Option<TimedRefusal>) -> Option<TimedRefusal>
     ensures { result ≡ timed.where_quiesced now until other }
 {
@@ -174,7 +174,7 @@ fn where_quiesced(now: u64, until: u64, other: Option<TimedRefusal>) -> Option<T
     }
 }
 
-/// A refusal where the moment is below the quiesce moment.
+/// A refusal if the moment is below the quiesce moment.
 fn where_early(now: u64, until: u64) -> Option<TimedRefusal>
     ensures { result ≡ timed.where_early now until }
 {

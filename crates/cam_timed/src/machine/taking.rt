@@ -1,4 +1,4 @@
-//! A node takes the event over that was decided, and so does what is kept of all.
+//! The event that was decided is noted in the tables of its node and of all nodes.
 ghost use Rattle.std.specs.Prelude.{◌≡◌, ◌∷◌, ℕ, List, length, IfOk, OnOk};
 ghost use Rattle.std.specs.List.{AllByRecursion};
 ghost use Rattle.cam_type.specs.declared.ObjectDecl.{ObjectDecl};
@@ -28,7 +28,7 @@ use cam_rules::Did;
 use cam_type::Objects;
 use std::alloc::Global;
 
-/// Takes deeds of a node over, none of which is a crash.
+/// Notes deeds of a node, none of which is a crash.
 pub(crate) fn note_all(
     alloc: Global,
     objects: &Objects,
@@ -50,7 +50,7 @@ pub(crate) fn note_all(
     Ok(())
 }
 
-/// Whom the letters of the event come from that is the next one.
+/// The sender of the letters of the next event.
 fn sender_of(node: u8, kept: &Node, shared: &Shared) -> Sender
     ensures event { result.event ≡ length shared.now.trace }
     ensures node { result.node ≡ node }
@@ -70,7 +70,7 @@ fn sender_of(node: u8, kept: &Node, shared: &Shared) -> Sender
     }
 }
 
-/// Takes the event over that was decided, after the first Informs.
+/// Notes the event that was decided, after the first Informs.
 pub(crate) fn take_over(
     turn: &Turn,
     node: &mut Node,

@@ -46,11 +46,11 @@ unheard-requires c =
     c.requires.keeps.nodes keeps.from
     (c.index.ensures
     ∙ ap (λ (x : Letter). get_or nodes (x.mail.from - 1) c.index.result.now) c.letter.view_is) in
-    let informed = c.informed-informed.ensures objects l.mail.from _ _ node.own in
+    let kept = c.informed-informed.ensures objects l.mail.from _ _ node.own in
     subst (λ (n : ℕ). n ≤ length c.as_slice.result.now)
     (sym (ap (λ (x : Letter). x.aborts) c.letter.view_is))
     (subst (λ (names : List Name). l.aborts ≤ length names)
-    (sym (c.as_slice.ensures ∙ informed.aborts)) (were_told T l keeps).few_aborts)
+    (sym (c.as_slice.ensures ∙ kept.aborts)) (were_told T l keeps).few_aborts)
 
 pub unheard-requires-2 : goal.unheard-requires-2
 unheard-requires-2 c =
@@ -67,11 +67,11 @@ unheard-requires-2 c =
     c.requires.keeps.nodes keeps.from
     (c.index.ensures
     ∙ ap (λ (x : Letter). get_or nodes (x.mail.from - 1) c.index.result.now) c.letter.view_is) in
-    let informed = c.informed-informed.ensures objects l.mail.from _ _ node.own in
+    let kept = c.informed-informed.ensures objects l.mail.from _ _ node.own in
     subst (λ (n : ℕ). n ≤ length c.as_slice-2.result.now)
     (sym (ap (λ (x : Letter). x.commits) c.letter.view_is))
     (subst (λ (names : List Name). l.commits ≤ length names)
-    (sym (c.as_slice-2.ensures ∙ informed.commits)) (were_told T l keeps).few_commits)
+    (sym (c.as_slice-2.ensures ∙ kept.commits)) (were_told T l keeps).few_commits)
 
 pub returns : goal.returns
 returns c =
@@ -89,7 +89,7 @@ returns c =
     c.requires.keeps.nodes both.1.from
     (c.index.ensures
     ∙ ap (λ (x : Letter). get_or nodes (x.mail.from - 1) c.index.result.now) c.letter.view_is) in
-    let informed = c.informed-informed.ensures objects l.mail.from _ _ node.own in
+    let kept = c.informed-informed.ensures objects l.mail.from _ _ node.own in
     let mine =
     node_there objects T nodes s c.index-2.result.now c.requires.keeps.eight
     c.requires.keeps.nodes c.requires.turn.range c.index-2.ensures in
@@ -107,14 +107,14 @@ returns c =
     ∙ ap (λ (x : Letter). slice_range c.as_slice.result.now (min heard.aborts x.aborts) x.aborts)
     c.letter.view_is
     ∙ ap (λ (names : List Name). slice_range names (min heard.aborts l.aborts) l.aborts)
-    (c.as_slice.ensures ∙ informed.aborts))
+    (c.as_slice.ensures ∙ kept.aborts))
     ∙ left_new (λ a. informed own s a false) _ heard.aborts l.aborts reach.aborts.informed_of in
     let commits =
     ap (filter new_commit) (c.unheard-2.ensures
     ∙ ap (λ (x : Letter). slice_range c.as_slice-2.result.now (min heard.commits x.commits) x.commits)
     c.letter.view_is
     ∙ ap (λ (names : List Name). slice_range names (min heard.commits l.commits) l.commits)
-    (c.as_slice-2.ensures ∙ informed.commits))
+    (c.as_slice-2.ensures ∙ kept.commits))
     ∙ left_new (λ a. informed own s a true) _ heard.commits l.commits reach.commits.informed_of in
     IfOk-weaker c.first_informs.result _ _ (λ deeds made.
     made objects s _ _ mine.own ∙ (λ i. informs s (aborts i) (commits i))
