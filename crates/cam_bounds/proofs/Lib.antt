@@ -1,0 +1,7 @@
+pub mod Weights
+pub mod Dues
+pub mod Inputs
+pub mod Requests
+pub mod Plays
+pub mod Lines
+mod Short
