@@ -29,25 +29,86 @@ async function askServer(program, words, script) {
   return reply.json();
 }
 
-/** What the programs answered when the page was made: `lines` has each line of all texts once, and an answer the places of its lines. */
-async function openRecord(packed) {
+/** The bytes that are packed into a text. */
+async function unpacked(packed) {
   const bytes = Uint8Array.from(atob(packed), (letter) => letter.charCodeAt(0));
-  const stream = new Blob([bytes]).stream().pipeThrough(new DecompressionStream("gzip"));
-  const { lines, scripts } = await new Response(stream).json();
+  return new Response(new Blob([bytes]).stream().pipeThrough(new DecompressionStream("gzip"))).arrayBuffer();
+}
+
+/** What the programs answered when the page was made: `lines` has each line of all texts once, and an answer the places of its lines. */
+async function openRecord(packed, why) {
+  const { lines, scripts } = JSON.parse(new TextDecoder().decode(await unpacked(packed)));
   const textOf = (places) => places.map((place) => lines[place]).join("\n");
   return async (program, words, script) => {
     const found = scripts[script]?.[[program, ...words].join(" ")];
-    if (!found) throw new Error("This file has the runs of its scenes alone. To run other scripts, start the page with ./camelot --page");
+    if (!found) throw new Error(`${why} To run other scripts, start the page with ./camelot --page`);
     return { status: found[0], text: textOf(found[1]), said: textOf(found[2]) };
   };
 }
 
-let askProgram = askServer;
+/** The programs in this file, as WebAssembly, in a worker. If a run takes too long, the worker is ended and another one begins. */
+async function startEngine({ module, worker }) {
+  const compiled = await WebAssembly.compile(await unpacked(module));
+  const address = URL.createObjectURL(new Blob([worker], { type: "text/javascript" }));
+  const waiting = new Map();
+  let hand = null;
+  let last = 0;
 
-/** One script, and what the programs answered about it so far. */
+  const start = () => {
+    hand = new Worker(address);
+    hand.onmessage = ({ data: { number, answer, fault } }) => {
+      const { done, fail, timer } = waiting.get(number);
+      waiting.delete(number);
+      clearTimeout(timer);
+      if (answer) done(answer);
+      else fail(new Error(fault));
+    };
+    hand.postMessage(compiled);
+  };
+  const restart = () => {
+    hand.terminate();
+    for (const { fail, timer } of waiting.values()) {
+      clearTimeout(timer);
+      fail(new Error(`The run did not end within ${SECONDS_TO_RUN} seconds.`));
+    }
+    waiting.clear();
+    start();
+  };
+  start();
+  return (program, words, script) =>
+    new Promise((done, fail) => {
+      const number = ++last;
+      waiting.set(number, { done, fail, timer: setTimeout(restart, 1000 * SECONDS_TO_RUN) });
+      hand.postMessage({ number, program, words, script });
+    });
+}
+
+const SECONDS_TO_RUN = 20;
+
+/** What stands behind the page: how it is asked, and what is said of that. */
+async function openEngine() {
+  const proved = "Every sentence about a run, and each picture, is a text of the two proved programs";
+  const page = "The page around them is not proved.";
+  if (!contents.record) return { ask: askServer, about: `${proved}, which run on this machine. ${page}` };
+  let why = "This file has the runs of its scenes alone.";
+  if (contents.engine) {
+    const about = `${proved}, which are in this file, compiled for WebAssembly. ${page} Nor are a heap and some arithmetic that this needs.`;
+    try {
+      return { ask: await startEngine(contents.engine), about };
+    } catch (error) {
+      why = `This browser does not run the programs in this file (${error.message}), so it has the runs of its scenes alone.`;
+    }
+  }
+  return { ask: await openRecord(contents.record, why), about: `${proved}, made when this file was written. ${page}` };
+}
+
+let behind = null;
+
+/** One script, which may be meant by time, and what the programs answered about it so far. */
 class Run {
-  constructor(script) {
+  constructor(script, isByTime) {
     this.script = script;
+    this.isByTime = isByTime;
     this.lines = script.split("\n");
     this.answers = new Map();
     this.stops = [];
@@ -58,7 +119,7 @@ class Run {
 
   ask(program, ...words) {
     const key = [program, ...words].join(" ");
-    if (!this.answers.has(key)) this.answers.set(key, askProgram(program, words, this.script));
+    if (!this.answers.has(key)) this.answers.set(key, behind.ask(program, words, this.script));
     return this.answers.get(key);
   }
 
@@ -67,7 +128,8 @@ class Run {
     const [report, explained, drawn] = await Promise.all([this.ask("camelot", "run"), this.ask("camscope", "explain"), this.ask("camscope", "draw")]);
     this.isRefused = report.status === 3;
     this.timed = this.isRefused ? await this.ask("camelot", "timed") : null;
-    this.isTimed = this.timed?.status === 0;
+    this.mayBeTimed = this.timed?.status === 0;
+    this.isTimed = this.mayBeTimed && this.isByTime;
     this.report = this.isTimed ? this.timed.text : report.text;
     this.place = this.isRefused && !this.isTimed ? numbers(report.text) : null;
     this.paragraphs = this.isTimed ? [] : paragraphsOf(explained.text);
@@ -93,6 +155,12 @@ class Run {
     return this.paragraphs.filter((paragraph) => pattern.test(paragraph[0])).map((paragraph) => paragraph.join("\n"));
   }
 
+  /** What is told in words of a line that was refused, cut or halted; of a fault what stands below the caret. */
+  whyOf(line) {
+    const [head, ...rest] = this.paragraphs.find((paragraph) => new RegExp(`^line ${line}\\b`).test(paragraph[0])) ?? [];
+    return rest.length ? belowCaret(rest) : head?.replace(/^line \d+:? /, "");
+  }
+
   /** The word by which the script knows the action of this name. */
   wordOf(name) {
     for (const [word, action] of this.actions) if (action.name === name) return word;
@@ -109,6 +177,9 @@ function paragraphsOf(text) {
   }
   return paragraphs;
 }
+
+/** What stands below the caret that points into a line. */
+const belowCaret = (lines) => lines.slice(lines.findIndex((line) => /^ *\^$/.test(line)) + 1).map((line) => line.trim()).join(" ");
 
 // ---- The picture ----------------------------------------------------------------------------------------------------------------------------
 
@@ -189,7 +260,7 @@ const tabs = {
   table: { label: "Table" },
 };
 
-let run = new Run("");
+let run = new Run("", false);
 let plain = null;
 let picture = null;
 let picked = null;
@@ -229,7 +300,7 @@ function say(text, isBad = false) {
 
 /** Runs the script that is in the editor, and shows its run. */
 function runScript(pick = null, said = "") {
-  const next = new Run($("script").value);
+  const next = new Run($("script").value, $("by-time").checked);
   return runs.take(async (isLast) => {
     showGutter();
     try {
@@ -242,6 +313,7 @@ function runScript(pick = null, said = "") {
     run = next;
     plain = run.drawn?.status === 0 ? new Picture(run.drawn.text) : null;
     picture = null;
+    $("by-time").parentElement.hidden = !run.isByTime && !run.mayBeTimed;
     showPicture(plain);
     say(said + summary(), Boolean(run.place || run.checked?.status));
     for (const id of ["save-report", "save-picture", "next-stop"]) $(id).disabled = id === "save-report" ? Boolean(run.place) : !plain;
@@ -266,10 +338,7 @@ const expected = () => run.checked.text || run.checked.said || "All that the scr
 
 /** What is said of a run in short; of a script that is refused what stands below the caret. */
 function summary() {
-  if (run.place) {
-    const lines = run.paragraphs.flat();
-    return lines.slice(lines.findIndex((line) => /^ *\^$/.test(line)) + 1).join(" ").trim() || run.report;
-  }
+  if (run.place) return belowCaret(run.paragraphs.flat()) || run.report;
   if (run.isTimed) return "A script by time: it has a report, and no picture.";
   if (!plain) return run.drawn.said || run.drawn.text;
   const letters = new Set(plain.letters.map((letter) => letter.number));
@@ -324,15 +393,17 @@ function button(label, pick) {
   return make("button", { class: "link", type: "button", onclick: () => choose(pick) }, label);
 }
 
-/** A text in which events, letters, lines and the names of actions can be picked. */
+/** A text in which events, letters, lines and the names of actions can be picked. A bracket or a mark beside such a word stays on its line. */
 function linked(text) {
   const parts = [];
   let done = 0;
-  for (const found of text.matchAll(/\b(event|letter|line) (\d+)\b|\b\d+\.\d+\.\d+(?:\/\d+\.\d+\.\d+)*(?![\d.])/g)) {
-    const word = found[1] ? null : run.wordOf(found[0]);
-    if (!found[1] && !word) continue;
-    parts.push(text.slice(done, found.index), button(found[0], found[1] ? { [found[1]]: Number(found[2]) } : { action: word }));
-    done = found.index + found[0].length;
+  for (const found of text.matchAll(/(\(?)(\b(event|letter|line) (\d+)\b|\b\d+\.\d+\.\d+(?:\/\d+\.\d+\.\d+)*(?![\d.]*\d))([),.:;]*)/g)) {
+    const [whole, before, label, kind, number, after] = found;
+    const word = kind ? null : run.wordOf(label);
+    if (!kind && !word) continue;
+    const picks = button(label, kind ? { [kind]: Number(number) } : { action: word });
+    parts.push(text.slice(done, found.index), before + after ? make("span", { class: "together" }, before, picks, after) : picks);
+    done = found.index + whole.length;
   }
   return [...parts, text.slice(done)];
 }
@@ -402,7 +473,7 @@ const picks = {
     const item = (label, pick, words) => make("li", {}, button(label, pick), words);
     const actions = [...run.actions].map(([word, { paragraph }]) => item(word, { action: word }, paragraph[0].slice(word.length, -1)));
     const stops = run.stops.map((event) => item(`event ${event}`, { event }, `: ${plain.events[event].words}`));
-    const marks = [...run.marks].map(([line, mark]) => item(`line ${line}`, { line }, `: ${mark.replace(` ${line}`, "")}`));
+    const marks = [...run.marks].map(([line, mark]) => item(`line ${line}`, { line }, `: ${run.whyOf(line) ?? mark.replace(` ${line}`, "")}`));
     const values = run.report.match(/^value .*$/gm) ?? [];
     const section = (name, items) => (items.length ? [title(name), make("ul", {}, items)] : []);
     return {
@@ -414,6 +485,7 @@ const picks = {
         section("Lines that were refused, cut or halted", marks),
         values.length ? [title("Committed values"), make("pre", {}, values.join("\n"))] : [],
         legend(),
+        make("p", { class: "fine" }, behind.about),
       ],
     };
   },
@@ -594,17 +666,20 @@ function whatIf(changes) {
 /** Puts another script into the editor, and runs it. The way back is that of the browser. */
 function edit({ script, line }) {
   history.pushState(null, "", location.href);
-  setScript(script, null);
+  setScript(script, null, $("by-time").checked);
   runScript({ line }, `Line ${line} is now \`${script.split("\n")[line - 1]}\`. `);
 }
 
 // ---- The editor -----------------------------------------------------------------------------------------------------------------------------
 
-function setScript(script, of) {
+function setScript(script, of, isByTime) {
   $("script").value = script;
+  $("by-time").checked = isByTime;
   scene = of;
   $("scenes").value = of ?? "";
 }
+
+const showScene = ({ script, name, isByTime }) => setScript(script, name, isByTime);
 
 /** Numbers the lines, marks those of which the report tells something, and shows the one that was picked. */
 function showGutter(here = null) {
@@ -642,7 +717,10 @@ function fromBase64(letters) {
 function remember() {
   const state = new URLSearchParams();
   if (scene) state.set("scene", scene);
-  else state.set("script", toBase64($("script").value));
+  else {
+    state.set("script", toBase64($("script").value));
+    if ($("by-time").checked) state.set("by-time", "");
+  }
   if (picked) state.set(...Object.entries(picked)[0]);
   if (tab !== "picture") state.set("tab", tab);
   history.replaceState(null, "", `#${state}`);
@@ -661,8 +739,8 @@ function recall() {
   } catch {
     say("The address has no whole script.", true);
   }
-  if (script !== null) setScript(script, null);
-  else setScript((found ?? contents.scenes[0]).script, (found ?? contents.scenes[0]).name);
+  if (script !== null) setScript(script, null, state.has("by-time"));
+  else showScene(found ?? contents.scenes[0]);
   return runScript(kind ? { [kind]: value } : null);
 }
 
@@ -755,7 +833,7 @@ function wire() {
   $("scenes").addEventListener("change", () => {
     const found = contents.scenes.find((it) => it.name === $("scenes").value);
     history.pushState(null, "", location.href);
-    setScript(found.script, found.name);
+    showScene(found);
     runScript();
   });
   let waiting = 0;
@@ -768,6 +846,10 @@ function wire() {
   });
   $("script").addEventListener("scroll", () => ($("gutter").scrollTop = $("script").scrollTop));
   $("script").addEventListener("keydown", (event) => event.key === "F2" && choose({ line: lineOfCaret() }));
+  $("by-time").addEventListener("change", () => {
+    scene = null;
+    runScript();
+  });
   $("this-line").addEventListener("click", () => choose({ line: lineOfCaret() }));
   $("gutter").addEventListener("click", (event) => event.target.dataset.line && choose({ line: Number(event.target.dataset.line) }));
   $("canvas").addEventListener("keydown", keyInPicture);
@@ -777,14 +859,21 @@ function wire() {
   $("save-script").addEventListener("click", () => save(`${fileName()}.cam`, "text/plain", $("script").value));
   $("save-report").addEventListener("click", () => save(`${fileName()}.txt`, "text/plain", run.report));
   $("save-picture").addEventListener("click", () => picture && save(`${fileName()}.svg`, "image/svg+xml", picture.text));
+  const showTheme = () => $("theme").setAttribute("aria-pressed", isDark());
   $("theme").addEventListener("click", () => {
     document.documentElement.dataset.theme = isDark() ? "light" : "dark";
-    $("theme").setAttribute("aria-pressed", isDark());
+    showTheme();
   });
-  $("theme").setAttribute("aria-pressed", isDark());
+  matchMedia("(prefers-color-scheme: dark)").addEventListener("change", showTheme);
+  showTheme();
+  $("wide").addEventListener("click", () => {
+    const isWide = document.body.classList.toggle("wide");
+    $("wide").setAttribute("aria-pressed", isWide);
+    showGutter(picked?.line);
+  });
   window.addEventListener("popstate", recall);
 }
 
 wire();
-if (contents.record) askProgram = await openRecord(contents.record);
+behind = await openEngine();
 await recall();

@@ -55,10 +55,12 @@ def scenes():
         for name in sorted(glob.glob("*.cam", root_dir=f"{TOP}/examples/{folder}")):
             path = f"{folder}/{name.removesuffix('.cam')}"
             words = f"examples/{path}.words"
-            if not os.path.exists(f"{TOP}/{words}") or read(words).split() in (["run"], ["timed"]):
+            asked = read(words).split() if os.path.exists(f"{TOP}/{words}") else ["run"]
+            if asked in (["run"], ["timed"]):
                 script = read(f"examples/{path}.cam")
                 about = re.match(r"(?:#+ *(.*?)(?:[.:] .*|[.:])?$)?", script, re.M)[1] or ""
-                found.append({"topic": folder.replace("-", " ").capitalize(), "name": path, "about": about, "script": script})
+                scene = {"topic": folder.replace("-", " ").capitalize(), "name": path, "about": about, "script": script}
+                found.append(scene | {"isByTime": asked == ["timed"]})
     return sorted(found, key=lambda scene: (scene["name"] != "orphans/caught", scene["topic"] != "Orphans", readme.find(f"({scene['name']}.")))
 
 
@@ -72,10 +74,11 @@ def data(value):
 
 
 def page(connect, **contents):
-    """The page with these contents, and its policy. It may connect to what `connect` says."""
+    """The page with these contents, and its policy. It may connect to what `connect` says, and run WebAssembly if it has an engine in it."""
     style, program = read("page/page.css"), read("page/page.js")
+    also, worker = (" 'wasm-unsafe-eval'", "blob:") if "engine" in contents else ("", "'none'")
     policy = (
-        f"default-src 'none'; script-src {hash_of(program)}; style-src {hash_of(style)}; img-src data:; "
+        f"default-src 'none'; script-src {hash_of(program)}{also}; worker-src {worker}; style-src {hash_of(style)}; img-src data:; "
         f"connect-src {connect}; base-uri 'none'; form-action 'none'"
     )
     parts = {"POLICY": policy, "STYLE": style, "CONTENTS": data(contents), "PROGRAM": program}
@@ -281,7 +284,7 @@ def main(camelot, camscope, file=None):
     own = []
     if file is not None:
         with open(file, encoding="utf-8", errors="replace") as script:
-            own = [{"topic": "Your script", "name": os.path.basename(file), "about": "", "script": script.read(MOST_BYTES)}]
+            own = [{"topic": "Your script", "name": os.path.basename(file), "about": "", "script": script.read(MOST_BYTES), "isByTime": False}]
     signal.signal(signal.SIGTERM, end)
     with Server(Engine(camelot, camscope), {"scenes": own + scenes()}) as server:
         address = f"http://{server.host}{server.path}"
