@@ -1,5 +1,5 @@
 # Writes the image of a log with two entries: a count, an abort and a commit that depends on two nodes; and a family that was secured with one
-# operation, behind a Version. Cut the last byte off, and its place is told: the closed gate is missing.
+# operation, after a Version. Cut the last byte off, and its place is told: the closed gate is missing.
 printf 'CAMELOT\n'
 printf '\001\000\000\000\000\000\000\000\065'
 printf '\001\000\000\000\002'
