@@ -456,6 +456,7 @@ async function lit(...words) {
 
 const title = (text) => make("h3", {}, text);
 const text = (words) => make("pre", {}, linked(words));
+const prose = (lines) => make("p", {}, lines.join(" ").split("`").map((part, place) => (place % 2 ? make("code", {}, part) : part)));
 const lineButton = (line) => make("p", {}, button(`line ${line}`, { line }), ": ", make("code", {}, run.lines[line - 1]?.trim() ?? ""));
 const asWritten = (command, answer) => [make("p", { class: "fine" }, make("code", {}, command), " writes"), text(answer.text || answer.said)];
 
@@ -469,7 +470,7 @@ function letterItem(letter) {
 /** What is shown of each kind of pick: what stands at the side, and what is lit. */
 const picks = {
   async run() {
-    if (!plain) return { side: [make("p", {}, run.about().join(" "))] };
+    if (!plain) return { side: [prose(run.about())] };
     const item = (label, pick, words) => make("li", {}, button(label, pick), words);
     const actions = [...run.actions].map(([word, { paragraph }]) => item(word, { action: word }, paragraph[0].slice(word.length, -1)));
     const stops = run.stops.map((event) => item(`event ${event}`, { event }, `: ${plain.events[event].words}`));
@@ -478,7 +479,7 @@ const picks = {
     const section = (name, items) => (items.length ? [title(name), make("ul", {}, items)] : []);
     return {
       side: [
-        run.about().length ? make("p", {}, run.about().join(" ")) : [],
+        run.about().length ? prose(run.about()) : [],
         run.checked ? [title("What the script expects"), text(expected())] : [],
         section("Orphans that were stopped", stops),
         section("Actions", actions),
