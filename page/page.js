@@ -157,7 +157,8 @@ class Run {
 
   /** What is told in words of a line that was refused, cut or halted; of a fault what stands below the caret. */
   whyOf(line) {
-    const [head, ...rest] = this.paragraphs.find((paragraph) => new RegExp(`^line ${line}\\b`).test(paragraph[0])) ?? [];
+    this.ofLines ??= new Map(this.paragraphs.map((paragraph) => [Number(paragraph[0].match(/^line (\d+)/)?.[1]), paragraph]));
+    const [head, ...rest] = this.ofLines.get(line) ?? [];
     return rest.length ? belowCaret(rest) : head?.replace(/^line \d+:? /, "");
   }
 
@@ -187,12 +188,14 @@ const belowCaret = (lines) => lines.slice(lines.findIndex((line) => /^ *\^$/.tes
 class Picture {
   constructor(text) {
     this.text = text;
-    // (the policy of the page lets no element bring a style sheet: it is read as a text, and put in place by `hang`)
-    const parsed = new DOMParser().parseFromString(text.replace("<style>", "<desc>").replace("</style>", "</desc>"), "image/svg+xml");
-    const style = parsed.querySelector("desc");
+    // (the policy of the page lets no element bring a style sheet: it is read as a text, and put in place by `hang`. The parser of HTML reads a
+    // picture in a third of the time that the one of XML takes)
+    const room = document.createElement("template");
+    room.innerHTML = text.replace("<style>", "<desc>").replace("</style>", "</desc>");
+    this.svg = room.content.firstElementChild;
+    const style = this.svg.querySelector("desc");
     this.style = style.textContent;
     style.remove();
-    this.svg = document.importNode(parsed.documentElement, true);
     this.events = [...this.svg.querySelectorAll("[data-event]")].map((mark) => {
       const title = mark.querySelector("title").textContent;
       const words = mark.querySelector(".words");
@@ -693,10 +696,18 @@ function showGutter(here = null) {
     return make("span", { class: kind, "data-line": line, title: mark }, mark ? `✕ ${line}` : String(line));
   });
   $("gutter").replaceChildren(...numbered);
-  const height = parseFloat(getComputedStyle($("script")).lineHeight);
-  const top = ((here ?? 0) - 1) * height;
+  // (what asks for places waits for the frame: before it all of a new picture would be laid out once more)
+  requestAnimationFrame(() => showLine(here));
+}
+
+/** Brings a line of the script into sight, and the numbers beside their lines. */
+function showLine(line) {
   const box = $("script");
-  if (here && (top < box.scrollTop || top > box.scrollTop + box.clientHeight - 2 * height)) box.scrollTop = top - box.clientHeight / 2;
+  if (line) {
+    const height = parseFloat(getComputedStyle(box).lineHeight);
+    const top = (line - 1) * height;
+    if (top < box.scrollTop || top > box.scrollTop + box.clientHeight - 2 * height) box.scrollTop = top - box.clientHeight / 2;
+  }
   $("gutter").scrollTop = box.scrollTop;
 }
 
