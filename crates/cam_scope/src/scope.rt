@@ -1,5 +1,6 @@
 //! The view of a run by names.
 ghost use Rattle.std.specs.Prelude.{◌≡◌, IfOk, map};
+ghost use Rattle.cam_scope.specs.Made.{is_started, made};
 ghost use Rattle.cam_scope.specs.Numbers.{letter_number};
 
 use crate::events::{NamedEvents, name_events};
@@ -59,12 +60,16 @@ pub fn scope_of(
 impl Scope {
     /// The action that a step made, by the step's place in the script; none where its line was
     /// refused.
-    pub fn made(&self, step: u32) -> Option<Name> {
+    pub fn made(&self, step: u32) -> Option<Name>
+        ensures { result ≡ made self.now step }
+    {
         self.made.get(&step).copied()
     }
 
     /// Whether a top action was begun by a `start` line, and so works at a body.
-    pub fn is_started(&self, top: &Name) -> bool {
+    pub fn is_started(&self, top: &Name) -> bool
+        ensures { result ≡ is_started self.now top.now }
+    {
         self.started.contains(top)
     }
 

@@ -1,7 +1,12 @@
 //! The lines of a script, by their numbers, and their words.
+ghost use Rattle.std.specs.Prelude.{◌≡◌, IfOk};
+ghost use Rattle.cam_words.specs.Lines.{lines_of};
+ghost use Rattle.cam_scope.specs.Source.{column_of, is_blank, line_of, word_of, words_before};
+
 use cam_base::NoMemory;
 use cam_words::{Label, first_line, is_name};
 use std::alloc::Global;
+use std::marker::Model;
 
 /// The lines of a text, without the ends of lines. Their numbers count from 1.
 #[derive(Drop)]
@@ -9,9 +14,19 @@ pub struct Lines<'a> {
     lines: Vec<&'a [u8]>,
 }
 
+impl<'a> Model for Lines<'a> {
+    ghost use Rattle.std.specs.Prelude.{List, ℕ, map};
+
+    ghost Value = { List (List ℕ) };
+
+    ghost view = { λ s. map (λ line. line.now) s.lines.items };
+}
+
 impl<'a> Lines<'a> {
     /// The lines of a text.
-    pub fn of(alloc: Global, text: &'a [u8]) -> Result<Lines<'a>, NoMemory> {
+    pub fn of(alloc: Global, text: &'a [u8]) -> Result<Lines<'a>, NoMemory>
+        ensures { IfOk result (λ lines. lines ≡ lines_of text.now) }
+    {
         let mut lines = Vec::new(alloc);
         let mut rest = text;
         while !rest.is_empty() {
@@ -28,7 +43,9 @@ impl<'a> Lines<'a> {
     }
 
     /// The line of this number; an empty one where there is none.
-    pub fn line(&self, number: u32) -> &'a [u8] {
+    pub fn line(&self, number: u32) -> &'a [u8]
+        ensures { result.now ≡ line_of self.now number }
+    {
         let Some(before) = number.checked_sub(1) else {
             return &[];
         };
@@ -55,13 +72,18 @@ impl<'a> Lines<'a> {
 }
 
 /// Whether a byte separates words.
-fn is_blank(byte: u8) -> bool {
+fn is_blank(byte: u8) -> bool
+    ensures { result ≡ is_blank byte }
+{
     byte == b' ' || byte == b'\t'
 }
 
 /// The column, from 1, at which a word of a line begins, by its place among the words, from 0; that
 /// behind the line where there is none.
-pub fn column(line: &[u8], place: usize) -> usize {
+#[tactic(auto, using(crate::proofs::Starts::one_more, crate::proofs::Starts::found))]
+pub fn column(line: &[u8], place: usize) -> usize
+    ensures { result ≡ column_of line.now place }
+{
     let mut words = 0usize;
     let mut was_blank = true;
     for (at, byte) in line.iter().enumerate() {
@@ -78,10 +100,16 @@ pub fn column(line: &[u8], place: usize) -> usize {
 }
 
 /// How many words of a line begin before a column, which counts from 1.
-pub fn words_before(line: &[u8], column: usize) -> usize {
+pub fn words_before(line: &[u8], column: usize) -> usize
+    ensures { result ≡ words_before line.now column }
+{
+    let front = match line.get(..column.saturating_sub(1)) {
+        Some(front) => front,
+        None => line,
+    };
     let mut words = 0usize;
     let mut was_blank = true;
-    for byte in line.iter().take(column.saturating_sub(1)) {
+    for byte in front {
         let is_blank = is_blank(*byte);
         if was_blank && !is_blank {
             words = words.saturating_add(1);
@@ -92,7 +120,9 @@ pub fn words_before(line: &[u8], column: usize) -> usize {
 }
 
 /// The word of a line at a place, from 0; an empty one where there is none.
-pub fn word(line: &[u8], place: usize) -> &[u8] {
+pub fn word(line: &[u8], place: usize) -> &[u8]
+    ensures { result.now ≡ word_of line.now place }
+{
     let start = column(line, place).saturating_sub(1);
     let Some(rest) = line.get(start..) else {
         return &[];

@@ -1,7 +1,5 @@
-use Rattle.std.proofs.Common.{rules, ◌≡◌, ◌++◌, OnOk, drop, string_bytes, ℕ, List, length, arith}
+use Rattle.std.proofs.Common.{arith}
 use Rattle.std.proofs.lemmas.Grind.{common_steps}
-use Rattle.std.specs.List.{flat_map}
-use Rattle.cam_scope.specs.Words.{name_word, place_text, word_from}
 use Rattle.cam_scope.proofs.Naming.{bound_word}
 use Rattle.cam_scope.proofs.names.+write_from.Goals as goal
 
