@@ -1,11 +1,10 @@
 -- The parts of a diagram are well-formed, whatever they say.
-use Rattle.std.proofs.Common.{ℕ, ◌+◌, ◌*◌, refl, ◌≡◌, IsTrue, Bool, List, [], ◌∷◌, ◌++◌, Option, Some, None, codes, decimal}
+use Rattle.std.proofs.Common.{ℕ, ◌+◌, ◌*◌, eqb, refl, IsTrue, Bool, true, false, if◌then◌else◌, List, [], ◌∷◌, codes, decimal}
 use Rattle.std.specs.List.{flat_map}
-use Rattle.std.specs.Option.{option_map_or}
 use Rattle.cam_event.specs.declared.LetterId.{LetterId}
 use Rattle.cam_xml.specs.WellFormed.{IsText, AreAttributes, IsContent, is_name}
 use Rattle.cam_xml.specs.WellFormed.IsText.{empty as no_text, plain as plain_text, both as texts}
-use Rattle.cam_xml.specs.WellFormed.AreAttributes.{none as no_attributes, one as attribute, both as attributes}
+use Rattle.cam_xml.specs.WellFormed.AreAttributes.{one as attribute, both as attributes}
 use Rattle.cam_xml.specs.WellFormed.IsContent.{text as text_content, element, empty_element, both as contents}
 use Rattle.cam_xml.specs.WellFormed.{escaped}
 use Rattle.cam_xml.proofs.Text.{escaped_is_text, numbers_are_text}
@@ -13,11 +12,12 @@ use Rattle.cam_diagram.specs.declared.Kind.{Kind}
 use Rattle.cam_diagram.specs.declared.Spot.{Spot}
 use Rattle.cam_diagram.specs.declared.Arrow.{Arrow}
 use Rattle.cam_diagram.specs.declared.Caption.{Caption}
-use Rattle.cam_diagram.specs.declared.paths.Course.{Course}
-use Rattle.cam_diagram.specs.declared.paths.Course.TheVariants.{Right, Left, Own}
-use Rattle.cam_diagram.specs.Picture.{kind_class, kind_word}
-use Rattle.cam_diagram.specs.Places.{class_of, dim, is_lit, letter_number, numbered, place, point, set, set_number, text_tag, translation, x_of, y_of}
-use Rattle.cam_diagram.specs.Marks.{across, along, along_tag, arrow_front, arrow_path, arrow_tag, arrow_text, arrow_words, course_class, course_of, ends, is_arrow_lit, label, look, looped, offset, sag, shaft, shift, words_along, words_beside}
+use Rattle.cam_diagram.specs.declared.Stub.{Stub}
+use Rattle.cam_diagram.specs.Picture.{fate_shape, fate_word, kind_class, kind_word}
+use Rattle.cam_diagram.specs.Places.{class_of, dim, is_letter_lit, letter_number, numbered, place, point, set, set_number, text_tag, translation, x_of, y_of}
+use Rattle.cam_diagram.specs.Marks.{across, arrow_path, arrow_tag, arrow_text, ends, looped, mark_tag, sag, shaft}
+use Rattle.cam_diagram.specs.Stubs.{end_x, end_y, side_of, stub_end, stub_shaft, stub_tag, stub_text}
+use Rattle.cam_diagram.specs.Labels.{arrow_label, arrow_side, arrow_words, arrow_words_x, fate_label, label, side_class, stub_label, stub_words, words_x}
 
 pub word : (bytes : List ℕ) → IsText (escaped bytes)
 word bytes =
@@ -69,25 +69,27 @@ pub translation_is : (x y : ℕ) → AreAttributes (codes "transform" ∷ []) (t
 translation_is x y =
     attribute (codes "transform") refl (texts (point_is (codes "translate(") x y) (word (codes ")")))
 
-across_is : (left right : Spot) → IsText (across left right)
+across_is : (from to : Spot) → IsText (across from to)
 unfolding across
-across_is left right =
-    texts (texts (point_is (codes "M") (x_of left.node) (y_of left.event)) (point_is (codes "Q") (40 + 60 * (left.node + right.node)) (48 + 14 * (left.event + right.event) + sag left right))) (point_is (codes " ") (x_of right.node) (y_of right.event))
+across_is from to =
+    texts (texts (point_is (codes "M") (x_of from.node) (y_of from.event)) (point_is (codes "Q") (40 + 60 * (from.node + to.node)) (48 + 14 * (from.event + to.event) + sag from to))) (point_is (codes " ") (x_of to.node) (y_of to.event))
 
 looped_is : (from to : Spot) → IsText (looped from to)
 unfolding looped
 looped_is from to =
     texts (texts (texts (point_is (codes "M") (x_of from.node) (y_of from.event)) (point_is (codes "C") (120 * from.node) (82 + 28 * from.event))) (point_is (codes " ") (120 * from.node) (70 + 28 * to.event))) (point_is (codes " ") (x_of to.node) (y_of to.event))
 
-path_is : (course : Course) (a : Arrow) → IsText (arrow_path course a)
-path_is Right a =
-    across_is a.from a.to
-path_is Left a =
-    across_is a.to a.from
-path_is Own a =
-    looped_is a.from a.to
+one_or_other : (own : Bool) (from to : Spot) → IsText (if own then looped from to else across from to)
+one_or_other true from to =
+    looped_is from to
+one_or_other false from to =
+    across_is from to
 
-pub label_is : (captions : List Caption) (kind : Kind) (letter : LetterId) → IsText (label captions kind letter)
+path_is : (a : Arrow) → IsText (arrow_path a)
+path_is a =
+    one_or_other (eqb a.from.node a.to.node) a.from a.to
+
+label_is : (captions : List Caption) (kind : Kind) (letter : LetterId) → IsText (label captions kind letter)
 unfolding label
 label_is captions kind letter =
     texts (texts (word (kind_word kind)) (word (codes " "))) (number (letter_number captions letter))
@@ -96,56 +98,70 @@ pub numbered_is : (name mark : List ℕ) (n : ℕ) → IsTrue (is_name name) →
 numbered_is name mark n named =
     attribute name named (texts (word mark) (number n))
 
+mark_tag_is : (captions : List Caption) (class : List ℕ) (kind : Kind) (letter : LetterId) (lit : Bool)
+    → AreAttributes (codes "class" ∷ codes "data-letter" ∷ []) (mark_tag captions class kind letter lit)
+unfolding mark_tag
+mark_tag_is captions class kind letter lit =
+    attributes (class_is class (kind_class kind) lit) (number_is (codes "data-letter") (letter_number captions letter) refl) refl
+
 ends_are : (a : Arrow) → AreAttributes (codes "data-from" ∷ codes "data-to" ∷ []) (ends a)
 unfolding ends
 ends_are a =
     attributes (number_is (codes "data-from") a.from.event refl) (number_is (codes "data-to") a.to.event refl) refl
 
-look_is : (captions : List Caption) (a : Arrow) → AreAttributes (codes "class" ∷ []) (look captions a)
-unfolding look
-look_is captions a =
-    class_is (kind_class a.kind) (course_class (course_of a)) (is_arrow_lit captions a)
-
-arrow_front_is : (captions : List Caption) (a : Arrow)
-    → AreAttributes (codes "class" ∷ codes "data-letter" ∷ []) (arrow_front captions a)
-unfolding arrow_front
-arrow_front_is captions a =
-    attributes (look_is captions a) (number_is (codes "data-letter") (letter_number captions a.letter) refl) refl
-
 arrow_tag_is : (captions : List Caption) (a : Arrow)
     → AreAttributes (codes "class" ∷ codes "data-letter" ∷ codes "data-from" ∷ codes "data-to" ∷ []) (arrow_tag captions a)
 unfolding arrow_tag
-arrow_tag_is captions a = attributes (arrow_front_is captions a) (ends_are a) refl
+arrow_tag_is captions a =
+    attributes (mark_tag_is captions (codes "letter ") a.kind a.letter (is_letter_lit captions a.to.event)) (ends_are a) refl
 
 shaft_is : (a : Arrow) → IsContent (shaft a)
 unfolding shaft
 shaft_is a =
-    empty_element (codes "path") refl (attributes (attributes (set_is (codes "class") (codes "shaft") refl) (numbered_is (codes "id") (codes "w") a.to.event refl) refl) (attribute (codes "d") refl (path_is (course_of a) a)) refl)
-
-along_is : (captions : List Caption) (a : Arrow) → IsContent (along captions a)
-unfolding along along_tag
-along_is captions a =
-    element (codes "textPath") refl (attributes (numbered_is (codes "href") (codes "#w") a.to.event refl) (set_is (codes "startOffset") (offset (course_of a)) refl) refl) (text_content (label_is captions a.kind a.letter))
-
-words_along_is : (captions : List Caption) (a : Arrow) → IsContent (words_along captions a)
-unfolding words_along
-words_along_is captions a =
-    element (codes "text") refl (attributes (attributes (set_is (codes "class") (codes "word") refl) (set_is (codes "dx") (shift (course_of a)) refl) refl) (set_is (codes "dy") (codes "-3") refl) refl) (along_is captions a)
-
-words_beside_is : (captions : List Caption) (a : Arrow) → IsContent (words_beside captions a)
-unfolding words_beside
-words_beside_is captions a =
-    element (codes "text") refl (text_tag_is (codes "word before") (6 + 120 * a.to.node) (80 + 14 * (a.from.event + a.to.event))) (text_content (label_is captions a.kind a.letter))
-
-words_are : (course : Course) (captions : List Caption) (a : Arrow) → IsContent (arrow_words course captions a)
-words_are Right captions a =
-    words_along_is captions a
-words_are Left captions a =
-    words_along_is captions a
-words_are Own captions a =
-    words_beside_is captions a
+    empty_element (codes "path") refl (attributes (set_is (codes "class") (codes "shaft") refl) (attribute (codes "d") refl (path_is a)) refl)
 
 pub arrow_is : (captions : List Caption) (a : Arrow) → IsContent (arrow_text captions a)
 unfolding arrow_text
 arrow_is captions a =
-    contents (element (codes "g") refl (arrow_tag_is captions a) (contents (shaft_is a) (words_are (course_of a) captions a))) line_end
+    contents (element (codes "g") refl (arrow_tag_is captions a) (shaft_is a)) line_end
+
+stub_tag_is : (captions : List Caption) (s : Stub)
+    → AreAttributes (codes "class" ∷ codes "data-letter" ∷ codes "data-from" ∷ []) (stub_tag captions s)
+unfolding stub_tag
+stub_tag_is captions s =
+    attributes (mark_tag_is captions (codes "letter unheard ") s.kind s.letter s.lit) (number_is (codes "data-from") s.from.event refl) refl
+
+stub_shaft_is : (s : Stub) → IsContent (stub_shaft s)
+unfolding stub_shaft
+stub_shaft_is s =
+    empty_element (codes "path") refl (attributes (set_is (codes "class") (codes "shaft") refl) (attribute (codes "d") refl (texts (point_is (codes "M") (x_of s.from.node) (y_of s.from.event)) (point_is (codes "L") (end_x (side_of s) s) (end_y s)))) refl)
+
+stub_end_is : (s : Stub) → IsContent (stub_end s)
+unfolding stub_end
+stub_end_is s =
+    empty_element (codes "path") refl (attributes (attributes (set_is (codes "class") (codes "fate") refl) (translation_is (end_x (side_of s) s) (end_y s)) refl) (set_is (codes "d") (fate_shape s.fate) refl) refl)
+
+pub stub_is : (captions : List Caption) (s : Stub) → IsContent (stub_text captions s)
+unfolding stub_text
+stub_is captions s =
+    contents (element (codes "g") refl (stub_tag_is captions s) (contents (stub_shaft_is s) (stub_end_is s))) line_end
+
+arrow_words_are : (captions : List Caption) (a : Arrow) → IsContent (arrow_words captions a)
+unfolding arrow_words
+arrow_words_are captions a =
+    element (codes "text") refl (text_tag_is (side_class (arrow_side a)) (arrow_words_x a) (81 + 28 * a.to.event)) (text_content (label_is captions a.kind a.letter))
+
+pub arrow_label_is : (captions : List Caption) (a : Arrow) → IsContent (arrow_label captions a)
+unfolding arrow_label
+arrow_label_is captions a =
+    contents (element (codes "g") refl (mark_tag_is captions (codes "label ") a.kind a.letter (is_letter_lit captions a.to.event)) (arrow_words_are captions a)) line_end
+
+stub_words_are : (captions : List Caption) (s : Stub) → IsContent (stub_words captions s)
+unfolding stub_words fate_label
+stub_words_are captions s =
+    element (codes "text") refl (text_tag_is (side_class (side_of s)) (words_x (side_of s) s) (end_y s + 4)) (text_content (texts (label_is captions s.kind s.letter) (word (fate_word s.fate))))
+
+pub stub_label_is : (captions : List Caption) (s : Stub) → IsContent (stub_label captions s)
+unfolding stub_label
+stub_label_is captions s =
+    contents (element (codes "g") refl (mark_tag_is captions (codes "label unheard ") s.kind s.letter s.lit) (stub_words_are captions s)) line_end

@@ -1,53 +1,27 @@
 -- A diagram is well-formed, whatever its scene says.
-use Rattle.std.proofs.Common.{ℕ, ◌+◌, ◌*◌, refl, ◌≡◌, subst, sym, Bool, List, [], ◌∷◌, ◌++◌, length, map, reverse, codes, string_bytes, String, Option, Some, None, slice_get}
+use Rattle.std.proofs.Common.{ℕ, ◌+◌, ◌*◌, refl, ◌≡◌, subst, sym, List, [], ◌∷◌, ◌++◌, length, map, reverse, codes, string_bytes, String, Option, Some, None, slice_get}
 use Rattle.std.specs.declared.alloc.Global.{Global}
 use Rattle.std.specs.Option.{option_map_or}
 use Rattle.cam_event.specs.declared.Event.{Event}
 use Rattle.cam_xml.specs.WellFormed.{IsContent, IsDocument, AreAttributes}
-use Rattle.cam_xml.specs.WellFormed.IsText.{empty as no_text, plain as plain_text, both as texts}
+use Rattle.cam_xml.specs.WellFormed.IsText.{empty as no_text, both as texts}
 use Rattle.cam_xml.specs.WellFormed.AreAttributes.{none as no_attributes, one as attribute, both as attributes}
 use Rattle.cam_xml.specs.WellFormed.IsContent.{text as text_content, element, empty_element, both as contents}
 use Rattle.cam_diagram.specs.declared.Arrow.{Arrow}
 use Rattle.cam_diagram.specs.declared.Dot.{Dot}
-use Rattle.cam_diagram.specs.declared.Stub.{Stub}
 use Rattle.cam_diagram.specs.declared.Halt.{Halt}
 use Rattle.cam_diagram.specs.declared.Caption.{Caption}
 use Rattle.cam_diagram.specs.declared.Scene.{Scene}
 use Rattle.cam_diagram.specs.declared.document.Size.{Size}
-use Rattle.cam_diagram.specs.Picture.{arrows, dot, fate_shape, fate_word, kind_class, sign_shape, sign_word}
-use Rattle.cam_diagram.specs.Places.{is_lit, letter_number, x_of, y_of}
+use Rattle.cam_diagram.specs.Picture.{arrows, dot, sign_shape, sign_word}
+use Rattle.cam_diagram.specs.Places.{is_lit, x_of, y_of}
 use Rattle.cam_diagram.specs.Marks.{arrow_text}
-use Rattle.cam_diagram.specs.Stubs.{end_x, end_y, side_class, side_of, stub_end, stub_shape, stub_shaft, stub_tag, stub_text, stub_words, words_x}
-use Rattle.cam_diagram.specs.Lanes.{halt_mark, halt_text, halt_words, head, kept, lane_text, lanes_text, vertical}
-use Rattle.cam_diagram.specs.Dots.{beside, beside_at, caption_at, caption_text, deeds_title, dot_number, dot_parts, dot_shape, dot_tag, dot_text, dots_text, line_text, words_tag, words_text}
-use Rattle.cam_diagram.specs.Diagram.{diagram, document, extent, looks, namespace, outline, picture, rect, root_tag, rows, rows_tag, sheet, size, sizes, tip, tip_place, tip_tag, view_box}
-use Rattle.cam_diagram.proofs.Parts.{arrow_is, class_is, each_is, label_is, line_end, number, number_is, numbered_is, point_is, set_is, text_tag_is, translation_is, word}
-
-stub_tag_is : (captions : List Caption) (s : Stub)
-    → AreAttributes (codes "class" ∷ codes "data-letter" ∷ codes "data-from" ∷ []) (stub_tag captions s)
-unfolding stub_tag
-stub_tag_is captions s =
-    attributes (attributes (class_is (kind_class s.kind) (codes " unheard") (is_lit captions s.from.event)) (number_is (codes "data-letter") (letter_number captions s.letter) refl) refl) (number_is (codes "data-from") s.from.event refl) refl
-
-stub_shaft_is : (s : Stub) → IsContent (stub_shaft s)
-unfolding stub_shaft
-stub_shaft_is s =
-    empty_element (codes "path") refl (attributes (set_is (codes "class") (codes "shaft") refl) (attribute (codes "d") refl (texts (point_is (codes "M") (x_of s.from.node) (y_of s.from.event)) (point_is (codes "L") (end_x (side_of s) s) (end_y s)))) refl)
-
-stub_end_is : (s : Stub) → IsContent (stub_end s)
-unfolding stub_end
-stub_end_is s =
-    empty_element (codes "path") refl (attributes (attributes (set_is (codes "class") (codes "fate") refl) (translation_is (end_x (side_of s) s) (end_y s)) refl) (set_is (codes "d") (fate_shape s.fate) refl) refl)
-
-stub_words_is : (captions : List Caption) (s : Stub) → IsContent (stub_words captions s)
-unfolding stub_words
-stub_words_is captions s =
-    element (codes "text") refl (text_tag_is (side_class (side_of s)) (words_x (side_of s) s) (end_y s + 4)) (text_content (texts (label_is captions s.kind s.letter) (word (fate_word s.fate))))
-
-stub_is : (captions : List Caption) (s : Stub) → IsContent (stub_text captions s)
-unfolding stub_text stub_shape
-stub_is captions s =
-    contents (element (codes "g") refl (stub_tag_is captions s) (contents (contents (stub_shaft_is s) (stub_end_is s)) (stub_words_is captions s))) line_end
+use Rattle.cam_diagram.specs.Stubs.{stub_text}
+use Rattle.cam_diagram.specs.Labels.{arrow_label, stub_label}
+use Rattle.cam_diagram.specs.Lanes.{halt_label, halt_lane, halt_mark, halt_words, head, kept, lane_text, lanes_text, post, posts_from, vertical}
+use Rattle.cam_diagram.specs.Dots.{beside, beside_at, caption_text, deeds_title, dot_number, dot_parts, dot_shape, dot_tag, dot_text, dots_text, line_text, words_tag, words_text}
+use Rattle.cam_diagram.specs.Diagram.{column, columns, diagram, document, extent, labels, lines, looks, namespace, outline, picture, posts, posts_tag, rect, root_tag, rows, rows_tag, sheet, size, sizes, tip, tip_place, tip_tag, view_box}
+use Rattle.cam_diagram.proofs.Parts.{arrow_is, arrow_label_is, class_is, each_is, line_end, number, number_is, numbered_is, point_is, set_is, stub_is, stub_label_is, text_tag_is, translation_is, word}
 
 vertical_is : (class : List ℕ) (x from to : ℕ) → IsContent (vertical class x from to)
 unfolding vertical
@@ -90,17 +64,32 @@ unfolding halt_words
 halt_words_are x y words =
     element (codes "text") refl (text_tag_is (codes "beside") x y) (text_content (word words))
 
-halt_is : (h : Halt) → IsContent (halt_text h)
-unfolding halt_text
-halt_is h =
+halt_lane_is : (h : Halt) → IsContent (halt_lane h)
+unfolding halt_lane
+halt_lane_is h =
     contents
-    (contents
-    (contents
     (contents (vertical_is (codes "gap") (x_of h.node) (62 + 28 * h.above) (62 + 28 * h.until))
     (vertical_is (codes "halted") (x_of h.node) (62 + 28 * h.above) (62 + 28 * h.until)))
-    (halt_mark_is (x_of h.node + 18) (62 + 28 * h.above)))
+    line_end
+
+halt_label_is : (h : Halt) → IsContent (halt_label h)
+unfolding halt_label
+halt_label_is h =
+    contents
+    (contents (halt_mark_is (x_of h.node + 18) (62 + 28 * h.above))
     (halt_words_are (x_of h.node + 30) (62 + 28 * h.above + 4) (string_bytes h.words)))
     line_end
+
+post_is : (left : ℕ) → IsContent (post left)
+unfolding post
+post_is left =
+    element (codes "text") refl (text_tag_is (codes "word post") (160 + 120 * left) 424) (text_content (texts (word (codes "node ")) (number (left + 1))))
+
+posts_from_are : (left : ℕ) (heads : List (String Global)) → IsContent (posts_from left heads)
+posts_from_are left [] =
+    text_content no_text
+posts_from_are left (objects ∷ more) =
+    contents (post_is left) (posts_from_are (left + 1) more)
 
 caption_words_are : (x y : ℕ) (c : Caption) → IsContent (words_text x y c)
 unfolding words_text words_tag
@@ -216,10 +205,35 @@ unfolding looks
 looks_are style s =
     contents (contents (contents (contents (contents (sheet_is style) tip_is) (rows_are s.width)) (rect_is (codes "paper") 0 s.width s.height)) (rect_is (codes "rows") 62 s.width s.height)) line_end
 
+column_is : (class : List ℕ) (x : ℕ) (words : List ℕ) → IsContent (column class x words)
+unfolding column
+column_is class x words =
+    element (codes "text") refl (text_tag_is class x 40) (text_content (word words))
+
+columns_are : (words : ℕ) → IsContent (columns words)
+unfolding columns
+columns_are words =
+    contents (contents (column_is (codes "line") 40 (codes "line")) (column_is (codes "column") words (codes "what happened"))) line_end
+
+posts_are : (scene : Scene) (s : Size) → IsContent (posts scene s)
+unfolding posts posts_tag
+posts_are scene s =
+    contents (contents (element (codes "pattern") refl (attributes (attributes (attributes (set_is (codes "id") (codes "posts") refl) (set_is (codes "patternUnits") (codes "userSpaceOnUse") refl) refl) (set_is (codes "y") (codes "482") refl) refl) (sizes_are s.width 840) refl) (posts_from_are 0 scene.heads)) (rect_is (codes "posts") 482 s.width s.height)) line_end
+
+lines_are : (scene : Scene) (s : Size) (drawn : List Arrow) (ds : List Dot) → IsContent (lines scene s drawn ds)
+unfolding lines
+lines_are scene s drawn ds =
+    contents (contents (contents (contents (lanes_are s.height 0 scene.heads) (each_is halt_lane halt_lane_is scene.halts)) (each_is (arrow_text scene.captions) (arrow_is scene.captions) drawn)) (each_is (stub_text scene.captions) (stub_is scene.captions) scene.stubs)) (dots_are scene.captions s.words 0 ds)
+
+labels_are : (scene : Scene) (s : Size) (drawn : List Arrow) → IsContent (labels scene s drawn)
+unfolding labels
+labels_are scene s drawn =
+    contents (contents (contents (each_is (arrow_label scene.captions) (arrow_label_is scene.captions) drawn) (each_is (stub_label scene.captions) (stub_label_is scene.captions) scene.stubs)) (each_is halt_label halt_label_is scene.halts)) (posts_are scene s)
+
 picture_is : (scene : Scene) (s : Size) (drawn : List Arrow) (ds : List Dot) → IsContent (picture scene s drawn ds)
 unfolding picture
 picture_is scene s drawn ds =
-    contents (contents (contents (contents (lanes_are s.height 0 scene.heads) (each_is halt_text halt_is scene.halts)) (each_is (arrow_text scene.captions) (arrow_is scene.captions) drawn)) (each_is (stub_text scene.captions) (stub_is scene.captions) scene.stubs)) (dots_are scene.captions s.words 0 ds)
+    contents (contents (columns_are s.words) (lines_are scene s drawn ds)) (labels_are scene s drawn)
 
 document_is : (scene : Scene) (s : Size) (drawn : List Arrow) (ds : List Dot) → IsDocument (document scene s drawn ds)
 unfolding document

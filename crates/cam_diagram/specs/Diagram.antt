@@ -1,5 +1,5 @@
 -- The diagram of a run as a document.
-use Rattle.std.specs.Prelude.{ℕ, ◌+◌, ◌*◌, List, [], ◌++◌, length, map, reverse, codes, decimal, string_bytes}
+use Rattle.std.specs.Prelude.{ℕ, ◌+◌, ◌*◌, List, [], ◌++◌, length, map, reverse, codes, string_bytes}
 use Rattle.std.specs.List.{flat_map}
 use Rattle.cam_event.specs.declared.Event.{Event}
 use Rattle.cam_xml.specs.WellFormed.{attribute_text, element_text, empty_element_text, escaped}
@@ -8,10 +8,11 @@ use Rattle.cam_diagram.specs.declared.Dot.{Dot}
 use Rattle.cam_diagram.specs.declared.Scene.{Scene}
 use Rattle.cam_diagram.specs.declared.document.Size.{Size}
 use Rattle.cam_diagram.specs.Picture.{arrows, dot}
-use Rattle.cam_diagram.specs.Places.{point, set, set_number}
+use Rattle.cam_diagram.specs.Places.{point, set, set_number, text_tag}
 use Rattle.cam_diagram.specs.Marks.{arrow_text}
 use Rattle.cam_diagram.specs.Stubs.{stub_text}
-use Rattle.cam_diagram.specs.Lanes.{halt_text, lanes_text}
+use Rattle.cam_diagram.specs.Labels.{arrow_label, stub_label}
+use Rattle.cam_diagram.specs.Lanes.{halt_label, halt_lane, lanes_text, posts_from}
 use Rattle.cam_diagram.specs.Dots.{dots_text}
 
 -- the size of the diagram of so many events, and where their words begin
@@ -76,12 +77,41 @@ looks style s =
     sheet style ++ tip ++ rows s.width ++ rect (codes "paper") 0 s.width s.height
     ++ rect (codes "rows") 62 s.width s.height ++ codes "\n"
 
--- What covers comes later: lanes, halts, arrows, letters that no event received, dots.
-unfoldable pub picture : Scene → Size → List Arrow → List Dot → List ℕ
-picture scene s drawn dots =
-    lanes_text s.height 0 scene.heads ++ flat_map halt_text scene.halts
+unfoldable pub column : List ℕ → ℕ → List ℕ → List ℕ
+column class x words = element_text (codes "text") (text_tag class x 40) (escaped words)
+
+-- over the numbers of lines and over the words of events, what they are
+unfoldable pub columns : ℕ → List ℕ
+columns words =
+    column (codes "line") 40 (codes "line") ++ column (codes "column") words (codes "what happened") ++ codes "\n"
+
+-- the names of nodes, once in thirty rows
+unfoldable pub posts_tag : ℕ → List ℕ
+posts_tag width =
+    set (codes "id") (codes "posts") ++ set (codes "patternUnits") (codes "userSpaceOnUse")
+    ++ set (codes "y") (codes "482") ++ sizes width 840
+
+unfoldable pub posts : Scene → Size → List ℕ
+posts scene s =
+    element_text (codes "pattern") (posts_tag s.width) (posts_from 0 scene.heads)
+    ++ rect (codes "posts") 482 s.width s.height ++ codes "\n"
+
+-- lines and dots
+unfoldable pub lines : Scene → Size → List Arrow → List Dot → List ℕ
+lines scene s drawn dots =
+    lanes_text s.height 0 scene.heads ++ flat_map halt_lane scene.halts
     ++ flat_map (arrow_text scene.captions) drawn ++ flat_map (stub_text scene.captions) scene.stubs
     ++ dots_text scene.captions s.words 0 dots
+
+-- the words of arrows, of letters that no event received, and of halts
+unfoldable pub labels : Scene → Size → List Arrow → List ℕ
+labels scene s drawn =
+    flat_map (arrow_label scene.captions) drawn ++ flat_map (stub_label scene.captions) scene.stubs
+    ++ flat_map halt_label scene.halts ++ posts scene s
+
+-- What covers comes later: words are above all lines.
+unfoldable pub picture : Scene → Size → List Arrow → List Dot → List ℕ
+picture scene s drawn dots = columns s.words ++ lines scene s drawn dots ++ labels scene s drawn
 
 unfoldable pub document : Scene → Size → List Arrow → List Dot → List ℕ
 document scene s drawn dots =

@@ -2,7 +2,7 @@
 use Rattle.std.specs.declared.alloc.Global.{Global}
 use Rattle.std.specs.Prelude.{ℕ, ◌+◌, ◌*◌, Option, String, List, [], ◌∷◌, ◌++◌, slice_get, codes, decimal, string_bytes}
 use Rattle.std.specs.Option.{option_map_or}
-use Rattle.cam_xml.specs.WellFormed.{attribute_text, element_text, empty_element_text, escaped}
+use Rattle.cam_xml.specs.WellFormed.{element_text, empty_element_text, escaped}
 use Rattle.cam_diagram.specs.declared.Dot.{Dot}
 use Rattle.cam_diagram.specs.declared.Caption.{Caption}
 use Rattle.cam_diagram.specs.Picture.{sign_shape, sign_word}

@@ -45,9 +45,24 @@ halt_words x y words =
     element_text (codes "text") (text_tag (codes "beside") x y) (escaped words)
 
 -- A halt, below the events above it: the lane is dotted until the row of the event that ends it.
-unfoldable pub halt_text : Halt → List ℕ
-halt_text h =
+unfoldable pub halt_lane : Halt → List ℕ
+halt_lane h =
     vertical (codes "gap") (x_of h.node) (62 + 28 * h.above) (62 + 28 * h.until)
-    ++ vertical (codes "halted") (x_of h.node) (62 + 28 * h.above) (62 + 28 * h.until)
-    ++ halt_mark (x_of h.node + 18) (62 + 28 * h.above)
+    ++ vertical (codes "halted") (x_of h.node) (62 + 28 * h.above) (62 + 28 * h.until) ++ codes "\n"
+
+-- its mark and its words, where it begins
+unfoldable pub halt_label : Halt → List ℕ
+halt_label h =
+    halt_mark (x_of h.node + 18) (62 + 28 * h.above)
     ++ halt_words (x_of h.node + 30) (62 + 28 * h.above + 4) (string_bytes h.words) ++ codes "\n"
+
+-- the name of a node again, where its lane has gone on for thirty rows
+unfoldable pub post : ℕ → List ℕ
+post left =
+    element_text (codes "text") (text_tag (codes "word post") (160 + 120 * left) 424)
+    (escaped (codes "node ") ++ decimal (left + 1))
+
+-- as many of them, from a lane with so many at its left
+abbrev pub posts_from : ℕ → List (String Global) → List ℕ
+posts_from left [] = []
+posts_from left (objects ∷ more) = post left ++ posts_from (left + 1) more

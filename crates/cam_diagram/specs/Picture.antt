@@ -128,16 +128,16 @@ kind_word kinds.News = codes "news"
 
 -- letters of one purpose look alike
 unfoldable pub kind_class : Kind → List ℕ
-kind_class kinds.Start = codes "letter work"
-kind_class kinds.Call = codes "letter work"
-kind_class kinds.Answer = codes "letter reply"
-kind_class kinds.Finish = codes "letter end"
-kind_class kinds.Quit = codes "letter end"
-kind_class kinds.Prepare = codes "letter vote"
-kind_class kinds.VoteYes = codes "letter vote"
-kind_class kinds.VoteNo = codes "letter vote"
-kind_class kinds.Query = codes "letter vote"
-kind_class kinds.News = codes "letter news"
+kind_class kinds.Start = codes "work"
+kind_class kinds.Call = codes "work"
+kind_class kinds.Answer = codes "reply"
+kind_class kinds.Finish = codes "end"
+kind_class kinds.Quit = codes "end"
+kind_class kinds.Prepare = codes "vote"
+kind_class kinds.VoteYes = codes "vote"
+kind_class kinds.VoteNo = codes "vote"
+kind_class kinds.Query = codes "vote"
+kind_class kinds.News = codes "news"
 
 unfoldable pub fate_word : Fate → List ℕ
 fate_word Waiting = codes " waits"

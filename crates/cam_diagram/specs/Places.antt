@@ -20,6 +20,10 @@ letter_number captions letter =
 abbrev pub is_lit : List Caption → ℕ → Bool
 is_lit captions event = option_map_or (λ c. c.lit) (slice_get captions event) true
 
+-- whether the letter is lit that an event received
+abbrev pub is_letter_lit : List Caption → ℕ → Bool
+is_letter_lit captions event = option_map_or (λ c. c.lit_letter) (slice_get captions event) true
+
 unfoldable pub dim : Bool → List ℕ
 dim true = []
 dim false = codes " dim"

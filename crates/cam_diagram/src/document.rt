@@ -1,13 +1,15 @@
 //! The diagram as a document.
 ghost use Rattle.std.specs.Prelude.{◌≡◌, ◌+◌, ◌*◌, ◌++◌, IfOk, OnOk, codes, decimal, length, string_bytes};
 ghost use Rattle.cam_xml.specs.WellFormed.{IsDocument, attribute_text, element_text, escaped};
-ghost use Rattle.cam_diagram.specs.Diagram.{diagram, document, extent, looks, namespace, outline, picture, rect, root_tag, rows, rows_tag, sheet, size, sizes, tip, tip_place, tip_tag, view_box};
+ghost use Rattle.cam_diagram.specs.Diagram.{column, columns, diagram, document, extent, labels, lines, looks, namespace, picture, root_tag, size, sizes, view_box};
 
-use crate::places::write_point;
+use crate::labels::{write_arrow_labels, write_stub_labels};
+use crate::looks::{write_looks, write_post_rows, write_size};
+use crate::places::{write_point, write_text_tag};
 use crate::shapes::{arrows_of, dots_of};
 use crate::svg_arrow::write_arrows;
 use crate::svg_dot::write_dots;
-use crate::svg_lane::{write_halts, write_lanes};
+use crate::svg_lane::{write_halt_labels, write_halt_lanes, write_lanes};
 use crate::svg_stub::write_stubs;
 use crate::{Arrows, Dots, Scene};
 use cam_base::NoMemory;
@@ -18,9 +20,9 @@ use std::alloc::Global;
 /// How large a diagram is, in pixels, and where the words of its events begin.
 #[derive(Clone, Copy)]
 pub(crate) struct Size {
-    width: u128,
-    height: u128,
-    words: u128,
+    pub(crate) width: u128,
+    pub(crate) height: u128,
+    pub(crate) words: u128,
 }
 
 /// The size of the diagram of so many events.
@@ -33,14 +35,6 @@ fn size_of(scene: &Scene, events: u64) -> Size
         height: 76 + 28 * events as u128,
         words,
     }
-}
-
-/// Writes a size, as attributes.
-fn write_size(xml: &mut Xml, width: u128, height: u128) -> Result<(), NoMemory>
-    ensures { OnOk result (xml.new ≡ xml.old ++ sizes width height) }
-{
-    xml.set_number("width", width)?;
-    xml.set_number("height", height)
 }
 
 /// Writes the part of the plane that is shown.
@@ -81,117 +75,56 @@ fn write_root_tag(xml: &mut Xml, size: &Size) -> Result<(), NoMemory>
     xml.content()
 }
 
-/// Writes the style sheet.
-#[tactic(auto, unfolding(crate::specs::Diagram::sheet))]
-fn write_sheet(xml: &mut Xml, style: &str) -> Result<(), NoMemory>
-    ensures { OnOk result (xml.new ≡ xml.old ++ sheet style.now) }
+/// Writes what a column has, over it.
+#[tactic(auto, unfolding(crate::specs::Diagram::column))]
+fn write_column(xml: &mut Xml, class: &str, x: u128, words: &str) -> Result<(), NoMemory>
+    ensures { OnOk result (xml.new ≡ xml.old ++ column class.now x words.now) }
 {
-    xml.tag("style")?;
-    xml.content()?;
-    xml.text(style)?;
-    xml.end_element("style")?;
+    write_text_tag(xml, class, x, 40)?;
+    xml.text(words)?;
+    xml.end_element("text")
+}
+
+/// Writes over the numbers of lines and over the words of events what they are.
+#[tactic(auto, unfolding(crate::specs::Diagram::columns))]
+fn write_columns(xml: &mut Xml, words: u128) -> Result<(), NoMemory>
+    ensures { OnOk result (xml.new ≡ xml.old ++ columns words) }
+{
+    write_column(xml, "line", 40, "line")?;
+    write_column(xml, "column", words, "what happened")?;
     xml.end_line()
 }
 
-/// Writes an outline of this class.
-#[tactic(auto, unfolding(crate::specs::Diagram::outline))]
-fn write_outline(xml: &mut Xml, class: &str, path: &str) -> Result<(), NoMemory>
-    ensures { OnOk result (xml.new ≡ xml.old ++ outline class.now path.now) }
-{
-    xml.tag("path")?;
-    xml.set("class", class)?;
-    xml.set("d", path)?;
-    xml.end_tag()
-}
-
-/// Writes where the tip of an arrow is: a dot's radius before the end of its shaft.
-#[tactic(auto, unfolding(crate::specs::Diagram::tip_place))]
-fn write_tip_place(xml: &mut Xml) -> Result<(), NoMemory>
-    ensures { OnOk result (xml.new ≡ xml.old ++ tip_place) }
-{
-    xml.set("refX", "11")?;
-    xml.set("refY", "2")?;
-    xml.set("orient", "auto-start-reverse")
-}
-
-/// Writes the begin of the tip of arrows.
-#[tactic(auto, unfolding(crate::specs::Diagram::tip_tag))]
-fn write_tip_tag(xml: &mut Xml) -> Result<(), NoMemory>
-    ensures { OnOk result (xml.new ≡ xml.old ++ codes "<marker" ++ tip_tag ++ codes ">") }
-{
-    xml.tag("marker")?;
-    xml.set("id", "tip")?;
-    write_tip_place(xml)?;
-    xml.content()
-}
-
-/// Writes the tip of arrows.
-#[tactic(auto, unfolding(crate::specs::Diagram::tip))]
-fn write_tip(xml: &mut Xml) -> Result<(), NoMemory>
-    ensures { OnOk result (xml.new ≡ xml.old ++ tip) }
-{
-    write_tip_tag(xml)?;
-    write_outline(xml, "tip", "M0 0L5 2L0 4z")?;
-    xml.end_element("marker")?;
-    xml.end_line()
-}
-
-/// Writes a rectangle of this class, from this height down.
-#[tactic(auto, unfolding(crate::specs::Diagram::rect))]
-fn write_rect(
+/// Writes lines and dots: lanes, arrows, letters that no event received, events.
+#[tactic(auto, unfolding(crate::specs::Diagram::lines))]
+fn write_lines(
     xml: &mut Xml,
-    class: &str,
-    y: u128,
-    width: u128,
-    height: u128,
+    scene: &Scene,
+    size: &Size,
+    arrows: &Arrows,
+    dots: &Dots,
 ) -> Result<(), NoMemory>
-    ensures { OnOk result (xml.new ≡ xml.old ++ rect class.now y width height) }
+    ensures { OnOk result (xml.new ≡ xml.old ++ lines scene.now size.now arrows.now dots.now) }
 {
-    xml.tag("rect")?;
-    xml.set("class", class)?;
-    xml.set_number("y", y)?;
-    write_size(xml, width, height)?;
-    xml.end_tag()
+    write_lanes(xml, size.height, &scene.heads)?;
+    write_halt_lanes(xml, &scene.halts)?;
+    write_arrows(xml, &scene.captions, arrows)?;
+    write_stubs(xml, &scene.captions, &scene.stubs)?;
+    write_dots(xml, &scene.captions, size.words, dots)
 }
 
-/// Writes the begin of the pattern of rows.
-#[tactic(auto, unfolding(crate::specs::Diagram::rows_tag))]
-fn write_rows_tag(xml: &mut Xml, width: u128) -> Result<(), NoMemory>
-    ensures { OnOk result (xml.new ≡ xml.old ++ codes "<pattern" ++ rows_tag width ++ codes ">") }
+/// Writes the words of arrows, of letters that no event received, and of halts.
+#[tactic(auto, unfolding(crate::specs::Diagram::labels))]
+fn write_labels(xml: &mut Xml, scene: &Scene, size: &Size, arrows: &Arrows) -> Result<(), NoMemory>
+    ensures { OnOk result (xml.new ≡ xml.old ++ labels scene.now size.now arrows.now) }
 {
-    xml.tag("pattern")?;
-    xml.set("id", "rows")?;
-    xml.set("patternUnits", "userSpaceOnUse")?;
-    xml.set("y", "62")?;
-    write_size(xml, width, 56)?;
-    xml.content()
+    write_arrow_labels(xml, &scene.captions, arrows)?;
+    write_stub_labels(xml, &scene.captions, &scene.stubs)?;
+    write_halt_labels(xml, &scene.halts)?;
+    write_post_rows(xml, scene, size)
 }
 
-/// Writes the pattern by which every other row is shaded.
-#[tactic(auto, unfolding(crate::specs::Diagram::rows))]
-fn write_rows(xml: &mut Xml, width: u128) -> Result<(), NoMemory>
-    ensures { OnOk result (xml.new ≡ xml.old ++ rows width) }
-{
-    write_rows_tag(xml, width)?;
-    write_rect(xml, "band", 0, width, 28)?;
-    xml.end_element("pattern")?;
-    xml.end_line()
-}
-
-/// Writes the style sheet, the shapes that others use, and the paper.
-#[tactic(auto, unfolding(crate::specs::Diagram::looks))]
-fn write_looks(xml: &mut Xml, style: &str, size: &Size) -> Result<(), NoMemory>
-    ensures { OnOk result (xml.new ≡ xml.old ++ looks style.now size.now) }
-{
-    write_sheet(xml, style)?;
-    write_tip(xml)?;
-    write_rows(xml, size.width)?;
-    write_rect(xml, "paper", 0, size.width, size.height)?;
-    write_rect(xml, "rows", 62, size.width, size.height)?;
-    xml.end_line()
-}
-
-/// Writes lanes, arrows and dots, in the order in which they cover one another.
+/// Writes all that is drawn, in the order in which it covers: words are above all lines.
 #[tactic(auto, unfolding(crate::specs::Diagram::picture))]
 fn write_picture(
     xml: &mut Xml,
@@ -202,11 +135,9 @@ fn write_picture(
 ) -> Result<(), NoMemory>
     ensures { OnOk result (xml.new ≡ xml.old ++ picture scene.now size.now arrows.now dots.now) }
 {
-    write_lanes(xml, size.height, &scene.heads)?;
-    write_halts(xml, &scene.halts)?;
-    write_arrows(xml, &scene.captions, arrows)?;
-    write_stubs(xml, &scene.captions, &scene.stubs)?;
-    write_dots(xml, &scene.captions, size.words, dots)
+    write_columns(xml, size.words)?;
+    write_lines(xml, scene, size, arrows, dots)?;
+    write_labels(xml, scene, size, arrows)
 }
 
 /// Writes the document.

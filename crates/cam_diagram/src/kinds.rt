@@ -48,11 +48,11 @@ pub(crate) fn kind_class(kind: Kind) -> &'static str
     ensures { result.now ≡ kind_class kind }
 {
     match kind {
-        Kind::Start | Kind::Call => "letter work",
-        Kind::Answer => "letter reply",
-        Kind::Finish | Kind::Quit => "letter end",
-        Kind::Prepare | Kind::VoteYes | Kind::VoteNo | Kind::Query => "letter vote",
-        Kind::News => "letter news",
+        Kind::Start | Kind::Call => "work",
+        Kind::Answer => "reply",
+        Kind::Finish | Kind::Quit => "end",
+        Kind::Prepare | Kind::VoteYes | Kind::VoteNo | Kind::Query => "vote",
+        Kind::News => "news",
     }
 }
 

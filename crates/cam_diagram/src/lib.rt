@@ -9,6 +9,8 @@
 
 mod document;
 mod kinds;
+mod labels;
+mod looks;
 mod paths;
 mod places;
 mod shapes;
@@ -97,6 +99,9 @@ pub struct Stub {
     pub from: Spot,
     pub to: u8,
     pub fate: Fate,
+    /// How many stubs of the same event are above it.
+    pub above: u32,
+    pub lit: bool,
 }
 
 /// A node that halts: so many events are above it, and its lane is broken until the event of this number.
@@ -124,6 +129,8 @@ pub struct Caption {
     /// What stands beside the dot, as the new count of a restart.
     pub beside: Option<String>,
     pub lit: bool,
+    /// Whether the letter that it received is lit.
+    pub lit_letter: bool,
 }
 
 /// Dots, in order of events.

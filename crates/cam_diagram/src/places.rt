@@ -1,12 +1,19 @@
 //! Where the shapes of a diagram are, in pixels, and how they are lit.
 ghost use Rattle.std.specs.Prelude.{◌≡◌, ◌++◌, OnOk, codes, decimal};
 ghost use Rattle.cam_xml.specs.WellFormed.{attribute_text, escaped};
-ghost use Rattle.cam_diagram.specs.Places.{class_of, dim, is_lit, letter_number, numbered, point, text_tag, translation, x_of, y_of};
+ghost use Rattle.cam_diagram.specs.Places.{class_of, dim, is_letter_lit, is_lit, letter_number, numbered, point, text_tag, translation, x_of, y_of};
 
 use crate::Captions;
 use cam_base::NoMemory;
 use cam_event::LetterId;
 use cam_xml::Xml;
+
+/// A side of a lane.
+#[derive(Clone, Copy)]
+pub(crate) enum Side {
+    Right,
+    Left,
+}
 
 /// Where the lane of a node is.
 pub(crate) fn x_of(node: u8) -> u128
@@ -38,6 +45,16 @@ pub(crate) fn is_lit(captions: &Captions, event: u64) -> bool
 {
     match captions.get(event as usize) {
         Some(caption) => caption.lit,
+        None => true,
+    }
+}
+
+/// Whether the letter is lit that an event received. That of an event without a caption is.
+pub(crate) fn is_letter_lit(captions: &Captions, event: u64) -> bool
+    ensures { result ≡ is_letter_lit captions.now event }
+{
+    match captions.get(event as usize) {
+        Some(caption) => caption.lit_letter,
         None => true,
     }
 }

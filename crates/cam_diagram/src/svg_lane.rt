@@ -2,7 +2,7 @@
 ghost use Rattle.std.specs.Prelude.{◌≡◌, ◌+◌, ◌*◌, ◌++◌, OnOk, codes, string_bytes};
 ghost use Rattle.std.specs.List.{flat_map};
 ghost use Rattle.cam_xml.specs.WellFormed.{escaped};
-ghost use Rattle.cam_diagram.specs.Lanes.{drop_of, halt_mark, halt_text, halt_words, head, kept, lane_text, lanes_text, vertical};
+ghost use Rattle.cam_diagram.specs.Lanes.{drop_of, halt_label, halt_lane, halt_mark, halt_words, head, kept, lane_text, lanes_text, post, posts_from, vertical};
 
 use crate::places::{write_point, write_text_tag, write_translation, x_of};
 use crate::{Halt, Halts};
@@ -101,27 +101,68 @@ fn write_halt_words(xml: &mut Xml, x: u128, y: u128, words: &str) -> Result<(), 
     xml.end_element("text")
 }
 
-/// Writes a halt: the lane is dotted from its mark on.
-#[tactic(auto, unfolding(crate::specs::Lanes::halt_text))]
-fn write_halt(xml: &mut Xml, halt: &Halt) -> Result<(), NoMemory>
-    ensures { OnOk result (xml.new ≡ xml.old ++ halt_text halt.now) }
+/// Writes the lane of a halt: it is dotted.
+#[tactic(auto, unfolding(crate::specs::Lanes::halt_lane))]
+fn write_halt_lane(xml: &mut Xml, halt: &Halt) -> Result<(), NoMemory>
+    ensures { OnOk result (xml.new ≡ xml.old ++ halt_lane halt.now) }
 {
     let x = x_of(halt.node);
     let from = 62 + 28 * halt.above as u128;
     let to = 62 + 28 * halt.until as u128;
     write_vertical(xml, "gap", x, from, to)?;
     write_vertical(xml, "halted", x, from, to)?;
-    write_halt_mark(xml, x + 18, from)?;
-    write_halt_words(xml, x + 30, from + 4, halt.words.as_str())?;
     xml.end_line()
 }
 
-/// Writes halts, in their order.
-pub(crate) fn write_halts(xml: &mut Xml, halts: &Halts) -> Result<(), NoMemory>
-    ensures { OnOk result (xml.new ≡ xml.old ++ flat_map halt_text halts.now) }
+/// Writes the lanes of halts, in their order.
+pub(crate) fn write_halt_lanes(xml: &mut Xml, halts: &Halts) -> Result<(), NoMemory>
+    ensures { OnOk result (xml.new ≡ xml.old ++ flat_map halt_lane halts.now) }
 {
     for halt in halts.as_slice() {
-        write_halt(xml, halt)?;
+        write_halt_lane(xml, halt)?;
+    }
+    Ok(())
+}
+
+/// Writes the mark and the words of a halt.
+#[tactic(auto, unfolding(crate::specs::Lanes::halt_label))]
+fn write_halt_label(xml: &mut Xml, halt: &Halt) -> Result<(), NoMemory>
+    ensures { OnOk result (xml.new ≡ xml.old ++ halt_label halt.now) }
+{
+    let x = x_of(halt.node);
+    let y = 62 + 28 * halt.above as u128;
+    write_halt_mark(xml, x + 18, y)?;
+    write_halt_words(xml, x + 30, y + 4, halt.words.as_str())?;
+    xml.end_line()
+}
+
+/// Writes the marks and the words of halts, in their order.
+pub(crate) fn write_halt_labels(xml: &mut Xml, halts: &Halts) -> Result<(), NoMemory>
+    ensures { OnOk result (xml.new ≡ xml.old ++ flat_map halt_label halts.now) }
+{
+    for halt in halts.as_slice() {
+        write_halt_label(xml, halt)?;
+    }
+    Ok(())
+}
+
+/// Writes the name of a node again, on its lane.
+#[tactic(auto, unfolding(crate::specs::Lanes::post))]
+fn write_post(xml: &mut Xml, left: u64) -> Result<(), NoMemory>
+    ensures { OnOk result (xml.new ≡ xml.old ++ post left) }
+{
+    write_text_tag(xml, "word post", 160 + 120 * left as u128, 424)?;
+    xml.text("node ")?;
+    xml.number(left as u128 + 1)?;
+    xml.end_element("text")
+}
+
+/// Writes the names of all nodes again, from the first one's.
+pub(crate) fn write_posts(xml: &mut Xml, heads: &Sequence<String>) -> Result<(), NoMemory>
+    ensures { OnOk result (xml.new ≡ xml.old ++ posts_from 0 heads.now) }
+{
+    for (left, _objects) in heads.as_slice().iter().enumerate() {
+        write_post(xml, left as u64)?;
     }
     Ok(())
 }

@@ -1,26 +1,17 @@
 //! Letters that no event received, as SVG.
 ghost use Rattle.std.specs.Prelude.{◌≡◌, ◌+◌, ◌++◌, OnOk, codes};
 ghost use Rattle.std.specs.List.{flat_map};
-ghost use Rattle.cam_diagram.specs.Stubs.{end_x, end_y, side_of, side_class, stub_end, stub_shape, stub_shaft, stub_tag, stub_text, stub_way, stub_words, words_x};
+ghost use Rattle.cam_diagram.specs.Stubs.{end_x, end_y, side_of, stub_end, stub_shaft, stub_tag, stub_text, stub_way};
 
-use crate::kinds::{fate_shape, fate_word, kind_class};
-use crate::places::{
-    is_lit, letter_number, write_class, write_point, write_text_tag, write_translation, x_of, y_of,
-};
-use crate::svg_arrow::write_label;
+use crate::kinds::fate_shape;
+use crate::places::{Side, write_point, write_translation, x_of, y_of};
+use crate::svg_arrow::write_mark;
 use crate::{Captions, Stub, Stubs};
 use cam_base::NoMemory;
 use cam_xml::Xml;
 
-/// The side of its lane to which a stub goes.
-#[derive(Clone, Copy)]
-pub(crate) enum Side {
-    Right,
-    Left,
-}
-
 /// The side to which a letter goes. One to its own node goes left.
-fn side_of(stub: &Stub) -> Side
+pub(crate) fn side_of(stub: &Stub) -> Side
     ensures { result ≡ side_of stub.now }
 {
     if stub.from.node < stub.to {
@@ -35,8 +26,8 @@ fn end_x(stub: &Stub) -> u128
     ensures { result ≡ end_x (side_of stub.now) stub.now }
 {
     match side_of(stub) {
-        Side::Right => 72 + 120 * stub.from.node as u128,
-        Side::Left => 8 + 120 * stub.from.node as u128,
+        Side::Right => 66 + 120 * stub.from.node as u128,
+        Side::Left => 14 + 120 * stub.from.node as u128,
     }
 }
 
@@ -44,46 +35,24 @@ fn end_x(stub: &Stub) -> u128
 fn end_y(stub: &Stub) -> u128
     ensures { result ≡ end_y stub.now }
 {
-    88 + 28 * stub.from.event as u128 + 8 * stub.letter.place as u128
-}
-
-/// Where the words of a stub are.
-fn words_x(stub: &Stub) -> u128
-    ensures { result ≡ words_x (side_of stub.now) stub.now }
-{
-    match side_of(stub) {
-        Side::Right => 80 + 120 * stub.from.node as u128,
-        Side::Left => 120 * stub.from.node as u128,
-    }
-}
-
-/// In which height the words of a stub are.
-fn words_y(stub: &Stub) -> u128
-    ensures { result ≡ end_y stub.now + 4 }
-{
-    92 + 28 * stub.from.event as u128 + 8 * stub.letter.place as u128
-}
-
-/// The class of words at a side.
-#[tactic(auto, unfolding(crate::specs::Stubs::side_class))]
-fn side_class(side: Side) -> &'static str
-    ensures { result.now ≡ side_class side }
-{
-    match side {
-        Side::Right => "word behind",
-        Side::Left => "word before",
-    }
+    88 + 28 * stub.from.event as u128 + 10 * stub.above as u128
 }
 
 /// Writes the begin of a stub: its look, and the numbers of its letter and its event.
 #[tactic(auto, unfolding(crate::specs::Stubs::stub_tag))]
 fn write_tag(xml: &mut Xml, captions: &Captions, stub: &Stub) -> Result<(), NoMemory>
-    ensures { OnOk result (xml.new ≡ xml.old ++ codes "<g" ++ stub_tag captions.now stub.now ++ codes ">") }
+    ensures { OnOk result (xml.new ≡ xml.old ++ codes "<g"
+        ++ stub_tag captions.now stub.now ++ codes ">") }
 {
-    let lit = is_lit(captions, stub.from.event);
     xml.tag("g")?;
-    write_class(xml, kind_class(stub.kind), " unheard", lit)?;
-    xml.set_number("data-letter", letter_number(captions, stub.letter))?;
+    write_mark(
+        xml,
+        captions,
+        "letter unheard ",
+        stub.kind,
+        stub.letter,
+        stub.lit,
+    )?;
     xml.set_number("data-from", stub.from.event as u128)?;
     xml.content()
 }
@@ -122,34 +91,14 @@ fn write_end(xml: &mut Xml, stub: &Stub) -> Result<(), NoMemory>
     xml.end_tag()
 }
 
-/// Writes the words of a stub: its letter, and what became of it.
-#[tactic(auto, unfolding(crate::specs::Stubs::stub_words))]
-fn write_words(xml: &mut Xml, captions: &Captions, stub: &Stub) -> Result<(), NoMemory>
-    ensures { OnOk result (xml.new ≡ xml.old ++ stub_words captions.now stub.now) }
-{
-    write_text_tag(xml, side_class(side_of(stub)), words_x(stub), words_y(stub))?;
-    write_label(xml, captions, stub.kind, stub.letter)?;
-    xml.text(fate_word(stub.fate))?;
-    xml.end_element("text")
-}
-
-/// Writes the parts of a stub.
-#[tactic(auto, unfolding(crate::specs::Stubs::stub_shape))]
-fn write_shape(xml: &mut Xml, captions: &Captions, stub: &Stub) -> Result<(), NoMemory>
-    ensures { OnOk result (xml.new ≡ xml.old ++ stub_shape captions.now stub.now) }
-{
-    write_shaft(xml, stub)?;
-    write_end(xml, stub)?;
-    write_words(xml, captions, stub)
-}
-
 /// Writes a stub.
 #[tactic(auto, unfolding(crate::specs::Stubs::stub_text))]
 fn write_stub(xml: &mut Xml, captions: &Captions, stub: &Stub) -> Result<(), NoMemory>
     ensures { OnOk result (xml.new ≡ xml.old ++ stub_text captions.now stub.now) }
 {
     write_tag(xml, captions, stub)?;
-    write_shape(xml, captions, stub)?;
+    write_shaft(xml, stub)?;
+    write_end(xml, stub)?;
     xml.end_element("g")?;
     xml.end_line()
 }

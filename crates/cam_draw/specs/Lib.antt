@@ -1,1 +1,4 @@
+pub mod Light
+pub mod Captions
+pub mod Stubs
 pub mod Drawing

@@ -1,4 +1,7 @@
 //! The captions of events.
+ghost use Rattle.std.specs.Prelude.{◌≡◌, IfOk, map, reverse};
+ghost use Rattle.cam_draw.specs.Captions.{lit, lit_of};
+
 use crate::counts::Counts;
 use crate::light::Light;
 use crate::words::{action_of, deeds_of, words_of};
@@ -14,6 +17,13 @@ use std::alloc::Global;
 struct Origin {
     line: u32,
     sent_before: u64,
+}
+
+/// Whether an event is lit, and the letter that it received.
+#[derive(Clone, Copy)]
+struct Lit {
+    event: bool,
+    letter: bool,
 }
 
 /// Where the event of this number is in its script.
@@ -38,8 +48,10 @@ fn caption_of(
     number: usize,
     event: &Event,
     beside: Option<String>,
-    lit: bool,
-) -> Result<Caption, NoMemory> {
+    lit: Lit,
+) -> Result<Caption, NoMemory>
+    ensures { IfOk result (λ c. lit_of c ≡ (lit.event, lit.letter)) }
+{
     let origin = origin_of(scope, number);
     Ok(Caption {
         line: origin.line,
@@ -48,7 +60,8 @@ fn caption_of(
         words: words_of(alloc, scope, labels, number, event)?,
         deeds: deeds_of(alloc, scope, labels, number, event)?,
         beside,
-        lit,
+        lit: lit.event,
+        lit_letter: lit.letter,
     })
 }
 
@@ -59,12 +72,17 @@ pub(crate) fn captions_of(
     labels: &Labels,
     trace: &Trace,
     light: &Light,
-) -> Result<Captions, NoMemory> {
+) -> Result<Captions, NoMemory>
+    ensures { IfOk result (λ captions. map lit_of captions ≡ lit light.now (reverse trace.now)) }
+{
     let mut captions = Captions::new(alloc);
     let mut counts = Counts::new();
     for (number, event) in trace.as_slice().iter().enumerate() {
         let beside = counts.take(alloc, event)?;
-        let lit = light.is_lit(number);
+        let lit = Lit {
+            event: light.is_lit(number as u64),
+            letter: light.is_letter_lit(number as u64),
+        };
         captions.push(caption_of(alloc, scope, labels, number, event, beside, lit)?)?;
     }
     Ok(captions)

@@ -1,9 +1,14 @@
-//! Which events are lit.
+//! What is lit.
+ghost use Rattle.std.specs.Prelude.{◌≡◌, ℕ, ◌<◌, IfOk, length, reverse};
+ghost use Rattle.std.specs.List.{list_any};
+ghost use Rattle.cam_event.specs.Pasts.{holds, in_past};
+ghost use Rattle.cam_draw.specs.Light.{IsLight, IsPastOf, IsWayTo, are_stubs_lit, is_end, is_letter_lit, is_lit, is_on_way, is_receipt, is_seen, is_set, last_seen};
+
 use cam_base::NoMemory;
-use cam_event::{Deed, Event, Trace};
+use cam_event::{Deed, Deeds, Trace};
 use cam_names::Name;
 use cam_past::clocks;
-use cam_why::{WhyFault, chain};
+use cam_why::{Links, Why, WhyFault, chain};
 use std::alloc::Global;
 
 /// What a picture lights up. The rest of it is dim.
@@ -17,26 +22,88 @@ pub enum Highlight {
     Stop(u32),
 }
 
-/// Which events of a trace are lit.
+/// What is lit of a trace.
 #[derive(Drop)]
 pub(crate) enum Light {
-    /// All of them.
     All,
-    /// By their numbers, those that are marked.
-    Marked(Vec<bool>),
+    /// The events that are marked, and their letters.
+    Past(Vec<bool>),
+    /// The way to a stop.
+    Way { stop: u64, why: Why },
 }
 
 impl Light {
     /// Whether the event of this number is lit.
-    pub(crate) fn is_lit(&self, number: usize) -> bool {
+    pub(crate) fn is_lit(&self, number: u64) -> bool
+        ensures { result ≡ is_lit self.now number }
+    {
         match self {
             Light::All => true,
-            Light::Marked(marks) => match marks.get(number) {
-                Some(mark) => *mark,
-                None => false,
-            },
+            Light::Past(flags) => is_set(flags.as_slice(), number),
+            Light::Way { stop, why } => is_on_way(why, *stop, number),
         }
     }
+
+    /// Whether the letter is lit that the event of this number received.
+    pub(crate) fn is_letter_lit(&self, number: u64) -> bool
+        ensures { result ≡ is_letter_lit self.now number }
+    {
+        match self {
+            Light::All => true,
+            Light::Past(flags) => is_set(flags.as_slice(), number),
+            Light::Way { why, .. } => is_receipt(&why.links, number),
+        }
+    }
+
+    /// Whether the letters are lit that the event of this number sent, and that no event received.
+    pub(crate) fn are_stubs_lit(&self, number: u64) -> bool
+        ensures { result ≡ are_stubs_lit self.now number }
+    {
+        match self {
+            Light::All => true,
+            Light::Past(flags) => is_set(flags.as_slice(), number),
+            Light::Way { .. } => false,
+        }
+    }
+}
+
+/// Whether the flag of this number is set.
+fn is_set(flags: &[bool], number: u64) -> bool
+    ensures { result ≡ is_set flags.now number }
+{
+    match flags.get(number as usize) {
+        Some(flag) => *flag,
+        None => false,
+    }
+}
+
+/// Whether an event is on the way to a stop.
+fn is_on_way(why: &Why, stop: u64, number: u64) -> bool
+    ensures { result ≡ is_on_way why.now stop number }
+{
+    why.cause == number || stop == number || is_end(&why.links, number)
+}
+
+/// Whether an event sent or received a letter of a chain.
+fn is_end(links: &Links, number: u64) -> bool
+    ensures { result ≡ list_any (is_end number) links.now }
+{
+    let mut found = false;
+    for link in links.as_slice() {
+        found = found || link.from == number || link.to == number;
+    }
+    found
+}
+
+/// Whether an event received a letter of a chain.
+fn is_receipt(links: &Links, number: u64) -> bool
+    ensures { result ≡ list_any (is_receipt number) links.now }
+{
+    let mut found = false;
+    for link in links.as_slice() {
+        found = found || link.to == number;
+    }
+    found
 }
 
 /// What is lit of a trace.
@@ -44,7 +111,9 @@ pub(crate) fn light_of(
     alloc: Global,
     trace: &Trace,
     highlight: &Highlight,
-) -> Result<Light, WhyFault> {
+) -> Result<Light, WhyFault>
+    ensures { IfOk result (IsLight (reverse trace.now) highlight.now) }
+{
     match highlight {
         Highlight::Nothing => Ok(Light::All),
         Highlight::Action(action) => Ok(past_of(alloc, trace, action)?),
@@ -52,47 +121,57 @@ pub(crate) fn light_of(
     }
 }
 
-/// The past of the last event at which an action saw something; nothing where it saw nothing.
-fn past_of(alloc: Global, trace: &Trace, action: &Name) -> Result<Light, NoMemory> {
+/// The past of the last event of which an action sees a deed; nothing where it sees none.
+fn past_of(alloc: Global, trace: &Trace, action: &Name) -> Result<Light, NoMemory>
+    ensures { IfOk result (IsPastOf (reverse trace.now) action.now) }
+{
     match last_seen(trace, action) {
-        Some(last) => past_of_event(alloc, trace, last),
-        None => Ok(Light::Marked(Vec::new(alloc))),
+        Some(last) => Ok(Light::Past(past_of_event(alloc, trace, last)?)),
+        None => Ok(Light::Past(Vec::new(alloc))),
     }
 }
 
-/// The past of an event.
-fn past_of_event(alloc: Global, trace: &Trace, last: u64) -> Result<Light, NoMemory> {
+/// Of each event whether it is in the past of this one.
+fn past_of_event(alloc: Global, trace: &Trace, last: u64) -> Result<Vec<bool>, NoMemory>
+    ensures { IfOk result (λ flags. (i : ℕ) → i < length trace.now
+        → is_set flags.items i ≡ in_past (reverse trace.now) i last) }
+{
     let clocks = clocks(alloc, trace)?;
-    let mut marks = Vec::new(alloc);
+    let mut flags = Vec::with_capacity(alloc, trace.len())?;
     for number in 0..trace.len() {
-        marks.push(clocks.in_past(number as u64, last))?;
+        flags.push(clocks.in_past(number as u64, last))?;
     }
-    Ok(Light::Marked(marks))
+    Ok(flags)
 }
 
-/// The last event at which an action saw something.
-fn last_seen(trace: &Trace, action: &Name) -> Option<u64> {
+/// The last event of which an action sees a deed.
+fn last_seen(trace: &Trace, action: &Name) -> Option<u64>
+    ensures { result ≡ last_seen (reverse trace.now) action.now }
+{
     let mut last = None;
     for (number, event) in trace.as_slice().iter().enumerate() {
-        if is_seen(event, action) {
+        if sees_any(&event.deeds, action) {
             last = Some(number as u64);
         }
     }
     last
 }
 
-/// Whether an action saw something at an event.
-fn is_seen(event: &Event, action: &Name) -> bool {
-    for deed in event.deeds.as_slice() {
-        if is_step(deed, action) {
-            return true;
-        }
+/// Whether an action sees one of these deeds.
+fn sees_any(deeds: &Deeds, action: &Name) -> bool
+    ensures { result ≡ list_any (is_seen action.now) deeds.now }
+{
+    let mut found = false;
+    for deed in deeds.as_slice() {
+        found = found || sees(deed, action);
     }
-    false
+    found
 }
 
-/// Whether a deed is a step of an action's view: its own, or the decision on a child.
-fn is_step(deed: &Deed, action: &Name) -> bool {
+/// Whether an action sees a deed: its own request or what came of it, or the decision on a child.
+fn sees(deed: &Deed, action: &Name) -> bool
+    ensures { result ≡ is_seen action.now deed.now }
+{
     match deed {
         Deed::Create { action: own }
         | Deed::Ask { action: own, .. }
@@ -101,36 +180,21 @@ fn is_step(deed: &Deed, action: &Name) -> bool {
         | Deed::AskCommit { action: own, .. }
         | Deed::AskAbort { action: own } => own == action,
         Deed::Commit { action: child } | Deed::Abort { action: child } => action.is_parent(child),
-        _ => false,
+        Deed::Perform { .. }
+        | Deed::Bounce { .. }
+        | Deed::Secure { .. }
+        | Deed::Inform { .. }
+        | Deed::Crash { .. } => false,
     }
 }
 
-/// The events on the way to a stop: the cause, and where each letter of a chain was sent and
-/// received.
-fn way_to(alloc: Global, trace: &Trace, event: u32) -> Result<Light, WhyFault> {
+/// The way to a stop.
+fn way_to(alloc: Global, trace: &Trace, event: u32) -> Result<Light, WhyFault>
+    ensures { IfOk result (IsWayTo (reverse trace.now) event) }
+{
     let why = chain(alloc, trace, event)?;
-    let mut marks = unmarked(alloc, trace.len())?;
-    mark(&mut marks, why.cause);
-    mark(&mut marks, event as u64);
-    for link in why.links.as_slice() {
-        mark(&mut marks, link.from);
-        mark(&mut marks, link.to);
-    }
-    Ok(Light::Marked(marks))
-}
-
-/// So many events, of which none is marked.
-fn unmarked(alloc: Global, count: usize) -> Result<Vec<bool>, NoMemory> {
-    let mut marks = Vec::new(alloc);
-    for _ in 0..count {
-        marks.push(false)?;
-    }
-    Ok(marks)
-}
-
-/// Marks the event of this number, if there is one.
-fn mark(marks: &mut Vec<bool>, event: u64) {
-    if let Some(mark) = marks.get_mut(event as usize) {
-        *mark = true;
-    }
+    Ok(Light::Way {
+        stop: event as u64,
+        why,
+    })
 }

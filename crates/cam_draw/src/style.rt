@@ -10,6 +10,7 @@ text{fill:currentColor;white-space:pre}
 .paper{fill:#fff}.band{fill:#f1f4f8}.rows{fill:url(#rows)}.tip{fill:#1b1f24}
 marker{overflow:visible}
 .head{font-weight:bold;text-anchor:middle}.kept{text-anchor:middle;fill:#57606a}
+.column{fill:#57606a}.posts{fill:url(#posts);pointer-events:none}
 .lane{stroke:#57606a;stroke-width:2}
 .gap{stroke:#fff;stroke-width:4}
 .halted{stroke:#57606a;stroke-width:2;stroke-dasharray:1 6;stroke-linecap:round}
@@ -17,13 +18,13 @@ marker{overflow:visible}
 .work,.reply{color:#0072b2}.end{color:#00714f}
 .vote{color:#8b3a8f}.news{color:#57606a}.unheard{color:#b33d00}
 .shaft{fill:none;stroke:currentColor;stroke-width:1.8;marker-end:url(#tip)}
-.left .shaft{marker-end:none;marker-start:url(#tip)}.unheard .shaft{marker-end:none}
+.unheard .shaft{marker-end:none}
 .reply .shaft{stroke-dasharray:8 3}.vote .shaft{stroke-dasharray:3 3}
 .news .shaft{stroke-dasharray:1 4;stroke-linecap:round}
 .fate{fill:#fff;stroke:currentColor;stroke-width:2}
 .word{font-size:10px;text-anchor:middle;stroke:#fff;stroke-width:3px;
 stroke-linejoin:round;paint-order:stroke}
-.right .word,.before{text-anchor:end}.left .word,.behind{text-anchor:start}
+.before{text-anchor:end}.behind{text-anchor:start}.post{font-weight:bold}
 .sign{fill:#fff;stroke:#1b1f24;stroke-width:1.8}
 .number{font-size:9px;text-anchor:middle}
 .idle .sign{stroke:#57606a;stroke-dasharray:2 2}.idle .words{fill:#57606a}

@@ -1,0 +1,7 @@
+use Rattle.std.proofs.Common.{◌≡◌, ◌++◌, take}
+use Rattle.std.specs.List.{flat_map}
+use Rattle.cam_diagram.specs.Lanes.{halt_label}
+use Rattle.cam_diagram.proofs.svg_lane.write_halt_labels.Given as goal
+
+abbrev pub invariant-loop-halt : goal.invariant-loop-halt
+invariant-loop-halt l = l.xml ≡ l.fn.xml ++ flat_map halt_label (take l.halt-index l.halt-items)
