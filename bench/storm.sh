@@ -2,7 +2,8 @@
 # How many events of a storm the threads make in a second, calm and rough, with 1, 2 and 4 workers for each node: each as a ratio to one worker
 # for each node. And the same with a gate that lets one worker of all at a time take its turn, as if one lock stood round the hall; and a run of a
 # script that has as many events as a calm storm, without threads.
-# A figure is such a ratio of one run: the events a second are those of one machine on one day. Each is the most of several rounds.
+# A figure is such a ratio of one run: the events a second are those of one machine on one day. Each is the median of several rounds, in each of
+# which all ways take their turn, one after another, so what else the machine does slows all of them.
 # bench/storm.sh           proves the crates and the program, and runs it
 # bench/storm.sh --quick   runs a build of the same sources that nothing has proved
 . "$(dirname "$0")/common.sh"
@@ -30,7 +31,7 @@ use std::sync::atomic::{AtomicU64, Ordering};
 use std::thread::{Threads, yield_now};
 use std::time::Instant;
 
-const ROUNDS: u32 = 5;
+const ROUNDS: u32 = 9;
 
 const ACTIONS: u32 = 64;
 
@@ -73,6 +74,17 @@ impl Gate for OneAtATime {
     fn after(&self, worker: u32, _step: u32) {
         self.end(u64::from(worker) + 1);
     }
+}
+
+/// Who takes the steps.
+#[derive(Clone, Copy)]
+enum Way {
+    /// So many workers for each node.
+    Workers(u32),
+    /// Four for each node, of which one of all at a time takes its turn.
+    OneOfFour,
+    /// A run of a script, without threads.
+    Run,
 }
 
 /// How many events a storm had, and how long it took.
@@ -130,30 +142,6 @@ fn storm<R: Threads + Wait + Sync, G: Gate + Sync>(
     })
 }
 
-/// The most events in a second, of several storms.
-fn most<R: Threads + Wait + Sync, G: Gate + Sync>(
-    rt: &HostRuntime,
-    handle: &R,
-    calm: bool,
-    threads: u32,
-    gate: &G,
-) -> Result<u128, Error>
-    requires { (1 ≤ threads) × (threads ≤ 4) }
-{
-    let mut most = 0;
-    for seed in 0..ROUNDS {
-        let times = storm(rt, handle, u64::from(seed), calm, threads, gate)?;
-        most = times.in_a_second().max(most);
-    }
-    Ok(most)
-}
-
-fn show(rt: &HostRuntime, what: &str, events: u128, one: u128) -> Result<(), Error> {
-    let hundredths = events.saturating_mul(100) / one.max(1);
-    println!(rt; "  {what}: {events} events a second, {hundredths} hundredths of one worker's")?;
-    Ok(())
-}
-
 /// A script of so many actions, each of which calls a counter of each of four nodes and commits, in a
 /// play of its own: 30 events each.
 fn script_text(alloc: Global, actions: u32) -> Result<String, Error> {
@@ -199,39 +187,68 @@ fn run(rt: &HostRuntime, script: &Script) -> Result<Times, Error>
     })
 }
 
-/// The most events in a second, of several runs of a script.
-fn most_of_runs(rt: &HostRuntime) -> Result<Times, Error> {
-    let text = script_text(rt.alloc(), SCRIPT_ACTIONS)?;
-    let script = parse(rt.alloc(), text.as_bytes())?;
-    let mut best = run(rt, &script)?;
-    for _ in 0..ROUNDS {
-        let times = run(rt, &script)?;
-        if times.in_a_second() > best.in_a_second() {
-            best = times;
+/// How many events there are in a second this way, in a storm of this seed or a run of the script.
+fn measured(
+    rt: &HostRuntime,
+    script: &Script,
+    way: Way,
+    seed: u64,
+    calm: bool,
+) -> Result<u128, Error>
+    requires script { IsScript script.now }
+{
+    let times = match way {
+        Way::Workers(1) => storm(rt, rt, seed, calm, 1, &OpenGate)?,
+        Way::Workers(2) => storm(rt, rt, seed, calm, 2, &OpenGate)?,
+        Way::Workers(_) => storm(rt, rt, seed, calm, 4, &OpenGate)?,
+        Way::OneOfFour => {
+            let gate = OneAtATime {
+                turn: AtomicU64::new(0),
+            };
+            storm(rt, rt, seed, calm, 4, &gate)?
         }
+        Way::Run => run(rt, script)?,
+    };
+    Ok(times.in_a_second())
+}
+
+fn median(mut rates: Vec<u128>) -> Result<u128, Error> {
+    rates.sort()?;
+    Ok(rates.get(rates.len() / 2).copied().unwrap_or(0))
+}
+
+/// All ways, in rounds: a line for each.
+fn compare(rt: &HostRuntime, script: &Script, calm: bool) -> Result<(), Error>
+    requires script { IsScript script.now }
+{
+    let alloc = rt.alloc();
+    let (mut one, mut two, mut four) = (Vec::new(alloc), Vec::new(alloc), Vec::new(alloc));
+    let (mut in_turn, mut runs) = (Vec::new(alloc), Vec::new(alloc));
+    for round in 0..ROUNDS {
+        let seed = u64::from(round);
+        one.push(measured(rt, script, Way::Workers(1), seed, calm)?)?;
+        two.push(measured(rt, script, Way::Workers(2), seed, calm)?)?;
+        four.push(measured(rt, script, Way::Workers(4), seed, calm)?)?;
+        in_turn.push(measured(rt, script, Way::OneOfFour, seed, calm)?)?;
+        runs.push(measured(rt, script, Way::Run, seed, calm)?)?;
     }
-    Ok(best)
+    let one = median(one)?;
+    show(rt, "1 worker a node", one, one)?;
+    show(rt, "2 workers a node", median(two)?, one)?;
+    show(rt, "4 workers a node", median(four)?, one)?;
+    show(rt, "4 workers a node, one turn at a time", median(in_turn)?, one)?;
+    show(rt, "the run of a script", median(runs)?, one)
 }
 
 fn main(rt: HostRuntime) -> Result<(), Error> {
+    let text = script_text(rt.alloc(), SCRIPT_ACTIONS)?;
+    let script = parse(rt.alloc(), text.as_bytes())?;
+    let events = run(&rt, &script)?.events;
+    println!(&rt; "storms of {ACTIONS} actions; a script of {events} events")?;
     for calm in [true, false] {
         let mode = if calm { "calm" } else { "rough" };
         println!(&rt; "{mode}")?;
-        let one = most(&rt, &rt, calm, 1, &OpenGate)?;
-        show(&rt, "1 worker a node", one, one)?;
-        let two = most(&rt, &rt, calm, 2, &OpenGate)?;
-        show(&rt, "2 workers a node", two, one)?;
-        let four = most(&rt, &rt, calm, 4, &OpenGate)?;
-        show(&rt, "4 workers a node", four, one)?;
-        let gate = OneAtATime {
-            turn: AtomicU64::new(0),
-        };
-        let in_turn = most(&rt, &rt, calm, 4, &gate)?;
-        show(&rt, "4 workers a node, one turn at a time", in_turn, one)?;
-        let run = most_of_runs(&rt)?;
-        let events = run.events;
-        println!(&rt; "  a run of a script of {events} events")?;
-        show(&rt, "the run", run.in_a_second(), one)?;
+        compare(&rt, &script, calm)?;
     }
     Ok(())
 }
