@@ -1,10 +1,12 @@
 //! The captions of events.
-ghost use Rattle.std.specs.Prelude.{◌≡◌, IfOk, map, reverse};
-ghost use Rattle.cam_draw.specs.Captions.{lit, lit_of};
+ghost use Rattle.std.specs.Prelude.{◌≡◌, ℕ, IfOk, List, Option, map, option_map, reverse, string_bytes};
+ghost use Rattle.cam_draw.specs.Captions.{caption, captions, line_of, saying, sent_before};
 
-use crate::counts::Counts;
+use crate::counts::Restarts;
+use crate::deeds::deeds_of;
 use crate::light::Light;
-use crate::words::{action_of, deeds_of, words_of};
+use crate::subject::action_of;
+use crate::words::words_of;
 use cam_base::NoMemory;
 use cam_diagram::{Caption, Captions};
 use cam_event::{Event, Trace};
@@ -12,31 +14,23 @@ use cam_scope::Scope;
 use cam_script::Labels;
 use std::alloc::Global;
 
-/// Where an event is in its script: its line, and how many letters were sent before it.
-#[derive(Clone, Copy)]
-struct Origin {
-    line: u32,
-    sent_before: u64,
-}
-
-/// Whether an event is lit, and the letter that it received.
-#[derive(Clone, Copy)]
-struct Lit {
-    event: bool,
-    letter: bool,
-}
-
-/// Where the event of this number is in its script.
-fn origin_of(scope: &Scope, number: usize) -> Origin {
+/// The line in which the event of this number happened; 0 where it has none.
+fn line_of(scope: &Scope, number: usize) -> u32
+    ensures { result ≡ line_of scope.now number }
+{
     match scope.events.get(number) {
-        Some(event) => Origin {
-            line: event.line.unwrap_or(0),
-            sent_before: event.sent_before as u64,
-        },
-        None => Origin {
-            line: 0,
-            sent_before: 0,
-        },
+        Some(event) => event.line.unwrap_or(0),
+        None => 0,
+    }
+}
+
+/// How many letters were sent before the event of this number.
+fn sent_before(scope: &Scope, number: usize) -> u64
+    ensures { result ≡ sent_before scope.now number }
+{
+    match scope.events.get(number) {
+        Some(event) => event.sent_before as u64,
+        None => 0,
     }
 }
 
@@ -45,23 +39,23 @@ fn caption_of(
     alloc: Global,
     scope: &Scope,
     labels: &Labels,
+    light: &Light,
     number: usize,
     event: &Event,
     beside: Option<String>,
-    lit: Lit,
 ) -> Result<Caption, NoMemory>
-    ensures { IfOk result (λ c. lit_of c ≡ (lit.event, lit.letter)) }
+    ensures { IfOk result (λ c. saying c ≡ caption scope.now labels.now light.now number event.now
+        (option_map string_bytes beside)) }
 {
-    let origin = origin_of(scope, number);
     Ok(Caption {
-        line: origin.line,
-        sent_before: origin.sent_before,
+        line: line_of(scope, number),
+        sent_before: sent_before(scope, number),
         action: action_of(alloc, scope, event)?,
         words: words_of(alloc, scope, labels, number, event)?,
         deeds: deeds_of(alloc, scope, labels, number, event)?,
         beside,
-        lit: lit.event,
-        lit_letter: lit.letter,
+        lit: light.is_lit(number as u64),
+        lit_letter: light.is_letter_lit(number as u64),
     })
 }
 
@@ -73,17 +67,14 @@ pub(crate) fn captions_of(
     trace: &Trace,
     light: &Light,
 ) -> Result<Captions, NoMemory>
-    ensures { IfOk result (λ captions. map lit_of captions ≡ lit light.now (reverse trace.now)) }
+    ensures { IfOk result (λ found. map saying found
+        ≡ captions scope.now labels.now light.now (reverse trace.now)) }
 {
     let mut captions = Captions::new(alloc);
-    let mut counts = Counts::new();
+    let mut restarts = Restarts::new();
     for (number, event) in trace.as_slice().iter().enumerate() {
-        let beside = counts.take(alloc, event)?;
-        let lit = Lit {
-            event: light.is_lit(number as u64),
-            letter: light.is_letter_lit(number as u64),
-        };
-        captions.push(caption_of(alloc, scope, labels, number, event, beside, lit)?)?;
+        let beside = restarts.take(alloc, event)?;
+        captions.push(caption_of(alloc, scope, labels, light, number, event, beside)?)?;
     }
     Ok(captions)
 }

@@ -10,12 +10,15 @@
 
 mod captions;
 mod counts;
+mod deeds;
 mod halts;
 mod heads;
 mod light;
+mod notes;
 mod picture;
 mod stubs;
 mod style;
+mod subject;
 mod words;
 
 pub use light::Highlight;

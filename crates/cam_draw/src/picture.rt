@@ -26,7 +26,7 @@ fn scene_of(
     scope: &Scope,
     light: &Light,
 ) -> Result<Scene, NoMemory>
-    ensures { IfOk result (IsScene run.now.trace scope.now.letters light.now) }
+    ensures { IfOk result (IsScene script.now run.now scope.now light.now) }
 {
     let style = style_sheet(alloc)?;
     let heads = heads_of(alloc, script)?;
@@ -60,7 +60,7 @@ pub fn draw_text(
     highlight: &Highlight,
 ) -> Result<String, WhyFault>
     ensures drawn { IfOk result (λ text.
-        IsDrawing run.now.trace scope.now.letters highlight.now (string_bytes text)) }
+        IsDrawing script.now run.now scope.now highlight.now (string_bytes text)) }
     ensures well_formed { IfOk result (λ text. IsDocument (string_bytes text)) }
 {
     let light = light_of(alloc, &run.trace, highlight)?;

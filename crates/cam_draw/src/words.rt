@@ -1,13 +1,31 @@
-//! The words of events.
+//! The words in the rows of events.
+ghost use Rattle.std.specs.Prelude.{◌≡◌, ◌++◌, IfOk, None, OnOk, string_bytes};
+ghost use Rattle.cam_scope.specs.Deeds.{deed_text};
+ghost use Rattle.cam_draw.specs.Words.{
+  decided,
+  first_sent,
+  is_news_of,
+  joined,
+  or_else,
+  sending,
+  sent_words,
+  with_deed,
+  with_deeds,
+  words,
+};
+
+use crate::notes::{write_note, write_numbered};
 use cam_base::NoMemory;
-use cam_event::{Deed, Event, Note};
+use cam_event::{Deed, Deeds, Event};
 use cam_names::Name;
-use cam_scope::{NamedEvent, NamedLetter, Scope, push_number, write_deed, write_note};
+use cam_scope::{NamedEvent, NamedLetter, Scope, write_deed};
 use cam_script::Labels;
 use std::alloc::Global;
 
 /// The action that a deed decides.
-fn decided(deed: &Deed) -> Option<Name> {
+fn decided(deed: &Deed) -> Option<Name>
+    ensures { result ≡ decided deed.now }
+{
     match deed {
         Deed::Commit { action } | Deed::Abort { action } => Some(*action),
         _ => None,
@@ -15,9 +33,11 @@ fn decided(deed: &Deed) -> Option<Name> {
 }
 
 /// Whether a deed is what a node hears of an action that it has just decided itself.
-fn is_own_news(deed: &Deed, decided: Option<Name>) -> bool {
-    match (deed, decided) {
-        (Deed::Inform { name, .. }, Some(action)) => *name == action,
+fn is_news_of(decided: Option<Name>, deed: &Deed) -> bool
+    ensures { result ≡ is_news_of decided deed.now }
+{
+    match (decided, deed) {
+        (Some(action), Deed::Inform { name, .. }) => *name == action,
         _ => false,
     }
 }
@@ -29,23 +49,68 @@ fn add_deed(
     labels: &Labels,
     deed: &Deed,
     words: &mut String,
-) -> Result<(), NoMemory> {
+) -> Result<(), NoMemory>
+    ensures { OnOk result (string_bytes words.new ≡ joined (string_bytes words.old)
+        (deed_text scope.now.names labels.now deed.now)) }
+{
     if !words.is_empty() {
         words.push_str("; ")?;
     }
     write_deed(alloc, &scope.names, labels, deed, words)
 }
 
-/// Appends the kind of the first letter that an event sent, if it sent one.
-fn add_sent(scope: &Scope, number: usize, words: &mut String) -> Result<(), NoMemory> {
-    match scope.events.get(number) {
-        Some(event) => add_first(scope, event, words),
-        None => Ok(()),
+/// Appends a deed, behind others, unless a node hears by it of its own decision.
+fn add_deed_or_news(
+    alloc: Global,
+    scope: &Scope,
+    labels: &Labels,
+    last: Option<Name>,
+    deed: &Deed,
+    words: &mut String,
+) -> Result<(), NoMemory>
+    ensures { OnOk result (string_bytes words.new
+        ≡ with_deed scope.now.names labels.now (string_bytes words.old) last deed.now) }
+{
+    if is_news_of(last, deed) {
+        Ok(())
+    } else {
+        add_deed(alloc, scope, labels, deed, words)
     }
 }
 
+/// Appends deeds, but for what a node hears of its own decisions.
+fn add_deeds(
+    alloc: Global,
+    scope: &Scope,
+    labels: &Labels,
+    deeds: &Deeds,
+    words: &mut String,
+) -> Result<(), NoMemory>
+    ensures { OnOk result (string_bytes words.new
+        ≡ with_deeds scope.now.names labels.now (string_bytes words.old) None deeds.now) }
+{
+    let mut last = None;
+    for deed in deeds.as_slice() {
+        add_deed_or_news(alloc, scope, labels, last, deed, words)?;
+        last = decided(deed);
+    }
+    Ok(())
+}
+
+/// Appends that a letter is sent.
+fn add_letter(letter: &NamedLetter, words: &mut String) -> Result<(), NoMemory>
+    ensures { OnOk result (string_bytes words.new ≡ string_bytes words.old ++ sending letter.now) }
+{
+    words.push_str("sends ")?;
+    words.push_str(letter.kind.words())?;
+    write_numbered(words, " to node ", letter.to as u64)
+}
+
 /// Appends the kind of an event's first letter, if the event sent one.
-fn add_first(scope: &Scope, event: &NamedEvent, words: &mut String) -> Result<(), NoMemory> {
+fn add_first(scope: &Scope, event: &NamedEvent, words: &mut String) -> Result<(), NoMemory>
+    ensures { OnOk result (string_bytes words.new ≡ string_bytes words.old
+        ++ first_sent scope.now.letters event.now) }
+{
     if event.sent == 0 {
         return Ok(());
     }
@@ -55,11 +120,27 @@ fn add_first(scope: &Scope, event: &NamedEvent, words: &mut String) -> Result<()
     }
 }
 
-/// Appends that a letter is sent.
-fn add_letter(letter: &NamedLetter, words: &mut String) -> Result<(), NoMemory> {
-    words.push_str("sends ")?;
-    words.push_str(letter.kind.words())?;
-    write_numbered(words, " to node ", letter.to as u64)
+/// Appends the kind of the first letter that an event sent, if it sent one.
+fn add_sent(scope: &Scope, number: usize, words: &mut String) -> Result<(), NoMemory>
+    ensures { OnOk result (string_bytes words.new ≡ string_bytes words.old
+        ++ sent_words scope.now number) }
+{
+    match scope.events.get(number) {
+        Some(event) => add_first(scope, event, words),
+        None => Ok(()),
+    }
+}
+
+/// Writes what an event sent, where nothing is written.
+fn sent_or_else(scope: &Scope, number: usize, words: &mut String) -> Result<(), NoMemory>
+    ensures { OnOk result (string_bytes words.new
+        ≡ or_else (string_bytes words.old) (sent_words scope.now number)) }
+{
+    if words.is_empty() {
+        add_sent(scope, number, words)
+    } else {
+        Ok(())
+    }
 }
 
 /// What happened at the event of this number, in one line: its note and its deeds, or else what it
@@ -70,131 +151,13 @@ pub(crate) fn words_of(
     labels: &Labels,
     number: usize,
     event: &Event,
-) -> Result<String, NoMemory> {
+) -> Result<String, NoMemory>
+    ensures { IfOk result (λ text.
+        string_bytes text ≡ words scope.now labels.now number event.now) }
+{
     let mut words = String::new(alloc);
     write_note(alloc, &scope.names, &event.note, &mut words)?;
-    let mut last = None;
-    for deed in event.deeds.as_slice() {
-        if !is_own_news(deed, last) {
-            add_deed(alloc, scope, labels, deed, &mut words)?;
-        }
-        last = decided(deed);
-    }
-    if words.is_empty() {
-        add_sent(scope, number, &mut words)?;
-    }
+    add_deeds(alloc, scope, labels, &event.deeds, &mut words)?;
+    sent_or_else(scope, number, &mut words)?;
     Ok(words)
-}
-
-/// What happened at the event of this number, in full: where, by which letter, and each deed on a
-/// line.
-pub(crate) fn deeds_of(
-    alloc: Global,
-    scope: &Scope,
-    labels: &Labels,
-    number: usize,
-    event: &Event,
-) -> Result<String, NoMemory> {
-    let mut words = String::new(alloc);
-    write_numbered(&mut words, "event ", number as u64)?;
-    write_numbered(&mut words, " at node ", event.node as u64)?;
-    write_cause(scope, number, &mut words)?;
-    words.push_str("\n")?;
-    write_note(alloc, &scope.names, &event.note, &mut words)?;
-    for deed in event.deeds.as_slice() {
-        words.push_str("\n")?;
-        write_deed(alloc, &scope.names, labels, deed, &mut words)?;
-    }
-    Ok(words)
-}
-
-/// Appends a word and a number.
-fn write_numbered(out: &mut String, word: &str, number: u64) -> Result<(), NoMemory> {
-    out.push_str(word)?;
-    push_number(out, number)
-}
-
-/// Appends the line in which an event happened, and the letter that it received.
-fn write_cause(scope: &Scope, number: usize, out: &mut String) -> Result<(), NoMemory> {
-    match scope.events.get(number) {
-        Some(event) => write_line_and_letter(scope, event, out),
-        None => Ok(()),
-    }
-}
-
-/// Appends the line of an event, and the letter that it received.
-fn write_line_and_letter(
-    scope: &Scope,
-    event: &NamedEvent,
-    out: &mut String,
-) -> Result<(), NoMemory> {
-    if let Some(line) = event.line {
-        write_numbered(out, ", line ", line as u64)?;
-    }
-    match event.received {
-        Some(letter) => write_letter(scope, letter, out),
-        None => Ok(()),
-    }
-}
-
-/// Appends the letter of this number, and from where it came.
-fn write_letter(scope: &Scope, number: usize, out: &mut String) -> Result<(), NoMemory> {
-    write_numbered(out, ", by letter ", number as u64)?;
-    match scope.letters.get(number.saturating_sub(1)) {
-        Some(letter) => write_way(letter, out),
-        None => Ok(()),
-    }
-}
-
-/// Appends the kind of a letter, and the node that sent it.
-fn write_way(letter: &NamedLetter, out: &mut String) -> Result<(), NoMemory> {
-    out.push_str(", ")?;
-    out.push_str(letter.kind.words())?;
-    write_numbered(out, " from node ", letter.from as u64)
-}
-
-/// The action of an event, by name: that of a note or else of a deed. Empty where the event has
-/// none.
-pub(crate) fn action_of(alloc: Global, scope: &Scope, event: &Event) -> Result<String, NoMemory> {
-    let mut word = String::new(alloc);
-    if let Some(action) = subject(event) {
-        scope.names.write_name(alloc, &action, &mut word)?;
-    }
-    Ok(word)
-}
-
-/// The action of an event.
-fn subject(event: &Event) -> Option<Name> {
-    match &event.note {
-        Note::Stopped(action, _) | Note::Preparing(action) => Some(*action),
-        _ => subject_of(event.deeds.as_slice()),
-    }
-}
-
-/// The action of the first deed that is of one.
-fn subject_of(deeds: &[Deed]) -> Option<Name> {
-    for deed in deeds {
-        if let Some(action) = doer(deed) {
-            return Some(action);
-        }
-    }
-    None
-}
-
-/// The action of a deed. What a node hears is no deed of an action, nor is a restart.
-fn doer(deed: &Deed) -> Option<Name> {
-    match deed {
-        Deed::Create { action }
-        | Deed::Ask { action, .. }
-        | Deed::Call { action, .. }
-        | Deed::Perform { action, .. }
-        | Deed::Bounce { action, .. }
-        | Deed::Got { action, .. }
-        | Deed::AskCommit { action, .. }
-        | Deed::AskAbort { action }
-        | Deed::Commit { action }
-        | Deed::Abort { action }
-        | Deed::Secure { family: action, .. } => Some(*action),
-        Deed::Inform { .. } | Deed::Crash { .. } => None,
-    }
 }
