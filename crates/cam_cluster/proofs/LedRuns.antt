@@ -10,12 +10,15 @@ use Rattle.cam_runs.proofs.Range.{script_in_range}
 use Rattle.cam_script.specs.declared.Act.{Act}
 use Rattle.cam_script.specs.declared.Script.{Script}
 use Rattle.cam_script.specs.declared.Step.{Step}
+use Rattle.cam_cluster.specs.declared.cluster.LineDone.{LineDone}
 use Rattle.cam_cluster.specs.declared.course.CourseFault.{CourseFault}
 use Rattle.cam_cluster.specs.declared.course.CourseFault.TheVariants as faults
-use Rattle.cam_cluster.specs.declared.LineFault.{LineFault}
+use Rattle.cam_cluster.specs.declared.fault.ClusterFault.{ClusterFault}
+use Rattle.cam_cluster.specs.declared.fault.ClusterFault.TheVariants as cluster_faults
 use Rattle.cam_cluster.specs.declared.LineFault.TheVariants as line_faults
 use Rattle.cam_cluster.specs.declared.workers.Workers.{Workers}
 use Rattle.cam_cluster.specs.Between.{KeepsBetween, after_step}
+use Rattle.cam_cluster.specs.Clusters.{HasLedLine, IsLine, IsLineOf, IsRefusedLine, StandsAs, ended_by}
 use Rattle.cam_cluster.specs.Failing.{KnowsMore}
 use Rattle.cam_cluster.specs.KnownHalts.{AgreesAt}
 use Rattle.cam_cluster.specs.Courses.{HasLedAtWork, HasRefusedLine, IsAtWorkLine, IsFrom}
@@ -29,7 +32,7 @@ use Rattle.cam_cluster.proofs.GoesOn.{IsRunSoFar, so_far}
 use Rattle.cam_cluster.proofs.LineAgrees.{line_agrees}
 use Rattle.cam_cluster.proofs.LinesUnder.{line_counts}
 use Rattle.cam_cluster.proofs.RestartAgrees.{from_agrees}
-use Rattle.cam_cluster.proofs.WholeRuns.{bodies_are, next_step}
+use Rattle.cam_cluster.proofs.WholeRuns.{as_stands, next_step, of_stands}
 use Rattle.cam_cluster.proofs.WorkersOn.{refused_is}
 
 -- What a line goes on from has taken the lines that were seen.
@@ -114,33 +117,82 @@ module _ (script : Script) (many : ℕ) (step : Step) (old new : LinesFields)
 
 -- the next line, by what it comes to
 module _ (script : Script) (step : Step) (old new : LinesFields) (might may : ℕ → Logged → Type 0)
-    (before behind : Workers) where
-  pub next_led : (bad : Option WireFault)
+    (before behind : Workers) (seen : Seen) (stood : StandsAs seen old might before)
+    (next : IsNextStep seen step) (of_script : seen.script ≡ script)
+    (goes : MayGoOn new.works.failed new.works.nodes)
+    (knows : KnowsMore old.works.failed new.works.failed) where
+  bodies_of : script.bodies ≡ seen.script.bodies
+  bodies_of = ap (λ (s : Script). s.bodies) (sym of_script)
+
+  pub line_led : (bad : Option WireFault)
       → IsAtWorkLine step script.bodies old might before new may behind (Ok bad)
-      → MayGoOn new.works.failed new.works.nodes → KnowsMore old.works.failed new.works.failed
-      → HasTakenNext script step old might before new may behind
-  next_led bad line goes knows many taken at =
-      led_taken script many step old new might may before behind taken at goes knows bad
-      (line taken.seen taken.keeps (next_step script many step old might before taken at)
-      (bodies_are script many step old might before taken at))
+      → HasLedLine seen step (λ x. StandsAs x new may behind) bad
+  line_led bad line =
+      let led : HasLedAtWork old seen step new may behind bad = line seen stood.keeps next bodies_of
+      in
+      let taken =
+      led_taken seen.script (lines_taken seen) step old new might may before behind
+      (of_stands seen old might before stood) next goes knows bad led in record {
+        after = taken.seen;
+        stands = as_stands taken;
+        of_script = taken.of_script;
+        one_more = taken.taken;
+        fault = led.fault;
+      }
 
-  pub next_refused : (fault : CourseFault) (of_line : LineFault) (refusal : LineRefusal)
-      → fault ≡ faults.Line of_line → of_line ≡ line_faults.Refused refusal
-      → IsAtWorkLine step script.bodies old might before new may behind (Err fault)
-      → MayGoOn new.works.failed new.works.nodes → KnowsMore old.works.failed new.works.failed
-      → HasTakenNext script step old might before new may behind
-  next_refused fault of_line refusal is is_refused line goes knows many taken at =
-      refused_taken script many step old new might may before behind taken at goes knows refusal
-      (subst (λ (f : CourseFault). IsAtWorkLine step script.bodies old might before new may behind
-      (Err f)) (is ∙ ap faults.Line is_refused) line taken.seen taken.keeps
-      (next_step script many step old might before taken at)
-      (bodies_are script many step old might before taken at))
+  line_refused : (refusal : LineRefusal) → HasRefusedLine seen step new may behind refusal
+      → IsRefusedLine seen step (λ x. StandsAs x new may behind) refusal
+  unfolding refused_taken
+  line_refused refusal refused =
+      let taken =
+      refused_taken seen.script (lines_taken seen) step old new might may before behind
+      (of_stands seen old might before stood) next goes knows refusal refused in record {
+        test = refused.test;
+        stands = as_stands taken;
+        one_more = taken.taken;
+      }
 
-  pub next_failed : (fault : CourseFault) → fault ≡ faults.RestartFailed
+  pub line_ended : (fault : CourseFault)
       → IsAtWorkLine step script.bodies old might before new may behind (Err fault)
-      → MayGoOn new.works.failed new.works.nodes → KnowsMore old.works.failed new.works.failed
+      → IsLineOf seen step (λ x. StandsAs x new may behind) (Err (ended_by fault))
+  line_ended (faults.Line (line_faults.Refused refusal)) line =
+      line_refused refusal (line seen stood.keeps next bodies_of)
+  line_ended (faults.Line line_faults.NoMemory) line = tt
+  line_ended faults.RestartFailed line = tt
+
+-- So the lines that were taken are one more.
+module _ (script : Script) (step : Step) (old new : LinesFields) (might may : ℕ → Logged → Type 0)
+    (before behind : Workers) where
+  pub next_led : (done : LineDone)
+      → IsLine script step (λ x. StandsAs x old might before) (λ x. StandsAs x new may behind)
+      (Ok done)
       → HasTakenNext script step old might before new may behind
-  next_failed fault is line goes knows many taken at =
-      absurd (subst (λ (f : CourseFault). IsAtWorkLine step script.bodies old might before new may
-      behind (Err f)) is line taken.seen taken.keeps (next_step script many _ old might before
-      taken at) (bodies_are script many step old might before taken at) goes.0)
+  next_led done line many taken at =
+      let led =
+      line taken.seen (as_stands taken) (next_step script many step old might before taken at)
+      taken.of_script in record {
+        seen = led.after;
+        keeps = led.stands.keeps;
+        of_script = led.of_script ∙ taken.of_script;
+        taken = led.one_more ∙ ap (λ n. n + 1) taken.taken;
+        goes_on = led.stands.goes_on;
+        agrees = led.stands.agrees;
+      }
+
+  pub next_refused : (fault : ClusterFault) (refusal : LineRefusal)
+      → fault ≡ cluster_faults.Refused refusal
+      → IsLine script step (λ x. StandsAs x old might before) (λ x. StandsAs x new may behind)
+      (Err fault)
+      → HasTakenNext script step old might before new may behind
+  next_refused fault refusal is line many taken at =
+      let refused : IsRefusedLine taken.seen step (λ x. StandsAs x new may behind) refusal =
+      subst (λ (f : ClusterFault). IsLine script step (λ x. StandsAs x old might before)
+      (λ x. StandsAs x new may behind) (Err f)) is line taken.seen (as_stands taken)
+      (next_step script many step old might before taken at) taken.of_script in record {
+        seen = after_step taken.seen step [];
+        keeps = refused.stands.keeps;
+        of_script = taken.of_script;
+        taken = refused.one_more ∙ ap (λ n. n + 1) taken.taken;
+        goes_on = refused.stands.goes_on;
+        agrees = refused.stands.agrees;
+      }

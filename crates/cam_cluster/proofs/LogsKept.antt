@@ -8,6 +8,7 @@ use Rattle.cam_node.specs.Log.{Logged, KeepsLog}
 use Rattle.cam_runs.specs.Running.{has_number}
 use Rattle.cam_script.specs.declared.Script.{Script}
 use Rattle.cam_histories.specs.Laws.{history_of}
+use Rattle.cam_cluster.specs.Clusters.{Tells}
 use Rattle.cam_cluster.specs.Disks.{AreLogs, KeepsLogs, MayReadDisk}
 use Rattle.cam_cluster.specs.Founding.{AreTakenOut, IsTakenOut}
 use Rattle.cam_cluster.specs.Seen.{Seen}
@@ -98,6 +99,27 @@ module _ {N D : Type 0} (tells_node : N → Bool) (node_reads : N → Logged →
           taken = of.taken;
           either = λ logged read. of.either logged (reads_less nodes disks s logged out read);
         };
+  }
+
+  -- So what a cluster tells of the logs of its nodes it tells of their disks.
+  pub tells_of_disks : (seen : Seen) (works : WorksFields) (nodes : List N) (disks : List D)
+      → AreTakenOut tells_node node_reads tells moment left nodes disks
+      → Tells seen works (MayReadAt tells_node node_reads nodes)
+      → Tells seen works (MayReadDisk tells moment left disks)
+  tells_of_disks seen works nodes disks out is = record {
+    between = is.between;
+    events = is.events;
+    marks = is.marks;
+    known = is.known;
+    logs = λ s logged low high awake read. is.logs s logged low high awake
+        (reads_less nodes disks s logged out read);
+    halted = λ s low high on.
+        let one = is.halted s low high on in record {
+          number = one.number;
+          put_in = one.put_in;
+          either = λ logged read. one.either logged (reads_less nodes disks s logged out read);
+        };
+    stopped = is.stopped;
   }
 
   pub disks_are_logs : (nodes : List N) (disks : List D)

@@ -14,19 +14,20 @@ use Rattle.cam_script.specs.declared.Script.{Script}
 use Rattle.cam_script.specs.declared.Step.{Step}
 use Rattle.cam_cluster.specs.declared.workers.Workers.{Workers}
 use Rattle.cam_cluster.specs.Between.{KeepsBetween}
+use Rattle.cam_cluster.specs.Clusters.{IsNextLine, StandsAs, Tells}
 use Rattle.cam_cluster.specs.Courses.{IsNextOfCourse}
 use Rattle.cam_cluster.specs.Disks.{KeepsLogs}
 use Rattle.cam_cluster.specs.Failing.{FailedIn}
 use Rattle.cam_cluster.specs.Founding.{before_first}
 use Rattle.cam_cluster.specs.HaltedLogs.{KeepsHaltedLogs}
 use Rattle.cam_cluster.specs.KnownHalts.{AgreesAt, AreKnown}
-use Rattle.cam_cluster.specs.Seen.{IsNextStep, Seen}
+use Rattle.cam_cluster.specs.Seen.{IsNextStep, Seen, lines_taken}
 use Rattle.cam_cluster.specs.SoFar.{LinesFields}
 use Rattle.cam_cluster.specs.WholeRuns.{HasTakenLines, IsNextOfRun, IsRunWithLogs}
 use Rattle.cam_cluster.specs.Workers.{AreWorkers}
 use Rattle.cam_cluster.specs.Works.{MayGoOn, has_failed}
 use Rattle.cam_cluster.proofs.AllLines.{all_lines_are_the_run}
-use Rattle.cam_cluster.proofs.HaltedLogs.{halted_logs}
+use Rattle.cam_cluster.proofs.HaltedLogs.{halted_logs, one_kept}
 use Rattle.cam_cluster.proofs.NodeAgrees.{known_at_end_of}
 
 module _ (script : Script) (many : ℕ) (step : Step) (lines : LinesFields)
@@ -36,32 +37,74 @@ module _ (script : Script) (many : ℕ) (step : Step) (lines : LinesFields)
   pub next_step : IsNextStep taken.seen step
   next_step = (λ i. slice_get ((taken.of_script i).steps) (taken.taken i)) ∙ at
 
-  pub bodies_are : script.bodies ≡ taken.seen.script.bodies
-  bodies_are = ap (λ (s : Script). s.bodies) (sym taken.of_script)
+-- what was seen of these lines stands
+pub as_stands : {script : Script} {many : ℕ} {lines : LinesFields} {may : ℕ → Logged → Type 0}
+    {at_work : Workers} → (taken : HasTakenLines script many lines may at_work)
+    → StandsAs taken.seen lines may at_work
+as_stands taken = record {
+  keeps = taken.keeps;
+  goes_on = taken.goes_on;
+  agrees = taken.agrees;
+}
+
+abbrev pub of_stands : (seen : Seen) (lines : LinesFields) (may : ℕ → Logged → Type 0) (at_work : Workers)
+    → StandsAs seen lines may at_work
+    → HasTakenLines seen.script (lines_taken seen) lines may at_work
+of_stands seen lines may at_work stands = record {
+  seen = seen;
+  keeps = stands.keeps;
+  of_script = refl;
+  taken = refl;
+  goes_on = stands.goes_on;
+  agrees = stands.agrees;
+}
+
+pub next_line : (script : Script) (step : Step) (lines : LinesFields)
+    (may_read : ℕ → Logged → Type 0) (at_work : Workers)
+    → IsNextOfRun script step lines may_read at_work
+    → IsNextLine script step (λ seen. StandsAs seen lines may_read at_work)
+next_line script step lines may_read at_work next = record {
+  seen = next.taken.seen;
+  stands = as_stands next.taken;
+  next = next_step script next.many step lines may_read at_work next.taken next.at;
+  of_script = next.taken.of_script;
+}
 
 pub next_of_course : (script : Script) (step : Step) (lines : LinesFields)
     (may_read : ℕ → Logged → Type 0) (at_work : Workers)
-    → IsNextOfRun script step lines may_read at_work
+    → IsNextLine script step (λ seen. StandsAs seen lines may_read at_work)
     → IsNextOfCourse step script.bodies lines may_read at_work
 next_of_course script step lines may_read at_work next = record {
-  seen = next.taken.seen;
-  keeps = next.taken.keeps;
-  next = next_step script next.many step lines may_read at_work next.taken next.at;
-  bodies_are = bodies_are script next.many step lines may_read at_work next.taken next.at;
+  seen = next.seen;
+  keeps = next.stands.keeps;
+  next = next.next;
+  bodies_are = ap (λ (s : Script). s.bodies) (sym next.of_script);
 }
 
 -- before the first line
 pub none_taken : (script : Script) (lines : LinesFields) (may_read : ℕ → Logged → Type 0)
     (at_work : Workers) → KeepsBetween (before_first script) lines may_read
     → AreWorkers start at_work → MayGoOn lines.works.failed lines.works.nodes
-    → HasTakenLines script 0 lines may_read at_work
+    → StandsAs (before_first script) lines may_read at_work
 none_taken script lines may_read at_work keeps workers goes = record {
-  seen = before_first script;
   keeps = record { between = keeps; workers = workers };
-  of_script = refl;
-  taken = refl;
   goes_on = goes;
   agrees = λ s none. tt;
+}
+
+-- What the lines so far came to.
+pub tells_of : (seen : Seen) (lines : LinesFields) (may_read : ℕ → Logged → Type 0)
+    (at_work : Workers) → StandsAs seen lines may_read at_work → KeepsLogs seen may_read
+    → Tells seen lines.works may_read
+tells_of seen lines may_read at_work stands logs = record {
+  between = stands.keeps.between.between;
+  events = stands.keeps.between.keeps.runs.events;
+  marks = stands.keeps.between.keeps.runs.all_marks;
+  known = stands.agrees;
+  logs = logs;
+  halted = λ s low high on. one_kept seen lines may_read stands.keeps.between s low high on;
+  stopped = λ place node at none.
+      stands.keeps.between.keeps.runs.stops.each place node at (none, stands.goes_on);
 }
 
 -- after the last

@@ -34,5 +34,6 @@ pub mod Founding
 pub mod HaltedLogs
 pub mod KnownHalts
 pub mod WholeRuns
+pub mod Clusters
 pub mod Stopping
 pub mod Stopped

@@ -4,6 +4,7 @@ ghost use Rattle.cam_cluster.specs.declared.LineFault.TheVariants.{NoMemory as L
 
 use crate::LineFault;
 use cam_base::NoMemory;
+use cam_event::LineRefusal;
 use std::alloc::{AllocError, AllocFailed};
 use thiserror::Error;
 
@@ -15,6 +16,27 @@ pub enum RunFault {
     DiskFault(u8),
     #[error("out of memory")]
     NoMemory,
+}
+
+/// Why a line of a cluster did not lead on.
+#[derive(Clone, Copy, Debug, Error)]
+pub enum ClusterFault {
+    /// It was refused: it left its mark, and the next line may be taken.
+    #[error("the line was refused")]
+    Refused(LineRefusal),
+    /// The run has to end.
+    #[error("the run ended")]
+    Ended(RunFault),
+}
+
+impl From<RunFault> for ClusterFault {
+    ghost use Rattle.cam_cluster.specs.declared.fault.ClusterFault.TheVariants.{Ended};
+
+    ghost from_gives = { λ fault e. e ≡ Ended fault };
+
+    fn from(fault: RunFault) -> ClusterFault {
+        ClusterFault::Ended(fault)
+    }
 }
 
 impl From<NoMemory> for RunFault {

@@ -1,24 +1,19 @@
 //! The run of a whole script: its lines one after another, over a disk for each of its nodes.
 ghost use Rattle.std.specs.Prelude.{◌≡◌, ◌≤◌, [], IfErr, IfOk, OnErr, OnOk, length, vec_capacity, vec_len};
-ghost use Rattle.std.specs.List.{AllByRecursion};
 ghost use Rattle.cam_script.specs.declared.Script.{Script as ScriptFields};
 ghost use Rattle.cam_script.specs.Law.{IsScript};
 ghost use Rattle.cam_cluster.specs.Disks.{AreLogs, MayReadDisk};
 ghost use Rattle.cam_cluster.specs.HandedBack.{AreHandedBack, AreLater, HasFailed, NamesFailed};
-ghost use Rattle.cam_cluster.specs.Courses.{KeepsCourse};
-ghost use Rattle.cam_cluster.specs.Failing.{DisksGoOn, FailedIn, IsOfKnown, nothing_failed};
+ghost use Rattle.cam_cluster.specs.Failing.{DisksGoOn, FailedIn, IsOfKnown};
 ghost use Rattle.cam_cluster.specs.Founding.{before_first};
-ghost use Rattle.cam_cluster.specs.Works.{MayGoOn};
 ghost use Rattle.cam_cluster.specs.WholeRuns.{HasTakenLines, HasTakenNext, IsNextOfRun, IsRunWithLogs};
 
-use crate::LineFault;
-use crate::course::{Course, CourseFault};
-use crate::fault::RunFault;
+use crate::cluster::{AsCluster, Cluster};
+use crate::fault::{ClusterFault, RunFault};
 use crate::founding::take_out;
 use crate::lines::{AsLines, Lines};
 use crate::servers::Servers;
 use crate::telling::TellingLog;
-use crate::workers::Workers;
 use cam_base::Sequence;
 use cam_ckpt::{CheckpointLog, Ckpt};
 use cam_disk::{StopDisk, TellingDisk};
@@ -28,12 +23,6 @@ use cam_script::{Script, Step};
 use cam_type::DataType;
 use std::alloc::Global;
 
-/// The run of a script: the course of its lines so far.
-#[derive(Drop)]
-struct Run<L: CheckpointLog> {
-    course: Course<L>,
-}
-
 /// A run that is over: what it gives, and its nodes.
 #[derive(Drop)]
 struct Ended<L: CheckpointLog> {
@@ -41,41 +30,7 @@ struct Ended<L: CheckpointLog> {
     nodes: Vec<Node<L>>,
 }
 
-impl<D: TellingDisk> Run<Ckpt<StopDisk<D>>> {
-    /// The run of a script before its first line, over a disk for each node, which is formatted. The
-    /// disks are taken from their list, which keeps its room.
-    fn new(
-        alloc: Global,
-        script: &Script,
-        disks: &mut Vec<D>,
-    ) -> Result<Run<Ckpt<StopDisk<D>>>, RunFault>
-        requires script { IsScript script.now }
-        requires one_each { length disks.old.items ≡ script.now.nodes }
-        ensures before_first { IfOk result (λ run. KeepsCourse (before_first script.now)
-            (⟦<Lines<Ckpt<StopDisk<D>>> as AsLines>⟧.fields run.course.lines)
-            (⟦<Lines<Ckpt<StopDisk<D>>> as AsLines>⟧.may_read run.course.lines) run.course.workers) }
-        ensures count { IfOk result
-            (λ run. length run.course.lines.works.nodes.items ≡ length disks.old.items) }
-        ensures empty { OnOk result (disks.new.items ≡ []) }
-        // Each node's disk tells what it holds exactly if it did, and no count of faults fell.
-        ensures later { IfOk result (λ run. AreLater D.tells D.faults (λ n. n.tells)
-            (λ n. n.failures) disks.old.items
-            (⟦<Lines<Ckpt<StopDisk<D>>> as AsLines>⟧.fields run.course.lines).works.nodes) }
-        ensures nothing { IfOk result (λ run. run.course.lines.works.failed ≡ nothing_failed) }
-        ensures back { OnErr result
-            (AreHandedBack D.tells D.faults disks.old.items disks.new.items) }
-        ensures cause { IfErr result (NamesFailed D.faults disks.old.items disks.new.items) }
-        ensures capacity { vec_capacity disks.old ≤ vec_capacity disks.new }
-    {
-        let lines = Lines::new(alloc, script, disks)?;
-        Ok(Run {
-            course: Course {
-                lines,
-                workers: Workers::new(alloc),
-            },
-        })
-    }
-
+impl<D: TellingDisk> Cluster<Ckpt<StopDisk<D>>> {
     /// The record of the lines so far; as many disks are back in their list. It takes no memory.
     fn end(self, disks: &mut Vec<D>) -> RunRecord
         requires none { disks.old.items ≡ [] }
@@ -101,17 +56,7 @@ impl<D: TellingDisk> Run<Ckpt<StopDisk<D>>> {
     }
 }
 
-impl<L: TellingLog> Run<L> {
-    /// Fails if the run has to end.
-    fn unfailing(&self) -> Result<(), RunFault>
-        ensures unfailing { OnOk result (MayGoOn
-            (⟦<Lines<L> as AsLines>⟧.fields self.now.course.lines).works.failed
-            (⟦<Lines<L> as AsLines>⟧.fields self.now.course.lines).works.nodes) }
-        ensures cause { IfErr result (IsOfKnown self.now.course.lines.works.failed) }
-    {
-        self.course.lines.works.failed.unfailing()
-    }
-
+impl<L: TellingLog> Cluster<L> {
     /// Takes the next line of the script, which may be refused. It fails if the run has to end in it.
     fn take_next<R: DataType, Q: DataType, C: DataType>(
         &mut self,
@@ -133,11 +78,10 @@ impl<L: TellingLog> Run<L> {
             (⟦<Lines<L> as AsLines>⟧.fields self.new.course.lines)
             (⟦<Lines<L> as AsLines>⟧.may_read self.new.course.lines) self.new.course.workers) }
     {
-        match self.course.take(step, &script.bodies, servers) {
-            Ok(_) => self.unfailing(),
-            Err(CourseFault::Line(LineFault::Refused(_))) => self.unfailing(),
-            Err(CourseFault::Line(LineFault::NoMemory)) => Err(RunFault::NoMemory),
-            Err(CourseFault::RestartFailed) => self.unfailing(),
+        match self.line(script, step, servers) {
+            Ok(_) => Ok(()),
+            Err(ClusterFault::Refused(_)) => Ok(()),
+            Err(ClusterFault::Ended(fault)) => Err(fault),
         }
     }
 
@@ -147,10 +91,7 @@ impl<L: TellingLog> Run<L> {
         script: &Script,
         servers: &mut Servers<R, Q, C>,
     ) -> Result<(), RunFault>
-        requires before_first { KeepsCourse (before_first script.now)
-            (⟦<Lines<L> as AsLines>⟧.fields self.old.course.lines)
-            (⟦<Lines<L> as AsLines>⟧.may_read self.old.course.lines) self.old.course.workers }
-        requires nothing { self.old.course.lines.works.failed ≡ nothing_failed }
+        requires before_first { ⟦<Cluster<L> as AsCluster>⟧.stands self.old (before_first script.now) }
         ensures disks { DisksGoOn (⟦<Lines<L> as AsLines>⟧.fields self.old.course.lines).works
             (⟦<Lines<L> as AsLines>⟧.fields self.new.course.lines).works }
         ensures as_many { length self.new.course.lines.works.nodes.items
@@ -217,9 +158,9 @@ pub fn run_script<D: TellingDisk, R: DataType, Q: DataType, C: DataType>(
     // The list keeps its room.
     ensures capacity { vec_capacity disks.old ≤ vec_capacity disks.new }
 {
-    let mut run = Run::new(alloc, script, disks)?;
-    let taken = run.take_all(script, servers);
-    let record = run.end(disks);
+    let mut cluster = Cluster::new(alloc, script, disks)?;
+    let taken = cluster.take_all(script, servers);
+    let record = cluster.end(disks);
     match taken {
         Ok(()) => Ok(record),
         Err(fault) => Err(fault),

@@ -1,7 +1,7 @@
 -- Whether something has failed by itself.
 use Rattle.cam_cluster.proofs.AsSeen.{part}
 use Rattle.cam_cluster.proofs.RunDisks.{all_tell, told_cause, told_none}
-use Rattle.cam_cluster.proofs.run.Run.unfailing.Goals as goal
+use Rattle.cam_cluster.proofs.cluster.Cluster.unfailing.Goals as goal
 
 pub returns-clause-unfailing : goal.returns-clause-unfailing
 returns-clause-unfailing g c =

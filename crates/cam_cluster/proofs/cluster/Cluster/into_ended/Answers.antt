@@ -4,7 +4,7 @@ use Rattle.cam_cluster.proofs.AsSeen.{lines_of, part, reads_at, reads_of, tells_
 use Rattle.cam_cluster.proofs.LogsKept.{logs_kept}
 use Rattle.cam_cluster.proofs.RestartReads.{rest_reads}
 use Rattle.cam_cluster.proofs.WholeRuns.{all_taken}
-use Rattle.cam_cluster.proofs.run.Run.into_ended.Goals as goal
+use Rattle.cam_cluster.proofs.cluster.Cluster.into_ended.Goals as goal
 
 pub returns-clause-record : goal.returns-clause-record
 returns-clause-record g c script taken =

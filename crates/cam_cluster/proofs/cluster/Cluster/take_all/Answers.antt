@@ -1,27 +1,19 @@
 -- The lines are taken one after another.
 use Rattle.std.proofs.Common.{◌≤◌, ◌∙◌, ℕ, ap, arith, length, refl, subst}
 use Rattle.cam_script.specs.declared.Act.TheVariants.{Begin}
-use Rattle.cam_cluster.specs.declared.works.failing.Failed.{Failed}
 use Rattle.cam_cluster.specs.WholeRuns.{HasTakenLines}
 use Rattle.cam_cluster.proofs.AsSeen.{lines_of, part, reads_of}
 use Rattle.cam_cluster.proofs.DisksGoOn.{goes_on_still, goes_on_then}
-use Rattle.cam_cluster.proofs.RunDisks.{all_tell}
-use Rattle.cam_cluster.proofs.WholeRuns.{none_taken, step_at}
-use Rattle.cam_cluster.proofs.run.Run.take_all.Goals as goal
+use Rattle.cam_cluster.proofs.WholeRuns.{of_stands, step_at}
+use Rattle.cam_cluster.proofs.cluster.Cluster.take_all.Goals as goal
 
 pub loop-step-init : goal.loop-step-init
-loop-step-init g c =
-    record {
-      taken =
-          none_taken _ _ _ _ c.requires.before_first.between c.requires.before_first.workers (
-            ap (λ (f : Failed). f.ends) c.requires.nothing,
-            all_tell _
-                (λ node. g.met.L.TellingLog.always node.log.log) _,
-          );
-      items = c.as_slice-step-items.ensures;
-      disks = goes_on_still;
-      as_many = refl;
-    }
+loop-step-init g c = record {
+  taken = of_stands _ _ _ _ c.requires.before_first;
+  items = c.as_slice-step-items.ensures;
+  disks = goes_on_still;
+  as_many = refl;
+}
 
 pub take_next-requires : goal.take_next-requires
 take_next-requires g c =

@@ -3,7 +3,7 @@ use Rattle.std.proofs.Common.{◌≡◌, length}
 use Rattle.cam_cluster.specs.Failing.{DisksGoOn}
 use Rattle.cam_cluster.specs.WholeRuns.{HasTakenLines}
 use Rattle.cam_cluster.proofs.AsSeen.{lines_of, reads_of, works_of}
-use Rattle.cam_cluster.proofs.run.Run.take_all.Given as goal
+use Rattle.cam_cluster.proofs.cluster.Cluster.take_all.Given as goal
 
 abbrev pub invariant-loop-step : goal.invariant-loop-step
 invariant-loop-step g l = record {

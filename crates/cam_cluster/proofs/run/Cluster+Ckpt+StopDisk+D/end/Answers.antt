@@ -9,7 +9,7 @@ use Rattle.cam_cluster.specs.HandedBack.{AreLater}
 use Rattle.cam_cluster.specs.WholeRuns.{IsRunWithLogs}
 use Rattle.cam_cluster.specs.Works.{MayReadAt}
 use Rattle.cam_cluster.proofs.LogsKept.{disks_are_logs, record_of_disks}
-use Rattle.cam_cluster.proofs.run.Run+Ckpt+StopDisk+D.end.Goals as goal
+use Rattle.cam_cluster.proofs.run.Cluster+Ckpt+StopDisk+D.end.Goals as goal
 
 pub returns-clause-record : goal.returns-clause-record
 returns-clause-record g c script taken =
